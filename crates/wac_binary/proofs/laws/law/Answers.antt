@@ -1,0 +1,15 @@
+use Rattle.wac_binary.proofs.MeaningLaws.{counted, types_counted, instances_counted, one_more, new_thing, new_type, earlier, types_earlier, instances_earlier}
+use Rattle.wac_binary.proofs.laws.law.Goals as goal
+
+pub returns : goal.returns
+returns c = record {
+  counted = counted;
+  types_counted = types_counted;
+  instances_counted = instances_counted;
+  one_more = one_more;
+  new = new_thing;
+  new_type = new_type;
+  earlier = earlier;
+  types_earlier = types_earlier;
+  instances_earlier = instances_earlier;
+}

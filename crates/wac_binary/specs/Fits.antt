@@ -1,0 +1,20 @@
+-- Which lists of items have bytes, since their counts, sizes and indexes fit 32 bits.
+use Rattle.std.specs.Prelude.{ℕ, ◌<◌, ◌≤◌, ◌^◌, List, length}
+use Rattle.std.specs.List.{AllByRecursion}
+use Rattle.wac_binary.specs.Items.{Decl, Item}
+use Rattle.wac_binary.specs.Bytes.{Section, sections, contents}
+use Rattle.wac_binary.specs.Indexes.{indexes, declared}
+
+pub record SectionFits (s : Section) : Type 0 where
+  pub count : s.count < 2 ^ 32
+  pub size : length (contents s) < 2 ^ 32
+
+-- every count, size and index of the items is below 2 ^ 32
+pub record Fits (items : List Item) : Type 0 where
+  pub sections_fit : AllByRecursion SectionFits (sections items)
+  pub indexes_fit : (k : ℕ) → indexes k items ≤ 2 ^ 32
+
+-- the number of declarations and every index of them is below 2 ^ 32
+pub record DeclarationsFit (ds : List Decl) : Type 0 where
+  pub count : length ds < 2 ^ 32
+  pub indexes_fit : (k : ℕ) → declared k ds ≤ 2 ^ 32

@@ -1,0 +1,271 @@
+//! A component, item by item.
+
+ghost use Rattle.std.specs.Prelude.{◌≡◌, List, ℕ, ◌+◌, ◌<◌, ◌≤◌, ◌^◌, ◌++◌, ◌∷◌, [], length, OnOk, OnErr, IfOk, IfErr, IfSome, Some, None};
+ghost use Rattle.wac_binary.specs.Items.{Item as OfItem, decls, instance_def, custom, nested, instantiate, alias_item, export_alias, outer_alias, type_item, import_item, export_item};
+ghost use Rattle.wac_binary.specs.Bytes.{bytes_of};
+ghost use Rattle.wac_binary.specs.Indexes.{space, described_sort, adds, indexes};
+ghost use Rattle.wac_binary.specs.Fits.{Fits};
+ghost use Rattle.wac_binary.specs.Views.{arguments_of, func_of};
+ghost use Rattle.wac_binary.specs.ItemView.{item_of};
+ghost use Rattle.wac_binary.specs.Written.{Written, Written_prop};
+ghost use Rattle.wac_binary.specs.declared.fault.BinaryFault.TheVariants.{TooLarge, OutOfMemory};
+ghost use Rattle.wac_binary.specs.declared.sorts.Sort.TheVariants as s;
+
+use crate::declarations::InstanceType;
+use crate::fault::BinaryFault;
+use crate::item::{AloneRef, ItemRef};
+use crate::section::{Open, begin, put_alone, put_open, put_shared};
+use crate::sorts::{Description, Sort, described_sort, space};
+use crate::types::FuncType;
+use std::alloc::Global;
+use std::marker::Model;
+
+/// Writes a component, item by item. Contracts see it as the list of its items.
+///
+/// A writer takes any index: what it stands for is a matter of the items. Each writer adds one item at the end and
+/// answers the index that the item adds to the space of its sort. It answers `TooLarge` exactly where the items with
+/// the new one no longer fit 32 bits, and `OutOfMemory` where memory is refused; then it has added nothing.
+#[derive(Drop)]
+pub struct ComponentBuilder {
+    alloc: Global,
+    bytes: Vec<u8>,
+    things: Vec<u8>,
+    next: Vec<u8>,
+    open_section: Option<Open>,
+    counts: [u64; 7],
+    ghost written: { Written bytes.items open_section things.items } by { Written_prop bytes.items open_section things.items },
+}
+
+impl Model for ComponentBuilder {
+    ghost use Rattle.std.specs.Prelude.{List};
+    ghost use Rattle.std.specs.Coded.{coded_list};
+    ghost use Rattle.wac_binary.specs.Items.{Item as OfItem};
+    ghost use Rattle.wac_binary.specs.Code.{coded_item};
+
+    ghost Value = { List OfItem };
+
+    ghost coded = { coded_list coded_item };
+
+    ghost use Rattle.wac_binary.specs.WrittenView.{view as the_items, IsWritten};
+
+    ghost view = { the_items };
+
+    ghost invariant = { IsWritten };
+}
+
+impl ComponentBuilder {
+    /// A component without items.
+    pub fn new(alloc: Global) -> ComponentBuilder
+        ensures { result ≡ [] }
+    {
+        ComponentBuilder {
+            alloc,
+            bytes: Vec::new(alloc),
+            things: Vec::new(alloc),
+            next: Vec::new(alloc),
+            open_section: None,
+            counts: [0; 7],
+        }
+    }
+
+    fn append(&mut self, item: &ItemRef<'_>, at: usize) -> Result<u32, BinaryFault>
+        requires space { adds (item_of item.now) ≡ Some at }
+        requires small { at < 7 }
+        ensures index { IfOk result (λ i. i ≡ indexes at self.old) }
+        ensures appended { OnOk result (self.new ≡ self.old ++ item_of item.now ∷ []) }
+        ensures fits { OnOk result (Fits self.new) }
+        ensures refused { OnErr result (self.new ≡ self.old) }
+        ensures too_large { IfErr result (λ e. e ≡ TooLarge → ¬ Fits (self.old ++ item_of item.now ∷ [])) }
+    {
+        let index = self.counts[at];
+        if index >= 1 << 32 {
+            return Err(BinaryFault::TooLarge);
+        }
+        begin(&mut self.bytes)?;
+        let open = put_shared(
+            &mut self.bytes,
+            &mut self.things,
+            &mut self.next,
+            self.open_section,
+            item,
+        )?;
+        self.counts[at] = index + 1;
+        self.open_section = Some(open);
+        Ok(index as u32)
+    }
+
+    /// Adds a whole component, as it is, and answers its component index.
+    pub fn component(&mut self, bytes: &[u8]) -> Result<u32, BinaryFault>
+        ensures index { IfOk result (λ i. i ≡ indexes (space s.Component) self.old) }
+        ensures appended { OnOk result (self.new ≡ self.old ++ nested bytes.now ∷ []) }
+        ensures fits { OnOk result (Fits self.new) }
+        ensures refused { OnErr result (self.new ≡ self.old) }
+        ensures too_large { IfErr result (λ e. e ≡ TooLarge → ¬ Fits (self.old ++ nested bytes.now ∷ [])) }
+    {
+        let index = self.counts[4];
+        if index >= 1 << 32 {
+            return Err(BinaryFault::TooLarge);
+        }
+        begin(&mut self.bytes)?;
+        put_alone(
+            &mut self.bytes,
+            self.open_section,
+            &self.things,
+            &AloneRef::Component(bytes),
+        )?;
+        self.counts[4] = index + 1;
+        self.open_section = None;
+        Ok(index as u32)
+    }
+
+    /// Adds an instance of the component with this index, with arguments by name, sort and index, and answers its
+    /// instance index.
+    pub fn instantiate(
+        &mut self,
+        component: u32,
+        arguments: &[(&str, Sort, u32)],
+    ) -> Result<u32, BinaryFault>
+        ensures index { IfOk result (λ i. i ≡ indexes (space s.Instance) self.old) }
+        ensures appended { OnOk result (self.new ≡ self.old ++ instantiate component (arguments_of arguments.now) ∷ []) }
+        ensures fits { OnOk result (Fits self.new) }
+        ensures refused { OnErr result (self.new ≡ self.old) }
+        ensures too_large { IfErr result (λ e. e ≡ TooLarge → ¬ Fits (self.old ++ instantiate component (arguments_of arguments.now) ∷ [])) }
+    {
+        self.append(
+            &ItemRef::Instance {
+                component,
+                arguments,
+            },
+            5,
+        )
+    }
+
+    /// Adds an alias of the export of this sort and name of the instance with this index, and answers its index of
+    /// that sort.
+    pub fn alias_export(
+        &mut self,
+        sort: Sort,
+        instance: u32,
+        name: &str,
+    ) -> Result<u32, BinaryFault>
+        ensures index { IfOk result (λ i. i ≡ indexes (space sort) self.old) }
+        ensures appended { OnOk result (self.new ≡ self.old ++ alias_item (export_alias sort instance name.now) ∷ []) }
+        ensures fits { OnOk result (Fits self.new) }
+        ensures refused { OnErr result (self.new ≡ self.old) }
+        ensures too_large { IfErr result (λ e. e ≡ TooLarge → ¬ Fits (self.old ++ alias_item (export_alias sort instance name.now) ∷ [])) }
+    {
+        self.append(
+            &ItemRef::AliasExport {
+                sort,
+                instance,
+                name,
+            },
+            space(sort),
+        )
+    }
+
+    /// Adds an alias of what has this index of this sort in the scope so many scopes out (0 is the component
+    /// itself), and answers its index of that sort.
+    pub fn alias_outer(&mut self, sort: Sort, count: u32, index: u32) -> Result<u32, BinaryFault>
+        ensures index { IfOk result (λ i. i ≡ indexes (space sort) self.old) }
+        ensures appended { OnOk result (self.new ≡ self.old ++ alias_item (outer_alias sort count index) ∷ []) }
+        ensures fits { OnOk result (Fits self.new) }
+        ensures refused { OnErr result (self.new ≡ self.old) }
+        ensures too_large { IfErr result (λ e. e ≡ TooLarge → ¬ Fits (self.old ++ alias_item (outer_alias sort count index) ∷ [])) }
+    {
+        self.append(&ItemRef::AliasOuter { sort, count, index }, space(sort))
+    }
+
+    /// Adds a function type, and answers its type index.
+    pub fn func_type(&mut self, f: &FuncType<'_>) -> Result<u32, BinaryFault>
+        ensures index { IfOk result (λ i. i ≡ indexes (space s.Type) self.old) }
+        ensures appended { OnOk result (self.new ≡ self.old ++ type_item (func_of f.now) ∷ []) }
+        ensures fits { OnOk result (Fits self.new) }
+        ensures refused { OnErr result (self.new ≡ self.old) }
+        ensures too_large { IfErr result (λ e. e ≡ TooLarge → ¬ Fits (self.old ++ type_item (func_of f.now) ∷ [])) }
+    {
+        self.append(&ItemRef::Func(f), 3)
+    }
+
+    /// Adds an instance type with these declarations, and answers its type index.
+    pub fn instance_type(&mut self, t: &InstanceType) -> Result<u32, BinaryFault>
+        ensures index { IfOk result (λ i. i ≡ indexes (space s.Type) self.old) }
+        ensures appended { OnOk result (self.new ≡ self.old ++ type_item (instance_def (decls t.now)) ∷ []) }
+        ensures fits { OnOk result (Fits self.new) }
+        ensures refused { OnErr result (self.new ≡ self.old) }
+        ensures too_large { IfErr result (λ e. e ≡ TooLarge → ¬ Fits (self.old ++ type_item (instance_def (decls t.now)) ∷ [])) }
+    {
+        self.append(&ItemRef::InstanceType(t), 3)
+    }
+
+    /// Adds an import of this name, and answers its index of the sort that is described.
+    pub fn import(&mut self, name: &str, d: Description) -> Result<u32, BinaryFault>
+        ensures index { IfOk result (λ i. i ≡ indexes (space (described_sort d)) self.old) }
+        ensures appended { OnOk result (self.new ≡ self.old ++ import_item name.now d ∷ []) }
+        ensures fits { OnOk result (Fits self.new) }
+        ensures refused { OnErr result (self.new ≡ self.old) }
+        ensures too_large { IfErr result (λ e. e ≡ TooLarge → ¬ Fits (self.old ++ import_item name.now d ∷ [])) }
+    {
+        self.append(&ItemRef::Import(name, d), space(described_sort(d)))
+    }
+
+    /// Adds an export, under this name, of what has this index of this sort, and answers the new index of that sort.
+    pub fn export(&mut self, name: &str, sort: Sort, index: u32) -> Result<u32, BinaryFault>
+        ensures index { IfOk result (λ i. i ≡ indexes (space sort) self.old) }
+        ensures appended { OnOk result (self.new ≡ self.old ++ export_item name.now sort index ∷ []) }
+        ensures fits { OnOk result (Fits self.new) }
+        ensures refused { OnErr result (self.new ≡ self.old) }
+        ensures too_large { IfErr result (λ e. e ≡ TooLarge → ¬ Fits (self.old ++ export_item name.now sort index ∷ [])) }
+    {
+        self.append(&ItemRef::Export { name, sort, index }, space(sort))
+    }
+
+    /// The bytes of the component. Refused only where memory is: `OutOfMemory`.
+    pub fn finish(&self) -> Result<Vec<u8>, BinaryFault>
+        ensures bytes { IfOk result (λ v. v.items ≡ bytes_of self.now) }
+        ensures fits { Fits self.now }
+        ensures memory { IfErr result (λ e. e ≡ OutOfMemory) }
+    {
+        let mut out = Vec::new(self.alloc);
+        out.extend_from_slice(&self.bytes)?;
+        begin(&mut out)?;
+        put_open(&mut out, self.open_section, &self.things)?;
+        Ok(out)
+    }
+
+    /// Adds a custom section with this name.
+    pub fn custom(&mut self, name: &str, bytes: &[u8]) -> Result<(), BinaryFault>
+        ensures appended { OnOk result (self.new ≡ self.old ++ custom name.now bytes.now ∷ []) }
+        ensures fits { OnOk result (Fits self.new) }
+        ensures refused { OnErr result (self.new ≡ self.old) }
+        ensures too_large { IfErr result (λ e. e ≡ TooLarge → ¬ Fits (self.old ++ custom name.now bytes.now ∷ [])) }
+    {
+        begin(&mut self.bytes)?;
+        put_alone(
+            &mut self.bytes,
+            self.open_section,
+            &self.things,
+            &AloneRef::Custom { name, bytes },
+        )?;
+        self.open_section = None;
+        Ok(())
+    }
+
+    /// The bytes of the component, handed over. Refused only where memory is: `OutOfMemory`.
+    pub fn into_bytes(self) -> Result<Vec<u8>, BinaryFault>
+        ensures bytes { IfOk result (λ v. v.items ≡ bytes_of self) }
+        ensures memory { IfErr result (λ e. e ≡ OutOfMemory) }
+    {
+        let ComponentBuilder {
+            alloc: _,
+            mut bytes,
+            things,
+            next: _,
+            open_section,
+            counts: _,
+        } = self;
+        begin(&mut bytes)?;
+        put_open(&mut bytes, open_section, &things)?;
+        Ok(bytes)
+    }
+}

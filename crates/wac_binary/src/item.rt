@@ -1,0 +1,149 @@
+//! An item that is about to be written.
+
+ghost use Rattle.std.specs.Prelude.{◌≡◌, List, ℕ, ◌++◌, ◌∷◌, [], length, OnOk, OnErr, IfOk};
+ghost use Rattle.wac_binary.specs.Bytes.{alone, item_bytes, section_id as id_of};
+ghost use Rattle.wac_binary.specs.Fits.{SectionFits};
+ghost use Rattle.wac_binary.specs.ItemView.{item_of, alone_of};
+
+use crate::declarations::InstanceType;
+use crate::fault::BinaryFault;
+use crate::put::{
+    put_alias_export, put_alias_outer, put_argument, put_arguments, put_func, put_named, put_text,
+    put_unsigned,
+};
+use crate::section::unsigned_len;
+use crate::sorts::{Description, Sort};
+use crate::types::FuncType;
+use std::alloc::AllocError;
+
+/// An item that is about to be written, with its parts where they are.
+#[derive(Clone, Copy)]
+pub enum ItemRef<'a> {
+    Instance {
+        component: u32,
+        arguments: &'a [(&'a str, Sort, u32)],
+    },
+    AliasExport {
+        sort: Sort,
+        instance: u32,
+        name: &'a str,
+    },
+    AliasOuter {
+        sort: Sort,
+        count: u32,
+        index: u32,
+    },
+    Func(&'a FuncType<'a>),
+    InstanceType(&'a InstanceType),
+    Import(&'a str, Description),
+    Export {
+        name: &'a str,
+        sort: Sort,
+        index: u32,
+    },
+}
+
+/// Puts the bytes of an item at the end of a buffer.
+pub fn put_item(out: &mut Vec<u8>, item: &ItemRef<'_>) -> Result<(), AllocError>
+    ensures written { OnOk result (out.new.items ≡ out.old.items ++ item_bytes (item_of item.now)) }
+    ensures grows { (more : List ℕ) × (out.new.items ≡ out.old.items ++ more) }
+{
+    match *item {
+        ItemRef::Instance {
+            component,
+            arguments,
+        } => {
+            out.push(0)?;
+            put_unsigned(out, u64::from(component))?;
+            put_arguments(out, arguments)
+        }
+        ItemRef::AliasExport {
+            sort,
+            instance,
+            name,
+        } => put_alias_export(out, sort, instance, name),
+        ItemRef::AliasOuter { sort, count, index } => put_alias_outer(out, sort, count, index),
+        ItemRef::Func(f) => put_func(out, f),
+        ItemRef::InstanceType(t) => t.put(out),
+        ItemRef::Import(name, d) => {
+            out.push(0)?;
+            put_named(out, name, d)
+        }
+        ItemRef::Export { name, sort, index } => {
+            out.push(0)?;
+            put_argument(out, name, sort, index)?;
+            out.push(0)?;
+            Ok(())
+        }
+    }
+}
+
+/// The id of the section in which an item stands.
+pub fn section_id(item: &ItemRef<'_>) -> u8
+    ensures { result ≡ id_of (item_of item.now) }
+{
+    match item {
+        ItemRef::Instance { .. } => 5,
+        ItemRef::AliasExport { .. } => 6,
+        ItemRef::AliasOuter { .. } => 6,
+        ItemRef::Func(_) => 7,
+        ItemRef::InstanceType(_) => 7,
+        ItemRef::Import(..) => 10,
+        ItemRef::Export { .. } => 11,
+    }
+}
+
+/// An item that has a section of its own and is about to be written.
+#[derive(Clone, Copy)]
+pub enum AloneRef<'a> {
+    Component(&'a [u8]),
+    Custom { name: &'a str, bytes: &'a [u8] },
+}
+
+/// Puts the bytes of such an item at the end of a buffer.
+pub fn put_alone_item(out: &mut Vec<u8>, item: &AloneRef<'_>) -> Result<(), AllocError>
+    ensures written { OnOk result (out.new.items ≡ out.old.items ++ item_bytes (alone_of item.now)) }
+    ensures grows { (more : List ℕ) × (out.new.items ≡ out.old.items ++ more) }
+{
+    match *item {
+        AloneRef::Component(bytes) => out.extend_from_slice(bytes),
+        AloneRef::Custom { name, bytes } => {
+            put_text(out, name)?;
+            out.extend_from_slice(bytes)
+        }
+    }
+}
+
+/// The id of the section of such an item.
+pub fn alone_id(item: &AloneRef<'_>) -> u8
+    ensures { result ≡ id_of (alone_of item.now) }
+{
+    match item {
+        AloneRef::Component(_) => 4,
+        AloneRef::Custom { .. } => 0,
+    }
+}
+
+/// How many bytes such an item has. Refused exactly where its section does not fit 32 bits: `TooLarge`.
+pub fn alone_size(item: &AloneRef<'_>) -> Result<u64, BinaryFault>
+    ensures size { IfOk result (λ n. n ≡ length (item_bytes (alone_of item.now))) }
+    ensures fits { OnOk result (SectionFits (alone (alone_of item.now))) }
+    ensures too_large { OnErr result (¬ SectionFits (alone (alone_of item.now))) }
+{
+    let (name, bytes) = match *item {
+        AloneRef::Component(bytes) => (0, bytes.len() as u64),
+        AloneRef::Custom { name, bytes } => (name.len() as u64, bytes.len() as u64),
+    };
+    if name >= 1 << 32 || bytes >= 1 << 32 {
+        return Err(BinaryFault::TooLarge);
+    }
+    let head = match item {
+        AloneRef::Component(_) => 0,
+        AloneRef::Custom { .. } => unsigned_len(name),
+    };
+    let size = head + name + bytes;
+    if size >= 1 << 32 {
+        return Err(BinaryFault::TooLarge);
+    }
+    Ok(size)
+}

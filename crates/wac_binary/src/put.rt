@@ -1,0 +1,219 @@
+//! The bytes of the parts of items, each put at the end of a buffer.
+
+ghost use Rattle.std.specs.Prelude.{◌≡◌, List, ℕ, ◌<◌, ◌≤◌, ◌++◌, ◌∷◌, [], length, OnOk};
+ghost use Rattle.wac_binary.specs.Leb.{leb, unsigned};
+ghost use Rattle.wac_binary.specs.Bytes.{text, value, primitive, field, vector, argument, type_bytes, alias_bytes, sort, described};
+ghost use Rattle.wac_binary.specs.Items.{export_alias, outer_alias};
+ghost use Rattle.wac_binary.specs.Views.{named, arguments_of, func_of};
+
+use crate::sorts::{Description, Sort};
+use crate::types::{ComponentValType, FuncType};
+use std::alloc::AllocError;
+use wac_types::PrimitiveType;
+
+#[tactic(auto, using(crate::specs::LebLaws::leb_more, crate::specs::LebLaws::leb_last, std::proofs::lemmas::Grind::common_steps))]
+fn put_leb(out: &mut Vec<u8>, limit: u64, n: u64) -> Result<(), AllocError>
+    requires some { 0 < limit }
+    requires byte { limit ≤ 128 }
+    ensures written { OnOk result (out.new.items ≡ out.old.items ++ leb limit n) }
+    ensures grows { (more : List ℕ) × (out.new.items ≡ out.old.items ++ more) }
+{
+    let mut rest = n;
+    while rest >= limit {
+        out.push((rest % 128 + 128) as u8)?;
+        rest /= 128;
+    }
+    out.push(rest as u8)?;
+    Ok(())
+}
+
+pub fn put_unsigned(out: &mut Vec<u8>, n: u64) -> Result<(), AllocError>
+    ensures written { OnOk result (out.new.items ≡ out.old.items ++ unsigned n) }
+    ensures grows { (more : List ℕ) × (out.new.items ≡ out.old.items ++ more) }
+{
+    put_leb(out, 128, n)
+}
+
+pub fn put_text(out: &mut Vec<u8>, t: &str) -> Result<(), AllocError>
+    ensures written { OnOk result (out.new.items ≡ out.old.items ++ text t.now) }
+    ensures grows { (more : List ℕ) × (out.new.items ≡ out.old.items ++ more) }
+{
+    put_unsigned(out, t.len() as u64)?;
+    out.extend_from_slice(t.as_bytes())?;
+    Ok(())
+}
+
+fn primitive_byte(t: PrimitiveType) -> u8
+    ensures { result ≡ primitive t }
+{
+    match t {
+        PrimitiveType::Bool => 0x7f,
+        PrimitiveType::S8 => 0x7e,
+        PrimitiveType::U8 => 0x7d,
+        PrimitiveType::S16 => 0x7c,
+        PrimitiveType::U16 => 0x7b,
+        PrimitiveType::S32 => 0x7a,
+        PrimitiveType::U32 => 0x79,
+        PrimitiveType::S64 => 0x78,
+        PrimitiveType::U64 => 0x77,
+        PrimitiveType::F32 => 0x76,
+        PrimitiveType::F64 => 0x75,
+        PrimitiveType::Char => 0x74,
+        PrimitiveType::String => 0x73,
+        PrimitiveType::ErrorContext => 0x64,
+    }
+}
+
+pub fn put_value(out: &mut Vec<u8>, t: ComponentValType) -> Result<(), AllocError>
+    ensures written { OnOk result (out.new.items ≡ out.old.items ++ value t) }
+    ensures grows { (more : List ℕ) × (out.new.items ≡ out.old.items ++ more) }
+{
+    match t {
+        ComponentValType::Primitive(t) => {
+            out.push(primitive_byte(t))?;
+            Ok(())
+        }
+        ComponentValType::Index(i) => put_leb(out, 64, u64::from(i)),
+    }
+}
+
+fn put_field(out: &mut Vec<u8>, name: &str, t: ComponentValType) -> Result<(), AllocError>
+    ensures written { OnOk result (out.new.items ≡ out.old.items ++ field (name.now, t)) }
+    ensures grows { (more : List ℕ) × (out.new.items ≡ out.old.items ++ more) }
+{
+    put_text(out, name)?;
+    put_value(out, t)
+}
+
+fn put_fields(out: &mut Vec<u8>, fields: &[(&str, ComponentValType)]) -> Result<(), AllocError>
+    ensures written { OnOk result (out.new.items ≡ out.old.items ++ vector field (named fields.now)) }
+    ensures grows { (more : List ℕ) × (out.new.items ≡ out.old.items ++ more) }
+{
+    put_unsigned(out, fields.len() as u64)?;
+    for field in fields {
+        put_field(out, field.0, field.1)?;
+    }
+    Ok(())
+}
+
+pub fn put_func(out: &mut Vec<u8>, f: &FuncType<'_>) -> Result<(), AllocError>
+    ensures written { OnOk result (out.new.items ≡ out.old.items ++ type_bytes (func_of f.now)) }
+    ensures grows { (more : List ℕ) × (out.new.items ≡ out.old.items ++ more) }
+{
+    out.push(if f.is_async { 0x43 } else { 0x40 })?;
+    put_fields(out, f.params)?;
+    match f.result {
+        None => {
+            out.push(1)?;
+            out.push(0)?;
+            Ok(())
+        }
+        Some(t) => {
+            out.push(0)?;
+            put_value(out, t)
+        }
+    }
+}
+
+pub fn put_sort(out: &mut Vec<u8>, s: Sort) -> Result<(), AllocError>
+    ensures written { OnOk result (out.new.items ≡ out.old.items ++ sort s) }
+    ensures grows { (more : List ℕ) × (out.new.items ≡ out.old.items ++ more) }
+{
+    match s {
+        Sort::CoreModule => {
+            out.push(0)?;
+            out.push(0x11)?;
+        }
+        Sort::Func => out.push(1)?,
+        Sort::Value => out.push(2)?,
+        Sort::Type => out.push(3)?,
+        Sort::Component => out.push(4)?,
+        Sort::Instance => out.push(5)?,
+    }
+    Ok(())
+}
+
+fn put_indexed(out: &mut Vec<u8>, byte: u8, index: u32) -> Result<(), AllocError>
+    ensures written { OnOk result (out.new.items ≡ out.old.items ++ byte ∷ unsigned index) }
+    ensures grows { (more : List ℕ) × (out.new.items ≡ out.old.items ++ more) }
+{
+    out.push(byte)?;
+    put_unsigned(out, u64::from(index))
+}
+
+pub fn put_described(out: &mut Vec<u8>, d: Description) -> Result<(), AllocError>
+    ensures written { OnOk result (out.new.items ≡ out.old.items ++ described d) }
+    ensures grows { (more : List ℕ) × (out.new.items ≡ out.old.items ++ more) }
+{
+    match d {
+        Description::CoreModule(i) => {
+            out.push(0)?;
+            put_indexed(out, 0x11, i)
+        }
+        Description::Func(i) => put_indexed(out, 1, i),
+        Description::Equal(i) => {
+            out.push(3)?;
+            put_indexed(out, 0, i)
+        }
+        Description::Fresh => {
+            out.push(3)?;
+            out.push(1)?;
+            Ok(())
+        }
+        Description::Component(i) => put_indexed(out, 4, i),
+        Description::Instance(i) => put_indexed(out, 5, i),
+    }
+}
+
+/// A name and what stands under it.
+pub fn put_named(out: &mut Vec<u8>, name: &str, d: Description) -> Result<(), AllocError>
+    ensures written { OnOk result (out.new.items ≡ out.old.items ++ (text name.now ++ described d)) }
+    ensures grows { (more : List ℕ) × (out.new.items ≡ out.old.items ++ more) }
+{
+    put_text(out, name)?;
+    put_described(out, d)
+}
+
+pub fn put_alias_export(
+    out: &mut Vec<u8>,
+    s: Sort,
+    instance: u32,
+    name: &str,
+) -> Result<(), AllocError>
+    ensures written { OnOk result (out.new.items ≡ out.old.items ++ alias_bytes (export_alias s instance name.now)) }
+    ensures grows { (more : List ℕ) × (out.new.items ≡ out.old.items ++ more) }
+{
+    put_sort(out, s)?;
+    put_indexed(out, 0, instance)?;
+    put_text(out, name)
+}
+
+pub fn put_alias_outer(out: &mut Vec<u8>, s: Sort, count: u32, index: u32) -> Result<(), AllocError>
+    ensures written { OnOk result (out.new.items ≡ out.old.items ++ alias_bytes (outer_alias s count index)) }
+    ensures grows { (more : List ℕ) × (out.new.items ≡ out.old.items ++ more) }
+{
+    put_sort(out, s)?;
+    put_indexed(out, 2, count)?;
+    put_unsigned(out, u64::from(index))
+}
+
+/// A name, a sort and an index.
+pub fn put_argument(out: &mut Vec<u8>, name: &str, s: Sort, index: u32) -> Result<(), AllocError>
+    ensures written { OnOk result (out.new.items ≡ out.old.items ++ argument (name.now, s, index)) }
+    ensures grows { (more : List ℕ) × (out.new.items ≡ out.old.items ++ more) }
+{
+    put_text(out, name)?;
+    put_sort(out, s)?;
+    put_unsigned(out, u64::from(index))
+}
+
+pub fn put_arguments(out: &mut Vec<u8>, arguments: &[(&str, Sort, u32)]) -> Result<(), AllocError>
+    ensures written { OnOk result (out.new.items ≡ out.old.items ++ vector argument (arguments_of arguments.now)) }
+    ensures grows { (more : List ℕ) × (out.new.items ≡ out.old.items ++ more) }
+{
+    put_unsigned(out, arguments.len() as u64)?;
+    for a in arguments {
+        put_argument(out, a.0, a.1, a.2)?;
+    }
+    Ok(())
+}

@@ -1,0 +1,51 @@
+-- What a node adds to the items that are written so far: the components by package, and the index of each node.
+use Rattle.std.specs.Prelude.{ℕ, suc, ◌≡◌, Bool, false, List, [], ◌∷◌, ◌++◌, Some, slice_get, ◌⊎◌}
+use Rattle.std.specs.List.{list_any}
+use Rattle.wac_types.specs.Name.{Name}
+use Rattle.wac_types.specs.declared.component.ItemKind.{ItemKind}
+use Rattle.wac_binary.specs.declared.sorts.Sort.{Sort}
+use Rattle.wac_binary.specs.declared.sorts.Sort.TheVariants as sort
+use Rattle.wac_binary.specs.Items.{Item, nested, instantiate, alias_item, export_alias}
+use Rattle.wac_binary.specs.Indexes.{space, indexes}
+use Rattle.wac_graph.specs.declared.node.NodeId.{NodeId}
+use Rattle.wac_graph.specs.declared.packages.PackageId.{PackageId}
+use Rattle.wac_graph.specs.Graph as graph
+use Rattle.wac_graph.specs.Graph.{Graph, GraphNode, node_at, imports_of, exports_of, IsAliasOf, IsArgumentOf}
+use Rattle.wac_graph.specs.Means.{node_number, same_package, package_bytes, sort_of_kind}
+
+-- the package's component has this index; it was added if it was not there
+abbrev pub HasComponent : Graph → PackageId → ℕ → List (PackageId × ℕ) → List (PackageId × ℕ) → List Item → List Item → Type 0
+HasComponent g id c components components' items items' =
+    ((k : ℕ) × (slice_get components k ≡ Some (id, c)) × (components' ≡ components) × (items' ≡ items))
+    ⊎ ((list_any (λ e. same_package id e.0) components ≡ false)
+      × (c ≡ indexes (space sort.Component) items)
+      × (components' ≡ components ++ (id, c) ∷ [])
+      × (items' ≡ items ++ nested (package_bytes g id) ∷ []))
+
+-- an argument: the import's name, with the sort and the index of the node that was set
+pub record IsArgumentItem (g : Graph) (index : ℕ → ℕ) (n i : ℕ) (name : Name) (a : Name × Sort × ℕ) : Type 0 where
+  pub named : a.0 ≡ name
+  pub source : NodeId
+  pub given : IsArgumentOf g (node_number n) i source
+  pub node : GraphNode
+  pub there : node_at g source ≡ Some node
+  pub of_sort : a.1 ≡ sort_of_kind node.item_kind
+  pub placed : a.2 ≡ index source.0
+
+abbrev pub AreArgumentItems : Graph → (ℕ → ℕ) → ℕ → ℕ → List (Name × ItemKind) → List (Name × Sort × ℕ) → Type 0
+AreArgumentItems g index n i [] [] = Unit {0}
+AreArgumentItems g index n i (e ∷ imports) (a ∷ arguments) = IsArgumentItem g index n i e.0 a × AreArgumentItems g index n (suc i) imports arguments
+AreArgumentItems g index n i _ _ = ⊥
+
+-- node n is written, and stands at index i
+pub data Adds (g : Graph) (n : ℕ) (node : GraphNode) (index : ℕ → ℕ) (components components' : List (PackageId × ℕ)) (items items' : List Item) (i : ℕ) : Type 0 where
+  adds_instantiation : (id : PackageId) (c : ℕ) (mid : List Item) (arguments : List (Name × Sort × ℕ))
+      → node.kind ≡ graph.instantiation → node.owner ≡ Some id → HasComponent g id c components components' items mid
+      → AreArgumentItems g index n 0 (imports_of g node) arguments
+      → items' ≡ mid ++ instantiate c arguments ∷ [] → i ≡ indexes (space sort.Instance) mid
+      → Adds g n node index components components' items items' i
+  adds_alias : (instance : NodeId) (source : GraphNode) (k : ℕ) (name : Name)
+      → node.kind ≡ graph.alias → IsAliasOf g instance k (node_number n) → node_at g instance ≡ Some source → slice_get (exports_of g source) k ≡ Some (name, node.item_kind)
+      → components' ≡ components
+      → items' ≡ items ++ alias_item (export_alias (sort_of_kind node.item_kind) (index instance.0) name) ∷ [] → i ≡ indexes (space (sort_of_kind node.item_kind)) items
+      → Adds g n node index components components' items items' i

@@ -1,0 +1,9 @@
+pub mod Edge
+pub mod Order
+pub mod Graph
+pub mod Sound
+pub mod Inside
+pub mod Steps
+pub mod Asked
+pub mod Means
+pub mod Encoding

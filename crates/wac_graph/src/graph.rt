@@ -1,0 +1,371 @@
+//! The composition graph.
+ghost use Rattle.std.specs.Prelude.{◌≡◌, ◌≢◌, ◌↔◌, ◌⊎◌, ℕ, Bool, true, false, [], IsSome, IsTrue, is_some, OnOk, OnErr, IfOk, IfErr, IfSome, IfNone, Some, None, Ok, Err, ◌++◌, ◌∷◌, ◌||◌, ◌&&◌, ◌==◌, length, slice_get};
+ghost use Rattle.std.specs.Option.{option_map, option_and_then, option_copied};
+ghost use Rattle.slab.specs.Slab.{ContainsKey, get, with_value};
+ghost use Rattle.semver.specs.Identifiers.{parts_of};
+ghost use Rattle.wac_types.specs.Collection.{holds_type, item_at, holds_func, holds_interface, holds_world, with_func, with_interface, with_world};
+ghost use Rattle.wac_types.specs.Package.{HoldsPackage, with_instance_of};
+ghost use Rattle.wac_types.specs.Named.{named_at};
+ghost use Rattle.wac_types.specs.declared.component.«Type».TheVariants.{World as world_type};
+ghost use Rattle.wac_graph.specs.Graph.{node_at, package_at, export_at, package_in};
+ghost use Rattle.wac_graph.specs.Inside.{IsInstantiationAt, satisfied_at, node_of};
+ghost use Rattle.wac_graph.specs.Steps.{IsEmpty, Adds, Registers, Instantiates, Aliases, SetsArgument, Exports};
+
+use crate::edges::{Edge, Edges, Label};
+use crate::errors::{AliasError, ExportError, InstantiationArgumentError, RegisterPackageError};
+use crate::node::{Node, NodeId, NodeKind};
+use crate::packages::{PackageId, Slot};
+use indexmap::IndexMap;
+use semver::Version;
+use slab::Slab;
+use std::alloc::{AllocError, Global};
+use std::collections::BTreeSet;
+use std::marker::Model;
+use std::ops::Index;
+use wac_types::{
+    AddTypeError, FuncType, FuncTypeId, Interface, InterfaceId, ItemKind, Package, PackageKey,
+    SubtypeChecker, TypeFault, Types, World, WorldId,
+};
+
+/// A composition graph.
+#[derive(Drop)]
+pub struct CompositionGraph {
+    pub(crate) alloc: Global,
+    pub(crate) types: Types,
+    pub(crate) nodes: Slab<Node>,
+    pub(crate) edges: Edges,
+    pub(crate) exports: IndexMap<String, NodeId>,
+    pub(crate) package_map: IndexMap<PackageKey, PackageId>,
+    pub(crate) slots: Vec<Slot>,
+}
+
+impl Model for CompositionGraph {
+    ghost use Rattle.wac_graph.specs.Graph.{Graph};
+    ghost use Rattle.std.specs.Coded.{codes};
+    ghost use Rattle.std.specs.FinMap as map;
+
+    ghost Value = { Graph };
+
+    ghost coded = { Prim.hlevel (codes, map.code) };
+
+    ghost use Rattle.wac_graph.specs.Inside.{graph_of, Invariant};
+
+    ghost view = { graph_of };
+
+    ghost invariant = { Invariant };
+}
+
+impl CompositionGraph {
+    /// The empty graph.
+    pub fn new(alloc: Global) -> CompositionGraph
+        ensures { IsEmpty result }
+    {
+        CompositionGraph {
+            alloc,
+            types: Types::new(alloc),
+            nodes: Slab::new(alloc),
+            edges: Edges::new(alloc),
+            exports: IndexMap::new(alloc),
+            package_map: IndexMap::new(alloc),
+            slots: Vec::new(alloc),
+        }
+    }
+
+    /// The graph's collection of types.
+    pub fn types(&self) -> &Types
+        ensures { result.now ≡ self.now.types }
+    {
+        &self.types
+    }
+
+    /// Whether the node is in the graph now.
+    pub fn has_node(&self, id: NodeId) -> bool
+        ensures { IsTrue result ↔ IsSome (node_at self.now id) }
+    {
+        self.nodes.contains(id.0)
+    }
+
+    /// Whether the package is registered now.
+    pub fn has_package(&self, id: PackageId) -> bool
+        ensures { IsTrue result ↔ IsSome (package_at self.now id) }
+    {
+        match self.slots.get(id.slot) {
+            Some(slot) => slot.generation == id.generation && slot.package.is_some(),
+            None => false,
+        }
+    }
+
+    /// Adds a function type to the collection; refused as by [`Types::add_func_type`], and then nothing has changed.
+    pub fn add_func_type(&mut self, func: FuncType) -> Result<FuncTypeId, AddTypeError>
+        ensures added { Adds self.old result self.new (λ id types. (id.0 ≡ length self.old.types.funcs) × (types ≡ with_func self.old.types func)) }
+        ensures not_held { (result ≡ Err AddTypeError.NotHeld) ↔ (holds_func self.old.types func ≡ false) }
+    {
+        self.types.add_func_type(func)
+    }
+
+    /// Adds an interface to the collection; refused as by [`Types::add_interface`], and then nothing has changed.
+    pub fn add_interface(&mut self, interface: Interface) -> Result<InterfaceId, AddTypeError>
+        ensures added { Adds self.old result self.new (λ id types. (id.0 ≡ length self.old.types.interfaces) × (types ≡ with_interface self.old.types interface)) }
+        ensures not_held { (result ≡ Err AddTypeError.NotHeld) ↔ (holds_interface self.old.types interface ≡ false) }
+    {
+        self.types.add_interface(interface)
+    }
+
+    /// Adds a world to the collection; refused as by [`Types::add_world`], and then nothing has changed.
+    pub fn add_world(&mut self, world: World) -> Result<WorldId, AddTypeError>
+        ensures added { Adds self.old result self.new (λ id types. (id.0 ≡ length self.old.types.worlds) × (types ≡ with_world self.old.types world)) }
+        ensures not_held { (result ≡ Err AddTypeError.NotHeld) ↔ (holds_world self.old.types world ≡ false) }
+    {
+        self.types.add_world(world)
+    }
+
+    /// A package of a held world, with these bytes; refused as by [`Package::new`], and then nothing has changed.
+    pub fn new_package(
+        &mut self,
+        name: &str,
+        version: Option<&Version>,
+        bytes: Vec<u8>,
+        world: WorldId,
+    ) -> Result<Package, AddTypeError>
+        requires { holds_type self.old.types (world_type world) ≡ true }
+        ensures built { IfOk result (λ p. p ≡ record {
+            name = name.now;
+            version = option_map (λ v. parts_of v.now) version.entry;
+            bytes = bytes.items;
+            world = world;
+            instance_type = record { 0 = length self.old.types.interfaces };
+        }) }
+        ensures added { Adds self.old result self.new (λ p types. types ≡ with_instance_of self.old.types world) }
+        ensures held { IfOk result (λ p. HoldsPackage self.new.types p) }
+        ensures never_not_held { result ≢ Err AddTypeError.NotHeld }
+    {
+        Package::new(name, version, bytes, world, &mut self.types)
+    }
+
+    /// Registers a package of a held world under a new id. Answers `PackageAlreadyRegistered` where a package of its
+    /// key is registered, and `OutOfMemory` where memory ran out; then nothing has changed.
+    pub fn register_package(
+        &mut self,
+        package: Package,
+    ) -> Result<PackageId, RegisterPackageError>
+        requires { HoldsPackage self.old.types «package» }
+        ensures { Registers self.old «package» result self.new }
+    {
+        let key = package.key()?;
+        if let Some(_) = self.package_map.get(&key) {
+            return Err(RegisterPackageError::PackageAlreadyRegistered { key });
+        }
+        self.slots.reserve(1)?;
+        let id = PackageId {
+            slot: self.slots.len(),
+            generation: 0,
+        };
+        self.package_map.insert(key, id)?;
+        self.slots
+            .push(Slot {
+                generation: 0,
+                package: Some(package),
+            })
+            .unwrap();
+        Ok(id)
+    }
+
+    /// A new instance of a registered package, with no argument set. Answers want of memory; then nothing has
+    /// changed.
+    pub fn instantiate(&mut self, id: PackageId) -> Result<NodeId, AllocError>
+        requires { IsSome (package_at self.old id) }
+        ensures { Instantiates self.old id result self.new }
+    {
+        let Some(package) = package_in_slots(&self.slots, id) else {
+            unreachable!()
+        };
+        let node = Node {
+            kind: NodeKind::Instantiation(BTreeSet::new(self.alloc)),
+            package: Some(id),
+            item_kind: ItemKind::Instance(package.instance_type()),
+            name: None,
+            export_name: None,
+        };
+        let number = self.nodes.insert(node)?;
+        Ok(NodeId(number))
+    }
+
+    /// The alias of an instance's export: the one that is there, or a new one that carries the instance's package.
+    /// Answers `NodeIsNotAnInstance` where the node is no instance, `InstanceMissingExport` where it has no export of
+    /// this name, and `OutOfMemory` where memory ran out; then nothing has changed.
+    pub fn alias_instance_export(
+        &mut self,
+        instance: NodeId,
+        export: &str,
+    ) -> Result<NodeId, AliasError>
+        requires { IsSome (node_at self.old instance) }
+        ensures { Aliases self.old instance export.now result self.new }
+    {
+        self.types.law();
+        let node = &self.nodes[instance.0];
+        let package = node.package;
+        let item_kind = node.item_kind;
+        let ItemKind::Instance(interface) = item_kind else {
+            let kind = item_kind.desc(&self.types);
+            return Err(AliasError::NodeIsNotAnInstance { node: instance, kind });
+        };
+        let Some((position, item_kind)) = self.types[interface].exports.get_full(export) else {
+            let export = String::from_str(self.alloc, export)?;
+            return Err(AliasError::InstanceMissingExport { node: instance, export });
+        };
+        let item_kind = *item_kind;
+        if let Some(alias) = self.edges.alias(instance.0, position) {
+            return Ok(NodeId(alias));
+        }
+        self.nodes.reserve(1)?;
+        let number = self.nodes.vacant_key();
+        self.edges.add(Edge {
+            source: instance.0,
+            target: number,
+            label: Label::Alias(position),
+        })?;
+        self.nodes.insert_reserved(Node {
+            kind: NodeKind::Alias,
+            package,
+            item_kind,
+            name: None,
+            export_name: None,
+        });
+        Ok(NodeId(number))
+    }
+
+    /// Gives a node as the argument of this name to an instantiation; where it is given already, nothing changes.
+    /// Answers `NodeIsNotAnInstantiation`, `InvalidArgumentName` where the package's world has no import of this name,
+    /// `ArgumentAlreadyPassed` where another node is given, `ArgumentTypeMismatch` where the node's item is no subtype
+    /// of the import, and `OutOfMemory` where memory ran out; then nothing has changed.
+    pub fn set_instantiation_argument(
+        &mut self,
+        instantiation: NodeId,
+        argument_name: &str,
+        argument: NodeId,
+    ) -> Result<(), InstantiationArgumentError>
+        requires instantiation { IsSome (node_at self.old instantiation) }
+        requires argument { IsSome (node_at self.old argument) }
+        ensures { SetsArgument self.old instantiation argument_name.now argument result self.new }
+    {
+        self.types.law();
+        let node = &self.nodes[instantiation.0];
+        let NodeKind::Instantiation(satisfied) = &node.kind else {
+            return Err(InstantiationArgumentError::NodeIsNotAnInstantiation { node: instantiation });
+        };
+        let Some(id) = node.package else {
+            unreachable!()
+        };
+        let Some(package) = package_in_slots(&self.slots, id) else {
+            unreachable!()
+        };
+        let world = &self.types[package.ty()];
+        let Some((position, kind)) = world.imports.get_full(argument_name) else {
+            let name = String::from_str(self.alloc, argument_name)?;
+            let package = String::from_str(self.alloc, package.name())?;
+            return Err(InstantiationArgumentError::InvalidArgumentName {
+                node: instantiation,
+                name,
+                package,
+            });
+        };
+        let edge = Edge {
+            source: argument.0,
+            target: instantiation.0,
+            label: Label::Argument(position),
+        };
+        if self.edges.contains(edge) {
+            return Ok(());
+        }
+        if satisfied.contains(&position) {
+            let name = String::from_str(self.alloc, argument_name)?;
+            return Err(InstantiationArgumentError::ArgumentAlreadyPassed {
+                node: instantiation,
+                name,
+            });
+        }
+        let given = self.nodes[argument.0].item_kind;
+        match SubtypeChecker::new().is_subtype(given, &self.types, *kind, &self.types) {
+            Ok(()) => {}
+            Err(TypeFault::OutOfMemory) => return Err(InstantiationArgumentError::OutOfMemory),
+            Err(TypeFault::Mismatch) => {
+                let name = String::from_str(self.alloc, argument_name)?;
+                let source = TypeFault::Mismatch;
+                return Err(InstantiationArgumentError::ArgumentTypeMismatch { name, source });
+            }
+        }
+        self.edges.add(edge)?;
+        match satisfy(&mut self.nodes, instantiation.0, position) {
+            Ok(()) => Ok(()),
+            Err(_) => {
+                self.edges.remove(edge);
+                Err(InstantiationArgumentError::OutOfMemory)
+            }
+        }
+    }
+
+    /// Exports a node by a further name, last in order. Answers `ExportAlreadyExists` where the name is taken, and
+    /// `OutOfMemory` where memory ran out; then nothing has changed.
+    pub fn export(&mut self, node: NodeId, name: &str) -> Result<(), ExportError>
+        requires { IsSome (node_at self.old node) }
+        ensures { Exports self.old node name.now result self.new }
+    {
+        if let Some(other) = self.exports.get(name) {
+            let node = *other;
+            let name = String::from_str(self.alloc, name)?;
+            return Err(ExportError::ExportAlreadyExists { name, node });
+        }
+        let key = String::from_str(self.alloc, name)?;
+        let own = String::from_str(self.alloc, name)?;
+        self.exports.insert(key, node)?;
+        set_export_name(&mut self.nodes, node.0, own);
+        Ok(())
+    }
+
+    /// The node that is exported by a name.
+    pub fn get_export(&self, name: &str) -> Option<NodeId>
+        ensures { result ≡ export_at self.now name.now }
+    {
+        self.exports.get(name).copied()
+    }
+}
+
+/// The package of an id, where the slot holds one of the id's generation.
+pub(crate) fn package_in_slots(slots: &[Slot], id: PackageId) -> Option<&Package>
+    ensures { option_copied result ≡ package_in (slice_get slots.now id.slot) id }
+{
+    match slots.get(id.slot) {
+        Some(slot) => {
+            if slot.generation == id.generation {
+                slot.package.as_ref()
+            } else {
+                None
+            }
+        }
+        None => None,
+    }
+}
+
+/// Marks the import of an instantiation at this position as satisfied.
+fn satisfy(nodes: &mut Slab<Node>, number: usize, position: usize) -> Result<(), AllocError>
+    requires { IsInstantiationAt (get nodes.old number) }
+    ensures same { (q : ℕ) → option_map node_of (get nodes.new q) ≡ option_map node_of (get nodes.old q) }
+    ensures next { nodes.new.vacant_key ≡ nodes.old.vacant_key }
+    ensures ok { OnOk result ((q i : ℕ) → satisfied_at (get nodes.new q) i ≡ (satisfied_at (get nodes.old q) i || (q == number && i == position))) }
+    ensures err { OnErr result ((q i : ℕ) → satisfied_at (get nodes.new q) i ≡ satisfied_at (get nodes.old q) i) }
+{
+    let node = &mut nodes[number];
+    let NodeKind::Instantiation(positions) = &mut node.kind else {
+        unreachable!()
+    };
+    positions.insert(position)?;
+    Ok(())
+}
+
+fn set_export_name(nodes: &mut Slab<Node>, number: usize, name: String)
+    requires { ContainsKey nodes.old number }
+    ensures { IfSome (get nodes.old number) (λ n. nodes.new ≡ with_value nodes.old number (record n { export_name = Some name })) }
+{
+    let node = &mut nodes[number];
+    node.export_name = Some(name);
+}

@@ -1,0 +1,18 @@
+//! Composition graphs of WebAssembly components: packages, instantiations, aliases, arguments and exports go into a
+//! [`CompositionGraph`], and `encode` gives the bytes of one component.
+#![tactic(auto)]
+
+mod edges;
+mod errors;
+mod graph;
+mod node;
+mod order;
+mod packages;
+
+pub use errors::{
+    AliasError, EncodeError, ExportError, InstantiationArgumentError, RegisterPackageError,
+};
+pub use graph::CompositionGraph;
+pub use node::{Node, NodeId, NodeKind};
+pub use packages::PackageId;
+pub use wac_types as types;

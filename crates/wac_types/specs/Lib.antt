@@ -1,0 +1,11 @@
+pub mod Name
+pub mod Named
+pub mod Core
+pub mod Tree
+pub mod Collection
+pub mod Held
+pub mod Words
+pub mod Subtype
+pub mod Compare
+pub mod Package
+pub mod KeyLaws

@@ -1,0 +1,173 @@
+use crate::*;
+use semver::Version;
+use std::alloc::Global;
+use std::process::Abort;
+use std::test::Fail;
+
+const BOOL: ValueType = ValueType::Primitive(PrimitiveType::Bool);
+
+const U32: ValueType = ValueType::Primitive(PrimitiveType::U32);
+
+fn func(
+    types: &mut Types,
+    alloc: Global,
+    params: &[(&str, ValueType)],
+    returned: Option<ValueType>,
+    is_async: bool,
+) -> Result<ItemKind, Fail> {
+    let func = FuncType::new(alloc, params, returned, is_async)?;
+    Ok(ItemKind::Func(types.add_func_type(func)?))
+}
+
+fn instance(
+    types: &mut Types,
+    alloc: Global,
+    exports: &[(&str, ItemKind)],
+) -> Result<ItemKind, Fail> {
+    let interface = Interface::new(alloc, None, exports)?;
+    Ok(ItemKind::Instance(types.add_interface(interface)?))
+}
+
+// Whether one item is a subtype of another; both are to be held.
+fn is_subtype(rt: &impl Abort, a: ItemKind, at: &Types, b: ItemKind, bt: &Types) -> bool {
+    let first = at.contains(a.ty());
+    let second = bt.contains(b.ty());
+    assert!(rt; first);
+    assert!(rt; second);
+    SubtypeChecker::new().is_subtype(a, at, b, bt).is_ok()
+}
+
+#[test]
+fn an_instance_with_more_exports_is_a_subtype(rt: HostRuntime) -> Result<(), Fail> {
+    let alloc = rt.alloc();
+    let mut types = Types::new(alloc);
+    let f = func(&mut types, alloc, &[("x", BOOL)], None, false)?;
+    let g = func(&mut types, alloc, &[("y", BOOL)], Some(U32), true)?;
+    let one = instance(&mut types, alloc, &[("f", f)])?;
+    let two = instance(&mut types, alloc, &[("g", g), ("f", f)])?;
+    let nested = instance(&mut types, alloc, &[("i", two)])?;
+    let less = instance(&mut types, alloc, &[("i", one)])?;
+    for (a, b, want) in [
+        (f, f, true),
+        (f, g, false),
+        (f, one, false),
+        (one, f, false),
+        (one, one, true),
+        (two, one, true),
+        (one, two, false),
+        (nested, less, true),
+        (less, nested, false),
+    ] {
+        assert_eq!(rt; is_subtype(&rt, a, &types, b, &types), want);
+    }
+    Ok(())
+}
+
+// Whether `f(x: bool, y: u32) -> u32` is a subtype of a function type of another collection.
+fn matches(
+    rt: &impl Abort,
+    alloc: Global,
+    params: &[(&str, ValueType)],
+    returned: Option<ValueType>,
+    is_async: bool,
+) -> Result<bool, Fail> {
+    let mut first = Types::new(alloc);
+    let mut second = Types::new(alloc);
+    let a = func(
+        &mut first,
+        alloc,
+        &[("x", BOOL), ("y", U32)],
+        Some(U32),
+        false,
+    )?;
+    let b = func(&mut second, alloc, params, returned, is_async)?;
+    Ok(is_subtype(rt, a, &first, b, &second))
+}
+
+#[test]
+fn function_types_are_compared_part_by_part(rt: HostRuntime) -> Result<(), Fail> {
+    let rows: [(&[(&str, ValueType)], Option<ValueType>, bool, bool); 8] = [
+        (&[("x", BOOL), ("y", U32)], Some(U32), false, true),
+        (&[("y", U32), ("x", BOOL)], Some(U32), false, false),
+        (&[("x", BOOL), ("z", U32)], Some(U32), false, false),
+        (&[("x", BOOL), ("y", BOOL)], Some(U32), false, false),
+        (&[("x", BOOL)], Some(U32), false, false),
+        (&[("x", BOOL), ("y", U32)], None, false, false),
+        (&[("x", BOOL), ("y", U32)], Some(BOOL), false, false),
+        (&[("x", BOOL), ("y", U32)], Some(U32), true, false),
+    ];
+    for (params, returned, is_async, want) in rows {
+        assert_eq!(rt; matches(&rt, rt.alloc(), params, returned, is_async)?, want);
+    }
+    Ok(())
+}
+
+#[test]
+fn an_item_of_a_foreign_id_is_refused(rt: HostRuntime) -> Result<(), Fail> {
+    let alloc = rt.alloc();
+    let mut types = Types::new(alloc);
+    let mut other = Types::new(alloc);
+    let f = func(&mut other, alloc, &[], None, false)?;
+    assert!(rt; !types.contains(f.ty()));
+    let interface = Interface::new(alloc, None, &[("f", f)])?;
+    assert_eq!(rt; types.add_interface(interface), Err(AddTypeError::NotHeld));
+    let world = World::new(alloc, Some("n:p/w"), &[("f", f)], &[])?;
+    assert_eq!(rt; types.add_world(world), Err(AddTypeError::NotHeld));
+    Ok(())
+}
+
+#[test]
+fn a_name_given_twice_is_refused(rt: HostRuntime) -> Result<(), Fail> {
+    let alloc = rt.alloc();
+    let twice = Named::from_pairs(alloc, &[("x", BOOL), ("y", U32), ("x", U32)]);
+    assert!(rt; matches!(twice, Err(ShapeError::NameTwice)));
+    let mut named = Named::from_pairs(alloc, &[("x", BOOL), ("y", U32)])?;
+    assert_eq!(rt; named.insert(alloc, "y", BOOL), Err(ShapeError::NameTwice));
+    named.insert(alloc, "z", BOOL)?;
+    assert_eq!(rt; named.len(), 3);
+    assert_eq!(rt; named.get("z").copied(), Some(BOOL));
+    assert!(rt; matches!(named.get_full("y"), Some((1, _))));
+    assert!(rt; named.get("w").is_none());
+    Ok(())
+}
+
+// A package of a new world that imports `f` and exports `g`.
+fn package(
+    rt: &impl Abort,
+    alloc: Global,
+    types: &mut Types,
+    version: Option<&Version>,
+) -> Result<Package, Fail> {
+    let f = func(types, alloc, &[("x", BOOL)], None, false)?;
+    let world = World::new(alloc, None, &[("f", f)], &[("g", f)])?;
+    let world = types.add_world(world)?;
+    let held = types.contains(Type::World(world));
+    assert!(rt; held);
+    let bytes = Vec::from_array(alloc, [0, 97])?;
+    Ok(Package::new("n:p", version, bytes, world, types)?)
+}
+
+#[test]
+fn a_package_has_the_interface_of_its_instances(rt: HostRuntime) -> Result<(), Fail> {
+    let alloc = rt.alloc();
+    let mut types = Types::new(alloc);
+    let package = package(&rt, alloc, &mut types, None)?;
+    assert!(rt; types.holds_package(&package));
+    assert!(rt; !Types::new(alloc).holds_package(&package));
+    assert_eq!(rt; package.name(), "n:p");
+    assert_eq!(rt; package.bytes(), [0, 97].as_slice());
+    Ok(())
+}
+
+#[test]
+fn a_key_is_displayed_with_its_version(rt: HostRuntime) -> Result<(), Fail> {
+    let alloc = rt.alloc();
+    let mut types = Types::new(alloc);
+    let plain = package(&rt, alloc, &mut types, None)?.key()?;
+    let key = package(&rt, alloc, &mut types, Some(&Version::new(1, 2, 3)))?.key()?;
+    let text = format!(in alloc; "{plain} {key}")?;
+    assert_eq!(rt; text.as_str(), "n:p n:p@1.2.3");
+    assert!(rt; plain < key);
+    assert!(rt; plain != key);
+    Ok(())
+}
