@@ -1,5 +1,5 @@
 -- Steps of `alias_instance_export`.
-use Rattle.std.proofs.Common.{◌≡◌, ◌≢◌, ℕ, zero, suc, ◌+◌, ◌<◌, length, arith, [], ◌∷◌, Bool, true, false, cond, ap, ◌∙◌, sym, refl, subst, inl, inr, Option, Some, None, IfSome, IsSome, IsSomeAnd, is_some, Ok, Err, String, Global, string_bytes, List, Result, get_or, ◌⊎◌}
+use Rattle.std.proofs.Common.{◌≡◌, ℕ, suc, ◌+◌, ◌<◌, length, arith, [], ◌∷◌, Bool, true, false, cond, ap, ◌∙◌, sym, refl, subst, inl, inr, Option, Some, None, IfSome, IsSome, is_some, Ok, Err, String, Global, string_bytes, List, Result, get_or}
 use Rattle.std.specs.Borrow.{Bor}
 use Rattle.std.specs.Prelude.{slice_get, nat_lt}
 use Rattle.std.proofs.lemmas.Bool.Decides.{nat_tests}
@@ -8,7 +8,7 @@ use Rattle.std.specs.Option.{option_map}
 use Rattle.slab.specs.Slab.{Slab, get, Updates}
 use Rattle.wac_types.specs.Name.{Name, same_name, option_case}
 use Rattle.wac_types.specs.Named.{named_at}
-use Rattle.wac_types.specs.Collection.{item_at, interface_exports, holds_type, kind_type, IsWellFormed}
+use Rattle.wac_types.specs.Collection.{item_at, holds_type, kind_type, IsWellFormed}
 use Rattle.wac_graph.proofs.HeldLemmas.{exports_held}
 use Rattle.wac_graph.proofs.InvariantLemmas.{invariant_alias}
 use Rattle.wac_types.specs.Words.{kind_text}
@@ -22,7 +22,7 @@ use Rattle.wac_graph.specs.declared.errors.AliasError.{AliasError}
 use Rattle.wac_graph.specs.declared.errors.AliasError.TheVariants.{NodeIsNotAnInstance, InstanceMissingExport}
 use Rattle.wac_graph.specs.declared.graph.CompositionGraph.TheInside.{Inside}
 use Rattle.wac_graph.specs.Edge.{edge_cmp, alias_edge}
-use Rattle.wac_graph.specs.Graph.{Graph, GraphNode, node_at, interface_of, exports_of}
+use Rattle.wac_graph.specs.Graph.{Graph, node_at, interface_of, exports_of}
 use Rattle.wac_graph.specs.Inside.{node_of, nodes_of, graph_of, Invariant, satisfied}
 use Rattle.wac_graph.specs.Steps.{Aliases, AliasesOf, GivesAlias, alias_node, export_named}
 use Rattle.wac_graph.proofs.NodeLemmas.{get-nodes_of, nodes_of-insert}
@@ -83,14 +83,16 @@ pub aliased : (a : Inside) (id : NodeId) (n : Node) (i : InterfaceId) (it : Inte
 aliased a id n i it position number kind name nodes edges node had is at found none next vacant u added shape =
     let shown : nodes_of nodes.slots ≡ _ = nodes_of-insert a.nodes nodes number node u in
     let gives : GivesAlias (graph_of a) id (node_of n) position kind (record { 0 = number }) (graph_of (record a { nodes = nodes; edges = edges })) =
-        inr (λ other stands. absurd (false_is_not_true (sym (none other.0) ∙ stands)),
-          next,
-          get-nodes_of a.nodes.slots number ∙ ap (option_map node_of) vacant,
-          λ j. record (graph_of a) { nodes = (shown ∙ ap (Rattle.std.specs.FinMap.insert (nodes_of a.nodes.slots) number) shape) j; edges = added j; next = nodes.vacant_key }) in
+    inr (
+      λ other stands. absurd (false_is_not_true (sym (none other.0) ∙ stands)),
+      next,
+      get-nodes_of a.nodes.slots number ∙ ap (option_map node_of) vacant,
+      λ j. record (graph_of a) { nodes = (shown ∙ ap (Rattle.std.specs.FinMap.insert (nodes_of a.nodes.slots) number) shape) j; edges = added j; next = nodes.vacant_key },
+    ) in
     let there : AliasesOf (graph_of a) id (node_of n) name (Ok (record { 0 = number })) (graph_of (record a { nodes = nodes; edges = edges })) = rw (export_is a n i it name (Some (position, kind)) is at found) (is_instance n i is, gives) in
     aliases_at a id n name (Ok (record { 0 = number })) (graph_of (record a { nodes = nodes; edges = edges })) had there where
-  false_is_not_true : false ≡ true → ⊥
-  false_is_not_true h = cc
+      false_is_not_true : false ≡ true → ⊥
+      false_is_not_true h = cc
 
 -- where a name is found there is such an entry
 pub found_entry : (name : Name) (k position : ℕ) (kind : ItemKind) (es : List (Name × ItemKind)) → Some (position, kind) ≡ named_at k name es → (e : Name × ItemKind) × (j : ℕ) × (position ≡ k + j) × (slice_get es j ≡ Some e) × (e.1 ≡ kind)
@@ -120,5 +122,5 @@ pub interface_there : (a : Inside) → Invariant a → (id : NodeId) (n : Node) 
 interface_there a v id n i had is =
     let h : holds_type a.types (kind_type (item.Instance i)) ≡ true = ap (λ k. holds_type a.types (kind_type k)) (sym is) ∙ (v.sound).held id (node_of n) (get-nodes_of a.nodes.slots id.0 ∙ ap (option_map node_of) had) in
     lt_of i.0 (length (a.types).interfaces) h where
-  lt_of : (k m : ℕ) → nat_lt k m ≡ true → k < m
-  lt_of k m h = grind (arith, nat_tests)
+      lt_of : (k m : ℕ) → nat_lt k m ≡ true → k < m
+      lt_of k m h = grind (arith, nat_tests)

@@ -1,5 +1,5 @@
 -- Steps of `set_instantiation_argument`.
-use Rattle.std.proofs.Common.{arith, ◌≡◌, ◌≢◌, ℕ, zero, suc, ◌+◌, ◌<◌, length, Bool, true, false, not, ◌||◌, ◌&&◌, cond, ap, ◌∙◌, sym, refl, subst, inl, inr, Option, Some, None, IfSome, IsSome, IsSomeAnd, is_some, Ok, Err, String, Global, string_bytes, List, [], Result, get_or, ◌⊎◌, eqb, ◌==◌}
+use Rattle.std.proofs.Common.{arith, ◌≡◌, ℕ, ◌<◌, length, Bool, true, false, not, ◌||◌, ◌&&◌, ap, ◌∙◌, sym, refl, subst, inl, inr, Option, Some, None, IfSome, IsSomeAnd, Ok, Err, String, Global, string_bytes, [], Result}
 use Rattle.std.specs.Prelude.{slice_get, nat_lt}
 use Rattle.std.specs.Option.{option_map}
 use Rattle.std.specs.FinSet as set
@@ -28,13 +28,12 @@ use Rattle.wac_graph.specs.declared.graph.CompositionGraph.TheInside.{Inside}
 use Rattle.wac_graph.specs.Edge.{edge_cmp, argument_edge}
 use Rattle.wac_graph.specs.Graph as graph
 use Rattle.wac_graph.specs.Graph.{Graph, GraphNode, Kind, node_at, package_at, package_in, package_of, imports_of, IsSatisfied, IsUnsatisfied}
-use Rattle.wac_graph.specs.Inside.{node_of, nodes_of, kind_of, graph_of, Invariant, satisfied, satisfied_at}
+use Rattle.wac_graph.specs.Inside.{node_of, kind_of, graph_of, Invariant, satisfied, satisfied_at}
 use Rattle.wac_graph.specs.Steps.{SetsArgument, SetsOn, import_named}
 use Rattle.wac_graph.proofs.EdgeLemmas.{edge_cmp_total, exact_edges, edge_cmp-IsAntisymmetric}
-use Rattle.wac_graph.proofs.NodeLemmas.{get-nodes_of, nodes_of-same, is_some-node_of}
+use Rattle.wac_graph.proofs.NodeLemmas.{get-nodes_of, nodes_of-same}
 use Rattle.wac_graph.proofs.HeldLemmas.{imports_held}
 use Rattle.wac_graph.proofs.AliasLemmas.{found_entry}
-use Rattle.wac_graph.proofs.InvariantLemmas.{invariant_argument}
 
 clash : (b : Bool) → b ≡ true → b ≡ false → ⊥
 clash true _ h = cc
@@ -66,9 +65,9 @@ taken_back s e absent = set.same_set edge_cmp_total edge_cmp-IsAntisymmetric (se
     set.contains-remove edge_cmp_total (set.insert s e) e q
     ∙ ap (λ b. not (eq_by_cmp edge_cmp q e) && b) (set.contains-insert edge_cmp_total s e q)
     ∙ at q (eq_by_cmp edge_cmp q e) refl) where
-  at : (q : Edge) (b : Bool) → eq_by_cmp edge_cmp q e ≡ b → (not b && (b || set.contains s q)) ≡ set.contains s q
-  at q true is = sym (ap (λ x. set.contains s x) (exact_edges q e is) ∙ absent)
-  at q false is = refl
+      at : (q : Edge) (b : Bool) → eq_by_cmp edge_cmp q e ≡ b → (not b && (b || set.contains s q)) ≡ set.contains s q
+      at q true is = sym (ap (λ x. set.contains s x) (exact_edges q e is) ∙ absent)
+      at q false is = refl
 
 item_at_node : (a : Inside) (argument : NodeId) (m : Node) → get a.nodes argument.0 ≡ Some m → (g : GraphNode) → node_at (graph_of a) argument ≡ Some g → m.item_kind ≡ g.item_kind
 item_at_node a argument m given g at = let e : Some (node_of m) ≡ Some g = sym (get-nodes_of a.nodes.slots argument.0 ∙ ap (option_map node_of) given) ∙ at in let f : node_of m ≡ g = cc in ap (λ x. x.item_kind) f
@@ -96,8 +95,8 @@ module _ (a : Inside) (v : Invariant a) (id argument : NodeId) (n : Node) (s : B
       let (q, p, other, there) = owner_there in
       let same : q ≡ o = let e : Some q ≡ Some o = sym other ∙ some in cc in
       none_some (package_in (slice_get a.slots.items o.slot) o) (sym none) (ap (λ (x : PackageId). package_in (slice_get a.slots.items x.slot) x) (sym same) ∙ there) where
-    none_some : (x : Option PackageParts) {y : PackageParts} → x ≡ None → x ≡ Some y → ⊥
-    none_some x p q = cc
+        none_some : (x : Option PackageParts) {y : PackageParts} → x ≡ None → x ≡ Some y → ⊥
+        none_some x p q = cc
 
   module _ (o : PackageId) (p : PackageParts) (some : n.«package» ≡ Some o) (there : Some p ≡ package_in (slice_get a.slots.items o.slot) o) where
     pub world_there : (p.world).0 < length (a.types).worlds
@@ -137,9 +136,16 @@ module _ (a : Inside) (v : Invariant a) (id argument : NodeId) (n : Node) (s : B
         pub passed_already : (text : String Global) → string_bytes text ≡ name → set.contains a.edges (argument_edge argument.0 id.0 position) ≡ false → positions.contains nat_cmp s position ≡ true → SetsArgument (graph_of a) id name argument (Err (ArgumentAlreadyPassed id text)) (graph_of a)
         passed_already text written other marked =
             sets_at a id argument n name (Err (ArgumentAlreadyPassed id text)) (graph_of a) had
-            (λ g _. (refl, refl, written, ap kind_of is, rw (import_is (Some (position, kind)) found)
-              ((λ stands. clash (set.contains a.edges (argument_edge argument.0 id.0 position)) stands other),
-                (let (source, stands) = v.edged id.0 position (marked_at true marked) in (record { 0 = source }, stands)))))
+            (λ g _. (
+              refl,
+              refl,
+              written,
+              ap kind_of is,
+              rw (import_is (Some (position, kind)) found) (
+                (λ stands. clash (set.contains a.edges (argument_edge argument.0 id.0 position)) stands other),
+                (let (source, stands) = v.edged id.0 position (marked_at true marked) in (record { 0 = source }, stands)),
+              ),
+            ))
 
         unsatisfied : positions.contains nat_cmp s position ≡ false → IsUnsatisfied (graph_of a) id position
         unsatisfied unmarked source stands = clash (satisfied_at (get a.nodes id.0) position) (v.marked source.0 id.0 position stands) (marked_at false unmarked)
@@ -147,8 +153,16 @@ module _ (a : Inside) (v : Invariant a) (id argument : NodeId) (n : Node) (s : B
         pub mismatch : (m : Node) (text : String Global) → string_bytes text ≡ name → positions.contains nat_cmp s position ≡ false → get a.nodes argument.0 ≡ Some m → (IsSubtype a.types m.item_kind a.types kind → ⊥) → SetsArgument (graph_of a) id name argument (Err (ArgumentTypeMismatch text Mismatch)) (graph_of a)
         mismatch m text written unmarked given differ =
             sets_at a id argument n name (Err (ArgumentTypeMismatch text Mismatch)) (graph_of a) had
-            (λ g at. (refl, written, ap kind_of is, refl, rw (import_is (Some (position, kind)) found) (unsatisfied unmarked,
-              λ fits. differ (subst (λ k. IsSubtype a.types k a.types kind) (sym (item_at_node a argument m given g at)) fits))))
+            (λ g at. (
+              refl,
+              written,
+              ap kind_of is,
+              refl,
+              rw (import_is (Some (position, kind)) found) (
+                unsatisfied unmarked,
+                λ fits. differ (subst (λ k. IsSubtype a.types k a.types kind) (sym (item_at_node a argument m given g at)) fits),
+              ),
+            ))
 
         module _ (nodes : Slab Node) (same : (q : ℕ) → option_map node_of (get nodes q) ≡ option_map node_of (get a.nodes q)) (edges : set.FinSet edge_cmp) (next : nodes.vacant_key ≡ a.nodes.vacant_key) where
           same_graph : (others : set.FinSet edge_cmp) → edges ≡ others → graph_of (record a { nodes = nodes; edges = edges }) ≡ record (graph_of a) { edges = others }

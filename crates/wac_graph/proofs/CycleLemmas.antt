@@ -1,13 +1,9 @@
-use Rattle.std.proofs.Common.{◌≡◌, ◌≢◌, ℕ, zero, suc, ◌+◌, ◌<◌, ◌≤◌, Bool, true, false, not, cond, ◌&&◌, ◌||◌, List, [], ◌∷◌, length, refl, ap, ◌∙◌, sym, subst, arith, get_or, eqb, ◌==◌, ◌⊎◌, inl, inr}
-use Rattle.std.specs.List.{list_any, Contains, IsDistinct, AllByRecursion}
-use Rattle.std.proofs.lemmas.Bool.Decides.{nat_tests}
+use Rattle.std.proofs.Common.{◌≡◌, ℕ, zero, suc, ◌<◌, ◌≤◌, Bool, true, false, ◌||◌, List, [], ◌∷◌, length, refl, ap, ◌∙◌, sym, arith, eqb, ◌⊎◌, inl, inr}
+use Rattle.std.specs.List.{list_any, IsDistinct, AllByRecursion}
 use Rattle.std.proofs.lemmas.Bool.{eqb-true}
 use Rattle.std.proofs.lemmas.Map.Steps.{length-le_from_distinct_below}
-use Rattle.std.specs.Prelude.{slice_index_or}
-use Rattle.std.specs.FinSet as set
-use Rattle.wac_graph.specs.declared.edges.Edge.{Edge}
-use Rattle.wac_graph.specs.Edge.{is_left, IsBlocked}
-use Rattle.wac_graph.specs.Order.{Edges, IsEdge, Leads, IsOnCycle, IsStuck, Writes, IsDone}
+use Rattle.wac_graph.specs.Edge.{is_left}
+use Rattle.wac_graph.specs.Order.{Edges, IsEdge, Leads, IsOnCycle, IsStuck}
 
 -- each node of the list has an edge to the next, and all are left
 abbrev Chain : Edges → List Bool → ℕ → List ℕ → Type 0
@@ -20,9 +16,9 @@ back edges left stuck (suc k) n is =
     let (a, bs, chain, long) = back edges left stuck k n is in
     let (e, stands, leads, also) = stuck a (first a bs chain) in
     (e.source, a ∷ bs, (also, (e, stands, refl, leads), chain), ap suc long) where
-  first : (a : ℕ) (bs : List ℕ) → Chain edges left a bs → is_left left a ≡ true
-  first a [] h = h
-  first a (b ∷ bs) h = h.0
+      first : (a : ℕ) (bs : List ℕ) → Chain edges left a bs → is_left left a ≡ true
+      first a [] h = h
+      first a (b ∷ bs) h = h.0
 
 reach : (edges : Edges) (left : List Bool) (a x : ℕ) (bs : List ℕ) → Chain edges left a bs → list_any (eqb x) bs ≡ true → (ns : List ℕ) × Leads edges a ns x
 reach edges left a x [] chain h = cc
@@ -48,19 +44,19 @@ repeats edges left a (b ∷ bs) chain =
       | true ↦ λ again. inr (a, reach edges left a a (b ∷ bs) chain again)
       | false ↦ λ new. further (repeats edges left b bs chain.2) (none (b ∷ bs) new)
     ] refl where
-  none : (xs : List ℕ) → list_any (eqb a) xs ≡ false → AllByRecursion (λ y. eqb a y ≡ false) xs
-  none [] h = tt
-  none (x ∷ xs) h = (or_first (eqb a x) (list_any (eqb a) xs) h, none xs (or_second (eqb a x) (list_any (eqb a) xs) h))
+      none : (xs : List ℕ) → list_any (eqb a) xs ≡ false → AllByRecursion (λ y. eqb a y ≡ false) xs
+      none [] h = tt
+      none (x ∷ xs) h = (or_first (eqb a x) (list_any (eqb a) xs) h, none xs (or_second (eqb a x) (list_any (eqb a) xs) h))
 
-  further : IsDistinct eqb (b ∷ bs) ⊎ ((n : ℕ) × IsOnCycle edges n) → AllByRecursion (λ y. eqb a y ≡ false) (b ∷ bs) → IsDistinct eqb (a ∷ b ∷ bs) ⊎ ((n : ℕ) × IsOnCycle edges n)
-  further (inl d) new = inl (new, d)
-  further (inr c) new = inr c
+      further : IsDistinct eqb (b ∷ bs) ⊎ ((n : ℕ) × IsOnCycle edges n) → AllByRecursion (λ y. eqb a y ≡ false) (b ∷ bs) → IsDistinct eqb (a ∷ b ∷ bs) ⊎ ((n : ℕ) × IsOnCycle edges n)
+      further (inl d) new = inl (new, d)
+      further (inr c) new = inr c
 
 at_head : (left : List Bool) (a q : ℕ) (b : Bool) → (eqb q a || b) ≡ true → is_left left a ≡ true → (b ≡ true → is_left left q ≡ true) → is_left left q ≡ true
 at_head left a q b h is rest = elim (eqb q a) as (λ t. eqb q a ≡ t → (t || b) ≡ true → is_left left q ≡ true) [
-    | true ↦ λ same _. ap (λ k. is_left left k) (eqb-true q a same) ∙ is
-    | false ↦ λ _ other. rest other
-  ] refl h
+  | true ↦ λ same _. ap (λ k. is_left left k) (eqb-true q a same) ∙ is
+  | false ↦ λ _ other. rest other
+] refl h
 
 all_left : (edges : Edges) (left : List Bool) (a : ℕ) (bs : List ℕ) → Chain edges left a bs → (q : ℕ) → list_any (eqb q) (a ∷ bs) ≡ true → is_left left q ≡ true
 all_left edges left a [] chain q h = at_head left a q false h chain (λ other. cc)
@@ -76,8 +72,8 @@ pub stuck_cycle : (edges : Edges) (left : List Bool) → IsStuck edges (is_left 
 stuck_cycle edges left stuck m is =
     let (a, bs, chain, long) = back edges left stuck (length left) m is in
     pick a bs chain long (repeats edges left a bs chain) where
-  pick : (a : ℕ) (bs : List ℕ) → Chain edges left a bs → length bs ≡ length left → IsDistinct eqb (a ∷ bs) ⊎ ((n : ℕ) × IsOnCycle edges n) → (n : ℕ) × IsOnCycle edges n
-  pick a bs chain long (inr c) = c
-  pick a bs chain long (inl d) =
-      let short : length (a ∷ bs) ≤ length left = length-le_from_distinct_below (a ∷ bs) (length left) d (λ q h. within left q (all_left edges left a bs chain q h)) in
-      absurd (omega arith)
+      pick : (a : ℕ) (bs : List ℕ) → Chain edges left a bs → length bs ≡ length left → IsDistinct eqb (a ∷ bs) ⊎ ((n : ℕ) × IsOnCycle edges n) → (n : ℕ) × IsOnCycle edges n
+      pick a bs chain long (inr c) = c
+      pick a bs chain long (inl d) =
+          let short : length (a ∷ bs) ≤ length left = length-le_from_distinct_below (a ∷ bs) (length left) d (λ q h. within left q (all_left edges left a bs chain q h)) in
+          absurd (omega arith)

@@ -1,4 +1,4 @@
-use Rattle.std.proofs.Common.{◌≡◌, ℕ, Bool, true, false, List, [], ◌∷◌, refl, ap, ◌∙◌, sym, rules, arith, eqb, ◌&&◌, not, ◌||◌, cond, length, get_or, ◌<◌}
+use Rattle.std.proofs.Common.{◌≡◌, ℕ, Bool, true, false, List, [], ◌∷◌, refl, ap, ◌∙◌, sym, arith, eqb, ◌&&◌, not, ◌||◌, cond, length, get_or, ◌<◌}
 use Rattle.std.proofs.lemmas.Bool.Decides.{nat_tests}
 use Rattle.std.specs.List.{list_any, filter}
 use Rattle.std.proofs.lemmas.List.Folds.{list_any_at}
@@ -8,11 +8,9 @@ use Rattle.std.proofs.Common.{IfSome, IfNone, Option, Some, None}
 use Rattle.std.proofs.lemmas.Bool.{false_from_ne_true}
 use Rattle.std.specs.Ordering.{nat_cmp, eq_by_cmp, is_eq}
 use Rattle.std.proofs.Math.Bool.{and-false}
-use Rattle.std.specs.Cmp.{IsTotalOrder, nat_cmp_total, tied_itself}
+use Rattle.std.specs.Cmp.{IsTotalOrder, tied_itself}
 use Rattle.std.specs.Cmp.Lexicographic.{slice_cmp, nat_list_cmp_total}
 use Rattle.std.proofs.lemmas.Cmp.{on_total}
-use Rattle.std.specs.declared.cmp.Ordering.{Ordering}
-use Rattle.std.specs.declared.cmp.Ordering.TheVariants.{Equal}
 use Rattle.std.specs.FinSet.{contains, from_list, contains-from_list, remove, contains-remove, same_set, IsAntisymmetric, slice_cmp-IsAntisymmetric, nat_cmp-IsAntisymmetric}
 use Rattle.std.proofs.lemmas.Bool.{eqb-true}
 use Rattle.std.proofs.Common.{zero, suc}
@@ -93,7 +91,6 @@ remove_by_filter es e = same_set edge_cmp_total edge_cmp-IsAntisymmetric _ _ (λ
 pub member : (es : List Edge) (i : ℕ) (d : Edge) → i < length es → contains (from_list {R = edge_cmp} es) (get_or es i d) ≡ true
 member es i d h = contains-from_list edge_cmp_total es (get_or es i d) ∙ list_any_at (eq_by_cmp edge_cmp (get_or es i d)) es i d h (ap is_eq (tied_itself edge_cmp_total (get_or es i d)))
 
-
 pub in_set : (es : List Edge) (e : Edge) → Contains es e → contains (from_list {R = edge_cmp} es) e ≡ true
 in_set es e h = contains-from_list edge_cmp_total es e ∙ list_any_at (eq_by_cmp edge_cmp e) es h.0 e h.1 (ap (λ (x : Edge). eq_by_cmp edge_cmp e x) h.2 ∙ ap is_eq (tied_itself edge_cmp_total e))
 
@@ -136,9 +133,9 @@ blocked_in_set es left n h =
 
 pub free_in_set : (es : List Edge) (left : ℕ → Bool) (n : ℕ) → list_any (blocks left n) es ≡ false → IsFree (from_list {R = edge_cmp} es) left n
 free_in_set es left n none e inside leads = elim (left e.source) as (λ t. left e.source ≡ t → t ≡ false) [
-      | true ↦ λ is. absurd (no (list_any (blocks left n) es) none (list_any-from_Contains-edge (from_set es e inside) (rw (leads, is) (eqb_same n))))
-      | false ↦ λ _. refl
-    ] refl where
+  | true ↦ λ is. absurd (no (list_any (blocks left n) es) none (list_any-from_Contains-edge (from_set es e inside) (rw (leads, is) (eqb_same n))))
+  | false ↦ λ _. refl
+] refl where
   no : (b : Bool) → b ≡ false → b ≡ true → ⊥
   no true h _ = cc
   no false _ h = cc

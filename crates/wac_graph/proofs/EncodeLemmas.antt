@@ -1,11 +1,11 @@
 -- From what is written of a graph to items that mean it.
-use Rattle.std.proofs.Common.{◌≡◌, ◌≢◌, ℕ, zero, suc, ◌+◌, ◌<◌, ◌≤◌, Bool, true, false, not, ◌&&◌, ◌||◌, cond, List, [], ◌∷◌, ◌++◌, length, map, refl, ap, ◌∙◌, sym, subst, arith, append_assoc, eqb, Option, Some, None, IsSome, ◌⊎◌, inl, inr}
-use Rattle.std.specs.List.{list_any, filter, flat_map}
+use Rattle.std.proofs.Common.{◌≡◌, ℕ, suc, ◌+◌, ◌<◌, Bool, true, false, ◌||◌, cond, List, [], ◌∷◌, ◌++◌, length, map, refl, ap, ◌∙◌, sym, subst, arith, append_assoc, eqb, Option, Some, None, ◌⊎◌, inl, inr}
+use Rattle.std.specs.List.{list_any, flat_map}
 use Rattle.std.specs.Prelude.{slice_get}
 use Rattle.std.specs.FinSet as set
 use Rattle.std.specs.FinMap as finite
 use Rattle.std.specs.Ordering.{eq_by_cmp}
-use Rattle.std.proofs.lemmas.List.{append-nil, length-append, map-append}
+use Rattle.std.proofs.lemmas.List.{append-nil}
 use Rattle.std.proofs.lemmas.List.Elements.{filter-append}
 use Rattle.std.proofs.lemmas.Grind.{flat_map-append}
 use Rattle.std.proofs.lemmas.Bool.{eqb-true}
@@ -14,9 +14,9 @@ use Rattle.wac_types.specs.Tree.{Tree}
 use Rattle.wac_types.specs.declared.component.ItemKind.{ItemKind}
 use Rattle.wac_binary.specs.declared.sorts.Sort.{Sort}
 use Rattle.wac_binary.specs.declared.sorts.Sort.TheVariants as sort
-use Rattle.wac_binary.specs.Items.{Item, instantiate, alias_item, export_alias, export_item}
-use Rattle.wac_binary.specs.Indexes.{space, indexes, is_in, adds}
-use Rattle.wac_binary.specs.Meaning.{Thing, component_at, Root, things, stands_for, meaning}
+use Rattle.wac_binary.specs.Items.{Item, alias_item, export_alias, export_item}
+use Rattle.wac_binary.specs.Indexes.{space, indexes}
+use Rattle.wac_binary.specs.Meaning.{Thing, stands_for, meaning}
 use Rattle.wac_graph.specs.declared.edges.Edge.{Edge}
 use Rattle.wac_graph.specs.declared.node.NodeId.{NodeId}
 use Rattle.wac_graph.specs.declared.packages.PackageId.{PackageId}
@@ -24,15 +24,15 @@ use Rattle.wac_graph.specs.Edge.{edge_cmp, argument_edge}
 use Rattle.wac_graph.specs.Graph as graph
 use Rattle.wac_graph.specs.Graph.{Graph, GraphNode, Kind, node_at, imports_of, IsSatisfied}
 use Rattle.wac_graph.specs.Sound.{IsSound}
-use Rattle.wac_graph.specs.Order.{Edges, Writes, IsLowestReady, IsEdge, Leads, IsOnCycle, without}
-use Rattle.wac_graph.specs.Asked.{is_argument, is_satisfied, unsatisfied, asked_by, imported_by, asked, outer_imports, Entry, class_names, merged}
-use Rattle.wac_graph.specs.Means.{node_number, node_is, is_import, is_instantiation, is_written, instantiations, IsThing, sort_of_kind, with_package, used_after, used_packages, package_bytes, AreInstantiations, HasItem, shown, export_of, export_item_of, Means}
+use Rattle.wac_graph.specs.Order.{Writes, IsLowestReady, Leads, IsOnCycle}
+use Rattle.wac_graph.specs.Asked.{is_argument, is_satisfied, unsatisfied, asked_by, imported_by, asked, Entry, class_names, merged}
+use Rattle.wac_graph.specs.Means.{node_number, node_is, is_instantiation, is_written, instantiations, IsThing, sort_of_kind, with_package, used_after, used_packages, package_bytes, AreInstantiations, HasItem, shown, export_of, export_item_of, Means}
 use Rattle.wac_graph.specs.Encoding.{Adds, adds_instantiation, adds_alias}
 use Rattle.wac_graph.proofs.EdgeLemmas.{exact_edges}
-use Rattle.wac_graph.proofs.WrittenOrder.{has, minus, minus-push, minus-true, eqb_same, in_push, all_in, split_writes}
+use Rattle.wac_graph.proofs.WrittenOrder.{has, minus, minus-push, eqb_same, in_push, all_in}
 use Rattle.wac_graph.proofs.ThingLemmas.{IsPlain, is_written-node, ready_sources}
 use Rattle.wac_graph.proofs.MeaningLemmas.{export_shown, export_others, indexes-push}
-use Rattle.wac_graph.proofs.WrittenLemmas.{Counted, Earlier, Written, with_component, instance_more, alias_more, used-append, slice_get-prefix, HasItem-push, used_prefix}
+use Rattle.wac_graph.proofs.WrittenLemmas.{Counted, Earlier, Written, with_component, instance_more, alias_more, used-append, HasItem-push, used_prefix}
 
 clash : (b : Bool) → b ≡ true → b ≡ false → ⊥
 clash true _ h = cc
@@ -78,15 +78,15 @@ module _ (g : Graph) (sound : IsSound g) (plain : IsPlain g) where
   never xs pred (n ∷ rest) done (ready, later) apart m here =
       ap (λ ys. has ys m) (sym (append_assoc done (n ∷ []) rest))
       ∙ never xs pred rest (done ++ n ∷ []) (subst (λ l. Writes g.edges l rest) (sym (minus-push (is_written g) done n)) later) (λ k within. split k (in_push done n k within)) m here where
-    not_here : (b : Bool) → has xs n ≡ b → b ≡ false
-    not_here false _ = refl
-    not_here true is =
-        let (e, stands, leads, from) = pred n is in
-        absurd (clash (has xs e.source) from (apart e.source (ready_sources g sound plain done n ready e stands leads)))
+        not_here : (b : Bool) → has xs n ≡ b → b ≡ false
+        not_here false _ = refl
+        not_here true is =
+            let (e, stands, leads, from) = pred n is in
+            absurd (clash (has xs e.source) from (apart e.source (ready_sources g sound plain done n ready e stands leads)))
 
-    split : (k : ℕ) → (k ≡ n) ⊎ (has done k ≡ true) → has xs k ≡ false
-    split k (inl same) = ap (has xs) same ∙ not_here (has xs n) refl
-    split k (inr was) = apart k was
+        split : (k : ℕ) → (k ≡ n) ⊎ (has done k ≡ true) → has xs k ≡ false
+        split k (inl same) = ap (has xs) same ∙ not_here (has xs n) refl
+        split k (inr was) = apart k was
 
   pub no_cycle : (order : List ℕ) → Writes g.edges (is_written g) order → (n : ℕ) → IsOnCycle g.edges n → ⊥
   no_cycle order writes n (ns, leads) =
@@ -95,15 +95,15 @@ module _ (g : Graph) (sound : IsSound g) (plain : IsPlain g) where
       let there = (sound.ends e stands).1 in
       clash (has order n) (all_in g.edges (is_written g) order [] writes n (node_written n (ap (λ k. is_some_node (node_at g (node_number k))) (sym to) ∙ there)))
       (never (n ∷ ns) pred order [] writes (λ m wrong. cc) n (ap (λ b. b || has ns n) (eqb_same n))) where
-    is_some_node : Option GraphNode → Bool
-    is_some_node None = false
-    is_some_node (Some _) = true
+        is_some_node : Option GraphNode → Bool
+        is_some_node None = false
+        is_some_node (Some _) = true
 
-    node_written : (k : ℕ) → is_some_node (node_at g (node_number k)) ≡ true → is_written g k ≡ true
-    node_written k h = split (node_at g (node_number k)) refl h where
-      split : (o : Option GraphNode) → node_at g (node_number k) ≡ o → is_some_node o ≡ true → is_written g k ≡ true
-      split None _ wrong = cc
-      split (Some node) is _ = is_written-node g sound plain k node is
+        node_written : (k : ℕ) → is_some_node (node_at g (node_number k)) ≡ true → is_written g k ≡ true
+        node_written k h = split (node_at g (node_number k)) refl h where
+          split : (o : Option GraphNode) → node_at g (node_number k) ≡ o → is_some_node o ≡ true → is_written g k ≡ true
+          split None _ wrong = cc
+          split (Some node) is _ = is_written-node g sound plain k node is
 
 -- where every argument is set nothing is asked
 module _ (g : Graph) where
@@ -141,19 +141,19 @@ module _ (g : Graph) where
   asked_none plain all =
       rw (flat_map-none (λ n. asked_by g n (node_at g (node_number n))) (finite.keys g.nodes) (λ n. by_node n (node_at g (node_number n)) refl))
       (flat_map-none (λ n. imported_by n (node_at g (node_number n))) (finite.keys g.nodes) (λ n. imported n (node_at g (node_number n)) refl)) where
-    by_node : (n : ℕ) (o : Option GraphNode) → node_at g (node_number n) ≡ o → asked_by g n o ≡ []
-    by_node n None there = refl
-    by_node n (Some node) there = split (plain n node there) where
-      split : (node.kind ≡ graph.instantiation) ⊎ (node.kind ≡ graph.alias) → asked_by g n (Some node) ≡ []
-      split (inl is) = rw is (none_unsatisfied n 0 (imports_of g node) (λ j small. let z : j ≡ 0 + j = omega arith in subst (λ k. IsSatisfied g (node_number n) k) z (all n node there is j small)))
-      split (inr is) = rw is refl
+        by_node : (n : ℕ) (o : Option GraphNode) → node_at g (node_number n) ≡ o → asked_by g n o ≡ []
+        by_node n None there = refl
+        by_node n (Some node) there = split (plain n node there) where
+          split : (node.kind ≡ graph.instantiation) ⊎ (node.kind ≡ graph.alias) → asked_by g n (Some node) ≡ []
+          split (inl is) = rw is (none_unsatisfied n 0 (imports_of g node) (λ j small. let z : j ≡ 0 + j = omega arith in subst (λ k. IsSatisfied g (node_number n) k) z (all n node there is j small)))
+          split (inr is) = rw is refl
 
-    imported : (n : ℕ) (o : Option GraphNode) → node_at g (node_number n) ≡ o → imported_by n o ≡ []
-    imported n None there = refl
-    imported n (Some node) there = split (plain n node there) where
-      split : (node.kind ≡ graph.instantiation) ⊎ (node.kind ≡ graph.alias) → imported_by n (Some node) ≡ []
-      split (inl is) = rw is refl
-      split (inr is) = rw is refl
+        imported : (n : ℕ) (o : Option GraphNode) → node_at g (node_number n) ≡ o → imported_by n o ≡ []
+        imported n None there = refl
+        imported n (Some node) there = split (plain n node there) where
+          split : (node.kind ≡ graph.instantiation) ⊎ (node.kind ≡ graph.alias) → imported_by n (Some node) ≡ []
+          split (inl is) = rw is refl
+          split (inr is) = rw is refl
 
 module _ (counted : Counted) (earlier : Earlier) (g : Graph) (sound : IsSound g) (plain : IsPlain g) (order : List ℕ) (at : ℕ → Thing) (is_thing : (n : ℕ) (node : GraphNode) → node_at g (node_number n) ≡ Some node → IsThing g at order n node) where
   abbrev pub Done : List ℕ → List Item → List (PackageId × ℕ) → (ℕ → ℕ) → Type 0
@@ -166,9 +166,9 @@ module _ (counted : Counted) (earlier : Earlier) (g : Graph) (sound : IsSound g)
   used_push done n b is =
       ap (used_after g []) (filter-append (node_is g (λ x. is_instantiation x.kind)) done (n ∷ []) ∙ ap (λ t. instantiations g done ++ cond t (n ∷ []) []) is)
       ∙ used-append g [] (instantiations g done) (cond b (n ∷ []) []) ∙ last b where
-    last : (t : Bool) → used_after g (used_packages g done) (cond t (n ∷ []) []) ≡ cond t (with_package (used_packages g done) (owner_of n)) (used_packages g done)
-    last true = refl
-    last false = refl
+        last : (t : Bool) → used_after g (used_packages g done) (cond t (n ∷ []) []) ≡ cond t (with_package (used_packages g done) (owner_of n)) (used_packages g done)
+        last true = refl
+        last false = refl
 
   -- the next node is written
   pub adds_more : (done later : List ℕ) (n : ℕ) (node : GraphNode) → order ≡ done ++ n ∷ later → IsLowestReady g.edges (minus (is_written g) done) n → Writes g.edges (minus (is_written g) (done ++ n ∷ [])) later → node_at g (node_number n) ≡ Some node
@@ -181,16 +181,16 @@ module _ (counted : Counted) (earlier : Earlier) (g : Graph) (sound : IsSound g)
       let more = alias_more counted earlier g sound plain order at is_thing done later n node here ready writes there index index' i now others (used_packages g done) items components instance source k name w kind aliased source_there exported counts in
       subst (λ us. Written counted earlier g sound plain order at is_thing (done ++ n ∷ []) us items' components' index') (sym (used_push done n false test))
       (subst (λ cs. Written counted earlier g sound plain order at is_thing (done ++ n ∷ []) (used_packages g done) items' cs index') (sym same)
-        (subst (λ its. Written counted earlier g sound plain order at is_thing (done ++ n ∷ []) (used_packages g done) its components index') (sym added) more))
+      (subst (λ its. Written counted earlier g sound plain order at is_thing (done ++ n ∷ []) (used_packages g done) its components index') (sym added) more))
   adds_more done later n node here ready writes there index index' i now others components components' items items' (adds_instantiation id c mid arguments kind owned has_component given added counts) w =
       let test : node_is g (λ x. is_instantiation x.kind) n ≡ true = ap (λ o. option_case o false (λ x. is_instantiation x.kind)) there ∙ ap is_instantiation kind in
       let owner : owner_of n ≡ Some id = ap (λ o. option_case o None (λ z. z.owner)) there ∙ owned in
       let used : used_packages g (done ++ n ∷ []) ≡ with_package (used_packages g done) (Some id) = used_push done n true test ∙ ap (with_package (used_packages g done)) owner in
       let (mid_written, (k, at_k, stands)) = with_component counted earlier g sound plain order at is_thing done (used_packages g done) items mid components components' index id c w has_component in
       let first : slice_get (used_packages g order) k ≡ Some id =
-          ap (λ xs. slice_get (used_packages g xs) k) (here ∙ sym (append_assoc done (n ∷ []) later))
-          ∙ ap (λ us. slice_get us k) (ap (used_after g []) (filter-append (node_is g (λ x. is_instantiation x.kind)) (done ++ n ∷ []) later) ∙ used-append g [] (instantiations g (done ++ n ∷ [])) (instantiations g later))
-          ∙ used_prefix g (used_packages g (done ++ n ∷ [])) (instantiations g later) k id (ap (λ us. slice_get us k) used ∙ at_k) in
+      ap (λ xs. slice_get (used_packages g xs) k) (here ∙ sym (append_assoc done (n ∷ []) later))
+      ∙ ap (λ us. slice_get us k) (ap (used_after g []) (filter-append (node_is g (λ x. is_instantiation x.kind)) (done ++ n ∷ []) later) ∙ used-append g [] (instantiations g (done ++ n ∷ [])) (instantiations g later))
+      ∙ used_prefix g (used_packages g (done ++ n ∷ [])) (instantiations g later) k id (ap (λ us. slice_get us k) used ∙ at_k) in
       let instance = sound.instances (node_number n) node there kind in
       let typed : sort_of_kind node.item_kind ≡ sort.Instance = ap sort_of_kind instance.typed in
       let more = instance_more counted earlier g sound plain order at is_thing done later n node here ready writes there index index' i now others (with_package (used_packages g done) (Some id)) mid components' id c k arguments mid_written kind owned first stands typed given counts in
@@ -250,21 +250,21 @@ module _ (counted : Counted) (earlier : Earlier) (g : Graph) (sound : IsSound g)
       let two : export_of g at (name, id) ≡ (name, t, at id.0) ∷ [] = ap (λ z. option_case z [] (λ z'. (name, sort_of_kind z'.item_kind, at id.0) ∷ [])) there in
       record {
         split = ap (λ xs. xs ++ x ∷ []) e.split ∙ append_assoc base (flat_map (export_item_of g index) es) (x ∷ [])
-          ∙ ap (λ ys. base ++ ys) (sym (flat_map-append (export_item_of g index) es ((name, id) ∷ []) ∙ ap (λ ys. flat_map (export_item_of g index) es ++ ys) (rw append-nil one)));
+            ∙ ap (λ ys. base ++ ys) (sym (flat_map-append (export_item_of g index) es ((name, id) ∷ []) ∙ ap (λ ys. flat_map (export_item_of g index) es ++ ys) (rw append-nil one)));
         imports = o.0 ∙ e.imports;
         bytes = o.1 ∙ e.bytes;
         made = subst (λ made. AreInstantiations g at order (instantiations g order) made) (sym o.2) e.made;
         customs = o.3 ∙ e.customs;
         exports = export_shown items t (index id.0) name ∙ ap (λ xs. xs ++ (name, t, stands_for (meaning items) t (index id.0)) ∷ []) e.exports
-          ∙ ap (λ z. flat_map (export_of g at) es ++ (name, t, z) ∷ []) (e.stand id.0 node there).1
-          ∙ sym (flat_map-append (export_of g at) es ((name, id) ∷ []) ∙ ap (λ ys. flat_map (export_of g at) es ++ ys) (rw append-nil two));
+            ∙ ap (λ z. flat_map (export_of g at) es ++ (name, t, z) ∷ []) (e.stand id.0 node there).1
+            ∙ sym (flat_map-append (export_of g at) es ((name, id) ∷ []) ∙ ap (λ ys. flat_map (export_of g at) es ++ ys) (rw append-nil two));
         stand = λ n other other_there.
-          let s = e.stand n other other_there in
-          (indexes_rise (space (sort_of_kind other.item_kind)) items x (index n) s.0, earlier items (x ∷ []) (sort_of_kind other.item_kind) (index n) s.0 ∙ s.1);
+            let s = e.stand n other other_there in
+            (indexes_rise (space (sort_of_kind other.item_kind)) items x (index n) s.0, earlier items (x ∷ []) (sort_of_kind other.item_kind) (index n) s.0 ∙ s.1);
         own = λ n other other_there. HasItem-push items x other (index n) (place n) (e.own n other other_there);
       } where
-    indexes_rise : (k : ℕ) (its : List Item) (x : Item) (j : ℕ) → j < indexes k its → j < indexes k (its ++ x ∷ [])
-    indexes_rise k its x j small = omega (arith, indexes-push k its x)
+        indexes_rise : (k : ℕ) (its : List Item) (x : Item) (j : ℕ) → j < indexes k its → j < indexes k (its ++ x ∷ [])
+        indexes_rise k its x j small = omega (arith, indexes-push k its x)
 
   -- the items mean the graph
   pub means : (base items : List Item) (index place : ℕ → ℕ) → Writes g.edges (is_written g) order → AllSet g → Exported base g.exports items index place

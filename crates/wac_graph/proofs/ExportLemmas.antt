@@ -1,5 +1,5 @@
 -- The step of `export`.
-use Rattle.std.proofs.Common.{◌≡◌, ◌≢◌, ℕ, Bool, true, false, ap, ◌∙◌, sym, refl, subst, Option, Some, None, IfSome, IsSome, is_some, Ok, Err, String, Global, string_bytes, List, [], ◌∷◌, ◌++◌, map as map_list}
+use Rattle.std.proofs.Common.{◌≡◌, ℕ, ap, ◌∙◌, sym, refl, subst, Option, Some, None, IfSome, IsSome, is_some, Ok, String, Global, string_bytes, List, [], ◌∷◌, ◌++◌, map as map_list}
 use Rattle.std.specs.Map.{lookup}
 use Rattle.std.specs.Str.{bytes_eq}
 use Rattle.std.specs.String.{string_eq}
@@ -16,7 +16,7 @@ use Rattle.wac_types.specs.Name.{Name}
 use Rattle.wac_graph.specs.declared.node.Node.{Node}
 use Rattle.wac_graph.specs.declared.node.NodeId.{NodeId}
 use Rattle.wac_graph.specs.declared.graph.CompositionGraph.TheInside.{Inside}
-use Rattle.wac_graph.specs.Graph.{Graph, GraphNode, node_at}
+use Rattle.wac_graph.specs.Graph.{GraphNode, node_at}
 use Rattle.wac_graph.specs.Inside.{node_of, nodes_of, graph_of, Invariant}
 use Rattle.wac_graph.specs.Steps.{Exports}
 use Rattle.wac_graph.proofs.NodeLemmas.{get-nodes_of, nodes_of-insert, text_pair, text_last, lookup_text}
@@ -61,9 +61,10 @@ module _ (a : Inside) where
       let u = named_updates a.nodes nodes id.0 own n had named in
       let at : node_at (graph_of a) id ≡ Some (node_of n) = get-nodes_of a.nodes.slots id.0 ∙ ap (option_map node_of) had in
       let shown : nodes_of nodes.slots ≡ map.insert (nodes_of a.nodes.slots) id.0 (record (node_of n) { export_name = Some name }) =
-          nodes_of-insert a.nodes nodes id.0 (record n { export_name = Some own }) u ∙ ap (λ t. map.insert (nodes_of a.nodes.slots) id.0 (record (node_of n) { export_name = Some t })) own_is in
-      (lookup_text a.exports.entries name ∙ absent,
-        rw at (graph_with shown (listed id name key names key_is absent last) (named_vacant a.nodes nodes id.0 own n had named)))
+      nodes_of-insert a.nodes nodes id.0 (record n { export_name = Some own }) u ∙ ap (λ t. map.insert (nodes_of a.nodes.slots) id.0 (record (node_of n) { export_name = Some t })) own_is in (
+        lookup_text a.exports.entries name ∙ absent,
+        rw at (graph_with shown (listed id name key names key_is absent last) (named_vacant a.nodes nodes id.0 own n had named)),
+      )
     where
       graph_with : {ns : map.FinMap nat_cmp GraphNode} {es : List (List ℕ × NodeId)} → nodes_of nodes.slots ≡ ns → map_list (λ e. text_pair e) names.entries ≡ es → nodes.vacant_key ≡ a.nodes.vacant_key
           → graph_of (record a { nodes = nodes; exports = names }) ≡ record (graph_of a) { nodes = ns; exports = es }

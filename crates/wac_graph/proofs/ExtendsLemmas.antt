@@ -1,17 +1,16 @@
 -- A collection with more items has all that it had.
-use Rattle.std.proofs.Common.{◌≡◌, ℕ, zero, suc, ◌+◌, ◌<◌, Bool, true, false, List, [], ◌∷◌, ◌++◌, length, refl, ap, ◌∙◌, sym, subst, arith, Option, Some, None, Result, Ok, Err, IfOk, OnErr, IsTrue}
+use Rattle.std.proofs.Common.{◌≡◌, ℕ, zero, suc, ◌+◌, ◌<◌, true, List, [], ◌∷◌, ◌++◌, length, refl, ap, ◌∙◌, sym, subst, arith, Option, Result, Ok, Err, IfOk, OnErr}
 use Rattle.std.specs.Prelude.{slice_get, nat_lt}
 use Rattle.std.proofs.lemmas.List.{append-nil, length-append}
 use Rattle.std.proofs.lemmas.Bool.Decides.{nat_tests}
 use Rattle.wac_types.specs.Name.{Name, option_case}
-use Rattle.wac_types.specs.Collection.{Collection, holds_type, kind_type, item_of, item_at, interface_exports, world_exports, with_func, with_interface, with_world}
+use Rattle.wac_types.specs.Collection.{Collection, holds_type, item_of, with_func, with_interface, with_world}
 use Rattle.wac_types.specs.Package.{with_instance_of, PackageParts, VersionParts, HoldsPackage}
 use Rattle.wac_graph.proofs.WrittenOrder.{slice_get-middle}
 use Rattle.wac_types.specs.declared.collection.Held.{Held}
 use Rattle.wac_types.specs.declared.component.FuncType.{FuncType}
 use Rattle.wac_types.specs.declared.component.Interface.{Interface}
 use Rattle.wac_types.specs.declared.component.World.{World}
-use Rattle.wac_types.specs.declared.component.InterfaceId.{InterfaceId}
 use Rattle.wac_types.specs.declared.component.WorldId.{WorldId}
 use Rattle.wac_types.specs.declared.component.«Type».{«Type» as AnyType}
 use Rattle.wac_types.specs.declared.component.«Type».TheVariants as ty
@@ -73,8 +72,8 @@ pub holds_made : {E : Type 0} (result : Result PackageParts E) (c d : Collection
 holds_made (Err e) c d name version bytes world held built added = tt
 holds_made (Ok p) c d name version bytes world held built added =
     subst (λ q. HoldsPackage d q) (sym built) (subst (λ e. HoldsPackage e (record { name = name; version = version; bytes = bytes; world = world; instance_type = record { 0 = length c.interfaces } })) (sym added)
-      (held, lt_last c.interfaces _, ap (λ o. option_case (item_of o) [] (λ x. x.exports)) (slice_get-middle c.interfaces _ []))) where
-  lt_last : {A : Type 0} (xs : List A) (x : A) → nat_lt (length xs) (length (xs ++ x ∷ [])) ≡ true
-  lt_last xs x = rw (length-append xs (x ∷ [])) (one (length xs)) where
-    one : (n : ℕ) → nat_lt n (n + 1) ≡ true
-    one n = grind (arith, nat_tests)
+    (held, lt_last c.interfaces _, ap (λ o. option_case (item_of o) [] (λ x. x.exports)) (slice_get-middle c.interfaces _ []))) where
+      lt_last : {A : Type 0} (xs : List A) (x : A) → nat_lt (length xs) (length (xs ++ x ∷ [])) ≡ true
+      lt_last xs x = rw (length-append xs (x ∷ [])) (one (length xs)) where
+        one : (n : ℕ) → nat_lt n (n + 1) ≡ true
+        one n = grind (arith, nat_tests)

@@ -1,11 +1,10 @@
 -- What a held interface or world lists is held.
-use Rattle.std.proofs.Common.{◌≡◌, ℕ, zero, suc, ◌+◌, ◌<◌, Bool, true, false, List, [], ◌∷◌, length, refl, ap, ◌∙◌, sym, subst, arith, Option, Some, None}
+use Rattle.std.proofs.Common.{◌≡◌, ℕ, zero, suc, ◌<◌, true, List, [], ◌∷◌, length, refl, ap, ◌∙◌, sym, arith, Option, Some, None}
 use Rattle.std.specs.Prelude.{slice_get, nat_lt}
-use Rattle.std.specs.List.{AllByRecursion}
 use Rattle.std.proofs.lemmas.Bool.Decides.{nat_tests}
 use Rattle.std.proofs.lemmas.Option.{slice_get_within}
 use Rattle.wac_types.specs.Name.{Name}
-use Rattle.wac_types.specs.Collection.{Collection, IsWellFormed, IsBefore, IsValueBefore, AddedBefore, AreItemsBefore, holds_type, kind_type, seconds, item_of, item_at}
+use Rattle.wac_types.specs.Collection.{Collection, IsWellFormed, IsBefore, AddedBefore, AreItemsBefore, holds_type, kind_type, item_of, item_at}
 use Rattle.wac_types.specs.declared.collection.Held.{Held}
 use Rattle.wac_types.specs.declared.component.Interface.{Interface}
 use Rattle.wac_types.specs.declared.component.World.{World}

@@ -1,31 +1,27 @@
 -- What is always true of a graph's fields stays true after each call.
-use Rattle.std.proofs.Common.{◌≡◌, ◌≢◌, ℕ, zero, suc, ◌+◌, ◌<◌, ◌≤◌, Bool, true, false, cond, not, ◌||◌, ◌&&◌, List, [], ◌∷◌, ◌++◌, length, map as map_list, refl, ap, ◌∙◌, sym, subst, arith, eqb, ◌==◌, Option, Some, None, IsSome, is_some, ◌⊎◌, inl, inr, get_or, String, Global, string_bytes, Vec}
+use Rattle.std.proofs.Common.{◌≡◌, ◌≢◌, ℕ, Bool, true, false, cond, ◌||◌, ◌&&◌, List, [], ◌∷◌, ◌++◌, length, map as map_list, refl, ap, ◌∙◌, sym, subst, ◌==◌, Option, Some, None, IsSome, is_some, ◌⊎◌, inl, inr, get_or, String, Global, string_bytes, Vec}
 use Rattle.std.specs.Prelude.{slice_get}
 use Rattle.std.specs.Option.{option_map}
 use Rattle.std.specs.Map.{lookup}
-use Rattle.std.specs.Ordering.{nat_cmp, eq_by_cmp}
 use Rattle.std.specs.FinMap as map
 use Rattle.std.specs.FinSet as set
 use Rattle.std.specs.HashMap.{HashMap}
 use Rattle.std.specs.declared.hash.FoldHasher.{FoldHasher}
 use Rattle.std.specs.declared.hash.BuildHasherDefault.{BuildHasherDefault}
-use Rattle.std.proofs.lemmas.Bool.{false_from_ne_true}
 use Rattle.slab.specs.Slab.{Slab, get, Updates}
 use Rattle.wac_types.specs.Name.{Name}
-use Rattle.wac_types.specs.Collection.{Collection, empty, holds_type, kind_type}
+use Rattle.wac_types.specs.Collection.{Collection, holds_type, kind_type}
 use Rattle.wac_types.specs.Package.{PackageParts, Key, same_key, HoldsPackage}
 use Rattle.wac_types.specs.declared.component.ItemKind.{ItemKind}
 use Rattle.wac_graph.specs.declared.edges.Edge.{Edge}
 use Rattle.wac_graph.specs.declared.edges.Label.TheVariants as label
 use Rattle.wac_graph.specs.declared.node.Node.{Node}
-use Rattle.wac_graph.specs.declared.node.NodeKind.{NodeKind}
 use Rattle.wac_graph.specs.declared.node.NodeId.{NodeId}
 use Rattle.wac_graph.specs.declared.packages.PackageId.{PackageId}
 use Rattle.wac_graph.specs.declared.packages.Slot.{Slot}
 use Rattle.wac_graph.specs.declared.graph.CompositionGraph.TheInside.{Inside}
 use Rattle.wac_graph.specs.Edge.{edge_cmp, alias_edge, argument_edge}
-use Rattle.wac_graph.specs.Graph as graph
-use Rattle.wac_graph.specs.Graph.{Graph, GraphNode, node_at, package_at, package_in, exports_of}
+use Rattle.wac_graph.specs.Graph.{GraphNode, node_at, package_at, package_in, exports_of}
 use Rattle.wac_graph.specs.Sound.{IsSound}
 use Rattle.wac_graph.specs.Inside.{node_of, nodes_of, graph_of, Invariant, satisfied, satisfied_at, key_of}
 use Rattle.wac_graph.specs.Steps.{instance_node, alias_node}
@@ -134,7 +130,7 @@ module _ (a : Inside) (v : Invariant a) where
     invariant_instance id p shape registered =
         let holds = v.sound.packages id p registered in
         let more = sound_node (graph_of a) v.sound (record { 0 = n }) (instance_node id p) nodes.vacant_key vacant_in_graph holds.1 refl
-            (record { id = id; parts = p; owned = refl; registered = registered; typed = refl }) in
+        (record { id = id; parts = p; owned = refl; registered = registered; typed = refl }) in
         let shown : nodes_of nodes.slots ≡ map.insert (nodes_of a.nodes.slots) n (instance_node id p) = nodes_of-insert a.nodes nodes n node u ∙ ap (map.insert (nodes_of a.nodes.slots) n) shape in
         record {
           sound = subst (λ ns. IsSound (record (graph_of a) { nodes = ns; next = nodes.vacant_key })) (sym shown) more;
@@ -152,15 +148,15 @@ module _ (a : Inside) (v : Invariant a) where
         let shown : nodes_of nodes.slots ≡ map.insert (nodes_of a.nodes.slots) n (alias_node source kind) = nodes_of-insert a.nodes nodes n node u ∙ ap (map.insert (nodes_of a.nodes.slots) n) shape in
         record {
           sound = subst (λ ns. IsSound (record (graph_of a) { nodes = ns; next = nodes.vacant_key; edges = edges })) (sym shown)
-            (subst (λ es. IsSound (record (graph_of a) { nodes = map.insert (nodes_of a.nodes.slots) n (alias_node source kind); next = nodes.vacant_key; edges = es })) (sym added) more);
+              (subst (λ es. IsSound (record (graph_of a) { nodes = map.insert (nodes_of a.nodes.slots) n (alias_node source kind); next = nodes.vacant_key; edges = es })) (sym added) more);
           marked = λ s t i stands. still_marked s t i (old_argument s t i (added_edge a.edges (alias_edge instance.0 n position) (argument_edge s t i) (ap (λ es. set.contains es (argument_edge s t i)) (sym added) ∙ stands)));
           edged = λ t i is. let (s, stands) = still_edged t i is in (s, ap (λ es. set.contains es (argument_edge s t i)) added ∙ kept_edge a.edges (alias_edge instance.0 n position) (argument_edge s t i) stands);
           keyed = v.keyed;
           found = v.found;
         } where
-      old_argument : (s t i : ℕ) → (argument_edge s t i ≡ alias_edge instance.0 n position) ⊎ (set.contains a.edges (argument_edge s t i) ≡ true) → set.contains a.edges (argument_edge s t i) ≡ true
-      old_argument s t i (inl wrong) = absurd (let labels : label.Argument i ≡ label.Alias position = ap (λ (e : Edge). e.label) wrong in cc)
-      old_argument s t i (inr was) = was
+          old_argument : (s t i : ℕ) → (argument_edge s t i ≡ alias_edge instance.0 n position) ⊎ (set.contains a.edges (argument_edge s t i) ≡ true) → set.contains a.edges (argument_edge s t i) ≡ true
+          old_argument s t i (inl wrong) = absurd (let labels : label.Argument i ≡ label.Alias position = ap (λ (e : Edge). e.label) wrong in cc)
+          old_argument s t i (inr was) = was
 
   -- the same nodes but for the satisfied positions, of which one is more, with its edge
   pub invariant_argument : (nodes : Slab Node) (edges : set.FinSet edge_cmp) (source target position : ℕ) → nodes.vacant_key ≡ a.nodes.vacant_key
@@ -172,36 +168,36 @@ module _ (a : Inside) (v : Invariant a) where
       let more = sound_argument (graph_of a) v.sound source target position (in_graph source from) (in_graph target to) in
       record {
         sound = subst (λ k. IsSound (record (graph_of a) { nodes = nodes_of nodes.slots; next = k; edges = edges })) (sym next)
-          (subst (λ ns. IsSound (record (graph_of a) { nodes = ns; edges = edges })) (sym shown)
+            (subst (λ ns. IsSound (record (graph_of a) { nodes = ns; edges = edges })) (sym shown)
             (subst (λ es. IsSound (record (graph_of a) { edges = es })) (sym added) more));
         marked = λ s t i stands. satisfied_now t i ∙ marked s t i (added_edge a.edges (argument_edge source target position) (argument_edge s t i) (ap (λ es. set.contains es (argument_edge s t i)) (sym added) ∙ stands));
         edged = λ t i is. edged t i (satisfied_at (get a.nodes t) i) refl (sym (satisfied_now t i) ∙ is);
         keyed = v.keyed;
         found = v.found;
       } where
-    in_graph : (q : ℕ) → IsSome (get a.nodes q) → IsSome (map.get (nodes_of a.nodes.slots) q)
-    in_graph q h = ap is_some (get-nodes_of a.nodes.slots q) ∙ is_some-node_of (get a.nodes q) ∙ h
+        in_graph : (q : ℕ) → IsSome (get a.nodes q) → IsSome (map.get (nodes_of a.nodes.slots) q)
+        in_graph q h = ap is_some (get-nodes_of a.nodes.slots q) ∙ is_some-node_of (get a.nodes q) ∙ h
 
-    or_yes : (b : Bool) → (b || true) ≡ true
-    or_yes true = refl
-    or_yes false = refl
+        or_yes : (b : Bool) → (b || true) ≡ true
+        or_yes true = refl
+        or_yes false = refl
 
-    marked : (s t i : ℕ) → (argument_edge s t i ≡ argument_edge source target position) ⊎ (set.contains a.edges (argument_edge s t i) ≡ true) → (satisfied_at (get a.nodes t) i || (t == target && i == position)) ≡ true
-    marked s t i (inl is) =
-        let t_is : t ≡ target = ap (λ (e : Edge). e.target) is in
-        let i_is : i ≡ position = let labels : label.Argument i ≡ label.Argument position = ap (λ (e : Edge). e.label) is in cc in
-        ap (λ b. satisfied_at (get a.nodes t) i || b) (rw (t_is, i_is, eqb_same target) (eqb_same position)) ∙ or_yes (satisfied_at (get a.nodes t) i)
-    marked s t i (inr was) = ap (λ b. b || (t == target && i == position)) (v.marked s t i was)
+        marked : (s t i : ℕ) → (argument_edge s t i ≡ argument_edge source target position) ⊎ (set.contains a.edges (argument_edge s t i) ≡ true) → (satisfied_at (get a.nodes t) i || (t == target && i == position)) ≡ true
+        marked s t i (inl is) =
+            let t_is : t ≡ target = ap (λ (e : Edge). e.target) is in
+            let i_is : i ≡ position = let labels : label.Argument i ≡ label.Argument position = ap (λ (e : Edge). e.label) is in cc in
+            ap (λ b. satisfied_at (get a.nodes t) i || b) (rw (t_is, i_is, eqb_same target) (eqb_same position)) ∙ or_yes (satisfied_at (get a.nodes t) i)
+        marked s t i (inr was) = ap (λ b. b || (t == target && i == position)) (v.marked s t i was)
 
-    edged : (t i : ℕ) (b : Bool) → satisfied_at (get a.nodes t) i ≡ b → (b || (t == target && i == position)) ≡ true → (s : ℕ) × (set.contains edges (argument_edge s t i) ≡ true)
-    edged t i true is _ = let (s, stands) = v.edged t i is in (s, ap (λ es. set.contains es (argument_edge s t i)) added ∙ kept_edge a.edges (argument_edge source target position) (argument_edge s t i) stands)
-    edged t i false is both =
-        let (t_is, i_is) = both_true (t == target) (i == position) both in
-        let same : argument_edge source t i ≡ argument_edge source target position = rw (eqb-true t target t_is, eqb-true i position i_is) refl in
-        (source, ap (λ es. set.contains es (argument_edge source t i)) added ∙ ap (set.contains (set.insert a.edges (argument_edge source target position))) same ∙ new_edge a.edges (argument_edge source target position)) where
-      both_true : (x y : Bool) → (x && y) ≡ true → (x ≡ true) × (y ≡ true)
-      both_true true y h = (refl, h)
-      both_true false y h = cc
+        edged : (t i : ℕ) (b : Bool) → satisfied_at (get a.nodes t) i ≡ b → (b || (t == target && i == position)) ≡ true → (s : ℕ) × (set.contains edges (argument_edge s t i) ≡ true)
+        edged t i true is _ = let (s, stands) = v.edged t i is in (s, ap (λ es. set.contains es (argument_edge s t i)) added ∙ kept_edge a.edges (argument_edge source target position) (argument_edge s t i) stands)
+        edged t i false is both =
+            let (t_is, i_is) = both_true (t == target) (i == position) both in
+            let same : argument_edge source t i ≡ argument_edge source target position = rw (eqb-true t target t_is, eqb-true i position i_is) refl in
+            (source, ap (λ es. set.contains es (argument_edge source t i)) added ∙ ap (set.contains (set.insert a.edges (argument_edge source target position))) same ∙ new_edge a.edges (argument_edge source target position)) where
+              both_true : (x y : Bool) → (x && y) ≡ true → (x ≡ true) × (y ≡ true)
+              both_true true y h = (refl, h)
+              both_true false y h = cc
 
   -- a node is exported by a further name
   pub invariant_export : (nodes : Slab Node) (exports : List (Name × NodeId)) (id : NodeId) (before after : Node) (name : Name) → get a.nodes id.0 ≡ Some before → Updates a.nodes nodes id.0 (Some after) → node_of after ≡ record (node_of before) { export_name = Some name } → after.kind ≡ before.kind
@@ -213,17 +209,17 @@ module _ (a : Inside) (v : Invariant a) where
       let shown : nodes_of nodes.slots ≡ map.insert (nodes_of a.nodes.slots) id.0 (record (node_of before) { export_name = Some name }) = nodes_of-insert a.nodes nodes id.0 after u ∙ ap (map.insert (nodes_of a.nodes.slots) id.0) shape in
       record {
         sound = subst (λ es. IsSound (record (graph_of a) { nodes = nodes_of nodes.slots; next = nodes.vacant_key; exports = es })) (sym (listed ∙ added))
-          (subst (λ k. IsSound (record (graph_of a) { nodes = nodes_of nodes.slots; next = k; exports = (graph_of a).exports ++ (name, id) ∷ [] })) (sym next)
+            (subst (λ k. IsSound (record (graph_of a) { nodes = nodes_of nodes.slots; next = k; exports = (graph_of a).exports ++ (name, id) ∷ [] })) (sym next)
             (subst (λ ns. IsSound (record (graph_of a) { nodes = ns; exports = (graph_of a).exports ++ (name, id) ∷ [] })) (sym shown) more));
         marked = λ s t i stands. satisfied_same t i ∙ v.marked s t i stands;
         edged = λ t i is. v.edged t i (sym (satisfied_same t i) ∙ is);
         keyed = v.keyed;
         found = v.found;
       } where
-    satisfied_same : (q i : ℕ) → satisfied_at (get nodes q) i ≡ satisfied_at (get a.nodes q) i
-    satisfied_same q i = by_eq q id.0
-        (λ same. ap (λ k. satisfied_at (get nodes k) i) same ∙ ap (λ o. satisfied_at o i) u.changed ∙ ap (λ k. satisfied k i) kept ∙ sym (ap (λ k. satisfied_at (get a.nodes k) i) same ∙ ap (λ o. satisfied_at o i) had))
-        (λ differ. ap (λ o. satisfied_at o i) (u.others q differ))
+        satisfied_same : (q i : ℕ) → satisfied_at (get nodes q) i ≡ satisfied_at (get a.nodes q) i
+        satisfied_same q i = by_eq q id.0
+            (λ same. ap (λ k. satisfied_at (get nodes k) i) same ∙ ap (λ o. satisfied_at o i) u.changed ∙ ap (λ k. satisfied k i) kept ∙ sym (ap (λ k. satisfied_at (get a.nodes k) i) same ∙ ap (λ o. satisfied_at o i) had))
+            (λ differ. ap (λ o. satisfied_at o i) (u.others q differ))
 
   look-insert : (k key : Key) (id : PackageId) (es : List (Key × PackageId)) → lookup (same_key key) es ≡ None → lookup (same_key k) (insert_entry same_key es key id) ≡ cond (same_key k key) (Some id) (lookup (same_key k) es)
   look-insert k key id [] absent = refl
@@ -253,33 +249,35 @@ module _ (a : Inside) (v : Invariant a) where
         keyed = λ other q at. ap (lookup (same_key (key_of q))) added ∙ look-insert (key_of q) key id a.package_map.entries absent ∙ keyed other q (package_after (graph_of a) v.sound (record { generation = 0; «package» = Some p }) other q (ap (λ (xs : List Slot). package_in (slice_get xs other.slot) other) (sym grown) ∙ at));
         found = λ k other at. found k other (same_key k key) refl (sym (look-insert k key id a.package_map.entries absent) ∙ ap (lookup (same_key k)) (sym added) ∙ at);
       } where
-    only_generation : (b : Bool) (q : PackageParts) → cond b (Some p) None ≡ Some q → (b ≡ true) × (p ≡ q)
-    only_generation true q at = (refl, cc)
-    only_generation false q at = cc
+        only_generation : (b : Bool) (q : PackageParts) → cond b (Some p) None ≡ Some q → (b ≡ true) × (p ≡ q)
+        only_generation true q at = (refl, cc)
+        only_generation false q at = cc
 
-    only : (other : PackageId) (q : PackageParts) → package_in (Some (record { generation = 0; «package» = Some p })) other ≡ Some q → p ≡ q
-    only other q at = (only_generation (0 == other.generation) q at).1
+        only : (other : PackageId) (q : PackageParts) → package_in (Some (record { generation = 0; «package» = Some p })) other ≡ Some q → p ≡ q
+        only other q at = (only_generation (0 == other.generation) q at).1
 
-    keyed : (other : PackageId) (q : PackageParts) → (package_at (graph_of a) other ≡ Some q) ⊎ ((other.slot ≡ length a.slots.items) × (package_in (Some (record { generation = 0; «package» = Some p })) other ≡ Some q)) → cond (same_key (key_of q) key) (Some id) (lookup (same_key (key_of q)) a.package_map.entries) ≡ Some other
-    keyed other q (inl was) = split (same_key (key_of q) key) refl where
-      split : (b : Bool) → same_key (key_of q) key ≡ b → cond b (Some id) (lookup (same_key (key_of q)) a.package_map.entries) ≡ Some other
-      split false _ = v.keyed other q was
-      split true same = absurd (none_some (lookup (same_key key) a.package_map.entries) absent (ap (λ (k : Key). lookup (same_key k) a.package_map.entries) (sym (same_key-true (key_of q) key same)) ∙ v.keyed other q was)) where
-        none_some : (o : Option PackageId) → o ≡ None → o ≡ Some other → ⊥
-        none_some o x y = cc
-    keyed other q (inr (at_slot, now)) =
-        let (of_first, same) = only_generation (0 == other.generation) q now in
-        let generation : 0 ≡ other.generation = eqb-true 0 other.generation of_first in
-        let same_id : id ≡ other = new ∙ (λ i. record { slot = sym at_slot i; generation = generation i }) in
-        let keys : same_key (key_of q) key ≡ true = ap (λ (x : Key). same_key (key_of q) x) (is ∙ ap key_of same) ∙ same_key_equiv.refl (key_of q) in
-        ap (λ b. cond b (Some id) (lookup (same_key (key_of q)) a.package_map.entries)) keys ∙ ap Some same_id
+        keyed : (other : PackageId) (q : PackageParts) → (package_at (graph_of a) other ≡ Some q) ⊎ ((other.slot ≡ length a.slots.items) × (package_in (Some (record { generation = 0; «package» = Some p })) other ≡ Some q)) → cond (same_key (key_of q) key) (Some id) (lookup (same_key (key_of q)) a.package_map.entries) ≡ Some other
+        keyed other q (inl was) = split (same_key (key_of q) key) refl where
+          split : (b : Bool) → same_key (key_of q) key ≡ b → cond b (Some id) (lookup (same_key (key_of q)) a.package_map.entries) ≡ Some other
+          split false _ = v.keyed other q was
+          split true same = absurd (none_some (lookup (same_key key) a.package_map.entries) absent (ap (λ (k : Key). lookup (same_key k) a.package_map.entries) (sym (same_key-true (key_of q) key same)) ∙ v.keyed other q was)) where
+            none_some : (o : Option PackageId) → o ≡ None → o ≡ Some other → ⊥
+            none_some o x y = cc
+        keyed other q (inr (at_slot, now)) =
+            let (of_first, same) = only_generation (0 == other.generation) q now in
+            let generation : 0 ≡ other.generation = eqb-true 0 other.generation of_first in
+            let same_id : id ≡ other = new ∙ (λ i. record { slot = sym at_slot i; generation = generation i }) in
+            let keys : same_key (key_of q) key ≡ true = ap (λ (x : Key). same_key (key_of q) x) (is ∙ ap key_of same) ∙ same_key_equiv.refl (key_of q) in
+            ap (λ b. cond b (Some id) (lookup (same_key (key_of q)) a.package_map.entries)) keys ∙ ap Some same_id
 
-    found : (k : Key) (other : PackageId) (b : Bool) → same_key k key ≡ b → cond b (Some id) (lookup (same_key k) a.package_map.entries) ≡ Some other → (q : PackageParts) × (package_in (slice_get slots.items other.slot) other ≡ Some q) × (same_key k (key_of q) ≡ true)
-    found k other true same at =
-        let is_id : id ≡ other = cc in
-        (p, ap (λ (x : PackageId). package_in (slice_get slots.items x.slot) x) (sym is_id ∙ new) ∙ ap (λ (xs : List Slot). package_in (slice_get xs (length a.slots.items)) (record { slot = length a.slots.items; generation = 0 })) grown
-            ∙ ap (λ o. package_in o (record { slot = length a.slots.items; generation = 0 })) (slice_get-middle a.slots.items (record { generation = 0; «package» = Some p }) []),
-          ap (same_key k) (sym is) ∙ same)
-    found k other false differ at =
-        let (q, there, same) = v.found k other at in
-        (q, ap (λ (xs : List Slot). package_in (slice_get xs other.slot) other) grown ∙ package_before (graph_of a) v.sound (record { generation = 0; «package» = Some p }) other q there, same)
+        found : (k : Key) (other : PackageId) (b : Bool) → same_key k key ≡ b → cond b (Some id) (lookup (same_key k) a.package_map.entries) ≡ Some other → (q : PackageParts) × (package_in (slice_get slots.items other.slot) other ≡ Some q) × (same_key k (key_of q) ≡ true)
+        found k other true same at =
+            let is_id : id ≡ other = cc in (
+              p,
+              ap (λ (x : PackageId). package_in (slice_get slots.items x.slot) x) (sym is_id ∙ new) ∙ ap (λ (xs : List Slot). package_in (slice_get xs (length a.slots.items)) (record { slot = length a.slots.items; generation = 0 })) grown
+                  ∙ ap (λ o. package_in o (record { slot = length a.slots.items; generation = 0 })) (slice_get-middle a.slots.items (record { generation = 0; «package» = Some p }) []),
+              ap (same_key k) (sym is) ∙ same,
+            )
+        found k other false differ at =
+            let (q, there, same) = v.found k other at in
+            (q, ap (λ (xs : List Slot). package_in (slice_get xs other.slot) other) grown ∙ package_before (graph_of a) v.sound (record { generation = 0; «package» = Some p }) other q there, same)

@@ -16,3 +16,7 @@ pub mod HeldLemmas
 pub mod ExportLemmas
 pub mod SatisfyLemmas
 pub mod ArgumentLemmas
+pub mod EncodingLemmas
+pub mod MeansLemmas
+pub mod WriteAliasLemmas
+pub mod WriteArgumentsLemmas

@@ -1,4 +1,4 @@
-use Rattle.std.proofs.Common.{◌≡◌, ◌≢◌, ℕ, zero, suc, ◌+◌, ◌<◌, Bool, true, false, cond, not, List, [], ◌∷◌, map, refl, ap, ◌∙◌, sym, rules, arith, Option, Some, None, get_or, eqb, is_some, IsTrue, IsSome, ◌&&◌, String, Global, string_bytes, ◌++◌}
+use Rattle.std.proofs.Common.{◌≡◌, ℕ, zero, suc, ◌+◌, ◌<◌, Bool, true, false, cond, List, [], ◌∷◌, map, refl, ap, ◌∙◌, sym, arith, Option, Some, None, get_or, eqb, is_some, IsTrue, IsSome, ◌&&◌, String, Global, string_bytes, ◌++◌}
 use Rattle.wac_graph.specs.declared.node.NodeId.{NodeId}
 use Rattle.std.specs.Map.{lookup}
 use Rattle.std.specs.Str.{bytes_eq}
@@ -11,7 +11,6 @@ use Rattle.std.proofs.lemmas.Bool.Decides.{nat_tests}
 use Rattle.std.specs.FinMap as finite
 use Rattle.std.specs.FinMap.{find, nat_cmp-IsAntisymmetric}
 use Rattle.slab.specs.Slab.{Slab, entries_from, get, Updates}
-use Rattle.std.proofs.lemmas.Bool.{eqb-true}
 use Rattle.wac_graph.specs.declared.node.Node.{Node}
 use Rattle.wac_types.specs.Name.{Name, same_name, find_name}
 use Rattle.wac_graph.specs.Inside.{nodes_of, node_of}
@@ -48,10 +47,10 @@ nodes_of-insert old new key node u = finite.same_map nat_cmp_total nat_cmp-IsAnt
     ∙ at q
     ∙ ap (λ o. cond (eq_by_cmp nat_cmp q key) (Some (node_of node)) o) (sym (get-nodes_of old.slots q))
     ∙ sym (finite.get-insert nat_cmp_total (nodes_of old.slots) key (node_of node) q)) where
-  at : (q : ℕ) → option_map node_of (get new q) ≡ cond (eq_by_cmp nat_cmp q key) (Some (node_of node)) (option_map node_of (get old q))
-  at q = by_eq q key
-      (λ same. let e : eq_by_cmp nat_cmp q key ≡ true = grind (arith, nat_tests) in rw (e, same, u.changed) refl)
-      (λ other. let e : eq_by_cmp nat_cmp q key ≡ false = grind (arith, nat_tests) in rw e (ap (option_map node_of) (u.others q other)))
+      at : (q : ℕ) → option_map node_of (get new q) ≡ cond (eq_by_cmp nat_cmp q key) (Some (node_of node)) (option_map node_of (get old q))
+      at q = by_eq q key
+          (λ same. let e : eq_by_cmp nat_cmp q key ≡ true = grind (arith, nat_tests) in rw (e, same, u.changed) refl)
+          (λ other. let e : eq_by_cmp nat_cmp q key ≡ false = grind (arith, nat_tests) in rw e (ap (option_map node_of) (u.others q other)))
 
 -- the same nodes
 pub nodes_of-same : (old new : List (Option Node)) → ((q : ℕ) → option_map node_of (get_or new q None) ≡ option_map node_of (get_or old q None)) → nodes_of new ≡ nodes_of old

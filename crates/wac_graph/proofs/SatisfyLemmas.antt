@@ -1,6 +1,6 @@
 -- What a write to one node keeps.
-use Rattle.std.proofs.Common.{◌≡◌, ◌≢◌, ℕ, ap, ◌∙◌, sym, refl, Option, Some, None, is_some, Ok, Err, OnErr, Result}
-use Rattle.slab.specs.Slab.{Slab, get, Updates, with_value}
+use Rattle.std.proofs.Common.{◌≡◌, ℕ, ap, ◌∙◌, sym, Option, Some, is_some, Ok, Err, OnErr, Result}
+use Rattle.slab.specs.Slab.{Slab, get, with_value}
 use Rattle.slab.proofs.SlabLemmas.{Updates-with_value}
 use Rattle.wac_graph.specs.declared.node.Node.{Node}
 use Rattle.wac_graph.proofs.SoundLemmas.{by_eq}

@@ -1,6 +1,6 @@
 -- What is true of every graph stays true after each step.
-use Rattle.std.proofs.Common.{◌≡◌, ◌≢◌, ℕ, zero, suc, ◌+◌, ◌<◌, ◌≤◌, Bool, true, false, cond, not, ◌||◌, List, [], ◌∷◌, ◌++◌, length, refl, ap, ◌∙◌, sym, subst, arith, eqb, Option, Some, None, IsSome, is_some, ◌⊎◌, inl, inr}
-use Rattle.std.specs.Prelude.{slice_get, nat_lt}
+use Rattle.std.proofs.Common.{◌≡◌, ◌≢◌, ℕ, zero, suc, Bool, true, false, ◌||◌, List, [], ◌∷◌, ◌++◌, length, refl, ap, ◌∙◌, sym, subst, arith, eqb, Option, Some, None, IsSome, is_some, ◌⊎◌, inl, inr}
+use Rattle.std.specs.Prelude.{slice_get}
 use Rattle.std.specs.Ordering.{nat_cmp, eq_by_cmp, is_eq}
 use Rattle.std.specs.Cmp.{nat_cmp_total, tied_itself}
 use Rattle.std.specs.FinMap as map
@@ -8,11 +8,9 @@ use Rattle.std.specs.FinSet as set
 use Rattle.std.proofs.Math.Bool.{or-true}
 use Rattle.std.proofs.lemmas.Bool.{eqb-true}
 use Rattle.std.proofs.lemmas.Bool.Decides.{nat_tests}
-use Rattle.std.proofs.lemmas.Option.{slice_get_within}
-use Rattle.wac_types.specs.Name.{Name, option_case}
-use Rattle.wac_types.specs.Collection.{Collection, holds_type, kind_type, item_of, item_at, interface_exports, world_exports, with_func, with_interface, with_world}
+use Rattle.wac_types.specs.Name.{Name}
+use Rattle.wac_types.specs.Collection.{Collection, holds_type, kind_type, interface_exports, world_exports}
 use Rattle.wac_types.specs.Package.{PackageParts, HoldsPackage}
-use Rattle.wac_types.specs.declared.collection.Held.{Held}
 use Rattle.wac_types.specs.declared.component.ItemKind.{ItemKind}
 use Rattle.wac_types.specs.declared.component.ItemKind.TheVariants as item
 use Rattle.wac_types.specs.declared.component.«Type».{«Type» as AnyType}
@@ -28,7 +26,6 @@ use Rattle.wac_graph.specs.Edge.{edge_cmp, alias_edge, argument_edge}
 use Rattle.wac_graph.specs.Graph as graph
 use Rattle.wac_graph.specs.Graph.{Graph, GraphNode, node_at, package_at, package_in, exports_of, interface_of, IsAliasOf}
 use Rattle.wac_graph.specs.Sound.{IsSound, IsInstance, IsAlias}
-use Rattle.wac_graph.specs.Steps.{instance_node, alias_node}
 use Rattle.wac_graph.proofs.EdgeLemmas.{edge_cmp_total, exact_edges}
 use Rattle.wac_graph.proofs.WrittenLemmas.{slice_get-prefix}
 
@@ -86,13 +83,20 @@ module _ (g : Graph) (s : IsSound g) where
     held = λ n node there. more.held (kind_type node.item_kind) (s.held n node there);
     instances = λ n node there is. let i = s.instances n node there is in record { id = i.id; parts = i.parts; owned = i.owned; registered = i.registered; typed = i.typed };
     aliases = λ n node there is.
-      let a = s.aliases n node there is in
-      record { instance = a.instance; source = a.source; position = a.position; name = a.name; aliased = a.aliased; there = a.there;
-        exported = ap (λ es. slice_get es a.position) (exports_same c g a.source more (s.held a.instance a.source a.there)) ∙ a.exported };
+        let a = s.aliases n node there is in
+        record {
+          instance = a.instance;
+          source = a.source;
+          position = a.position;
+          name = a.name;
+          aliased = a.aliased;
+          there = a.there;
+          exported = ap (λ es. slice_get es a.position) (exports_same c g a.source more (s.held a.instance a.source a.there)) ∙ a.exported;
+        };
     one_source = s.one_source;
     packages = λ id p there.
-      let h = s.packages id p there in
-      (more.held (ty.World p.world) h.0, more.held (ty.Interface p.instance_type) h.1, more.interfaces p.instance_type h.1 ∙ h.2 ∙ sym (more.worlds p.world h.0));
+        let h = s.packages id p there in
+        (more.held (ty.World p.world) h.0, more.held (ty.Interface p.instance_type) h.1, more.interfaces p.instance_type h.1 ∙ h.2 ∙ sym (more.worlds p.world h.0));
   }
 
   -- a slot more
@@ -135,9 +139,16 @@ module _ (g : Graph) (s : IsSound g) where
     held = s.held;
     instances = λ n node there is. let i = s.instances n node there is in record { id = i.id; parts = i.parts; owned = i.owned; registered = i.registered; typed = i.typed };
     aliases = λ n node there is.
-      let a = s.aliases n node there is in
-      record { instance = a.instance; source = a.source; position = a.position; name = a.name;
-        aliased = kept_edge g.edges (argument_edge source target position) (alias_edge (a.instance).0 n.0 a.position) a.aliased; there = a.there; exported = a.exported };
+        let a = s.aliases n node there is in
+        record {
+          instance = a.instance;
+          source = a.source;
+          position = a.position;
+          name = a.name;
+          aliased = kept_edge g.edges (argument_edge source target position) (alias_edge (a.instance).0 n.0 a.position) a.aliased;
+          there = a.there;
+          exported = a.exported;
+        };
     one_source = λ n x y i j p q. s.one_source n x y i j (old_alias n x i (added_edge g.edges (argument_edge source target position) (alias_edge x.0 n.0 i) p)) (old_alias n y j (added_edge g.edges (argument_edge source target position) (alias_edge y.0 n.0 j) q));
     packages = s.packages;
   } where
@@ -168,12 +179,12 @@ module _ (g : Graph) (s : IsSound g) where
         → (m : NodeId) (other : GraphNode) → map.get (map.insert g.nodes n.0 node) m.0 ≡ Some other → P m other
     each_node P new old m other there = by_eq m.0 n.0
         (λ same.
-          let is : node ≡ other = let e : map.get (map.insert g.nodes n.0 node) n.0 ≡ Some other = ap (map.get (map.insert g.nodes n.0 node)) (sym same) ∙ there in some_same (map.get (map.insert g.nodes n.0 node) n.0) node other (insert_same g.nodes n.0 node) e in
-          let m_is : n ≡ m = ap (λ k. let x : NodeId = record { 0 = k } in x) (sym same) in
-          subst (λ k. P k other) m_is (subst (λ x. P n x) is new))
+        let is : node ≡ other = let e : map.get (map.insert g.nodes n.0 node) n.0 ≡ Some other = ap (map.get (map.insert g.nodes n.0 node)) (sym same) ∙ there in some_same (map.get (map.insert g.nodes n.0 node) n.0) node other (insert_same g.nodes n.0 node) e in
+        let m_is : n ≡ m = ap (λ k. let x : NodeId = record { 0 = k } in x) (sym same) in
+        subst (λ k. P k other) m_is (subst (λ x. P n x) is new))
         (λ differ. old m other differ (sym (insert_other g.nodes n.0 m.0 node differ) ∙ there)) where
-      some_same : (o : Option GraphNode) (a b : GraphNode) → o ≡ Some a → o ≡ Some b → a ≡ b
-      some_same o a b p q = cc
+          some_same : (o : Option GraphNode) (a b : GraphNode) → o ≡ Some a → o ≡ Some b → a ≡ b
+          some_same o a b p q = cc
 
     old_instance : (edges : set.FinSet edge_cmp) (other : GraphNode) → IsInstance g other → IsInstance (with_node edges) other
     old_instance edges other i = record { id = i.id; parts = i.parts; owned = i.owned; registered = i.registered; typed = i.typed }
@@ -215,36 +226,45 @@ module _ (g : Graph) (s : IsSound g) where
           held = each_node (λ _ other. holds_type g.types (kind_type other.item_kind) ≡ true) held (λ m other _ there. s.held m other there);
           instances = each_node (λ _ other. other.kind ≡ graph.instantiation → IsInstance (with_node more) other) (λ wrong. absurd (two_kinds wrong kind)) (λ m other _ there is. old_instance more other (s.instances m other there is));
           aliases = each_node (λ m other. other.kind ≡ graph.alias → IsAlias (with_node more) m other)
-            (λ _. record { instance = instance; source = source; position = position; name = name;
-              aliased = new_edge g.edges (alias_edge instance.0 n.0 position); there = insert_other g.nodes n.0 instance.0 node (is_other instance (some_is (node_at g instance) source there)) ∙ there; exported = exported })
-            (λ m other _ other_there is. old_alias more (kept_edge g.edges (alias_edge instance.0 n.0 position)) m other (s.aliases m other other_there is));
+              (λ _. record {
+                instance = instance;
+                source = source;
+                position = position;
+                name = name;
+                aliased = new_edge g.edges (alias_edge instance.0 n.0 position);
+                there = insert_other g.nodes n.0 instance.0 node (is_other instance (some_is (node_at g instance) source there)) ∙ there;
+                exported = exported;
+              })
+              (λ m other _ other_there is. old_alias more (kept_edge g.edges (alias_edge instance.0 n.0 position)) m other (s.aliases m other other_there is));
           one_source = λ m x y i j p q. one m x y i j (added_edge g.edges (alias_edge instance.0 n.0 position) (alias_edge x.0 m.0 i) p) (added_edge g.edges (alias_edge instance.0 n.0 position) (alias_edge y.0 m.0 j) q);
           packages = s.packages;
         } where
-      new : Edge
-      new = alias_edge instance.0 n.0 position
+          new : Edge
+          new = alias_edge instance.0 n.0 position
 
-      two_kinds : {k : graph.Kind} → k ≡ graph.instantiation → k ≡ graph.alias → ⊥
-      two_kinds a b = cc
+          two_kinds : {k : graph.Kind} → k ≡ graph.instantiation → k ≡ graph.alias → ⊥
+          two_kinds a b = cc
 
-      ends : (e : Edge) → (e ≡ alias_edge instance.0 n.0 position) ⊎ (set.contains g.edges e ≡ true) → IsSome (map.get (map.insert g.nodes n.0 node) e.source) × IsSome (map.get (map.insert g.nodes n.0 node) e.target)
-      ends e (inl is) = (rw is (still_there instance (some_is (node_at g instance) source there)), rw is now_there)
-      ends e (inr was) = let h = s.ends e was in (still_there (record { 0 = e.source }) h.0, still_there (record { 0 = e.target }) h.1)
+          ends : (e : Edge) → (e ≡ alias_edge instance.0 n.0 position) ⊎ (set.contains g.edges e ≡ true) → IsSome (map.get (map.insert g.nodes n.0 node) e.source) × IsSome (map.get (map.insert g.nodes n.0 node) e.target)
+          ends e (inl is) = (rw is (still_there instance (some_is (node_at g instance) source there)), rw is now_there)
+          ends e (inr was) = let h = s.ends e was in (still_there (record { 0 = e.source }) h.0, still_there (record { 0 = e.target }) h.1)
 
-      -- the new node had no edges
-      none_before : (x : NodeId) (i : ℕ) → set.contains g.edges (alias_edge x.0 n.0 i) ≡ true → ⊥
-      none_before x i h = there_or_not (node_at g n) vacant (s.ends (alias_edge x.0 n.0 i) h).1
+          -- the new node had no edges
+          none_before : (x : NodeId) (i : ℕ) → set.contains g.edges (alias_edge x.0 n.0 i) ≡ true → ⊥
+          none_before x i h = there_or_not (node_at g n) vacant (s.ends (alias_edge x.0 n.0 i) h).1
 
-      parts : (x m : NodeId) (i : ℕ) → alias_edge x.0 m.0 i ≡ alias_edge instance.0 n.0 position → (x ≡ instance) × (m ≡ n) × (i ≡ position)
-      parts x m i is =
-          (ap (λ (e : Edge). let k : NodeId = record { 0 = e.source } in k) is, ap (λ (e : Edge). let k : NodeId = record { 0 = e.target } in k) is,
-            let labels : label.Alias i ≡ label.Alias position = ap (λ (e : Edge). e.label) is in cc)
+          parts : (x m : NodeId) (i : ℕ) → alias_edge x.0 m.0 i ≡ alias_edge instance.0 n.0 position → (x ≡ instance) × (m ≡ n) × (i ≡ position)
+          parts x m i is = (
+            ap (λ (e : Edge). let k : NodeId = record { 0 = e.source } in k) is,
+            ap (λ (e : Edge). let k : NodeId = record { 0 = e.target } in k) is,
+            let labels : label.Alias i ≡ label.Alias position = ap (λ (e : Edge). e.label) is in cc,
+          )
 
-      one : (m x y : NodeId) (i j : ℕ) → (alias_edge x.0 m.0 i ≡ alias_edge instance.0 n.0 position) ⊎ (set.contains g.edges (alias_edge x.0 m.0 i) ≡ true) → (alias_edge y.0 m.0 j ≡ alias_edge instance.0 n.0 position) ⊎ (set.contains g.edges (alias_edge y.0 m.0 j) ≡ true) → (x ≡ y) × (i ≡ j)
-      one m x y i j (inl p) (inl q) = let a = parts x m i p in let b = parts y m j q in (a.0 ∙ sym b.0, a.2 ∙ sym b.2)
-      one m x y i j (inl p) (inr q) = let a = parts x m i p in absurd (none_before y j (ap (λ (k : NodeId). set.contains g.edges (alias_edge y.0 k.0 j)) (sym a.1) ∙ q))
-      one m x y i j (inr p) (inl q) = let a = parts y m j q in absurd (none_before x i (ap (λ (k : NodeId). set.contains g.edges (alias_edge x.0 k.0 i)) (sym a.1) ∙ p))
-      one m x y i j (inr p) (inr q) = s.one_source m x y i j p q
+          one : (m x y : NodeId) (i j : ℕ) → (alias_edge x.0 m.0 i ≡ alias_edge instance.0 n.0 position) ⊎ (set.contains g.edges (alias_edge x.0 m.0 i) ≡ true) → (alias_edge y.0 m.0 j ≡ alias_edge instance.0 n.0 position) ⊎ (set.contains g.edges (alias_edge y.0 m.0 j) ≡ true) → (x ≡ y) × (i ≡ j)
+          one m x y i j (inl p) (inl q) = let a = parts x m i p in let b = parts y m j q in (a.0 ∙ sym b.0, a.2 ∙ sym b.2)
+          one m x y i j (inl p) (inr q) = let a = parts x m i p in absurd (none_before y j (ap (λ (k : NodeId). set.contains g.edges (alias_edge y.0 k.0 j)) (sym a.1) ∙ q))
+          one m x y i j (inr p) (inl q) = let a = parts y m j q in absurd (none_before x i (ap (λ (k : NodeId). set.contains g.edges (alias_edge x.0 k.0 i)) (sym a.1) ∙ p))
+          one m x y i j (inr p) (inr q) = s.one_source m x y i j p q
 
   -- a node is exported by a further name
   pub sound_export : (n : NodeId) (node : GraphNode) (name : Name) → node_at g n ≡ Some node → IsSound (record g { nodes = map.insert g.nodes n.0 (record node { export_name = Some name }); exports = g.exports ++ (name, n) ∷ [] })
@@ -254,9 +274,9 @@ module _ (g : Graph) (s : IsSound g) where
     held = λ m other at. let (was, had, _, same, _) = before m other at in ap (λ k. holds_type g.types (kind_type k)) same ∙ s.held m was had;
     instances = λ m other at is. let (was, had, kinds, same, owners) = before m other at in let i = s.instances m was had (sym kinds ∙ is) in record { id = i.id; parts = i.parts; owned = owners ∙ i.owned; registered = i.registered; typed = same ∙ i.typed };
     aliases = λ m other at is.
-      let (was, had, kinds, same, owners) = before m other at in
-      let a = s.aliases m was had (sym kinds ∙ is) in
-      alias m other a same (after a.instance a.source a.there);
+        let (was, had, kinds, same, owners) = before m other at in
+        let a = s.aliases m was had (sym kinds ∙ is) in
+        alias m other a same (after a.instance a.source a.there);
     one_source = s.one_source;
     packages = s.packages;
   } where
@@ -276,15 +296,18 @@ module _ (g : Graph) (s : IsSound g) where
     before : (m : NodeId) (other : GraphNode) → map.get (map.insert g.nodes n.0 (record node { export_name = Some name })) m.0 ≡ Some other → (was : GraphNode) × (node_at g m ≡ Some was) × (other.kind ≡ was.kind) × (other.item_kind ≡ was.item_kind) × (other.owner ≡ was.owner)
     before m other at = by_eq m.0 n.0
         (λ same.
-          let is : other ≡ record node { export_name = Some name } = some_same (map.get (map.insert g.nodes n.0 (record node { export_name = Some name })) n.0) other (record node { export_name = Some name }) (ap (map.get (map.insert g.nodes n.0 (record node { export_name = Some name }))) (sym same) ∙ at) (insert_same g.nodes n.0 (record node { export_name = Some name })) in
-          (node, ap (map.get g.nodes) same ∙ there, ap (λ x. x.kind) is, ap (λ x. x.item_kind) is, ap (λ x. x.owner) is))
+        let is : other ≡ record node { export_name = Some name } = some_same (map.get (map.insert g.nodes n.0 (record node { export_name = Some name })) n.0) other (record node { export_name = Some name }) (ap (map.get (map.insert g.nodes n.0 (record node { export_name = Some name }))) (sym same) ∙ at) (insert_same g.nodes n.0 (record node { export_name = Some name })) in
+        (node, ap (map.get g.nodes) same ∙ there, ap (λ x. x.kind) is, ap (λ x. x.item_kind) is, ap (λ x. x.owner) is))
         (λ differ. (other, sym (insert_other g.nodes n.0 m.0 (record node { export_name = Some name }) differ) ∙ at, refl, refl, refl))
 
     -- what a node is
     after : (m : NodeId) (was : GraphNode) → node_at g m ≡ Some was → (is : GraphNode) × (map.get (map.insert g.nodes n.0 (record node { export_name = Some name })) m.0 ≡ Some is) × (is.item_kind ≡ was.item_kind)
     after m was had = by_eq m.0 n.0
-        (λ same. (record node { export_name = Some name }, ap (map.get (map.insert g.nodes n.0 (record node { export_name = Some name }))) same ∙ insert_same g.nodes n.0 (record node { export_name = Some name }),
-          ap (λ x. x.item_kind) (some_same (node_at g m) node was (ap (map.get g.nodes) same ∙ there) had)))
+        (λ same. (
+          record node { export_name = Some name },
+          ap (map.get (map.insert g.nodes n.0 (record node { export_name = Some name }))) same ∙ insert_same g.nodes n.0 (record node { export_name = Some name }),
+          ap (λ x. x.item_kind) (some_same (node_at g m) node was (ap (map.get g.nodes) same ∙ there) had),
+        ))
         (λ differ. (was, insert_other g.nodes n.0 m.0 (record node { export_name = Some name }) differ ∙ had, refl))
 
     alias : (m : NodeId) (other : GraphNode) {was : GraphNode} (a : IsAlias g m was) → other.item_kind ≡ was.item_kind → (is : GraphNode) × (map.get (map.insert g.nodes n.0 (record node { export_name = Some name })) (a.instance).0 ≡ Some is) × (is.item_kind ≡ (a.source).item_kind)

@@ -1,44 +1,33 @@
 -- What a call leaves in the fields is a step of the graph.
-use Rattle.std.proofs.Common.{◌≡◌, ◌≢◌, ℕ, ◌+◌, ◌<◌, Bool, true, false, cond, List, [], ◌∷◌, ◌++◌, map as map_list, length, refl, ap, ◌∙◌, sym, subst, arith, Option, Some, None, IfSome, IsSome, is_some, IsSomeAnd, Ok, Err, Result, String, Global, string_bytes, Vec, get_or, inl, inr, ◌⊎◌}
-use Rattle.std.specs.Prelude.{slice_get}
-use Rattle.std.specs.Option.{option_map, option_and_then}
+use Rattle.std.proofs.Common.{◌≡◌, ℕ, List, [], ◌∷◌, ◌++◌, length, ap, ◌∙◌, sym, subst, Option, Some, None, IfSome, Ok, Global, Vec}
+use Rattle.std.specs.Option.{option_map}
 use Rattle.std.specs.Map.{lookup}
-use Rattle.std.specs.Str.{bytes_eq}
-use Rattle.std.specs.String.{string_eq}
-use Rattle.std.specs.Ordering.{nat_cmp}
-use Rattle.std.specs.FinMap as map
-use Rattle.std.specs.FinSet as set
 use Rattle.std.specs.HashMap.{HashMap}
 use Rattle.std.specs.declared.hash.FoldHasher.{FoldHasher}
 use Rattle.std.specs.declared.hash.BuildHasherDefault.{BuildHasherDefault}
-use Rattle.indexmap.specs.IndexMap.{insert_entry}
-use Rattle.slab.specs.Slab.{Slab, get, Updates, with_value}
-use Rattle.slab.proofs.SlabLemmas.{Updates-with_value}
-use Rattle.wac_types.specs.Name.{Name}
+use Rattle.slab.specs.Slab.{Slab, get, Updates}
 use Rattle.wac_types.specs.Package.{PackageParts, Key, same_key}
 use Rattle.wac_types.specs.KeyLaws.{same_key-true}
-use Rattle.wac_types.specs.declared.component.ItemKind.{ItemKind}
 use Rattle.wac_types.specs.declared.component.ItemKind.TheVariants.{Instance}
 use Rattle.wac_types.specs.declared.component.InterfaceId.{InterfaceId}
 use Rattle.wac_graph.specs.declared.node.Node.{Node}
-use Rattle.wac_graph.specs.declared.node.NodeKind.{NodeKind}
-use Rattle.wac_graph.specs.declared.node.NodeId.{NodeId}
 use Rattle.wac_graph.specs.declared.packages.PackageId.{PackageId}
 use Rattle.wac_graph.specs.declared.packages.Slot.{Slot}
 use Rattle.wac_graph.specs.declared.graph.CompositionGraph.TheInside.{Inside}
-use Rattle.wac_graph.specs.Edge.{edge_cmp, alias_edge, argument_edge}
 use Rattle.wac_graph.specs.Graph as graph
 use Rattle.wac_graph.specs.Graph.{Graph, GraphNode, node_at, package_at, package_in, exports_of, IsRegistered}
-use Rattle.wac_graph.specs.Inside.{node_of, nodes_of, graph_of, Invariant, key_of}
-use Rattle.wac_graph.specs.Steps.{AddsNode, Instantiates, instance_node, Registers, Exports}
-use Rattle.wac_graph.proofs.NodeLemmas.{get-nodes_of, nodes_of-insert, text_pair, text_last, lookup_text}
+use Rattle.wac_graph.specs.Inside.{node_of, graph_of, Invariant, key_of}
+use Rattle.wac_graph.specs.Steps.{AddsNode, Instantiates, instance_node, Registers}
+use Rattle.wac_graph.proofs.NodeLemmas.{get-nodes_of, nodes_of-insert}
 
 -- a slab with one node more is a graph with one node more
 pub adds_node : (a : Inside) (nodes : Slab Node) (n : ℕ) (node : Node) → n ≡ a.nodes.vacant_key → get a.nodes n ≡ None → Updates a.nodes nodes n (Some node)
     → AddsNode (graph_of a) (record { 0 = n }) (node_of node) (graph_of (record a { nodes = nodes }))
-adds_node a nodes n node next vacant u =
-    (next, get-nodes_of a.nodes.slots n ∙ ap (option_map node_of) vacant,
-    ap (λ ns. record (graph_of a) { nodes = ns; next = nodes.vacant_key }) (nodes_of-insert a.nodes nodes n node u))
+adds_node a nodes n node next vacant u = (
+  next,
+  get-nodes_of a.nodes.slots n ∙ ap (option_map node_of) vacant,
+  ap (λ ns. record (graph_of a) { nodes = ns; next = nodes.vacant_key }) (nodes_of-insert a.nodes nodes n node u),
+)
 
 abbrev pub instance_with : PackageId → InterfaceId → GraphNode
 instance_with id i = record { kind = graph.instantiation; item_kind = Instance i; owner = Some id; name = None; export_name = None }
@@ -57,9 +46,11 @@ instantiated a nodes n id p node shape at next vacant u =
 pub registered : (a : Inside) (v : Invariant a) (p : PackageParts) (names : HashMap Key PackageId (BuildHasherDefault FoldHasher)) (slots : Vec Slot Global) (id : PackageId) → lookup (same_key (key_of p)) a.package_map.entries ≡ None
     → slots.items ≡ a.slots.items ++ record { generation = 0; «package» = Some p } ∷ [] → id ≡ record { slot = length a.slots.items; generation = 0 }
     → Registers (graph_of a) p (Ok id) (graph_of (record a { package_map = names; slots = slots }))
-registered a v p names slots id absent grown new =
-    (λ other (q, at, same). none_some (lookup (same_key (key_of p)) a.package_map.entries) other absent (ap (λ (k : Key). lookup (same_key k) a.package_map.entries) (sym same) ∙ v.keyed other q at),
-      new, ap (λ (xs : List Slot). record (graph_of a) { slots = xs }) grown) where
+registered a v p names slots id absent grown new = (
+  λ other (q, at, same). none_some (lookup (same_key (key_of p)) a.package_map.entries) other absent (ap (λ (k : Key). lookup (same_key k) a.package_map.entries) (sym same) ∙ v.keyed other q at),
+  new,
+  ap (λ (xs : List Slot). record (graph_of a) { slots = xs }) grown,
+) where
   none_some : (o : Option PackageId) (x : PackageId) → o ≡ None → o ≡ Some x → ⊥
   none_some o x p q = cc
 

@@ -1,21 +1,20 @@
 -- What each node of a graph stands for exists where the nodes can be written in an order.
-use Rattle.std.proofs.Common.{◌≡◌, ◌≢◌, ℕ, zero, suc, ◌+◌, ◌<◌, Bool, true, false, not, ◌&&◌, ◌||◌, cond, List, [], ◌∷◌, ◌++◌, length, refl, ap, ◌∙◌, sym, subst, arith, append_assoc, eqb, Option, Some, None, IsSome, ◌⊎◌, inl, inr}
-use Rattle.std.specs.List.{list_any, filter}
+use Rattle.std.proofs.Common.{◌≡◌, ℕ, Bool, true, false, not, cond, List, [], ◌∷◌, ◌++◌, length, refl, ap, ◌∙◌, sym, subst, append_assoc, eqb, Option, Some, None, IsSome, ◌⊎◌, inl, inr}
+use Rattle.std.specs.List.{filter}
 use Rattle.std.specs.Prelude.{slice_get}
 use Rattle.std.specs.FinSet as set
 use Rattle.std.proofs.lemmas.List.{append-nil}
 use Rattle.std.proofs.lemmas.List.Elements.{filter-append}
-use Rattle.wac_types.specs.Name.{Name, option_case}
-use Rattle.wac_binary.specs.Meaning.{Thing, nothing, import_at, instance_at, component_at, projection}
+use Rattle.wac_types.specs.Name.{option_case}
+use Rattle.wac_binary.specs.Meaning.{Thing, nothing, instance_at, projection}
 use Rattle.wac_graph.specs.declared.edges.Edge.{Edge}
-use Rattle.wac_graph.specs.declared.node.NodeId.{NodeId}
 use Rattle.wac_graph.specs.Edge.{alias_edge}
 use Rattle.wac_graph.specs.Graph as graph
 use Rattle.wac_graph.specs.Graph.{Graph, GraphNode, Kind, node_at}
 use Rattle.wac_graph.specs.Sound.{IsSound}
-use Rattle.wac_graph.specs.Order.{Writes, IsLowestReady, IsDone, without}
+use Rattle.wac_graph.specs.Order.{Writes, IsLowestReady}
 use Rattle.wac_graph.specs.Means.{node_number, node_is, is_import, is_instantiation, is_written, instantiations, IsThing, as_import, as_instantiation, as_alias}
-use Rattle.wac_graph.proofs.WrittenOrder.{has, minus, minus-push, minus-false, minus-true, has-push, eqb_same, apart, in_push, still_in, now_in, all_in, slice_get-middle}
+use Rattle.wac_graph.proofs.WrittenOrder.{has, minus, minus-push, minus-false, minus-true, eqb_same, apart, in_push, still_in, all_in, slice_get-middle}
 
 -- every node is an instantiation or an alias
 abbrev pub IsPlain : Graph → Type 0
@@ -105,23 +104,25 @@ module _ (g : Graph) (sound : IsSound g) (plain : IsPlain g) where
     one_more done rest n at e ready good =
         let here = minus-true (is_written g) done n ready.here in
         let (node, there) = node_of_written n here.0 in
-        let (t, is) = next_thing done rest n node at e ready there in
-        (put_at at n t, record {
-          things = λ m other within other_there. things t node there is m other other_there (in_push done n m within);
-          closed = λ edge stands within. closed edge stands (in_push done n edge.target within);
-        }) where
-      absent : has done n ≡ false
-      absent = (minus-true (is_written g) done n ready.here).1
+        let (t, is) = next_thing done rest n node at e ready there in (
+          put_at at n t,
+          record {
+            things = λ m other within other_there. things t node there is m other other_there (in_push done n m within);
+            closed = λ edge stands within. closed edge stands (in_push done n edge.target within);
+          },
+        ) where
+          absent : has done n ≡ false
+          absent = (minus-true (is_written g) done n ready.here).1
 
-      things : (t : Thing) (node : GraphNode) → node_at g (node_number n) ≡ Some node → IsThing g (put_at at n t) order n node → (m : ℕ) (other : GraphNode) → node_at g (node_number m) ≡ Some other → (m ≡ n) ⊎ (has done m ≡ true) → IsThing g (put_at at n t) order m other
-      things t node there is m other other_there (inl same) =
-          let e : node ≡ other = same_node n node other there (ap (λ k. node_at g (node_number k)) (sym same) ∙ other_there) in
-          subst (λ k. IsThing g (put_at at n t) order k other) (sym same) (subst (λ x. IsThing g (put_at at n t) order n x) e is)
-      things t node there is m other other_there (inr before) = kept done at n t good absent m other before (good.things m other before other_there)
+          things : (t : Thing) (node : GraphNode) → node_at g (node_number n) ≡ Some node → IsThing g (put_at at n t) order n node → (m : ℕ) (other : GraphNode) → node_at g (node_number m) ≡ Some other → (m ≡ n) ⊎ (has done m ≡ true) → IsThing g (put_at at n t) order m other
+          things t node there is m other other_there (inl same) =
+              let e : node ≡ other = same_node n node other there (ap (λ k. node_at g (node_number k)) (sym same) ∙ other_there) in
+              subst (λ k. IsThing g (put_at at n t) order k other) (sym same) (subst (λ x. IsThing g (put_at at n t) order n x) e is)
+          things t node there is m other other_there (inr before) = kept done at n t good absent m other before (good.things m other before other_there)
 
-      closed : (edge : Edge) → set.contains g.edges edge ≡ true → (edge.target ≡ n) ⊎ (has done edge.target ≡ true) → has (done ++ n ∷ []) edge.source ≡ true
-      closed edge stands (inl same) = still_in done n edge.source (ready_sources done n ready edge stands same)
-      closed edge stands (inr before) = still_in done n edge.source (good.closed edge stands before)
+          closed : (edge : Edge) → set.contains g.edges edge ≡ true → (edge.target ≡ n) ⊎ (has done edge.target ≡ true) → has (done ++ n ∷ []) edge.source ≡ true
+          closed edge stands (inl same) = still_in done n edge.source (ready_sources done n ready edge stands same)
+          closed edge stands (inr before) = still_in done n edge.source (good.closed edge stands before)
 
     all_more : (rest done : List ℕ) (at : ℕ → Thing) → order ≡ done ++ rest → Writes g.edges (minus (is_written g) done) rest → Good done at → (after : ℕ → Thing) × Good order after
     all_more [] done at e stop good = (at, subst (λ xs. Good xs at) (sym (e ∙ rw append-nil refl)) good)

@@ -1,5 +1,5 @@
 -- What is written of a graph after some of its nodes.
-use Rattle.std.proofs.Common.{◌≡◌, ◌≢◌, ℕ, zero, suc, ◌+◌, ◌<◌, ◌≤◌, Bool, true, false, not, ◌&&◌, ◌||◌, cond, List, [], ◌∷◌, ◌++◌, length, map, refl, ap, ◌∙◌, sym, subst, arith, append_assoc, eqb, Option, Some, None, IsSome, ◌⊎◌, inl, inr}
+use Rattle.std.proofs.Common.{◌≡◌, ℕ, zero, suc, ◌<◌, Bool, true, false, not, ◌||◌, cond, List, [], ◌∷◌, ◌++◌, length, map, refl, ap, ◌∙◌, sym, subst, arith, append_assoc, eqb, Option, Some, None, ◌⊎◌, inl, inr}
 use Rattle.std.specs.List.{list_any, filter}
 use Rattle.std.specs.Prelude.{slice_get}
 use Rattle.std.specs.FinSet as set
@@ -11,9 +11,9 @@ use Rattle.wac_types.specs.declared.component.ItemKind.{ItemKind}
 use Rattle.wac_types.specs.declared.component.ItemKind.TheVariants as item
 use Rattle.wac_binary.specs.declared.sorts.Sort.{Sort}
 use Rattle.wac_binary.specs.declared.sorts.Sort.TheVariants as sort
-use Rattle.wac_binary.specs.Items.{Item, nested, instantiate, alias_item, export_alias, export_item}
+use Rattle.wac_binary.specs.Items.{Item, nested, instantiate, alias_item, export_alias}
 use Rattle.wac_binary.specs.Indexes.{space, indexes, is_in, adds, sort_added}
-use Rattle.wac_binary.specs.Meaning.{Thing, nothing, import_at, instance_at, component_at, projection, projected, Root, Instantiation, things, thing_at, stands_for, meaning}
+use Rattle.wac_binary.specs.Meaning.{Thing, instance_at, component_at, projection, projected, Instantiation, things, stands_for, meaning}
 use Rattle.wac_graph.specs.declared.edges.Edge.{Edge}
 use Rattle.wac_graph.specs.declared.node.NodeId.{NodeId}
 use Rattle.wac_graph.specs.declared.packages.PackageId.{PackageId}
@@ -21,12 +21,12 @@ use Rattle.wac_graph.specs.Edge.{alias_edge, argument_edge}
 use Rattle.wac_graph.specs.Graph as graph
 use Rattle.wac_graph.specs.Graph.{Graph, GraphNode, Kind, node_at, package_at, imports_of, exports_of, IsAliasOf, IsArgumentOf}
 use Rattle.wac_graph.specs.Sound.{IsSound}
-use Rattle.wac_graph.specs.Order.{Writes, IsLowestReady, without}
+use Rattle.wac_graph.specs.Order.{Writes, IsLowestReady}
 use Rattle.wac_graph.specs.Means.{node_number, node_is, is_import, is_instantiation, is_written, instantiations, IsThing, as_import, as_instantiation, as_alias, sort_of_kind, same_package, with_package, used_after, used_packages, package_bytes, IsArgument, given, AreArguments, IsInstantiationOf, AreInstantiations, HasItem, is_own_item}
-use Rattle.wac_graph.specs.Encoding.{HasComponent, IsArgumentItem, AreArgumentItems, Adds, adds_instantiation, adds_alias}
-use Rattle.wac_graph.proofs.WrittenOrder.{has, minus, minus-push, minus-true, has-push, eqb_same, apart, in_push, still_in, now_in, slice_get-middle, written_left, only_place, has-filter}
+use Rattle.wac_graph.specs.Encoding.{HasComponent, IsArgumentItem, AreArgumentItems}
+use Rattle.wac_graph.proofs.WrittenOrder.{has, minus, minus-true, eqb_same, apart, in_push, now_in, slice_get-middle, written_left, only_place, has-filter}
 use Rattle.wac_graph.proofs.ThingLemmas.{IsPlain, ready_sources}
-use Rattle.wac_graph.proofs.MeaningLemmas.{rest, meaning-push, alias_stands, alias_rest, alias_components, nested_bytes_more, nested_stands, instantiations_more, instance_stands, made_of, indexes-push}
+use Rattle.wac_graph.proofs.MeaningLemmas.{alias_stands, alias_rest, nested_bytes_more, nested_stands, instantiations_more, instance_stands, made_of, indexes-push}
 
 -- how the laws of items are passed
 abbrev pub Counted : Type 0
@@ -166,27 +166,29 @@ module _ (counted : Counted) (earlier : Earlier) (g : Graph) (sound : IsSound g)
           own = λ n node here there. HasItem-push items (nested (package_bytes g id)) node (index n) (w.place n) (w.own n node here there);
           in_place = w.in_place;
         } where
-      numbers : length (meaning items).nested_bytes ≡ length components → (k : ℕ) (e : PackageId × ℕ)
-          → (slice_get components k ≡ Some e) ⊎ ((k ≡ length components) × (e ≡ (id, indexes (space sort.Component) items)))
-          → (e.1 ≡ k) × (stands_for (meaning (items ++ nested (package_bytes g id) ∷ [])) sort.Component k ≡ component_at k)
-      numbers many k e (inl before) =
-          let n = w.numbers k e before in
-          let small : k < indexes (space sort.Component) items = let s = slice_get_within components k e before in omega (arith, w.count) in
-          (n.0, earlier items (nested (package_bytes g id) ∷ []) sort.Component k small ∙ n.1)
-      numbers many k e (inr (last, is)) =
-          (ap (λ x. x.1) is ∙ w.count ∙ sym last,
-            nested_stands items (package_bytes g id) k (last ∙ sym w.count ∙ sym (counted items sort.Component)) ∙ ap component_at (many ∙ sym last))
+          numbers : length (meaning items).nested_bytes ≡ length components → (k : ℕ) (e : PackageId × ℕ)
+              → (slice_get components k ≡ Some e) ⊎ ((k ≡ length components) × (e ≡ (id, indexes (space sort.Component) items)))
+              → (e.1 ≡ k) × (stands_for (meaning (items ++ nested (package_bytes g id) ∷ [])) sort.Component k ≡ component_at k)
+          numbers many k e (inl before) =
+              let n = w.numbers k e before in
+              let small : k < indexes (space sort.Component) items = let s = slice_get_within components k e before in omega (arith, w.count) in
+              (n.0, earlier items (nested (package_bytes g id) ∷ []) sort.Component k small ∙ n.1)
+          numbers many k e (inr (last, is)) = (
+            ap (λ x. x.1) is ∙ w.count ∙ sym last,
+            nested_stands items (package_bytes g id) k (last ∙ sym w.count ∙ sym (counted items sort.Component)) ∙ ap component_at (many ∙ sym last),
+          )
 
   -- the component of a package, which is written where it was not
   pub with_component : (done : List ℕ) (used : List PackageId) (items mid : List Item) (components after : List (PackageId × ℕ)) (index : ℕ → ℕ) (id : PackageId) (c : ℕ)
-      → Written done used items components index → HasComponent g id c components after items mid
+      → Written done used items components index → HasComponent (package_bytes g id) id c components after items mid
       → Written done (with_package used (Some id)) mid after index × ((k : ℕ) × (slice_get (with_package used (Some id)) k ≡ Some id) × (stands_for (meaning mid) sort.Component c ≡ component_at k))
   with_component done used items mid components after index id c w (inl (k, at_k, same, kept)) =
       let there : slice_get used k ≡ Some id = ap (λ us. slice_get us k) (sym w.packages) ∙ slice_get-map (λ e. e.0) components k (id, c) at_k in
       let is : with_package used (Some id) ≡ used = ap (λ b. cond b used (used ++ id ∷ [])) (any_package id used k there) in
-      let n = w.numbers k (id, c) at_k in
-      (subst (λ us. Written done us mid after index) (sym is) (subst (λ cs. Written done used mid cs index) (sym same) (subst (λ its. Written done used its components index) (sym kept) w)),
-        (k, ap (λ us. slice_get us k) is ∙ there, ap (λ its. stands_for (meaning its) sort.Component c) kept ∙ ap (stands_for (meaning items) sort.Component) n.0 ∙ n.1))
+      let n = w.numbers k (id, c) at_k in (
+        subst (λ us. Written done us mid after index) (sym is) (subst (λ cs. Written done used mid cs index) (sym same) (subst (λ its. Written done used its components index) (sym kept) w)),
+        (k, ap (λ us. slice_get us k) is ∙ there, ap (λ its. stands_for (meaning its) sort.Component c) kept ∙ ap (stands_for (meaning items) sort.Component) n.0 ∙ n.1),
+      )
   with_component done used items mid components after index id c w (inr (absent, number, grown, added)) =
       let none : list_any (same_package id) used ≡ false = ap (list_any (same_package id)) (sym w.packages) ∙ sym (any_first id components) ∙ absent in
       let is : with_package used (Some id) ≡ used ++ id ∷ [] = ap (λ b. cond b used (used ++ id ∷ [])) none in
@@ -194,13 +196,16 @@ module _ (counted : Counted) (earlier : Earlier) (g : Graph) (sound : IsSound g)
       let place = length components in
       let last : slice_get (components ++ (id, indexes (space sort.Component) items) ∷ []) (length components) ≡ Some (id, indexes (space sort.Component) items) = slice_get-middle components (id, indexes (space sort.Component) items) [] in
       let n = more.numbers (length components) (id, indexes (space sort.Component) items) last in
-      let long : length used ≡ length components = ap length (sym w.packages) ∙ length-map components (λ e. e.0) in
-      (subst (λ us. Written done us mid after index) (sym is)
-        (subst (λ cs. Written done (used ++ id ∷ []) mid cs index) (sym (grown ∙ ap (λ j. components ++ (id, j) ∷ []) number))
-          (subst (λ its. Written done (used ++ id ∷ []) its (components ++ (id, indexes (space sort.Component) items) ∷ []) index) (sym added) more)),
-        (length components,
+      let long : length used ≡ length components = ap length (sym w.packages) ∙ length-map components (λ e. e.0) in (
+        subst (λ us. Written done us mid after index) (sym is)
+            (subst (λ cs. Written done (used ++ id ∷ []) mid cs index) (sym (grown ∙ ap (λ j. components ++ (id, j) ∷ []) number))
+            (subst (λ its. Written done (used ++ id ∷ []) its (components ++ (id, indexes (space sort.Component) items) ∷ []) index) (sym added) more)),
+        (
+          length components,
           ap (λ us. slice_get us (length components)) is ∙ ap (slice_get (used ++ id ∷ [])) (sym long) ∙ slice_get-middle used id [],
-          ap (λ its. stands_for (meaning its) sort.Component c) added ∙ ap (stands_for (meaning (items ++ nested (package_bytes g id) ∷ [])) sort.Component) (number ∙ n.0) ∙ n.1))
+          ap (λ its. stands_for (meaning its) sort.Component c) added ∙ ap (stands_for (meaning (items ++ nested (package_bytes g id) ∷ [])) sort.Component) (number ∙ n.0) ∙ n.1,
+        ),
+      )
 
   -- what a node stands for is something
   projected_thing : (m : ℕ) (node : GraphNode) (name : Name) → IsThing g at order m node → projected (at m) name ≡ projection (at m) name
@@ -256,16 +261,17 @@ module _ (counted : Counted) (earlier : Earlier) (g : Graph) (sound : IsSound g)
         → (place : ℕ → ℕ)
         × ((m : ℕ) (other : GraphNode) → has (done ++ n ∷ []) m ≡ true → node_at g (node_number m) ≡ Some other → HasItem (items ++ x ∷ []) other (index' m) (place m))
         × ((a b k m : ℕ) → a < b → slice_get (done ++ n ∷ []) a ≡ Some k → slice_get (done ++ n ∷ []) b ≡ Some m → place k < place m)
-    placed used items components w x own sorted counts =
-        (place' w.place (length items),
-          each (λ m other. HasItem (items ++ x ∷ []) other (index' m) (place' w.place (length items) m))
-            (λ m other was other_there.
-              let apart_ = apart done m n was absent in
-              subst (λ k. HasItem (items ++ x ∷ []) other (index' m) k) (sym (place-other w.place (length items) m apart_))
-                (subst (λ k. HasItem (items ++ x ∷ []) other k (w.place m)) (sym (others m apart_)) (HasItem-push items x other (index m) (w.place m) (w.own m other was other_there))))
-            (subst (λ k. HasItem (items ++ x ∷ []) node (index' n) k) (sym (place-here w.place (length items)))
-              (record { it = x; before = items; after = []; split = refl; here = refl; own = own; adds = sorted; counted = now ∙ counts })),
-          λ a b k m less at_a at_b. rising a b k m less (slice_get-push done n a k at_a) (slice_get-push done n b m at_b)) where
+    placed used items components w x own sorted counts = (
+      place' w.place (length items),
+      each (λ m other. HasItem (items ++ x ∷ []) other (index' m) (place' w.place (length items) m))
+          (λ m other was other_there.
+          let apart_ = apart done m n was absent in
+          subst (λ k. HasItem (items ++ x ∷ []) other (index' m) k) (sym (place-other w.place (length items) m apart_))
+          (subst (λ k. HasItem (items ++ x ∷ []) other k (w.place m)) (sym (others m apart_)) (HasItem-push items x other (index m) (w.place m) (w.own m other was other_there))))
+          (subst (λ k. HasItem (items ++ x ∷ []) node (index' n) k) (sym (place-here w.place (length items)))
+          (record { it = x; before = items; after = []; split = refl; here = refl; own = own; adds = sorted; counted = now ∙ counts })),
+      λ a b k m less at_a at_b. rising a b k m less (slice_get-push done n a k at_a) (slice_get-push done n b m at_b),
+    ) where
       within : (k : ℕ) → has done k ≡ true → w.place k < length items
       within k was = bound (node_at g (node_number k)) refl where
         bound : (o : Option GraphNode) → node_at g (node_number k) ≡ o → w.place k < length items
@@ -311,52 +317,53 @@ module _ (counted : Counted) (earlier : Earlier) (g : Graph) (sound : IsSound g)
           count = indexes-push (space sort.Component) items x ∙ (let apart_ = kind_sort_apart node.item_kind in omega (arith, w.count));
           numbers = λ j e at_j. let c = w.numbers j e at_j in (c.0, earlier items (x ∷ []) sort.Component j (let s = slice_get_within components j e at_j in omega (arith, w.count)) ∙ c.1);
           made = subst (λ ns. AreInstantiations g at order ns (meaning (items ++ x ∷ [])).instantiations) (sym (instantiations-push false (kind_test false (ap is_instantiation kind)) ∙ rw append-nil refl))
-            (subst (λ made. AreInstantiations g at order (instantiations g done) made) (sym (ap (λ r. r.instantiations) more)) w.made);
+              (subst (λ made. AreInstantiations g at order (instantiations g done) made) (sym (ap (λ r. r.instantiations) more)) w.made);
           stand = each (λ m other. (index' m < indexes (space (sort_of_kind other.item_kind)) (items ++ x ∷ [])) × (stands_for (meaning (items ++ x ∷ [])) (sort_of_kind other.item_kind) (index' m) ≡ at m))
-            (λ m other was other_there.
+              (λ m other was other_there.
               let s = stand-push done used items components index w x m other was other_there in
               subst (λ j. (j < indexes (space (sort_of_kind other.item_kind)) (items ++ x ∷ [])) × (stands_for (meaning (items ++ x ∷ [])) (sort_of_kind other.item_kind) j ≡ at m)) (sym (others m (apart done m n was absent))) s)
-            (subst (λ j. (j < indexes (space t) (items ++ x ∷ [])) × (stands_for (meaning (items ++ x ∷ [])) t j ≡ at n)) (sym (now ∙ counts)) here_stands);
+              (subst (λ j. (j < indexes (space t) (items ++ x ∷ [])) × (stands_for (meaning (items ++ x ∷ [])) t j ≡ at n)) (sym (now ∙ counts)) here_stands);
           place = place;
           own = own;
           in_place = in_place;
         } where
-      nodes : (m : ℕ) → (m ≡ n) ⊎ (has done m ≡ true) → is_written g m ≡ true
-      nodes m (inl same) = ap (is_written g) same ∙ (minus-true (is_written g) done n ready.here).0
-      nodes m (inr was) = w.nodes m was
+          nodes : (m : ℕ) → (m ≡ n) ⊎ (has done m ≡ true) → is_written g m ≡ true
+          nodes m (inl same) = ap (is_written g) same ∙ (minus-true (is_written g) done n ready.here).0
+          nodes m (inr was) = w.nodes m was
 
-      -- an instance stands where instances do
-      instance_sort : (q : ItemKind) (z : GraphNode) → z.item_kind ≡ q → slice_get (exports_of g z) k ≡ Some (name, node.item_kind) → sort_of_kind q ≡ sort.Instance
-      instance_sort (item.Func f) z is found = let e : slice_get [] k ≡ Some (name, node.item_kind) = rw is at found in absurd (nothing_there k e) where
-        nothing_there : (j : ℕ) {A : Type 0} {v : A} → slice_get [] j ≡ Some v → ⊥
-        nothing_there j e = cc
-      instance_sort (item.Instance j) z is found = refl
+          -- an instance stands where instances do
+          instance_sort : (q : ItemKind) (z : GraphNode) → z.item_kind ≡ q → slice_get (exports_of g z) k ≡ Some (name, node.item_kind) → sort_of_kind q ≡ sort.Instance
+          instance_sort (item.Func f) z is found = let e : slice_get [] k ≡ Some (name, node.item_kind) = rw is at found in absurd (nothing_there k e) where
+            nothing_there : (j : ℕ) {A : Type 0} {v : A} → slice_get [] j ≡ Some v → ⊥
+            nothing_there j e = cc
+          instance_sort (item.Instance j) z is found = refl
 
-      -- what the alias is
-      is_projection : IsThing g at order n node → at n ≡ projection (at instance.0) name
-      is_projection (as_import other other_kind is) = absurd (two_kinds kind other_kind) where
-        two_kinds : {q : Kind} {m : Name} → q ≡ graph.alias → q ≡ graph.import m → ⊥
-        two_kinds a b = cc
-      is_projection (as_instantiation j other_kind at_j is) = absurd (two_kinds kind other_kind) where
-        two_kinds : {q : Kind} → q ≡ graph.alias → q ≡ graph.instantiation → ⊥
-        two_kinds a b = cc
-      is_projection (as_alias other other_source j other_name _ other_aliased other_there other_exported is) =
-          let (same, at_same) = sound.one_source (node_number n) instance other k j aliased other_aliased in
-          let sources : source ≡ other_source = let e : node_at g instance ≡ Some other_source = ap (node_at g) same ∙ other_there in cc in
-          let names : name ≡ other_name = first_of (slice_get (exports_of g source) k) name other_name node.item_kind node.item_kind exported (ap (λ z. slice_get (exports_of g z) k) sources ∙ ap (slice_get (exports_of g other_source)) at_same ∙ other_exported) in
-          is ∙ ap (λ z. projection (at z.0) other_name) (sym same) ∙ ap (projection (at instance.0)) (sym names)
+          -- what the alias is
+          is_projection : IsThing g at order n node → at n ≡ projection (at instance.0) name
+          is_projection (as_import other other_kind is) = absurd (two_kinds kind other_kind) where
+            two_kinds : {q : Kind} {m : Name} → q ≡ graph.alias → q ≡ graph.import m → ⊥
+            two_kinds a b = cc
+          is_projection (as_instantiation j other_kind at_j is) = absurd (two_kinds kind other_kind) where
+            two_kinds : {q : Kind} → q ≡ graph.alias → q ≡ graph.instantiation → ⊥
+            two_kinds a b = cc
+          is_projection (as_alias other other_source j other_name _ other_aliased other_there other_exported is) =
+              let (same, at_same) = sound.one_source (node_number n) instance other k j aliased other_aliased in
+              let sources : source ≡ other_source = let e : node_at g instance ≡ Some other_source = ap (node_at g) same ∙ other_there in cc in
+              let names : name ≡ other_name = first_of (slice_get (exports_of g source) k) name other_name node.item_kind node.item_kind exported (ap (λ z. slice_get (exports_of g z) k) sources ∙ ap (slice_get (exports_of g other_source)) at_same ∙ other_exported) in
+              is ∙ ap (λ z. projection (at z.0) other_name) (sym same) ∙ ap (projection (at instance.0)) (sym names)
 
-      here_stands : (indexes (space (sort_of_kind node.item_kind)) items < indexes (space (sort_of_kind node.item_kind)) (items ++ alias_item (export_alias (sort_of_kind node.item_kind) (index instance.0) name) ∷ []))
-          × (stands_for (meaning (items ++ alias_item (export_alias (sort_of_kind node.item_kind) (index instance.0) name) ∷ [])) (sort_of_kind node.item_kind) (indexes (space (sort_of_kind node.item_kind)) items) ≡ at n)
-      here_stands =
-          let t : Sort = sort_of_kind node.item_kind in
-          let s = w.stand instance.0 source (source_done (alias_edge instance.0 n k) aliased refl) source_there in
-          let of_instance : stands_for (meaning items) sort.Instance (index instance.0) ≡ at instance.0 = ap (λ q. stands_for (meaning items) q (index instance.0)) (sym (instance_sort source.item_kind source refl exported)) ∙ s.1 in
-          (counted_up t items (alias_item (export_alias t (index instance.0) name)) refl,
-            alias_stands items t (index instance.0) name (indexes (space t) items) (sym (counted items t))
-            ∙ ap (λ z. projected z name) of_instance
-            ∙ projected_thing instance.0 source name (is_thing instance.0 source source_there)
-            ∙ sym (is_projection (is_thing n node there)))
+          here_stands : (indexes (space (sort_of_kind node.item_kind)) items < indexes (space (sort_of_kind node.item_kind)) (items ++ alias_item (export_alias (sort_of_kind node.item_kind) (index instance.0) name) ∷ []))
+              × (stands_for (meaning (items ++ alias_item (export_alias (sort_of_kind node.item_kind) (index instance.0) name) ∷ [])) (sort_of_kind node.item_kind) (indexes (space (sort_of_kind node.item_kind)) items) ≡ at n)
+          here_stands =
+              let t : Sort = sort_of_kind node.item_kind in
+              let s = w.stand instance.0 source (source_done (alias_edge instance.0 n k) aliased refl) source_there in
+              let of_instance : stands_for (meaning items) sort.Instance (index instance.0) ≡ at instance.0 = ap (λ q. stands_for (meaning items) q (index instance.0)) (sym (instance_sort source.item_kind source refl exported)) ∙ s.1 in (
+                counted_up t items (alias_item (export_alias t (index instance.0) name)) refl,
+                alias_stands items t (index instance.0) name (indexes (space t) items) (sym (counted items t))
+                    ∙ ap (λ z. projected z name) of_instance
+                    ∙ projected_thing instance.0 source name (is_thing instance.0 source source_there)
+                    ∙ sym (is_projection (is_thing n node there)),
+              )
 
     -- where the node stands among the instantiations
     only_instance : (k : ℕ) → node.kind ≡ graph.instantiation → slice_get (instantiations g order) k ≡ Some n → k ≡ length (instantiations g done)
@@ -386,62 +393,63 @@ module _ (counted : Counted) (earlier : Earlier) (g : Graph) (sound : IsSound g)
           count = indexes-push (space sort.Component) items x ∙ omega (arith, w.count);
           numbers = λ j e at_j. let m = w.numbers j e at_j in (m.0, earlier items (x ∷ []) sort.Component j (let s = slice_get_within components j e at_j in omega (arith, w.count)) ∙ m.1);
           made = subst (λ ns. AreInstantiations g at order ns (meaning (items ++ x ∷ [])).instantiations) (sym (instantiations-push true (kind_test true (ap is_instantiation kind))))
-            (subst (λ made. AreInstantiations g at order (instantiations g done ++ n ∷ []) made) (sym (ap (λ r. r.instantiations) more))
+              (subst (λ made. AreInstantiations g at order (instantiations g done ++ n ∷ []) made) (sym (ap (λ r. r.instantiations) more))
               (are_push (instantiations g done) (meaning items).instantiations w.made this));
           stand = each (λ m other. (index' m < indexes (space (sort_of_kind other.item_kind)) (items ++ x ∷ [])) × (stands_for (meaning (items ++ x ∷ [])) (sort_of_kind other.item_kind) (index' m) ≡ at m))
-            (λ m other was other_there.
+              (λ m other was other_there.
               let s = stand-push done used items components index w x m other was other_there in
               subst (λ j. (j < indexes (space (sort_of_kind other.item_kind)) (items ++ x ∷ [])) × (stands_for (meaning (items ++ x ∷ [])) (sort_of_kind other.item_kind) j ≡ at m)) (sym (others m (apart done m n was absent))) s)
-            (subst (λ j. (j < indexes (space (sort_of_kind node.item_kind)) (items ++ x ∷ [])) × (stands_for (meaning (items ++ x ∷ [])) (sort_of_kind node.item_kind) j ≡ at n)) (sym (now ∙ counts))
+              (subst (λ j. (j < indexes (space (sort_of_kind node.item_kind)) (items ++ x ∷ [])) × (stands_for (meaning (items ++ x ∷ [])) (sort_of_kind node.item_kind) j ≡ at n)) (sym (now ∙ counts))
               (subst (λ t. (indexes (space sort.Instance) items < indexes (space t) (items ++ x ∷ [])) × (stands_for (meaning (items ++ x ∷ [])) t (indexes (space sort.Instance) items) ≡ at n)) (sym typed) here_stands));
           place = place;
           own = own;
           in_place = in_place;
         } where
-      nodes : (m : ℕ) → (m ≡ n) ⊎ (has done m ≡ true) → is_written g m ≡ true
-      nodes m (inl same) = ap (is_written g) same ∙ (minus-true (is_written g) done n ready.here).0
-      nodes m (inr was) = w.nodes m was
+          nodes : (m : ℕ) → (m ≡ n) ⊎ (has done m ≡ true) → is_written g m ≡ true
+          nodes m (inl same) = ap (is_written g) same ∙ (minus-true (is_written g) done n ready.here).0
+          nodes m (inr was) = w.nodes m was
 
-      are_push : (ns : List ℕ) (its : List Instantiation) → AreInstantiations g at order ns its → IsInstantiationOf g at order n (made_of (meaning items) c arguments) → AreInstantiations g at order (ns ++ n ∷ []) (its ++ made_of (meaning items) c arguments ∷ [])
-      are_push [] [] h it = (it, tt)
-      are_push [] (y ∷ its) h it = absurd h
-      are_push (m ∷ ns) [] h it = absurd h
-      are_push (m ∷ ns) (y ∷ its) h it = (h.0, are_push ns its h.1 it)
+          are_push : (ns : List ℕ) (its : List Instantiation) → AreInstantiations g at order ns its → IsInstantiationOf g at order n (made_of (meaning items) c arguments) → AreInstantiations g at order (ns ++ n ∷ []) (its ++ made_of (meaning items) c arguments ∷ [])
+          are_push [] [] h it = (it, tt)
+          are_push [] (y ∷ its) h it = absurd h
+          are_push (m ∷ ns) [] h it = absurd h
+          are_push (m ∷ ns) (y ∷ its) h it = (h.0, are_push ns its h.1 it)
 
-      are_many : (ns : List ℕ) (its : List Instantiation) → AreInstantiations g at order ns its → length its ≡ length ns
-      are_many [] [] h = refl
-      are_many [] (y ∷ its) h = absurd h
-      are_many (m ∷ ns) [] h = absurd h
-      are_many (m ∷ ns) (y ∷ its) h = ap suc (are_many ns its h.1)
+          are_many : (ns : List ℕ) (its : List Instantiation) → AreInstantiations g at order ns its → length its ≡ length ns
+          are_many [] [] h = refl
+          are_many [] (y ∷ its) h = absurd h
+          are_many (m ∷ ns) [] h = absurd h
+          are_many (m ∷ ns) (y ∷ its) h = ap suc (are_many ns its h.1)
 
-      argument_thing : (j : ℕ) (name : Name) (a : Name × Sort × ℕ) → IsArgumentItem g index n j name a → IsArgument g at n j name (stands_for (meaning items) a.1 a.2)
-      argument_thing j name a h =
-          let s = w.stand (h.source).0 h.node (source_done (argument_edge (h.source).0 n j) h.given refl) h.there in
-          let is : at (h.source).0 ≡ stands_for (meaning items) a.1 a.2 = sym (ap (λ t. stands_for (meaning items) t a.2) h.of_sort ∙ ap (stands_for (meaning items) (sort_of_kind (h.node).item_kind)) h.placed ∙ s.1) in
-          subst (λ t. IsArgument g at n j name t) is (given h.source h.given)
+          argument_thing : (j : ℕ) (name : Name) (a : Name × Sort × ℕ) → IsArgumentItem g index n j name a → IsArgument g at n j name (stands_for (meaning items) a.1 a.2)
+          argument_thing j name a h =
+              let s = w.stand (h.source).0 h.node (source_done (argument_edge (h.source).0 n j) h.given refl) h.there in
+              let is : at (h.source).0 ≡ stands_for (meaning items) a.1 a.2 = sym (ap (λ t. stands_for (meaning items) t a.2) h.of_sort ∙ ap (stands_for (meaning items) (sort_of_kind (h.node).item_kind)) h.placed ∙ s.1) in
+              subst (λ t. IsArgument g at n j name t) is (given h.source h.given)
 
-      are_arguments : (j : ℕ) (imports : List (Name × ItemKind)) (as_ : List (Name × Sort × ℕ)) → AreArgumentItems g index n j imports as_ → AreArguments g at n j imports (map (λ a. (a.0, stands_for (meaning items) a.1 a.2)) as_)
-      are_arguments j [] [] h = tt
-      are_arguments j [] (a ∷ as_) h = absurd h
-      are_arguments j (e ∷ imports) [] h = absurd h
-      are_arguments j (e ∷ imports) (a ∷ as_) h = (h.0.named, argument_thing j e.0 a h.0, are_arguments (suc j) imports as_ h.1)
+          are_arguments : (j : ℕ) (imports : List (Name × ItemKind)) (as_ : List (Name × Sort × ℕ)) → AreArgumentItems g index n j imports as_ → AreArguments g at n j imports (map (λ a. (a.0, stands_for (meaning items) a.1 a.2)) as_)
+          are_arguments j [] [] h = tt
+          are_arguments j [] (a ∷ as_) h = absurd h
+          are_arguments j (e ∷ imports) [] h = absurd h
+          are_arguments j (e ∷ imports) (a ∷ as_) h = (h.0.named, argument_thing j e.0 a h.0, are_arguments (suc j) imports as_ h.1)
 
-      this : IsInstantiationOf g at order n (made_of (meaning items) c arguments)
-      this = record { node = node; there = there; owner = id; owned = owned; place = k; used = first; component = stands; arguments = are_arguments 0 (imports_of g node) arguments given_items }
+          this : IsInstantiationOf g at order n (made_of (meaning items) c arguments)
+          this = record { node = node; there = there; owner = id; owned = owned; place = k; used = first; component = stands; arguments = are_arguments 0 (imports_of g node) arguments given_items }
 
-      is_instance : IsThing g at order n node → at n ≡ instance_at (length (instantiations g done))
-      is_instance (as_import other other_kind is) = absurd (two_kinds kind other_kind) where
-        two_kinds : {q : Kind} {m : Name} → q ≡ graph.instantiation → q ≡ graph.import m → ⊥
-        two_kinds a b = cc
-      is_instance (as_instantiation j _ at_j is) = is ∙ ap instance_at (only_instance j kind at_j)
-      is_instance (as_alias other other_source j other_name other_kind _ _ _ _) = absurd (two_kinds kind other_kind) where
-        two_kinds : {q : Kind} → q ≡ graph.instantiation → q ≡ graph.alias → ⊥
-        two_kinds a b = cc
+          is_instance : IsThing g at order n node → at n ≡ instance_at (length (instantiations g done))
+          is_instance (as_import other other_kind is) = absurd (two_kinds kind other_kind) where
+            two_kinds : {q : Kind} {m : Name} → q ≡ graph.instantiation → q ≡ graph.import m → ⊥
+            two_kinds a b = cc
+          is_instance (as_instantiation j _ at_j is) = is ∙ ap instance_at (only_instance j kind at_j)
+          is_instance (as_alias other other_source j other_name other_kind _ _ _ _) = absurd (two_kinds kind other_kind) where
+            two_kinds : {q : Kind} → q ≡ graph.instantiation → q ≡ graph.alias → ⊥
+            two_kinds a b = cc
 
-      here_stands : (indexes (space sort.Instance) items < indexes (space sort.Instance) (items ++ instantiate c arguments ∷ []))
-          × (stands_for (meaning (items ++ instantiate c arguments ∷ [])) sort.Instance (indexes (space sort.Instance) items) ≡ at n)
-      here_stands =
-          (counted_up sort.Instance items (instantiate c arguments) refl,
+          here_stands : (indexes (space sort.Instance) items < indexes (space sort.Instance) (items ++ instantiate c arguments ∷ []))
+              × (stands_for (meaning (items ++ instantiate c arguments ∷ [])) sort.Instance (indexes (space sort.Instance) items) ≡ at n)
+          here_stands = (
+            counted_up sort.Instance items (instantiate c arguments) refl,
             instance_stands items c arguments (indexes (space sort.Instance) items) (sym (counted items sort.Instance))
-            ∙ ap instance_at (are_many (instantiations g done) (meaning items).instantiations w.made)
-            ∙ sym (is_instance (is_thing n node there)))
+                ∙ ap instance_at (are_many (instantiations g done) (meaning items).instantiations w.made)
+                ∙ sym (is_instance (is_thing n node there)),
+          )

@@ -1,13 +1,12 @@
 -- What the order of writing gives: which nodes are written, and that the sources of a node's edges are.
-use Rattle.std.proofs.Common.{◌≡◌, ◌≢◌, ℕ, zero, suc, ◌+◌, ◌<◌, Bool, true, false, not, ◌&&◌, ◌||◌, cond, List, [], ◌∷◌, ◌++◌, length, refl, ap, ◌∙◌, sym, subst, arith, append_assoc, eqb, ◌==◌, Option, Some, None, ◌⊎◌, inl, inr}
+use Rattle.std.proofs.Common.{◌≡◌, ℕ, zero, suc, Bool, true, false, not, ◌&&◌, ◌||◌, cond, List, [], ◌∷◌, ◌++◌, length, refl, ap, ◌∙◌, sym, subst, arith, append_assoc, eqb, Some, ◌⊎◌, inl, inr}
 use Rattle.std.specs.List.{list_any, filter}
 use Rattle.std.specs.Prelude.{slice_get}
 use Rattle.std.proofs.lemmas.List.{append-nil}
 use Rattle.std.proofs.lemmas.Bool.{eqb-true}
 use Rattle.std.proofs.lemmas.Bool.Decides.{nat_tests}
-use Rattle.std.proofs.Math.Bool.{and-false, and-true, or-false}
-use Rattle.wac_graph.specs.Edge.{IsFree}
-use Rattle.wac_graph.specs.Order.{without, Writes, Edges, IsLowestReady, IsDone}
+use Rattle.std.proofs.Math.Bool.{or-false}
+use Rattle.wac_graph.specs.Order.{without, Writes, Edges}
 
 -- is the node in the list
 abbrev pub has : List ℕ → ℕ → Bool

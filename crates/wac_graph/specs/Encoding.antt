@@ -1,5 +1,5 @@
 -- What a node adds to the items that are written so far: the components by package, and the index of each node.
-use Rattle.std.specs.Prelude.{ℕ, suc, ◌≡◌, Bool, false, List, [], ◌∷◌, ◌++◌, Some, slice_get, ◌⊎◌}
+use Rattle.std.specs.Prelude.{ℕ, suc, ◌≡◌, false, List, [], ◌∷◌, ◌++◌, Some, IfSome, slice_get, slice_set, slice_index_or, ◌⊎◌}
 use Rattle.std.specs.List.{list_any}
 use Rattle.wac_types.specs.Name.{Name}
 use Rattle.wac_types.specs.declared.component.ItemKind.{ItemKind}
@@ -14,13 +14,13 @@ use Rattle.wac_graph.specs.Graph.{Graph, GraphNode, node_at, imports_of, exports
 use Rattle.wac_graph.specs.Means.{node_number, same_package, package_bytes, sort_of_kind}
 
 -- the package's component has this index; it was added if it was not there
-abbrev pub HasComponent : Graph → PackageId → ℕ → List (PackageId × ℕ) → List (PackageId × ℕ) → List Item → List Item → Type 0
-HasComponent g id c components components' items items' =
+abbrev pub HasComponent : List ℕ → PackageId → ℕ → List (PackageId × ℕ) → List (PackageId × ℕ) → List Item → List Item → Type 0
+HasComponent bytes id c components components' items items' =
     ((k : ℕ) × (slice_get components k ≡ Some (id, c)) × (components' ≡ components) × (items' ≡ items))
     ⊎ ((list_any (λ e. same_package id e.0) components ≡ false)
-      × (c ≡ indexes (space sort.Component) items)
-      × (components' ≡ components ++ (id, c) ∷ [])
-      × (items' ≡ items ++ nested (package_bytes g id) ∷ []))
+    × (c ≡ indexes (space sort.Component) items)
+    × (components' ≡ components ++ (id, c) ∷ [])
+    × (items' ≡ items ++ nested bytes ∷ []))
 
 -- an argument: the import's name, with the sort and the index of the node that was set
 pub record IsArgumentItem (g : Graph) (index : ℕ → ℕ) (n i : ℕ) (name : Name) (a : Name × Sort × ℕ) : Type 0 where
@@ -40,7 +40,7 @@ AreArgumentItems g index n i _ _ = ⊥
 -- node n is written, and stands at index i
 pub data Adds (g : Graph) (n : ℕ) (node : GraphNode) (index : ℕ → ℕ) (components components' : List (PackageId × ℕ)) (items items' : List Item) (i : ℕ) : Type 0 where
   adds_instantiation : (id : PackageId) (c : ℕ) (mid : List Item) (arguments : List (Name × Sort × ℕ))
-      → node.kind ≡ graph.instantiation → node.owner ≡ Some id → HasComponent g id c components components' items mid
+      → node.kind ≡ graph.instantiation → node.owner ≡ Some id → HasComponent (package_bytes g id) id c components components' items mid
       → AreArgumentItems g index n 0 (imports_of g node) arguments
       → items' ≡ mid ++ instantiate c arguments ∷ [] → i ≡ indexes (space sort.Instance) mid
       → Adds g n node index components components' items items' i
@@ -49,3 +49,23 @@ pub data Adds (g : Graph) (n : ℕ) (node : GraphNode) (index : ℕ → ℕ) (co
       → components' ≡ components
       → items' ≡ items ++ alias_item (export_alias (sort_of_kind node.item_kind) (index instance.0) name) ∷ [] → i ≡ indexes (space (sort_of_kind node.item_kind)) items
       → Adds g n node index components components' items items' i
+
+-- what is written so far: the items, the components by package, and the index of each node
+pub record Progress : Type 0 where
+  pub items : List Item
+  pub components : List (PackageId × ℕ)
+  pub indexes : List ℕ
+
+-- the index of a node
+abbrev pub index_in : List ℕ → ℕ → ℕ
+index_in indexes n = slice_index_or indexes n 0
+
+-- a node is written
+abbrev pub Wrote : Graph → ℕ → Progress → Progress → Type 0
+Wrote g n p q =
+    IfSome (node_at g (node_number n)) (λ node. (i : ℕ) × Adds g n node (index_in p.indexes) p.components q.components p.items q.items i × (q.indexes ≡ slice_set p.indexes n i))
+
+-- these nodes are written, in this order
+abbrev pub WroteAll : Graph → List ℕ → Progress → Progress → Type 0
+WroteAll g [] p q = q ≡ p
+WroteAll g (n ∷ ns) p q = (mid : Progress) × Wrote g n p mid × WroteAll g ns mid q

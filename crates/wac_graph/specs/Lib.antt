@@ -7,3 +7,7 @@ pub mod Steps
 pub mod Asked
 pub mod Means
 pub mod Encoding
+pub mod NotYet
+pub mod EncoderView
+pub mod Faults
+pub mod Gives

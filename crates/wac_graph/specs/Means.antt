@@ -1,12 +1,7 @@
 -- When items mean a graph.
-use Rattle.std.specs.Prelude.{ℕ, suc, ◌+◌, ◌<◌, ◌≡◌, Bool, true, false, not, ◌&&◌, ◌==◌, if◌then◌else◌, List, [], ◌∷◌, ◌++◌, length, map, filter, Option, Some, None, slice_get, is_some, eqb}
+use Rattle.std.specs.Prelude.{ℕ, suc, ◌<◌, ◌≡◌, Bool, true, false, not, ◌&&◌, ◌==◌, if◌then◌else◌, List, [], ◌∷◌, ◌++◌, length, map, filter, Option, Some, None, slice_get}
 use Rattle.std.specs.List.{list_any, flat_map}
-use Rattle.std.specs.FinMap as finite
-use Rattle.std.specs.FinSet as set
 use Rattle.wac_types.specs.Name.{Name, option_case}
-use Rattle.wac_types.specs.Tree.{Tree}
-use Rattle.wac_types.specs.Package.{PackageParts}
-use Rattle.wac_types.specs.Collection.{world_imports}
 use Rattle.wac_types.specs.declared.component.ItemKind.{ItemKind}
 use Rattle.wac_types.specs.declared.component.ItemKind.TheVariants as item
 use Rattle.wac_binary.specs.declared.sorts.Sort.{Sort}
@@ -16,7 +11,7 @@ use Rattle.wac_binary.specs.Indexes.{space, indexes, sort_added}
 use Rattle.wac_binary.specs.Meaning.{Thing, import_at, projection, instance_at, component_at, Instantiation, Export, meaning, stands_for}
 use Rattle.wac_graph.specs.declared.node.NodeId.{NodeId}
 use Rattle.wac_graph.specs.declared.packages.PackageId.{PackageId}
-use Rattle.wac_graph.specs.Graph.{Graph, GraphNode, Kind, definition, import, instantiation, alias, node_at, package_at, imports_of, exports_of, IsAliasOf, IsArgumentOf, IsUnsatisfied}
+use Rattle.wac_graph.specs.Graph.{Graph, GraphNode, Kind, import, instantiation, alias, node_at, package_at, imports_of, exports_of, IsAliasOf, IsArgumentOf, IsUnsatisfied}
 use Rattle.wac_graph.specs.Order.{Writes}
 use Rattle.wac_graph.specs.Asked.{outer_imports, class_position}
 

@@ -1,7 +1,6 @@
 -- The order in which nodes are written: each is the lowest of those left to which no edge leads from one that is left.
 use Rattle.std.specs.Prelude.{◌≡◌, ℕ, ◌<◌, Bool, true, false, not, ◌&&◌, ◌==◌, List, [], ◌∷◌}
 use Rattle.std.specs.FinSet as set
-use Rattle.wac_graph.specs.declared.edges.Label.{Label}
 use Rattle.wac_graph.specs.declared.edges.Edge.{Edge}
 use Rattle.wac_graph.specs.Edge.{edge_cmp, IsBlocked, IsFree}
 

@@ -1,18 +1,16 @@
 -- The calls as steps from graph to graph.
-use Rattle.std.specs.Prelude.{◌≡◌, ℕ, ◌+◌, Option, Some, None, Result, Ok, Err, IfSome, IsSome, IsSomeAnd, List, [], ◌∷◌, ◌++◌, string_bytes, length, true, false, ◌⊎◌, is_none}
-use Rattle.std.specs.Option.{option_and_then}
+use Rattle.std.specs.Prelude.{◌≡◌, ℕ, Option, Some, None, Result, Ok, Err, IfSome, IsSome, IsSomeAnd, [], ◌∷◌, ◌++◌, string_bytes, length, ◌⊎◌}
 use Rattle.std.specs.FinMap as map
 use Rattle.std.specs.FinSet as set
 use Rattle.std.specs.declared.alloc.AllocError.{AllocError}
 use Rattle.wac_types.specs.Name.{Name}
 use Rattle.wac_types.specs.Named.{named_at}
 use Rattle.wac_types.specs.Collection.{Collection, empty}
-use Rattle.wac_types.specs.Package.{PackageParts, Key, with_instance_of}
+use Rattle.wac_types.specs.Package.{PackageParts}
 use Rattle.wac_types.specs.Subtype.{IsSubtype}
 use Rattle.wac_types.specs.Words.{kind_text}
 use Rattle.wac_types.specs.declared.component.ItemKind.{ItemKind}
-use Rattle.wac_types.specs.declared.component.ItemKind.TheVariants.{Func, Instance}
-use Rattle.wac_types.specs.declared.component.WorldId.{WorldId}
+use Rattle.wac_types.specs.declared.component.ItemKind.TheVariants.{Instance}
 use Rattle.wac_types.specs.declared.checker.TypeFault.TheVariants.{Mismatch}
 use Rattle.wac_types.specs.declared.collection.AddTypeError.{AddTypeError}
 use Rattle.wac_graph.specs.declared.errors.RegisterPackageError.{RegisterPackageError}
@@ -70,12 +68,12 @@ abbrev pub GivesAlias : Graph → NodeId → GraphNode → ℕ → ItemKind → 
 GivesAlias old id source position kind alias new =
     (IsAliasOf old id position alias × (new ≡ old))
     ⊎ (((other : NodeId) → IsAliasOf old id position other → ⊥)
-      × (alias.0 ≡ old.next) × (node_at old alias ≡ None)
-      × (new ≡ record old {
-          nodes = map.insert old.nodes alias.0 (alias_node source kind);
-          edges = set.insert old.edges (alias_edge id.0 alias.0 position);
-          next = new.next;
-        }))
+    × (alias.0 ≡ old.next) × (node_at old alias ≡ None)
+    × (new ≡ record old {
+      nodes = map.insert old.nodes alias.0 (alias_node source kind);
+      edges = set.insert old.edges (alias_edge id.0 alias.0 position);
+      next = new.next;
+    }))
 
 -- the export of a node of this name: its position and kind
 abbrev pub export_named : Graph → GraphNode → Name → Option (ℕ × ItemKind)
@@ -98,9 +96,9 @@ abbrev pub Exports : Graph → NodeId → Name → Result (Unit {0}) ExportError
 Exports old id name (Ok _) new =
     (export_at old name ≡ None)
     × IfSome (node_at old id) (λ n. new ≡ record old {
-        nodes = map.insert old.nodes id.0 (record n { export_name = Some name });
-        exports = old.exports ++ (name, id) ∷ [];
-      })
+      nodes = map.insert old.nodes id.0 (record n { export_name = Some name });
+      exports = old.exports ++ (name, id) ∷ [];
+    })
 Exports old id name (Err (export_error.ExportAlreadyExists text node)) new =
     (new ≡ old) × (string_bytes text ≡ name) × (export_at old name ≡ Some node)
 Exports old id name (Err export_error.OutOfMemory) new = new ≡ old

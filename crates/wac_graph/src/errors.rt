@@ -98,7 +98,9 @@ impl<T: Drop> From<AllocFailed<T>> for ExportError {
 pub enum InstantiationArgumentError {
     /// The node is not an instantiation.
     #[error("the specified node is not an instantiation")]
-    NodeIsNotAnInstantiation { node: NodeId },
+    NodeIsNotAnInstantiation {
+        node: NodeId,
+    },
     /// The world of the instantiation's package has no import of this name.
     #[error("argument name `{name}` is not an import of package `{package}`")]
     InvalidArgumentName {
@@ -108,10 +110,16 @@ pub enum InstantiationArgumentError {
     },
     /// Another node satisfies this import.
     #[error("argument `{name}` has already been passed to the instantiation")]
-    ArgumentAlreadyPassed { node: NodeId, name: String },
+    ArgumentAlreadyPassed {
+        node: NodeId,
+        name: String,
+    },
     /// The argument's type is no subtype of the import's.
     #[error("mismatched instantiation argument `{name}`")]
-    ArgumentTypeMismatch { name: String, source: TypeFault },
+    ArgumentTypeMismatch {
+        name: String,
+        source: TypeFault,
+    },
     /// There was no memory.
     #[error("out of memory")]
     OutOfMemory,
@@ -147,6 +155,29 @@ impl From<AllocError> for EncodeError {
     ghost from_gives = { λ _ e. e ≡ OutOfMemory };
 
     fn from(_e: AllocError) -> EncodeError {
+        EncodeError::OutOfMemory
+    }
+}
+
+impl From<BinaryFault> for EncodeError {
+    ghost use Rattle.wac_graph.specs.Faults.{encode_error};
+
+    ghost from_gives = { λ fault e. e ≡ encode_error fault };
+
+    fn from(fault: BinaryFault) -> EncodeError {
+        match fault {
+            BinaryFault::TooLarge => EncodeError::TooLarge,
+            BinaryFault::OutOfMemory => EncodeError::OutOfMemory,
+        }
+    }
+}
+
+impl<T: Drop> From<AllocFailed<T>> for EncodeError {
+    ghost use Rattle.wac_graph.specs.declared.errors.EncodeError.TheVariants.{OutOfMemory};
+
+    ghost from_gives = { λ _ e. e ≡ OutOfMemory };
+
+    fn from(_e: AllocFailed<T>) -> EncodeError {
         EncodeError::OutOfMemory
     }
 }

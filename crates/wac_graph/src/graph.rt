@@ -129,11 +129,11 @@ impl CompositionGraph {
     ) -> Result<Package, AddTypeError>
         requires { holds_type self.old.types (world_type world) ≡ true }
         ensures built { IfOk result (λ p. p ≡ record {
-            name = name.now;
-            version = option_map (λ v. parts_of v.now) version.entry;
-            bytes = bytes.items;
-            world = world;
-            instance_type = record { 0 = length self.old.types.interfaces };
+          name = name.now;
+          version = option_map (λ v. parts_of v.now) version.entry;
+          bytes = bytes.items;
+          world = world;
+          instance_type = record { 0 = length self.old.types.interfaces };
         }) }
         ensures added { Adds self.old result self.new (λ p types. types ≡ with_instance_of self.old.types world) }
         ensures held { IfOk result (λ p. HoldsPackage self.new.types p) }
@@ -144,10 +144,7 @@ impl CompositionGraph {
 
     /// Registers a package of a held world under a new id. Answers `PackageAlreadyRegistered` where a package of its
     /// key is registered, and `OutOfMemory` where memory ran out; then nothing has changed.
-    pub fn register_package(
-        &mut self,
-        package: Package,
-    ) -> Result<PackageId, RegisterPackageError>
+    pub fn register_package(&mut self, package: Package) -> Result<PackageId, RegisterPackageError>
         requires { HoldsPackage self.old.types «package» }
         ensures { Registers self.old «package» result self.new }
     {
@@ -207,11 +204,17 @@ impl CompositionGraph {
         let item_kind = node.item_kind;
         let ItemKind::Instance(interface) = item_kind else {
             let kind = item_kind.desc(&self.types);
-            return Err(AliasError::NodeIsNotAnInstance { node: instance, kind });
+            return Err(AliasError::NodeIsNotAnInstance {
+                node: instance,
+                kind,
+            });
         };
         let Some((position, item_kind)) = self.types[interface].exports.get_full(export) else {
             let export = String::from_str(self.alloc, export)?;
-            return Err(AliasError::InstanceMissingExport { node: instance, export });
+            return Err(AliasError::InstanceMissingExport {
+                node: instance,
+                export,
+            });
         };
         let item_kind = *item_kind;
         if let Some(alias) = self.edges.alias(instance.0, position) {
@@ -251,7 +254,9 @@ impl CompositionGraph {
         self.types.law();
         let node = &self.nodes[instantiation.0];
         let NodeKind::Instantiation(satisfied) = &node.kind else {
-            return Err(InstantiationArgumentError::NodeIsNotAnInstantiation { node: instantiation });
+            return Err(InstantiationArgumentError::NodeIsNotAnInstantiation {
+                node: instantiation,
+            });
         };
         let Some(id) = node.package else {
             unreachable!()
@@ -327,6 +332,37 @@ impl CompositionGraph {
         ensures { result ≡ export_at self.now name.now }
     {
         self.exports.get(name).copied()
+    }
+}
+
+impl Index<NodeId> for CompositionGraph {
+    type Output = Node;
+
+    ghost use Rattle.wac_graph.specs.Gives.{HasNode, GivesNode};
+
+    ghost can_index = { HasNode };
+
+    ghost index_gives = { GivesNode };
+
+    fn index(&self, id: NodeId) -> &Node {
+        &self.nodes[id.0]
+    }
+}
+
+impl Index<PackageId> for CompositionGraph {
+    type Output = Package;
+
+    ghost use Rattle.wac_graph.specs.Gives.{HasPackage, GivesPackage};
+
+    ghost can_index = { HasPackage };
+
+    ghost index_gives = { GivesPackage };
+
+    fn index(&self, id: PackageId) -> &Package {
+        match package_in_slots(&self.slots, id) {
+            Some(package) => package,
+            None => unreachable!(),
+        }
     }
 }
 

@@ -3,12 +3,14 @@
 #![tactic(auto)]
 
 mod edges;
+mod encode;
 mod errors;
 mod graph;
 mod node;
 mod order;
 mod packages;
 
+pub use encode::{EncodeOptions, Processor};
 pub use errors::{
     AliasError, EncodeError, ExportError, InstantiationArgumentError, RegisterPackageError,
 };

@@ -13,7 +13,7 @@ pub struct NodeId(pub(crate) usize);
 
 impl fmt::Display for NodeId {
     fn fmt<W: fmt::Write>(&self, f: &mut fmt::Formatter<W>) -> fmt::Result {
-        write!(f, "{}", self.0)
+        fmt::Display::fmt(&self.0, f)
     }
 }
 

@@ -1,4 +1,4 @@
-use Rattle.std.proofs.Common.{refl, [], ◌∷◌, append_assoc, subst}
+use Rattle.std.proofs.Common.{[], ◌∷◌, append_assoc, subst}
 use Rattle.wac_graph.specs.Order.{Writes}
 use Rattle.wac_graph.proofs.OrderLemmas.{flags_after}
 use Rattle.std.proofs.lemmas.List.{append-nil}

@@ -1,4 +1,4 @@
-use Rattle.std.proofs.Common.{◌≡◌, ℕ, ◌++◌, List, Bool}
+use Rattle.std.proofs.Common.{ℕ, ◌++◌, List}
 use Rattle.std.specs.Prelude.{count_by}
 use Rattle.wac_graph.specs.Edge.{is_left}
 use Rattle.wac_graph.specs.Order.{Writes}

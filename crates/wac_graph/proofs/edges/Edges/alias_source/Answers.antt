@@ -1,7 +1,7 @@
-use Rattle.std.proofs.Common.{◌≡◌, ap, ◌∙◌, sym, ℕ, true, false}
+use Rattle.std.proofs.Common.{◌≡◌, ap, ◌∙◌, sym, ℕ, false}
 use Rattle.std.specs.List.{Contains}
 use Rattle.std.specs.FinSet as set
-use Rattle.wac_graph.specs.Edge.{edge_cmp, alias_edge}
+use Rattle.wac_graph.specs.Edge.{alias_edge}
 use Rattle.wac_graph.proofs.EdgeLemmas.{IfSome-map, IfNone-map, in_set, not_in_set}
 use Rattle.wac_graph.proofs.edges.Edges.alias_source.Goals as goal
 

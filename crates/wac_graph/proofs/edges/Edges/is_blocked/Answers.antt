@@ -1,9 +1,7 @@
-use Rattle.std.proofs.Common.{◌≡◌, ap, ◌∙◌, sym, refl, true, false, Bool, List}
+use Rattle.std.proofs.Common.{◌≡◌, ap, ◌∙◌, sym, refl, true, false, Bool}
 use Rattle.std.specs.Bool.{OnTrue, OnFalse}
-use Rattle.std.specs.FinSet as set
 use Rattle.std.specs.List.{list_any}
-use Rattle.wac_graph.specs.declared.edges.Edge.{Edge}
-use Rattle.wac_graph.specs.Edge.{edge_cmp, IsBlocked, IsFree, blocks, is_left}
+use Rattle.wac_graph.specs.Edge.{blocks, is_left}
 use Rattle.wac_graph.proofs.EdgeLemmas.{blocked_in_set, free_in_set}
 use Rattle.wac_graph.proofs.edges.Edges.is_blocked.Goals as goal
 

@@ -1,4 +1,4 @@
-use Rattle.std.proofs.Common.{◌≡◌, ap, ◌∙◌, sym, refl, is_some, rules}
+use Rattle.std.proofs.Common.{ap, ◌∙◌, refl}
 use Rattle.wac_graph.proofs.NodeLemmas.{there}
 use Rattle.wac_graph.proofs.AliasLemmas.{not_instance, missing, already, aliased, invariant_aliased, before_reserve, vacant_before, interface_there}
 use Rattle.wac_graph.proofs.graph.CompositionGraph.alias_instance_export.Goals as goal
@@ -32,8 +32,8 @@ pub returns : goal.returns
 returns c =
     rw (← c.self.view_is)
     (aliased c.self.inside c.args.instance c.index-node.result.now c.in-Instance.interface c.index.result.now c.in-Some.position c.vacant_key-number.result c.in-Some.item_kind.now c.args.export.now c.insert_reserved.new.self c.add.new.self _
-      c.index-node.ensures c.in-Instance.is c.index.ensures c.in-Some.ensures c.in_default-alias.ensures.none
-      (c.vacant_key-number.ensures.value ∙ ap (λ s. s.vacant_key) c.in_ok-reserve.ensures.rest_kept)
-      (vacant_before c.self.inside c.reserve.new.self c.vacant_key-number.result c.in_ok-reserve.ensures.rest_kept c.vacant_key-number.ensures.vacant)
-      (before_reserve c.self.inside c.reserve.new.self c.insert_reserved.new.self c.vacant_key-number.result c.insert_reserved.result _ c.in_ok-reserve.ensures.rest_kept c.vacant_key-number.ensures.value c.insert_reserved.ensures.key c.insert_reserved.ensures.updates)
-      c.in_ok-add.ensures.ok refl)
+    c.index-node.ensures c.in-Instance.is c.index.ensures c.in-Some.ensures c.in_default-alias.ensures.none
+    (c.vacant_key-number.ensures.value ∙ ap (λ s. s.vacant_key) c.in_ok-reserve.ensures.rest_kept)
+    (vacant_before c.self.inside c.reserve.new.self c.vacant_key-number.result c.in_ok-reserve.ensures.rest_kept c.vacant_key-number.ensures.vacant)
+    (before_reserve c.self.inside c.reserve.new.self c.insert_reserved.new.self c.vacant_key-number.result c.insert_reserved.result _ c.in_ok-reserve.ensures.rest_kept c.vacant_key-number.ensures.value c.insert_reserved.ensures.key c.insert_reserved.ensures.updates)
+    c.in_ok-add.ensures.ok refl)

@@ -1,4 +1,4 @@
-use Rattle.std.proofs.Common.{◌≡◌, ap, ◌∙◌, sym, refl}
+use Rattle.std.proofs.Common.{sym, refl}
 use Rattle.wac_graph.proofs.NodeLemmas.{lookup_text, there}
 use Rattle.wac_graph.proofs.ExportLemmas.{exported, invariant_exported}
 use Rattle.wac_graph.proofs.graph.CompositionGraph.export.Goals as goal
@@ -20,5 +20,5 @@ pub returns : goal.returns
 returns c =
     rw (← c.self.view_is)
     (exported c.self.inside c.args.node c.args.name.now c.in_ok-key.key c.in_ok-own.own c.set_export_name.new.nodes c.insert.new.self
-      c.in_ok-key.ensures.ok c.in_ok-own.ensures.ok (sym c.in_default.ensures.value) c.in_ok-insert.ensures.entries
-      (there c.self.inside.nodes.slots c.args.node.0 (rw (← c.self.view_is) at c.requires)) c.set_export_name.ensures)
+    c.in_ok-key.ensures.ok c.in_ok-own.ensures.ok (sym c.in_default.ensures.value) c.in_ok-insert.ensures.entries
+    (there c.self.inside.nodes.slots c.args.node.0 (rw (← c.self.view_is) at c.requires)) c.set_export_name.ensures)

@@ -1,4 +1,4 @@
-use Rattle.std.proofs.Common.{refl, ◌∙◌, sym, ap}
+use Rattle.std.proofs.Common.{◌∙◌}
 use Rattle.wac_graph.proofs.NodeLemmas.{lookup_text}
 use Rattle.wac_graph.proofs.graph.CompositionGraph.get_export.Goals as goal
 

@@ -1,5 +1,3 @@
-use Rattle.std.proofs.Common.{ap, ◌∙◌, sym, IsSome, is_some, subst}
-use Rattle.wac_graph.specs.Graph.{node_at}
 use Rattle.wac_graph.proofs.NodeLemmas.{get-nodes_of, is_some-node_of}
 use Rattle.wac_graph.proofs.graph.CompositionGraph.has_node.Goals as goal
 

@@ -1,4 +1,4 @@
-use Rattle.std.proofs.Common.{refl, sym, ◌∙◌, ap}
+use Rattle.std.proofs.Common.{sym, ap}
 use Rattle.std.specs.List.{list_any}
 use Rattle.std.specs.BTreeMap.{is_at}
 use Rattle.std.specs.Ordering.{nat_cmp}
@@ -15,4 +15,4 @@ pub returns : goal.returns
 returns c =
     rw (← c.self.view_is)
     (instantiated c.self.inside c.insert.new.self c.in_ok-number.number c.args.id c.in-Some.«package».now _ (instance_shape c.args.id c.instance_type.result c.in-Some.«package».now c.instance_type.ensures) (rw c.deref.ensures.value at c.in-Some.ensures)
-      c.in_ok-number.ensures.key c.in_ok-number.ensures.was_vacant c.in_ok-number.ensures.updates)
+    c.in_ok-number.ensures.key c.in_ok-number.ensures.was_vacant c.in_ok-number.ensures.updates)

@@ -1,4 +1,3 @@
-use Rattle.std.proofs.Common.{refl}
 use Rattle.wac_graph.proofs.InvariantLemmas.{invariant_empty}
 use Rattle.wac_graph.proofs.graph.CompositionGraph.new.Goals as goal
 

@@ -1,4 +1,4 @@
-use Rattle.std.proofs.Common.{refl, sym, ◌∙◌, ap, length, ◌++◌, ◌∷◌, [], Some, rules}
+use Rattle.std.proofs.Common.{refl, sym, ◌∙◌, ap, length, ◌++◌, ◌∷◌, [], Some}
 use Rattle.wac_graph.specs.declared.packages.PackageId.{PackageId}
 use Rattle.wac_graph.proofs.InvariantLemmas.{invariant_register, invariant_same}
 use Rattle.wac_graph.proofs.StepLemmas.{there_already, registered}
@@ -25,6 +25,6 @@ pub returns : goal.returns
 returns c =
     rw (← c.self.view_is)
     (registered c.self.inside c.self.invariant c.args.«package» c.insert.new.self c.push.new.self (record { slot = c.len.result; generation = 0 })
-      (rw c.in_ok-key.ensures at (sym c.in_default.ensures.value))
-      (rw c.unwrap.ensures at c.push.ensures.items ∙ ap (λ xs. xs ++ record { generation = 0; «package» = Some c.args.«package» } ∷ []) c.reserve.ensures.items)
-      (ap (λ n. let x : PackageId = record { slot = n; generation = 0 } in x) (c.len.ensures ∙ c.reserve.new.self.ok.0 ∙ ap length c.reserve.ensures.items)))
+    (rw c.in_ok-key.ensures at (sym c.in_default.ensures.value))
+    (rw c.unwrap.ensures at c.push.ensures.items ∙ ap (λ xs. xs ++ record { generation = 0; «package» = Some c.args.«package» } ∷ []) c.reserve.ensures.items)
+    (ap (λ n. let x : PackageId = record { slot = n; generation = 0 } in x) (c.len.ensures ∙ c.reserve.new.self.ok.0 ∙ ap length c.reserve.ensures.items)))

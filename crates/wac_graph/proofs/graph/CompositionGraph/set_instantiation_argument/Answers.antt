@@ -1,4 +1,4 @@
-use Rattle.std.proofs.Common.{◌≡◌, ap, ◌∙◌, sym, refl, is_some, rules}
+use Rattle.std.proofs.Common.{ap, ◌∙◌, sym, refl, is_some}
 use Rattle.std.specs.FinSet as set
 use Rattle.wac_types.specs.Collection.{item_at}
 use Rattle.wac_graph.specs.Edge.{argument_edge}
