@@ -27,6 +27,7 @@ fn put_leb(out: &mut Vec<u8>, limit: u64, n: u64) -> Result<(), AllocError>
     Ok(())
 }
 
+/// Appends an unsigned number, as shortest LEB128.
 pub fn put_unsigned(out: &mut Vec<u8>, n: u64) -> Result<(), AllocError>
     ensures written { OnOk result (out.new.items ≡ out.old.items ++ unsigned n) }
     ensures grows { (more : List ℕ) × (out.new.items ≡ out.old.items ++ more) }
@@ -34,6 +35,7 @@ pub fn put_unsigned(out: &mut Vec<u8>, n: u64) -> Result<(), AllocError>
     put_leb(out, 128, n)
 }
 
+/// Appends a text behind its length.
 pub fn put_text(out: &mut Vec<u8>, t: &str) -> Result<(), AllocError>
     ensures written { OnOk result (out.new.items ≡ out.old.items ++ text t.now) }
     ensures grows { (more : List ℕ) × (out.new.items ≡ out.old.items ++ more) }
@@ -64,6 +66,7 @@ fn primitive_byte(t: PrimitiveType) -> u8
     }
 }
 
+/// Appends a value type: a primitive by its code, or an index as a signed number.
 pub fn put_value(out: &mut Vec<u8>, t: ComponentValType) -> Result<(), AllocError>
     ensures written { OnOk result (out.new.items ≡ out.old.items ++ value t) }
     ensures grows { (more : List ℕ) × (out.new.items ≡ out.old.items ++ more) }
@@ -96,6 +99,7 @@ fn put_fields(out: &mut Vec<u8>, fields: &[(&str, ComponentValType)]) -> Result<
     Ok(())
 }
 
+/// Appends a function type.
 pub fn put_func(out: &mut Vec<u8>, f: &FuncType<'_>) -> Result<(), AllocError>
     ensures written { OnOk result (out.new.items ≡ out.old.items ++ type_bytes (func_of f.now)) }
     ensures grows { (more : List ℕ) × (out.new.items ≡ out.old.items ++ more) }
@@ -115,6 +119,7 @@ pub fn put_func(out: &mut Vec<u8>, f: &FuncType<'_>) -> Result<(), AllocError>
     }
 }
 
+/// Appends a sort.
 pub fn put_sort(out: &mut Vec<u8>, s: Sort) -> Result<(), AllocError>
     ensures written { OnOk result (out.new.items ≡ out.old.items ++ sort s) }
     ensures grows { (more : List ℕ) × (out.new.items ≡ out.old.items ++ more) }
@@ -141,6 +146,7 @@ fn put_indexed(out: &mut Vec<u8>, byte: u8, index: u32) -> Result<(), AllocError
     put_unsigned(out, u64::from(index))
 }
 
+/// Appends what an import, or an exported declaration, is.
 pub fn put_described(out: &mut Vec<u8>, d: Description) -> Result<(), AllocError>
     ensures written { OnOk result (out.new.items ≡ out.old.items ++ described d) }
     ensures grows { (more : List ℕ) × (out.new.items ≡ out.old.items ++ more) }
@@ -174,6 +180,7 @@ pub fn put_named(out: &mut Vec<u8>, name: &str, d: Description) -> Result<(), Al
     put_described(out, d)
 }
 
+/// Appends an alias of an instance's export.
 pub fn put_alias_export(
     out: &mut Vec<u8>,
     s: Sort,
@@ -188,6 +195,7 @@ pub fn put_alias_export(
     put_text(out, name)
 }
 
+/// Appends an alias of an index of an enclosing scope.
 pub fn put_alias_outer(out: &mut Vec<u8>, s: Sort, count: u32, index: u32) -> Result<(), AllocError>
     ensures written { OnOk result (out.new.items ≡ out.old.items ++ alias_bytes (outer_alias s count index)) }
     ensures grows { (more : List ℕ) × (out.new.items ≡ out.old.items ++ more) }
@@ -207,6 +215,7 @@ pub fn put_argument(out: &mut Vec<u8>, name: &str, s: Sort, index: u32) -> Resul
     put_unsigned(out, u64::from(index))
 }
 
+/// Appends the arguments of an instantiation.
 pub fn put_arguments(out: &mut Vec<u8>, arguments: &[(&str, Sort, u32)]) -> Result<(), AllocError>
     ensures written { OnOk result (out.new.items ≡ out.old.items ++ vector argument (arguments_of arguments.now)) }
     ensures grows { (more : List ℕ) × (out.new.items ≡ out.old.items ++ more) }

@@ -20,3 +20,4 @@ pub mod EncodingLemmas
 pub mod MeansLemmas
 pub mod WriteAliasLemmas
 pub mod WriteArgumentsLemmas
+pub mod Rows

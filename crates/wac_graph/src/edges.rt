@@ -48,6 +48,7 @@ impl Model for Edges {
 }
 
 impl Edges {
+    /// The empty set.
     pub fn new(alloc: Global) -> Edges
         ensures { result ≡ set.empty }
     {
@@ -56,6 +57,7 @@ impl Edges {
         }
     }
 
+    /// Adds an edge; where memory runs out nothing has changed.
     pub fn add(&mut self, edge: Edge) -> Result<(), AllocError>
         ensures ok { OnOk result (self.new ≡ set.insert self.old edge) }
         ensures err { OnErr result (self.new ≡ self.old) }
@@ -64,12 +66,14 @@ impl Edges {
         Ok(())
     }
 
+    /// Whether the edge is in the set.
     pub fn contains(&self, edge: Edge) -> bool
         ensures { result ≡ set.contains self.now edge }
     {
         self.list.contains(&edge)
     }
 
+    /// Takes the edge out, if it is in the set.
     pub fn remove(&mut self, edge: Edge)
         ensures { self.new ≡ set.remove self.old edge }
     {

@@ -1,0 +1,60 @@
+//! The compositions that the program prints.
+
+ghost use Rattle.std.specs.Prelude.{◌≡◌, ⊤, IfOk, IsSome};
+ghost use Rattle.wac_graph.specs.Graph.{package_at};
+ghost use Rattle.wac_graph.specs.Steps.{IsEmpty};
+ghost use Rattle.wac_demo.specs.Composed.{Compose};
+
+use anyhow::Result;
+use std::alloc::Global;
+use wac_graph::types::{FuncType, ItemKind, World};
+use wac_graph::{CompositionGraph, EncodeOptions, PackageId};
+
+/// A component with nothing in it: no section, so the eight bytes of the preamble alone.
+pub const EMPTY_COMPONENT: [u8; 8] = [0x00, 0x61, 0x73, 0x6d, 0x0d, 0x00, 0x01, 0x00];
+
+/// The graph that holds nothing.
+pub fn empty(alloc: Global) -> Result<Vec<u8>>
+    ensures { IfOk result (λ bytes. Compose bytes.items IsEmpty) }
+{
+    let graph = CompositionGraph::new(alloc);
+    Ok(graph.encode(EncodeOptions::default())?)
+}
+
+/// Two packages: the function `a` of an instance of the first is given to an instance of the second as `b`.
+pub fn readme(alloc: Global) -> Result<Vec<u8>>
+    ensures { IfOk result (λ bytes. Compose bytes.items (λ _. ⊤)) }
+{
+    let mut graph = CompositionGraph::new(alloc);
+    let function = function(alloc, &mut graph)?;
+    let first = register(alloc, &mut graph, "my:package1", &[], &[("a", function)])?;
+    let giver = graph.instantiate(first)?;
+    let a = graph.alias_instance_export(giver, "a")?;
+    let second = register(alloc, &mut graph, "my:package2", &[("b", function)], &[])?;
+    let taker = graph.instantiate(second)?;
+    graph.set_instantiation_argument(taker, "b", a)?;
+    Ok(graph.encode(EncodeOptions::default())?)
+}
+
+/// A function type without parameters and result.
+pub fn function(alloc: Global, graph: &mut CompositionGraph) -> Result<ItemKind> {
+    let function = FuncType::new(alloc, &[], None, false)?;
+    Ok(ItemKind::Func(graph.add_func_type(function)?))
+}
+
+/// A registered package of a new world with these imports and exports, its bytes an empty component.
+pub fn register(
+    alloc: Global,
+    graph: &mut CompositionGraph,
+    name: &str,
+    imports: &[(&str, ItemKind)],
+    exports: &[(&str, ItemKind)],
+) -> Result<PackageId>
+    ensures held { IfOk result (λ id. IsSome (package_at graph.new id)) }
+    ensures nodes { graph.new.nodes ≡ graph.old.nodes }
+{
+    let world = graph.add_world(World::new(alloc, None, imports, exports)?)?;
+    let bytes = Vec::from_array(alloc, EMPTY_COMPONENT)?;
+    let package = graph.new_package(name, None, bytes, world)?;
+    Ok(graph.register_package(package)?)
+}

@@ -1,0 +1,600 @@
+-- Worked examples: graphs and the items that mean them.
+use Rattle.std.proofs.Common.{◌≡◌, ℕ, zero, suc, ◌<◌, Bool, true, false, not, ◌&&◌, ◌||◌, eqb, List, [], ◌∷◌, ◌++◌, length, map, Option, Some, None, refl, ap, sym, ◌∙◌, subst, arith, ◌⊎◌, inl, inr}
+use Rattle.std.specs.FinMap as finite
+use Rattle.std.specs.FinMap.{find}
+use Rattle.std.specs.FinSet as set
+use Rattle.std.specs.List.{flat_map}
+use Rattle.std.specs.Ordering.{nat_cmp, eq_by_cmp}
+use Rattle.std.specs.Cmp.{nat_cmp_total}
+use Rattle.std.specs.Prelude.{slice_get}
+use Rattle.std.proofs.lemmas.Bool.Decides.{nat_tests}
+use Rattle.wac_types.specs.Name.{Name, option_case}
+use Rattle.wac_types.specs.Tree.{Tree}
+use Rattle.wac_types.specs.Collection.{Collection}
+use Rattle.wac_types.specs.declared.component.ItemKind.{ItemKind}
+use Rattle.wac_types.specs.declared.component.ItemKind.TheVariants as item
+use Rattle.wac_binary.specs.declared.sorts.Sort.TheVariants as s
+use Rattle.wac_binary.specs.Bytes.{preamble}
+use Rattle.wac_binary.specs.Items.{Item, nested, instantiate, alias_item, export_alias, export_item}
+use Rattle.wac_binary.specs.Meaning.{meaning, projection, instance_at, stands_for, Thing}
+use Rattle.wac_graph.specs.declared.edges.Edge.{Edge}
+use Rattle.wac_graph.specs.declared.node.NodeId.{NodeId}
+use Rattle.wac_graph.specs.declared.packages.PackageId.{PackageId}
+use Rattle.wac_graph.specs.Edge.{edge_cmp, alias_edge, argument_edge}
+use Rattle.wac_graph.specs.Graph as graph
+use Rattle.wac_graph.specs.Graph.{Graph, GraphNode, node_at, imports_of, IsSatisfied}
+use Rattle.wac_graph.specs.Order.{Edges, Writes, IsLowestReady, without}
+use Rattle.wac_graph.specs.Asked.{Entry, class_names, merged, outer_imports}
+use Rattle.wac_graph.specs.Means.{Means, is_import, is_written, node_number, instantiations, used_after, used_packages, package_bytes, sort_of_kind, AreInstantiations, IsThing, as_instantiation, as_alias, given, HasItem, shown, export_of, export_item_of}
+use Rattle.wac_graph.proofs.EdgeLemmas.{edge_cmp_total, exact_edges}
+use Rattle.wac_graph.proofs.WrittenOrder.{eqb_same}
+use Rattle.wac_graph.proofs.ThingLemmas.{IsPlain}
+use Rattle.wac_graph.proofs.EncodeLemmas.{AllSet, asked_none}
+
+-- two packages of the same bytes: the first exports the function `a`, the second imports the function `b`
+abbrev of_function : ItemKind
+of_function = item.Func (record { 0 = 0 })
+
+abbrev types : Collection
+types = record {
+  funcs = record { item = record { params = []; result = None; is_async = false }; before = 0 } ∷ [];
+  interfaces = record { item = record { id = None; exports = (97 ∷ [], of_function) ∷ [] }; before = 2 } ∷ record { item = record { id = None; exports = [] }; before = 4 } ∷ [];
+  worlds = record { item = record { id = None; imports = []; exports = (97 ∷ [], of_function) ∷ [] }; before = 1 } ∷ record { item = record { id = None; imports = (98 ∷ [], of_function) ∷ []; exports = [] }; before = 3 } ∷ [];
+}
+
+abbrev first : PackageId
+first = record { slot = 0; generation = 0 }
+
+abbrev second : PackageId
+second = record { slot = 1; generation = 0 }
+
+-- the three nodes
+abbrev instance_of_first : GraphNode
+instance_of_first = record { kind = graph.instantiation; item_kind = item.Instance (record { 0 = 0 }); owner = Some first; name = None; export_name = None }
+
+abbrev alias_of_first : GraphNode
+alias_of_first = record { kind = graph.alias; item_kind = of_function; owner = Some first; name = None; export_name = None }
+
+abbrev instance_of_second : GraphNode
+instance_of_second = record { kind = graph.instantiation; item_kind = item.Instance (record { 0 = 1 }); owner = Some second; name = None; export_name = None }
+
+abbrev entries : List (ℕ × GraphNode)
+entries = (0, instance_of_first) ∷ (1, alias_of_first) ∷ (2, instance_of_second) ∷ []
+
+abbrev edge_list : List Edge
+edge_list = alias_edge 0 1 0 ∷ argument_edge 1 2 0 ∷ []
+
+-- an instance of the first, its alias `a`, an instance of the second, to which the alias is given as `b`
+abbrev readme_graph : Graph
+readme_graph = record {
+  types = types;
+  nodes = finite.from_entries entries;
+  next = 3;
+  edges = set.from_list edge_list;
+  exports = [];
+  slots =
+      record { generation = 0; «package» = Some (record { name = 112 ∷ []; version = None; bytes = preamble; world = record { 0 = 0 }; instance_type = record { 0 = 0 } }) }
+      ∷ record { generation = 0; «package» = Some (record { name = 113 ∷ []; version = None; bytes = preamble; world = record { 0 = 1 }; instance_type = record { 0 = 1 } }) } ∷ [];
+}
+
+abbrev readme : List Item
+readme = nested preamble ∷ instantiate 0 [] ∷ alias_item (export_alias s.Func 0 (97 ∷ [])) ∷ nested preamble ∷ instantiate 1 ((98 ∷ [], s.Func, 0) ∷ []) ∷ []
+
+-- a node of the graph is an entry of the list
+nodes_are : (n : ℕ) → node_at readme_graph (node_number n) ≡ find nat_cmp n entries
+nodes_are n = finite.get-from_entries nat_cmp_total entries n
+
+-- the nodes by number
+node_0 : node_at readme_graph (node_number 0) ≡ Some instance_of_first
+node_0 = nodes_are 0
+
+node_1 : node_at readme_graph (node_number 1) ≡ Some alias_of_first
+node_1 = nodes_are 1
+
+node_2 : node_at readme_graph (node_number 2) ≡ Some instance_of_second
+node_2 = nodes_are 2
+
+-- there are no others
+no_more : (n : ℕ) → node_at readme_graph (node_number (suc (suc (suc n)))) ≡ None
+no_more n =
+    let a : eq_by_cmp nat_cmp (suc (suc (suc n))) 0 ≡ false = grind (arith, nat_tests) in
+    let b : eq_by_cmp nat_cmp (suc (suc (suc n))) 1 ≡ false = grind (arith, nat_tests) in
+    let c : eq_by_cmp nat_cmp (suc (suc (suc n))) 2 ≡ false = grind (arith, nat_tests) in
+    nodes_are (suc (suc (suc n))) ∙ rw (a, b, c) refl
+
+some_same : {x y : GraphNode} → Some x ≡ Some y → x ≡ y
+some_same e = cc
+
+none_some : {x : GraphNode} → None ≡ Some x → ⊥
+none_some e = cc
+
+-- what holds of the three nodes holds of each
+by_node : (P : ℕ → GraphNode → Type 0) → P 0 instance_of_first → P 1 alias_of_first → P 2 instance_of_second → (n : ℕ) (node : GraphNode) → node_at readme_graph (node_number n) ≡ Some node → P n node
+by_node P a b c zero node is = subst (λ x. P 0 x) (some_same (sym node_0 ∙ is)) a
+by_node P a b c (suc zero) node is = subst (λ x. P 1 x) (some_same (sym node_1 ∙ is)) b
+by_node P a b c (suc (suc zero)) node is = subst (λ x. P 2 x) (some_same (sym node_2 ∙ is)) c
+by_node P a b c (suc (suc (suc n))) node is = absurd (none_some (sym (no_more n) ∙ is))
+
+either : (a b : Bool) → (a || (b || false)) ≡ true → (a ≡ true) ⊎ (b ≡ true)
+either true b h = inl refl
+either false true h = inr refl
+either false false h = inl h
+
+-- an edge of the graph is one of the two
+edges_are : (e : Edge) → set.contains readme_graph.edges e ≡ true → (e ≡ alias_edge 0 1 0) ⊎ (e ≡ argument_edge 1 2 0)
+edges_are e stands = split (either (eq_by_cmp edge_cmp e (alias_edge 0 1 0)) (eq_by_cmp edge_cmp e (argument_edge 1 2 0)) (sym (set.contains-from_list edge_cmp_total edge_list e) ∙ stands)) where
+  split : (eq_by_cmp edge_cmp e (alias_edge 0 1 0) ≡ true) ⊎ (eq_by_cmp edge_cmp e (argument_edge 1 2 0) ≡ true) → (e ≡ alias_edge 0 1 0) ⊎ (e ≡ argument_edge 1 2 0)
+  split (inl h) = inl (exact_edges e (alias_edge 0 1 0) h)
+  split (inr h) = inr (exact_edges e (argument_edge 1 2 0) h)
+
+-- both stand in it
+stands_alias : set.contains readme_graph.edges (alias_edge 0 1 0) ≡ true
+stands_alias = set.contains-from_list edge_cmp_total edge_list (alias_edge 0 1 0)
+
+stands_argument : set.contains readme_graph.edges (argument_edge 1 2 0) ≡ true
+stands_argument = set.contains-from_list edge_cmp_total edge_list (argument_edge 1 2 0)
+
+-- the instances are the first node and the third
+readme_instantiations : instantiations readme_graph (0 ∷ 1 ∷ 2 ∷ []) ≡ 0 ∷ 2 ∷ []
+readme_instantiations = rw (node_0, node_1, node_2) refl
+
+-- both packages are used, in this order
+readme_packages : used_packages readme_graph (0 ∷ 1 ∷ 2 ∷ []) ≡ first ∷ second ∷ []
+readme_packages = ap (used_after readme_graph []) readme_instantiations ∙ rw (node_0, node_2) refl
+
+-- the nested components are the bytes of the packages
+readme_components : (meaning readme).nested_bytes ≡ map (package_bytes readme_graph) (used_packages readme_graph (0 ∷ 1 ∷ 2 ∷ []))
+readme_components = ap (map (package_bytes readme_graph)) (sym readme_packages)
+
+-- which of the numbers are written
+abbrev three : ℕ → Bool
+three zero = true
+three (suc zero) = true
+three (suc (suc zero)) = true
+three (suc (suc (suc n))) = false
+
+-- the three nodes are written, and no others
+are_three : (n : ℕ) → is_written readme_graph n ≡ three n
+are_three zero = ap (λ o. option_case o false (λ node. not (is_import node.kind))) node_0
+are_three (suc zero) = ap (λ o. option_case o false (λ node. not (is_import node.kind))) node_1
+are_three (suc (suc zero)) = ap (λ o. option_case o false (λ node. not (is_import node.kind))) node_2
+are_three (suc (suc (suc n))) = ap (λ o. option_case o false (λ node. not (is_import node.kind))) (no_more n)
+
+-- the order speaks only of which nodes are left
+Writes-same : (edges : Edges) (p q : ℕ → Bool) → ((m : ℕ) → q m ≡ p m) → (order : List ℕ) → Writes edges p order → Writes edges q order
+Writes-same edges p q h [] done = λ m. h m ∙ done m
+Writes-same edges p q h (n ∷ ns) (ready, later) = (
+  record {
+    here = h n ∙ ready.here;
+    free = λ e stands leads. h e.source ∙ ready.free e stands leads;
+    lower = λ m small left. let (e, stands, to, from) = ready.lower m small (sym (h m) ∙ left) in (e, stands, to, h e.source ∙ from);
+  },
+  Writes-same edges (without p n) (without q n) (λ m. ap (λ b. b && not (eqb m n)) (h m)) ns later,
+)
+
+not_below_0 : (m : ℕ) → m < 0 → ⊥
+not_below_0 m h = omega arith
+
+not_below_1 : (m : ℕ) → suc m < 1 → ⊥
+not_below_1 m h = omega arith
+
+not_below_2 : (m : ℕ) → suc (suc m) < 2 → ⊥
+not_below_2 m h = omega arith
+
+not_below_3 : (m : ℕ) → suc (suc (suc m)) < 3 → ⊥
+not_below_3 m h = omega arith
+
+clash : {b : Bool} → b ≡ true → b ≡ false → ⊥
+clash h k = cc
+
+differ : (m n : ℕ) → m ≡ n → eqb m n ≡ false → ⊥
+differ m n h k = clash (ap (λ x. eqb m x) (sym h) ∙ eqb_same m) k
+
+-- the first node is ready at once, the alias after it, the second instance last
+ready_0 : IsLowestReady readme_graph.edges three 0
+ready_0 = record { here = refl; free = λ e stands leads. split e leads (edges_are e stands); lower = λ m small _. absurd (not_below_0 m small) } where
+  split : (e : Edge) → e.target ≡ 0 → (e ≡ alias_edge 0 1 0) ⊎ (e ≡ argument_edge 1 2 0) → three e.source ≡ false
+  split e leads (inl is) = absurd (differ 1 0 (ap (λ (x : Edge). x.target) (sym is) ∙ leads) refl)
+  split e leads (inr is) = absurd (differ 2 0 (ap (λ (x : Edge). x.target) (sym is) ∙ leads) refl)
+
+ready_1 : IsLowestReady readme_graph.edges (without three 0) 1
+ready_1 = record { here = refl; free = λ e stands leads. split e leads (edges_are e stands); lower = λ m small left. absurd (lower m small left) } where
+  split : (e : Edge) → e.target ≡ 1 → (e ≡ alias_edge 0 1 0) ⊎ (e ≡ argument_edge 1 2 0) → without three 0 e.source ≡ false
+  split e leads (inl is) = ap (λ (x : Edge). without three 0 x.source) is
+  split e leads (inr is) = absurd (differ 2 1 (ap (λ (x : Edge). x.target) (sym is) ∙ leads) refl)
+
+  lower : (m : ℕ) → m < 1 → without three 0 m ≡ true → ⊥
+  lower zero _ left = clash left refl
+  lower (suc m) small _ = not_below_1 m small
+
+ready_2 : IsLowestReady readme_graph.edges (without (without three 0) 1) 2
+ready_2 = record { here = refl; free = λ e stands leads. split e leads (edges_are e stands); lower = λ m small left. absurd (lower m small left) } where
+  split : (e : Edge) → e.target ≡ 2 → (e ≡ alias_edge 0 1 0) ⊎ (e ≡ argument_edge 1 2 0) → without (without three 0) 1 e.source ≡ false
+  split e leads (inl is) = absurd (differ 1 2 (ap (λ (x : Edge). x.target) (sym is) ∙ leads) refl)
+  split e leads (inr is) = ap (λ (x : Edge). without (without three 0) 1 x.source) is
+
+  lower : (m : ℕ) → m < 2 → without (without three 0) 1 m ≡ true → ⊥
+  lower zero _ left = clash left refl
+  lower (suc zero) _ left = clash left refl
+  lower (suc (suc m)) small _ = not_below_2 m small
+
+-- none is left after the three
+none_left : (m : ℕ) → without (without (without three 0) 1) 2 m ≡ false
+none_left zero = refl
+none_left (suc zero) = refl
+none_left (suc (suc zero)) = refl
+none_left (suc (suc (suc m))) = refl
+
+-- the nodes can be written in this order
+pub readme_in_order : Writes readme_graph.edges (is_written readme_graph) (0 ∷ 1 ∷ 2 ∷ [])
+readme_in_order = Writes-same readme_graph.edges three (is_written readme_graph) are_three (0 ∷ 1 ∷ 2 ∷ []) (ready_0, (ready_1, (ready_2, none_left)))
+
+-- what each node stands for, its index and the place of its item
+abbrev readme_at : ℕ → Thing
+readme_at zero = instance_at 0
+readme_at (suc zero) = projection (instance_at 0) (97 ∷ [])
+readme_at (suc (suc n)) = instance_at 1
+
+abbrev readme_index : ℕ → ℕ
+readme_index zero = 0
+readme_index (suc zero) = 0
+readme_index (suc (suc n)) = 1
+
+abbrev readme_place : ℕ → ℕ
+readme_place zero = 1
+readme_place (suc zero) = 2
+readme_place (suc (suc n)) = 4
+
+readme_plain : IsPlain readme_graph
+readme_plain = by_node (λ n node. (node.kind ≡ graph.instantiation) ⊎ (node.kind ≡ graph.alias)) (inl refl) (inr refl) (inl refl)
+
+alias_differs : graph.alias ≡ graph.instantiation → ⊥
+alias_differs h = cc
+
+-- the second instance has its argument, the first needs none
+all_given : AllSet readme_graph
+all_given = by_node (λ n node. node.kind ≡ graph.instantiation → (i : ℕ) → i < length (imports_of readme_graph node) → IsSatisfied readme_graph (node_number n) i)
+    (λ _ i small. absurd (not_below_0 i small))
+    (λ wrong. absurd (alias_differs wrong))
+    (λ _ i small. of_second i small) where
+      of_second : (i : ℕ) → i < 1 → IsSatisfied readme_graph (node_number 2) i
+      of_second zero _ = (node_number 1, stands_argument)
+      of_second (suc i) small = absurd (not_below_1 i small)
+
+-- nothing is asked
+readme_imports : (meaning readme).imports ≡ outer_imports readme_graph
+readme_imports = ap (λ es. outer_of es) (sym (asked_none readme_graph readme_plain all_given)) where
+  outer_of : List Entry → List (Name × Tree)
+  outer_of es = map (λ name. (name, merged readme_graph name)) (class_names es)
+
+-- the two instantiations, the second with the alias as `b`
+readme_instances : AreInstantiations readme_graph readme_at (0 ∷ 1 ∷ 2 ∷ []) (instantiations readme_graph (0 ∷ 1 ∷ 2 ∷ [])) (meaning readme).instantiations
+readme_instances = subst (λ ns. AreInstantiations readme_graph readme_at (0 ∷ 1 ∷ 2 ∷ []) ns (meaning readme).instantiations) (sym readme_instantiations) (
+  record { node = instance_of_first; there = node_0; owner = first; owned = refl; place = 0; used = ap (λ ps. slice_get ps 0) readme_packages; component = refl; arguments = tt },
+  (record { node = instance_of_second; there = node_2; owner = second; owned = refl; place = 1; used = ap (λ ps. slice_get ps 1) readme_packages; component = refl; arguments = (refl, given (node_number 1) stands_argument, tt) }, tt),
+)
+
+-- what each node is
+readme_things : (n : ℕ) (node : GraphNode) → node_at readme_graph (node_number n) ≡ Some node → IsThing readme_graph readme_at (0 ∷ 1 ∷ 2 ∷ []) n node
+readme_things = by_node (λ n node. IsThing readme_graph readme_at (0 ∷ 1 ∷ 2 ∷ []) n node)
+    (as_instantiation 0 refl (ap (λ ns. slice_get ns 0) readme_instantiations) refl)
+    (as_alias (node_number 0) instance_of_first 0 (97 ∷ []) refl stands_alias node_0 refl refl)
+    (as_instantiation 1 refl (ap (λ ns. slice_get ns 1) readme_instantiations) refl)
+
+-- each node stands at its index
+readme_stand : (n : ℕ) (node : GraphNode) → node_at readme_graph (node_number n) ≡ Some node → stands_for (meaning readme) (sort_of_kind node.item_kind) (readme_index n) ≡ readme_at n
+readme_stand = by_node (λ n node. stands_for (meaning readme) (sort_of_kind node.item_kind) (readme_index n) ≡ readme_at n) refl refl refl
+
+-- each node has its item
+readme_items : (n : ℕ) (node : GraphNode) → node_at readme_graph (node_number n) ≡ Some node → HasItem readme node (readme_index n) (readme_place n)
+readme_items = by_node (λ n node. HasItem readme node (readme_index n) (readme_place n))
+    (record { it = instantiate 0 []; before = nested preamble ∷ []; after = alias_item (export_alias s.Func 0 (97 ∷ [])) ∷ nested preamble ∷ instantiate 1 ((98 ∷ [], s.Func, 0) ∷ []) ∷ []; split = refl; here = refl; own = refl; adds = refl; counted = refl })
+    (record { it = alias_item (export_alias s.Func 0 (97 ∷ [])); before = nested preamble ∷ instantiate 0 [] ∷ []; after = nested preamble ∷ instantiate 1 ((98 ∷ [], s.Func, 0) ∷ []) ∷ []; split = refl; here = refl; own = refl; adds = refl; counted = refl })
+    (record { it = instantiate 1 ((98 ∷ [], s.Func, 0) ∷ []); before = nested preamble ∷ instantiate 0 [] ∷ alias_item (export_alias s.Func 0 (97 ∷ [])) ∷ nested preamble ∷ []; after = []; split = refl; here = refl; own = refl; adds = refl; counted = refl })
+
+some_number : {x y : ℕ} → Some x ≡ Some y → x ≡ y
+some_number e = cc
+
+no_number : {x : ℕ} → None ≡ Some x → ⊥
+no_number e = cc
+
+-- the numbers stand at their own positions
+in_three : (i n : ℕ) → slice_get (0 ∷ 1 ∷ 2 ∷ []) i ≡ Some n → (i ≡ n) × (i < 3)
+in_three zero n h = (some_number h, omega arith)
+in_three (suc zero) n h = (some_number h, omega arith)
+in_three (suc (suc zero)) n h = (some_number h, omega arith)
+in_three (suc (suc (suc i))) n h = absurd (no_number h)
+
+rises : (i j : ℕ) → i < j → j < 3 → readme_place i < readme_place j
+rises zero zero h _ = absurd (not_below_0 zero h)
+rises zero (suc zero) _ _ = omega arith
+rises zero (suc (suc zero)) _ _ = omega arith
+rises (suc zero) zero h _ = absurd (not_below_0 (suc zero) h)
+rises (suc zero) (suc zero) h _ = absurd (not_below_1 zero h)
+rises (suc zero) (suc (suc zero)) _ _ = omega arith
+rises (suc (suc i)) zero h _ = absurd (not_below_0 (suc (suc i)) h)
+rises (suc (suc i)) (suc zero) h _ = absurd (not_below_1 (suc i) h)
+rises (suc (suc i)) (suc (suc zero)) h _ = absurd (not_below_2 i h)
+rises i (suc (suc (suc j))) _ h = absurd (not_below_3 j h)
+
+-- the items stand in the order of the nodes
+readme_in_place : (i j n m : ℕ) → i < j → slice_get (0 ∷ 1 ∷ 2 ∷ []) i ≡ Some n → slice_get (0 ∷ 1 ∷ 2 ∷ []) j ≡ Some m → readme_place n < readme_place m
+readme_in_place i j n m less first_is second_is =
+    let (a, _) = in_three i n first_is in
+    let (b, small) = in_three j m second_is in
+    subst (λ k. readme_place k < readme_place m) a (subst (λ k. readme_place i < readme_place k) b (rises i j less small))
+
+-- the items mean the graph
+pub readme_means : Means readme readme_graph
+readme_means = record {
+  order = 0 ∷ 1 ∷ 2 ∷ [];
+  in_order = readme_in_order;
+  at = readme_at;
+  index = readme_index;
+  imports = readme_imports;
+  components = readme_components;
+  instances = readme_instances;
+  things = readme_things;
+  stand = readme_stand;
+  exports = refl;
+  place = readme_place;
+  own_items = λ n node there _. readme_items n node there;
+  in_place = readme_in_place;
+  body = readme;
+  last = refl;
+  customs = refl;
+}
+
+-- of graphs with two nodes
+abbrev both : ℕ → Bool
+both zero = true
+both (suc zero) = true
+both (suc (suc n)) = false
+
+module _ (g : Graph) (x y : GraphNode) (is_0 : node_at g (node_number 0) ≡ Some x) (is_1 : node_at g (node_number 1) ≡ Some y) (more : (n : ℕ) → node_at g (node_number (suc (suc n))) ≡ None) where
+  -- what holds of the two nodes holds of each
+  by_two : (P : ℕ → GraphNode → Type 0) → P 0 x → P 1 y → (n : ℕ) (node : GraphNode) → node_at g (node_number n) ≡ Some node → P n node
+  by_two P a b zero node is = subst (λ z. P 0 z) (some_same (sym is_0 ∙ is)) a
+  by_two P a b (suc zero) node is = subst (λ z. P 1 z) (some_same (sym is_1 ∙ is)) b
+  by_two P a b (suc (suc n)) node is = absurd (none_some (sym (more n) ∙ is))
+
+  are_both : not (is_import x.kind) ≡ true → not (is_import y.kind) ≡ true → (n : ℕ) → is_written g n ≡ both n
+  are_both a b zero = ap (λ o. option_case o false (λ node. not (is_import node.kind))) is_0 ∙ a
+  are_both a b (suc zero) = ap (λ o. option_case o false (λ node. not (is_import node.kind))) is_1 ∙ b
+  are_both a b (suc (suc n)) = ap (λ o. option_case o false (λ node. not (is_import node.kind))) (more n)
+
+lower_1 : (m : ℕ) → m < 1 → without both 0 m ≡ true → ⊥
+lower_1 zero _ left = clash left refl
+lower_1 (suc m) small _ = not_below_1 m small
+
+none_of_both : (m : ℕ) → without (without both 0) 1 m ≡ false
+none_of_both zero = refl
+none_of_both (suc zero) = refl
+none_of_both (suc (suc m)) = refl
+
+-- the numbers stand at their own positions
+in_two : (i n : ℕ) → slice_get (0 ∷ 1 ∷ []) i ≡ Some n → (i ≡ n) × (i < 2)
+in_two zero n h = (some_number h, omega arith)
+in_two (suc zero) n h = (some_number h, omega arith)
+in_two (suc (suc i)) n h = absurd (no_number h)
+
+-- two instances of the first package: its component is there once
+abbrev twice_entries : List (ℕ × GraphNode)
+twice_entries = (0, instance_of_first) ∷ (1, instance_of_first) ∷ []
+
+abbrev twice_graph : Graph
+twice_graph = record readme_graph { nodes = finite.from_entries twice_entries; next = 2; edges = set.from_list [] }
+
+abbrev twice : List Item
+twice = nested preamble ∷ instantiate 0 [] ∷ instantiate 0 [] ∷ []
+
+twice_are : (n : ℕ) → node_at twice_graph (node_number n) ≡ find nat_cmp n twice_entries
+twice_are n = finite.get-from_entries nat_cmp_total twice_entries n
+
+-- the nodes by number
+twice_0 : node_at twice_graph (node_number 0) ≡ Some instance_of_first
+twice_0 = twice_are 0
+
+twice_1 : node_at twice_graph (node_number 1) ≡ Some instance_of_first
+twice_1 = twice_are 1
+
+twice_more : (n : ℕ) → node_at twice_graph (node_number (suc (suc n))) ≡ None
+twice_more n =
+    let a : eq_by_cmp nat_cmp (suc (suc n)) 0 ≡ false = grind (arith, nat_tests) in
+    let b : eq_by_cmp nat_cmp (suc (suc n)) 1 ≡ false = grind (arith, nat_tests) in
+    twice_are (suc (suc n)) ∙ rw (a, b) refl
+
+by_twice : (P : ℕ → GraphNode → Type 0) → P 0 instance_of_first → P 1 instance_of_first → (n : ℕ) (node : GraphNode) → node_at twice_graph (node_number n) ≡ Some node → P n node
+by_twice = by_two twice_graph instance_of_first instance_of_first twice_0 twice_1 twice_more
+
+-- there are no edges
+twice_no_edge : (e : Edge) → set.contains twice_graph.edges e ≡ true → ⊥
+twice_no_edge e stands = clash stands (set.contains-from_list edge_cmp_total [] e)
+
+-- both nodes are instances
+twice_instantiations : instantiations twice_graph (0 ∷ 1 ∷ []) ≡ 0 ∷ 1 ∷ []
+twice_instantiations = rw (twice_0, twice_1) refl
+
+-- one package is used
+twice_packages : used_packages twice_graph (0 ∷ 1 ∷ []) ≡ first ∷ []
+twice_packages = ap (used_after twice_graph []) twice_instantiations ∙ rw (twice_0, twice_1) refl
+
+-- by number, as no edge leads to either
+pub twice_in_order : Writes twice_graph.edges (is_written twice_graph) (0 ∷ 1 ∷ [])
+twice_in_order = Writes-same twice_graph.edges both (is_written twice_graph) (are_both twice_graph instance_of_first instance_of_first twice_0 twice_1 twice_more refl refl) (0 ∷ 1 ∷ []) (
+  record { here = refl; free = λ e stands _. absurd (twice_no_edge e stands); lower = λ m small _. absurd (not_below_0 m small) },
+  (record { here = refl; free = λ e stands _. absurd (twice_no_edge e stands); lower = λ m small left. absurd (lower_1 m small left) }, none_of_both),
+)
+
+abbrev twice_at : ℕ → Thing
+twice_at n = instance_at n
+
+abbrev twice_place : ℕ → ℕ
+twice_place n = suc n
+
+twice_imports : (meaning twice).imports ≡ outer_imports twice_graph
+twice_imports = ap (λ es. outer_of es) (sym (asked_none twice_graph plain all)) where
+  outer_of : List Entry → List (Name × Tree)
+  outer_of es = map (λ name. (name, merged twice_graph name)) (class_names es)
+
+  plain : IsPlain twice_graph
+  plain = by_twice (λ n node. (node.kind ≡ graph.instantiation) ⊎ (node.kind ≡ graph.alias)) (inl refl) (inl refl)
+
+  all : AllSet twice_graph
+  all = by_twice (λ n node. node.kind ≡ graph.instantiation → (i : ℕ) → i < length (imports_of twice_graph node) → IsSatisfied twice_graph (node_number n) i) (λ _ i small. absurd (not_below_0 i small)) (λ _ i small. absurd (not_below_0 i small))
+
+twice_instances : AreInstantiations twice_graph twice_at (0 ∷ 1 ∷ []) (instantiations twice_graph (0 ∷ 1 ∷ [])) (meaning twice).instantiations
+twice_instances = subst (λ ns. AreInstantiations twice_graph twice_at (0 ∷ 1 ∷ []) ns (meaning twice).instantiations) (sym twice_instantiations) (
+  record { node = instance_of_first; there = twice_0; owner = first; owned = refl; place = 0; used = ap (λ ps. slice_get ps 0) twice_packages; component = refl; arguments = tt },
+  (record { node = instance_of_first; there = twice_1; owner = first; owned = refl; place = 0; used = ap (λ ps. slice_get ps 0) twice_packages; component = refl; arguments = tt }, tt),
+)
+
+twice_in_place : (i j n m : ℕ) → i < j → slice_get (0 ∷ 1 ∷ []) i ≡ Some n → slice_get (0 ∷ 1 ∷ []) j ≡ Some m → suc n < suc m
+twice_in_place i j n m less first_is second_is =
+    let (a, _) = in_two i n first_is in
+    let (b, _) = in_two j m second_is in
+    omega (arith, less, a, b)
+
+-- the items mean the graph: each instance is one of its own
+pub twice_means : Means twice twice_graph
+twice_means = record {
+  order = 0 ∷ 1 ∷ [];
+  in_order = twice_in_order;
+  at = twice_at;
+  index = λ n. n;
+  imports = twice_imports;
+  components = ap (map (package_bytes twice_graph)) (sym twice_packages);
+  instances = twice_instances;
+  things = by_twice (λ n node. IsThing twice_graph twice_at (0 ∷ 1 ∷ []) n node)
+      (as_instantiation 0 refl (ap (λ ns. slice_get ns 0) twice_instantiations) refl)
+      (as_instantiation 1 refl (ap (λ ns. slice_get ns 1) twice_instantiations) refl);
+  stand = by_twice (λ n node. stands_for (meaning twice) (sort_of_kind node.item_kind) n ≡ twice_at n) refl refl;
+  exports = refl;
+  place = twice_place;
+  own_items = λ n node there _. by_twice (λ k x. HasItem twice x k (twice_place k))
+      (record { it = instantiate 0 []; before = nested preamble ∷ []; after = instantiate 0 [] ∷ []; split = refl; here = refl; own = refl; adds = refl; counted = refl })
+      (record { it = instantiate 0 []; before = nested preamble ∷ instantiate 0 [] ∷ []; after = []; split = refl; here = refl; own = refl; adds = refl; counted = refl })
+      n node there;
+  in_place = twice_in_place;
+  body = twice;
+  last = refl;
+  customs = refl;
+}
+
+-- an instance of the first package, and its alias `a`, exported as `x`
+abbrev exported_alias : GraphNode
+exported_alias = record alias_of_first { export_name = Some (120 ∷ []) }
+
+abbrev exporting_entries : List (ℕ × GraphNode)
+exporting_entries = (0, instance_of_first) ∷ (1, exported_alias) ∷ []
+
+abbrev exporting_graph : Graph
+exporting_graph = record readme_graph { nodes = finite.from_entries exporting_entries; next = 2; edges = set.from_list (alias_edge 0 1 0 ∷ []); exports = (120 ∷ [], node_number 1) ∷ [] }
+
+abbrev exporting_body : List Item
+exporting_body = nested preamble ∷ instantiate 0 [] ∷ alias_item (export_alias s.Func 0 (97 ∷ [])) ∷ []
+
+abbrev exporting : List Item
+exporting = nested preamble ∷ instantiate 0 [] ∷ alias_item (export_alias s.Func 0 (97 ∷ [])) ∷ export_item (120 ∷ []) s.Func 0 ∷ []
+
+exporting_are : (n : ℕ) → node_at exporting_graph (node_number n) ≡ find nat_cmp n exporting_entries
+exporting_are n = finite.get-from_entries nat_cmp_total exporting_entries n
+
+-- the nodes by number
+exporting_0 : node_at exporting_graph (node_number 0) ≡ Some instance_of_first
+exporting_0 = exporting_are 0
+
+exporting_1 : node_at exporting_graph (node_number 1) ≡ Some exported_alias
+exporting_1 = exporting_are 1
+
+exporting_more : (n : ℕ) → node_at exporting_graph (node_number (suc (suc n))) ≡ None
+exporting_more n =
+    let a : eq_by_cmp nat_cmp (suc (suc n)) 0 ≡ false = grind (arith, nat_tests) in
+    let b : eq_by_cmp nat_cmp (suc (suc n)) 1 ≡ false = grind (arith, nat_tests) in
+    exporting_are (suc (suc n)) ∙ rw (a, b) refl
+
+by_exporting : (P : ℕ → GraphNode → Type 0) → P 0 instance_of_first → P 1 exported_alias → (n : ℕ) (node : GraphNode) → node_at exporting_graph (node_number n) ≡ Some node → P n node
+by_exporting = by_two exporting_graph instance_of_first exported_alias exporting_0 exporting_1 exporting_more
+
+or_false : (b : Bool) → (b || false) ≡ true → b ≡ true
+or_false true h = refl
+or_false false h = h
+
+-- there is one edge
+exporting_edge : (e : Edge) → set.contains exporting_graph.edges e ≡ true → e ≡ alias_edge 0 1 0
+exporting_edge e stands = exact_edges e (alias_edge 0 1 0) (or_false (eq_by_cmp edge_cmp e (alias_edge 0 1 0)) (sym (set.contains-from_list edge_cmp_total (alias_edge 0 1 0 ∷ []) e) ∙ stands))
+
+exporting_stands : set.contains exporting_graph.edges (alias_edge 0 1 0) ≡ true
+exporting_stands = set.contains-from_list edge_cmp_total (alias_edge 0 1 0 ∷ []) (alias_edge 0 1 0)
+
+-- one node is an instance
+exporting_instantiations : instantiations exporting_graph (0 ∷ 1 ∷ []) ≡ 0 ∷ []
+exporting_instantiations = rw (exporting_0, exporting_1) refl
+
+-- its package is used
+exporting_packages : used_packages exporting_graph (0 ∷ 1 ∷ []) ≡ first ∷ []
+exporting_packages = ap (used_after exporting_graph []) exporting_instantiations ∙ rw exporting_0 refl
+
+-- the instance before its alias
+pub exporting_in_order : Writes exporting_graph.edges (is_written exporting_graph) (0 ∷ 1 ∷ [])
+exporting_in_order = Writes-same exporting_graph.edges both (is_written exporting_graph) (are_both exporting_graph instance_of_first exported_alias exporting_0 exporting_1 exporting_more refl refl) (0 ∷ 1 ∷ []) (
+  record { here = refl; free = λ e stands leads. absurd (differ 1 0 (ap (λ (x : Edge). x.target) (sym (exporting_edge e stands)) ∙ leads) refl); lower = λ m small _. absurd (not_below_0 m small) },
+  (record { here = refl; free = λ e stands _. ap (λ (x : Edge). without both 0 x.source) (exporting_edge e stands); lower = λ m small left. absurd (lower_1 m small left) }, none_of_both),
+)
+
+exporting_imports : (meaning exporting).imports ≡ outer_imports exporting_graph
+exporting_imports = ap (λ es. outer_of es) (sym (asked_none exporting_graph plain all)) where
+  outer_of : List Entry → List (Name × Tree)
+  outer_of es = map (λ name. (name, merged exporting_graph name)) (class_names es)
+
+  plain : IsPlain exporting_graph
+  plain = by_exporting (λ n node. (node.kind ≡ graph.instantiation) ⊎ (node.kind ≡ graph.alias)) (inl refl) (inr refl)
+
+  all : AllSet exporting_graph
+  all = by_exporting (λ n node. node.kind ≡ graph.instantiation → (i : ℕ) → i < length (imports_of exporting_graph node) → IsSatisfied exporting_graph (node_number n) i) (λ _ i small. absurd (not_below_0 i small)) (λ wrong. absurd (alias_differs wrong))
+
+exporting_instances : AreInstantiations exporting_graph readme_at (0 ∷ 1 ∷ []) (instantiations exporting_graph (0 ∷ 1 ∷ [])) (meaning exporting).instantiations
+exporting_instances = subst (λ ns. AreInstantiations exporting_graph readme_at (0 ∷ 1 ∷ []) ns (meaning exporting).instantiations) (sym exporting_instantiations) (
+  record { node = instance_of_first; there = exporting_0; owner = first; owned = refl; place = 0; used = ap (λ ps. slice_get ps 0) exporting_packages; component = refl; arguments = tt },
+  tt,
+)
+
+exporting_in_place : (i j n m : ℕ) → i < j → slice_get (0 ∷ 1 ∷ []) i ≡ Some n → slice_get (0 ∷ 1 ∷ []) j ≡ Some m → readme_place n < readme_place m
+exporting_in_place i j n m less first_is second_is =
+    let (a, _) = in_two i n first_is in
+    let (b, small) = in_two j m second_is in
+    subst (λ k. readme_place k < readme_place m) a (subst (λ k. readme_place i < readme_place k) b (rises i j less (omega (arith, small))))
+
+-- what is exported is the alias
+exporting_exports : map shown (meaning exporting).exports ≡ flat_map (export_of exporting_graph readme_at) exporting_graph.exports
+exporting_exports = sym (ap (λ (o : Option GraphNode). option_case o [] (λ node. (120 ∷ [], sort_of_kind node.item_kind, projection (instance_at 0) (97 ∷ [])) ∷ []) ++ []) exporting_1)
+
+-- the export comes last
+exporting_last : exporting ≡ exporting_body ++ flat_map (export_item_of exporting_graph readme_index) exporting_graph.exports
+exporting_last = sym (ap (λ (o : Option GraphNode). exporting_body ++ (option_case o [] (λ node. export_item (120 ∷ []) (sort_of_kind node.item_kind) 0 ∷ []) ++ [])) exporting_1)
+
+-- the items mean the graph
+pub exporting_means : Means exporting exporting_graph
+exporting_means = record {
+  order = 0 ∷ 1 ∷ [];
+  in_order = exporting_in_order;
+  at = readme_at;
+  index = readme_index;
+  imports = exporting_imports;
+  components = ap (map (package_bytes exporting_graph)) (sym exporting_packages);
+  instances = exporting_instances;
+  things = by_exporting (λ n node. IsThing exporting_graph readme_at (0 ∷ 1 ∷ []) n node)
+      (as_instantiation 0 refl (ap (λ ns. slice_get ns 0) exporting_instantiations) refl)
+      (as_alias (node_number 0) instance_of_first 0 (97 ∷ []) refl exporting_stands exporting_0 refl refl);
+  stand = by_exporting (λ n node. stands_for (meaning exporting) (sort_of_kind node.item_kind) (readme_index n) ≡ readme_at n) refl refl;
+  exports = exporting_exports;
+  place = readme_place;
+  own_items = λ n node there _. by_exporting (λ k x. HasItem exporting x (readme_index k) (readme_place k))
+      (record { it = instantiate 0 []; before = nested preamble ∷ []; after = alias_item (export_alias s.Func 0 (97 ∷ [])) ∷ export_item (120 ∷ []) s.Func 0 ∷ []; split = refl; here = refl; own = refl; adds = refl; counted = refl })
+      (record { it = alias_item (export_alias s.Func 0 (97 ∷ [])); before = nested preamble ∷ instantiate 0 [] ∷ []; after = export_item (120 ∷ []) s.Func 0 ∷ []; split = refl; here = refl; own = refl; adds = refl; counted = refl })
+      n node there;
+  in_place = exporting_in_place;
+  body = exporting_body;
+  last = exporting_last;
+  customs = refl;
+}

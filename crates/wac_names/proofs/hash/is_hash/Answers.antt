@@ -1,0 +1,9 @@
+use Rattle.std.proofs.Common.{lit<, rules}
+use Rattle.std.proofs.lemmas.Iterator.Splits.{YieldsList-from_str_split}
+use Rattle.std.proofs.lemmas.Iterator.Search.{all_from_yields_List}
+use Rattle.wac_names.specs.Reading.{is_hash, is_hash_item}
+use Rattle.wac_names.proofs.hash.is_hash.Goals as goal
+
+pub returns : goal.returns
+unfolding is_hash
+returns c = all_from_yields_List is_hash_item _ _ _ c.all.ensures.ran (YieldsList-from_str_split 32 c.args.text.now (lit< tt) c.split.ensures.text c.split.ensures.has_more c.split.ensures.pattern) (λ x b q k. search rules)

@@ -1,0 +1,10 @@
+pub mod Text
+pub mod Label
+pub mod Kind
+pub mod Grammar
+pub mod Faults
+pub mod Track
+pub mod Reading
+pub mod Views
+pub mod Name
+pub mod Clash
