@@ -1,5 +1,5 @@
 -- The nodes that the calls of a composition give are in the graph, and stay there.
-use Rattle.std.proofs.Common.{◌≡◌, ◌≢◌, ℕ, ap, ◌∙◌, sym, subst, Option, Some, None, Ok, IfSome, IsSome, is_some, true, ◌⊎◌, inl, inr}
+use Rattle.std.proofs.Common.{◌≡◌, ℕ, ap, ◌∙◌, sym, subst, Option, Some, None, Ok, IfSome, IsSome, is_some, true, inl, inr}
 use Rattle.std.specs.Prelude.{IsSomeAnd}
 use Rattle.std.specs.FinMap as map
 use Rattle.std.specs.FinSet as set

@@ -1,5 +1,5 @@
 -- From what a composition answers to what the program prints.
-use Rattle.std.proofs.Common.{◌≡◌, ℕ, nat_eq, List, length, ap, subst, arith, Option, Result, Ok, Err, IfOk, ◌⊎◌, inl, inr}
+use Rattle.std.proofs.Common.{◌≡◌, ℕ, nat_eq, List, length, ap, subst, arith, Option, Result, Ok, Err, IfOk, inl, inr}
 use Rattle.std.proofs.lemmas.Bool.{false≢true}
 use Rattle.std.specs.Io.KnownBytes.{Appends}
 use Rattle.wac_graph.specs.Graph.{Graph}

@@ -4,6 +4,8 @@
 mod args;
 mod compositions;
 mod run;
+#[cfg(test)]
+mod tests;
 
 use args::asked_word;
 use run::{refuse, run};

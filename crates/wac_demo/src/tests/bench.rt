@@ -1,0 +1,199 @@
+// Calls on a graph as the rows of a table, each with what it answers.
+use crate::compositions::{function, register};
+use std::alloc::Global;
+use std::fmt::Display;
+use std::process::Abort;
+use std::test::Fail;
+use wac_graph::types::{FuncType, Interface, ItemKind, PrimitiveType, ValueType};
+use wac_graph::{CompositionGraph, EncodeOptions, NodeId, PackageId};
+
+// What a package imports or exports.
+#[derive(Clone, Copy)]
+pub enum Item {
+    // A function without parameters and result.
+    Plain,
+    // A function with a parameter.
+    Other,
+    // An instance that exports the function `a`.
+    Instance,
+}
+
+// A call. A package or a node is meant by its place among those that were answered.
+#[derive(Clone, Copy)]
+pub enum Call<'a> {
+    // A package of this name, with one import or none, and one export or none.
+    Register(&'a str, &'a [(&'a str, Item)], &'a [(&'a str, Item)]),
+    Instantiate(usize),
+    Alias(usize, &'a str),
+    // A node is given this argument, a node.
+    Set(usize, &'a str, usize),
+    Export(usize, &'a str),
+}
+
+// A graph, and what it answered so far.
+#[derive(Drop)]
+pub struct Bench {
+    alloc: Global,
+    graph: CompositionGraph,
+    packages: Vec<PackageId>,
+    nodes: Vec<NodeId>,
+}
+
+fn shown<T: Display + Drop>(alloc: Global, value: T) -> Result<String, Fail> {
+    Ok(format!(in alloc; "{value}")?)
+}
+
+fn other_function(alloc: Global, graph: &mut CompositionGraph) -> Result<ItemKind, Fail> {
+    let params = [("p", ValueType::Primitive(PrimitiveType::Bool))];
+    let function = FuncType::new(alloc, &params, None, false)?;
+    Ok(ItemKind::Func(graph.add_func_type(function)?))
+}
+
+fn instance(alloc: Global, graph: &mut CompositionGraph) -> Result<ItemKind, Fail> {
+    let a = function(alloc, graph)?;
+    let interface = Interface::new(alloc, None, &[("a", a)])?;
+    Ok(ItemKind::Instance(graph.add_interface(interface)?))
+}
+
+impl Bench {
+    pub fn new(alloc: Global) -> Bench {
+        Bench {
+            alloc,
+            graph: CompositionGraph::new(alloc),
+            packages: Vec::new(alloc),
+            nodes: Vec::new(alloc),
+        }
+    }
+
+    fn kind(&mut self, item: Item) -> Result<ItemKind, Fail> {
+        match item {
+            Item::Plain => Ok(function(self.alloc, &mut self.graph)?),
+            Item::Other => other_function(self.alloc, &mut self.graph),
+            Item::Instance => instance(self.alloc, &mut self.graph),
+        }
+    }
+
+    fn kinds<'a>(&mut self, items: &[(&'a str, Item)]) -> Result<Vec<(&'a str, ItemKind)>, Fail> {
+        let mut kinds = Vec::new(self.alloc);
+        for (name, item) in items {
+            let kind = self.kind(*item)?;
+            kinds.push((*name, kind))?;
+        }
+        Ok(kinds)
+    }
+
+    fn register(
+        &mut self,
+        name: &str,
+        imports: &[(&str, Item)],
+        exports: &[(&str, Item)],
+    ) -> Result<String, Fail> {
+        let imports = self.kinds(imports)?;
+        let exports = self.kinds(exports)?;
+        match register(self.alloc, &mut self.graph, name, &imports, &exports) {
+            Ok(id) => {
+                self.packages.push(id)?;
+                Ok(String::new(self.alloc))
+            }
+            Err(error) => shown(self.alloc, error),
+        }
+    }
+
+    fn node(&self, place: usize) -> Result<NodeId, Fail> {
+        match self.nodes.get(place) {
+            Some(node) => Ok(*node),
+            None => Err(Fail::new("no such node")),
+        }
+    }
+
+    fn instantiate(&mut self, rt: &impl Abort, place: usize) -> Result<String, Fail> {
+        let Some(id) = self.packages.get(place).copied() else {
+            return Err(Fail::new("no such package"));
+        };
+        let held = self.graph.has_package(id);
+        assert!(rt; held);
+        let node = self.graph.instantiate(id)?;
+        self.nodes.push(node)?;
+        shown(self.alloc, node)
+    }
+
+    fn alias(&mut self, rt: &impl Abort, place: usize, name: &str) -> Result<String, Fail> {
+        let instance = self.node(place)?;
+        let held = self.graph.has_node(instance);
+        assert!(rt; held);
+        match self.graph.alias_instance_export(instance, name) {
+            Ok(alias) => {
+                self.nodes.push(alias)?;
+                shown(self.alloc, alias)
+            }
+            Err(error) => shown(self.alloc, error),
+        }
+    }
+
+    fn set(
+        &mut self,
+        rt: &impl Abort,
+        place: usize,
+        name: &str,
+        argument: usize,
+    ) -> Result<String, Fail> {
+        let instantiation = self.node(place)?;
+        let argument = self.node(argument)?;
+        let held = self.graph.has_node(instantiation);
+        assert!(rt; held);
+        let held = self.graph.has_node(argument);
+        assert!(rt; held);
+        match self
+            .graph
+            .set_instantiation_argument(instantiation, name, argument)
+        {
+            Ok(()) => Ok(String::new(self.alloc)),
+            Err(error) => shown(self.alloc, error),
+        }
+    }
+
+    fn export(&mut self, rt: &impl Abort, place: usize, name: &str) -> Result<String, Fail> {
+        let node = self.node(place)?;
+        let held = self.graph.has_node(node);
+        assert!(rt; held);
+        match self.graph.export(node, name) {
+            Ok(()) => Ok(String::new(self.alloc)),
+            Err(error) => shown(self.alloc, error),
+        }
+    }
+
+    // The answer's number, or its error's text; an empty text for an answer without a number.
+    fn call(&mut self, rt: &impl Abort, call: Call<'_>) -> Result<String, Fail> {
+        match call {
+            Call::Register(name, imports, exports) => self.register(name, imports, exports),
+            Call::Instantiate(place) => self.instantiate(rt, place),
+            Call::Alias(place, name) => self.alias(rt, place, name),
+            Call::Set(place, name, argument) => self.set(rt, place, name, argument),
+            Call::Export(place, name) => self.export(rt, place, name),
+        }
+    }
+
+    pub fn calls(&mut self, rt: &impl Abort, rows: &[(Call<'_>, &str)]) -> Result<(), Fail> {
+        for (call, want) in rows {
+            let answer = self.call(rt, *call)?;
+            assert_eq!(rt; answer.as_str(), *want);
+        }
+        Ok(())
+    }
+
+    // The bytes in hexadecimal, or the error's text.
+    pub fn encoded(&self, options: EncodeOptions<'_>) -> Result<String, Fail> {
+        match self.graph.encode(options) {
+            Ok(bytes) => Ok(hex::encode(self.alloc, &bytes)?),
+            Err(error) => shown(self.alloc, error),
+        }
+    }
+
+    // Whether the node at a place is exported by a name.
+    pub fn exports(&self, place: usize, name: &str) -> bool {
+        match self.nodes.get(place) {
+            Some(node) => self.graph.get_export(name) == Some(*node),
+            None => false,
+        }
+    }
+}

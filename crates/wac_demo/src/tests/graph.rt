@@ -1,0 +1,145 @@
+use super::bench::Call::{Alias, Export, Instantiate, Register, Set};
+use super::bench::Item::{Instance, Other, Plain};
+use super::bench::{Bench, Call};
+use std::test::Fail;
+use wac_graph::{EncodeOptions, Processor};
+
+const NOT_YET: &str = "the graph holds something that is not written yet";
+
+// The function `a` of an instance, exported as `x`.
+const EXPORTED: &[(Call<'static>, &str)] = &[
+    (Register("my:package1", &[], &[("a", Plain)]), ""),
+    (Instantiate(0), "0"),
+    (Alias(0, "a"), "1"),
+    (Alias(0, "a"), "1"),
+    (Export(1, "x"), ""),
+    (Export(0, "x"), "an export with the name `x` already exists"),
+];
+
+// Two instances of one package.
+const TWICE: &[(Call<'static>, &str)] = &[
+    (Register("my:package1", &[], &[("a", Plain)]), ""),
+    (Instantiate(0), "0"),
+    (Instantiate(0), "1"),
+];
+
+// The function `a` of the instance `i` that an instance exports.
+const NESTED: &[(Call<'static>, &str)] = &[
+    (Register("my:package", &[], &[("i", Instance)]), ""),
+    (Instantiate(0), "0"),
+    (Alias(0, "i"), "1"),
+    (Alias(1, "a"), "2"),
+    (Set(1, "a", 2), "the specified node is not an instantiation"),
+];
+
+// An argument that is not set.
+const UNSET: &[(Call<'static>, &str)] = &[
+    (Register("my:package2", &[("b", Plain)], &[]), ""),
+    (Instantiate(0), "0"),
+];
+
+// A package whose own function is given to it.
+const CYCLE: &[(Call<'static>, &str)] = &[
+    (Register("my:package", &[("a", Plain)], &[("a", Plain)]), ""),
+    (Instantiate(0), "0"),
+    (Alias(0, "a"), "1"),
+    (Set(0, "a", 1), ""),
+];
+
+// A second package, whose instance is given the function `a` of an instance of the first, and what is refused it.
+const ARGUMENTS: &[(Call<'static>, &str)] = &[
+    (Register("my:package1", &[], &[("a", Plain)]), ""),
+    (
+        Register(
+            "my:package2",
+            &[("b", Plain), ("c", Other)],
+            &[("d", Plain)],
+        ),
+        "",
+    ),
+    (Instantiate(0), "0"),
+    (Alias(0, "a"), "1"),
+    (Instantiate(1), "2"),
+    (Alias(2, "d"), "3"),
+    (Set(2, "b", 1), ""),
+    (Set(2, "b", 1), ""),
+    (
+        Set(2, "b", 3),
+        "argument `b` has already been passed to the instantiation",
+    ),
+    (
+        Set(2, "e", 1),
+        "argument name `e` is not an import of package `my:package2`",
+    ),
+    (Set(2, "c", 1), "mismatched instantiation argument `c`"),
+    (Set(2, "c", 0), "mismatched instantiation argument `c`"),
+    (Set(1, "b", 1), "the specified node is not an instantiation"),
+];
+
+// What else is refused.
+const REFUSALS: &[(Call<'static>, &str)] = &[
+    (Register("my:package1", &[], &[("a", Plain)]), ""),
+    (
+        Register("my:package1", &[], &[]),
+        "package `my:package1` has already been registered in the graph",
+    ),
+    (Instantiate(0), "0"),
+    (Alias(0, "a"), "1"),
+    (
+        Alias(1, "a"),
+        "expected source node to be an instance, but the node is a function",
+    ),
+    (Alias(0, "b"), "instance does not have an export named `b`"),
+];
+
+#[test]
+fn graphs_are_encoded(rt: HostRuntime) -> Result<(), Fail> {
+    let rows = [
+        (
+            EXPORTED,
+            "0061736d0d00010004080061736d0d00010005040100000006060101000001610b0701000178010000",
+        ),
+        (
+            TWICE,
+            "0061736d0d00010004080061736d0d000100050702000000000000",
+        ),
+        (
+            NESTED,
+            "0061736d0d00010004080061736d0d000100050401000000060b0205000001690100010161",
+        ),
+        (UNSET, NOT_YET),
+        (CYCLE, NOT_YET),
+        (ARGUMENTS, NOT_YET),
+        (
+            REFUSALS,
+            "0061736d0d00010004080061736d0d0001000504010000000606010100000161",
+        ),
+    ];
+    for (calls, want) in rows {
+        let mut bench = Bench::new(rt.alloc());
+        bench.calls(&rt, calls)?;
+        assert_eq!(rt; bench.encoded(EncodeOptions::default())?.as_str(), want);
+    }
+    Ok(())
+}
+
+#[test]
+fn options_that_are_not_served_yet(rt: HostRuntime) -> Result<(), Fail> {
+    let plain = EncodeOptions::default();
+    assert!(rt; plain.define_components && plain.validate && plain.processor.is_none());
+    let mut bench = Bench::new(rt.alloc());
+    bench.calls(&rt, EXPORTED)?;
+    let imported = EncodeOptions {
+        define_components: false,
+        ..plain
+    };
+    assert_eq!(rt; bench.encoded(imported)?.as_str(), NOT_YET);
+    let processor = Some(Processor {
+        name: "wac_demo",
+        version: "1.0.0",
+    });
+    let processed = EncodeOptions { processor, ..plain };
+    assert_eq!(rt; bench.encoded(processed)?.as_str(), NOT_YET);
+    assert!(rt; bench.exports(1, "x") && !bench.exports(1, "a"));
+    Ok(())
+}

@@ -1,0 +1,121 @@
+use crate::args::asked_word;
+use crate::run::run;
+use std::env::{Env, FillError};
+use std::io;
+use std::io::Write;
+use std::test::Fail;
+
+const README: &str =
+    "0061736d0d00010004080061736d0d000100050401000000060601010000016104080061736d0d00010005080100010101620100\n";
+
+const UNKNOWN: &str = "unknown composition\n";
+
+#[test]
+fn a_word_is_answered_by_a_line(rt: HostRuntime) -> Result<(), Fail> {
+    let alloc = rt.alloc();
+    let rows = [
+        ("empty", "0061736d0d000100\n", 0),
+        ("readme", README, 0),
+        ("", UNKNOWN, 2),
+        ("Readme", UNKNOWN, 2),
+        ("readme ", UNKNOWN, 2),
+    ];
+    for (word, want, status) in rows {
+        let mut out = Vec::new(alloc);
+        assert_eq!(rt; run(alloc, word, &mut out), status, "{word}");
+        assert!(rt; out.as_slice() == want.as_bytes(), "{word}");
+    }
+    Ok(())
+}
+
+// A writer that takes so many bytes, and whose flush fails where it is said to.
+#[derive(Drop)]
+struct Full {
+    room: usize,
+    flushes: bool,
+}
+
+impl Write for Full {
+    fn write(&mut self, buf: &[u8]) -> io::Result<usize> {
+        if self.room == 0 && !buf.is_empty() {
+            return Err(io::Error::from(io::ErrorKind::StorageFull));
+        }
+        let count = buf.len().min(self.room);
+        self.room -= count;
+        Ok(count)
+    }
+
+    fn flush(&mut self) -> io::Result<()> {
+        if self.flushes {
+            Ok(())
+        } else {
+            Err(io::Error::from(io::ErrorKind::StorageFull))
+        }
+    }
+}
+
+#[test]
+fn a_failed_write_ends_with_3(rt: HostRuntime) {
+    let rows = [
+        ("empty", 17, true, 0),
+        ("empty", 17, false, 3),
+        ("empty", 16, true, 3),
+        ("empty", 0, true, 3),
+        ("readme", 60, true, 3),
+        ("other", 20, true, 2),
+        ("other", 20, false, 3),
+        ("other", 19, true, 3),
+        ("other", 0, true, 3),
+    ];
+    for (word, room, flushes, status) in rows {
+        let mut out = Full { room, flushes };
+        assert_eq!(rt; run(rt.alloc(), word, &mut out), status, "{word} {room}");
+    }
+}
+
+// Arguments behind the program's name.
+#[derive(Drop)]
+struct Given<'a>(&'a [&'a [u8]]);
+
+impl Env for Given<'_> {
+    fn arg(&self, i: usize, buf: &mut [u8]) -> Result<usize, FillError> {
+        let arg: &[u8] = if i == 0 {
+            b"wac_demo"
+        } else {
+            match self.0.get(i - 1) {
+                Some(arg) => *arg,
+                None => return Err(FillError::NotPresent),
+            }
+        };
+        if arg.len() > buf.len() {
+            return Err(FillError::TooLong);
+        }
+        buf[..arg.len()].copy_from_slice(arg);
+        Ok(arg.len())
+    }
+
+    fn var(&self, _name: &str, _buf: &mut [u8]) -> Result<usize, FillError> {
+        Err(FillError::NotPresent)
+    }
+
+    fn var_at(&self, _i: usize, _buf: &mut [u8]) -> Result<usize, FillError> {
+        Err(FillError::NotPresent)
+    }
+}
+
+#[test]
+fn the_arguments_ask_for_a_word(rt: HostRuntime) -> Result<(), Fail> {
+    let rows: [(&[&[u8]], &str); 6] = [
+        (&[], "readme"),
+        (&[b"empty"], "empty"),
+        (&[b""], ""),
+        (&[b"empty", b"readme"], ""),
+        (&[b"empty", b"readme", b"empty"], ""),
+        (&[b"\xff"], ""),
+    ];
+    for (given, want) in rows {
+        let word = asked_word(&(Given(given), rt.alloc()))?;
+        assert_eq!(rt; word.as_str(), want);
+    }
+    Ok(())
+}
