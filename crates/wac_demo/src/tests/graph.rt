@@ -143,3 +143,17 @@ fn options_that_are_not_served_yet(rt: HostRuntime) -> Result<(), Fail> {
     assert!(rt; bench.exports(1, "x") && !bench.exports(1, "a"));
     Ok(())
 }
+
+#[test]
+fn ids_give_nodes_and_packages(rt: HostRuntime) -> Result<(), Fail> {
+    let mut bench = Bench::new(rt.alloc());
+    bench.calls(&rt, EXPORTED)?;
+    let instance = bench.described(&rt, 0)?;
+    assert_eq!(rt;
+        instance.as_str(),
+        "instantiation, instance, my:package1, no name"
+    );
+    let alias = bench.described(&rt, 1)?;
+    assert_eq!(rt; alias.as_str(), "alias, function, my:package1, x");
+    Ok(())
+}
