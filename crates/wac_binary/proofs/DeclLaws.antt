@@ -1,4 +1,4 @@
--- What an instance type has written, after one more declaration.
+-- What declarations have written, after one more declaration.
 use Rattle.std.proofs.Common.{◌≡◌, ℕ, ◌+◌, ◌<◌, ◌^◌, List, [], ◌∷◌, ◌++◌, length, refl, ap, sym, ◌∙◌, arith, append_assoc, append-nil, length-append, ◌∙◌, ◌-◌}
 use Rattle.std.specs.Prelude.{Some, slice_index, slice_set, Result, Ok, Err, OnOk, if◌then◌else◌}
 use Rattle.std.specs.Result.{is_ok}
@@ -9,7 +9,8 @@ use Rattle.wac_binary.specs.Items.{Decl, instance_def, decls}
 use Rattle.wac_binary.specs.Bytes.{type_bytes, decl_bytes, decls_bytes, count as count_of}
 use Rattle.wac_binary.specs.Indexes.{decl_adds, declared, is_in}
 use Rattle.wac_binary.specs.Fits.{DeclarationsFit}
-use Rattle.wac_binary.specs.WrittenDecls.{WrittenDecls, declarations, declarations_are, DeclState}
+use Rattle.wac_binary.specs.WrittenDecls.{WrittenDecls, declarations, declarations_are, type_is, DeclState}
+use Rattle.wac_binary.specs.OneReading.{heads}
 use Rattle.wac_binary.proofs.Counts.{grown, bounded, here}
 
 counts_all : (ds : List Decl) → count_of (decls ds) ≡ length ds
@@ -51,13 +52,17 @@ module _ {ds : List Decl} {bytes counts : List ℕ} {count : ℕ} (s : DeclState
     pub fits_before : DeclarationsFit (ds ++ d ∷ []) → (slice_index counts k < 2 ^ 32) × (count < 2 ^ 32 - 1)
     fits_before f = (omega (arith, f.indexes_fit k, added k, here k, s.counted k q), omega (arith, f.count, longer))
 
-    pub type_snoc : length counts ≡ 7 → slice_index counts k < 2 ^ 32 → count < 2 ^ 32 - 1 → DeclState (ds ++ d ∷ []) (bytes ++ decl_bytes d) (count + 1) (slice_set counts k (slice_index counts k + 1))
-    type_snoc l g c = record {
+    pub size_before : DeclarationsFit (ds ++ d ∷ []) → length (bytes ++ decl_bytes d) < 2 ^ 32
+    size_before f = rw (s.bytes_are, ← texts ds d) f.size
+
+    pub type_snoc : length counts ≡ 7 → slice_index counts k < 2 ^ 32 → count < 2 ^ 32 - 1 → length (bytes ++ decl_bytes d) < 2 ^ 32 → DeclState (ds ++ d ∷ []) (bytes ++ decl_bytes d) (count + 1) (slice_set counts k (slice_index counts k + 1))
+    type_snoc l g c z = record {
       count_is = sym longer;
       bytes_are = rw (s.bytes_are) (sym (texts ds d));
       counted = λ j r. grown k j (declared j ds) (declared j (ds ++ d ∷ [])) counts (s.counted j r) (omega arith) (added j);
       fits = record {
         count = omega (arith, longer);
+        size = rw (texts ds d, ← s.bytes_are) z;
         indexes_fit = λ j. rw (added j) (bounded k j (declared j ds) (2 ^ 32) (s.fits.indexes_fit j) (λ e. rw (← e, ← s.counted k q) g));
       };
     }
@@ -67,15 +72,22 @@ type_none = record {
   count_is = refl;
   bytes_are = refl;
   counted = λ k p. grind (arith, common_steps);
-  fits = record { count = omega arith; indexes_fit = λ k. omega arith };
+  fits = record { count = omega arith; size = omega arith; indexes_fit = λ k. omega arith };
 }
 
 -- the same bytes in another buffer
 pub type_same : {ds : List Decl} {bytes counts more : List ℕ} {count : ℕ} → DeclState ds bytes count counts → more ≡ bytes → DeclState ds more count counts
 type_same s p = rw p s
 
+-- the number and the bytes of declarations
+pub behind : {bytes : List ℕ} {count : ℕ} (w : WrittenDecls bytes count) → unsigned (count_of (decls (declarations w))) ++ decls_bytes (decls (declarations w)) ≡ unsigned count ++ bytes
+behind w = (heads 0x42 0x42 _ _ (type_is w)).1
+
 pub joins : (a : List ℕ) (n : ℕ) (b c : List ℕ) → a ++ n ∷ (b ++ c) ≡ ((a ++ n ∷ []) ++ b) ++ c
 joins a n b c = grind (arith, append_assoc)
+
+pub joins_two : (a b c : List ℕ) → a ++ (b ++ c) ≡ (a ++ b) ++ c
+joins_two a b c = sym (append_assoc a b c)
 
 pub on_ok : {T E A : Type 0} (x a b : A) (r : Result T E) → x ≡ (if is_ok r then a else b) → OnOk r (x ≡ a)
 on_ok x a b (Ok t) h = h

@@ -8,7 +8,7 @@ use Rattle.wac_binary.specs.declared.item.AloneRef.{AloneRef}
 use Rattle.wac_binary.specs.declared.item.AloneRef.TheVariants as o
 
 pub item_shared : (x : ItemRef) → is_shared (section_id (item_of x)) ≡ true
-item_shared (h.Func f) = refl
+item_shared (h.Alias a) = refl
 item_shared _ = refl
 
 pub item_alone : (x : AloneRef) → is_shared (section_id (alone_of x)) ≡ false

@@ -4,5 +4,9 @@ pub mod SectionLaws
 pub mod ItemLaws
 pub mod WrittenLaws
 pub mod DeclLaws
+pub mod ModuleLaws
+pub mod CustomLaws
+pub mod CustomReading
 pub mod MeaningLaws
+pub mod ScopeLaws
 pub mod Rows

@@ -12,7 +12,7 @@ use Rattle.wac_binary.specs.Indexes.{space, described_sort, sort_added, adds, is
 use Rattle.wac_binary.specs.Unfold.{Scope, Bound, unbound, type_at, bound_at, described_item, with_bound, with_alias, with_outer, tree_of}
 use Rattle.wac_binary.specs.Meaning.{Thing, thing_added, with_exported, component_at, instance_at, written, Root, start, things, thing_at, with_thing, read, read_all, meaning, stands_for}
 
-read_append : (r : Root) (xs ys : List Item) → read_all r (xs ++ ys) ≡ read_all (read_all r xs) ys
+pub read_append : (r : Root) (xs ys : List Item) → read_all r (xs ++ ys) ≡ read_all (read_all r xs) ys
 read_append r [] ys = refl
 read_append r (x ∷ xs) ys = read_append (read r x) xs ys
 
@@ -20,18 +20,18 @@ pub one_more : (items : List Item) (x : Item) → meaning (items ++ x ∷ []) �
 one_more items x = read_append start items (x ∷ [])
 
 -- a list with so many more at its end
-record Longer {A : Type 0} (old new : List A) (n : ℕ) : Type 0 where
-  more : List A
-  is : new ≡ old ++ more
-  count : length more ≡ n
+pub record Longer {A : Type 0} (old new : List A) (n : ℕ) : Type 0 where
+  pub more : List A
+  pub is : new ≡ old ++ more
+  pub count : length more ≡ n
 
-same_list : {A : Type 0} (xs : List A) → Longer xs xs 0
+pub same_list : {A : Type 0} (xs : List A) → Longer xs xs 0
 same_list xs = record { more = []; is = sym (append-nil xs); count = refl }
 
-one_longer : {A : Type 0} (xs : List A) (x : A) → Longer xs (xs ++ x ∷ []) 1
+pub one_longer : {A : Type 0} (xs : List A) (x : A) → Longer xs (xs ++ x ∷ []) 1
 one_longer xs x = record { more = x ∷ []; is = refl; count = refl }
 
-longer_twice : {A : Type 0} {xs ys zs : List A} {m n : ℕ} → Longer xs ys m → Longer ys zs n → Longer xs zs (m + n)
+pub longer_twice : {A : Type 0} {xs ys zs : List A} {m n : ℕ} → Longer xs ys m → Longer ys zs n → Longer xs zs (m + n)
 longer_twice {xs = xs} p q = record {
   more = p.more ++ q.more;
   is = q.is ∙ ap (λ t. t ++ q.more) p.is ∙ append_assoc xs p.more q.more;
@@ -153,20 +153,20 @@ scope_with : (r : Root) (u : Sort) (x : Thing) → (with_thing r u x).scope ≡ 
 scope_with r s.CoreModule x = refl
 scope_with r _ x = refl
 
-in_scope : {A : Type 0} (f : Scope → List A) (w : Root) (u : Sort) (x : Thing) (xs : List A) (n : ℕ) → Longer xs (f w.scope) n → Longer xs (f (with_thing w u x).scope) n
+pub in_scope : {A : Type 0} (f : Scope → List A) (w : Root) (u : Sort) (x : Thing) (xs : List A) (n : ℕ) → Longer xs (f w.scope) n → Longer xs (f (with_thing w u x).scope) n
 in_scope f w u x xs n l = subst (λ (c : Scope). Longer xs (f c) n) (sym (scope_with w u x)) l
 
-abbrev types_in : Scope → List Tree
+abbrev pub types_in : Scope → List Tree
 types_in c = c.types
 
-abbrev instances_in : Scope → List Bound
+abbrev pub instances_in : Scope → List Bound
 instances_in c = c.instances
 
-types_alias : (c : Scope) (u : Sort) (b : Bound) (n : Name) → Longer c.types (with_alias c u b n).types (is_in 3 (Some (space u)))
+pub types_alias : (c : Scope) (u : Sort) (b : Bound) (n : Name) → Longer c.types (with_alias c u b n).types (is_in 3 (Some (space u)))
 types_alias c s.Type b n = one_longer c.types _
 types_alias c _ b n = same_list c.types
 
-types_outer : (c o : Scope) (u : Sort) (k i : ℕ) → Longer c.types (with_outer c u k o i).types (is_in 3 (Some (space u)))
+pub types_outer : (c o : Scope) (u : Sort) (k i : ℕ) → Longer c.types (with_outer c u k o i).types (is_in 3 (Some (space u)))
 types_outer c o s.Type k i = one_longer c.types _
 types_outer c o _ k i = same_list c.types
 
@@ -174,12 +174,12 @@ types_exported : (c : Scope) (u : Sort) (i : ℕ) → Longer c.types (with_expor
 types_exported c s.Type i = one_longer c.types _
 types_exported c _ i = same_list c.types
 
-types_bound : (c : Scope) (side : Side) (path : List Place) (d : Description) (a : Scope) → Longer a.types (with_bound a side path (described_item c d)).types (is_in 3 (Some (space (described_sort d))))
+pub types_bound : (c : Scope) (side : Side) (path : List Place) (d : Description) (a : Scope) → Longer a.types (with_bound a side path (described_item c d)).types (is_in 3 (Some (space (described_sort d))))
 types_bound c side path (e.Equal i) a = one_longer a.types _
 types_bound c side path e.Fresh a = one_longer a.types _
 types_bound c side path _ a = same_list a.types
 
-types_read : (r : Root) (x : Item) → Longer r.scope.types (read r x).scope.types (is_in 3 (adds x))
+pub types_read : (r : Root) (x : Item) → Longer r.scope.types (read r x).scope.types (is_in 3 (adds x))
 types_read r (custom n bs) = same_list _
 types_read r (core_type m) = same_list _
 types_read r (nested bs) = same_list _
@@ -190,11 +190,11 @@ types_read r (type_item d) = one_longer r.scope.types _
 types_read r (import_item n d) = in_scope types_in _ (described_sort d) _ r.scope.types _ (types_bound r.scope _ _ d r.scope)
 types_read r (export_item n u i) = in_scope types_in _ u _ r.scope.types _ (types_exported r.scope u i)
 
-instances_alias : (c : Scope) (u : Sort) (b : Bound) (n : Name) → Longer c.instances (with_alias c u b n).instances (is_in 5 (Some (space u)))
+pub instances_alias : (c : Scope) (u : Sort) (b : Bound) (n : Name) → Longer c.instances (with_alias c u b n).instances (is_in 5 (Some (space u)))
 instances_alias c s.Instance b n = one_longer c.instances _
 instances_alias c _ b n = same_list c.instances
 
-instances_outer : (c o : Scope) (u : Sort) (k i : ℕ) → Longer c.instances (with_outer c u k o i).instances (is_in 5 (Some (space u)))
+pub instances_outer : (c o : Scope) (u : Sort) (k i : ℕ) → Longer c.instances (with_outer c u k o i).instances (is_in 5 (Some (space u)))
 instances_outer c o s.Instance k i = one_longer c.instances _
 instances_outer c o _ k i = same_list c.instances
 
@@ -202,11 +202,11 @@ instances_exported : (c : Scope) (u : Sort) (i : ℕ) → Longer c.instances (wi
 instances_exported c s.Instance i = one_longer c.instances _
 instances_exported c _ i = same_list c.instances
 
-instances_bound : (c : Scope) (side : Side) (path : List Place) (d : Description) (a : Scope) → Longer a.instances (with_bound a side path (described_item c d)).instances (is_in 5 (Some (space (described_sort d))))
+pub instances_bound : (c : Scope) (side : Side) (path : List Place) (d : Description) (a : Scope) → Longer a.instances (with_bound a side path (described_item c d)).instances (is_in 5 (Some (space (described_sort d))))
 instances_bound c side path (e.Instance i) a = one_longer a.instances _
 instances_bound c side path _ a = same_list a.instances
 
-instances_read : (r : Root) (x : Item) → Longer r.scope.instances (read r x).scope.instances (is_in 5 (adds x))
+pub instances_read : (r : Root) (x : Item) → Longer r.scope.instances (read r x).scope.instances (is_in 5 (adds x))
 instances_read r (custom n bs) = same_list _
 instances_read r (core_type m) = same_list _
 instances_read r (nested bs) = same_list _
@@ -218,14 +218,14 @@ instances_read r (import_item n d) = in_scope instances_in _ (described_sort d) 
 instances_read r (export_item n u i) = in_scope instances_in _ u _ r.scope.instances _ (instances_exported r.scope u i)
 
 module _ {A : Type 0} (f : Root → List A) (k : ℕ) (step : (r : Root) (x : Item) → Longer (f r) (f (read r x)) (is_in k (adds x))) where
-  all_longer : (r : Root) (xs : List Item) → Longer (f r) (f (read_all r xs)) (indexes k xs)
+  pub all_longer : (r : Root) (xs : List Item) → Longer (f r) (f (read_all r xs)) (indexes k xs)
   all_longer r [] = same_list (f r)
   all_longer r (x ∷ xs) = longer_twice (step r x) (all_longer (read r x) xs)
 
-abbrev scope_types : Root → List Tree
+abbrev pub scope_types : Root → List Tree
 scope_types r = r.scope.types
 
-abbrev scope_instances : Root → List Bound
+abbrev pub scope_instances : Root → List Bound
 scope_instances r = r.scope.instances
 
 pub types_counted : (items : List Item) → length (meaning items).scope.types ≡ indexes (space s.Type) items
@@ -234,18 +234,18 @@ types_counted items = let l = all_longer scope_types 3 types_read start items in
 pub instances_counted : (items : List Item) → length (meaning items).scope.instances ≡ indexes (space s.Instance) items
 instances_counted items = let l = all_longer scope_instances 5 instances_read start items in ap length l.is ∙ l.count
 
-type_earlier : (xs ys : List Tree) (i : ℕ) → i < length xs → type_at (xs ++ ys) i ≡ type_at xs i
+pub type_earlier : (xs ys : List Tree) (i : ℕ) → i < length xs → type_at (xs ++ ys) i ≡ type_at xs i
 type_earlier [] ys i h = absurd (omega arith)
 type_earlier (x ∷ xs) ys zero h = refl
 type_earlier (x ∷ xs) ys (suc i) h = type_earlier xs ys i (omega arith)
 
-type_new : (xs : List Tree) (x : Tree) (i : ℕ) → i ≡ length xs → type_at (xs ++ x ∷ []) i ≡ x
+pub type_new : (xs : List Tree) (x : Tree) (i : ℕ) → i ≡ length xs → type_at (xs ++ x ∷ []) i ≡ x
 type_new [] x zero e = refl
 type_new [] x (suc i) e = absurd (omega arith)
 type_new (y ∷ ys) x zero e = absurd (omega arith)
 type_new (y ∷ ys) x (suc i) e = type_new ys x i (omega arith)
 
-bound_earlier : (xs ys : List Bound) (i : ℕ) → i < length xs → bound_at (xs ++ ys) i ≡ bound_at xs i
+pub bound_earlier : (xs ys : List Bound) (i : ℕ) → i < length xs → bound_at (xs ++ ys) i ≡ bound_at xs i
 bound_earlier [] ys i h = absurd (omega arith)
 bound_earlier (x ∷ xs) ys zero h = refl
 bound_earlier (x ∷ xs) ys (suc i) h = bound_earlier xs ys i (omega arith)

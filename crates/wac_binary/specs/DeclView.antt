@@ -1,11 +1,26 @@
 -- The declaration that is about to be written.
-use Rattle.wac_binary.specs.Items.{Decl, type_decl, alias_decl, export_alias, outer_alias, export_decl}
-use Rattle.wac_binary.specs.Views.{func_of}
+use Rattle.wac_binary.specs.Items.{Alias, export_alias, outer_alias, TypeDef, value_def, component_def, instance_def, decls, Decl, core_type_decl, type_decl, alias_decl, import_decl, export_decl}
+use Rattle.wac_binary.specs.Views.{func_of, defined_of}
+use Rattle.wac_binary.specs.declared.decl.AliasRef.{AliasRef}
+use Rattle.wac_binary.specs.declared.decl.AliasRef.TheVariants as a
+use Rattle.wac_binary.specs.declared.decl.TypeRef.{TypeRef}
+use Rattle.wac_binary.specs.declared.decl.TypeRef.TheVariants as t
 use Rattle.wac_binary.specs.declared.decl.DeclRef.{DeclRef}
 use Rattle.wac_binary.specs.declared.decl.DeclRef.TheVariants as h
 
+abbrev pub alias_of : AliasRef → Alias
+alias_of (a.Export t i name) = export_alias t i name.now
+alias_of (a.Outer t k i) = outer_alias t k i
+
+abbrev pub type_of : TypeRef → TypeDef
+type_of (t.Defined d) = value_def (defined_of d.now)
+type_of (t.Func f) = func_of f.now
+type_of (t.Component ds) = component_def (decls ds.now)
+type_of (t.Instance ds) = instance_def (decls ds.now)
+
 abbrev pub decl_of : DeclRef → Decl
-decl_of (h.Func f) = type_decl (func_of f.now)
-decl_of (h.AliasExport t i name) = alias_decl (export_alias t i name.now)
-decl_of (h.AliasOuter t k i) = alias_decl (outer_alias t k i)
+decl_of (h.CoreModule ds) = core_type_decl ds.now
+decl_of (h.Type x) = type_decl (type_of x)
+decl_of (h.Alias x) = alias_decl (alias_of x)
+decl_of (h.Import name d) = import_decl name.now d
 decl_of (h.Export name d) = export_decl name.now d

@@ -4,7 +4,7 @@ use Rattle.wac_binary.specs.declared.sorts.Sort.{Sort}
 use Rattle.wac_binary.specs.declared.sorts.Sort.TheVariants as s
 use Rattle.wac_binary.specs.declared.sorts.Description.{Description}
 use Rattle.wac_binary.specs.declared.sorts.Description.TheVariants as e
-use Rattle.wac_binary.specs.Items.{Alias, export_alias, outer_alias, Decl, core_type_decl, type_decl, alias_decl, import_decl, export_decl, Item, custom, core_type, nested, instantiate, alias_item, type_item, import_item, export_item}
+use Rattle.wac_binary.specs.Items.{ModuleDecl, module_import, module_func, module_export, Alias, export_alias, outer_alias, Decl, core_type_decl, type_decl, alias_decl, import_decl, export_decl, Item, custom, core_type, nested, instantiate, alias_item, type_item, import_item, export_item}
 
 -- the index spaces by number: one for each sort, and one for core types
 abbrev pub space : Sort → ℕ
@@ -74,3 +74,10 @@ decl_adds (export_decl n d) = space (described_sort d)
 abbrev pub declared : ℕ → List Decl → ℕ
 declared k [] = 0
 declared k (d ∷ ds) = (if eqb (decl_adds d) k then 1 else 0) + declared k ds
+
+-- how many function types the declarations of a core module type add
+abbrev pub function_types : List ModuleDecl → ℕ
+function_types [] = 0
+function_types (module_func ps rs ∷ ds) = 1 + function_types ds
+function_types (module_import m n x ∷ ds) = function_types ds
+function_types (module_export n x ∷ ds) = function_types ds

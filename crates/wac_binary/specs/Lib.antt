@@ -4,8 +4,10 @@ pub mod LebLaws
 pub mod Bytes
 pub mod Indexes
 pub mod Fits
+pub mod Customs
 pub mod Views
 pub mod Unfold
+pub mod Growth
 pub mod Meaning
 pub mod ItemView
 pub mod DeclView
@@ -20,4 +22,7 @@ pub mod Sections
 pub mod Written
 pub mod WrittenView
 pub mod WrittenDecls
-pub mod InstanceTypeView
+pub mod DeclarationsView
+pub mod ModuleView
+pub mod WrittenModule
+pub mod ModuleTypeView

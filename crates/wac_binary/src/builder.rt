@@ -1,22 +1,25 @@
 //! A component, item by item.
 
 ghost use Rattle.std.specs.Prelude.{◌≡◌, List, ℕ, ◌+◌, ◌<◌, ◌≤◌, ◌^◌, ◌++◌, ◌∷◌, [], length, OnOk, OnErr, IfOk, IfErr, IfSome, Some, None};
-ghost use Rattle.wac_binary.specs.Items.{Item as OfItem, decls, instance_def, custom, nested, instantiate, alias_item, export_alias, outer_alias, type_item, import_item, export_item};
+ghost use Rattle.wac_binary.specs.Items.{Item as OfItem, decls, value_def, component_def, instance_def, core_type, custom, nested, instantiate, alias_item, export_alias, outer_alias, type_item, import_item, export_item};
 ghost use Rattle.wac_binary.specs.Bytes.{bytes_of};
-ghost use Rattle.wac_binary.specs.Indexes.{space, described_sort, adds, indexes};
+ghost use Rattle.wac_binary.specs.Indexes.{space, core_types, described_sort, adds, indexes};
 ghost use Rattle.wac_binary.specs.Fits.{Fits};
-ghost use Rattle.wac_binary.specs.Views.{arguments_of, func_of};
+ghost use Rattle.wac_binary.specs.Views.{arguments_of, func_of, defined_of};
 ghost use Rattle.wac_binary.specs.ItemView.{item_of};
 ghost use Rattle.wac_binary.specs.Written.{Written, Written_prop};
 ghost use Rattle.wac_binary.specs.declared.fault.BinaryFault.TheVariants.{TooLarge, OutOfMemory};
 ghost use Rattle.wac_binary.specs.declared.sorts.Sort.TheVariants as s;
 
-use crate::declarations::InstanceType;
+use crate::component_type::ComponentType;
+use crate::decl::{AliasRef, TypeRef};
 use crate::fault::BinaryFault;
+use crate::instance_type::InstanceType;
 use crate::item::{AloneRef, ItemRef};
+use crate::module_type::ModuleType;
 use crate::section::{Open, begin, put_alone, put_open, put_shared};
 use crate::sorts::{Description, Sort, described_sort, space};
-use crate::types::FuncType;
+use crate::types::{DefinedType, FuncType};
 use std::alloc::Global;
 use std::marker::Model;
 
@@ -154,14 +157,8 @@ impl ComponentBuilder {
         ensures refused { OnErr result (self.new ≡ self.old) }
         ensures too_large { IfErr result (λ e. e ≡ TooLarge → ¬ Fits (self.old ++ alias_item (export_alias sort instance name.now) ∷ [])) }
     {
-        self.append(
-            &ItemRef::AliasExport {
-                sort,
-                instance,
-                name,
-            },
-            space(sort),
-        )
+        let alias = AliasRef::Export(sort, instance, name);
+        self.append(&ItemRef::Alias(alias), space(sort))
     }
 
     /// Adds an alias of what has this index of this sort in the scope so many scopes out (0 is the component
@@ -173,7 +170,19 @@ impl ComponentBuilder {
         ensures refused { OnErr result (self.new ≡ self.old) }
         ensures too_large { IfErr result (λ e. e ≡ TooLarge → ¬ Fits (self.old ++ alias_item (outer_alias sort count index) ∷ [])) }
     {
-        self.append(&ItemRef::AliasOuter { sort, count, index }, space(sort))
+        let alias = AliasRef::Outer(sort, count, index);
+        self.append(&ItemRef::Alias(alias), space(sort))
+    }
+
+    /// Adds a value type, and answers its type index.
+    pub fn defined_type(&mut self, t: &DefinedType<'_>) -> Result<u32, BinaryFault>
+        ensures index { IfOk result (λ i. i ≡ indexes (space s.Type) self.old) }
+        ensures appended { OnOk result (self.new ≡ self.old ++ type_item (value_def (defined_of t.now)) ∷ []) }
+        ensures fits { OnOk result (Fits self.new) }
+        ensures refused { OnErr result (self.new ≡ self.old) }
+        ensures too_large { IfErr result (λ e. e ≡ TooLarge → ¬ Fits (self.old ++ type_item (value_def (defined_of t.now)) ∷ [])) }
+    {
+        self.append(&ItemRef::Type(TypeRef::Defined(t)), 3)
     }
 
     /// Adds a function type, and answers its type index.
@@ -184,7 +193,18 @@ impl ComponentBuilder {
         ensures refused { OnErr result (self.new ≡ self.old) }
         ensures too_large { IfErr result (λ e. e ≡ TooLarge → ¬ Fits (self.old ++ type_item (func_of f.now) ∷ [])) }
     {
-        self.append(&ItemRef::Func(f), 3)
+        self.append(&ItemRef::Type(TypeRef::Func(f)), 3)
+    }
+
+    /// Adds a component type with these declarations, and answers its type index.
+    pub fn component_type(&mut self, t: &ComponentType) -> Result<u32, BinaryFault>
+        ensures index { IfOk result (λ i. i ≡ indexes (space s.Type) self.old) }
+        ensures appended { OnOk result (self.new ≡ self.old ++ type_item (component_def (decls t.now)) ∷ []) }
+        ensures fits { OnOk result (Fits self.new) }
+        ensures refused { OnErr result (self.new ≡ self.old) }
+        ensures too_large { IfErr result (λ e. e ≡ TooLarge → ¬ Fits (self.old ++ type_item (component_def (decls t.now)) ∷ [])) }
+    {
+        self.append(&ItemRef::Type(TypeRef::Component(t)), 3)
     }
 
     /// Adds an instance type with these declarations, and answers its type index.
@@ -195,7 +215,18 @@ impl ComponentBuilder {
         ensures refused { OnErr result (self.new ≡ self.old) }
         ensures too_large { IfErr result (λ e. e ≡ TooLarge → ¬ Fits (self.old ++ type_item (instance_def (decls t.now)) ∷ [])) }
     {
-        self.append(&ItemRef::InstanceType(t), 3)
+        self.append(&ItemRef::Type(TypeRef::Instance(t)), 3)
+    }
+
+    /// Adds a core module type, and answers its index among the core types.
+    pub fn core_module_type(&mut self, t: &ModuleType) -> Result<u32, BinaryFault>
+        ensures index { IfOk result (λ i. i ≡ indexes core_types self.old) }
+        ensures appended { OnOk result (self.new ≡ self.old ++ core_type t.now ∷ []) }
+        ensures fits { OnOk result (Fits self.new) }
+        ensures refused { OnErr result (self.new ≡ self.old) }
+        ensures too_large { IfErr result (λ e. e ≡ TooLarge → ¬ Fits (self.old ++ core_type t.now ∷ [])) }
+    {
+        self.append(&ItemRef::CoreModule(t), 6)
     }
 
     /// Adds an import of this name, and answers its index of the sort that is described.

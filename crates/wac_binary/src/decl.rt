@@ -1,52 +1,98 @@
-//! A declaration that is about to be written.
+//! A declaration that is about to be written, and the types and aliases that stand in one.
 
 ghost use Rattle.std.specs.Prelude.{◌≡◌, List, ℕ, ◌++◌, ◌∷◌, [], OnOk};
-ghost use Rattle.wac_binary.specs.Bytes.{decl_bytes};
-ghost use Rattle.wac_binary.specs.DeclView.{decl_of};
+ghost use Rattle.wac_binary.specs.Bytes.{alias_bytes, type_bytes, decl_bytes};
+ghost use Rattle.wac_binary.specs.DeclView.{alias_of, type_of, decl_of};
 
-use crate::put::{put_alias_export, put_alias_outer, put_func, put_named};
+use crate::component_type::ComponentType;
+use crate::instance_type::InstanceType;
+use crate::module_type::ModuleType;
+use crate::put::{put_alias_export, put_alias_outer, put_named};
+use crate::put_types::{put_defined, put_func};
 use crate::sorts::{Description, Sort};
-use crate::types::FuncType;
+use crate::types::{DefinedType, FuncType};
 use std::alloc::AllocError;
+
+/// An alias that is about to be written.
+#[derive(Clone, Copy)]
+pub(crate) enum AliasRef<'a> {
+    /// Of an instance's export: its sort, the instance, the name.
+    Export(Sort, u32, &'a str),
+    /// Of an index of a scope around: its sort, how many scopes out, the index.
+    Outer(Sort, u32, u32),
+}
+
+/// A type that is about to be written.
+#[derive(Clone, Copy)]
+pub(crate) enum TypeRef<'a> {
+    Defined(&'a DefinedType<'a>),
+    Func(&'a FuncType<'a>),
+    Component(&'a ComponentType),
+    Instance(&'a InstanceType),
+}
 
 /// A declaration that is about to be written, with its parts where they are.
 #[derive(Clone, Copy)]
-pub enum DeclRef<'a> {
-    Func(&'a FuncType<'a>),
-    AliasExport {
-        sort: Sort,
-        instance: u32,
-        name: &'a str,
-    },
-    AliasOuter {
-        sort: Sort,
-        count: u32,
-        index: u32,
-    },
+pub(crate) enum DeclRef<'a> {
+    CoreModule(&'a ModuleType),
+    Type(TypeRef<'a>),
+    Alias(AliasRef<'a>),
+    Import(&'a str, Description),
     Export(&'a str, Description),
 }
 
+/// Puts the bytes of an alias at the end of a buffer.
+pub(crate) fn put_alias(out: &mut Vec<u8>, a: AliasRef<'_>) -> Result<(), AllocError>
+    ensures written { OnOk result (out.new.items ≡ out.old.items ++ alias_bytes (alias_of a.entry)) }
+    ensures grows { (more : List ℕ) × (out.new.items ≡ out.old.items ++ more) }
+{
+    match a {
+        AliasRef::Export(sort, instance, name) => put_alias_export(out, sort, instance, name),
+        AliasRef::Outer(sort, count, index) => put_alias_outer(out, sort, count, index),
+    }
+}
+
+/// Puts the bytes of a type at the end of a buffer.
+pub(crate) fn put_type(out: &mut Vec<u8>, t: TypeRef<'_>) -> Result<(), AllocError>
+    ensures written { OnOk result (out.new.items ≡ out.old.items ++ type_bytes (type_of t.entry)) }
+    ensures grows { (more : List ℕ) × (out.new.items ≡ out.old.items ++ more) }
+{
+    match t {
+        TypeRef::Defined(t) => put_defined(out, t),
+        TypeRef::Func(f) => put_func(out, f),
+        TypeRef::Component(t) => {
+            out.push(0x41)?;
+            t.put(out)
+        }
+        TypeRef::Instance(t) => {
+            out.push(0x42)?;
+            t.put(out)
+        }
+    }
+}
+
 /// Puts the bytes of a declaration at the end of a buffer.
-pub fn put_decl(out: &mut Vec<u8>, d: &DeclRef<'_>) -> Result<(), AllocError>
+pub(crate) fn put_decl(out: &mut Vec<u8>, d: &DeclRef<'_>) -> Result<(), AllocError>
     ensures written { OnOk result (out.new.items ≡ out.old.items ++ decl_bytes (decl_of d.now)) }
     ensures grows { (more : List ℕ) × (out.new.items ≡ out.old.items ++ more) }
 {
     match *d {
-        DeclRef::Func(f) => {
+        DeclRef::CoreModule(t) => {
+            out.push(0)?;
+            t.put(out)
+        }
+        DeclRef::Type(t) => {
             out.push(1)?;
-            put_func(out, f)
+            put_type(out, t)
         }
-        DeclRef::AliasExport {
-            sort,
-            instance,
-            name,
-        } => {
+        DeclRef::Alias(a) => {
             out.push(2)?;
-            put_alias_export(out, sort, instance, name)
+            put_alias(out, a)
         }
-        DeclRef::AliasOuter { sort, count, index } => {
-            out.push(2)?;
-            put_alias_outer(out, sort, count, index)
+        DeclRef::Import(name, d) => {
+            out.push(3)?;
+            out.push(0)?;
+            put_named(out, name, d)
         }
         DeclRef::Export(name, d) => {
             out.push(4)?;

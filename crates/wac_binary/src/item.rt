@@ -5,36 +5,24 @@ ghost use Rattle.wac_binary.specs.Bytes.{alone, item_bytes, section_id as id_of}
 ghost use Rattle.wac_binary.specs.Fits.{SectionFits};
 ghost use Rattle.wac_binary.specs.ItemView.{item_of, alone_of};
 
-use crate::declarations::InstanceType;
+use crate::decl::{AliasRef, TypeRef, put_alias, put_type};
 use crate::fault::BinaryFault;
-use crate::put::{
-    put_alias_export, put_alias_outer, put_argument, put_arguments, put_func, put_named, put_text,
-    put_unsigned,
-};
+use crate::module_type::ModuleType;
+use crate::put::{put_argument, put_arguments, put_named, put_text, put_unsigned};
 use crate::section::unsigned_len;
 use crate::sorts::{Description, Sort};
-use crate::types::FuncType;
 use std::alloc::AllocError;
 
 /// An item that is about to be written, with its parts where they are.
 #[derive(Clone, Copy)]
-pub enum ItemRef<'a> {
+pub(crate) enum ItemRef<'a> {
+    CoreModule(&'a ModuleType),
     Instance {
         component: u32,
         arguments: &'a [(&'a str, Sort, u32)],
     },
-    AliasExport {
-        sort: Sort,
-        instance: u32,
-        name: &'a str,
-    },
-    AliasOuter {
-        sort: Sort,
-        count: u32,
-        index: u32,
-    },
-    Func(&'a FuncType<'a>),
-    InstanceType(&'a InstanceType),
+    Alias(AliasRef<'a>),
+    Type(TypeRef<'a>),
     Import(&'a str, Description),
     Export {
         name: &'a str,
@@ -44,11 +32,12 @@ pub enum ItemRef<'a> {
 }
 
 /// Puts the bytes of an item at the end of a buffer.
-pub fn put_item(out: &mut Vec<u8>, item: &ItemRef<'_>) -> Result<(), AllocError>
+pub(crate) fn put_item(out: &mut Vec<u8>, item: &ItemRef<'_>) -> Result<(), AllocError>
     ensures written { OnOk result (out.new.items ≡ out.old.items ++ item_bytes (item_of item.now)) }
     ensures grows { (more : List ℕ) × (out.new.items ≡ out.old.items ++ more) }
 {
     match *item {
+        ItemRef::CoreModule(t) => t.put(out),
         ItemRef::Instance {
             component,
             arguments,
@@ -57,14 +46,8 @@ pub fn put_item(out: &mut Vec<u8>, item: &ItemRef<'_>) -> Result<(), AllocError>
             put_unsigned(out, u64::from(component))?;
             put_arguments(out, arguments)
         }
-        ItemRef::AliasExport {
-            sort,
-            instance,
-            name,
-        } => put_alias_export(out, sort, instance, name),
-        ItemRef::AliasOuter { sort, count, index } => put_alias_outer(out, sort, count, index),
-        ItemRef::Func(f) => put_func(out, f),
-        ItemRef::InstanceType(t) => t.put(out),
+        ItemRef::Alias(a) => put_alias(out, a),
+        ItemRef::Type(t) => put_type(out, t),
         ItemRef::Import(name, d) => {
             out.push(0)?;
             put_named(out, name, d)
@@ -79,15 +62,14 @@ pub fn put_item(out: &mut Vec<u8>, item: &ItemRef<'_>) -> Result<(), AllocError>
 }
 
 /// The id of the section in which an item stands.
-pub fn section_id(item: &ItemRef<'_>) -> u8
+pub(crate) fn section_id(item: &ItemRef<'_>) -> u8
     ensures { result ≡ id_of (item_of item.now) }
 {
     match item {
+        ItemRef::CoreModule(_) => 3,
         ItemRef::Instance { .. } => 5,
-        ItemRef::AliasExport { .. } => 6,
-        ItemRef::AliasOuter { .. } => 6,
-        ItemRef::Func(_) => 7,
-        ItemRef::InstanceType(_) => 7,
+        ItemRef::Alias(_) => 6,
+        ItemRef::Type(_) => 7,
         ItemRef::Import(..) => 10,
         ItemRef::Export { .. } => 11,
     }
@@ -95,13 +77,13 @@ pub fn section_id(item: &ItemRef<'_>) -> u8
 
 /// An item that has a section of its own and is about to be written.
 #[derive(Clone, Copy)]
-pub enum AloneRef<'a> {
+pub(crate) enum AloneRef<'a> {
     Component(&'a [u8]),
     Custom { name: &'a str, bytes: &'a [u8] },
 }
 
 /// Puts the bytes of such an item at the end of a buffer.
-pub fn put_alone_item(out: &mut Vec<u8>, item: &AloneRef<'_>) -> Result<(), AllocError>
+pub(crate) fn put_alone_item(out: &mut Vec<u8>, item: &AloneRef<'_>) -> Result<(), AllocError>
     ensures written { OnOk result (out.new.items ≡ out.old.items ++ item_bytes (alone_of item.now)) }
     ensures grows { (more : List ℕ) × (out.new.items ≡ out.old.items ++ more) }
 {
@@ -115,7 +97,7 @@ pub fn put_alone_item(out: &mut Vec<u8>, item: &AloneRef<'_>) -> Result<(), Allo
 }
 
 /// The id of the section of such an item.
-pub fn alone_id(item: &AloneRef<'_>) -> u8
+pub(crate) fn alone_id(item: &AloneRef<'_>) -> u8
     ensures { result ≡ id_of (alone_of item.now) }
 {
     match item {
@@ -125,7 +107,7 @@ pub fn alone_id(item: &AloneRef<'_>) -> u8
 }
 
 /// How many bytes such an item has. Refused exactly where its section does not fit 32 bits: `TooLarge`.
-pub fn alone_size(item: &AloneRef<'_>) -> Result<u64, BinaryFault>
+pub(crate) fn alone_size(item: &AloneRef<'_>) -> Result<u64, BinaryFault>
     ensures size { IfOk result (λ n. n ≡ length (item_bytes (alone_of item.now))) }
     ensures fits { OnOk result (SectionFits (alone (alone_of item.now))) }
     ensures too_large { OnErr result (¬ SectionFits (alone (alone_of item.now))) }

@@ -2,13 +2,19 @@
 #![tactic(auto)]
 
 pub mod builder;
+pub mod component_type;
+mod core_decl;
 pub mod core_types;
+pub mod customs;
 mod decl;
-pub mod declarations;
+mod declarations;
 pub mod fault;
+pub mod instance_type;
 mod item;
 pub mod laws;
+pub mod module_type;
 mod put;
+mod put_types;
 mod section;
 pub mod sorts;
 #[cfg(test)]
@@ -16,9 +22,12 @@ mod tests;
 pub mod types;
 
 pub use builder::ComponentBuilder;
+pub use component_type::ComponentType;
 pub use core_types::{EntityType, GlobalType, MemoryType, TableType};
-pub use declarations::InstanceType;
+pub use customs::{component_names, producers};
 pub use fault::BinaryFault;
-pub use laws::{law, one_reading};
+pub use instance_type::InstanceType;
+pub use laws::{law, module_law, one_custom_reading, one_reading, scope_law};
+pub use module_type::ModuleType;
 pub use sorts::{Description, Sort};
-pub use types::{ComponentValType, FuncType};
+pub use types::{ComponentValType, DefinedType, FuncType};

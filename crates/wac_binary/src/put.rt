@@ -2,12 +2,12 @@
 
 ghost use Rattle.std.specs.Prelude.{◌≡◌, List, ℕ, ◌<◌, ◌≤◌, ◌++◌, ◌∷◌, [], length, OnOk};
 ghost use Rattle.wac_binary.specs.Leb.{leb, unsigned};
-ghost use Rattle.wac_binary.specs.Bytes.{text, value, primitive, field, vector, argument, type_bytes, alias_bytes, sort, described};
+ghost use Rattle.wac_binary.specs.Bytes.{text, value, primitive, vector, argument, alias_bytes, sort, described};
 ghost use Rattle.wac_binary.specs.Items.{export_alias, outer_alias};
-ghost use Rattle.wac_binary.specs.Views.{named, arguments_of, func_of};
+ghost use Rattle.wac_binary.specs.Views.{arguments_of};
 
 use crate::sorts::{Description, Sort};
-use crate::types::{ComponentValType, FuncType};
+use crate::types::ComponentValType;
 use std::alloc::AllocError;
 use wac_types::PrimitiveType;
 
@@ -28,7 +28,7 @@ fn put_leb(out: &mut Vec<u8>, limit: u64, n: u64) -> Result<(), AllocError>
 }
 
 /// Appends an unsigned number, as shortest LEB128.
-pub fn put_unsigned(out: &mut Vec<u8>, n: u64) -> Result<(), AllocError>
+pub(crate) fn put_unsigned(out: &mut Vec<u8>, n: u64) -> Result<(), AllocError>
     ensures written { OnOk result (out.new.items ≡ out.old.items ++ unsigned n) }
     ensures grows { (more : List ℕ) × (out.new.items ≡ out.old.items ++ more) }
 {
@@ -36,7 +36,7 @@ pub fn put_unsigned(out: &mut Vec<u8>, n: u64) -> Result<(), AllocError>
 }
 
 /// Appends a text behind its length.
-pub fn put_text(out: &mut Vec<u8>, t: &str) -> Result<(), AllocError>
+pub(crate) fn put_text(out: &mut Vec<u8>, t: &str) -> Result<(), AllocError>
     ensures written { OnOk result (out.new.items ≡ out.old.items ++ text t.now) }
     ensures grows { (more : List ℕ) × (out.new.items ≡ out.old.items ++ more) }
 {
@@ -45,7 +45,8 @@ pub fn put_text(out: &mut Vec<u8>, t: &str) -> Result<(), AllocError>
     Ok(())
 }
 
-fn primitive_byte(t: PrimitiveType) -> u8
+/// The code of a primitive type.
+pub(crate) fn primitive_byte(t: PrimitiveType) -> u8
     ensures { result ≡ primitive t }
 {
     match t {
@@ -67,7 +68,7 @@ fn primitive_byte(t: PrimitiveType) -> u8
 }
 
 /// Appends a value type: a primitive by its code, or an index as a signed number.
-pub fn put_value(out: &mut Vec<u8>, t: ComponentValType) -> Result<(), AllocError>
+pub(crate) fn put_value(out: &mut Vec<u8>, t: ComponentValType) -> Result<(), AllocError>
     ensures written { OnOk result (out.new.items ≡ out.old.items ++ value t) }
     ensures grows { (more : List ℕ) × (out.new.items ≡ out.old.items ++ more) }
 {
@@ -80,47 +81,8 @@ pub fn put_value(out: &mut Vec<u8>, t: ComponentValType) -> Result<(), AllocErro
     }
 }
 
-fn put_field(out: &mut Vec<u8>, name: &str, t: ComponentValType) -> Result<(), AllocError>
-    ensures written { OnOk result (out.new.items ≡ out.old.items ++ field (name.now, t)) }
-    ensures grows { (more : List ℕ) × (out.new.items ≡ out.old.items ++ more) }
-{
-    put_text(out, name)?;
-    put_value(out, t)
-}
-
-fn put_fields(out: &mut Vec<u8>, fields: &[(&str, ComponentValType)]) -> Result<(), AllocError>
-    ensures written { OnOk result (out.new.items ≡ out.old.items ++ vector field (named fields.now)) }
-    ensures grows { (more : List ℕ) × (out.new.items ≡ out.old.items ++ more) }
-{
-    put_unsigned(out, fields.len() as u64)?;
-    for field in fields {
-        put_field(out, field.0, field.1)?;
-    }
-    Ok(())
-}
-
-/// Appends a function type.
-pub fn put_func(out: &mut Vec<u8>, f: &FuncType<'_>) -> Result<(), AllocError>
-    ensures written { OnOk result (out.new.items ≡ out.old.items ++ type_bytes (func_of f.now)) }
-    ensures grows { (more : List ℕ) × (out.new.items ≡ out.old.items ++ more) }
-{
-    out.push(if f.is_async { 0x43 } else { 0x40 })?;
-    put_fields(out, f.params)?;
-    match f.result {
-        None => {
-            out.push(1)?;
-            out.push(0)?;
-            Ok(())
-        }
-        Some(t) => {
-            out.push(0)?;
-            put_value(out, t)
-        }
-    }
-}
-
 /// Appends a sort.
-pub fn put_sort(out: &mut Vec<u8>, s: Sort) -> Result<(), AllocError>
+pub(crate) fn put_sort(out: &mut Vec<u8>, s: Sort) -> Result<(), AllocError>
     ensures written { OnOk result (out.new.items ≡ out.old.items ++ sort s) }
     ensures grows { (more : List ℕ) × (out.new.items ≡ out.old.items ++ more) }
 {
@@ -138,7 +100,8 @@ pub fn put_sort(out: &mut Vec<u8>, s: Sort) -> Result<(), AllocError>
     Ok(())
 }
 
-fn put_indexed(out: &mut Vec<u8>, byte: u8, index: u32) -> Result<(), AllocError>
+/// Appends a byte and an index.
+pub(crate) fn put_indexed(out: &mut Vec<u8>, byte: u8, index: u32) -> Result<(), AllocError>
     ensures written { OnOk result (out.new.items ≡ out.old.items ++ byte ∷ unsigned index) }
     ensures grows { (more : List ℕ) × (out.new.items ≡ out.old.items ++ more) }
 {
@@ -147,7 +110,7 @@ fn put_indexed(out: &mut Vec<u8>, byte: u8, index: u32) -> Result<(), AllocError
 }
 
 /// Appends what an import, or an exported declaration, is.
-pub fn put_described(out: &mut Vec<u8>, d: Description) -> Result<(), AllocError>
+pub(crate) fn put_described(out: &mut Vec<u8>, d: Description) -> Result<(), AllocError>
     ensures written { OnOk result (out.new.items ≡ out.old.items ++ described d) }
     ensures grows { (more : List ℕ) × (out.new.items ≡ out.old.items ++ more) }
 {
@@ -172,7 +135,7 @@ pub fn put_described(out: &mut Vec<u8>, d: Description) -> Result<(), AllocError
 }
 
 /// A name and what stands under it.
-pub fn put_named(out: &mut Vec<u8>, name: &str, d: Description) -> Result<(), AllocError>
+pub(crate) fn put_named(out: &mut Vec<u8>, name: &str, d: Description) -> Result<(), AllocError>
     ensures written { OnOk result (out.new.items ≡ out.old.items ++ (text name.now ++ described d)) }
     ensures grows { (more : List ℕ) × (out.new.items ≡ out.old.items ++ more) }
 {
@@ -181,7 +144,7 @@ pub fn put_named(out: &mut Vec<u8>, name: &str, d: Description) -> Result<(), Al
 }
 
 /// Appends an alias of an instance's export.
-pub fn put_alias_export(
+pub(crate) fn put_alias_export(
     out: &mut Vec<u8>,
     s: Sort,
     instance: u32,
@@ -196,7 +159,12 @@ pub fn put_alias_export(
 }
 
 /// Appends an alias of an index of an enclosing scope.
-pub fn put_alias_outer(out: &mut Vec<u8>, s: Sort, count: u32, index: u32) -> Result<(), AllocError>
+pub(crate) fn put_alias_outer(
+    out: &mut Vec<u8>,
+    s: Sort,
+    count: u32,
+    index: u32,
+) -> Result<(), AllocError>
     ensures written { OnOk result (out.new.items ≡ out.old.items ++ alias_bytes (outer_alias s count index)) }
     ensures grows { (more : List ℕ) × (out.new.items ≡ out.old.items ++ more) }
 {
@@ -206,7 +174,12 @@ pub fn put_alias_outer(out: &mut Vec<u8>, s: Sort, count: u32, index: u32) -> Re
 }
 
 /// A name, a sort and an index.
-pub fn put_argument(out: &mut Vec<u8>, name: &str, s: Sort, index: u32) -> Result<(), AllocError>
+pub(crate) fn put_argument(
+    out: &mut Vec<u8>,
+    name: &str,
+    s: Sort,
+    index: u32,
+) -> Result<(), AllocError>
     ensures written { OnOk result (out.new.items ≡ out.old.items ++ argument (name.now, s, index)) }
     ensures grows { (more : List ℕ) × (out.new.items ≡ out.old.items ++ more) }
 {
@@ -216,7 +189,10 @@ pub fn put_argument(out: &mut Vec<u8>, name: &str, s: Sort, index: u32) -> Resul
 }
 
 /// Appends the arguments of an instantiation.
-pub fn put_arguments(out: &mut Vec<u8>, arguments: &[(&str, Sort, u32)]) -> Result<(), AllocError>
+pub(crate) fn put_arguments(
+    out: &mut Vec<u8>,
+    arguments: &[(&str, Sort, u32)],
+) -> Result<(), AllocError>
     ensures written { OnOk result (out.new.items ≡ out.old.items ++ vector argument (arguments_of arguments.now)) }
     ensures grows { (more : List ℕ) × (out.new.items ≡ out.old.items ++ more) }
 {

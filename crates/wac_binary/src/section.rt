@@ -20,9 +20,9 @@ const PREAMBLE: [u8; 8] = [0x00, 0x61, 0x73, 0x6d, 0x0d, 0x00, 0x01, 0x00];
 
 /// The open section: its id, and how many things it has.
 #[derive(Clone, Copy, Debug)]
-pub struct Open {
-    pub id: u8,
-    pub count: u64,
+pub(crate) struct Open {
+    pub(crate) id: u8,
+    pub(crate) count: u64,
 }
 
 /// Whether sections of this id hold several things.
@@ -34,7 +34,7 @@ fn is_shared(id: u8) -> bool
 
 /// How long an unsigned number is.
 #[tactic(auto, using(crate::specs::LebLaws::leb_more, crate::specs::LebLaws::leb_last, std::proofs::lemmas::Grind::common_steps))]
-pub fn unsigned_len(n: u64) -> u64
+pub(crate) fn unsigned_len(n: u64) -> u64
     ensures is { result ≡ length (unsigned n) }
     ensures bound { result ≤ n + 1 }
 {
@@ -63,7 +63,7 @@ fn fits(last: Open, things: &[u8]) -> bool
 }
 
 /// Writes the preamble where nothing is written yet.
-pub fn begin(bytes: &mut Vec<u8>) -> Result<(), AllocError>
+pub(crate) fn begin(bytes: &mut Vec<u8>) -> Result<(), AllocError>
     ensures begun { OnOk result (bytes.new.items ≡ begun bytes.old.items) }
     ensures refused { OnErr result (bytes.new.items ≡ bytes.old.items) }
 {
@@ -90,7 +90,11 @@ fn put_section(out: &mut Vec<u8>, last: Open, things: &[u8]) -> Result<(), Alloc
 }
 
 /// Puts the open section, where there is one, at the end of a buffer.
-pub fn put_open(out: &mut Vec<u8>, last: Option<Open>, things: &[u8]) -> Result<(), AllocError>
+pub(crate) fn put_open(
+    out: &mut Vec<u8>,
+    last: Option<Open>,
+    things: &[u8],
+) -> Result<(), AllocError>
     requires { IfSome (section_of last things.now) SectionFits }
     ensures written { OnOk result (out.new.items ≡ out.old.items ++ flat_map section_bytes (one (section_of last things.now))) }
     ensures grows { (more : List ℕ) × (out.new.items ≡ out.old.items ++ more) }
@@ -144,7 +148,7 @@ fn join(things: &mut Vec<u8>, last: Open, item: &ItemRef<'_>) -> Result<Open, Bi
 }
 
 /// Writes an item into the open section, or into the next one, which is then the open one.
-pub fn put_shared(
+pub(crate) fn put_shared(
     bytes: &mut Vec<u8>,
     things: &mut Vec<u8>,
     next: &mut Vec<u8>,
@@ -191,7 +195,7 @@ fn put_alone_sections(
 }
 
 /// Closes the open section and writes an item in a section of its own, or leaves the bytes as they were.
-pub fn put_alone(
+pub(crate) fn put_alone(
     bytes: &mut Vec<u8>,
     last: Option<Open>,
     things: &[u8],

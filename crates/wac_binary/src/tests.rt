@@ -1,3 +1,7 @@
+mod customs;
+mod modules;
+mod types;
+
 use crate::{
     BinaryFault, ComponentBuilder, ComponentValType, Description, FuncType, InstanceType, Sort,
 };
@@ -167,6 +171,40 @@ fn writes_custom_sections(rt: HostRuntime) -> Result<(), Fail> {
                 11, 7, 1, 0, 1, 0x78, 1, 0, 0, // an export
                 0, 4, 1, 0x62, 1, 2, // a custom section
                 11, 7, 1, 0, 1, 0x79, 1, 0, 0, // an export
+            ]
+            .as_slice()
+    );
+    Ok(())
+}
+
+// Both forms of an alias, of each sort; an index is answered in the space of its sort.
+#[test]
+fn writes_aliases_of_each_sort(rt: HostRuntime) -> Result<(), Fail> {
+    let mut b = ComponentBuilder::new(rt.alloc());
+    for s in [
+        Sort::CoreModule,
+        Sort::Func,
+        Sort::Value,
+        Sort::Type,
+        Sort::Component,
+        Sort::Instance,
+    ] {
+        let i = b.alias_export(s, 200, "a")?;
+        let j = b.alias_outer(s, 1, 2)?;
+        assert_eq!(rt; (i, j), (0, 1));
+    }
+    let bytes = b.finish()?;
+    assert!(rt;
+        bytes.as_slice()
+            == [
+                0x00, 0x61, 0x73, 0x6d, 0x0d, 0x00, 0x01, 0x00, // the preamble
+                6, 63, 12, // twelve aliases
+                0, 0x11, 0, 0xc8, 1, 1, 0x61, 0, 0x11, 2, 1, 2, // of core modules
+                1, 0, 0xc8, 1, 1, 0x61, 1, 2, 1, 2, // of functions
+                2, 0, 0xc8, 1, 1, 0x61, 2, 2, 1, 2, // of values
+                3, 0, 0xc8, 1, 1, 0x61, 3, 2, 1, 2, // of types
+                4, 0, 0xc8, 1, 1, 0x61, 4, 2, 1, 2, // of components
+                5, 0, 0xc8, 1, 1, 0x61, 5, 2, 1, 2, // of instances
             ]
             .as_slice()
     );

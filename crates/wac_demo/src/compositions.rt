@@ -1,9 +1,10 @@
 //! The compositions that the program prints.
 
-ghost use Rattle.std.specs.Prelude.{◌≡◌, ⊤, IfOk, IsSome};
+ghost use Rattle.std.specs.Prelude.{◌≡◌, IfOk, IsSome};
+ghost use Rattle.wac_types.specs.Named.{named_pairs};
 ghost use Rattle.wac_graph.specs.Graph.{package_at};
 ghost use Rattle.wac_graph.specs.Steps.{IsEmpty};
-ghost use Rattle.wac_demo.specs.Composed.{Compose};
+ghost use Rattle.wac_demo.specs.Composed.{Compose, IsReadme, IsPlainFunction, IsEmptyPackage, Stays};
 
 use anyhow::Result;
 use std::alloc::Global;
@@ -23,7 +24,7 @@ pub fn empty(alloc: Global) -> Result<Vec<u8>>
 
 /// Two packages: the function `a` of an instance of the first is given to an instance of the second as `b`.
 pub fn readme(alloc: Global) -> Result<Vec<u8>>
-    ensures { IfOk result (λ bytes. Compose bytes.items (λ _. ⊤)) }
+    ensures { IfOk result (λ bytes. Compose bytes.items IsReadme) }
 {
     let mut graph = CompositionGraph::new(alloc);
     let function = function(alloc, &mut graph)?;
@@ -37,7 +38,10 @@ pub fn readme(alloc: Global) -> Result<Vec<u8>>
 }
 
 /// A function type without parameters and result.
-pub fn function(alloc: Global, graph: &mut CompositionGraph) -> Result<ItemKind> {
+pub fn function(alloc: Global, graph: &mut CompositionGraph) -> Result<ItemKind>
+    ensures plain { IfOk result (λ kind. IsPlainFunction graph.new.types kind) }
+    ensures stays { Stays graph.old graph.new }
+{
     let function = FuncType::new(alloc, &[], None, false)?;
     Ok(ItemKind::Func(graph.add_func_type(function)?))
 }
@@ -50,8 +54,8 @@ pub fn register(
     imports: &[(&str, ItemKind)],
     exports: &[(&str, ItemKind)],
 ) -> Result<PackageId>
-    ensures held { IfOk result (λ id. IsSome (package_at graph.new id)) }
-    ensures nodes { graph.new.nodes ≡ graph.old.nodes }
+    ensures registered { IfOk result (λ id. IsEmptyPackage graph.new id name.now (named_pairs imports.now) (named_pairs exports.now)) }
+    ensures stays { Stays graph.old graph.new }
 {
     let world = graph.add_world(World::new(alloc, None, imports, exports)?)?;
     let bytes = Vec::from_array(alloc, EMPTY_COMPONENT)?;

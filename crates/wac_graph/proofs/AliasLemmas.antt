@@ -62,6 +62,14 @@ already a id n i it position alias kind name had is at found stands =
     let there : AliasesOf (graph_of a) id (node_of n) name (Ok (record { 0 = alias })) (graph_of a) = rw (export_is a n i it name (Some (position, kind)) is at found) (is_instance n i is, inl (stands, refl)) in
     aliases_at a id n name (Ok (record { 0 = alias })) (graph_of a) had there
 
+-- the alias that stands is a node
+pub alias_stands : (a : Inside) → Invariant a → (instance alias position : ℕ) → set.contains a.edges (alias_edge instance alias position) ≡ true → IsSome (node_at (graph_of a) (record { 0 = alias }))
+alias_stands a v instance alias position stands = ((v.sound).ends (alias_edge instance alias position) stands).1
+
+-- and so is a new one
+pub alias_made : (a : Inside) (nodes : Slab Node) (edges : set.FinSet edge_cmp) (number : ℕ) (node : Node) → Updates a.nodes nodes number (Some node) → IsSome (node_at (graph_of (record a { nodes = nodes; edges = edges })) (record { 0 = number }))
+alias_made a nodes edges number node u = ap is_some (get-nodes_of nodes.slots number ∙ ap (option_map node_of) u.changed)
+
 pub placed_updates : (reserved nodes : Slab Node) (number placed : ℕ) (node : Node) → number ≡ reserved.vacant_key → placed ≡ reserved.vacant_key → Updates reserved nodes placed (Some node) → Updates reserved nodes number (Some node)
 placed_updates reserved nodes number placed node next here u = subst (λ k. Updates reserved nodes k (Some node)) (here ∙ sym next) u
 

@@ -1,5 +1,5 @@
 -- Steps of `set_instantiation_argument`.
-use Rattle.std.proofs.Common.{arith, ◌≡◌, ℕ, ◌<◌, length, Bool, true, false, not, ◌||◌, ◌&&◌, ap, ◌∙◌, sym, refl, subst, inl, inr, Option, Some, None, IfSome, IsSomeAnd, Ok, Err, String, Global, string_bytes, [], Result}
+use Rattle.std.proofs.Common.{arith, ◌≡◌, ℕ, ◌<◌, length, Bool, true, false, not, ◌||◌, ◌&&◌, ap, ◌∙◌, sym, refl, subst, Option, Some, None, IfSome, IsSome, IsSomeAnd, Err, String, Global, string_bytes, [], Result}
 use Rattle.std.specs.Prelude.{slice_get, nat_lt}
 use Rattle.std.specs.Option.{option_map}
 use Rattle.std.specs.FinSet as set
@@ -23,12 +23,13 @@ use Rattle.wac_graph.specs.declared.node.NodeKind.TheVariants as code
 use Rattle.wac_graph.specs.declared.packages.PackageId.{PackageId}
 use Rattle.wac_graph.specs.declared.edges.Edge.{Edge}
 use Rattle.wac_graph.specs.declared.errors.InstantiationArgumentError.{InstantiationArgumentError}
-use Rattle.wac_graph.specs.declared.errors.InstantiationArgumentError.TheVariants.{NodeIsNotAnInstantiation, InvalidArgumentName, ArgumentAlreadyPassed, ArgumentTypeMismatch, OutOfMemory}
+use Rattle.wac_graph.specs.declared.errors.InstantiationArgumentError.TheVariants.{NodeIsNotAnInstantiation, InvalidArgumentName, ArgumentAlreadyPassed, ArgumentTypeMismatch}
 use Rattle.wac_graph.specs.declared.graph.CompositionGraph.TheInside.{Inside}
-use Rattle.wac_graph.specs.Edge.{edge_cmp, argument_edge}
+use Rattle.wac_graph.specs.Edge.{edge_cmp}
 use Rattle.wac_graph.specs.Graph as graph
-use Rattle.wac_graph.specs.Graph.{Graph, GraphNode, Kind, node_at, package_at, package_in, package_of, imports_of, IsSatisfied, IsUnsatisfied}
-use Rattle.wac_graph.specs.Inside.{node_of, kind_of, graph_of, Invariant, satisfied, satisfied_at}
+use Rattle.wac_graph.specs.Arguments.{IsInstantiation, HasImport, Fits}
+use Rattle.wac_graph.specs.Graph.{Graph, GraphNode, Kind, node_at, package_at, package_in, package_of, imports_of, IsSatisfied, IsUnsatisfied, IsArgumentOf}
+use Rattle.wac_graph.specs.Inside.{node_of, kind_of, graph_of, Invariant, satisfied, satisfied_at, IsInstantiationAt}
 use Rattle.wac_graph.specs.Steps.{SetsArgument, SetsOn, import_named}
 use Rattle.wac_graph.proofs.EdgeLemmas.{edge_cmp_total, exact_edges, edge_cmp-IsAntisymmetric}
 use Rattle.wac_graph.proofs.NodeLemmas.{get-nodes_of, nodes_of-same}
@@ -79,7 +80,7 @@ pub imports_of_package : (g : Graph) (n : GraphNode) (p : PackageParts) → pack
 imports_of_package g n p h = rw h refl
 
 -- an instantiation node, of which the package is found
-module _ (a : Inside) (v : Invariant a) (id argument : NodeId) (n : Node) (s : BTreeSet ℕ) (name : Name) (had : get a.nodes id.0 ≡ Some n) (is : n.kind ≡ code.Instantiation s) where
+module _ (a : Inside) (v : Invariant a) (id : NodeId) (n : Node) (s : BTreeSet ℕ) (name : Name) (had : get a.nodes id.0 ≡ Some n) (is : n.kind ≡ code.Instantiation s) where
   owner_there : (o : PackageId) × (p : PackageParts) × (n.«package» ≡ Some o) × (package_at (graph_of a) o ≡ Some p)
   owner_there =
       let i = (v.sound).instances id (node_of n) (get-nodes_of a.nodes.slots id.0 ∙ ap (option_map node_of) had) (ap kind_of is) in
@@ -116,63 +117,89 @@ module _ (a : Inside) (v : Invariant a) (id argument : NodeId) (n : Node) (s : B
       import_is : (r : Option (ℕ × ItemKind)) → r ≡ named_at 0 name w.imports → import_named (graph_of a) (node_of n) name ≡ r
       import_is r found = ap (named_at 0 name) imports_are ∙ sym found
 
-      pub invalid_name : (text of_package : String Global) → None ≡ named_at 0 name w.imports → string_bytes text ≡ name → string_bytes of_package ≡ p.name → SetsArgument (graph_of a) id name argument (Err (InvalidArgumentName id text of_package)) (graph_of a)
-      invalid_name text of_package none written titled =
+      pub invalid_name : (argument : NodeId) (text of_package : String Global) → None ≡ named_at 0 name w.imports → string_bytes text ≡ name → string_bytes of_package ≡ p.name → SetsArgument (graph_of a) id name argument (Err (InvalidArgumentName id text of_package)) (graph_of a)
+      invalid_name argument text of_package none written titled =
           sets_at a id argument n name (Err (InvalidArgumentName id text of_package)) (graph_of a) had
           (λ g _. (refl, refl, written, subst (λ x. IsSomeAnd x (λ q. string_bytes of_package ≡ q.name)) (sym package_is) titled, ap kind_of is, import_is None none))
 
-      module _ (position : ℕ) (kind : ItemKind) (found : Some (position, kind) ≡ named_at 0 name w.imports) where
-        pub import_held : IsWellFormed a.types → holds_type a.types (kind_type kind) ≡ true
-        import_held law =
-            let (e, j, place, at, same) = found_entry name 0 position kind w.imports found in
-            ap (λ k. holds_type a.types (kind_type k)) (sym same) ∙ imports_held a.types law (p.world).0 w at_world j e at
+      pub import_held : (position : ℕ) (kind : ItemKind) → Some (position, kind) ≡ named_at 0 name w.imports → IsWellFormed a.types → holds_type a.types (kind_type kind) ≡ true
+      import_held position kind found law =
+          let (e, j, place, at, same) = found_entry name 0 position kind w.imports found in
+          ap (λ k. holds_type a.types (kind_type k)) (sym same) ∙ imports_held a.types law (p.world).0 w at_world j e at
 
-        pub stands_already : set.contains a.edges (argument_edge argument.0 id.0 position) ≡ true → SetsArgument (graph_of a) id name argument (Ok tt) (graph_of a)
-        stands_already stands = sets_at a id argument n name (Ok tt) (graph_of a) had (λ g _. (ap kind_of is, rw (import_is (Some (position, kind)) found) (inl (stands, refl))))
+      pub has_import : (position : ℕ) (kind : ItemKind) → Some (position, kind) ≡ named_at 0 name w.imports → HasImport (graph_of a) id name position kind
+      has_import position kind found =
+          subst (λ x. IsSomeAnd x (λ m. (m.kind ≡ graph.instantiation) × (import_named (graph_of a) m name ≡ Some (position, kind)))) (sym (get-nodes_of a.nodes.slots id.0 ∙ ap (option_map node_of) had))
+          (ap kind_of is, import_is (Some (position, kind)) found)
 
-        marked_at : (b : Bool) → positions.contains nat_cmp s position ≡ b → satisfied_at (get a.nodes id.0) position ≡ b
-        marked_at b h = ap (λ x. satisfied_at x position) had ∙ ap (λ k. satisfied k position) is ∙ h
+-- a node that is no instantiation has no imports
+pub has_no_import : (a : Inside) (id : NodeId) (n : Node) (name : Name) (position : ℕ) (kind : ItemKind) → get a.nodes id.0 ≡ Some n → HasImport (graph_of a) id name position kind → ((s : BTreeSet ℕ) → n.kind ≡ code.Instantiation s → ⊥) → ⊥
+has_no_import a id n name position kind had import not_one =
+    no_instantiation n.kind not_one (subst (λ x. IsSomeAnd x (λ m. (m.kind ≡ graph.instantiation) × (import_named (graph_of a) m name ≡ Some (position, kind)))) (get-nodes_of a.nodes.slots id.0 ∙ ap (option_map node_of) had) import).0
 
-        pub passed_already : (text : String Global) → string_bytes text ≡ name → set.contains a.edges (argument_edge argument.0 id.0 position) ≡ false → positions.contains nat_cmp s position ≡ true → SetsArgument (graph_of a) id name argument (Err (ArgumentAlreadyPassed id text)) (graph_of a)
-        passed_already text written other marked =
-            sets_at a id argument n name (Err (ArgumentAlreadyPassed id text)) (graph_of a) had
-            (λ g _. (
-              refl,
-              refl,
-              written,
-              ap kind_of is,
-              rw (import_is (Some (position, kind)) found) (
-                (λ stands. clash (set.contains a.edges (argument_edge argument.0 id.0 position)) stands other),
-                (let (source, stands) = v.edged id.0 position (marked_at true marked) in (record { 0 = source }, stands)),
-              ),
-            ))
+-- a node with an import is there
+pub import_there : (g : Graph) (id : NodeId) (name : Name) (position : ℕ) (kind : ItemKind) → HasImport g id name position kind → IsSome (node_at g id)
+import_there g id name position kind import = split (node_at g id) import where
+  split : (o : Option GraphNode) → IsSomeAnd o (λ m. (m.kind ≡ graph.instantiation) × (import_named g m name ≡ Some (position, kind))) → IsSome o
+  split None h = absurd h
+  split (Some x) _ = refl
 
-        unsatisfied : positions.contains nat_cmp s position ≡ false → IsUnsatisfied (graph_of a) id position
-        unsatisfied unmarked source stands = clash (satisfied_at (get a.nodes id.0) position) (v.marked source.0 id.0 position stands) (marked_at false unmarked)
+-- an instantiation, with the import of a name
+module _ (a : Inside) (v : Invariant a) (id : NodeId) (n : Node) (s : BTreeSet ℕ) (name : Name) (position : ℕ) (kind : ItemKind) (had : get a.nodes id.0 ≡ Some n) (is : n.kind ≡ code.Instantiation s) (import : HasImport (graph_of a) id name position kind) where
+  named : import_named (graph_of a) (node_of n) name ≡ Some (position, kind)
+  named = (subst (λ x. IsSomeAnd x (λ m. (m.kind ≡ graph.instantiation) × (import_named (graph_of a) m name ≡ Some (position, kind)))) (get-nodes_of a.nodes.slots id.0 ∙ ap (option_map node_of) had) import).1
 
-        pub mismatch : (m : Node) (text : String Global) → string_bytes text ≡ name → positions.contains nat_cmp s position ≡ false → get a.nodes argument.0 ≡ Some m → (IsSubtype a.types m.item_kind a.types kind → ⊥) → SetsArgument (graph_of a) id name argument (Err (ArgumentTypeMismatch text Mismatch)) (graph_of a)
-        mismatch m text written unmarked given differ =
-            sets_at a id argument n name (Err (ArgumentTypeMismatch text Mismatch)) (graph_of a) had
-            (λ g at. (
-              refl,
-              written,
-              ap kind_of is,
-              refl,
-              rw (import_is (Some (position, kind)) found) (
-                unsatisfied unmarked,
-                λ fits. differ (subst (λ k. IsSubtype a.types k a.types kind) (sym (item_at_node a argument m given g at)) fits),
-              ),
-            ))
+  marked_at : (b : Bool) → positions.contains nat_cmp s position ≡ b → satisfied_at (get a.nodes id.0) position ≡ b
+  marked_at b h = ap (λ x. satisfied_at x position) had ∙ ap (λ k. satisfied k position) is ∙ h
 
-        module _ (nodes : Slab Node) (same : (q : ℕ) → option_map node_of (get nodes q) ≡ option_map node_of (get a.nodes q)) (edges : set.FinSet edge_cmp) (next : nodes.vacant_key ≡ a.nodes.vacant_key) where
-          same_graph : (others : set.FinSet edge_cmp) → edges ≡ others → graph_of (record a { nodes = nodes; edges = edges }) ≡ record (graph_of a) { edges = others }
-          same_graph others e = λ j. record (graph_of a) { nodes = nodes_of-same a.nodes.slots nodes.slots same j; next = next j; edges = e j }
+  pub passed_already : (argument : NodeId) (text : String Global) → string_bytes text ≡ name → (IsArgumentOf (graph_of a) id position argument → ⊥) → positions.contains nat_cmp s position ≡ true → SetsArgument (graph_of a) id name argument (Err (ArgumentAlreadyPassed id text)) (graph_of a)
+  passed_already argument text written other marked =
+      sets_at a id argument n name (Err (ArgumentAlreadyPassed id text)) (graph_of a) had
+      (λ g _. (
+        refl,
+        refl,
+        written,
+        ap kind_of is,
+        rw named (other, (let (source, stands) = v.edged id.0 position (marked_at true marked) in (record { 0 = source }, stands))),
+      ))
 
-          pub given_back : edges ≡ a.edges → SetsArgument (graph_of a) id name argument (Err OutOfMemory) (graph_of (record a { nodes = nodes; edges = edges }))
-          given_back e = sets_at a id argument n name (Err OutOfMemory) (graph_of (record a { nodes = nodes; edges = edges })) had (λ g _. same_graph a.edges e)
+  unsatisfied : positions.contains nat_cmp s position ≡ false → IsUnsatisfied (graph_of a) id position
+  unsatisfied unmarked source stands = clash (satisfied_at (get a.nodes id.0) position) (v.marked source.0 id.0 position stands) (marked_at false unmarked)
 
-          pub given : (m : Node) → positions.contains nat_cmp s position ≡ false → get a.nodes argument.0 ≡ Some m → IsSubtype a.types m.item_kind a.types kind → edges ≡ set.insert a.edges (argument_edge argument.0 id.0 position)
-              → SetsArgument (graph_of a) id name argument (Ok tt) (graph_of (record a { nodes = nodes; edges = edges }))
-          given m unmarked one fits added =
-              sets_at a id argument n name (Ok tt) (graph_of (record a { nodes = nodes; edges = edges })) had
-              (λ g at. (ap kind_of is, rw (import_is (Some (position, kind)) found) (inr (unsatisfied unmarked, subst (λ k. IsSubtype a.types k a.types kind) (item_at_node a argument m one g at) fits, same_graph (set.insert a.edges (argument_edge argument.0 id.0 position)) added))))
+  pub mismatch : (argument : NodeId) (m : Node) (text : String Global) → string_bytes text ≡ name → positions.contains nat_cmp s position ≡ false → get a.nodes argument.0 ≡ Some m → (IsSubtype a.types m.item_kind a.types kind → ⊥) → SetsArgument (graph_of a) id name argument (Err (ArgumentTypeMismatch text Mismatch)) (graph_of a)
+  mismatch argument m text written unmarked given differ =
+      sets_at a id argument n name (Err (ArgumentTypeMismatch text Mismatch)) (graph_of a) had
+      (λ g at. (
+        refl,
+        written,
+        ap kind_of is,
+        refl,
+        rw named (unsatisfied unmarked, λ fits. differ (subst (λ k. IsSubtype a.types k a.types kind) (sym (item_at_node a argument m given g at)) fits)),
+      ))
+
+  pub fits : (argument : NodeId) (m : Node) → positions.contains nat_cmp s position ≡ false → get a.nodes argument.0 ≡ Some m → IsSubtype a.types m.item_kind a.types kind → Fits (graph_of a) id position kind argument
+  fits argument m unmarked given subtype = (
+    unsatisfied unmarked,
+    IfSome-eq (node_at (graph_of a) argument) (λ g. IsSubtype a.types g.item_kind a.types kind) (λ g at. subst (λ k. IsSubtype a.types k a.types kind) (item_at_node a argument m given g at) subtype),
+  )
+
+-- what the fields mean where only the edges have changed
+pub same_graph : (a : Inside) (nodes : Slab Node) (edges others : set.FinSet edge_cmp) → ((q : ℕ) → option_map node_of (get nodes q) ≡ option_map node_of (get a.nodes q)) → nodes.vacant_key ≡ a.nodes.vacant_key → edges ≡ others
+    → graph_of (record a { nodes = nodes; edges = edges }) ≡ record (graph_of a) { edges = others }
+same_graph a nodes edges others same next e = λ j. record (graph_of a) { nodes = nodes_of-same a.nodes.slots nodes.slots same j; next = next j; edges = e j }
+
+pub is_instantiation : (a : Inside) (id : NodeId) → IsInstantiation (graph_of a) id → IsInstantiationAt (get a.nodes id.0)
+is_instantiation a id h = split (get a.nodes id.0) (subst (λ x. IsSomeAnd x (λ m. m.kind ≡ graph.instantiation)) (get-nodes_of a.nodes.slots id.0) h) where
+  split : (o : Option Node) → IsSomeAnd (option_map node_of o) (λ m. m.kind ≡ graph.instantiation) → IsInstantiationAt o
+  split None wrong = absurd wrong
+  split (Some x) is = is
+
+pub instantiation_there : (a : Inside) (id : NodeId) → IsInstantiation (graph_of a) id → IsSome (get a.nodes id.0)
+instantiation_there a id h = split (get a.nodes id.0) (is_instantiation a id h) where
+  split : (o : Option Node) → IsInstantiationAt o → IsSome o
+  split None wrong = absurd wrong
+  split (Some x) is = refl
+
+pub absent_edge : (b : Bool) → (b ≡ true → ⊥) → b ≡ false
+absent_edge true h = absurd (h refl)
+absent_edge false h = refl

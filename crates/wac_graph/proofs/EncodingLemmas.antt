@@ -68,17 +68,17 @@ module _ (a : Inside) (v : Invariant a) (n : ℕ) (node : Node) (had : get a.nod
   set_of = the_set node.kind (of_node a n node (λ x. x.kind ≡ graph.instantiation) h had)
 
   pub owned_at : node.«package» ≡ None → ⊥
-  owned_at = let (s, is) = set_of in owned a v (node_number n) (node_number n) node s [] had is
+  owned_at = let (s, is) = set_of in owned a v (node_number n) node s [] had is
 
   pub registered_at : (o : PackageId) → node.«package» ≡ Some o → None ≡ package_in (slice_get a.slots.items o.slot) o → ⊥
-  registered_at = let (s, is) = set_of in registered a v (node_number n) (node_number n) node s [] had is
+  registered_at = let (s, is) = set_of in registered a v (node_number n) node s [] had is
 
   pub world_at : (o : PackageId) (p : PackageParts) → node.«package» ≡ Some o → Some p ≡ package_in (slice_get a.slots.items o.slot) o → (p.world).0 < length (a.types).worlds
-  world_at o p some there = let (s, is) = set_of in world_there a v (node_number n) (node_number n) node s [] had is o p some there
+  world_at o p some there = let (s, is) = set_of in world_there a v (node_number n) node s [] had is o p some there
 
   pub imports_at : (o : PackageId) (p : PackageParts) → node.«package» ≡ Some o → Some p ≡ package_in (slice_get a.slots.items o.slot) o → (w : World) → item_at (a.types).worlds (p.world).0 ≡ Some w
       → IfSome (node_at (graph_of a) (node_number n)) (λ x. w.imports ≡ imports_of (graph_of a) x)
-  imports_at o p some there w at = let (s, is) = set_of in if_node a n node (λ x. w.imports ≡ imports_of (graph_of a) x) had (sym (imports_are a v (node_number n) (node_number n) node s [] had is o p some there w at))
+  imports_at o p some there w at = let (s, is) = set_of in if_node a n node (λ x. w.imports ≡ imports_of (graph_of a) x) had (sym (imports_are a v (node_number n) node s [] had is o p some there w at))
 
 -- no node is past the slots
 pub none_past : (a : Inside) (n : ℕ) → length a.nodes.slots ≤ n → get a.nodes n ≡ None

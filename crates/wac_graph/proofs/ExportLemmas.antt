@@ -18,6 +18,7 @@ use Rattle.wac_graph.specs.declared.node.NodeId.{NodeId}
 use Rattle.wac_graph.specs.declared.graph.CompositionGraph.TheInside.{Inside}
 use Rattle.wac_graph.specs.Graph.{GraphNode, node_at}
 use Rattle.wac_graph.specs.Inside.{node_of, nodes_of, graph_of, Invariant}
+use Rattle.wac_graph.specs.ExternName.{IsExportName}
 use Rattle.wac_graph.specs.Steps.{Exports}
 use Rattle.wac_graph.proofs.NodeLemmas.{get-nodes_of, nodes_of-insert, text_pair, text_last, lookup_text}
 use Rattle.wac_graph.proofs.InvariantLemmas.{invariant_export}
@@ -54,15 +55,16 @@ module _ (a : Inside) where
   pub exported : (id : NodeId) (name : Name) (key own : String Global) (nodes : Slab Node) (names : Names)
       → string_bytes key ≡ name → string_bytes own ≡ name → lookup (λ k. bytes_eq name (string_bytes k)) a.exports.entries ≡ None
       → names.entries ≡ insert_entry string_eq a.exports.entries key id
-      → IsSome (get a.nodes id.0) → Named a.nodes nodes id.0 own
+      → IsSome (get a.nodes id.0) → Named a.nodes nodes id.0 own → IsExportName name
       → Exports (graph_of a) id name (Ok tt) (graph_of (record a { nodes = nodes; exports = names }))
-  exported id name key own nodes names key_is own_is absent last there named =
+  exported id name key own nodes names key_is own_is absent last there named valid =
       let (n, had) = the_node (get a.nodes id.0) there in
       let u = named_updates a.nodes nodes id.0 own n had named in
       let at : node_at (graph_of a) id ≡ Some (node_of n) = get-nodes_of a.nodes.slots id.0 ∙ ap (option_map node_of) had in
       let shown : nodes_of nodes.slots ≡ map.insert (nodes_of a.nodes.slots) id.0 (record (node_of n) { export_name = Some name }) =
       nodes_of-insert a.nodes nodes id.0 (record n { export_name = Some own }) u ∙ ap (λ t. map.insert (nodes_of a.nodes.slots) id.0 (record (node_of n) { export_name = Some t })) own_is in (
         lookup_text a.exports.entries name ∙ absent,
+        valid,
         rw at (graph_with shown (listed id name key names key_is absent last) (named_vacant a.nodes nodes id.0 own n had named)),
       )
     where

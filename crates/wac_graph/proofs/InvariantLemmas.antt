@@ -1,6 +1,6 @@
 -- What is always true of a graph's fields stays true after each call.
 use Rattle.std.proofs.Common.{◌≡◌, ◌≢◌, ℕ, Bool, true, false, cond, ◌||◌, ◌&&◌, List, [], ◌∷◌, ◌++◌, length, map as map_list, refl, ap, ◌∙◌, sym, subst, ◌==◌, Option, Some, None, IsSome, is_some, ◌⊎◌, inl, inr, get_or, String, Global, string_bytes, Vec}
-use Rattle.std.specs.Prelude.{slice_get}
+use Rattle.std.specs.Prelude.{slice_get, IsSomeAnd}
 use Rattle.std.specs.Option.{option_map}
 use Rattle.std.specs.Map.{lookup}
 use Rattle.std.specs.FinMap as map
@@ -9,7 +9,7 @@ use Rattle.std.specs.HashMap.{HashMap}
 use Rattle.std.specs.declared.hash.FoldHasher.{FoldHasher}
 use Rattle.std.specs.declared.hash.BuildHasherDefault.{BuildHasherDefault}
 use Rattle.slab.specs.Slab.{Slab, get, Updates}
-use Rattle.wac_types.specs.Name.{Name}
+use Rattle.wac_types.specs.Name.{Name, find_name}
 use Rattle.wac_types.specs.Collection.{Collection, holds_type, kind_type}
 use Rattle.wac_types.specs.Package.{PackageParts, Key, same_key, HoldsPackage}
 use Rattle.wac_types.specs.declared.component.ItemKind.{ItemKind}
@@ -21,16 +21,20 @@ use Rattle.wac_graph.specs.declared.packages.PackageId.{PackageId}
 use Rattle.wac_graph.specs.declared.packages.Slot.{Slot}
 use Rattle.wac_graph.specs.declared.graph.CompositionGraph.TheInside.{Inside}
 use Rattle.wac_graph.specs.Edge.{edge_cmp, alias_edge, argument_edge}
+use Rattle.wac_graph.specs.Graph as graph
 use Rattle.wac_graph.specs.Graph.{GraphNode, node_at, package_at, package_in, exports_of}
 use Rattle.wac_graph.specs.Sound.{IsSound}
-use Rattle.wac_graph.specs.Inside.{node_of, nodes_of, graph_of, Invariant, satisfied, satisfied_at, key_of}
-use Rattle.wac_graph.specs.Steps.{instance_node, alias_node}
-use Rattle.wac_graph.proofs.SoundLemmas.{by_eq, Extends, sound_types, sound_slot, sound_node, sound_alias, sound_argument, sound_export, added_edge, kept_edge, new_edge, package_before, package_after}
+use Rattle.wac_graph.specs.Inside.{node_of, nodes_of, names_of, graph_of, Invariant, satisfied, satisfied_at, key_of}
+use Rattle.wac_graph.specs.Steps.{instance_node, import_node, alias_node}
+use Rattle.wac_graph.proofs.SoundLemmas.{by_eq, insert_same, insert_other, ImportIn, import_before, import_after, sound_import, Extends, sound_types, sound_slot, sound_node, sound_alias, sound_argument, sound_export, added_edge, kept_edge, new_edge, package_before, package_after}
 use Rattle.wac_types.specs.KeyLaws.{same_key-true, same_key_equiv}
 use Rattle.indexmap.specs.IndexMap.{insert_entry}
 use Rattle.wac_graph.proofs.WrittenOrder.{eqb_same, slice_get-middle}
 use Rattle.std.proofs.lemmas.Bool.{eqb-true}
-use Rattle.wac_graph.proofs.NodeLemmas.{get-nodes_of, nodes_of-insert, nodes_of-same, is_some-node_of}
+use Rattle.wac_graph.proofs.NodeLemmas.{get-nodes_of, nodes_of-insert, nodes_of-same, is_some-node_of, find_kept, find_new, find_either}
+
+abbrev number : ℕ → NodeId
+number k = record { 0 = k }
 
 clash : (b : Bool) → b ≡ true → b ≡ false → ⊥
 clash true _ h = cc
@@ -46,8 +50,8 @@ no_entry [] i x none at = cc
 no_entry (y ∷ xs) i x none at = cc
 
 -- nothing is in the empty graph
-pub invariant_empty : (a : Inside) → a.nodes.slots ≡ [] → a.edges ≡ set.empty → a.exports.entries ≡ [] → a.package_map.entries ≡ [] → a.slots.items ≡ [] → Invariant a
-invariant_empty a nodes edges exports keys slots = record {
+pub invariant_empty : (a : Inside) → a.nodes.slots ≡ [] → a.edges ≡ set.empty → a.imports.entries ≡ [] → a.exports.entries ≡ [] → a.package_map.entries ≡ [] → a.slots.items ≡ [] → Invariant a
+invariant_empty a nodes edges imports exports keys slots = record {
   sound = record {
     ends = λ e stands. absurd (no_edge e stands);
     exported = λ i name n at. absurd (no_entry (map_list (λ e. (string_bytes e.0, e.1)) a.exports.entries) i (name, n) (ap (map_list (λ e. (string_bytes e.0, e.1))) exports) at);
@@ -55,12 +59,15 @@ invariant_empty a nodes edges exports keys slots = record {
     instances = λ n node there _. absurd (no_node n node there);
     aliases = λ n node there _. absurd (no_node n node there);
     one_source = λ n x y i j p q. absurd (no_edge (alias_edge x.0 n.0 i) p);
+    one_import = λ name n x p _. absurd (no_import name n p);
     packages = λ id p at. absurd (no_package a.slots.items id p slots at);
   };
   marked = λ source target position stands. absurd (no_edge (argument_edge source target position) stands);
   edged = λ target position is. absurd (clash (satisfied_at (get a.nodes target) position) is (ap (λ (xs : List (Option Node)). satisfied_at (get_or xs target None) position) nodes));
   keyed = λ id p at. absurd (no_package a.slots.items id p slots at);
   found = λ k id at. absurd (let e : None ≡ Some id = ap (lookup (same_key k)) (sym keys) ∙ at in nothing id e);
+  named = λ name n h. absurd (no_import name n h);
+  importing = λ name n at. absurd (let e : None ≡ Some n = ap (λ es. find_name (names_of es) name) (sym imports) ∙ at in no_name n e);
 } where
   no_edge : (e : Edge) → set.contains a.edges e ≡ true → ⊥
   no_edge e stands = clash (set.contains a.edges e) stands (ap (λ s. set.contains s e) edges ∙ set.contains-empty edge_cmp e)
@@ -70,13 +77,22 @@ invariant_empty a nodes edges exports keys slots = record {
     wrong : None ≡ Some node → ⊥
     wrong h = cc
 
+  vacant : (n : NodeId) → map.get (nodes_of a.nodes.slots) n.0 ≡ None
+  vacant n = get-nodes_of a.nodes.slots n.0 ∙ ap (λ (xs : List (Option Node)). option_map node_of (get_or xs n.0 None)) nodes
+
+  no_import : (name : Name) (n : NodeId) → ImportIn (nodes_of a.nodes.slots) name n → ⊥
+  no_import name n h = subst (λ o. IsSomeAnd o (λ x. x.kind ≡ graph.import name)) (vacant n) h
+
+  no_name : (n : NodeId) → None ≡ Some n → ⊥
+  no_name n h = cc
+
   nothing : (id : PackageId) → None ≡ Some id → ⊥
   nothing id h = cc
 
 module _ (a : Inside) (v : Invariant a) where
   -- types more
   pub invariant_types : (c : Collection) → Extends a.types c → Invariant (record a { types = c })
-  invariant_types c more = record { sound = sound_types (graph_of a) v.sound c more; marked = v.marked; edged = v.edged; keyed = v.keyed; found = v.found }
+  invariant_types c more = record { sound = sound_types (graph_of a) v.sound c more; marked = v.marked; edged = v.edged; keyed = v.keyed; found = v.found; named = v.named; importing = v.importing }
 
   -- what was grown, or written again as it was
   pub invariant_same : (slots : Vec Slot Global) (names : HashMap Key PackageId (BuildHasherDefault FoldHasher)) → slots.items ≡ a.slots.items → names.entries ≡ a.package_map.entries → Invariant (record a { slots = slots; package_map = names })
@@ -86,6 +102,8 @@ module _ (a : Inside) (v : Invariant a) where
     edged = v.edged;
     keyed = λ id p at. ap (lookup (same_key (key_of p))) kept ∙ v.keyed id p (ap (λ (xs : List Slot). package_in (slice_get xs id.slot) id) (sym same) ∙ at);
     found = λ k id at. let (p, there, s) = v.found k id (ap (lookup (same_key k)) (sym kept) ∙ at) in (p, ap (λ (xs : List Slot). package_in (slice_get xs id.slot) id) same ∙ there, s);
+    named = v.named;
+    importing = v.importing;
   }
 
   -- the same nodes, positions and edges
@@ -99,6 +117,8 @@ module _ (a : Inside) (v : Invariant a) where
         edged = λ t i h. let (s, stands) = v.edged t i (sym (marks t i) ∙ h) in (s, ap (λ es. set.contains es (argument_edge s t i)) is ∙ stands);
         keyed = v.keyed;
         found = v.found;
+        named = λ name n h. v.named name n (subst (λ ns. ImportIn ns name n) shown h);
+        importing = λ name n at. subst (λ ns. ImportIn ns name n) (sym shown) (v.importing name n at);
       }
 
   -- a node is where an edge leads
@@ -126,6 +146,53 @@ module _ (a : Inside) (v : Invariant a) where
     pub vacant_in_graph : map.get (nodes_of a.nodes.slots) n ≡ None
     vacant_in_graph = get-nodes_of a.nodes.slots n ∙ ap (option_map node_of) vacant
 
+    -- a node that is no import imports nothing
+    still_named : (now : GraphNode) → nodes_of nodes.slots ≡ map.insert (nodes_of a.nodes.slots) n now → ((name : Name) → now.kind ≡ graph.import name → ⊥) → (name : Name) (m : NodeId) → ImportIn (nodes_of nodes.slots) name m → find_name (names_of a.imports.entries) name ≡ Some m
+    still_named now shown other name m h = v.named name m (import_before (nodes_of a.nodes.slots) (record { 0 = n }) now name m (λ is. absurd (other name is)) (subst (λ ns. ImportIn ns name m) shown h))
+
+    was_no_import : (name : Name) → ImportIn (nodes_of a.nodes.slots) name (record { 0 = n }) → ⊥
+    was_no_import name h = subst (λ o. IsSomeAnd o (λ x. x.kind ≡ graph.import name)) vacant_in_graph h
+
+    still_importing : (now : GraphNode) → nodes_of nodes.slots ≡ map.insert (nodes_of a.nodes.slots) n now → (name : Name) (m : NodeId) → find_name (names_of a.imports.entries) name ≡ Some m → ImportIn (nodes_of nodes.slots) name m
+    still_importing now shown name m at = subst (λ ns. ImportIn ns name m) (sym shown) (import_after (nodes_of a.nodes.slots) (record { 0 = n }) now name m (λ was. absurd (was_no_import name was)) (v.importing name m at))
+
+    -- a new import, under a name that was not there
+    pub invariant_import : (name : Name) (kind : ItemKind) (names : HashMap (String Global) NodeId (BuildHasherDefault FoldHasher)) → node_of node ≡ import_node name kind → holds_type a.types (kind_type kind) ≡ true → find_name (names_of a.imports.entries) name ≡ None
+        → names_of names.entries ≡ names_of a.imports.entries ++ (name, record { 0 = n }) ∷ [] → Invariant (record a { nodes = nodes; imports = names })
+    invariant_import name kind names shape held absent listed =
+        let more = sound_import (graph_of a) v.sound (record { 0 = n }) (import_node name kind) nodes.vacant_key vacant_in_graph held name refl free in
+        let shown : nodes_of nodes.slots ≡ map.insert (nodes_of a.nodes.slots) n (import_node name kind) = nodes_of-insert a.nodes nodes n node u ∙ ap (map.insert (nodes_of a.nodes.slots) n) shape in
+        record {
+          sound = subst (λ ns. IsSound (record (graph_of a) { nodes = ns; next = nodes.vacant_key })) (sym shown) more;
+          marked = still_marked;
+          edged = still_edged;
+          keyed = v.keyed;
+          found = v.found;
+          named = λ other m h. ap (λ es. find_name es other) listed ∙ named other m (subst (λ ns. ImportIn ns other m) shown h);
+          importing = λ other m at. subst (λ ns. ImportIn ns other m) (sym shown) (importing other m (find_either (names_of a.imports.entries) name other (record { 0 = n }) m (ap (λ es. find_name es other) (sym listed) ∙ at)));
+        } where
+          some_none : (o : Option NodeId) (x : NodeId) → o ≡ None → o ≡ Some x → ⊥
+          some_none o x p q = cc
+
+          free : (m : NodeId) → ImportIn (nodes_of a.nodes.slots) name m → ⊥
+          free m h = some_none (find_name (names_of a.imports.entries) name) m absent (v.named name m h)
+
+          same_import : (other : Name) → graph.import name ≡ graph.import other → name ≡ other
+          same_import other e = cc
+
+          named : (other : Name) (m : NodeId) → ImportIn (map.insert (nodes_of a.nodes.slots) n (import_node name kind)) other m → find_name (names_of a.imports.entries ++ (name, record { 0 = n }) ∷ []) other ≡ Some m
+          named other m h = by_eq m.0 n
+              (λ same.
+              let is : name ≡ other = same_import other (subst (λ o. IsSomeAnd o (λ x. x.kind ≡ graph.import other)) (ap (map.get (map.insert (nodes_of a.nodes.slots) n (import_node name kind))) same ∙ insert_same (nodes_of a.nodes.slots) n (import_node name kind)) h) in
+              ap (λ k. find_name (names_of a.imports.entries ++ (name, record { 0 = n }) ∷ []) k) (sym is) ∙ find_new (names_of a.imports.entries) name (record { 0 = n }) absent ∙ ap (λ k. let x : NodeId = record { 0 = k } in Some x) (sym same))
+              (λ differ. find_kept (names_of a.imports.entries) (name, record { 0 = n }) other m
+              (v.named other m (subst (λ o. IsSomeAnd o (λ x. x.kind ≡ graph.import other)) (insert_other (nodes_of a.nodes.slots) n m.0 (import_node name kind) differ) h)))
+
+          importing : (other : Name) (m : NodeId) → (find_name (names_of a.imports.entries) other ≡ Some m) ⊎ ((other ≡ name) × (number n ≡ m)) → ImportIn (map.insert (nodes_of a.nodes.slots) n (import_node name kind)) other m
+          importing other m (inl was) = import_after (nodes_of a.nodes.slots) (record { 0 = n }) (import_node name kind) other m (λ h. absurd (was_no_import other h)) (v.importing other m was)
+          importing other m (inr (is, here)) = subst (ImportIn (map.insert (nodes_of a.nodes.slots) n (import_node name kind)) other) here
+              (subst (λ o. IsSomeAnd o (λ x. x.kind ≡ graph.import other)) (sym (insert_same (nodes_of a.nodes.slots) n (import_node name kind))) (ap graph.import (sym is)))
+
     pub invariant_instance : (id : PackageId) (p : PackageParts) → node_of node ≡ instance_node id p → package_at (graph_of a) id ≡ Some p → Invariant (record a { nodes = nodes })
     invariant_instance id p shape registered =
         let holds = v.sound.packages id p registered in
@@ -138,6 +205,8 @@ module _ (a : Inside) (v : Invariant a) where
           edged = still_edged;
           keyed = v.keyed;
           found = v.found;
+          named = still_named (instance_node id p) shown (λ name wrong. cc);
+          importing = still_importing (instance_node id p) shown;
         }
 
     pub invariant_alias : (edges : set.FinSet edge_cmp) (instance : NodeId) (source : GraphNode) (position : ℕ) (name : Name) (kind : ItemKind) → node_of node ≡ alias_node source kind
@@ -153,6 +222,8 @@ module _ (a : Inside) (v : Invariant a) where
           edged = λ t i is. let (s, stands) = still_edged t i is in (s, ap (λ es. set.contains es (argument_edge s t i)) added ∙ kept_edge a.edges (alias_edge instance.0 n position) (argument_edge s t i) stands);
           keyed = v.keyed;
           found = v.found;
+          named = still_named (alias_node source kind) shown (λ name wrong. cc);
+          importing = still_importing (alias_node source kind) shown;
         } where
           old_argument : (s t i : ℕ) → (argument_edge s t i ≡ alias_edge instance.0 n position) ⊎ (set.contains a.edges (argument_edge s t i) ≡ true) → set.contains a.edges (argument_edge s t i) ≡ true
           old_argument s t i (inl wrong) = absurd (let labels : label.Argument i ≡ label.Alias position = ap (λ (e : Edge). e.label) wrong in cc)
@@ -174,6 +245,8 @@ module _ (a : Inside) (v : Invariant a) where
         edged = λ t i is. edged t i (satisfied_at (get a.nodes t) i) refl (sym (satisfied_now t i) ∙ is);
         keyed = v.keyed;
         found = v.found;
+        named = λ name n h. v.named name n (subst (λ ns. ImportIn ns name n) shown h);
+        importing = λ name n at. subst (λ ns. ImportIn ns name n) (sym shown) (v.importing name n at);
       } where
         in_graph : (q : ℕ) → IsSome (get a.nodes q) → IsSome (map.get (nodes_of a.nodes.slots) q)
         in_graph q h = ap is_some (get-nodes_of a.nodes.slots q) ∙ is_some-node_of (get a.nodes q) ∙ h
@@ -215,7 +288,15 @@ module _ (a : Inside) (v : Invariant a) where
         edged = λ t i is. v.edged t i (sym (satisfied_same t i) ∙ is);
         keyed = v.keyed;
         found = v.found;
+        named = λ other n h. v.named other n (import_before (nodes_of a.nodes.slots) id (record (node_of before) { export_name = Some name }) other n (λ is. was other is) (subst (λ ns. ImportIn ns other n) shown h));
+        importing = λ other n at. subst (λ ns. ImportIn ns other n) (sym shown) (import_after (nodes_of a.nodes.slots) id (record (node_of before) { export_name = Some name }) other n (λ h. is_so other h) (v.importing other n at));
       } where
+        was : (other : Name) → (node_of before).kind ≡ graph.import other → ImportIn (nodes_of a.nodes.slots) other id
+        was other is = subst (λ o. IsSomeAnd o (λ x. x.kind ≡ graph.import other)) (sym (get-nodes_of a.nodes.slots id.0 ∙ ap (option_map node_of) had)) is
+
+        is_so : (other : Name) → ImportIn (nodes_of a.nodes.slots) other id → (node_of before).kind ≡ graph.import other
+        is_so other h = subst (λ o. IsSomeAnd o (λ x. x.kind ≡ graph.import other)) (get-nodes_of a.nodes.slots id.0 ∙ ap (option_map node_of) had) h
+
         satisfied_same : (q i : ℕ) → satisfied_at (get nodes q) i ≡ satisfied_at (get a.nodes q) i
         satisfied_same q i = by_eq q id.0
             (λ same. ap (λ k. satisfied_at (get nodes k) i) same ∙ ap (λ o. satisfied_at o i) u.changed ∙ ap (λ k. satisfied k i) kept ∙ sym (ap (λ k. satisfied_at (get a.nodes k) i) same ∙ ap (λ o. satisfied_at o i) had))
@@ -247,6 +328,8 @@ module _ (a : Inside) (v : Invariant a) where
         marked = v.marked;
         edged = v.edged;
         keyed = λ other q at. ap (lookup (same_key (key_of q))) added ∙ look-insert (key_of q) key id a.package_map.entries absent ∙ keyed other q (package_after (graph_of a) v.sound (record { generation = 0; «package» = Some p }) other q (ap (λ (xs : List Slot). package_in (slice_get xs other.slot) other) (sym grown) ∙ at));
+        named = v.named;
+        importing = v.importing;
         found = λ k other at. found k other (same_key k key) refl (sym (look-insert k key id a.package_map.entries absent) ∙ ap (lookup (same_key k)) (sym added) ∙ at);
       } where
         only_generation : (b : Bool) (q : PackageParts) → cond b (Some p) None ≡ Some q → (b ≡ true) × (p ≡ q)

@@ -13,6 +13,9 @@ pub mod ExtendsLemmas
 pub mod StepLemmas
 pub mod AliasLemmas
 pub mod HeldLemmas
+pub mod ExternNameLemmas
+pub mod ImportLemmas
+pub mod NameRows
 pub mod ExportLemmas
 pub mod SatisfyLemmas
 pub mod ArgumentLemmas

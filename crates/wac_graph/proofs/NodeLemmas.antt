@@ -1,4 +1,4 @@
-use Rattle.std.proofs.Common.{◌≡◌, ℕ, zero, suc, ◌+◌, ◌<◌, Bool, true, false, cond, List, [], ◌∷◌, map, refl, ap, ◌∙◌, sym, arith, Option, Some, None, get_or, eqb, is_some, IsTrue, IsSome, ◌&&◌, String, Global, string_bytes, ◌++◌}
+use Rattle.std.proofs.Common.{◌≡◌, ℕ, zero, suc, ◌+◌, ◌<◌, Bool, true, false, cond, List, [], ◌∷◌, map, refl, ap, ◌∙◌, sym, arith, Option, Some, None, get_or, eqb, is_some, IsTrue, IsSome, ◌&&◌, String, Global, string_bytes, ◌++◌, ◌⊎◌, inl, inr}
 use Rattle.wac_graph.specs.declared.node.NodeId.{NodeId}
 use Rattle.std.specs.Map.{lookup}
 use Rattle.std.specs.Str.{bytes_eq}
@@ -7,6 +7,7 @@ use Rattle.indexmap.specs.IndexMap.{insert_entry}
 use Rattle.std.specs.Option.{option_map}
 use Rattle.std.specs.Ordering.{nat_cmp, eq_by_cmp}
 use Rattle.std.specs.Cmp.{nat_cmp_total}
+use Rattle.std.proofs.lemmas.Bool.{eqb-true}
 use Rattle.std.proofs.lemmas.Bool.Decides.{nat_tests}
 use Rattle.std.specs.FinMap as finite
 use Rattle.std.specs.FinMap.{find, nat_cmp-IsAntisymmetric}
@@ -96,3 +97,42 @@ text_last (e ∷ es) key id h =
 -- the node of a number is there
 pub there : (slots : List (Option Node)) (k : ℕ) → IsSome (finite.get (nodes_of slots) k) → IsSome (get_or slots k None)
 there slots k h = sym (is_some-node_of (get_or slots k None)) ∙ ap is_some (sym (get-nodes_of slots k)) ∙ h
+
+-- names that pass the test are equal, and the other way round
+same_name-itself : (a : Name) → same_name a a ≡ true
+same_name-itself [] = refl
+same_name-itself (x ∷ xs) = let e : eqb x x ≡ true = grind (arith, nat_tests) in ap (λ b. cond b (same_name xs xs) false) e ∙ same_name-itself xs
+
+same_name-is : (a b : Name) → same_name a b ≡ true → a ≡ b
+same_name-is [] [] h = refl
+same_name-is [] (y ∷ ys) h = cc
+same_name-is (x ∷ xs) [] h = cc
+same_name-is (x ∷ xs) (y ∷ ys) h = split (eqb x y) refl h (same_name-is xs ys) where
+  split : (b : Bool) → eqb x y ≡ b → cond b (same_name xs ys) false ≡ true → (same_name xs ys ≡ true → xs ≡ ys) → x ∷ xs ≡ y ∷ ys
+  split true is rest more = λ i. eqb-true x y is i ∷ more rest i
+  split false is rest more = cc
+
+-- what is found among names with one more at the end
+pub find_kept : (es : List (Name × NodeId)) (e : Name × NodeId) (q : Name) (x : NodeId) → find_name es q ≡ Some x → find_name (es ++ e ∷ []) q ≡ Some x
+find_kept [] e q x h = cc
+find_kept (y ∷ ys) e q x h = split (same_name q y.0) h (find_kept ys e q x) where
+  split : (b : Bool) → cond b (Some y.1) (find_name ys q) ≡ Some x → (find_name ys q ≡ Some x → find_name (ys ++ e ∷ []) q ≡ Some x) → cond b (Some y.1) (find_name (ys ++ e ∷ []) q) ≡ Some x
+  split true at _ = at
+  split false at more = more at
+
+pub find_new : (es : List (Name × NodeId)) (name : Name) (id : NodeId) → find_name es name ≡ None → find_name (es ++ (name, id) ∷ []) name ≡ Some id
+find_new [] name id h = ap (λ b. cond b (Some id) None) (same_name-itself name)
+find_new (y ∷ ys) name id h = split (same_name name y.0) h (find_new ys name id) where
+  split : (b : Bool) → cond b (Some y.1) (find_name ys name) ≡ None → (find_name ys name ≡ None → find_name (ys ++ (name, id) ∷ []) name ≡ Some id) → cond b (Some y.1) (find_name (ys ++ (name, id) ∷ []) name) ≡ Some id
+  split true at _ = cc
+  split false at more = more at
+
+pub find_either : (es : List (Name × NodeId)) (name q : Name) (id x : NodeId) → find_name (es ++ (name, id) ∷ []) q ≡ Some x → (find_name es q ≡ Some x) ⊎ ((q ≡ name) × (id ≡ x))
+find_either [] name q id x h = split (same_name q name) refl h where
+  split : (b : Bool) → same_name q name ≡ b → cond b (Some id) None ≡ Some x → (None ≡ Some x) ⊎ ((q ≡ name) × (id ≡ x))
+  split true is at = inr (same_name-is q name is, cc)
+  split false is at = inl at
+find_either (y ∷ ys) name q id x h = split (same_name q y.0) h (find_either ys name q id x) where
+  split : (b : Bool) → cond b (Some y.1) (find_name (ys ++ (name, id) ∷ []) q) ≡ Some x → (find_name (ys ++ (name, id) ∷ []) q ≡ Some x → (find_name ys q ≡ Some x) ⊎ ((q ≡ name) × (id ≡ x))) → (cond b (Some y.1) (find_name ys q) ≡ Some x) ⊎ ((q ≡ name) × (id ≡ x))
+  split true at _ = inl at
+  split false at more = more at

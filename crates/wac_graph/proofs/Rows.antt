@@ -18,7 +18,6 @@ use Rattle.wac_binary.specs.Bytes.{preamble}
 use Rattle.wac_binary.specs.Items.{Item, nested, instantiate, alias_item, export_alias, export_item}
 use Rattle.wac_binary.specs.Meaning.{meaning, projection, instance_at, stands_for, Thing}
 use Rattle.wac_graph.specs.declared.edges.Edge.{Edge}
-use Rattle.wac_graph.specs.declared.node.NodeId.{NodeId}
 use Rattle.wac_graph.specs.declared.packages.PackageId.{PackageId}
 use Rattle.wac_graph.specs.Edge.{edge_cmp, alias_edge, argument_edge}
 use Rattle.wac_graph.specs.Graph as graph

@@ -1,6 +1,6 @@
 -- What is true of every graph stays true after each step.
 use Rattle.std.proofs.Common.{◌≡◌, ◌≢◌, ℕ, zero, suc, Bool, true, false, ◌||◌, List, [], ◌∷◌, ◌++◌, length, refl, ap, ◌∙◌, sym, subst, arith, eqb, Option, Some, None, IsSome, is_some, ◌⊎◌, inl, inr}
-use Rattle.std.specs.Prelude.{slice_get}
+use Rattle.std.specs.Prelude.{slice_get, IsSomeAnd}
 use Rattle.std.specs.Ordering.{nat_cmp, eq_by_cmp, is_eq}
 use Rattle.std.specs.Cmp.{nat_cmp_total, tied_itself}
 use Rattle.std.specs.FinMap as map
@@ -38,6 +38,25 @@ insert_same nodes n node = let e : eq_by_cmp nat_cmp n n ≡ true = grind (arith
 
 pub insert_other : (nodes : map.FinMap nat_cmp GraphNode) (n m : ℕ) (node : GraphNode) → m ≢ n → map.get (map.insert nodes n node) m ≡ map.get nodes m
 insert_other nodes n m node other = let e : eq_by_cmp nat_cmp m n ≡ false = grind (arith, nat_tests) in map.get-insert nat_cmp_total nodes n node m ∙ rw e refl
+
+-- the node of a number imports a name
+abbrev pub ImportIn : map.FinMap nat_cmp GraphNode → Name → NodeId → Type 0
+ImportIn nodes name m = IsSomeAnd (map.get nodes m.0) (λ x. x.kind ≡ graph.import name)
+
+-- what imports a name with one node more did so before, and the other way round, where this is so of that node
+pub import_before : (nodes : map.FinMap nat_cmp GraphNode) (n : NodeId) (node : GraphNode) (name : Name) (m : NodeId) → (node.kind ≡ graph.import name → ImportIn nodes name n) → ImportIn (map.insert nodes n.0 node) name m → ImportIn nodes name m
+import_before nodes n node name m back h = by_eq m.0 n.0
+    (λ same.
+    let m_is : n ≡ m = ap (λ k. let x : NodeId = record { 0 = k } in x) (sym same) in
+    subst (ImportIn nodes name) m_is (back (subst (λ o. IsSomeAnd o (λ x. x.kind ≡ graph.import name)) (ap (map.get (map.insert nodes n.0 node)) same ∙ insert_same nodes n.0 node) h)))
+    (λ differ. subst (λ o. IsSomeAnd o (λ x. x.kind ≡ graph.import name)) (insert_other nodes n.0 m.0 node differ) h)
+
+pub import_after : (nodes : map.FinMap nat_cmp GraphNode) (n : NodeId) (node : GraphNode) (name : Name) (m : NodeId) → (ImportIn nodes name n → node.kind ≡ graph.import name) → ImportIn nodes name m → ImportIn (map.insert nodes n.0 node) name m
+import_after nodes n node name m onward h = by_eq m.0 n.0
+    (λ same.
+    let m_is : m ≡ n = ap (λ k. let x : NodeId = record { 0 = k } in x) same in
+    subst (λ o. IsSomeAnd o (λ x. x.kind ≡ graph.import name)) (sym (ap (map.get (map.insert nodes n.0 node)) same ∙ insert_same nodes n.0 node)) (onward (subst (ImportIn nodes name) m_is h)))
+    (λ differ. subst (λ o. IsSomeAnd o (λ x. x.kind ≡ graph.import name)) (sym (insert_other nodes n.0 m.0 node differ)) h)
 
 -- an edge of a set with one edge more
 pub added_edge : (s : set.FinSet edge_cmp) (x e : Edge) → set.contains (set.insert s x) e ≡ true → (e ≡ x) ⊎ (set.contains s e ≡ true)
@@ -94,6 +113,7 @@ module _ (g : Graph) (s : IsSound g) where
           exported = ap (λ es. slice_get es a.position) (exports_same c g a.source more (s.held a.instance a.source a.there)) ∙ a.exported;
         };
     one_source = s.one_source;
+    one_import = s.one_import;
     packages = λ id p there.
         let h = s.packages id p there in
         (more.held (ty.World p.world) h.0, more.held (ty.Interface p.instance_type) h.1, more.interfaces p.instance_type h.1 ∙ h.2 ∙ sym (more.worlds p.world h.0));
@@ -125,6 +145,7 @@ module _ (g : Graph) (s : IsSound g) where
     instances = λ n node there is. let i = s.instances n node there is in record { id = i.id; parts = i.parts; owned = i.owned; registered = package_before slot i.id i.parts i.registered; typed = i.typed };
     aliases = λ n node there is. let a = s.aliases n node there is in record { instance = a.instance; source = a.source; position = a.position; name = a.name; aliased = a.aliased; there = a.there; exported = a.exported };
     one_source = s.one_source;
+    one_import = s.one_import;
     packages = λ id p there. split id p (package_after slot id p there);
   } where
     split : (id : PackageId) (p : PackageParts) → (package_at g id ≡ Some p) ⊎ ((id.slot ≡ length g.slots) × (package_in (Some slot) id ≡ Some p)) → HoldsPackage g.types p
@@ -149,6 +170,7 @@ module _ (g : Graph) (s : IsSound g) where
           there = a.there;
           exported = a.exported;
         };
+    one_import = s.one_import;
     one_source = λ n x y i j p q. s.one_source n x y i j (old_alias n x i (added_edge g.edges (argument_edge source target position) (alias_edge x.0 n.0 i) p)) (old_alias n y j (added_edge g.edges (argument_edge source target position) (alias_edge y.0 n.0 j) q));
     packages = s.packages;
   } where
@@ -211,10 +233,49 @@ module _ (g : Graph) (s : IsSound g) where
       instances = each_node (λ _ other. other.kind ≡ graph.instantiation → IsInstance (with_node g.edges) other) (λ _. old_instance g.edges node instance) (λ m other _ there is. old_instance g.edges other (s.instances m other there is));
       aliases = each_node (λ m other. other.kind ≡ graph.alias → IsAlias (with_node g.edges) m other) (λ wrong. absurd (two_kinds kind wrong)) (λ m other _ there is. old_alias g.edges (λ _ h. h) m other (s.aliases m other there is));
       one_source = s.one_source;
+      one_import = λ name m o p q. s.one_import name m o (import_before g.nodes n node name m (λ is. absurd (no_import kind is)) p) (import_before g.nodes n node name o (λ is. absurd (no_import kind is)) q);
       packages = s.packages;
     } where
       two_kinds : {k : graph.Kind} → k ≡ graph.instantiation → k ≡ graph.alias → ⊥
       two_kinds a b = cc
+
+      no_import : {k : graph.Kind} {name : Name} → k ≡ graph.instantiation → k ≡ graph.import name → ⊥
+      no_import a b = cc
+
+    -- the new node imports a name that no other imports
+    pub sound_import : (name : Name) → node.kind ≡ graph.import name → ((m : NodeId) → ImportIn g.nodes name m → ⊥) → IsSound (with_node g.edges)
+    sound_import name kind free = record {
+      ends = λ e stands. let h = s.ends e stands in (still_there (record { 0 = e.source }) h.0, still_there (record { 0 = e.target }) h.1);
+      exported = old_exports;
+      held = each_node (λ _ other. holds_type g.types (kind_type other.item_kind) ≡ true) held (λ m other _ there. s.held m other there);
+      instances = each_node (λ _ other. other.kind ≡ graph.instantiation → IsInstance (with_node g.edges) other) (λ wrong. absurd (no_instance wrong kind)) (λ m other _ there is. old_instance g.edges other (s.instances m other there is));
+      aliases = each_node (λ m other. other.kind ≡ graph.alias → IsAlias (with_node g.edges) m other) (λ wrong. absurd (no_alias wrong kind)) (λ m other _ there is. old_alias g.edges (λ _ h. h) m other (s.aliases m other there is));
+      one_source = s.one_source;
+      one_import = one;
+      packages = s.packages;
+    } where
+      no_instance : {k : graph.Kind} → k ≡ graph.instantiation → k ≡ graph.import name → ⊥
+      no_instance a b = cc
+
+      no_alias : {k : graph.Kind} → k ≡ graph.alias → k ≡ graph.import name → ⊥
+      no_alias a b = cc
+
+      same_import : {k : graph.Kind} (other : Name) → k ≡ graph.import name → k ≡ graph.import other → other ≡ name
+      same_import other a b = let e : graph.import other ≡ graph.import name = sym b ∙ a in cc
+
+      new : (other : Name) (x : NodeId) → x.0 ≡ n.0 → ImportIn (map.insert g.nodes n.0 node) other x → other ≡ name
+      new other x is p = same_import other kind (subst (λ o. IsSomeAnd o (λ y. y.kind ≡ graph.import other)) (ap (map.get (map.insert g.nodes n.0 node)) is ∙ insert_same g.nodes n.0 node) p)
+
+      old : (other : Name) (x : NodeId) → x.0 ≢ n.0 → ImportIn (map.insert g.nodes n.0 node) other x → ImportIn g.nodes other x
+      old other x differ p = subst (λ o. IsSomeAnd o (λ y. y.kind ≡ graph.import other)) (insert_other g.nodes n.0 x.0 node differ) p
+
+      apart : (other : Name) (x y : NodeId) → x.0 ≡ n.0 → y.0 ≢ n.0 → ImportIn (map.insert g.nodes n.0 node) other x → ImportIn (map.insert g.nodes n.0 node) other y → ⊥
+      apart other x y is differ p q = free y (subst (λ k. ImportIn g.nodes k y) (new other x is p) (old other y differ q))
+
+      one : (other : Name) (x y : NodeId) → ImportIn (map.insert g.nodes n.0 node) other x → ImportIn (map.insert g.nodes n.0 node) other y → x ≡ y
+      one other x y p q = by_eq x.0 n.0
+          (λ is. by_eq y.0 n.0 (λ also. ap (λ k. let z : NodeId = record { 0 = k } in z) (is ∙ sym also)) (λ differ. absurd (apart other x y is differ p q)))
+          (λ differ. by_eq y.0 n.0 (λ also. absurd (apart other y x also differ q p)) (λ differs. s.one_import other x y (old other x differ p) (old other y differs q)))
 
     pub sound_alias : (instance : NodeId) (source : GraphNode) (position : ℕ) (name : Name) → node.kind ≡ graph.alias → node_at g instance ≡ Some source → slice_get (exports_of g source) position ≡ Some (name, node.item_kind)
         → IsSound (with_node (set.insert g.edges (alias_edge instance.0 n.0 position)))
@@ -236,6 +297,7 @@ module _ (g : Graph) (s : IsSound g) where
                 exported = exported;
               })
               (λ m other _ other_there is. old_alias more (kept_edge g.edges (alias_edge instance.0 n.0 position)) m other (s.aliases m other other_there is));
+          one_import = λ other m o p q. s.one_import other m o (import_before g.nodes n node other m (λ is. absurd (no_import is kind)) p) (import_before g.nodes n node other o (λ is. absurd (no_import is kind)) q);
           one_source = λ m x y i j p q. one m x y i j (added_edge g.edges (alias_edge instance.0 n.0 position) (alias_edge x.0 m.0 i) p) (added_edge g.edges (alias_edge instance.0 n.0 position) (alias_edge y.0 m.0 j) q);
           packages = s.packages;
         } where
@@ -244,6 +306,9 @@ module _ (g : Graph) (s : IsSound g) where
 
           two_kinds : {k : graph.Kind} → k ≡ graph.instantiation → k ≡ graph.alias → ⊥
           two_kinds a b = cc
+
+          no_import : {k : graph.Kind} {other : Name} → k ≡ graph.import other → k ≡ graph.alias → ⊥
+          no_import a b = cc
 
           ends : (e : Edge) → (e ≡ alias_edge instance.0 n.0 position) ⊎ (set.contains g.edges e ≡ true) → IsSome (map.get (map.insert g.nodes n.0 node) e.source) × IsSome (map.get (map.insert g.nodes n.0 node) e.target)
           ends e (inl is) = (rw is (still_there instance (some_is (node_at g instance) source there)), rw is now_there)
@@ -278,6 +343,7 @@ module _ (g : Graph) (s : IsSound g) where
         let a = s.aliases m was had (sym kinds ∙ is) in
         alias m other a same (after a.instance a.source a.there);
     one_source = s.one_source;
+    one_import = λ other m o p q. s.one_import other m o (import_before g.nodes n named other m (was_import other) p) (import_before g.nodes n named other o (was_import other) q);
     packages = s.packages;
   } where
     now : map.FinMap nat_cmp GraphNode
@@ -285,6 +351,9 @@ module _ (g : Graph) (s : IsSound g) where
 
     named : GraphNode
     named = record node { export_name = Some name }
+
+    was_import : (other : Name) → node.kind ≡ graph.import other → ImportIn g.nodes other n
+    was_import other is = subst (λ o. IsSomeAnd o (λ x. x.kind ≡ graph.import other)) (sym there) is
 
     still : (m : NodeId) → IsSome (node_at g m) → IsSome (map.get (map.insert g.nodes n.0 (record node { export_name = Some name })) m.0)
     still m at = by_eq m.0 n.0 (λ same. ap is_some (ap (map.get (map.insert g.nodes n.0 (record node { export_name = Some name }))) same ∙ insert_same g.nodes n.0 (record node { export_name = Some name }))) (λ differ. ap is_some (insert_other g.nodes n.0 m.0 (record node { export_name = Some name }) differ) ∙ at)

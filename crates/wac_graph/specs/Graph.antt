@@ -1,5 +1,5 @@
 -- The graph that contracts see: nodes under numbers, a set of edges, exports in order, packages in slots, the collection of types.
-use Rattle.std.specs.Prelude.{◌≡◌, ℕ, true, List, [], Option, Some, None, slice_get, if◌then◌else◌, ◌==◌}
+use Rattle.std.specs.Prelude.{◌≡◌, ℕ, true, List, [], Option, Some, None, slice_get, if◌then◌else◌, ◌==◌, IsSomeAnd}
 use Rattle.std.specs.Option.{option_and_then}
 use Rattle.std.specs.Ordering.{nat_cmp}
 use Rattle.std.specs.FinMap as map
@@ -46,6 +46,17 @@ node_at g n = map.get g.nodes n.0
 -- the node that is exported by a name
 abbrev pub export_at : Graph → Name → Option NodeId
 export_at g name = find_name g.exports name
+
+-- the name of an import
+abbrev pub import_name : Kind → Option Name
+import_name definition = None
+import_name (import name) = Some name
+import_name instantiation = None
+import_name alias = None
+
+-- the node imports this name
+abbrev pub IsImportOf : Graph → Name → NodeId → Type 0
+IsImportOf g name n = IsSomeAnd (node_at g n) (λ node. node.kind ≡ import name)
 
 -- the package that a slot holds, where the id is of its generation
 abbrev pub package_in : Option Slot → PackageId → Option PackageParts

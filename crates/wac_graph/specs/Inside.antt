@@ -1,5 +1,6 @@
 -- What the fields of a graph mean, and what is always true of them.
-use Rattle.std.specs.Prelude.{◌≡◌, ℕ, Bool, true, false, List, Option, Some, None, map, string_bytes}
+use Rattle.std.specs.Prelude.{◌≡◌, ℕ, Bool, true, false, List, Option, Some, None, String, map, string_bytes}
+use Rattle.std.specs.Global.{Global}
 use Rattle.std.specs.Option.{option_map}
 use Rattle.std.specs.Ordering.{nat_cmp}
 use Rattle.std.specs.Map.{lookup}
@@ -7,15 +8,17 @@ use Rattle.std.specs.FinMap as finite
 use Rattle.std.specs.FinSet as set
 use Rattle.std.specs.BTreeSet as positions
 use Rattle.slab.specs.Slab.{entries_from, get}
+use Rattle.wac_types.specs.Name.{Name, find_name}
 use Rattle.wac_types.specs.Package.{PackageParts, Key, same_key}
 use Rattle.wac_graph.specs.declared.node.Node.{Node}
+use Rattle.wac_graph.specs.declared.node.NodeId.{NodeId}
 use Rattle.wac_graph.specs.declared.node.NodeKind.{NodeKind}
 use Rattle.wac_graph.specs.declared.node.NodeKind.TheVariants as code
 use Rattle.wac_graph.specs.declared.packages.PackageId.{PackageId}
 use Rattle.wac_graph.specs.declared.graph.CompositionGraph.TheInside.{Inside}
 use Rattle.wac_graph.specs.Edge.{argument_edge}
 use Rattle.wac_graph.specs.Graph as graph
-use Rattle.wac_graph.specs.Graph.{Graph, GraphNode, Kind, package_at}
+use Rattle.wac_graph.specs.Graph.{Graph, GraphNode, Kind, package_at, IsImportOf}
 use Rattle.wac_graph.specs.Sound.{IsSound}
 
 abbrev pub kind_of : NodeKind → Kind
@@ -37,13 +40,17 @@ node_of n = record {
 abbrev pub nodes_of : List (Option Node) → finite.FinMap nat_cmp GraphNode
 nodes_of slots = finite.from_entries (map (λ e. (e.0, node_of e.1)) (entries_from 0 slots))
 
+-- the nodes under their names, as bytes
+abbrev pub names_of : List (String Global × NodeId) → List (Name × NodeId)
+names_of entries = map (λ e. (string_bytes e.0, e.1)) entries
+
 abbrev pub graph_of : Inside → Graph
 graph_of a = record {
   types = a.types;
   nodes = nodes_of a.nodes.slots;
   next = a.nodes.vacant_key;
   edges = a.edges;
-  exports = map (λ e. (string_bytes e.0, e.1)) a.exports.entries;
+  exports = names_of a.exports.entries;
   slots = a.slots.items;
 }
 
@@ -74,3 +81,6 @@ pub record Invariant (a : Inside) : Type 0 where
   -- packages are found under their keys, and nothing else is
   pub keyed : (id : PackageId) (p : PackageParts) → package_at (graph_of a) id ≡ Some p → lookup (same_key (key_of p)) a.package_map.entries ≡ Some id
   pub found : (k : Key) (id : PackageId) → lookup (same_key k) a.package_map.entries ≡ Some id → (p : PackageParts) × (package_at (graph_of a) id ≡ Some p) × (same_key k (key_of p) ≡ true)
+  -- imports are found under their names, and nothing else is
+  pub named : (name : Name) (n : NodeId) → IsImportOf (graph_of a) name n → find_name (names_of a.imports.entries) name ≡ Some n
+  pub importing : (name : Name) (n : NodeId) → find_name (names_of a.imports.entries) name ≡ Some n → IsImportOf (graph_of a) name n

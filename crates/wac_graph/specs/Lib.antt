@@ -3,7 +3,9 @@ pub mod Order
 pub mod Graph
 pub mod Sound
 pub mod Inside
+pub mod ExternName
 pub mod Steps
+pub mod Arguments
 pub mod Asked
 pub mod Means
 pub mod Encoding

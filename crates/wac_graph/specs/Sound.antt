@@ -8,7 +8,7 @@ use Rattle.wac_types.specs.declared.component.ItemKind.TheVariants.{Instance}
 use Rattle.wac_graph.specs.declared.edges.Edge.{Edge}
 use Rattle.wac_graph.specs.declared.node.NodeId.{NodeId}
 use Rattle.wac_graph.specs.declared.packages.PackageId.{PackageId}
-use Rattle.wac_graph.specs.Graph.{Graph, GraphNode, instantiation, alias, node_at, package_at, exports_of, IsAliasOf}
+use Rattle.wac_graph.specs.Graph.{Graph, GraphNode, instantiation, alias, node_at, package_at, exports_of, IsAliasOf, IsImportOf}
 
 -- the node is an instance of a registered package
 pub record IsInstance (g : Graph) (node : GraphNode) : Type 0 where
@@ -37,4 +37,6 @@ pub record IsSound (g : Graph) : Type 0 where
   pub aliases : (n : NodeId) (node : GraphNode) → node_at g n ≡ Some node → node.kind ≡ alias → IsAlias g n node
   -- a node is the alias of one export at most
   pub one_source : (n instance other : NodeId) (i j : ℕ) → IsAliasOf g instance i n → IsAliasOf g other j n → (instance ≡ other) × (i ≡ j)
+  -- a name is imported by one node at most
+  pub one_import : (name : Name) (n other : NodeId) → IsImportOf g name n → IsImportOf g name other → n ≡ other
   pub packages : (id : PackageId) (p : PackageParts) → package_at g id ≡ Some p → HoldsPackage g.types p

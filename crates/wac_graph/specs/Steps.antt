@@ -3,6 +3,7 @@ use Rattle.std.specs.Prelude.{◌≡◌, ℕ, Option, Some, None, Result, Ok, Er
 use Rattle.std.specs.FinMap as map
 use Rattle.std.specs.FinSet as set
 use Rattle.std.specs.declared.alloc.AllocError.{AllocError}
+use Rattle.wac_names.specs.Faults.{HasFault}
 use Rattle.wac_types.specs.Name.{Name}
 use Rattle.wac_types.specs.Named.{named_at}
 use Rattle.wac_types.specs.Collection.{Collection, empty}
@@ -19,13 +20,16 @@ use Rattle.wac_graph.specs.declared.errors.AliasError.{AliasError}
 use Rattle.wac_graph.specs.declared.errors.AliasError.TheVariants as alias_error
 use Rattle.wac_graph.specs.declared.errors.ExportError.{ExportError}
 use Rattle.wac_graph.specs.declared.errors.ExportError.TheVariants as export_error
+use Rattle.wac_graph.specs.declared.errors.ImportError.{ImportError}
+use Rattle.wac_graph.specs.declared.errors.ImportError.TheVariants as import_error
 use Rattle.wac_graph.specs.declared.errors.InstantiationArgumentError.{InstantiationArgumentError}
 use Rattle.wac_graph.specs.declared.errors.InstantiationArgumentError.TheVariants as argument_error
 use Rattle.wac_graph.specs.declared.node.NodeId.{NodeId}
 use Rattle.wac_graph.specs.declared.packages.PackageId.{PackageId}
 use Rattle.wac_graph.specs.Edge.{alias_edge, argument_edge}
+use Rattle.wac_graph.specs.ExternName.{IsImportName, IsExportName, HasExportFault}
 use Rattle.wac_graph.specs.Graph as graph
-use Rattle.wac_graph.specs.Graph.{Graph, GraphNode, node_at, package_at, export_at, package_of, interface_of, exports_of, imports_of, IsAliasOf, IsArgumentOf, IsSatisfied, IsUnsatisfied, IsRegistered}
+use Rattle.wac_graph.specs.Graph.{Graph, GraphNode, node_at, package_at, export_at, package_of, interface_of, exports_of, imports_of, IsAliasOf, IsArgumentOf, IsSatisfied, IsUnsatisfied, IsRegistered, IsImportOf}
 
 -- no types, nodes, edges, exports and packages; numbers begin with 0
 abbrev pub IsEmpty : Graph → Type 0
@@ -41,6 +45,22 @@ abbrev pub AddsNode : Graph → NodeId → GraphNode → Graph → Type 0
 AddsNode old id node new =
     (id.0 ≡ old.next) × (node_at old id ≡ None)
     × (new ≡ record old { nodes = map.insert old.nodes id.0 node; next = new.next })
+
+abbrev pub import_node : Name → ItemKind → GraphNode
+import_node name kind = record { kind = graph.import name; item_kind = kind; owner = None; name = None; export_name = None }
+
+-- no node imports the name
+abbrev pub IsFreeImport : Graph → Name → Type 0
+IsFreeImport g name = (n : NodeId) → IsImportOf g name n → ⊥
+
+-- an import under a name that no node imports yet; a text that is no component name is refused by its fault
+abbrev pub Imports : Graph → Name → ItemKind → Result NodeId ImportError → Graph → Type 0
+Imports old name kind (Ok n) new = IsFreeImport old name × IsImportName name × AddsNode old n (import_node name kind) new
+Imports old name kind (Err (import_error.ImportAlreadyExists text node)) new =
+    (new ≡ old) × (string_bytes text ≡ name) × IsImportOf old name node
+Imports old name kind (Err (import_error.InvalidImportName text source)) new =
+    (new ≡ old) × (string_bytes text ≡ name) × IsFreeImport old name × HasFault name source
+Imports old name kind (Err import_error.OutOfMemory) new = new ≡ old
 
 -- the package has a new slot, behind the others, unless one of its key is registered
 abbrev pub Registers : Graph → PackageParts → Result PackageId RegisterPackageError → Graph → Type 0
@@ -91,16 +111,18 @@ AliasesOf old id n name (Err alias_error.OutOfMemory) new = new ≡ old
 abbrev pub Aliases : Graph → NodeId → Name → Result NodeId AliasError → Graph → Type 0
 Aliases old id name result new = IfSome (node_at old id) (λ n. AliasesOf old id n name result new)
 
--- a further export name, last in order
+-- a further export name, last in order; a text that may not be exported is refused by its fault
 abbrev pub Exports : Graph → NodeId → Name → Result (Unit {0}) ExportError → Graph → Type 0
 Exports old id name (Ok _) new =
-    (export_at old name ≡ None)
+    (export_at old name ≡ None) × IsExportName name
     × IfSome (node_at old id) (λ n. new ≡ record old {
       nodes = map.insert old.nodes id.0 (record n { export_name = Some name });
       exports = old.exports ++ (name, id) ∷ [];
     })
 Exports old id name (Err (export_error.ExportAlreadyExists text node)) new =
     (new ≡ old) × (string_bytes text ≡ name) × (export_at old name ≡ Some node)
+Exports old id name (Err (export_error.InvalidExportName text source)) new =
+    (new ≡ old) × (string_bytes text ≡ name) × (export_at old name ≡ None) × HasExportFault name source
 Exports old id name (Err export_error.OutOfMemory) new = new ≡ old
 
 -- the import of an instantiation by this name: its position and kind

@@ -68,8 +68,8 @@ impl CompositionGraph {
 
     /// The bytes of one component that is what the graph composes: its packages, instances, aliases and exports.
     ///
-    /// Answers `NotYet` exactly where edges form a cycle, an argument is not set, or the options ask for imported
-    /// components or a processor; else `TooLarge` where a size does not fit 32 bits, or `OutOfMemory`.
+    /// Answers `NotYet` exactly where edges form a cycle, an argument is not set, a node is an import, or the options ask
+    /// for imported components or a processor; else `TooLarge` where a size does not fit 32 bits, or `OutOfMemory`.
     pub fn encode(&self, options: EncodeOptions<'_>) -> Result<Vec<u8>, EncodeError>
         ensures means { IfOk result (λ bytes. (items : List AnItem) × (bytes.items ≡ bytes_of items) × Means items self.now) }
         ensures not_yet { result ≡ Err EncodeError.NotYet → IsNotYet self.now options.entry }

@@ -5,6 +5,7 @@ use crate::node::NodeId;
 use std::alloc::{AllocError, AllocFailed};
 use thiserror::Error;
 use wac_binary::BinaryFault;
+use wac_names::NameFault;
 use wac_types::{PackageKey, TypeFault};
 
 /// Why `register_package` is refused.
@@ -38,6 +39,40 @@ impl<T: Drop> From<AllocFailed<T>> for RegisterPackageError {
     }
 }
 
+/// Why `import` is refused.
+#[derive(Debug, Drop, Error)]
+pub enum ImportError {
+    /// The graph has an import of this name already, this node.
+    #[error("import name `{name}` already exists in the graph")]
+    ImportAlreadyExists { name: String, node: NodeId },
+    /// The name is no component name.
+    #[error("import name `{name}` is not valid")]
+    InvalidImportName { name: String, source: NameFault },
+    /// There was no memory.
+    #[error("out of memory")]
+    OutOfMemory,
+}
+
+impl From<AllocError> for ImportError {
+    ghost use Rattle.wac_graph.specs.declared.errors.ImportError.TheVariants.{OutOfMemory};
+
+    ghost from_gives = { λ _ e. e ≡ OutOfMemory };
+
+    fn from(_e: AllocError) -> ImportError {
+        ImportError::OutOfMemory
+    }
+}
+
+impl<T: Drop> From<AllocFailed<T>> for ImportError {
+    ghost use Rattle.wac_graph.specs.declared.errors.ImportError.TheVariants.{OutOfMemory};
+
+    ghost from_gives = { λ _ e. e ≡ OutOfMemory };
+
+    fn from(_e: AllocFailed<T>) -> ImportError {
+        ImportError::OutOfMemory
+    }
+}
+
 /// Why `alias_instance_export` is refused.
 #[derive(Debug, Drop, Error)]
 pub enum AliasError {
@@ -68,6 +103,9 @@ pub enum ExportError {
     /// The graph has an export of this name already, of this node.
     #[error("an export with the name `{name}` already exists")]
     ExportAlreadyExists { name: String, node: NodeId },
+    /// The name is no component name, or that of a hash, a url or a dependency.
+    #[error("export name `{name}` is not valid")]
+    InvalidExportName { name: String, source: NameFault },
     /// There was no memory.
     #[error("out of memory")]
     OutOfMemory,
@@ -144,7 +182,7 @@ pub enum EncodeError {
     /// There was no memory.
     #[error("out of memory")]
     OutOfMemory,
-    /// Edges form a cycle, an argument is not set, or the options ask for what is not written yet.
+    /// Edges form a cycle, an argument is not set, a node is an import, or the options ask for what is not written yet.
     #[error("the graph holds something that is not written yet")]
     NotYet,
 }

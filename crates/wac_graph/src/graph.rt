@@ -1,18 +1,21 @@
 //! The composition graph.
-ghost use Rattle.std.specs.Prelude.{◌≡◌, ◌≢◌, ◌↔◌, ◌⊎◌, ℕ, Bool, true, false, [], IsSome, IsTrue, is_some, OnOk, OnErr, IfOk, IfErr, IfSome, IfNone, Some, None, Ok, Err, ◌++◌, ◌∷◌, ◌||◌, ◌&&◌, ◌==◌, length, slice_get};
+ghost use Rattle.std.specs.Prelude.{◌≡◌, ◌≢◌, ◌↔◌, ◌⊎◌, ℕ, Bool, true, false, [], IsSome, IsTrue, is_some, OnOk, OnErr, IfOk, IfErr, IfSome, IfNone, Some, None, Ok, Err, ◌++◌, ◌∷◌, length, slice_get};
 ghost use Rattle.std.specs.Option.{option_map, option_and_then, option_copied};
 ghost use Rattle.slab.specs.Slab.{ContainsKey, get, with_value};
 ghost use Rattle.semver.specs.Identifiers.{parts_of};
-ghost use Rattle.wac_types.specs.Collection.{holds_type, item_at, holds_func, holds_interface, holds_world, with_func, with_interface, with_world};
+ghost use Rattle.wac_types.specs.Collection.{holds_type, kind_type, item_at, holds_func, holds_interface, holds_world, with_func, with_interface, with_world};
 ghost use Rattle.wac_types.specs.Package.{HoldsPackage, with_instance_of};
 ghost use Rattle.wac_types.specs.Named.{named_at};
 ghost use Rattle.wac_types.specs.declared.component.«Type».TheVariants.{World as world_type};
-ghost use Rattle.wac_graph.specs.Graph.{node_at, package_at, export_at, package_in};
-ghost use Rattle.wac_graph.specs.Inside.{IsInstantiationAt, satisfied_at, node_of};
-ghost use Rattle.wac_graph.specs.Steps.{IsEmpty, Adds, Registers, Instantiates, Aliases, SetsArgument, Exports};
+ghost use Rattle.wac_graph.specs.Graph.{node_at, package_at, export_at, package_in, import_name};
+ghost use Rattle.wac_graph.specs.Steps.{IsEmpty, Adds, Registers, Imports, Instantiates, Aliases, SetsArgument, Exports};
 
+use crate::arguments::argument_edge;
 use crate::edges::{Edge, Edges, Label};
-use crate::errors::{AliasError, ExportError, InstantiationArgumentError, RegisterPackageError};
+use crate::errors::{
+    AliasError, ExportError, ImportError, InstantiationArgumentError, RegisterPackageError,
+};
+use crate::names::{export_fault, import_fault};
 use crate::node::{Node, NodeId, NodeKind};
 use crate::packages::{PackageId, Slot};
 use indexmap::IndexMap;
@@ -24,7 +27,7 @@ use std::marker::Model;
 use std::ops::Index;
 use wac_types::{
     AddTypeError, FuncType, FuncTypeId, Interface, InterfaceId, ItemKind, Package, PackageKey,
-    SubtypeChecker, TypeFault, Types, World, WorldId,
+    Types, World, WorldId,
 };
 
 /// A composition graph.
@@ -34,6 +37,7 @@ pub struct CompositionGraph {
     pub(crate) types: Types,
     pub(crate) nodes: Slab<Node>,
     pub(crate) edges: Edges,
+    pub(crate) imports: IndexMap<String, NodeId>,
     pub(crate) exports: IndexMap<String, NodeId>,
     pub(crate) package_map: IndexMap<PackageKey, PackageId>,
     pub(crate) slots: Vec<Slot>,
@@ -65,6 +69,7 @@ impl CompositionGraph {
             types: Types::new(alloc),
             nodes: Slab::new(alloc),
             edges: Edges::new(alloc),
+            imports: IndexMap::new(alloc),
             exports: IndexMap::new(alloc),
             package_map: IndexMap::new(alloc),
             slots: Vec::new(alloc),
@@ -167,6 +172,46 @@ impl CompositionGraph {
         Ok(id)
     }
 
+    /// An import of an item of a held type, under a name that no node imports yet. Answers `ImportAlreadyExists` where
+    /// one does, `InvalidImportName` where the text is no component name, and `OutOfMemory` where memory ran out; then
+    /// nothing has changed.
+    pub fn import(&mut self, name: &str, kind: ItemKind) -> Result<NodeId, ImportError>
+        requires { holds_type self.old.types (kind_type kind) ≡ true }
+        ensures step { Imports self.old name.now kind result self.new }
+        ensures there { IfOk result (λ id. IsSome (node_at self.new id)) }
+    {
+        if let Some(other) = self.imports.get(name) {
+            let node = *other;
+            let name = String::from_str(self.alloc, name)?;
+            return Err(ImportError::ImportAlreadyExists { name, node });
+        }
+        if let Some(source) = import_fault(self.alloc, name)? {
+            let name = String::from_str(self.alloc, name)?;
+            return Err(ImportError::InvalidImportName { name, source });
+        }
+        let key = String::from_str(self.alloc, name)?;
+        let own = String::from_str(self.alloc, name)?;
+        self.nodes.reserve(1)?;
+        let number = self.nodes.vacant_key();
+        self.imports.insert(key, NodeId(number))?;
+        self.nodes.insert_reserved(Node {
+            kind: NodeKind::Import(own),
+            package: None,
+            item_kind: kind,
+            name: None,
+            export_name: None,
+        });
+        Ok(NodeId(number))
+    }
+
+    /// The name of a node that is an import; none of another kind of node.
+    pub fn get_import_name(&self, id: NodeId) -> Option<&str>
+        requires { IsSome (node_at self.now id) }
+        ensures { IfSome (node_at self.now id) (λ node. option_map (λ s. s.now) result ≡ import_name node.kind) }
+    {
+        self.nodes[id.0].import_name()
+    }
+
     /// A new instance of a registered package, with no argument set. Answers want of memory; then nothing has
     /// changed.
     pub fn instantiate(&mut self, id: PackageId) -> Result<NodeId, AllocError>
@@ -196,7 +241,8 @@ impl CompositionGraph {
         export: &str,
     ) -> Result<NodeId, AliasError>
         requires { IsSome (node_at self.old instance) }
-        ensures { Aliases self.old instance export.now result self.new }
+        ensures step { Aliases self.old instance export.now result self.new }
+        ensures there { IfOk result (λ alias. IsSome (node_at self.new alias)) }
     {
         self.types.law();
         let node = &self.nodes[instance.0];
@@ -251,65 +297,18 @@ impl CompositionGraph {
         requires argument { IsSome (node_at self.old argument) }
         ensures { SetsArgument self.old instantiation argument_name.now argument result self.new }
     {
-        self.types.law();
-        let node = &self.nodes[instantiation.0];
-        let NodeKind::Instantiation(satisfied) = &node.kind else {
-            return Err(InstantiationArgumentError::NodeIsNotAnInstantiation {
-                node: instantiation,
-            });
-        };
-        let Some(id) = node.package else {
-            unreachable!()
-        };
-        let Some(package) = package_in_slots(&self.slots, id) else {
-            unreachable!()
-        };
-        let world = &self.types[package.ty()];
-        let Some((position, kind)) = world.imports.get_full(argument_name) else {
-            let name = String::from_str(self.alloc, argument_name)?;
-            let package = String::from_str(self.alloc, package.name())?;
-            return Err(InstantiationArgumentError::InvalidArgumentName {
-                node: instantiation,
-                name,
-                package,
-            });
-        };
-        let edge = Edge {
-            source: argument.0,
-            target: instantiation.0,
-            label: Label::Argument(position),
-        };
+        let (position, kind) = self.import_of(instantiation, argument_name)?;
+        let edge = argument_edge(instantiation, position, argument);
         if self.edges.contains(edge) {
             return Ok(());
         }
-        if satisfied.contains(&position) {
-            let name = String::from_str(self.alloc, argument_name)?;
-            return Err(InstantiationArgumentError::ArgumentAlreadyPassed {
-                node: instantiation,
-                name,
-            });
-        }
-        let given = self.nodes[argument.0].item_kind;
-        match SubtypeChecker::new().is_subtype(given, &self.types, *kind, &self.types) {
-            Ok(()) => {}
-            Err(TypeFault::OutOfMemory) => return Err(InstantiationArgumentError::OutOfMemory),
-            Err(TypeFault::Mismatch) => {
-                let name = String::from_str(self.alloc, argument_name)?;
-                let source = TypeFault::Mismatch;
-                return Err(InstantiationArgumentError::ArgumentTypeMismatch { name, source });
-            }
-        }
-        self.edges.add(edge)?;
-        match satisfy(&mut self.nodes, instantiation.0, position) {
-            Ok(()) => Ok(()),
-            Err(_) => {
-                self.edges.remove(edge);
-                Err(InstantiationArgumentError::OutOfMemory)
-            }
-        }
+        self.check_argument(instantiation, argument_name, position, kind, argument)?;
+        self.give_argument(instantiation, position, argument)?;
+        Ok(())
     }
 
-    /// Exports a node by a further name, last in order. Answers `ExportAlreadyExists` where the name is taken, and
+    /// Exports a node by a further name, last in order. Answers `ExportAlreadyExists` where the name is taken,
+    /// `InvalidExportName` where the text is no component name or that of a hash, a url or a dependency, and
     /// `OutOfMemory` where memory ran out; then nothing has changed.
     pub fn export(&mut self, node: NodeId, name: &str) -> Result<(), ExportError>
         requires { IsSome (node_at self.old node) }
@@ -319,6 +318,10 @@ impl CompositionGraph {
             let node = *other;
             let name = String::from_str(self.alloc, name)?;
             return Err(ExportError::ExportAlreadyExists { name, node });
+        }
+        if let Some(source) = export_fault(self.alloc, name)? {
+            let name = String::from_str(self.alloc, name)?;
+            return Err(ExportError::InvalidExportName { name, source });
         }
         let key = String::from_str(self.alloc, name)?;
         let own = String::from_str(self.alloc, name)?;
@@ -380,22 +383,6 @@ pub(crate) fn package_in_slots(slots: &[Slot], id: PackageId) -> Option<&Package
         }
         None => None,
     }
-}
-
-/// Marks the import of an instantiation at this position as satisfied.
-fn satisfy(nodes: &mut Slab<Node>, number: usize, position: usize) -> Result<(), AllocError>
-    requires { IsInstantiationAt (get nodes.old number) }
-    ensures same { (q : ℕ) → option_map node_of (get nodes.new q) ≡ option_map node_of (get nodes.old q) }
-    ensures next { nodes.new.vacant_key ≡ nodes.old.vacant_key }
-    ensures ok { OnOk result ((q i : ℕ) → satisfied_at (get nodes.new q) i ≡ (satisfied_at (get nodes.old q) i || (q == number && i == position))) }
-    ensures err { OnErr result ((q i : ℕ) → satisfied_at (get nodes.new q) i ≡ satisfied_at (get nodes.old q) i) }
-{
-    let node = &mut nodes[number];
-    let NodeKind::Instantiation(positions) = &mut node.kind else {
-        unreachable!()
-    };
-    positions.insert(position)?;
-    Ok(())
 }
 
 fn set_export_name(nodes: &mut Slab<Node>, number: usize, name: String)

@@ -1,20 +1,25 @@
-//! Composition graphs of WebAssembly components: packages, instantiations, aliases, arguments and exports go into a
-//! [`CompositionGraph`], and `encode` gives the bytes of one component.
+//! Composition graphs of WebAssembly components: packages, imports, instantiations, aliases, arguments and exports go
+//! into a [`CompositionGraph`], and `encode` gives the bytes of one component.
 #![tactic(auto)]
 
+mod arguments;
 mod edges;
 mod encode;
 mod errors;
 mod graph;
+mod names;
 mod node;
 mod order;
 mod packages;
 
 pub use encode::{EncodeOptions, Processor};
 pub use errors::{
-    AliasError, EncodeError, ExportError, InstantiationArgumentError, RegisterPackageError,
+    AliasError, EncodeError, ExportError, ImportError, InstantiationArgumentError,
+    RegisterPackageError,
 };
 pub use graph::CompositionGraph;
+pub use names::one_export_answer;
 pub use node::{Node, NodeId, NodeKind};
 pub use packages::PackageId;
+pub use wac_names::NameFault;
 pub use wac_types as types;

@@ -1,6 +1,8 @@
 //! Nodes of a graph.
 ghost use Rattle.std.specs.Prelude.{◌≡◌, string_bytes};
 ghost use Rattle.std.specs.Option.{option_map};
+ghost use Rattle.wac_graph.specs.Graph.{import_name};
+ghost use Rattle.wac_graph.specs.Inside.{kind_of};
 
 use crate::packages::PackageId;
 use std::collections::BTreeSet;
@@ -60,6 +62,16 @@ impl Node {
         ensures { result ≡ self.now.item_kind }
     {
         self.item_kind
+    }
+
+    /// The name of an import; none of another kind of node.
+    pub fn import_name(&self) -> Option<&str>
+        ensures { option_map (λ s. s.now) result ≡ import_name (kind_of self.now.kind) }
+    {
+        match &self.kind {
+            NodeKind::Import(name) => Some(name.as_str()),
+            NodeKind::Definition | NodeKind::Instantiation(_) | NodeKind::Alias => None,
+        }
     }
 
     /// The name by which the node was exported last, if it is exported.

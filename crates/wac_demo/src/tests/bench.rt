@@ -28,6 +28,8 @@ pub enum Call<'a> {
     // A node is given this argument, a node.
     Set(usize, &'a str, usize),
     Export(usize, &'a str),
+    // An import of this name.
+    Import(&'a str, Item),
 }
 
 // A graph, and what it answered so far.
@@ -171,6 +173,19 @@ impl Bench {
         }
     }
 
+    fn import(&mut self, rt: &impl Abort, name: &str, item: Item) -> Result<String, Fail> {
+        let kind = self.kind(item)?;
+        let held = self.graph.types().contains(kind.ty());
+        assert!(rt; held);
+        match self.graph.import(name, kind) {
+            Ok(node) => {
+                self.nodes.push(node)?;
+                shown(self.alloc, node)
+            }
+            Err(error) => shown(self.alloc, error),
+        }
+    }
+
     // The answer's number, or its error's text; an empty text for an answer without a number.
     fn call(&mut self, rt: &impl Abort, call: Call<'_>) -> Result<String, Fail> {
         match call {
@@ -179,6 +194,7 @@ impl Bench {
             Call::Alias(place, name) => self.alias(rt, place, name),
             Call::Set(place, name, argument) => self.set(rt, place, name, argument),
             Call::Export(place, name) => self.export(rt, place, name),
+            Call::Import(name, item) => self.import(rt, name, item),
         }
     }
 
@@ -207,7 +223,8 @@ impl Bench {
         }
     }
 
-    // What the node at a place is: its kind, its item, its package, and the name by which it is exported.
+    // What the node at a place is: its kind, its item, its package, and the names by which it is imported
+    // and exported.
     pub fn described(&self, rt: &impl Abort, place: usize) -> Result<String, Fail> {
         let id = self.node(place)?;
         let held = self.graph.has_node(id);
@@ -221,17 +238,26 @@ impl Bench {
         };
         let item = node.item_kind().desc(self.graph.types());
         let package = self.package_name(rt, node.package())?;
-        let name = node.export_name().unwrap_or("no name");
-        Ok(format!(in self.alloc; "{kind}, {item}, {package}, {name}")?)
+        let imported = node.import_name().unwrap_or("no name");
+        let exported = node.export_name().unwrap_or("no name");
+        Ok(format!(in self.alloc; "{kind}, {item}, {package}, {imported}, {exported}")?)
     }
 
     fn package_name(&self, rt: &impl Abort, id: Option<PackageId>) -> Result<&str, Fail> {
         let Some(id) = id else {
-            return Err(Fail::new("no package"));
+            return Ok("no package");
         };
         let held = self.graph.has_package(id);
         assert!(rt; held);
         Ok(self.graph[id].name())
+    }
+
+    // The name by which the node at a place is imported.
+    pub fn imported_name(&self, rt: &impl Abort, place: usize) -> Result<Option<&str>, Fail> {
+        let node = self.node(place)?;
+        let held = self.graph.has_node(node);
+        assert!(rt; held);
+        Ok(self.graph.get_import_name(node))
     }
 
     // Whether the node at a place is exported by a name.

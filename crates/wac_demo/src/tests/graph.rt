@@ -1,4 +1,4 @@
-use super::bench::Call::{Alias, Export, Instantiate, Register, Set};
+use super::bench::Call::{Alias, Export, Import, Instantiate, Register, Set};
 use super::bench::Item::{Instance, Other, Plain};
 use super::bench::{Bench, Call};
 use std::test::Fail;
@@ -92,6 +92,24 @@ const REFUSALS: &[(Call<'static>, &str)] = &[
     (Alias(0, "b"), "instance does not have an export named `b`"),
 ];
 
+// Imports, and names that are refused.
+const NAMES: &[(Call<'static>, &str)] = &[
+    (Import("x", Plain), "0"),
+    (
+        Import("x", Other),
+        "import name `x` already exists in the graph",
+    ),
+    (Import("1a", Plain), "import name `1a` is not valid"),
+    (Import("unlocked-dep=<a:b>", Instance), "1"),
+    (Export(0, "url=<u>"), "export name `url=<u>` is not valid"),
+    (
+        Export(0, "unlocked-dep=<a:b>"),
+        "export name `unlocked-dep=<a:b>` is not valid",
+    ),
+    (Export(0, "aB"), "export name `aB` is not valid"),
+    (Export(0, "x"), ""),
+];
+
 #[test]
 fn graphs_are_encoded(rt: HostRuntime) -> Result<(), Fail> {
     let rows = [
@@ -110,6 +128,7 @@ fn graphs_are_encoded(rt: HostRuntime) -> Result<(), Fail> {
         (UNSET, NOT_YET),
         (CYCLE, NOT_YET),
         (ARGUMENTS, NOT_YET),
+        (NAMES, NOT_YET),
         (
             REFUSALS,
             "0061736d0d00010004080061736d0d0001000504010000000606010100000161",
@@ -151,9 +170,15 @@ fn ids_give_nodes_and_packages(rt: HostRuntime) -> Result<(), Fail> {
     let instance = bench.described(&rt, 0)?;
     assert_eq!(rt;
         instance.as_str(),
-        "instantiation, instance, my:package1, no name"
+        "instantiation, instance, my:package1, no name, no name"
     );
     let alias = bench.described(&rt, 1)?;
-    assert_eq!(rt; alias.as_str(), "alias, function, my:package1, x");
+    assert_eq!(rt; alias.as_str(), "alias, function, my:package1, no name, x");
+    let mut bench = Bench::new(rt.alloc());
+    bench.calls(&rt, NAMES)?;
+    let import = bench.described(&rt, 0)?;
+    assert_eq!(rt; import.as_str(), "import, function, no package, x, x");
+    assert_eq!(rt; bench.imported_name(&rt, 0)?, Some("x"));
+    assert_eq!(rt; bench.imported_name(&rt, 1)?, Some("unlocked-dep=<a:b>"));
     Ok(())
 }

@@ -1,4 +1,5 @@
 use Rattle.wac_binary.proofs.MeaningLaws.{counted, types_counted, instances_counted, one_more, new_thing, new_type, earlier, types_earlier, instances_earlier}
+use Rattle.wac_binary.proofs.ScopeLaws.{core_types_counted, new_core_type, core_types_earlier}
 use Rattle.wac_binary.proofs.laws.law.Goals as goal
 
 pub returns : goal.returns
@@ -11,5 +12,8 @@ returns c = record {
   new_type = new_type;
   earlier = earlier;
   types_earlier = types_earlier;
+  core_types_counted = core_types_counted;
+  new_core_type = new_core_type;
+  core_types_earlier = core_types_earlier;
   instances_earlier = instances_earlier;
 }

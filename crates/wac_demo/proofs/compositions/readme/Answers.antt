@@ -1,21 +1,31 @@
-use Rattle.std.proofs.Common.{subst, ap, ◌∙◌, is_some}
-use Rattle.std.specs.FinMap as map
-use Rattle.wac_graph.specs.Sound.{IsSound}
-use Rattle.wac_demo.proofs.Following.{instance_there, instance_keeps, alias_there}
+use Rattle.std.proofs.Common.{[], ◌∷◌}
+use Rattle.std.specs.Prelude.{codes}
+use Rattle.wac_graph.specs.Graph.{node_at}
+use Rattle.wac_demo.proofs.Following.{instance-there, there-is, given-there, gives-export}
 use Rattle.wac_demo.proofs.compositions.readme.Goals as goal
 
 pub alias_instance_export-requires : goal.alias_instance_export-requires
-alias_instance_export-requires c = instance_there _ _ c.in_ok-first.first c.in_ok-giver.giver c.in_ok-first.ensures.held c.in_ok-giver.ensures
+alias_instance_export-requires c = there-is (node_at c.instantiate.new.self c.in_ok-giver.giver) _ (instance-there c.register.new.graph c.instantiate.new.self c.in_ok-first.first (codes "my:package1") [] ((codes "a", c.in_ok-function.function) ∷ []) c.in_ok-giver.giver c.in_ok-first.ensures.registered c.in_ok-giver.ensures).0.2
 
 pub set_instantiation_argument-requires-clause-instantiation :
     goal.set_instantiation_argument-requires-clause-instantiation
-set_instantiation_argument-requires-clause-instantiation c = instance_there _ _ c.in_ok-second.second c.in_ok-taker.taker c.in_ok-second.ensures.held c.in_ok-taker.ensures
+set_instantiation_argument-requires-clause-instantiation c = there-is (node_at c.instantiate-2.new.self c.in_ok-taker.taker) _ (instance-there c.register-2.new.graph c.instantiate-2.new.self c.in_ok-second.second (codes "my:package2") ((codes "b", c.in_ok-function.function) ∷ []) [] c.in_ok-taker.taker c.in_ok-second.ensures.registered c.in_ok-taker.ensures).0.2
 
 pub set_instantiation_argument-requires-clause-argument :
     goal.set_instantiation_argument-requires-clause-argument
 set_instantiation_argument-requires-clause-argument c =
-    let sound = subst IsSound c.graph-4.view_is c.graph-4.invariant.sound in
-    let giver = instance_there _ _ c.in_ok-first.first c.in_ok-giver.giver c.in_ok-first.ensures.held c.in_ok-giver.ensures in
-    let a = alias_there _ _ c.in_ok-giver.giver _ c.in_ok-a.a sound giver c.in_ok-a.ensures in
-    let kept = ap (λ nodes. is_some (map.get nodes c.in_ok-a.a.0)) c.register-2.ensures.nodes ∙ a in
-    instance_keeps _ _ c.in_ok-second.second c.in_ok-taker.taker c.in_ok-a.a c.in_ok-second.ensures.held c.in_ok-taker.ensures kept
+    given-there c.register.new.graph c.instantiate.new.self c.alias_instance_export.new.self c.register-2.new.graph c.instantiate-2.new.self c.instantiate-2.new.self c.in_ok-first.first c.in_ok-second.second
+    (codes "my:package1") (codes "a") (codes "my:package2") (codes "b") [] ((codes "a", c.in_ok-function.function) ∷ []) ((codes "b", c.in_ok-function.function) ∷ []) [] c.in_ok-giver.giver c.in_ok-a.a c.in_ok-taker.taker
+    c.in_ok-first.ensures.registered c.in_ok-giver.ensures c.in_ok-a.ensures.step c.in_ok-a.ensures.there c.register-2.ensures.stays c.in_ok-second.ensures.registered c.in_ok-taker.ensures
+
+pub returns : goal.returns
+returns c =
+    let means = c.in_ok-encode.ensures.means in (
+      means.0,
+      c.set_instantiation_argument.new.self,
+      means.1,
+      means.2,
+      gives-export c.register.new.graph c.instantiate.new.self c.alias_instance_export.new.self c.register-2.new.graph c.instantiate-2.new.self c.set_instantiation_argument.new.self c.in_ok-first.first c.in_ok-second.second
+          (codes "my:package1") (codes "a") (codes "my:package2") (codes "b") [] ((codes "a", c.in_ok-function.function) ∷ []) ((codes "b", c.in_ok-function.function) ∷ []) [] c.in_ok-giver.giver c.in_ok-a.a c.in_ok-taker.taker
+          c.in_ok-first.ensures.registered c.in_ok-giver.ensures c.in_ok-a.ensures.step c.in_ok-a.ensures.there c.register-2.ensures.stays c.in_ok-second.ensures.registered c.in_ok-taker.ensures c.in_ok-set_instantiation_argument.ensures,
+    )

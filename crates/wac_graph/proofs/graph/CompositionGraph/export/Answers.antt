@@ -1,4 +1,5 @@
-use Rattle.std.proofs.Common.{sym, refl}
+use Rattle.std.proofs.Common.{sym, refl, subst, MatchOption}
+use Rattle.wac_graph.specs.ExternName.{IsExportName, HasExportFault}
 use Rattle.wac_graph.proofs.NodeLemmas.{lookup_text, there}
 use Rattle.wac_graph.proofs.ExportLemmas.{exported, invariant_exported}
 use Rattle.wac_graph.proofs.graph.CompositionGraph.export.Goals as goal
@@ -21,4 +22,12 @@ returns c =
     rw (← c.self.view_is)
     (exported c.self.inside c.args.node c.args.name.now c.in_ok-key.key c.in_ok-own.own c.set_export_name.new.nodes c.insert.new.self
     c.in_ok-key.ensures.ok c.in_ok-own.ensures.ok (sym c.in_default.ensures.value) c.in_ok-insert.ensures.entries
-    (there c.self.inside.nodes.slots c.args.node.0 (rw (← c.self.view_is) at c.requires)) c.set_export_name.ensures)
+    (there c.self.inside.nodes.slots c.args.node.0 (rw (← c.self.view_is) at c.requires)) c.set_export_name.ensures (subst (λ o. MatchOption o (IsExportName c.args.name.now) (HasExportFault c.args.name.now)) c.in_default-2.is c.in_ok-source.ensures))
+
+pub returns-in-Some-2 : goal.returns-in-Some-2
+returns-in-Some-2 c = (
+  refl,
+  c.in_ok-name-2.ensures.ok,
+  rw (← c.self.view_is, lookup_text) (sym c.in_default.ensures.value),
+  subst (λ o. MatchOption o (IsExportName c.args.name.now) (HasExportFault c.args.name.now)) c.in-Some-2.is c.in_ok-source.ensures,
+)

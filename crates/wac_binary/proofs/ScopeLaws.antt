@@ -1,0 +1,256 @@
+-- What a declaration adds to its scope, and that it changes nothing else; and what growth of the scopes around it leaves.
+use Rattle.std.proofs.Common.{◌≡◌, ℕ, zero, suc, ◌+◌, ◌<◌, List, [], ◌∷◌, ◌++◌, length, refl, ap, sym, ◌∙◌, arith, append-nil}
+use Rattle.std.specs.Prelude.{Some}
+use Rattle.wac_types.specs.Name.{Name}
+use Rattle.wac_types.specs.Core.{CoreItem}
+use Rattle.wac_types.specs.Tree.{Side, Place, Tree, seen_from, component, instance}
+use Rattle.wac_types.specs.declared.core_types.CoreType.{CoreType}
+use Rattle.wac_binary.specs.declared.sorts.Sort.{Sort}
+use Rattle.wac_binary.specs.declared.sorts.Sort.TheVariants as s
+use Rattle.wac_binary.specs.declared.sorts.Description.{Description}
+use Rattle.wac_binary.specs.declared.sorts.Description.TheVariants as e
+use Rattle.wac_binary.specs.Items.{TypeDef, value_def, func_def, component_def, instance_def, export_alias, outer_alias, Decls, end, next, decls, Decl, core_type_decl, type_decl, alias_decl, import_decl, export_decl, ModuleDecl, module_import, module_func, module_export, Item, custom, core_type, nested, instantiate, alias_item, type_item, import_item, export_item}
+use Rattle.wac_binary.specs.Indexes.{space, core_types, described_sort, adds, is_in, indexes, decl_adds, declared, function_types}
+use Rattle.wac_binary.specs.Unfold.{Scope, Bound, empty, type_at, bound_at, scope_at, described_item, with_bound, with_alias, with_outer, outer_bound, tree_of, after, with_decl, module_tree, no_module, module_after, with_module_decl, Module, func_at}
+use Rattle.wac_binary.specs.Growth.{Grows, AllGrow, IsThere, TypeReaches, Reach, Reaches}
+use Rattle.wac_binary.specs.Meaning.{Root, start, read, meaning, with_exported}
+use Rattle.wac_binary.proofs.MeaningLaws.{Longer, same_list, one_longer, longer_twice, in_scope, types_alias, types_outer, types_bound, instances_alias, instances_outer, instances_bound, type_earlier, type_new, bound_earlier, read_append, scope_types, scope_instances, types_read, instances_read, all_longer, one_more as root_one_more}
+
+-- the core types of a scope
+
+abbrev core_types_in : Scope → List Tree
+core_types_in c = c.core_types
+
+core_alias : (c : Scope) (u : Sort) (b : Bound) (n : Name) → Longer c.core_types (with_alias c u b n).core_types (is_in 6 (Some (space u)))
+core_alias c s.Type b n = same_list c.core_types
+core_alias c _ b n = same_list c.core_types
+
+core_outer : (c o : Scope) (u : Sort) (k i : ℕ) → Longer c.core_types (with_outer c u k o i).core_types (is_in 6 (Some (space u)))
+core_outer c o s.Type k i = same_list c.core_types
+core_outer c o _ k i = same_list c.core_types
+
+core_exported : (c : Scope) (u : Sort) (i : ℕ) → Longer c.core_types (with_exported c u i).core_types (is_in 6 (Some (space u)))
+core_exported c s.Type i = same_list c.core_types
+core_exported c _ i = same_list c.core_types
+
+core_bound : (c : Scope) (side : Side) (path : List Place) (d : Description) (a : Scope) → Longer a.core_types (with_bound a side path (described_item c d)).core_types (is_in 6 (Some (space (described_sort d))))
+core_bound c side path (e.Equal i) a = same_list a.core_types
+core_bound c side path _ a = same_list a.core_types
+
+core_read : (r : Root) (x : Item) → Longer r.scope.core_types (read r x).scope.core_types (is_in 6 (adds x))
+core_read r (custom n bs) = same_list _
+core_read r (core_type m) = one_longer r.scope.core_types _
+core_read r (nested bs) = same_list _
+core_read r (instantiate i args) = same_list _
+core_read r (alias_item (export_alias u i n)) = in_scope core_types_in _ u _ r.scope.core_types _ (core_alias r.scope u _ n)
+core_read r (alias_item (outer_alias u k i)) = in_scope core_types_in _ u _ r.scope.core_types _ (core_outer r.scope _ u k i)
+core_read r (type_item d) = same_list _
+core_read r (import_item n d) = in_scope core_types_in _ (described_sort d) _ r.scope.core_types _ (core_bound r.scope _ _ d r.scope)
+core_read r (export_item n u i) = in_scope core_types_in _ u _ r.scope.core_types _ (core_exported r.scope u i)
+
+abbrev scope_core_types : Root → List Tree
+scope_core_types r = r.scope.core_types
+
+pub core_types_counted : (items : List Item) → length (meaning items).scope.core_types ≡ indexes core_types items
+core_types_counted items = let l = all_longer scope_core_types 6 core_read start items in ap length l.is ∙ l.count
+
+pub core_types_earlier : (items more : List Item) (i : ℕ) → i < indexes core_types items → type_at (meaning (items ++ more)).scope.core_types i ≡ type_at (meaning items).scope.core_types i
+core_types_earlier items more i h =
+    let l = all_longer scope_core_types 6 core_read (meaning items) more in
+    ap (λ r. type_at r.scope.core_types i) (read_append start items more) ∙ ap (λ xs. type_at xs i) l.is ∙ type_earlier (meaning items).scope.core_types l.more i (rw (core_types_counted items) h)
+
+pub new_core_type : (items : List Item) (m : List ModuleDecl) → type_at (meaning (items ++ core_type m ∷ [])).scope.core_types (indexes core_types items) ≡ module_tree m
+new_core_type items m =
+    ap (λ r. type_at r.scope.core_types (indexes core_types items)) (root_one_more items (core_type m)) ∙ type_new (meaning items).scope.core_types (module_tree m) _ (sym (core_types_counted items))
+
+pub root_grows : (items more : List Item) → Grows (meaning items).scope (meaning (items ++ more)).scope
+root_grows items more =
+    let a = all_longer scope_core_types 6 core_read (meaning items) more in
+    let b = all_longer scope_types 3 types_read (meaning items) more in
+    let c = all_longer scope_instances 5 instances_read (meaning items) more in
+    record {
+      core_types = a.more;
+      types = b.more;
+      instances = c.more;
+      core_types_are = ap (λ r. r.scope.core_types) (read_append start items more) ∙ a.is;
+      types_are = ap (λ r. r.scope.types) (read_append start items more) ∙ b.is;
+      instances_are = ap (λ r. r.scope.instances) (read_append start items more) ∙ c.is;
+    }
+
+-- declarations
+
+pub after_append : (xs ys : List Decl) (c : Scope) (out : List Scope) → after (decls (xs ++ ys)) c out ≡ after (decls ys) (after (decls xs) c out) out
+after_append [] ys c out = refl
+after_append (x ∷ xs) ys c out = after_append xs ys (with_decl x c out) out
+
+pub one_more : (ds : List Decl) (d : Decl) (out : List Scope) → after (decls (ds ++ d ∷ [])) empty out ≡ with_decl d (after (decls ds) empty out) out
+one_more ds d out = after_append ds (d ∷ []) empty out
+
+core_decl : (d : Decl) (c : Scope) (out : List Scope) → Longer c.core_types (with_decl d c out).core_types (is_in 6 (Some (decl_adds d)))
+core_decl (core_type_decl m) c out = one_longer c.core_types _
+core_decl (type_decl t) c out = same_list c.core_types
+core_decl (alias_decl (export_alias t i n)) c out = core_alias c t _ n
+core_decl (alias_decl (outer_alias t k i)) c out = core_outer c _ t k i
+core_decl (import_decl n d) c out = core_bound c _ _ d _
+core_decl (export_decl n d) c out = core_bound c _ _ d _
+
+types_decl : (d : Decl) (c : Scope) (out : List Scope) → Longer c.types (with_decl d c out).types (is_in 3 (Some (decl_adds d)))
+types_decl (core_type_decl m) c out = same_list c.types
+types_decl (type_decl t) c out = one_longer c.types _
+types_decl (alias_decl (export_alias t i n)) c out = types_alias c t _ n
+types_decl (alias_decl (outer_alias t k i)) c out = types_outer c _ t k i
+types_decl (import_decl n d) c out = types_bound c _ _ d _
+types_decl (export_decl n d) c out = types_bound c _ _ d _
+
+instances_decl : (d : Decl) (c : Scope) (out : List Scope) → Longer c.instances (with_decl d c out).instances (is_in 5 (Some (decl_adds d)))
+instances_decl (core_type_decl m) c out = same_list c.instances
+instances_decl (type_decl t) c out = same_list c.instances
+instances_decl (alias_decl (export_alias t i n)) c out = instances_alias c t _ n
+instances_decl (alias_decl (outer_alias t k i)) c out = instances_outer c _ t k i
+instances_decl (import_decl n d) c out = instances_bound c _ _ d _
+instances_decl (export_decl n d) c out = instances_bound c _ _ d _
+
+abbrev declared_types : Scope → List Tree
+declared_types c = c.types
+
+abbrev declared_instances : Scope → List Bound
+declared_instances c = c.instances
+
+module _ {A : Type 0} (f : Scope → List A) (k : ℕ) (step : (d : Decl) (c : Scope) (out : List Scope) → Longer (f c) (f (with_decl d c out)) (is_in k (Some (decl_adds d)))) where
+  longer_after : (ds : List Decl) (c : Scope) (out : List Scope) → Longer (f c) (f (after (decls ds) c out)) (declared k ds)
+  longer_after [] c out = same_list (f c)
+  longer_after (d ∷ ds) c out = longer_twice (step d c out) (longer_after ds (with_decl d c out) out)
+
+  -- behind the declarations before them
+  longer_behind : (ds more : List Decl) (out : List Scope) → Longer (f (after (decls ds) empty out)) (f (after (decls (ds ++ more)) empty out)) (declared k more)
+  longer_behind ds more out = rw (after_append ds more empty out) (longer_after more (after (decls ds) empty out) out)
+
+pub declared_core_types_counted : (ds : List Decl) (out : List Scope) → length (after (decls ds) empty out).core_types ≡ declared core_types ds
+declared_core_types_counted ds out = let l = longer_after core_types_in 6 core_decl ds empty out in ap length l.is ∙ l.count
+
+pub declared_types_counted : (ds : List Decl) (out : List Scope) → length (after (decls ds) empty out).types ≡ declared (space s.Type) ds
+declared_types_counted ds out = let l = longer_after declared_types 3 types_decl ds empty out in ap length l.is ∙ l.count
+
+pub declared_instances_counted : (ds : List Decl) (out : List Scope) → length (after (decls ds) empty out).instances ≡ declared (space s.Instance) ds
+declared_instances_counted ds out = let l = longer_after declared_instances 5 instances_decl ds empty out in ap length l.is ∙ l.count
+
+pub grows : (ds more : List Decl) (out : List Scope) → Grows (after (decls ds) empty out) (after (decls (ds ++ more)) empty out)
+grows ds more out =
+    let a = longer_behind core_types_in 6 core_decl ds more out in
+    let b = longer_behind declared_types 3 types_decl ds more out in
+    let c = longer_behind declared_instances 5 instances_decl ds more out in
+    record { core_types = a.more; types = b.more; instances = c.more; core_types_are = a.is; types_are = b.is; instances_are = c.is }
+
+pub declared_core_types_earlier : (ds more : List Decl) (out : List Scope) (i : ℕ) → i < declared core_types ds → type_at (after (decls (ds ++ more)) empty out).core_types i ≡ type_at (after (decls ds) empty out).core_types i
+declared_core_types_earlier ds more out i h =
+    let l = grows ds more out in
+    ap (λ xs. type_at xs i) l.core_types_are ∙ type_earlier (after (decls ds) empty out).core_types l.core_types i (rw (declared_core_types_counted ds out) h)
+
+pub declared_types_earlier : (ds more : List Decl) (out : List Scope) (i : ℕ) → i < declared (space s.Type) ds → type_at (after (decls (ds ++ more)) empty out).types i ≡ type_at (after (decls ds) empty out).types i
+declared_types_earlier ds more out i h =
+    let l = grows ds more out in
+    ap (λ xs. type_at xs i) l.types_are ∙ type_earlier (after (decls ds) empty out).types l.types i (rw (declared_types_counted ds out) h)
+
+pub declared_instances_earlier : (ds more : List Decl) (out : List Scope) (i : ℕ) → i < declared (space s.Instance) ds → bound_at (after (decls (ds ++ more)) empty out).instances i ≡ bound_at (after (decls ds) empty out).instances i
+declared_instances_earlier ds more out i h =
+    let l = grows ds more out in
+    ap (λ xs. bound_at xs i) l.instances_are ∙ bound_earlier (after (decls ds) empty out).instances l.instances i (rw (declared_instances_counted ds out) h)
+
+pub declared_new_core_type : (ds : List Decl) (m : List ModuleDecl) (out : List Scope) → type_at (after (decls (ds ++ core_type_decl m ∷ [])) empty out).core_types (declared core_types ds) ≡ module_tree m
+declared_new_core_type ds m out =
+    ap (λ c. type_at c.core_types (declared core_types ds)) (one_more ds (core_type_decl m) out) ∙ type_new (after (decls ds) empty out).core_types (module_tree m) _ (sym (declared_core_types_counted ds out))
+
+pub declared_new_type : (ds : List Decl) (t : TypeDef) (out : List Scope) → type_at (after (decls (ds ++ type_decl t ∷ [])) empty out).types (declared (space s.Type) ds) ≡ tree_of t (after (decls ds) empty out) out
+declared_new_type ds t out =
+    ap (λ c. type_at c.types (declared (space s.Type) ds)) (one_more ds (type_decl t) out) ∙ type_new (after (decls ds) empty out).types (tree_of t (after (decls ds) empty out) out) _ (sym (declared_types_counted ds out))
+
+-- the scopes around
+
+type_kept : (c d : Scope) (i : ℕ) → Grows c d → i < length c.types → type_at d.types i ≡ type_at c.types i
+type_kept c d i g h = ap (λ xs. type_at xs i) g.types_are ∙ type_earlier c.types g.types i h
+
+instance_kept : (c d : Scope) (i : ℕ) → Grows c d → i < length c.instances → bound_at d.instances i ≡ bound_at c.instances i
+instance_kept c d i g h = ap (λ xs. bound_at xs i) g.instances_are ∙ bound_earlier c.instances g.instances i h
+
+outer_kept : (c o q : Scope) (t : Sort) (k i : ℕ) → Grows o q → IsThere t i o → with_outer c t k q i ≡ with_outer c t k o i
+outer_kept c o q s.Type k i g h = ap (λ t. record c { types = c.types ++ seen_from k t ∷ [] }) (type_kept o q i g h)
+outer_kept c o q s.Instance k i g h = ap (λ b. record c { instances = c.instances ++ outer_bound k b ∷ [] }) (instance_kept o q i g h)
+outer_kept c o q _ k i g h = refl
+
+same_scope : (c : Scope) → Grows c c
+same_scope c = record { core_types = []; types = []; instances = []; core_types_are = sym (append-nil c.core_types); types_are = sym (append-nil c.types); instances_are = sym (append-nil c.instances) }
+
+scopes_grow : (cs ds : List Scope) (k : ℕ) → AllGrow cs ds → Grows (scope_at cs k) (scope_at ds k)
+scopes_grow [] [] k g = same_scope empty
+scopes_grow [] (d ∷ ds) k g = absurd g
+scopes_grow (c ∷ cs) [] k g = absurd g
+scopes_grow (c ∷ cs) (d ∷ ds) zero g = g.0
+scopes_grow (c ∷ cs) (d ∷ ds) (suc k) g = scopes_grow cs ds k g.1
+
+mutual
+  tree_kept : (t : TypeDef) (c : Scope) (out new : List Scope) → AllGrow out new → TypeReaches t c out → tree_of t c new ≡ tree_of t c out
+  tree_kept (value_def t) c out new g h = refl
+  tree_kept (func_def a ps r) c out new g h = refl
+  tree_kept (component_def ds) c out new g h = ap (λ w. component w.imports w.exports) (after_kept ds empty (c ∷ out) (c ∷ new) (same_scope c, g) h)
+  tree_kept (instance_def ds) c out new g h = ap (λ w. instance w.exports) (after_kept ds empty (c ∷ out) (c ∷ new) (same_scope c, g) h)
+
+  pub after_kept : (ds : Decls) (c : Scope) (out new : List Scope) → AllGrow out new → Reach ds c out → after ds c new ≡ after ds c out
+  after_kept end c out new g h = refl
+  after_kept (next d ds) c out new g h = ap (λ w. after ds w new) (decl_kept d c out new g h.0) ∙ after_kept ds (with_decl d c out) out new g h.1
+
+  decl_kept : (d : Decl) (c : Scope) (out new : List Scope) → AllGrow out new → Reaches d c out → with_decl d c new ≡ with_decl d c out
+  decl_kept (core_type_decl m) c out new g h = refl
+  decl_kept (type_decl t) c out new g h = ap (λ x. record c { types = c.types ++ x ∷ [] }) (tree_kept t c out new g h)
+  decl_kept (alias_decl (export_alias t i n)) c out new g h = refl
+  decl_kept (alias_decl (outer_alias t k i)) c out new g h = outer_kept c (scope_at (c ∷ out) k) (scope_at (c ∷ new) k) t k i (scopes_grow (c ∷ out) (c ∷ new) k (same_scope c, g)) h
+  decl_kept (import_decl n d) c out new g h = refl
+  decl_kept (export_decl n d) c out new g h = refl
+
+pub around : (ds : Decls) (out new : List Scope) → AllGrow out new → Reach ds empty out → after ds empty new ≡ after ds empty out
+around ds out new g h = after_kept ds empty out new g h
+
+-- the function types of a core module type
+
+abbrev Funcs : Type 0
+Funcs = List (List CoreType × List CoreType)
+
+func_new : (fs : Funcs) (ps rs : List CoreType) (i : ℕ) (make : List CoreType → List CoreType → CoreItem) → i ≡ length fs → func_at (fs ++ (ps, rs) ∷ []) i make ≡ make ps rs
+func_new [] ps rs zero make e = refl
+func_new [] ps rs (suc i) make e = absurd (omega arith)
+func_new (f ∷ fs) ps rs zero make e = absurd (omega arith)
+func_new (f ∷ fs) ps rs (suc i) make e = func_new fs ps rs i make (omega arith)
+
+func_earlier : (fs gs : Funcs) (i : ℕ) (make : List CoreType → List CoreType → CoreItem) → i < length fs → func_at (fs ++ gs) i make ≡ func_at fs i make
+func_earlier [] gs i make h = absurd (omega arith)
+func_earlier (f ∷ fs) gs zero make h = refl
+func_earlier (f ∷ fs) gs (suc i) make h = func_earlier fs gs i make (omega arith)
+
+module_append : (m : Module) (xs ys : List ModuleDecl) → module_after m (xs ++ ys) ≡ module_after (module_after m xs) ys
+module_append m [] ys = refl
+module_append m (x ∷ xs) ys = module_append (with_module_decl m x) xs ys
+
+funcs_decl : (d : ModuleDecl) (m : Module) → Longer m.funcs (with_module_decl m d).funcs (function_types (d ∷ []))
+funcs_decl (module_import o n x) m = same_list m.funcs
+funcs_decl (module_func ps rs) m = one_longer m.funcs (ps, rs)
+funcs_decl (module_export n x) m = same_list m.funcs
+
+types_split : (d : ModuleDecl) (ds : List ModuleDecl) → function_types (d ∷ []) + function_types ds ≡ function_types (d ∷ ds)
+types_split (module_import o n x) ds = omega arith
+types_split (module_func ps rs) ds = omega arith
+types_split (module_export n x) ds = omega arith
+
+funcs_after : (ds : List ModuleDecl) (m : Module) → Longer m.funcs (module_after m ds).funcs (function_types ds)
+funcs_after [] m = same_list m.funcs
+funcs_after (d ∷ ds) m = rw (← types_split d ds) (longer_twice (funcs_decl d m) (funcs_after ds (with_module_decl m d)))
+
+functions_counted : (ds : List ModuleDecl) → length (module_after no_module ds).funcs ≡ function_types ds
+functions_counted ds = let l = funcs_after ds no_module in ap length l.is ∙ l.count
+
+pub new_function : (ds : List ModuleDecl) (ps rs : List CoreType) (make : List CoreType → List CoreType → CoreItem) → func_at (module_after no_module (ds ++ module_func ps rs ∷ [])).funcs (function_types ds) make ≡ make ps rs
+new_function ds ps rs make =
+    ap (λ m. func_at m.funcs (function_types ds) make) (module_append no_module ds (module_func ps rs ∷ [])) ∙ func_new (module_after no_module ds).funcs ps rs (function_types ds) make (sym (functions_counted ds))
+
+pub functions_earlier : (ds more : List ModuleDecl) (i : ℕ) (make : List CoreType → List CoreType → CoreItem) → i < function_types ds → func_at (module_after no_module (ds ++ more)).funcs i make ≡ func_at (module_after no_module ds).funcs i make
+functions_earlier ds more i make h =
+    let l = funcs_after more (module_after no_module ds) in
+    ap (λ m. func_at m.funcs i make) (module_append no_module ds more) ∙ ap (λ fs. func_at fs i make) l.is ∙ func_earlier (module_after no_module ds).funcs l.more i make (rw (functions_counted ds) h)

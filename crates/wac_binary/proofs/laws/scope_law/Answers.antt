@@ -1,0 +1,18 @@
+use Rattle.wac_binary.proofs.ScopeLaws.{declared_types_counted, declared_instances_counted, declared_core_types_counted, one_more, declared_new_type, declared_new_core_type, declared_types_earlier, declared_instances_earlier, declared_core_types_earlier, root_grows, grows, around}
+use Rattle.wac_binary.proofs.laws.scope_law.Goals as goal
+
+pub returns : goal.returns
+returns c = record {
+  types_counted = declared_types_counted;
+  instances_counted = declared_instances_counted;
+  core_types_counted = declared_core_types_counted;
+  one_more = one_more;
+  new_type = declared_new_type;
+  new_core_type = declared_new_core_type;
+  types_earlier = declared_types_earlier;
+  instances_earlier = declared_instances_earlier;
+  core_types_earlier = declared_core_types_earlier;
+  root_grows = root_grows;
+  grows = grows;
+  around = around;
+}

@@ -1,0 +1,180 @@
+//! A component type that is being written, declaration by declaration.
+
+ghost use Rattle.std.specs.Prelude.{◌≡◌, List, ℕ, ◌<◌, ◌≤◌, ◌++◌, ◌∷◌, [], OnOk, OnErr, IfOk, IfErr};
+ghost use Rattle.wac_binary.specs.Leb.{unsigned};
+ghost use Rattle.wac_binary.specs.Items.{value_def, component_def, instance_def, decls, core_type_decl, type_decl, alias_decl, export_alias, outer_alias, import_decl, export_decl};
+ghost use Rattle.wac_binary.specs.Bytes.{count, decls_bytes};
+ghost use Rattle.wac_binary.specs.Indexes.{space, core_types, described_sort, declared};
+ghost use Rattle.wac_binary.specs.Fits.{DeclarationsFit};
+ghost use Rattle.wac_binary.specs.Views.{func_of, defined_of};
+ghost use Rattle.wac_binary.specs.declared.fault.BinaryFault.TheVariants.{TooLarge};
+ghost use Rattle.wac_binary.specs.declared.sorts.Sort.TheVariants as s;
+
+use crate::decl::{AliasRef, DeclRef, TypeRef};
+use crate::declarations::Declarations;
+use crate::fault::BinaryFault;
+use crate::instance_type::InstanceType;
+use crate::module_type::ModuleType;
+use crate::sorts::{Description, Sort, described_sort, space};
+use crate::types::{DefinedType, FuncType};
+use std::alloc::{AllocError, Global};
+use std::marker::Model;
+
+/// A component type that is being written. Contracts see it as the list of its declarations.
+///
+/// A writer takes any index: what it stands for is a matter of the declarations. Each writer adds one declaration at
+/// the end and answers the index that it adds to the space of its sort, in the scope of the component type. It
+/// answers `TooLarge` exactly where the declarations with the new one no longer fit 32 bits, and `OutOfMemory` where
+/// memory is refused; then it has added nothing.
+#[derive(Drop)]
+pub struct ComponentType {
+    declarations: Declarations,
+}
+
+impl Model for ComponentType {
+    ghost use Rattle.std.specs.Prelude.{List};
+    ghost use Rattle.std.specs.Coded.{coded_list};
+    ghost use Rattle.wac_binary.specs.Items.{Decl};
+    ghost use Rattle.wac_binary.specs.Code.{coded_decl};
+
+    ghost Value = { List Decl };
+
+    ghost coded = { coded_list coded_decl };
+
+    ghost view = { λ t. t.declarations };
+}
+
+impl ComponentType {
+    /// A component type without declarations.
+    pub fn new(alloc: Global) -> ComponentType
+        ensures { result ≡ [] }
+    {
+        ComponentType {
+            declarations: Declarations::new(alloc),
+        }
+    }
+
+    /// Declares a core module type, and answers its index among the core types.
+    pub fn core_module_type(&mut self, t: &ModuleType) -> Result<u32, BinaryFault>
+        ensures index { IfOk result (λ i. i ≡ declared core_types self.old) }
+        ensures appended { OnOk result (self.new ≡ self.old ++ core_type_decl t.now ∷ []) }
+        ensures fits { OnOk result (DeclarationsFit self.new) }
+        ensures refused { OnErr result (self.new ≡ self.old) }
+        ensures too_large { IfErr result (λ e. e ≡ TooLarge → ¬ DeclarationsFit (self.old ++ core_type_decl t.now ∷ [])) }
+    {
+        self.declarations.append(&DeclRef::CoreModule(t), 6)
+    }
+
+    /// Declares a value type, and answers its type index.
+    pub fn defined_type(&mut self, t: &DefinedType<'_>) -> Result<u32, BinaryFault>
+        ensures index { IfOk result (λ i. i ≡ declared (space s.Type) self.old) }
+        ensures appended { OnOk result (self.new ≡ self.old ++ type_decl (value_def (defined_of t.now)) ∷ []) }
+        ensures fits { OnOk result (DeclarationsFit self.new) }
+        ensures refused { OnErr result (self.new ≡ self.old) }
+        ensures too_large { IfErr result (λ e. e ≡ TooLarge → ¬ DeclarationsFit (self.old ++ type_decl (value_def (defined_of t.now)) ∷ [])) }
+    {
+        self.declarations
+            .append(&DeclRef::Type(TypeRef::Defined(t)), 3)
+    }
+
+    /// Declares a function type, and answers its type index.
+    pub fn func_type(&mut self, f: &FuncType<'_>) -> Result<u32, BinaryFault>
+        ensures index { IfOk result (λ i. i ≡ declared (space s.Type) self.old) }
+        ensures appended { OnOk result (self.new ≡ self.old ++ type_decl (func_of f.now) ∷ []) }
+        ensures fits { OnOk result (DeclarationsFit self.new) }
+        ensures refused { OnErr result (self.new ≡ self.old) }
+        ensures too_large { IfErr result (λ e. e ≡ TooLarge → ¬ DeclarationsFit (self.old ++ type_decl (func_of f.now) ∷ [])) }
+    {
+        self.declarations
+            .append(&DeclRef::Type(TypeRef::Func(f)), 3)
+    }
+
+    /// Declares a component type with these declarations, and answers its type index.
+    pub fn component_type(&mut self, t: &ComponentType) -> Result<u32, BinaryFault>
+        ensures index { IfOk result (λ i. i ≡ declared (space s.Type) self.old) }
+        ensures appended { OnOk result (self.new ≡ self.old ++ type_decl (component_def (decls t.now)) ∷ []) }
+        ensures fits { OnOk result (DeclarationsFit self.new) }
+        ensures refused { OnErr result (self.new ≡ self.old) }
+        ensures too_large { IfErr result (λ e. e ≡ TooLarge → ¬ DeclarationsFit (self.old ++ type_decl (component_def (decls t.now)) ∷ [])) }
+    {
+        self.declarations
+            .append(&DeclRef::Type(TypeRef::Component(t)), 3)
+    }
+
+    /// Declares an instance type with these declarations, and answers its type index.
+    pub fn instance_type(&mut self, t: &InstanceType) -> Result<u32, BinaryFault>
+        ensures index { IfOk result (λ i. i ≡ declared (space s.Type) self.old) }
+        ensures appended { OnOk result (self.new ≡ self.old ++ type_decl (instance_def (decls t.now)) ∷ []) }
+        ensures fits { OnOk result (DeclarationsFit self.new) }
+        ensures refused { OnErr result (self.new ≡ self.old) }
+        ensures too_large { IfErr result (λ e. e ≡ TooLarge → ¬ DeclarationsFit (self.old ++ type_decl (instance_def (decls t.now)) ∷ [])) }
+    {
+        self.declarations
+            .append(&DeclRef::Type(TypeRef::Instance(t)), 3)
+    }
+
+    /// Declares an alias of the export of this sort and name of the instance with this index, and answers its index
+    /// of that sort.
+    pub fn alias_export(
+        &mut self,
+        sort: Sort,
+        instance: u32,
+        name: &str,
+    ) -> Result<u32, BinaryFault>
+        ensures index { IfOk result (λ i. i ≡ declared (space sort) self.old) }
+        ensures appended { OnOk result (self.new ≡ self.old ++ alias_decl (export_alias sort instance name.now) ∷ []) }
+        ensures fits { OnOk result (DeclarationsFit self.new) }
+        ensures refused { OnErr result (self.new ≡ self.old) }
+        ensures too_large { IfErr result (λ e. e ≡ TooLarge → ¬ DeclarationsFit (self.old ++ alias_decl (export_alias sort instance name.now) ∷ [])) }
+    {
+        let alias = AliasRef::Export(sort, instance, name);
+        self.declarations
+            .append(&DeclRef::Alias(alias), space(sort))
+    }
+
+    /// Declares an alias of what has this index of this sort in the scope so many scopes out (0 is this one), and
+    /// answers its index of that sort.
+    pub fn alias_outer(&mut self, sort: Sort, count: u32, index: u32) -> Result<u32, BinaryFault>
+        ensures index { IfOk result (λ i. i ≡ declared (space sort) self.old) }
+        ensures appended { OnOk result (self.new ≡ self.old ++ alias_decl (outer_alias sort count index) ∷ []) }
+        ensures fits { OnOk result (DeclarationsFit self.new) }
+        ensures refused { OnErr result (self.new ≡ self.old) }
+        ensures too_large { IfErr result (λ e. e ≡ TooLarge → ¬ DeclarationsFit (self.old ++ alias_decl (outer_alias sort count index) ∷ [])) }
+    {
+        let alias = AliasRef::Outer(sort, count, index);
+        self.declarations
+            .append(&DeclRef::Alias(alias), space(sort))
+    }
+
+    /// Declares an import of this name, and answers its index of the sort that is described.
+    pub fn import(&mut self, name: &str, d: Description) -> Result<u32, BinaryFault>
+        ensures index { IfOk result (λ i. i ≡ declared (space (described_sort d)) self.old) }
+        ensures appended { OnOk result (self.new ≡ self.old ++ import_decl name.now d ∷ []) }
+        ensures fits { OnOk result (DeclarationsFit self.new) }
+        ensures refused { OnErr result (self.new ≡ self.old) }
+        ensures too_large { IfErr result (λ e. e ≡ TooLarge → ¬ DeclarationsFit (self.old ++ import_decl name.now d ∷ [])) }
+    {
+        self.declarations
+            .append(&DeclRef::Import(name, d), space(described_sort(d)))
+    }
+
+    /// Declares an export of this name, and answers its index of the sort that is described.
+    pub fn export(&mut self, name: &str, d: Description) -> Result<u32, BinaryFault>
+        ensures index { IfOk result (λ i. i ≡ declared (space (described_sort d)) self.old) }
+        ensures appended { OnOk result (self.new ≡ self.old ++ export_decl name.now d ∷ []) }
+        ensures fits { OnOk result (DeclarationsFit self.new) }
+        ensures refused { OnErr result (self.new ≡ self.old) }
+        ensures too_large { IfErr result (λ e. e ≡ TooLarge → ¬ DeclarationsFit (self.old ++ export_decl name.now d ∷ [])) }
+    {
+        self.declarations
+            .append(&DeclRef::Export(name, d), space(described_sort(d)))
+    }
+
+    /// Puts the number of declarations, and their bytes, at the end of a buffer.
+    pub(crate) fn put(&self, out: &mut Vec<u8>) -> Result<(), AllocError>
+        ensures written { OnOk result (out.new.items ≡ out.old.items ++ (unsigned (count (decls self.now)) ++ decls_bytes (decls self.now))) }
+        ensures grows { (more : List ℕ) × (out.new.items ≡ out.old.items ++ more) }
+    {
+        self.declarations.put(out)
+    }
+}
