@@ -1,5 +1,5 @@
 -- What a declaration adds to its scope, and that it changes nothing else; and what growth of the scopes around it leaves.
-use Rattle.std.proofs.Common.{◌≡◌, ℕ, zero, suc, ◌+◌, ◌<◌, List, [], ◌∷◌, ◌++◌, length, refl, ap, sym, ◌∙◌, arith, append-nil}
+use Rattle.std.proofs.Common.{◌≡◌, ℕ, zero, suc, ◌+◌, ◌<◌, List, [], ◌∷◌, ◌++◌, length, refl, ap, sym, ◌∙◌, subst, length-append, arith, append-nil}
 use Rattle.std.specs.Prelude.{Some}
 use Rattle.wac_types.specs.Name.{Name}
 use Rattle.wac_types.specs.Core.{CoreItem}
@@ -208,6 +208,48 @@ mutual
 
 pub around : (ds : Decls) (out new : List Scope) → AllGrow out new → Reach ds empty out → after ds empty new ≡ after ds empty out
 around ds out new g h = after_kept ds empty out new g h
+
+-- what outer aliases reach
+
+reach_snoc : (ds : List Decl) (d : Decl) (c : Scope) (out : List Scope) → Reach (decls ds) c out → Reaches d (after (decls ds) c out) out → Reach (decls (ds ++ d ∷ [])) c out
+reach_snoc [] d c out h g = (g, tt)
+reach_snoc (x ∷ xs) d c out h g = (h.0, reach_snoc xs d (with_decl x c out) out h.1 g)
+
+pub reach_one_more : (ds : List Decl) (d : Decl) (out : List Scope) → Reach (decls ds) empty out → Reaches d (after (decls ds) empty out) out → Reach (decls (ds ++ d ∷ [])) empty out
+reach_one_more ds d out h g = reach_snoc ds d empty out h g
+
+further : {A : Type 0} (old new more : List A) (i : ℕ) → new ≡ old ++ more → i < length old → i < length new
+further old new more i e h = let l : length new ≡ length old + length more = ap length e ∙ length-append old more in omega arith
+
+there_kept : (t : Sort) (i : ℕ) (o q : Scope) → Grows o q → IsThere t i o → IsThere t i q
+there_kept s.Type i o q g h = further o.types q.types g.types i g.types_are h
+there_kept s.Instance i o q g h = further o.instances q.instances g.instances i g.instances_are h
+there_kept s.CoreModule i o q g h = tt
+there_kept s.Func i o q g h = tt
+there_kept s.Value i o q g h = tt
+there_kept s.Component i o q g h = tt
+
+mutual
+  type_reaches : (t : TypeDef) (c : Scope) (out new : List Scope) → AllGrow out new → TypeReaches t c out → TypeReaches t c new
+  type_reaches (value_def t) c out new g h = tt
+  type_reaches (func_def a ps r) c out new g h = tt
+  type_reaches (component_def ds) c out new g h = still_reach ds empty (c ∷ out) (c ∷ new) (same_scope c, g) h
+  type_reaches (instance_def ds) c out new g h = still_reach ds empty (c ∷ out) (c ∷ new) (same_scope c, g) h
+
+  still_reach : (ds : Decls) (c : Scope) (out new : List Scope) → AllGrow out new → Reach ds c out → Reach ds c new
+  still_reach end c out new g h = tt
+  still_reach (next d ds) c out new g h = (decl_reaches d c out new g h.0, subst (λ (w : Scope). Reach ds w new) (sym (decl_kept d c out new g h.0)) (still_reach ds (with_decl d c out) out new g h.1))
+
+  decl_reaches : (d : Decl) (c : Scope) (out new : List Scope) → AllGrow out new → Reaches d c out → Reaches d c new
+  decl_reaches (core_type_decl m) c out new g h = tt
+  decl_reaches (type_decl t) c out new g h = type_reaches t c out new g h
+  decl_reaches (alias_decl (export_alias t i n)) c out new g h = tt
+  decl_reaches (alias_decl (outer_alias t k i)) c out new g h = there_kept t i (scope_at (c ∷ out) k) (scope_at (c ∷ new) k) (scopes_grow (c ∷ out) (c ∷ new) k (same_scope c, g)) h
+  decl_reaches (import_decl n d) c out new g h = tt
+  decl_reaches (export_decl n d) c out new g h = tt
+
+pub reach_kept : (ds : Decls) (out new : List Scope) → AllGrow out new → Reach ds empty out → Reach ds empty new
+reach_kept ds out new g h = still_reach ds empty out new g h
 
 -- the function types of a core module type
 

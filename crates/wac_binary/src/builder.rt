@@ -15,7 +15,7 @@ use crate::component_type::ComponentType;
 use crate::decl::{AliasRef, TypeRef};
 use crate::fault::BinaryFault;
 use crate::instance_type::InstanceType;
-use crate::item::{AloneRef, ItemRef};
+use crate::item::{AloneRef, ItemRef, section_id};
 use crate::module_type::ModuleType;
 use crate::section::{Open, begin, put_alone, put_open, put_shared};
 use crate::sorts::{Description, Sort, described_sort, space};
@@ -84,8 +84,9 @@ impl ComponentBuilder {
         if index >= 1 << 32 {
             return Err(BinaryFault::TooLarge);
         }
+        let id = section_id(item);
         begin(&mut self.bytes)?;
-        let open = put_shared(
+        let count = put_shared(
             &mut self.bytes,
             &mut self.things,
             &mut self.next,
@@ -93,6 +94,7 @@ impl ComponentBuilder {
             item,
         )?;
         self.counts[at] = index + 1;
+        let open = Open { id, count };
         self.open_section = Some(open);
         Ok(index as u32)
     }

@@ -7,7 +7,7 @@ ghost use Rattle.wac_binary.specs.Customs.{of_sort, names_bytes, producers_bytes
 ghost use Rattle.wac_types.specs.Name.{Name};
 ghost use Rattle.wac_binary.specs.Indexes.{space, core_types, sort_added, indexes, declared, function_types};
 ghost use Rattle.wac_binary.specs.Unfold.{Scope, empty, type_at, bound_at, tree_of, after, with_decl, module_tree, no_module, module_after, func_at};
-ghost use Rattle.wac_binary.specs.Growth.{Grows, AllGrow, Reach};
+ghost use Rattle.wac_binary.specs.Growth.{Grows, AllGrow, Reach, Reaches};
 ghost use Rattle.wac_types.specs.Core.{CoreItem};
 ghost use Rattle.wac_types.specs.declared.core_types.CoreType.{CoreType as OfCoreType};
 ghost use Rattle.wac_binary.specs.Meaning.{meaning, read, things, stands_for, thing_added};
@@ -34,23 +34,23 @@ pub fn law()
     ensures counted { (items : List Item) (t : OfSort) → length (things (meaning items) t) ≡ indexes (space t) items }
     ensures types_counted { (items : List Item) → length (meaning items).scope.types ≡ indexes (space s.Type) items }
     ensures instances_counted { (items : List Item) → length (meaning items).scope.instances ≡ indexes (space s.Instance) items }
+    ensures core_types_counted { (items : List Item) → length (meaning items).scope.core_types ≡ indexes core_types items }
     // one more item is read after the others, and its index is the next one of its sort
     ensures one_more { (items : List Item) (x : Item) → meaning (items ++ x ∷ []) ≡ read (meaning items) x }
     ensures new { (items : List Item) (x : Item) (t : OfSort) → sort_added x ≡ Some t
         → stands_for (meaning (items ++ x ∷ [])) t (indexes (space t) items) ≡ thing_added (meaning items) x }
     ensures new_type { (items : List Item) (d : TypeDef)
         → type_at (meaning (items ++ type_item d ∷ [])).scope.types (indexes (space s.Type) items) ≡ tree_of d (meaning items).scope [] }
+    ensures new_core_type { (items : List Item) (m : List ModuleDecl) → type_at (meaning (items ++ core_type m ∷ [])).scope.core_types (indexes core_types items) ≡ module_tree m }
     // earlier indexes keep what they stand for, and their trees
     ensures earlier { (items more : List Item) (t : OfSort) (i : ℕ) → i < indexes (space t) items
         → stands_for (meaning (items ++ more)) t i ≡ stands_for (meaning items) t i }
     ensures types_earlier { (items more : List Item) (i : ℕ) → i < indexes (space s.Type) items
         → type_at (meaning (items ++ more)).scope.types i ≡ type_at (meaning items).scope.types i }
-    ensures core_types_counted { (items : List Item) → length (meaning items).scope.core_types ≡ indexes core_types items }
-    ensures new_core_type { (items : List Item) (m : List ModuleDecl) → type_at (meaning (items ++ core_type m ∷ [])).scope.core_types (indexes core_types items) ≡ module_tree m }
-    ensures core_types_earlier { (items more : List Item) (i : ℕ) → i < indexes core_types items
-        → type_at (meaning (items ++ more)).scope.core_types i ≡ type_at (meaning items).scope.core_types i }
     ensures instances_earlier { (items more : List Item) (i : ℕ) → i < indexes (space s.Instance) items
         → bound_at (meaning (items ++ more)).scope.instances i ≡ bound_at (meaning items).scope.instances i }
+    ensures core_types_earlier { (items more : List Item) (i : ℕ) → i < indexes core_types items
+        → type_at (meaning (items ++ more)).scope.core_types i ≡ type_at (meaning items).scope.core_types i }
 {}
 
 /// What one more declaration adds to a scope, whatever scopes are around it; that it changes no earlier index there; and
@@ -77,6 +77,9 @@ pub fn scope_law()
     ensures root_grows { (items more : List Item) → Grows (meaning items).scope (meaning (items ++ more)).scope }
     ensures grows { (ds more : List Decl) (out : List Scope) → Grows (after (decls ds) empty out) (after (decls (ds ++ more)) empty out) }
     ensures around { (ds : Decls) (out new : List Scope) → AllGrow out new → Reach ds empty out → after ds empty new ≡ after ds empty out }
+    // each outer alias names an index that is there, where that held before the last declaration and holds of it; and it stays so
+    ensures reach_one_more { (ds : List Decl) (d : Decl) (out : List Scope) → Reach (decls ds) empty out → Reaches d (after (decls ds) empty out) out → Reach (decls (ds ++ d ∷ [])) empty out }
+    ensures reach_kept { (ds : Decls) (out new : List Scope) → AllGrow out new → Reach ds empty out → Reach ds empty new }
 {}
 
 /// That a function type of a core module type has the index that its writer answers, and keeps it.

@@ -2,7 +2,7 @@
 
 ghost use Rattle.std.specs.Prelude.{◌≡◌, List, ℕ, ◌+◌, ◌<◌, ◌≤◌, ◌^◌, ◌++◌, ◌∷◌, [], length, OnOk, OnErr, IfOk, IfErr, IfSome, ◌↔◌, IsTrue};
 ghost use Rattle.std.specs.List.{flat_map};
-ghost use Rattle.wac_binary.specs.Bytes.{alone, item_bytes, section_bytes, is_shared as shared};
+ghost use Rattle.wac_binary.specs.Bytes.{alone, item_bytes, section_bytes, section_id as id_of, is_shared as shared};
 ghost use Rattle.wac_binary.specs.Fits.{SectionFits};
 ghost use Rattle.wac_binary.specs.Leb.{unsigned};
 ghost use Rattle.wac_binary.specs.ItemView.{item_of, alone_of};
@@ -121,12 +121,12 @@ fn close(bytes: &mut Vec<u8>, last: Option<Open>, things: &[u8]) -> Result<(), A
     }
 }
 
-/// Writes an item at the end of an open section, or leaves its things as they were.
-fn join(things: &mut Vec<u8>, last: Open, item: &ItemRef<'_>) -> Result<Open, BinaryFault>
+/// Writes an item at the end of an open section, and answers how many things that has then; or leaves them as they were.
+fn join(things: &mut Vec<u8>, last: Open, item: &ItemRef<'_>) -> Result<u64, BinaryFault>
     requires { last.count < 2 ^ 32 }
-    ensures opened { IfOk result (λ o. o ≡ record last { count = last.count + 1 }) }
+    ensures counted { IfOk result (λ n. n ≡ last.count + 1) }
     ensures written { OnOk result (things.new.items ≡ things.old.items ++ item_bytes (item_of item.now)) }
-    ensures fits { IfOk result (λ o. SectionFits (section o things.new.items)) }
+    ensures fits { OnOk result (SectionFits (section (record last { count = last.count + 1 }) things.new.items)) }
     ensures refused { OnErr result (things.new.items ≡ things.old.items) }
     ensures too_large { IfErr result (λ e. e ≡ TooLarge → ¬ SectionFits (section (record last { count = last.count + 1 }) (things.old.items ++ item_bytes (item_of item.now)))) }
 {
@@ -140,24 +140,25 @@ fn join(things: &mut Vec<u8>, last: Open, item: &ItemRef<'_>) -> Result<Open, Bi
         count: last.count + 1,
     };
     if fits(more, things) {
-        Ok(more)
+        Ok(more.count)
     } else {
         things.truncate(from);
         Err(BinaryFault::TooLarge)
     }
 }
 
-/// Writes an item into the open section, or into the next one, which is then the open one.
+/// Writes an item into the open section, or into the next one, which is then the open one, and answers how many things
+/// the open section has.
 pub(crate) fn put_shared(
     bytes: &mut Vec<u8>,
     things: &mut Vec<u8>,
     next: &mut Vec<u8>,
     last: Option<Open>,
     item: &ItemRef<'_>,
-) -> Result<Open, BinaryFault>
+) -> Result<u64, BinaryFault>
     requires { IfSome (section_of last things.old.items) SectionFits }
     ensures bytes { OnOk result (bytes.new.items ≡ bytes.old.items ++ flat_map section_bytes (before (section_of last things.old.items) (item_of item.now))) }
-    ensures opened { IfOk result (λ o. section o things.new.items ≡ next_section (section_of last things.old.items) (item_of item.now)) }
+    ensures opened { IfOk result (λ n. section (record { id = id_of (item_of item.now); count = n }) things.new.items ≡ next_section (section_of last things.old.items) (item_of item.now)) }
     ensures fits { OnOk result (SectionFits (next_section (section_of last things.old.items) (item_of item.now))) }
     ensures refused_bytes { OnErr result (bytes.new.items ≡ bytes.old.items) }
     ensures refused_things { OnErr result (things.new.items ≡ things.old.items) }

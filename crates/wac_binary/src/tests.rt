@@ -1,5 +1,6 @@
 mod customs;
 mod modules;
+mod refused;
 mod types;
 
 use crate::{

@@ -33,7 +33,11 @@ aliases_at a id n name result new had h =
     subst (λ o. IfSome o (λ m. AliasesOf (graph_of a) id m name result new)) (sym at) h
 
 no_interface : (k : ItemKind) → ((i : InterfaceId) → k ≡ item.Instance i → ⊥) → interface_of k ≡ None
+no_interface (item.TypeItem t) h = refl
 no_interface (item.Func f) h = refl
+no_interface (item.Component w) h = refl
+no_interface (item.Module m) h = refl
+no_interface (item.Value v) h = refl
 no_interface (item.Instance i) h = absurd (h i refl)
 
 pub not_instance : (a : Inside) (id : NodeId) (n : Node) (name : Name) (text : Bor (List ℕ)) → get a.nodes id.0 ≡ Some n → ((i : InterfaceId) → n.item_kind ≡ item.Instance i → ⊥) → text.now ≡ kind_text n.item_kind → Aliases (graph_of a) id name (Err (NodeIsNotAnInstance id text)) (graph_of a)

@@ -206,7 +206,6 @@ module _ (counted : Counted) (earlier : Earlier) (g : Graph) (sound : IsSound g)
     exports = refl;
     bytes = refl;
     packages = refl;
-    count = refl;
     numbers = λ k e wrong. cc;
     made = tt;
     stand = λ n node wrong there. cc;

@@ -4,11 +4,14 @@ use Rattle.std.specs.Prelude.{slice_get, nat_lt}
 use Rattle.std.proofs.lemmas.List.{append-nil, length-append}
 use Rattle.std.proofs.lemmas.Bool.Decides.{nat_tests}
 use Rattle.wac_types.specs.Name.{Name, option_case}
-use Rattle.wac_types.specs.Collection.{Collection, holds_type, item_of, with_func, with_interface, with_world}
+use Rattle.wac_types.specs.Collection.{Collection, holds_type, item_of, with_resource, with_func, with_defined, with_interface, with_world, with_module}
 use Rattle.wac_types.specs.Package.{with_instance_of, PackageParts, VersionParts, HoldsPackage}
 use Rattle.wac_graph.proofs.WrittenOrder.{slice_get-middle}
 use Rattle.wac_types.specs.declared.collection.Held.{Held}
+use Rattle.wac_types.specs.declared.component.Resource.{Resource}
 use Rattle.wac_types.specs.declared.component.FuncType.{FuncType}
+use Rattle.wac_types.specs.declared.component.DefinedType.{DefinedType}
+use Rattle.wac_types.specs.declared.core_types.ModuleType.{ModuleType}
 use Rattle.wac_types.specs.declared.component.Interface.{Interface}
 use Rattle.wac_types.specs.declared.component.World.{World}
 use Rattle.wac_types.specs.declared.component.WorldId.{WorldId}
@@ -30,32 +33,71 @@ get_left [] ys k h = absurd (omega arith)
 get_left (x ∷ xs) ys zero h = refl
 get_left (x ∷ xs) ys (suc k) h = get_left xs ys k (omega arith)
 
-pub extends_by : (c d : Collection) (fs : List (Held FuncType)) (is : List (Held Interface)) (ws : List (Held World)) → d.funcs ≡ c.funcs ++ fs → d.interfaces ≡ c.interfaces ++ is → d.worlds ≡ c.worlds ++ ws → Extends c d
-extends_by c d fs is ws funcs interfaces worlds = record {
+-- the first has all lists of the second, perhaps with more behind
+pub record HasMore (c d : Collection) : Type 0 where
+  pub resources : List (Held Resource)
+  pub funcs : List (Held FuncType)
+  pub defined : List (Held DefinedType)
+  pub interfaces : List (Held Interface)
+  pub worlds : List (Held World)
+  pub modules : List (Held ModuleType)
+  pub resources_are : d.resources ≡ c.resources ++ resources
+  pub funcs_are : d.funcs ≡ c.funcs ++ funcs
+  pub defined_are : d.defined ≡ c.defined ++ defined
+  pub interfaces_are : d.interfaces ≡ c.interfaces ++ interfaces
+  pub worlds_are : d.worlds ≡ c.worlds ++ worlds
+  pub modules_are : d.modules ≡ c.modules ++ modules
+
+lt_list : {A : Type 0} (k : ℕ) (xs ys zs : List (Held A)) → zs ≡ xs ++ ys → nat_lt k (length xs) ≡ true → nat_lt k (length zs) ≡ true
+lt_list k xs ys zs is h = ap (λ (l : List (Held _)). nat_lt k (length l)) is ∙ lt_more k xs ys h
+
+pub extends_by : (c d : Collection) → HasMore c d → Extends c d
+extends_by c d m = record {
   held = held;
-  interfaces = λ i h. ap (λ (xs : List (Held Interface)). option_case (item_of (slice_get xs i.0)) [] (λ x. x.exports)) interfaces ∙ ap (λ o. option_case (item_of o) [] (λ x. x.exports)) (get_left c.interfaces is i.0 (lt_length i.0 c.interfaces h));
-  worlds = λ w h. ap (λ (xs : List (Held World)). option_case (item_of (slice_get xs w.0)) [] (λ x. x.exports)) worlds ∙ ap (λ o. option_case (item_of o) [] (λ x. x.exports)) (get_left c.worlds ws w.0 (lt_length w.0 c.worlds h));
+  interfaces = λ i h. ap (λ (xs : List (Held Interface)). option_case (item_of (slice_get xs i.0)) [] (λ x. x.exports)) m.interfaces_are ∙ ap (λ o. option_case (item_of o) [] (λ x. x.exports)) (get_left c.interfaces m.interfaces i.0 (lt_length i.0 c.interfaces h));
+  worlds = λ w h. ap (λ (xs : List (Held World)). option_case (item_of (slice_get xs w.0)) [] (λ x. x.exports)) m.worlds_are ∙ ap (λ o. option_case (item_of o) [] (λ x. x.exports)) (get_left c.worlds m.worlds w.0 (lt_length w.0 c.worlds h));
 } where
   held : (t : AnyType) → holds_type c t ≡ true → holds_type d t ≡ true
-  held (ty.Func f) h = ap (λ (xs : List (Held FuncType)). nat_lt f.0 (length xs)) funcs ∙ lt_more f.0 c.funcs fs h
+  held (ty.Resource r) h = lt_list r.0 c.resources m.resources d.resources m.resources_are h
+  held (ty.Func f) h = lt_list f.0 c.funcs m.funcs d.funcs m.funcs_are h
   held (ty.Value (val.Primitive p)) h = refl
-  held (ty.Interface i) h = ap (λ (xs : List (Held Interface)). nat_lt i.0 (length xs)) interfaces ∙ lt_more i.0 c.interfaces is h
-  held (ty.World w) h = ap (λ (xs : List (Held World)). nat_lt w.0 (length xs)) worlds ∙ lt_more w.0 c.worlds ws h
+  held (ty.Value (val.Borrow r)) h = lt_list r.0 c.resources m.resources d.resources m.resources_are h
+  held (ty.Value (val.Own r)) h = lt_list r.0 c.resources m.resources d.resources m.resources_are h
+  held (ty.Value (val.Defined t)) h = lt_list t.0 c.defined m.defined d.defined m.defined_are h
+  held (ty.Interface i) h = lt_list i.0 c.interfaces m.interfaces d.interfaces m.interfaces_are h
+  held (ty.World w) h = lt_list w.0 c.worlds m.worlds d.worlds m.worlds_are h
+  held (ty.Module k) h = lt_list k.0 c.modules m.modules d.modules m.modules_are h
 
 nil : {A : Type 0} (xs : List A) → xs ≡ xs ++ []
 nil xs = rw append-nil refl
 
+has_more : (c d : Collection) (resources : List (Held Resource)) (funcs : List (Held FuncType)) (defined : List (Held DefinedType)) (interfaces : List (Held Interface)) (worlds : List (Held World)) (modules : List (Held ModuleType))
+    → d.resources ≡ c.resources ++ resources → d.funcs ≡ c.funcs ++ funcs → d.defined ≡ c.defined ++ defined → d.interfaces ≡ c.interfaces ++ interfaces → d.worlds ≡ c.worlds ++ worlds → d.modules ≡ c.modules ++ modules → HasMore c d
+has_more c d resources funcs defined interfaces worlds modules r f t i w m = record {
+  resources = resources; funcs = funcs; defined = defined; interfaces = interfaces; worlds = worlds; modules = modules;
+  resources_are = r; funcs_are = f; defined_are = t; interfaces_are = i; worlds_are = w; modules_are = m;
+}
+
 pub extends_itself : (c : Collection) → Extends c c
-extends_itself c = extends_by c c [] [] [] (nil c.funcs) (nil c.interfaces) (nil c.worlds)
+extends_itself c = extends_by c c (has_more c c [] [] [] [] [] [] (nil c.resources) (nil c.funcs) (nil c.defined) (nil c.interfaces) (nil c.worlds) (nil c.modules))
+
+pub extends_resource : (c : Collection) (r : Resource) → Extends c (with_resource c r)
+extends_resource c r = extends_by c (with_resource c r) (has_more c (with_resource c r) _ [] [] [] [] [] refl (nil c.funcs) (nil c.defined) (nil c.interfaces) (nil c.worlds) (nil c.modules))
 
 pub extends_func : (c : Collection) (f : FuncType) → Extends c (with_func c f)
-extends_func c f = extends_by c (with_func c f) _ [] [] refl (nil c.interfaces) (nil c.worlds)
+extends_func c f = extends_by c (with_func c f) (has_more c (with_func c f) [] _ [] [] [] [] (nil c.resources) refl (nil c.defined) (nil c.interfaces) (nil c.worlds) (nil c.modules))
+
+pub extends_defined : (c : Collection) (t : DefinedType) → Extends c (with_defined c t)
+extends_defined c t = extends_by c (with_defined c t) (has_more c (with_defined c t) [] [] _ [] [] [] (nil c.resources) (nil c.funcs) refl (nil c.interfaces) (nil c.worlds) (nil c.modules))
 
 pub extends_interface : (c : Collection) (i : Interface) → Extends c (with_interface c i)
-extends_interface c i = extends_by c (with_interface c i) [] _ [] (nil c.funcs) refl (nil c.worlds)
+extends_interface c i = extends_by c (with_interface c i) (has_more c (with_interface c i) [] [] [] _ [] [] (nil c.resources) (nil c.funcs) (nil c.defined) refl (nil c.worlds) (nil c.modules))
 
 pub extends_world : (c : Collection) (w : World) → Extends c (with_world c w)
-extends_world c w = extends_by c (with_world c w) [] [] _ (nil c.funcs) (nil c.interfaces) refl
+extends_world c w = extends_by c (with_world c w) (has_more c (with_world c w) [] [] [] [] _ [] (nil c.resources) (nil c.funcs) (nil c.defined) (nil c.interfaces) refl (nil c.modules))
+
+pub extends_module : (c : Collection) (m : ModuleType) → Extends c (with_module c m)
+extends_module c m = extends_by c (with_module c m) (has_more c (with_module c m) [] [] [] [] [] _ (nil c.resources) (nil c.funcs) (nil c.defined) (nil c.interfaces) (nil c.worlds) refl)
 
 -- what an adder leaves
 pub extends_result : {Id E : Type 0} (P : Id → Type 0) (result : Result Id E) (c d more : Collection) → Extends c more → IfOk result (λ id. P id × (d ≡ more)) → OnErr result (d ≡ c) → Extends c d

@@ -56,10 +56,6 @@ things-scope r c sort.«Type» = refl
 things-scope r c sort.Component = refl
 things-scope r c sort.Instance = refl
 
-pub components-with_thing : (r : Root) (k : ItemKind) (x : Thing) → (with_thing r (sort_of_kind k) x).components ≡ r.components
-components-with_thing r (item.Func f) x = refl
-components-with_thing r (item.Instance i) x = refl
-
 pub thing_at-last : (ts : List Thing) (t : Thing) → thing_at (ts ++ t ∷ []) (length ts) ≡ t
 thing_at-last [] t = refl
 thing_at-last (s ∷ ts) t = thing_at-last ts t
@@ -81,9 +77,6 @@ alias_stands items t c name i is =
 -- an alias adds to nothing else
 pub alias_rest : (items : List Item) (t : Sort) (c : ℕ) (name : Name) → rest (meaning (items ++ alias_item (export_alias t c name) ∷ [])) ≡ rest (meaning items)
 alias_rest items t c name = ap rest (meaning-push items (alias_item (export_alias t c name))) ∙ rest-with_thing _ t _
-
-pub alias_components : (items : List Item) (k : ItemKind) (c : ℕ) (name : Name) → (meaning (items ++ alias_item (export_alias (sort_of_kind k) c name) ∷ [])).components ≡ (meaning items).components
-alias_components items k c name = ap (λ r. r.components) (meaning-push items (alias_item (export_alias (sort_of_kind k) c name))) ∙ components-with_thing _ k _
 
 -- what an export adds
 pub export_shown : (items : List Item) (t : Sort) (i : ℕ) (name : Name) → map shown (meaning (items ++ export_item name t i ∷ [])).exports ≡ map shown (meaning items).exports ++ (name, t, stands_for (meaning items) t i) ∷ []

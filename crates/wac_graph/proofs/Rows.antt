@@ -36,9 +36,12 @@ of_function = item.Func (record { 0 = 0 })
 
 abbrev types : Collection
 types = record {
+  resources = [];
+  defined = [];
+  modules = [];
   funcs = record { item = record { params = []; result = None; is_async = false }; before = 0 } ∷ [];
-  interfaces = record { item = record { id = None; exports = (97 ∷ [], of_function) ∷ [] }; before = 2 } ∷ record { item = record { id = None; exports = [] }; before = 4 } ∷ [];
-  worlds = record { item = record { id = None; imports = []; exports = (97 ∷ [], of_function) ∷ [] }; before = 1 } ∷ record { item = record { id = None; imports = (98 ∷ [], of_function) ∷ []; exports = [] }; before = 3 } ∷ [];
+  interfaces = record { item = record { id = None; uses = []; exports = (97 ∷ [], of_function) ∷ [] }; before = 2 } ∷ record { item = record { id = None; uses = []; exports = [] }; before = 4 } ∷ [];
+  worlds = record { item = record { id = None; uses = []; imports = []; exports = (97 ∷ [], of_function) ∷ [] }; before = 1 } ∷ record { item = record { id = None; uses = []; imports = (98 ∷ [], of_function) ∷ []; exports = [] }; before = 3 } ∷ [];
 }
 
 abbrev first : PackageId

@@ -90,7 +90,11 @@ some_is o n is = ap is_some is
 exports_same : (c : Collection) (g : Graph) (node : GraphNode) → Extends g.types c → holds_type g.types (kind_type node.item_kind) ≡ true → exports_of (record g { types = c }) node ≡ exports_of g node
 exports_same c g node more held = by_kind node.item_kind refl where
   by_kind : (k : ItemKind) → node.item_kind ≡ k → exports_of (record g { types = c }) node ≡ exports_of g node
+  by_kind (item.TypeItem t) is = rw is refl
   by_kind (item.Func f) is = rw is refl
+  by_kind (item.Component w) is = rw is refl
+  by_kind (item.Module m) is = rw is refl
+  by_kind (item.Value v) is = rw is refl
   by_kind (item.Instance i) is = rw is (more.interfaces i (sym (ap (λ k. holds_type g.types (kind_type k)) is) ∙ held))
 
 module _ (g : Graph) (s : IsSound g) where

@@ -1,5 +1,5 @@
 -- What the fields say of aliases and exports that are written.
-use Rattle.std.proofs.Common.{◌≡◌, ℕ, suc, ◌+◌, ◌<◌, ◌≤◌, true, false, List, [], ◌∷◌, ◌++◌, length, take, ap, ◌∙◌, sym, subst, arith, Some, None, IfSome, IsSomeAnd, is_some, String, Global, string_bytes}
+use Rattle.std.proofs.Common.{refl, ◌≡◌, ℕ, suc, ◌+◌, ◌<◌, ◌≤◌, true, false, List, [], ◌∷◌, ◌++◌, length, take, ap, ◌∙◌, sym, subst, arith, Some, None, IfSome, IsSomeAnd, is_some, String, Global, string_bytes}
 use Rattle.std.specs.Prelude.{slice_get}
 use Rattle.std.specs.List.{flat_map}
 use Rattle.std.specs.Option.{option_map}
@@ -104,12 +104,20 @@ module _ (a : Inside) (v : Invariant a) (n : ℕ) (h : IsSomeAnd (node_at (graph
           one_node : {x y : Node} → Some x ≡ Some y → x ≡ y
           one_node p = cc
 
-    pub source_is_instance : (s : Node) (f : FuncTypeId) → get a.nodes source ≡ Some s → s.item_kind ≡ item.Func f → ⊥
-    source_is_instance s f had is =
+    pub source_is_instance : (s : Node) → get a.nodes source ≡ Some s → ((i : InterfaceId) → s.item_kind ≡ item.Instance i → ⊥) → ⊥
+    source_is_instance s had other =
         let (m, at, _) = some_node a n (λ x. x.kind ≡ graph.alias) h in
         let (name, exported) = source_exports s m had at in
-        nothing (ap (λ k. slice_get (exports_of (graph_of a) (record (node_of s) { item_kind = k })) position) (sym is) ∙ exported) where
-          nothing : {e : Name × ItemKind} → None ≡ Some e → ⊥
+        nothing (sym (ap (λ (es : List (Name × ItemKind)). slice_get es position) (no_exports s.item_kind other)) ∙ exported) where
+          no_exports : (k : ItemKind) → ((i : InterfaceId) → k ≡ item.Instance i → ⊥) → exports_of (graph_of a) (record (node_of s) { item_kind = k }) ≡ []
+          no_exports (item.TypeItem t) not = refl
+          no_exports (item.Func f) not = refl
+          no_exports (item.Instance i) not = absurd (not i refl)
+          no_exports (item.Component w) not = refl
+          no_exports (item.Module m) not = refl
+          no_exports (item.Value v) not = refl
+
+          nothing : {e : Name × ItemKind} → slice_get [] position ≡ Some e → ⊥
           nothing p = cc
 
     -- the position is one of the interface's exports

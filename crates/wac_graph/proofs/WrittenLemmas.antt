@@ -39,10 +39,6 @@ clash : (b : Bool) → b ≡ true → b ≡ false → ⊥
 clash true _ h = cc
 clash false h _ = cc
 
-kind_sort_apart : (k : ItemKind) → is_in (space sort.Component) (Some (space (sort_of_kind k))) ≡ 0
-kind_sort_apart (item.Func f) = refl
-kind_sort_apart (item.Instance i) = refl
-
 slice_get-push : {A : Type 0} (xs : List A) (x : A) (k : ℕ) (y : A) → slice_get (xs ++ x ∷ []) k ≡ Some y → (slice_get xs k ≡ Some y) ⊎ ((k ≡ length xs) × (y ≡ x))
 slice_get-push [] x zero y h = inr (refl, cc)
 slice_get-push [] x (suc k) y h = cc
@@ -129,8 +125,7 @@ module _ (counted : Counted) (earlier : Earlier) (g : Graph) (sound : IsSound g)
     pub exports : (meaning items).exports ≡ []
     pub bytes : (meaning items).nested_bytes ≡ map (package_bytes g) used
     pub packages : map (λ e. e.0) components ≡ used
-    pub count : indexes (space sort.Component) items ≡ length components
-    pub numbers : (k : ℕ) (e : PackageId × ℕ) → slice_get components k ≡ Some e → (e.1 ≡ k) × (stands_for (meaning items) sort.Component k ≡ component_at k)
+    pub numbers : (k : ℕ) (e : PackageId × ℕ) → slice_get components k ≡ Some e → (e.1 < indexes (space sort.Component) items) × (stands_for (meaning items) sort.Component e.1 ≡ component_at k)
     pub made : AreInstantiations g at order (instantiations g done) (meaning items).instantiations
     pub stand : (n : ℕ) (node : GraphNode) → has done n ≡ true → node_at g (node_number n) ≡ Some node
         → (index n < indexes (space (sort_of_kind node.item_kind)) items) × (stands_for (meaning items) (sort_of_kind node.item_kind) (index n) ≡ at n)
@@ -145,6 +140,13 @@ module _ (counted : Counted) (earlier : Earlier) (g : Graph) (sound : IsSound g)
         let s = w.stand n node here there in
         (omega (arith, s.0, indexes-push (space (sort_of_kind node.item_kind)) items x), earlier items (x ∷ []) (sort_of_kind node.item_kind) (index n) s.0 ∙ s.1)
 
+    -- a component keeps its index
+    kept_number : (x : Item) (k : ℕ) (e : PackageId × ℕ) → slice_get components k ≡ Some e
+        → (e.1 < indexes (space sort.Component) (items ++ x ∷ [])) × (stands_for (meaning (items ++ x ∷ [])) sort.Component e.1 ≡ component_at k)
+    kept_number x k e there =
+        let n = w.numbers k e there in
+        (omega (arith, n.0, indexes-push (space sort.Component) items x), earlier items (x ∷ []) sort.Component e.1 n.0 ∙ n.1)
+
     -- a component more
     component_more : (id : PackageId) → list_any (same_package id) used ≡ false
         → Written done (used ++ id ∷ []) (items ++ nested (package_bytes g id) ∷ []) (components ++ (id, indexes (space sort.Component) items) ∷ []) index
@@ -158,7 +160,6 @@ module _ (counted : Counted) (earlier : Earlier) (g : Graph) (sound : IsSound g)
           exports = ap (λ r. r.exports) more ∙ w.exports;
           bytes = ap (λ r. r.nested_bytes) more ∙ ap (λ bs. bs ++ package_bytes g id ∷ []) w.bytes ∙ sym (map-append (package_bytes g) used (id ∷ []));
           packages = map-append (λ e. e.0) components ((id, indexes (space sort.Component) items) ∷ []) ∙ ap (λ us. us ++ id ∷ []) w.packages;
-          count = omega (arith, indexes-push (space sort.Component) items (nested (package_bytes g id)), w.count, length-append components ((id, indexes (space sort.Component) items) ∷ []));
           numbers = λ k e at_k. numbers many k e (slice_get-push components (id, indexes (space sort.Component) items) k e at_k);
           made = subst (λ made. AreInstantiations g at order (instantiations g done) made) (sym (ap (λ r. r.instantiations) more)) w.made;
           stand = stand-push (nested (package_bytes g id));
@@ -168,14 +169,12 @@ module _ (counted : Counted) (earlier : Earlier) (g : Graph) (sound : IsSound g)
         } where
           numbers : length (meaning items).nested_bytes ≡ length components → (k : ℕ) (e : PackageId × ℕ)
               → (slice_get components k ≡ Some e) ⊎ ((k ≡ length components) × (e ≡ (id, indexes (space sort.Component) items)))
-              → (e.1 ≡ k) × (stands_for (meaning (items ++ nested (package_bytes g id) ∷ [])) sort.Component k ≡ component_at k)
-          numbers many k e (inl before) =
-              let n = w.numbers k e before in
-              let small : k < indexes (space sort.Component) items = let s = slice_get_within components k e before in omega (arith, w.count) in
-              (n.0, earlier items (nested (package_bytes g id) ∷ []) sort.Component k small ∙ n.1)
+              → (e.1 < indexes (space sort.Component) (items ++ nested (package_bytes g id) ∷ [])) × (stands_for (meaning (items ++ nested (package_bytes g id) ∷ [])) sort.Component e.1 ≡ component_at k)
+          numbers many k e (inl before) = kept_number (nested (package_bytes g id)) k e before
           numbers many k e (inr (last, is)) = (
-            ap (λ x. x.1) is ∙ w.count ∙ sym last,
-            nested_stands items (package_bytes g id) k (last ∙ sym w.count ∙ sym (counted items sort.Component)) ∙ ap component_at (many ∙ sym last),
+            subst (λ j. j < indexes (space sort.Component) (items ++ nested (package_bytes g id) ∷ [])) (sym (ap (λ x. x.1) is)) (counted_up sort.Component items (nested (package_bytes g id)) refl),
+            ap (stands_for (meaning (items ++ nested (package_bytes g id) ∷ [])) sort.Component) (ap (λ x. x.1) is)
+            ∙ nested_stands items (package_bytes g id) (indexes (space sort.Component) items) (sym (counted items sort.Component)) ∙ ap component_at (many ∙ sym last),
           )
 
   -- the component of a package, which is written where it was not
@@ -187,7 +186,7 @@ module _ (counted : Counted) (earlier : Earlier) (g : Graph) (sound : IsSound g)
       let is : with_package used (Some id) ≡ used = ap (λ b. cond b used (used ++ id ∷ [])) (any_package id used k there) in
       let n = w.numbers k (id, c) at_k in (
         subst (λ us. Written done us mid after index) (sym is) (subst (λ cs. Written done used mid cs index) (sym same) (subst (λ its. Written done used its components index) (sym kept) w)),
-        (k, ap (λ us. slice_get us k) is ∙ there, ap (λ its. stands_for (meaning its) sort.Component c) kept ∙ ap (stands_for (meaning items) sort.Component) n.0 ∙ n.1),
+        (k, ap (λ us. slice_get us k) is ∙ there, ap (λ its. stands_for (meaning its) sort.Component c) kept ∙ n.1),
       )
   with_component done used items mid components after index id c w (inr (absent, number, grown, added)) =
       let none : list_any (same_package id) used ≡ false = ap (list_any (same_package id)) (sym w.packages) ∙ sym (any_first id components) ∙ absent in
@@ -203,7 +202,7 @@ module _ (counted : Counted) (earlier : Earlier) (g : Graph) (sound : IsSound g)
         (
           length components,
           ap (λ us. slice_get us (length components)) is ∙ ap (slice_get (used ++ id ∷ [])) (sym long) ∙ slice_get-middle used id [],
-          ap (λ its. stands_for (meaning its) sort.Component c) added ∙ ap (stands_for (meaning (items ++ nested (package_bytes g id) ∷ [])) sort.Component) (number ∙ n.0) ∙ n.1,
+          ap (λ its. stands_for (meaning its) sort.Component c) added ∙ ap (stands_for (meaning (items ++ nested (package_bytes g id) ∷ [])) sort.Component) number ∙ n.1,
         ),
       )
 
@@ -314,8 +313,7 @@ module _ (counted : Counted) (earlier : Earlier) (g : Graph) (sound : IsSound g)
           exports = ap (λ r. r.exports) more ∙ w.exports;
           bytes = ap (λ r. r.nested_bytes) more ∙ w.bytes;
           packages = w.packages;
-          count = indexes-push (space sort.Component) items x ∙ (let apart_ = kind_sort_apart node.item_kind in omega (arith, w.count));
-          numbers = λ j e at_j. let c = w.numbers j e at_j in (c.0, earlier items (x ∷ []) sort.Component j (let s = slice_get_within components j e at_j in omega (arith, w.count)) ∙ c.1);
+          numbers = kept_number done used items components index w x;
           made = subst (λ ns. AreInstantiations g at order ns (meaning (items ++ x ∷ [])).instantiations) (sym (instantiations-push false (kind_test false (ap is_instantiation kind)) ∙ rw append-nil refl))
               (subst (λ made. AreInstantiations g at order (instantiations g done) made) (sym (ap (λ r. r.instantiations) more)) w.made);
           stand = each (λ m other. (index' m < indexes (space (sort_of_kind other.item_kind)) (items ++ x ∷ [])) × (stands_for (meaning (items ++ x ∷ [])) (sort_of_kind other.item_kind) (index' m) ≡ at m))
@@ -331,12 +329,21 @@ module _ (counted : Counted) (earlier : Earlier) (g : Graph) (sound : IsSound g)
           nodes m (inl same) = ap (is_written g) same ∙ (minus-true (is_written g) done n ready.here).0
           nodes m (inr was) = w.nodes m was
 
+          -- what is no instance exports nothing
+          no_instance : (q : ItemKind) (z : GraphNode) → z.item_kind ≡ q → exports_of g z ≡ [] → slice_get (exports_of g z) k ≡ Some (name, node.item_kind) → sort_of_kind q ≡ sort.Instance
+          no_instance q z is none found = absurd (nothing_there (exports_of g z) none found) where
+            nothing_there : (es : List (Name × ItemKind)) → es ≡ [] → slice_get es k ≡ Some (name, node.item_kind) → ⊥
+            nothing_there [] none found = cc
+            nothing_there (e ∷ es) none found = cc
+
           -- an instance stands where instances do
           instance_sort : (q : ItemKind) (z : GraphNode) → z.item_kind ≡ q → slice_get (exports_of g z) k ≡ Some (name, node.item_kind) → sort_of_kind q ≡ sort.Instance
-          instance_sort (item.Func f) z is found = let e : slice_get [] k ≡ Some (name, node.item_kind) = rw is at found in absurd (nothing_there k e) where
-            nothing_there : (j : ℕ) {A : Type 0} {v : A} → slice_get [] j ≡ Some v → ⊥
-            nothing_there j e = cc
+          instance_sort (item.TypeItem t) z is found = no_instance (item.TypeItem t) z is (rw is refl) found
+          instance_sort (item.Func f) z is found = no_instance (item.Func f) z is (rw is refl) found
           instance_sort (item.Instance j) z is found = refl
+          instance_sort (item.Component u) z is found = no_instance (item.Component u) z is (rw is refl) found
+          instance_sort (item.Module m) z is found = no_instance (item.Module m) z is (rw is refl) found
+          instance_sort (item.Value v) z is found = no_instance (item.Value v) z is (rw is refl) found
 
           -- what the alias is
           is_projection : IsThing g at order n node → at n ≡ projection (at instance.0) name
@@ -390,8 +397,7 @@ module _ (counted : Counted) (earlier : Earlier) (g : Graph) (sound : IsSound g)
           exports = ap (λ r. r.exports) more ∙ w.exports;
           bytes = ap (λ r. r.nested_bytes) more ∙ w.bytes;
           packages = w.packages;
-          count = indexes-push (space sort.Component) items x ∙ omega (arith, w.count);
-          numbers = λ j e at_j. let m = w.numbers j e at_j in (m.0, earlier items (x ∷ []) sort.Component j (let s = slice_get_within components j e at_j in omega (arith, w.count)) ∙ m.1);
+          numbers = kept_number done used items components index w x;
           made = subst (λ ns. AreInstantiations g at order ns (meaning (items ++ x ∷ [])).instantiations) (sym (instantiations-push true (kind_test true (ap is_instantiation kind))))
               (subst (λ made. AreInstantiations g at order (instantiations g done ++ n ∷ []) made) (sym (ap (λ r. r.instantiations) more))
               (are_push (instantiations g done) (meaning items).instantiations w.made this));

@@ -4,8 +4,8 @@ use Rattle.std.specs.List.{flat_map, list_any}
 use Rattle.std.specs.FinMap as finite
 use Rattle.std.specs.FinSet as set
 use Rattle.wac_types.specs.Name.{Name, same_name}
-use Rattle.wac_types.specs.Tree.{Tree, absent, instance, instance_item}
-use Rattle.wac_types.specs.Held.{unfolded, item_tree}
+use Rattle.wac_types.specs.Tree.{imported, Tree, absent, instance, instance_item}
+use Rattle.wac_types.specs.Bound.{held_item}
 use Rattle.wac_types.specs.declared.component.ItemKind.{ItemKind}
 use Rattle.wac_graph.specs.declared.edges.Label.{Label}
 use Rattle.wac_graph.specs.declared.edges.Label.TheVariants.{Argument}
@@ -77,7 +77,7 @@ union_all (t ∷ ts) = union t (union_all ts)
 
 -- the item that a class is: the union of its members' items
 abbrev pub merged : Graph → Name → Tree
-merged g name = union_all (map (λ e. item_tree (unfolded g.types) e.kind) (members (asked g) name))
+merged g name = union_all (map (λ e. held_item g.types (λ r. None) imported [] e.kind) (members (asked g) name))
 
 -- the imports: each class under its name with its merged item
 abbrev pub outer_imports : Graph → List (Name × Tree)

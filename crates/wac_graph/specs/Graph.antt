@@ -9,7 +9,7 @@ use Rattle.wac_types.specs.Collection.{Collection, interface_exports, world_impo
 use Rattle.wac_types.specs.Package.{PackageParts, Key}
 use Rattle.wac_types.specs.declared.component.InterfaceId.{InterfaceId}
 use Rattle.wac_types.specs.declared.component.ItemKind.{ItemKind}
-use Rattle.wac_types.specs.declared.component.ItemKind.TheVariants.{Func, Instance}
+use Rattle.wac_types.specs.declared.component.ItemKind.TheVariants.{Instance}
 use Rattle.wac_graph.specs.declared.node.NodeId.{NodeId}
 use Rattle.wac_graph.specs.declared.packages.PackageId.{PackageId}
 use Rattle.wac_graph.specs.declared.packages.Slot.{Slot}
@@ -73,8 +73,8 @@ package_of g n = option_and_then (package_at g) n.owner
 
 -- the interface of an instance
 abbrev pub interface_of : ItemKind → Option InterfaceId
-interface_of (Func f) = None
 interface_of (Instance i) = Some i
+interface_of _ = None
 
 -- what an instance exports
 abbrev pub exports_of : Graph → GraphNode → List (Name × ItemKind)

@@ -17,8 +17,12 @@ use Rattle.wac_graph.specs.Asked.{outer_imports, class_position}
 
 -- the sort of the index of an item
 abbrev pub sort_of_kind : ItemKind → Sort
+sort_of_kind (item.TypeItem t) = sort.«Type»
 sort_of_kind (item.Func f) = sort.Func
 sort_of_kind (item.Instance i) = sort.Instance
+sort_of_kind (item.Component w) = sort.Component
+sort_of_kind (item.Module m) = sort.CoreModule
+sort_of_kind (item.Value v) = sort.Value
 
 abbrev pub is_import : Kind → Bool
 is_import (import name) = true

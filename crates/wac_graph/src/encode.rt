@@ -336,7 +336,11 @@ fn sort_of(kind: ItemKind) -> Sort
     ensures { result ≡ sort_of_kind kind }
 {
     match kind {
+        ItemKind::TypeItem(_) => Sort::Type,
         ItemKind::Func(_) => Sort::Func,
         ItemKind::Instance(_) => Sort::Instance,
+        ItemKind::Component(_) => Sort::Component,
+        ItemKind::Module(_) => Sort::CoreModule,
+        ItemKind::Value(_) => Sort::Value,
     }
 }

@@ -3,8 +3,9 @@ ghost use Rattle.std.specs.Prelude.{◌≡◌, ◌≢◌, ◌↔◌, ◌⊎◌, 
 ghost use Rattle.std.specs.Option.{option_map, option_and_then, option_copied};
 ghost use Rattle.slab.specs.Slab.{ContainsKey, get, with_value};
 ghost use Rattle.semver.specs.Identifiers.{parts_of};
-ghost use Rattle.wac_types.specs.Collection.{holds_type, kind_type, item_at, holds_func, holds_interface, holds_world, with_func, with_interface, with_world};
-ghost use Rattle.wac_types.specs.Package.{HoldsPackage, with_instance_of};
+ghost use Rattle.wac_types.specs.Collection.{holds_type, kind_type, item_at, resource_mentions, func_mentions, defined_mentions, with_resource, with_func, with_defined, with_interface, with_world, with_module};
+ghost use Rattle.wac_types.specs.Package.{HoldsPackage, with_instance_of, package_fault};
+ghost use Rattle.wac_types.specs.Uses.{AnswersBy, mention_fault, interface_fault, world_fault};
 ghost use Rattle.wac_types.specs.Named.{named_at};
 ghost use Rattle.wac_types.specs.declared.component.«Type».TheVariants.{World as world_type};
 ghost use Rattle.wac_graph.specs.Graph.{node_at, package_at, export_at, package_in, import_name};
@@ -26,8 +27,9 @@ use std::collections::BTreeSet;
 use std::marker::Model;
 use std::ops::Index;
 use wac_types::{
-    AddTypeError, FuncType, FuncTypeId, Interface, InterfaceId, ItemKind, Package, PackageKey,
-    Types, World, WorldId,
+    AddTypeError, DefinedType, DefinedTypeId, FuncType, FuncTypeId, Interface, InterfaceId,
+    ItemKind, ModuleType, ModuleTypeId, Package, PackageKey, Resource, ResourceId, Types, World,
+    WorldId,
 };
 
 /// A composition graph.
@@ -100,18 +102,34 @@ impl CompositionGraph {
         }
     }
 
+    /// Adds a resource to the collection; refused as by [`Types::add_resource`], and then nothing has changed.
+    pub fn add_resource(&mut self, resource: Resource) -> Result<ResourceId, AddTypeError>
+        ensures added { Adds self.old result self.new (λ id types. (id.0 ≡ length self.old.types.resources) × (types ≡ with_resource self.old.types resource)) }
+        ensures fault { AnswersBy (mention_fault self.old.types (resource_mentions resource)) result }
+    {
+        self.types.add_resource(resource)
+    }
+
     /// Adds a function type to the collection; refused as by [`Types::add_func_type`], and then nothing has changed.
     pub fn add_func_type(&mut self, func: FuncType) -> Result<FuncTypeId, AddTypeError>
         ensures added { Adds self.old result self.new (λ id types. (id.0 ≡ length self.old.types.funcs) × (types ≡ with_func self.old.types func)) }
-        ensures not_held { (result ≡ Err AddTypeError.NotHeld) ↔ (holds_func self.old.types func ≡ false) }
+        ensures fault { AnswersBy (mention_fault self.old.types (func_mentions func)) result }
     {
         self.types.add_func_type(func)
+    }
+
+    /// Adds a defined type to the collection; refused as by [`Types::add_defined_type`], and then nothing has changed.
+    pub fn add_defined_type(&mut self, defined: DefinedType) -> Result<DefinedTypeId, AddTypeError>
+        ensures added { Adds self.old result self.new (λ id types. (id.0 ≡ length self.old.types.defined) × (types ≡ with_defined self.old.types defined)) }
+        ensures fault { AnswersBy (mention_fault self.old.types (defined_mentions defined)) result }
+    {
+        self.types.add_defined_type(defined)
     }
 
     /// Adds an interface to the collection; refused as by [`Types::add_interface`], and then nothing has changed.
     pub fn add_interface(&mut self, interface: Interface) -> Result<InterfaceId, AddTypeError>
         ensures added { Adds self.old result self.new (λ id types. (id.0 ≡ length self.old.types.interfaces) × (types ≡ with_interface self.old.types interface)) }
-        ensures not_held { (result ≡ Err AddTypeError.NotHeld) ↔ (holds_interface self.old.types interface ≡ false) }
+        ensures fault { AnswersBy (interface_fault self.old.types interface) result }
     {
         self.types.add_interface(interface)
     }
@@ -119,9 +137,17 @@ impl CompositionGraph {
     /// Adds a world to the collection; refused as by [`Types::add_world`], and then nothing has changed.
     pub fn add_world(&mut self, world: World) -> Result<WorldId, AddTypeError>
         ensures added { Adds self.old result self.new (λ id types. (id.0 ≡ length self.old.types.worlds) × (types ≡ with_world self.old.types world)) }
-        ensures not_held { (result ≡ Err AddTypeError.NotHeld) ↔ (holds_world self.old.types world ≡ false) }
+        ensures fault { AnswersBy (world_fault self.old.types world) result }
     {
         self.types.add_world(world)
+    }
+
+    /// Adds the type of a core module to the collection; refused as by [`Types::add_module_type`], and then nothing has changed.
+    pub fn add_module_type(&mut self, module_type: ModuleType) -> Result<ModuleTypeId, AddTypeError>
+        ensures added { Adds self.old result self.new (λ id types. (id.0 ≡ length self.old.types.modules) × (types ≡ with_module self.old.types module_type)) }
+        ensures fault { AnswersBy (None) result }
+    {
+        self.types.add_module_type(module_type)
     }
 
     /// A package of a held world, with these bytes; refused as by [`Package::new`], and then nothing has changed.
@@ -142,7 +168,7 @@ impl CompositionGraph {
         }) }
         ensures added { Adds self.old result self.new (λ p types. types ≡ with_instance_of self.old.types world) }
         ensures held { IfOk result (λ p. HoldsPackage self.new.types p) }
-        ensures never_not_held { result ≢ Err AddTypeError.NotHeld }
+        ensures fault { AnswersBy (package_fault self.old.types world) result }
     {
         Package::new(name, version, bytes, world, &mut self.types)
     }

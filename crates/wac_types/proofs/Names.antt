@@ -1,12 +1,11 @@
 -- Names, and lists under names.
-use Rattle.std.proofs.Common.{ℕ, zero, suc, Bool, true, false, not, cond, get_or, IsSome, nat_eq, ◌==◌, ◌&&◌, ◌≡◌, ◌≢◌, ◌<◌, ◌≤◌, ◌+◌, refl, sym, ap, ◌∙◌, subst, arith, List, [], ◌∷◌, ◌++◌, length, slice_get, take, map, Option, Some, None, string_bytes, ◌⊎◌, inl, inr, zero-add}
+use Rattle.std.proofs.Common.{ℕ, zero, suc, Bool, true, false, not, cond, get_or, IsSome, nat_eq, ◌==◌, ◌&&◌, ◌≡◌, ◌≢◌, ◌<◌, ◌+◌, refl, sym, ap, ◌∙◌, subst, arith, List, [], ◌∷◌, ◌++◌, length, slice_get, take, Option, Some, None, string_bytes, inl, inr, zero-add}
 use Rattle.std.proofs.lemmas.Bool.{cases_Bool, eqb-true, eq-eqb}
 use Rattle.std.specs.declared.string.String.{String}
-use Rattle.std.specs.List.{list_all}
 use Rattle.std.specs.Map.{lookup, lookup_key}
 use Rattle.std.specs.Borrow.{Bor}
 use Rattle.std.specs.Str.{bytes_eq}
-use Rattle.std.specs.Option.{option_map, option_copied}
+use Rattle.std.specs.Option.{option_copied}
 use Rattle.indexmap.specs.IndexMap.{insert_entry}
 use Rattle.wac_types.specs.Name.{Name, same_name, find_name}
 use Rattle.wac_types.specs.Named.{by_bytes, named_at, named_pairs, NoNameTwice}

@@ -1,89 +1,141 @@
--- Subtyping of what is held, from its parts.
-use Rattle.std.proofs.Common.{ℕ, zero, suc, max, Bool, true, false, IsTrue, cond, List, [], ◌∷◌, ◌≡◌, ◌≢◌, ◌<◌, ◌≤◌, ◌+◌, ◌&&◌, ◌↔◌, length, map, refl, ap, sym, ◌∙◌, subst, Option, Some, None, arith, nat_lt, slice_get, ◌⊎◌, inl, inr}
+-- Subtyping of items from that of their types, and of what is listed name by name.
+use Rattle.std.proofs.Common.{ℕ, zero, suc, not, Bool, true, false, cond, List, [], ◌∷◌, ◌++◌, ◌≡◌, ◌≢◌, ◌<◌, ◌≤◌, ◌+◌, length, map, refl, ap, sym, ◌∙◌, subst, Option, Some, None, arith, slice_get, ◌⊎◌, inl, inr, below_more}
 use Rattle.std.proofs.lemmas.Bool.{cases_Bool}
 use Rattle.std.specs.Option.{option_map}
-use Rattle.std.specs.List.{list_all, AllByRecursion}
+use Rattle.std.specs.List.{AllByRecursion}
 use Rattle.wac_types.specs.Name.{Name, same_name, find_name}
 use Rattle.wac_types.specs.Named.{NoNameTwice}
+use Rattle.wac_types.specs.declared.checker.Question.{Question}
 use Rattle.wac_types.specs.declared.collection.Held.{Held}
 use Rattle.wac_types.specs.declared.component.Interface.{Interface}
-use Rattle.wac_types.specs.declared.component.InterfaceId.{InterfaceId}
 use Rattle.wac_types.specs.declared.component.World.{World}
-use Rattle.wac_types.specs.declared.component.WorldId.{WorldId}
 use Rattle.wac_types.specs.declared.component.FuncType.{FuncType}
 use Rattle.wac_types.specs.declared.component.FuncTypeId.{FuncTypeId}
-use Rattle.wac_types.specs.declared.component.ValueType.TheVariants as val
+use Rattle.wac_types.specs.declared.component.InterfaceId.{InterfaceId}
+use Rattle.wac_types.specs.declared.component.WorldId.{WorldId}
+use Rattle.wac_types.specs.declared.component.ModuleTypeId.{ModuleTypeId}
+use Rattle.wac_types.specs.declared.component.ValueType.{ValueType}
 use Rattle.wac_types.specs.declared.component.«Type».{«Type» as AnyType}
 use Rattle.wac_types.specs.declared.component.«Type».TheVariants as ty
 use Rattle.wac_types.specs.declared.component.ItemKind.{ItemKind}
 use Rattle.wac_types.specs.declared.component.ItemKind.TheVariants as kind
-use Rattle.wac_types.specs.Collection.{Collection, size, seconds, IsWellFormed, IsBefore, AddedBefore, AreItemsBefore, kind_type, holds_type, holds_items, item_of, item_at}
-use Rattle.wac_types.specs.Tree.{TypeTree, absent, instance, component, module_of, type_equal, function_item, instance_item, component_item, module_item}
-use Rattle.wac_types.specs.Held.{items_under, item_tree, listed_tree}
-use Rattle.wac_types.specs.Subtype.{Sub, IsPlain, IsSubtype, type_tree, kind_tree}
-use Rattle.wac_types.specs.Compare.{func_in, listed_in, Offers, rank_of_held, kind_rank, kinds_rank, items_rank}
-use Rattle.wac_types.proofs.Names.{same_name-true, find_name-at, find_position}
-use Rattle.wac_types.proofs.Values.{false_not, not_true}
-use Rattle.wac_types.proofs.Unfolding.{held_item, within, func_opens, interface_opens}
+use Rattle.wac_types.specs.Collection.{Collection, size, kind_type, kind_types, used_types, world_mentions, IsBefore, AreBefore}
+use Rattle.wac_types.specs.Tree.{TypeTree, absent, instance, component, type_equal, function_item, instance_item, component_item, module_item, value_item}
+use Rattle.wac_types.specs.Held.{items_under, of_held, func_tree, unfolded_to}
+use Rattle.wac_types.specs.Subtype.{Sub, IsPlain, by_name, resource_names, type_tree, kind_tree}
+use Rattle.wac_types.specs.Compare.{value_in, listed_in, world_in, Offers, OffersBelow}
+use Rattle.wac_types.specs.Questions.{in_order, Settles, Asks}
+use Rattle.wac_types.proofs.Names.{find_name-at, find_position}
+use Rattle.wac_types.proofs.Unfolding.{all_left, all_right}
+use Rattle.wac_types.proofs.Values.{plain_sub, plain_same, value_plain, asks_now, asks_iff, asks_of, asks_then}
+use Rattle.wac_types.proofs.Agreeing.{kind_among, same_some}
 
 module _ {L : Type 0} where
-  -- what is plain is a subtype of its equal alone
-  pub plain_sub : (a b : TypeTree L) → IsPlain a → Sub a b → a ≡ b
-  plain_sub a b p (Sub.same _ q) = refl
-  plain_sub a b p (Sub.instances _ _ f) = absurd p
-  plain_sub a b p (Sub.components _ _ _ _ f g) = absurd p
-  plain_sub a b p (Sub.modules _ _ _ _ f g) = absurd p
-  plain_sub a b p (Sub.type_items _ _ s t) = absurd p
-  plain_sub a b p (Sub.instance_items _ _ s) = absurd p
-  plain_sub a b p (Sub.component_items _ _ s) = absurd p
-  plain_sub a b p (Sub.module_items _ _ s) = absurd p
-
-  pub plain_same : (a b : TypeTree L) → IsPlain a → a ≡ b → Sub a b
-  plain_same a b p e = let P : TypeTree L → Type 0 = λ x. Sub a x in subst P e (Sub.same a p)
-
   pub of_instances : (xs ys : Name → TypeTree L) → Sub (instance xs) (instance ys) → (n : Name) → ys n ≢ absent → Sub (xs n) (ys n)
   of_instances xs ys (Sub.same _ p) = absurd p
   of_instances xs ys (Sub.instances _ _ f) = f
 
-  pub of_instance_items : (a b : TypeTree L) → Sub (instance_item a) (instance_item b) → Sub a b
+  pub of_components : (xi xe yi ye : Name → TypeTree L) → Sub (component xi xe) (component yi ye) → ((n : Name) → xi n ≢ absent → Sub (yi n) (xi n)) × ((n : Name) → ye n ≢ absent → Sub (xe n) (ye n))
+  of_components xi xe yi ye (Sub.same _ p) = absurd p
+  of_components xi xe yi ye (Sub.components _ _ _ _ f g) = (f, g)
+
+  of_type_items : (a b : TypeTree L) → Sub (type_equal a) (type_equal b) → Sub a b × Sub b a
+  of_type_items a b (Sub.same _ p) = absurd p
+  of_type_items a b (Sub.type_items _ _ s t) = (s, t)
+
+  of_instance_items : (a b : TypeTree L) → Sub (instance_item a) (instance_item b) → Sub a b
   of_instance_items a b (Sub.same _ p) = absurd p
   of_instance_items a b (Sub.instance_items _ _ s) = s
 
-  pub not_a_function : (a b : TypeTree L) → Sub (instance_item a) (function_item b) → ⊥
-  not_a_function a b s = elim s [ ]
+  of_component_items : (a b : TypeTree L) → Sub (component_item a) (component_item b) → Sub a b
+  of_component_items a b (Sub.same _ p) = absurd p
+  of_component_items a b (Sub.component_items _ _ s) = s
 
-  pub not_an_instance : (a b : TypeTree L) → Sub (function_item a) (instance_item b) → ⊥
-  not_an_instance a b s = let e = plain_sub (function_item a) (instance_item b) tt s in cc
+  of_module_items : (a b : TypeTree L) → Sub (module_item a) (module_item b) → Sub a b
+  of_module_items a b (Sub.same _ p) = absurd p
+  of_module_items a b (Sub.module_items _ _ s) = s
 
-  pub not_for_absent : (b : TypeTree L) → b ≢ absent → Sub absent b → ⊥
-  not_for_absent b n s = n (sym (plain_sub absent b tt s))
+  function_item_inj : (a b : TypeTree L) → function_item a ≡ function_item b → a ≡ b
+  function_item_inj a b e = cc
 
-  function_inj : (a b : TypeTree L) → function_item a ≡ function_item b → a ≡ b
-  function_inj a b e = cc
+  value_item_inj : (a b : TypeTree L) → value_item a ≡ value_item b → a ≡ b
+  value_item_inj a b e = cc
 
-  pub functions_iff : {P : Type 0} (a b : TypeTree L) → (P ↔ (a ≡ b)) → (P ↔ Sub (function_item a) (function_item b))
-  functions_iff a b h = (λ p. plain_same (function_item a) (function_item b) tt (ap function_item (h.0 p)), λ s. h.1 (function_inj a b (plain_sub (function_item a) (function_item b) tt s)))
+  plain_func : (t : FuncType → TypeTree L) → ((f : FuncType) → IsPlain (t f)) → (o : Option (Held FuncType)) → IsPlain (of_held t o)
+  plain_func t f None = tt
+  plain_func t f (Some h) = f h.item
 
-  pub instances_iff : {P : Type 0} (xs ys : Name → TypeTree L) → (P ↔ ((n : Name) → ys n ≢ absent → Sub (xs n) (ys n))) → (P ↔ Sub (instance_item (instance xs)) (instance_item (instance ys)))
-  instances_iff xs ys h = (λ p. Sub.instance_items (instance xs) (instance ys) (Sub.instances xs ys (h.0 p)), λ s. h.1 (of_instances xs ys (of_instance_items (instance xs) (instance ys) s)))
+pub func_plain : (c : Collection) (f : FuncTypeId) → IsPlain (type_tree c (ty.Func f))
+unfolding type_tree
+func_plain c f = plain_func (func_tree (λ v. unfolded_to by_name c (size c) (resource_names c) (ty.Value v))) (λ g. tt) (slice_get c.funcs f.0)
 
-  -- along equal trees
-  pub sub_along : {P : Type 0} (x y a b : TypeTree L) → x ≡ a → y ≡ b → (P ↔ Sub a b) → (P ↔ Sub x y)
-  sub_along {P = P} x y a b e f h =
-      let Q : TypeTree L → Type 0 = λ u. P ↔ Sub u b in
-      let R : TypeTree L → Type 0 = λ u. P ↔ Sub x u in
-      subst R (sym f) (subst Q (sym e) h)
+-- the other way round
+pub asks_turned : (t s : Bool) (x y u v : Collection) (ps qs : List AnyType) (o k : List Question) (E : Collection → Collection → Type 0) → s ≡ not t → u ≡ y → v ≡ x
+    → Asks s u v qs ps o k (E u v) → Asks t x y ps qs o k (E y x)
+asks_turned t s x y u v ps qs o k E a b c h =
+    let P : Bool → Type 0 = λ r. Asks r u v qs ps o k (E u v) in
+    let Q : Collection → Type 0 = λ r. Asks (not t) r v qs ps o k (E r v) in
+    let R : Collection → Type 0 = λ r. Asks (not t) y r qs ps o k (E y r) in
+    by t (subst R c (subst Q b (subst P a h)))
+  where
+    along : (p : Collection × Collection) (m n : ℕ) → Settles p (suc (n + m)) o k (E y x) → Settles p (suc (m + n)) o k (E y x)
+    along p m n w = let S : ℕ → Type 0 = λ r. Settles p r o k (E y x) in let e : suc (n + m) ≡ suc (m + n) = omega arith in subst S e w
 
-  pub sub_to : (x y a b : TypeTree L) → x ≡ a → y ≡ b → Sub x y → Sub a b
-  sub_to x y a b e f s =
-      let Q : TypeTree L → Type 0 = λ u. Sub u y in
-      let R : TypeTree L → Type 0 = λ u. Sub a u in
-      subst R f (subst Q e s)
+    by : (t : Bool) → Asks (not t) y x qs ps o k (E y x) → Asks t x y ps qs o k (E y x)
+    by false w = record { settles = λ m n hp hq. along (x, y) m n (w.settles n m hq hp) }
+    by true w = record { settles = λ m n hp hq. along (y, x) m n (w.settles n m hq hp) }
+
+module _ {t : Bool} {x y : Collection} {o k : List Question} where
+  along : (a b A B : ItemKind) → a ≡ A → b ≡ B → Asks t x y (kind_type A ∷ []) (kind_type B ∷ []) o k (Sub (kind_tree x A) (kind_tree y B)) → Asks t x y (kind_type a ∷ []) (kind_type b ∷ []) o k (Sub (kind_tree x a) (kind_tree y b))
+  along a b A B p q s =
+      let P : ItemKind → Type 0 = λ u. Asks t x y (kind_type u ∷ []) (kind_type b ∷ []) o k (Sub (kind_tree x u) (kind_tree y b)) in
+      let Q : ItemKind → Type 0 = λ u. Asks t x y (kind_type A ∷ []) (kind_type u ∷ []) o k (Sub (kind_tree x A) (kind_tree y u)) in
+      subst P (sym p) (subst Q (sym q) s)
+
+  pub asks_func_items : (a b : ItemKind) (f g : FuncTypeId) → a ≡ kind.Func f → b ≡ kind.Func g → Asks t x y (ty.Func f ∷ []) (ty.Func g ∷ []) o k (Sub (type_tree x (ty.Func f)) (type_tree y (ty.Func g)))
+      → Asks t x y (kind_type a ∷ []) (kind_type b ∷ []) o k (Sub (kind_tree x a) (kind_tree y b))
+  asks_func_items a b f g p q s =
+      let u = type_tree x (ty.Func f) in
+      let v = type_tree y (ty.Func g) in
+      along a b (kind.Func f) (kind.Func g) p q
+      (asks_iff (λ h. plain_same (function_item u) (function_item v) tt (ap function_item (plain_sub u v (func_plain x f) h))) (λ h. plain_same u v (func_plain x f) (function_item_inj u v (plain_sub (function_item u) (function_item v) tt h))) s)
+
+  pub asks_value_items : (a b : ItemKind) (f g : ValueType) → a ≡ kind.Value f → b ≡ kind.Value g → Asks t x y (ty.Value f ∷ []) (ty.Value g ∷ []) o k (value_in x f ≡ value_in y g)
+      → Asks t x y (kind_type a ∷ []) (kind_type b ∷ []) o k (Sub (kind_tree x a) (kind_tree y b))
+  asks_value_items a b f g p q s =
+      let u = value_in x f in
+      let v = value_in y g in
+      along a b (kind.Value f) (kind.Value g) p q
+      (asks_iff (λ h. plain_same (value_item u) (value_item v) tt (ap value_item h)) (λ h. value_item_inj u v (plain_sub (value_item u) (value_item v) tt h)) s)
+
+  pub asks_instance_items : (a b : ItemKind) (f g : InterfaceId) → a ≡ kind.Instance f → b ≡ kind.Instance g → Asks t x y (ty.Interface f ∷ []) (ty.Interface g ∷ []) o k (Sub (type_tree x (ty.Interface f)) (type_tree y (ty.Interface g)))
+      → Asks t x y (kind_type a ∷ []) (kind_type b ∷ []) o k (Sub (kind_tree x a) (kind_tree y b))
+  asks_instance_items a b f g p q s = along a b (kind.Instance f) (kind.Instance g) p q (asks_iff (Sub.instance_items _ _) (of_instance_items _ _) s)
+
+  pub asks_component_items : (a b : ItemKind) (f g : WorldId) → a ≡ kind.Component f → b ≡ kind.Component g → Asks t x y (ty.World f ∷ []) (ty.World g ∷ []) o k (Sub (type_tree x (ty.World f)) (type_tree y (ty.World g)))
+      → Asks t x y (kind_type a ∷ []) (kind_type b ∷ []) o k (Sub (kind_tree x a) (kind_tree y b))
+  asks_component_items a b f g p q s = along a b (kind.Component f) (kind.Component g) p q (asks_iff (Sub.component_items _ _) (of_component_items _ _) s)
+
+  pub asks_module_items : (a b : ItemKind) (f g : ModuleTypeId) → a ≡ kind.Module f → b ≡ kind.Module g → Asks t x y (ty.Module f ∷ []) (ty.Module g ∷ []) o k (Sub (type_tree x (ty.Module f)) (type_tree y (ty.Module g)))
+      → Asks t x y (kind_type a ∷ []) (kind_type b ∷ []) o k (Sub (kind_tree x a) (kind_tree y b))
+  asks_module_items a b f g p q s = along a b (kind.Module f) (kind.Module g) p q (asks_iff (Sub.module_items _ _) (of_module_items _ _) s)
+
+module _ {t : Bool} {x y : Collection} {o l k : List Question} where
+  pub asks_type_items : (a b : ItemKind) (f g : AnyType) → a ≡ kind.TypeItem f → b ≡ kind.TypeItem g → Asks t x y (f ∷ []) (g ∷ []) o l (Sub (type_tree x f) (type_tree y g))
+      → (s : Bool) (u v : Collection) → s ≡ not t → u ≡ y → v ≡ x → Asks s u v (g ∷ []) (f ∷ []) l k (Sub (type_tree u g) (type_tree v f))
+      → Asks t x y (kind_type a ∷ []) (kind_type b ∷ []) o k (Sub (kind_tree x a) (kind_tree y b))
+  asks_type_items a b f g p q h s u v d e i r =
+      let back = asks_turned t s x y u v (f ∷ []) (g ∷ []) l k (λ c d. Sub (type_tree c g) (type_tree d f)) d e i r in
+      along a b (kind.TypeItem f) (kind.TypeItem g) p q (asks_iff (λ h. Sub.type_items _ _ h.0 h.1) (of_type_items _ _) (asks_then h back))
 
 -- an item stands for something
 pub kind_there : (c : Collection) (k : ItemKind) → kind_tree c k ≢ absent
+kind_there c (kind.TypeItem f) e = cc
 kind_there c (kind.Func f) e = cc
 kind_there c (kind.Instance i) e = cc
+kind_there c (kind.Component i) e = cc
+kind_there c (kind.Module i) e = cc
+kind_there c (kind.Value i) e = cc
 
 -- the tree under a name, from what is found under it
 pub listed_none : (c : Collection) (es : List (Name × ItemKind)) (n : Name) → find_name es n ≡ None → listed_in c es n ≡ absent
@@ -103,107 +155,99 @@ listed_some c (e ∷ es) n k h = elim (cases_Bool (same_name n e.0)) [
   | inr f ↦ ap (λ b. cond b (kind_tree c e.1) (listed_in c es n)) f ∙ listed_some c es n k (sym (ap (λ b. cond b (Some e.1) (find_name es n)) f) ∙ h)
 ]
 
--- where each entry is offered, all is
-pub offers_all : (c d : Collection) (xs ys : List (Name × ItemKind)) → ((k : ℕ) → k < length ys → (e : Name × ItemKind) → slice_get ys k ≡ Some e → Sub (listed_in c xs e.0) (kind_tree d e.1)) → Offers c xs d ys
-offers_all c d xs ys f n there = by (find_name ys n) refl
-  where
-    by : (o : Option ItemKind) → find_name ys n ≡ o → Sub (listed_in c xs n) (listed_in d ys n)
-    by None h = absurd (there (listed_none d ys n h))
-    by (Some y) h =
-        let p = find_position ys n y h in
-        let P : TypeTree Name → Type 0 = λ t. Sub (listed_in c xs n) t in
-        subst P (sym (listed_some d ys n y h)) (f p.0 p.1 (n, y) p.2)
+module _ (c d : Collection) (xs ys : List (Name × ItemKind)) where
+  -- where each entry is offered, all is
+  offers_all : OffersBelow (length ys) c xs d ys → Offers c xs d ys
+  offers_all f n there = by (find_name ys n) refl
+    where
+      by : (o : Option ItemKind) → find_name ys n ≡ o → Sub (listed_in c xs n) (listed_in d ys n)
+      by None h = absurd (there (listed_none d ys n h))
+      by (Some y) h =
+          let p = find_position ys n y h in
+          let P : TypeTree Name → Type 0 = λ t. Sub (listed_in c xs n) t in
+          subst P (sym (listed_some d ys n y h)) (f p.0 p.1 (n, y) p.2)
 
--- what is offered is so at each entry, where no name stands twice
-pub offered_at : (c d : Collection) (xs ys : List (Name × ItemKind)) → NoNameTwice ys → Offers c xs d ys → (i : ℕ) (n : Name) (y : ItemKind) → slice_get ys i ≡ Some (n, y) → Sub (listed_in c xs n) (kind_tree d y)
-offered_at c d xs ys once o i n y at =
-    let is = listed_some d ys n y (find_name-at ys i n y once at) in
-    let P : TypeTree Name → Type 0 = λ t. Sub (listed_in c xs n) t in
-    subst P is (o n (λ e. kind_there d y (sym is ∙ e)))
+  -- what is offered is so at each entry, where no name stands twice
+  offered_at : NoNameTwice ys → Offers c xs d ys → (i : ℕ) (n : Name) (y : ItemKind) → slice_get ys i ≡ Some (n, y) → Sub (listed_in c xs n) (kind_tree d y)
+  offered_at once o i n y at =
+      let is = listed_some d ys n y (find_name-at ys i n y once at) in
+      let P : TypeTree Name → Type 0 = λ t. Sub (listed_in c xs n) t in
+      subst P is (o n (λ e. kind_there d y (sym is ∙ e)))
 
--- a name that the first lack
-pub lacks : (c d : Collection) (xs ys : List (Name × ItemKind)) → NoNameTwice ys → (i : ℕ) (n : Name) (y : ItemKind) → slice_get ys i ≡ Some (n, y) → find_name xs n ≡ None → (IsTrue false ↔ Offers c xs d ys)
-lacks c d xs ys once i n y at none =
-    false_not (λ o. not_for_absent (kind_tree d y) (kind_there d y) (sub_to _ _ absent (kind_tree d y) (listed_none c xs n none) refl (offered_at c d xs ys once o i n y at)))
+  -- a name that the first lack
+  pub lacks : NoNameTwice ys → (i : ℕ) (n : Name) (y : ItemKind) → slice_get ys i ≡ Some (n, y) → find_name xs n ≡ None → Offers c xs d ys → ⊥
+  lacks once i n y at none o =
+      let P : TypeTree Name → Type 0 = λ t. Sub t (kind_tree d y) in
+      let s = subst P (listed_none c xs n none) (offered_at once o i n y at) in
+      kind_there d y (sym (plain_sub absent (kind_tree d y) tt s))
 
--- an item that is no subtype
-pub stops : (c d : Collection) (xs ys : List (Name × ItemKind)) → NoNameTwice ys → (i : ℕ) (n : Name) (x y : ItemKind) (r : Bool) → slice_get ys i ≡ Some (n, y) → find_name xs n ≡ Some x
-    → (IsTrue r ↔ IsSubtype c x d y) → r ≡ false → (IsTrue false ↔ Offers c xs d ys)
-stops c d xs ys once i n x y r at found iff is =
-    false_not (λ o. let t : r ≡ true = iff.1 (sub_to _ _ (kind_tree c x) (kind_tree d y) (listed_some c xs n x found) refl (offered_at c d xs ys once o i n y at)) in not_true (sym is ∙ t))
+  -- an item that is no subtype
+  pub stops : NoNameTwice ys → (i : ℕ) (n : Name) (x y : ItemKind) → slice_get ys i ≡ Some (n, y) → find_name xs n ≡ Some x → (Sub (kind_tree c x) (kind_tree d y) → ⊥) → Offers c xs d ys → ⊥
+  stops once i n x y at found fails o =
+      let P : TypeTree Name → Type 0 = λ t. Sub t (kind_tree d y) in
+      fails (subst P (listed_some c xs n x found) (offered_at once o i n y at))
 
--- one more entry that is offered
-pub goes : (c d : Collection) (xs ys : List (Name × ItemKind)) (i : ℕ) (n : Name) (x y : ItemKind) (r : Bool) → slice_get ys i ≡ Some (n, y) → find_name xs n ≡ Some x
-    → (IsTrue r ↔ IsSubtype c x d y) → r ≡ true → (e : Name × ItemKind) → slice_get ys i ≡ Some e → Sub (listed_in c xs e.0) (kind_tree d e.1)
-goes c d xs ys i n x y r at found iff is e same =
-    let some : Some (n, y) ≡ Some e = sym at ∙ same in
-    let one : (n, y) ≡ e = cc in
-    let P : Name × ItemKind → Type 0 = λ p. Sub (listed_in c xs p.0) (kind_tree d p.1) in
-    subst P one (sub_to _ _ (listed_in c xs n) (kind_tree d y) (sym (listed_some c xs n x found)) refl (iff.0 is))
+  pub offers_below : NoNameTwice ys → Offers c xs d ys → (i : ℕ) → OffersBelow i c xs d ys
+  offers_below once o i k lt e at = offered_at once o k e.0 e.1 at
 
-added_within : {A : Type 0} (n : ℕ) (xs : List (Held A)) (i : ℕ) → AddedBefore n (slice_get xs i) → nat_lt i (length xs) ≡ true
-added_within n [] i b = absurd b
-added_within n (x ∷ xs) zero b = grind arith
-added_within n (x ∷ xs) (suc i) b = let h = added_within n xs i b in grind arith
+  pub offers_none : OffersBelow 0 c xs d ys
+  offers_none k lt = absurd (omega (arith, lt))
 
-rank_held : {A : Type 0} (n : ℕ) (o : Option (Held A)) → AddedBefore n o → rank_of_held o ≤ n
-rank_held n None b = absurd b
-rank_held n (Some h) b = omega (arith, b)
+  offers_to : (i : ℕ) → length ys ≤ i → OffersBelow i c xs d ys → Offers c xs d ys
+  offers_to i le f = offers_all (λ k lt. f k (omega (arith, lt, le)))
 
-type_holds : (c : Collection) (n : ℕ) (t : AnyType) → IsBefore c n t → holds_type c t ≡ true
-type_holds c n (ty.Func i) b = added_within n c.funcs i.0 b
-type_holds c n (ty.Value (val.Primitive p)) b = refl
-type_holds c n (ty.Interface i) b = added_within n c.interfaces i.0 b
-type_holds c n (ty.World i) b = added_within n c.worlds i.0 b
+  offers_more : (i : ℕ) (n : Name) (x y : ItemKind) → slice_get ys i ≡ Some (n, y) → find_name xs n ≡ Some x → OffersBelow i c xs d ys → Sub (kind_tree c x) (kind_tree d y) → OffersBelow (i + 1) c xs d ys
+  offers_more i n x y at found f s = below_more _ _ f (λ e is.
+      let same : (n, y) ≡ e = same_some _ _ (sym at ∙ is) in
+      let P : TypeTree Name → Type 0 = λ t. Sub t (kind_tree d y) in
+      let Q : Name × ItemKind → Type 0 = λ e. Sub (listed_in c xs e.0) (kind_tree d e.1) in
+      subst Q same (subst P (sym (listed_some c xs n x found)) s))
 
-kind_below : (c : Collection) (n : ℕ) (k : ItemKind) → IsBefore c n (kind_type k) → kind_rank c k ≤ n
-kind_below c n (kind.Func i) b = omega arith
-kind_below c n (kind.Instance i) b = rank_held n _ b
+  offers_less : (i : ℕ) (n : Name) (x y : ItemKind) → slice_get ys i ≡ Some (n, y) → find_name xs n ≡ Some x → OffersBelow (i + 1) c xs d ys → OffersBelow i c xs d ys × Sub (kind_tree c x) (kind_tree d y)
+  offers_less i n x y at found f =
+      let P : TypeTree Name → Type 0 = λ t. Sub t (kind_tree d y) in
+      ((λ k lt. f k (omega (arith, lt))), subst P (listed_some c xs n x found) (f i (omega arith) (n, y) at))
 
-pub kinds_hold : (c : Collection) (n : ℕ) (ks : List ItemKind) → AllByRecursion (λ k. IsBefore c n (kind_type k)) ks → list_all (λ k. holds_type c (kind_type k)) ks ≡ true
-kinds_hold c n [] b = refl
-kinds_hold c n (k ∷ ks) b = rw (type_holds c n (kind_type k) b.0) (kinds_hold c n ks b.1)
+-- what is found under a name stands in the list
+pub found_among : (P : AnyType → Type 0) (es : List (Name × ItemKind)) (n : Name) (v : ItemKind) → find_name es n ≡ Some v → AllByRecursion P (kind_types es) → AllByRecursion P (kind_type v ∷ [])
+found_among P es n v f h = let p = find_position es n v f in kind_among P es p.0 n v p.2 h
 
-kinds_below : (c : Collection) (n : ℕ) (ks : List ItemKind) → AllByRecursion (λ k. IsBefore c n (kind_type k)) ks → kinds_rank c ks ≤ n
-kinds_below c n [] b = omega arith
-kinds_below c n (k ∷ ks) b = let r = kind_below c n k b.0 in let s = kinds_below c n ks b.1 in omega (arith, r, s)
+module _ {t : Bool} {x y : Collection} {o l k : List Question} (xs ys : List (Name × ItemKind)) where
+  pub asks_offer : (i : ℕ) (n : Name) (a b : ItemKind) → slice_get ys i ≡ Some (n, b) → find_name xs n ≡ Some a
+      → Asks t x y (kind_types xs) (kind_types ys) o l (OffersBelow i x xs y ys) → Asks t x y (kind_type a ∷ []) (kind_type b ∷ []) l k (Sub (kind_tree x a) (kind_tree y b))
+      → Asks t x y (kind_types xs) (kind_types ys) o k (OffersBelow (i + 1) x xs y ys)
+  asks_offer i n a b at found s r = asks_iff (λ h. offers_more x y xs ys i n a b at found h.0 h.1) (offers_less x y xs ys i n a b at found)
+      (asks_then s (asks_of (kind_types xs) (kind_types ys) (λ m. found_among (IsBefore x m) xs n a found) (λ m. kind_among (IsBefore y m) ys i n b at) r))
 
--- what is known of an interface that is held
-pub record OpensInterface (c : Collection) (i : InterfaceId) (x : Interface) : Type 0 where
-  pub held : holds_items c x.exports ≡ true
-  pub rank : items_rank c x.exports < kind_rank c (kind.Instance i)
-  pub tree : kind_tree c (kind.Instance i) ≡ instance_item (instance (listed_in c x.exports))
+module _ {t : Bool} {x y : Collection} {o k : List Question} (xs ys : List (Name × ItemKind)) where
+  pub asks_offers : (i : ℕ) → NoNameTwice ys → length ys ≤ i → Asks t x y (kind_types xs) (kind_types ys) o k (OffersBelow i x xs y ys) → Asks t x y (kind_types xs) (kind_types ys) o k (Offers x xs y ys)
+  asks_offers i once le s = asks_iff (offers_to x y xs ys i le) (λ h. offers_below x y xs ys once h i) s
 
-pub opens_interface : (c : Collection) → IsWellFormed c → (i : InterfaceId) (x : Interface) → item_at c.interfaces i.0 ≡ Some x → OpensInterface c i x
-opens_interface c wf i x at =
-    let h = held_item _ x at in
-    let P : Interface → Type 0 = λ y. AreItemsBefore c h.0.before y.exports in
-    let b = subst P h.2 (wf.interfaces i.0 h.0 h.1).1 in
-    record {
-      held = kinds_hold c _ (seconds x.exports) b;
-      rank = let r = kinds_below c _ (seconds x.exports) b in let q : rank_of_held (slice_get c.interfaces i.0) ≡ suc h.0.before = ap rank_of_held h.1 in omega (arith, r, q);
-      tree = ap instance_item (interface_opens c wf i x at);
-    }
+pub asks_no_offer : {t : Bool} {x y : Collection} {o : List Question} (xs ys : List (Name × ItemKind)) → Asks t x y (kind_types xs) (kind_types ys) o o (OffersBelow 0 x xs y ys)
+asks_no_offer {x = x} {y = y} xs ys = asks_now (offers_none x y xs ys)
 
--- an item of a list is held, and no item ranks above the list
-pub item_holds : (c : Collection) (ks : List (Name × ItemKind)) (i : ℕ) (k : ItemKind) → holds_items c ks ≡ true → option_map (λ e. e.1) (slice_get ks i) ≡ Some k → (holds_type c (kind_type k) ≡ true) × (kind_rank c k ≤ items_rank c ks)
-item_holds c [] i k h b = cc
-item_holds c (e ∷ es) zero k h b =
-    let y : e.1 ≡ k = cc in
-    let g : holds_type c (kind_type e.1) ≡ true = grind arith in
-    let r = ap (kind_rank c) y in
-    (sym (ap (λ x. holds_type c (kind_type x)) y) ∙ g, omega (arith, r))
-item_holds c (e ∷ es) (suc i) k h b =
-    let g : holds_items c es ≡ true = grind arith in
-    let r = item_holds c es i k g b in
-    (r.0, omega (arith, r.1))
+world_parts : (c : Collection) (w : World) (m : ℕ) → AreBefore c m (world_mentions w) → AreBefore c m (kind_types w.imports) × AreBefore c m (kind_types w.exports)
+world_parts c w m h =
+    let r = all_right (IsBefore c m) (used_types w.uses) _ h in
+    (all_left (IsBefore c m) (kind_types w.imports) (kind_types w.exports) r, all_right (IsBefore c m) (kind_types w.imports) (kind_types w.exports) r)
 
-pub found_holds : (c : Collection) (es : List (Name × ItemKind)) (n : Name) (k : ItemKind) → holds_items c es ≡ true → find_name es n ≡ Some k → (holds_type c (kind_type k) ≡ true) × (kind_rank c k ≤ items_rank c es)
-found_holds c es n k h f = let p = find_position es n k f in item_holds c es p.0 k h (ap (option_map (λ e. e.1)) p.2)
+module _ {t : Bool} {x y : Collection} {o l k : List Question} where
+  pub asks_worlds : (w v : World) (s : Bool) (u z : Collection) → s ≡ not t → u ≡ y → z ≡ x → Asks s u z (kind_types v.imports) (kind_types w.imports) o l (Offers u v.imports z w.imports)
+      → Asks t x y (kind_types w.exports) (kind_types v.exports) l k (Offers x w.exports y v.exports)
+      → Asks t x y (world_mentions w) (world_mentions v) o k (Sub (world_in x w) (world_in y v))
+  asks_worlds w v s u z a b c r q =
+      let i = asks_turned t s x y u z (kind_types w.imports) (kind_types v.imports) o l (λ c d. Offers c v.imports d w.imports) a b c r in
+      asks_iff (λ h. Sub.components _ _ _ _ h.0 h.1) (of_components _ _ _ _)
+      (asks_then
+      (asks_of (world_mentions w) (world_mentions v) (λ m h. (world_parts x w m h).0) (λ m h. (world_parts y v m h).0) i)
+      (asks_of (world_mentions w) (world_mentions v) (λ m h. (world_parts x w m h).1) (λ m h. (world_parts y v m h).1) q))
 
--- what a world that is held exports is held
-pub world_exports_held : (c : Collection) → IsWellFormed c → (w : WorldId) (x : World) → item_at c.worlds w.0 ≡ Some x → holds_items c x.exports ≡ true
-world_exports_held c wf w x at =
-    let h = held_item _ x at in
-    let P : World → Type 0 = λ y. AreItemsBefore c h.0.before y.exports in
-    kinds_hold c _ (seconds x.exports) (subst P h.2 (wf.worlds w.0 h.0 h.1).2)
+module _ (x y : Collection) (w v : World) where
+  pub imports_refuse : (u z : Collection) → u ≡ y → z ≡ x → (Offers u v.imports z w.imports → ⊥) → Sub (world_in x w) (world_in y v) → ⊥
+  imports_refuse u z b c n s =
+      let P : Collection → Type 0 = λ r. Offers r v.imports z w.imports in
+      let Q : Collection → Type 0 = λ r. Offers y v.imports r w.imports in
+      n (subst P (sym b) (subst Q (sym c) (of_components _ _ _ _ s).0))
+
+  pub exports_refuse : (Offers x w.exports y v.exports → ⊥) → Sub (world_in x w) (world_in y v) → ⊥
+  exports_refuse n s = n (of_components _ _ _ _ s).1

@@ -1,116 +1,252 @@
--- What is held unfolds to its parts unfolded, in a collection and in each that keeps what it holds.
-use Rattle.std.proofs.Common.{ℕ, zero, suc, Bool, true, false, List, [], ◌∷◌, map, ◌≡◌, ◌≢◌, ◌<◌, ◌≤◌, length, refl, ap, sym, ◌∙◌, subst, Option, Some, None, arith, nat_lt, slice_get}
+-- What is held unfolds to its parts unfolded.
+use Rattle.std.proofs.Common.{ℕ, zero, suc, Bool, true, false, List, [], ◌∷◌, ◌++◌, map, ◌≡◌, ◌≢◌, ◌<◌, ◌≤◌, length, refl, ap, sym, ◌∙◌, subst, Option, Some, None, arith, nat_lt, slice_get}
 use Rattle.std.specs.List.{AllByRecursion}
-use Rattle.wac_types.specs.Name.{Name}
+use Rattle.wac_types.specs.Name.{Name, option_case}
 use Rattle.wac_types.specs.declared.collection.Held.{Held}
 use Rattle.wac_types.specs.declared.component.PrimitiveType.{PrimitiveType}
+use Rattle.wac_types.specs.declared.component.ResourceId.{ResourceId}
 use Rattle.wac_types.specs.declared.component.FuncType.{FuncType}
 use Rattle.wac_types.specs.declared.component.FuncTypeId.{FuncTypeId}
+use Rattle.wac_types.specs.declared.component.DefinedType.{DefinedType}
+use Rattle.wac_types.specs.declared.component.DefinedType.TheVariants as def
+use Rattle.wac_types.specs.declared.component.DefinedTypeId.{DefinedTypeId}
 use Rattle.wac_types.specs.declared.component.Interface.{Interface}
 use Rattle.wac_types.specs.declared.component.InterfaceId.{InterfaceId}
+use Rattle.wac_types.specs.declared.component.World.{World}
+use Rattle.wac_types.specs.declared.component.WorldId.{WorldId}
+use Rattle.wac_types.specs.declared.component.ModuleTypeId.{ModuleTypeId}
+use Rattle.wac_types.specs.declared.core_types.ModuleType.{ModuleType}
 use Rattle.wac_types.specs.declared.component.ValueType.{ValueType}
 use Rattle.wac_types.specs.declared.component.ValueType.TheVariants as val
 use Rattle.wac_types.specs.declared.component.«Type».{«Type» as AnyType}
 use Rattle.wac_types.specs.declared.component.«Type».TheVariants as ty
 use Rattle.wac_types.specs.declared.component.ItemKind.{ItemKind}
 use Rattle.wac_types.specs.declared.component.ItemKind.TheVariants as kind
-use Rattle.wac_types.specs.Collection.{Collection, size, seconds, and_maybe, func_values, kind_type, IsWellFormed, IsBefore, IsValueBefore, AddedBefore, AreValuesBefore, AreItemsBefore, Each, holds_type, item_of, item_at}
-use Rattle.wac_types.specs.Tree.{TypeTree, absent, primitive, function, instance, component, function_item, instance_item}
-use Rattle.wac_types.specs.Held.{part_at, items_under, option_tree, func_tree, item_tree, listed_tree, interface_tree, world_tree, value_tree, of_held, step, unfolded_to, unfolded}
-use Rattle.wac_types.specs.Subtype.{type_tree, kind_tree}
-use Rattle.wac_types.specs.Compare.{value_in, func_in, listed_in}
-use Rattle.wac_types.proofs.Growth.{Keeps, map_all, type_before}
+use Rattle.wac_types.specs.Collection.{Collection, size, seconds, and_maybe, case_values, func_values, defined_values, value_types, func_mentions, defined_mentions, interface_mentions, world_mentions, used_types, kind_type, kind_types, IsWellFormed, IsBefore, IsValueBefore, AreBefore, AddedBefore, Each, holds_type, holds_value, item_of, item_at}
+use Rattle.wac_types.specs.Tree.{Side, imported, exported, TypeTree, absent, primitive, own, borrow, resource, record_of, variant_of, list_of, fixed_list_of, tuple_of, option_of, result_of, stream_of, future_of, function, instance, component, type_equal, function_item, instance_item, component_item, module_item, value_item}
+use Rattle.wac_types.specs.Held.{Naming, Names, Unfolding, part_at, items_under, option_tree, func_tree, defined_tree, item_tree, listed_tree, interface_tree, world_tree, module_tree, value_tree, of_held, step, unfolded_to, unfolded}
+use Rattle.wac_types.specs.Subtype.{by_name, resource_names, type_tree, kind_tree}
+use Rattle.wac_types.specs.Compare.{value_in, func_in, defined_in, world_in, listed_in, rank_of_held}
+use Rattle.wac_types.specs.Questions.{type_rank}
 
-module _ {L : Type 0} where
-  module _ (t u : ValueType → TypeTree L) where
-    params_same : (es : List (Name × ValueType)) → AllByRecursion (λ v. t v ≡ u v) (seconds es) → map (λ p. t p.1) es ≡ map (λ p. u p.1) es
-    params_same [] h = refl
-    params_same (e ∷ es) h = rw (h.0, params_same es h.1) refl
+pub all_map : {A : Type 0} (P Q : A → Type 0) → ((x : A) → P x → Q x) → (xs : List A) → AllByRecursion P xs → AllByRecursion Q xs
+all_map P Q f [] h = tt
+all_map P Q f (x ∷ xs) h = (f x h.0, all_map P Q f xs h.1)
 
-    optional_same : (o : Option ValueType) (vs : List ValueType) → AllByRecursion (λ v. t v ≡ u v) (and_maybe o vs) → (option_tree t o ≡ option_tree u o) × AllByRecursion (λ v. t v ≡ u v) vs
-    optional_same None vs h = (refl, h)
-    optional_same (Some v) vs h = (h.0, h.1)
+pub all_left : {A : Type 0} (P : A → Type 0) (xs ys : List A) → AllByRecursion P (xs ++ ys) → AllByRecursion P xs
+all_left P [] ys h = tt
+all_left P (x ∷ xs) ys h = (h.0, all_left P xs ys h.1)
 
-    pub func_same : (f : FuncType) → AllByRecursion (λ v. t v ≡ u v) (func_values f) → func_tree t f ≡ func_tree u f
-    func_same f h =
-        let o = optional_same f.result (seconds f.params) h in
-        let p = params_same f.params o.1 in
-        ap (λ (x : List (TypeTree L)). function f.is_async (map (λ p. p.0) f.params) (part_at x) (option_tree t f.result)) p
-        ∙ ap (function f.is_async (map (λ p. p.0) f.params) (part_at (map (λ p. u p.1) f.params))) o.0
+pub all_right : {A : Type 0} (P : A → Type 0) (xs ys : List A) → AllByRecursion P (xs ++ ys) → AllByRecursion P ys
+all_right P [] ys h = h
+all_right P (x ∷ xs) ys h = all_right P xs ys h.1
 
-  -- trees of items agree where those of their types do
-  item_same : (t u : AnyType → TypeTree L) (k : ItemKind) → t (kind_type k) ≡ u (kind_type k) → item_tree t k ≡ item_tree u k
-  item_same t u (kind.Func f) h = ap function_item h
-  item_same t u (kind.Instance i) h = ap instance_item h
+pub all_both : {A : Type 0} (P : A → Type 0) (xs ys : List A) → AllByRecursion P xs → AllByRecursion P ys → AllByRecursion P (xs ++ ys)
+all_both P [] ys h k = k
+all_both P (x ∷ xs) ys h k = (h.0, all_both P xs ys h.1 k)
 
-  entries_same : (t u : AnyType → TypeTree L) (es : List (Name × ItemKind)) → AllByRecursion (λ k. t (kind_type k) ≡ u (kind_type k)) (seconds es)
-      → map {B = Name × TypeTree L} (λ e. (e.0, item_tree t e.1)) es ≡ map (λ e. (e.0, item_tree u e.1)) es
-  entries_same t u [] h = refl
-  entries_same t u (e ∷ es) h = rw (item_same t u e.1 h.0, entries_same t u es h.1) refl
+-- what is held was added before the end
+pub held_before : {A : Type 0} (N : ℕ) (xs : List (Held A)) (i : ℕ) → ((j : ℕ) (h : Held A) → slice_get xs j ≡ Some h → h.before < N) → nat_lt i (length xs) ≡ true → AddedBefore N (slice_get xs i)
+held_before N [] i each lt = absurd (grind arith)
+held_before N (x ∷ xs) zero each lt = each zero x refl
+held_before N (x ∷ xs) (suc i) each lt = held_before N xs i (λ j h is. each (suc j) h is) (grind arith)
 
-  pub listed_same : (t u : AnyType → TypeTree L) (es : List (Name × ItemKind)) → AllByRecursion (λ k. t (kind_type k) ≡ u (kind_type k)) (seconds es) → listed_tree t es ≡ listed_tree u es
-  listed_same t u es h = ap items_under (entries_same t u es h)
-
-  -- trees of what is held agree where those of the item do
-  held_same : {A : Type 0} (t u : A → TypeTree L) (j k : ℕ) (o p : Option (Held A)) → ((h : Held A) → o ≡ Some h → p ≡ Some h) → AddedBefore j o → AddedBefore k o
-      → ((h : Held A) → o ≡ Some h → h.before < j → h.before < k → t h.item ≡ u h.item) → of_held t o ≡ of_held u p
-  held_same t u j k None p e hj hk s = absurd hj
-  held_same t u j k (Some h) p e hj hk s = s h refl hj hk ∙ sym (ap (of_held u) (e h refl))
-
-  both_same : {a b c d : Name → TypeTree L} → a ≡ b → c ≡ d → component a c ≡ component b d
-  both_same {b = b} {c = c} e f = ap (λ (x : Name → TypeTree L). component x c) e ∙ ap (component b) f
+pub type_before : (c : Collection) → IsWellFormed c → (t : AnyType) → holds_type c t ≡ true → IsBefore c (size c) t
+type_before c wf (ty.Resource i) h = held_before _ c.resources i.0 (λ j x is. (wf.resources j x is).0) h
+type_before c wf (ty.Func i) h = held_before _ c.funcs i.0 (λ j x is. (wf.funcs j x is).0) h
+type_before c wf (ty.Value (val.Primitive p)) h = tt
+type_before c wf (ty.Value (val.Own i)) h = held_before _ c.resources i.0 (λ j x is. (wf.resources j x is).0) h
+type_before c wf (ty.Value (val.Borrow i)) h = held_before _ c.resources i.0 (λ j x is. (wf.resources j x is).0) h
+type_before c wf (ty.Value (val.Defined i)) h = held_before _ c.defined i.0 (λ j x is. (wf.defined j x is).0) h
+type_before c wf (ty.Interface i) h = held_before _ c.interfaces i.0 (λ j x is. (wf.interfaces j x is).0) h
+type_before c wf (ty.World i) h = held_before _ c.worlds i.0 (λ j x is. (wf.worlds j x is).0) h
+type_before c wf (ty.Module i) h = held_before _ c.modules i.0 (λ j x is. wf.modules j x is) h
 
 added_more : {A : Type 0} (m n : ℕ) (o : Option (Held A)) → m ≤ n → AddedBefore m o → AddedBefore n o
 added_more m n None le h = h
 added_more m n (Some x) le h = omega (arith, h, le)
 
+pub value_more : (c : Collection) (m n : ℕ) (v : ValueType) → m ≤ n → IsValueBefore c m v → IsValueBefore c n v
+value_more c m n (val.Primitive p) le h = tt
+value_more c m n (val.Own r) le h = added_more m n _ le h
+value_more c m n (val.Borrow r) le h = added_more m n _ le h
+value_more c m n (val.Defined r) le h = added_more m n _ le h
+
 pub before_more : (c : Collection) (m n : ℕ) (t : AnyType) → m ≤ n → IsBefore c m t → IsBefore c n t
+before_more c m n (ty.Resource r) le h = added_more m n _ le h
 before_more c m n (ty.Func r) le h = added_more m n _ le h
-before_more c m n (ty.Value (val.Primitive p)) le h = tt
+before_more c m n (ty.Value v) le h = value_more c m n v le h
 before_more c m n (ty.Interface r) le h = added_more m n _ le h
 before_more c m n (ty.World r) le h = added_more m n _ le h
+before_more c m n (ty.Module r) le h = added_more m n _ le h
 
-module _ {L : Type 0} (c d : Collection) (wf : IsWellFormed c) (g : Keeps c d) where
-  step_same : (t u : AnyType → TypeTree L) (j k : ℕ) → ((s : ℕ) (a : AnyType) → s < j → s < k → IsBefore c s a → t a ≡ u a)
-      → (a : AnyType) → IsBefore c j a → IsBefore c k a → step c t a ≡ step d u a
-  step_same t u j k ih (ty.Value v) hj hk = refl
-  step_same t u j k ih (ty.Func r) hj hk = held_same _ _ j k _ _ (g.funcs r.0) hj hk
-      (λ h is lj lk. func_same (λ v. t (ty.Value v)) (λ v. u (ty.Value v)) h.item (map_all _ _ (λ v b. ih h.before (ty.Value v) lj lk b) (func_values h.item) (wf.funcs r.0 h is).1))
-  step_same t u j k ih (ty.Interface r) hj hk = held_same _ _ j k _ _ (g.interfaces r.0) hj hk
-      (λ h is lj lk. ap instance (listed_same t u h.item.exports (map_all _ _ (λ e b. ih h.before (kind_type e) lj lk b) (seconds h.item.exports) (wf.interfaces r.0 h is).1)))
-  step_same t u j k ih (ty.World r) hj hk = held_same _ _ j k _ _ (g.worlds r.0) hj hk
-      (λ h is lj lk. both_same
-      (listed_same t u h.item.imports (map_all _ _ (λ e b. ih h.before (kind_type e) lj lk b) (seconds h.item.imports) (wf.worlds r.0 h is).1))
-      (listed_same t u h.item.exports (map_all _ _ (λ e b. ih h.before (kind_type e) lj lk b) (seconds h.item.exports) (wf.worlds r.0 h is).2)))
+added_there : {A : Type 0} (n : ℕ) (xs : List (Held A)) (i : ℕ) → AddedBefore n (slice_get xs i) → nat_lt i (length xs) ≡ true
+added_there n [] i h = absurd h
+added_there n (x ∷ xs) zero h = grind arith
+added_there n (x ∷ xs) (suc i) h = let r = added_there n xs i h in grind arith
+
+-- what was added before something is held
+pub before_held : (c : Collection) (n : ℕ) (t : AnyType) → IsBefore c n t → holds_type c t ≡ true
+before_held c n (ty.Resource r) h = added_there n _ _ h
+before_held c n (ty.Func r) h = added_there n _ _ h
+before_held c n (ty.Value (val.Primitive p)) h = refl
+before_held c n (ty.Value (val.Own r)) h = added_there n _ _ h
+before_held c n (ty.Value (val.Borrow r)) h = added_there n _ _ h
+before_held c n (ty.Value (val.Defined r)) h = added_there n _ _ h
+before_held c n (ty.Interface r) h = added_there n _ _ h
+before_held c n (ty.World r) h = added_there n _ _ h
+before_held c n (ty.Module r) h = added_there n _ _ h
+
+added_rank : {A : Type 0} (n : ℕ) (o : Option (Held A)) → AddedBefore n o → rank_of_held o ≤ n
+added_rank n None h = absurd h
+added_rank n (Some x) h = omega (arith, h)
+
+-- and has no higher rank
+pub before_rank : (c : Collection) (n : ℕ) (t : AnyType) → IsBefore c n t → type_rank c t ≤ n
+before_rank c n (ty.Resource r) h = added_rank n _ h
+before_rank c n (ty.Func r) h = added_rank n _ h
+before_rank c n (ty.Value (val.Primitive p)) h = omega arith
+before_rank c n (ty.Value (val.Own r)) h = added_rank n _ h
+before_rank c n (ty.Value (val.Borrow r)) h = added_rank n _ h
+before_rank c n (ty.Value (val.Defined r)) h = added_rank n _ h
+before_rank c n (ty.Interface r) h = added_rank n _ h
+before_rank c n (ty.World r) h = added_rank n _ h
+before_rank c n (ty.Module r) h = added_rank n _ h
+
+rank_added : {A : Type 0} (xs : List (Held A)) (i : ℕ) → nat_lt i (length xs) ≡ true → AddedBefore (rank_of_held (slice_get xs i)) (slice_get xs i)
+rank_added [] i h = absurd (grind arith)
+rank_added (x ∷ xs) zero h = omega arith
+rank_added (x ∷ xs) (suc i) h = rank_added xs i (grind arith)
+
+-- what is held was added before as many items as its rank says
+pub held_at_rank : (c : Collection) (t : AnyType) → holds_type c t ≡ true → IsBefore c (type_rank c t) t
+held_at_rank c (ty.Resource r) h = rank_added _ _ h
+held_at_rank c (ty.Func r) h = rank_added _ _ h
+held_at_rank c (ty.Value (val.Primitive p)) h = tt
+held_at_rank c (ty.Value (val.Own r)) h = rank_added _ _ h
+held_at_rank c (ty.Value (val.Borrow r)) h = rank_added _ _ h
+held_at_rank c (ty.Value (val.Defined r)) h = rank_added _ _ h
+held_at_rank c (ty.Interface r) h = rank_added _ _ h
+held_at_rank c (ty.World r) h = rank_added _ _ h
+held_at_rank c (ty.Module r) h = rank_added _ _ h
+
+module _ {L : Type 0} where
+  module _ (t u : ValueType → TypeTree L) where
+    values_same : (vs : List ValueType) → AllByRecursion (λ v. t v ≡ u v) vs → map t vs ≡ map u vs
+    values_same [] h = refl
+    values_same (v ∷ vs) h = rw (h.0, values_same vs h.1) refl
+
+    seconds_same : (es : List (Name × ValueType)) → AllByRecursion (λ v. t v ≡ u v) (seconds es) → map (λ p. t p.1) es ≡ map (λ p. u p.1) es
+    seconds_same [] h = refl
+    seconds_same (e ∷ es) h = rw (h.0, seconds_same es h.1) refl
+
+    optional_same : (o : Option ValueType) (vs : List ValueType) → AllByRecursion (λ v. t v ≡ u v) (and_maybe o vs) → (option_tree t o ≡ option_tree u o) × AllByRecursion (λ v. t v ≡ u v) vs
+    optional_same None vs h = (refl, h)
+    optional_same (Some v) vs h = (h.0, h.1)
+
+    cases_same : (es : List (Name × Option ValueType)) → AllByRecursion (λ v. t v ≡ u v) (case_values es) → map (λ e. option_tree t e.1) es ≡ map (λ e. option_tree u e.1) es
+    cases_same [] h = refl
+    cases_same (e ∷ es) h = let o = optional_same e.1 (case_values es) h in rw (o.0, cases_same es o.1) refl
+
+    pub func_same : (f : FuncType) → AllByRecursion (λ v. t v ≡ u v) (func_values f) → func_tree t f ≡ func_tree u f
+    func_same f h =
+        let o = optional_same f.result (seconds f.params) h in
+        let p = seconds_same f.params o.1 in
+        (λ i. function f.is_async (map (λ p. p.0) f.params) (part_at (p i)) (o.0 i))
+
+    pub defined_same : (d : DefinedType) → AllByRecursion (λ v. t v ≡ u v) (defined_values d) → defined_tree t d ≡ defined_tree u d
+    defined_same (def.Tuple vs) h = let e = values_same vs h in (λ i. tuple_of (length vs) (part_at (e i)))
+    defined_same (def.List v) h = ap list_of h.0
+    defined_same (def.FixedSizeList v n) h = ap (fixed_list_of n) h.0
+    defined_same (def.Option v) h = ap option_of h.0
+    defined_same (def.Result ok err) h = let o = optional_same ok _ h in let p = optional_same err _ o.1 in (λ i. result_of (o.0 i) (p.0 i))
+    defined_same (def.Variant v) h = let e = cases_same v.cases h in (λ i. variant_of (map (λ e. e.0) v.cases) (part_at (e i)))
+    defined_same (def.Record r) h = let e = seconds_same r.fields h in (λ i. record_of (map (λ e. e.0) r.fields) (part_at (e i)))
+    defined_same (def.Flags names) h = refl
+    defined_same (def.Enum names) h = refl
+    defined_same (def.Alias v) h = h.0
+    defined_same (def.Stream v) h = ap stream_of (optional_same v _ h).0
+    defined_same (def.Future v) h = ap future_of (optional_same v _ h).0
+
+  -- trees of items agree where those of their types do
+  pub item_same : (t u : AnyType → TypeTree L) (b : Bool) (k : ItemKind) → t (kind_type k) ≡ u (kind_type k) → item_tree t b k ≡ item_tree u b k
+  item_same t u true (kind.TypeItem a) h = refl
+  item_same t u false (kind.TypeItem a) h = ap type_equal h
+  item_same t u b (kind.Func f) h = ap function_item h
+  item_same t u b (kind.Instance i) h = ap instance_item h
+  item_same t u b (kind.Component w) h = ap component_item h
+  item_same t u b (kind.Module w) h = ap module_item h
+  item_same t u b (kind.Value w) h = ap value_item h
+
+  pub entries_same : (t u : AnyType → TypeTree L) (f : Name × ItemKind → Bool) (es : List (Name × ItemKind)) → AllByRecursion (λ a. t a ≡ u a) (kind_types es)
+      → map {B = Name × TypeTree L} (λ e. (e.0, item_tree t (f e) e.1)) es ≡ map (λ e. (e.0, item_tree u (f e) e.1)) es
+  entries_same t u f [] h = refl
+  entries_same t u f (e ∷ es) h = let x = item_same t u (f e) e.1 h.0 in let r = entries_same t u f es h.1 in (λ i. (e.0, x i) ∷ r i)
+
+  -- trees of what is held agree where those of the item do
+  pub held_same : {A : Type 0} (t u : A → TypeTree L) (j k : ℕ) (o : Option (Held A)) → ((h : Held A) → o ≡ Some h → h.before < j → h.before < k → t h.item ≡ u h.item) → AddedBefore j o → AddedBefore k o
+      → of_held t o ≡ of_held u o
+  held_same t u j k None s hj hk = absurd hj
+  held_same t u j k (Some h) s hj hk = s h refl hj hk
+
+pub values_all : (c : Collection) (P : ValueType → Type 0) (n : ℕ) → ((v : ValueType) → IsValueBefore c n v → P v) → (vs : List ValueType) → AreBefore c n (value_types vs) → AllByRecursion P vs
+values_all c P n f [] h = tt
+values_all c P n f (v ∷ vs) h = (f v h.0, values_all c P n f vs h.1)
+
+module _ {L : Type 0} (naming : Naming L) (c : Collection) (wf : IsWellFormed c) where
+  step_same : (t u : Unfolding L) (j k : ℕ) → ((s : ℕ) (m : Names L) (a : AnyType) → s < j → s < k → IsBefore c s a → t m a ≡ u m a)
+      → (m : Names L) (a : AnyType) → IsBefore c j a → IsBefore c k a → step naming c t m a ≡ step naming c u m a
+  step_same t u j k ih m (ty.Resource r) hj hk = refl
+  step_same t u j k ih m (ty.Value (val.Primitive p)) hj hk = refl
+  step_same t u j k ih m (ty.Value (val.Own r)) hj hk = refl
+  step_same t u j k ih m (ty.Value (val.Borrow r)) hj hk = refl
+  step_same t u j k ih m (ty.Value (val.Defined d)) hj hk = held_same _ _ j k _
+      (λ h is lj lk. defined_same (λ v. t m (ty.Value v)) (λ v. u m (ty.Value v)) h.item
+      (values_all c (λ v. t m (ty.Value v) ≡ u m (ty.Value v)) h.before (λ v b. ih h.before m (ty.Value v) lj lk b) (defined_values h.item) (wf.defined d.0 h is).1)) hj hk
+  step_same t u j k ih m (ty.Func r) hj hk = held_same _ _ j k _
+      (λ h is lj lk. func_same (λ v. t m (ty.Value v)) (λ v. u m (ty.Value v)) h.item
+      (values_all c (λ v. t m (ty.Value v) ≡ u m (ty.Value v)) h.before (λ v b. ih h.before m (ty.Value v) lj lk b) (func_values h.item) (wf.funcs r.0 h is).1)) hj hk
+  step_same t u j k ih m (ty.Interface r) hj hk = held_same _ _ j k _
+      (λ h is lj lk.
+      let n = naming.in_instance h.item m in
+      let b = all_right (IsBefore c h.before) (used_types h.item.uses) (kind_types h.item.exports) (wf.interfaces r.0 h is).1 in
+      let e = entries_same (t n) (u n) (naming.is_fresh n exported) h.item.exports (all_map (IsBefore c h.before) (λ a. t n a ≡ u n a) (λ a q. ih h.before n a lj lk q) (kind_types h.item.exports) b) in
+      (λ i. instance (items_under (e i)))) hj hk
+  step_same t u j k ih m (ty.World r) hj hk = held_same _ _ j k _
+      (λ h is lj lk.
+      let n = naming.in_imports h.item m in
+      let l = naming.in_exports h.item m in
+      let b = all_right (IsBefore c h.before) (used_types h.item.uses) _ (wf.worlds r.0 h is).1 in
+      let bi = all_left (IsBefore c h.before) (kind_types h.item.imports) (kind_types h.item.exports) b in
+      let be = all_right (IsBefore c h.before) (kind_types h.item.imports) (kind_types h.item.exports) b in
+      let x = entries_same (t n) (u n) (naming.is_fresh n imported) h.item.imports (all_map (IsBefore c h.before) (λ a. t n a ≡ u n a) (λ a q. ih h.before n a lj lk q) (kind_types h.item.imports) bi) in
+      let y = entries_same (t l) (u l) (naming.is_fresh l exported) h.item.exports (all_map (IsBefore c h.before) (λ a. t l a ≡ u l a) (λ a q. ih h.before l a lj lk q) (kind_types h.item.exports) be) in
+      (λ i. component (items_under (x i)) (items_under (y i)))) hj hk
+  step_same t u j k ih m (ty.Module r) hj hk = refl
 
   -- to any two depths that are enough
-  pub unfold_same : (j k : ℕ) (a : AnyType) → IsBefore c j a → IsBefore c k a → unfolded_to {L = L} c (suc j) a ≡ unfolded_to d (suc k) a
-  unfold_same j k a hj hk = step_same (unfolded_to c j) (unfolded_to d k) j k (below j k) a hj hk
+  pub unfold_same : (j k : ℕ) (m : Names L) (a : AnyType) → IsBefore c j a → IsBefore c k a → unfolded_to naming c (suc j) m a ≡ unfolded_to naming c (suc k) m a
+  unfold_same j k m a hj hk = step_same (unfolded_to naming c j) (unfolded_to naming c k) j k (below j k) m a hj hk
     where
-      below : (j k s : ℕ) (a : AnyType) → s < j → s < k → IsBefore c s a → unfolded_to {L = L} c j a ≡ unfolded_to d k a
-      below zero k s a lj lk b = absurd (omega (arith, lj))
-      below (suc j) zero s a lj lk b = absurd (omega (arith, lk))
-      below (suc j) (suc k) s a lj lk b = step_same (unfolded_to c j) (unfolded_to d k) j k (below j k) a (before_more c s j a (omega (arith, lj)) b) (before_more c s k a (omega (arith, lk)) b)
+      below : (j k s : ℕ) (m : Names L) (a : AnyType) → s < j → s < k → IsBefore c s a → unfolded_to naming c j m a ≡ unfolded_to naming c k m a
+      below zero k s m a lj lk b = absurd (omega (arith, lj))
+      below (suc j) zero s m a lj lk b = absurd (omega (arith, lk))
+      below (suc j) (suc k) s m a lj lk b = step_same (unfolded_to naming c j) (unfolded_to naming c k) j k (below j k) m a (before_more c s j a (omega (arith, lj)) b) (before_more c s k a (omega (arith, lk)) b)
 
-  -- a collection that grows keeps the tree of each type that it held
-  pub unfolded_kept : size c ≤ size d → (a : AnyType) → holds_type c a ≡ true → unfolded {L = L} d a ≡ unfolded c a
-  unfolded_kept le a h =
+  -- what is held unfolds to its parts unfolded
+  pub unfolded_step : (m : Names L) (a : AnyType) → holds_type c a ≡ true → unfolded naming c m a ≡ step naming c (unfolded naming c) m a
+  unfolded_step m a h =
       let at = type_before c wf a h in
-      sym (unfold_same (size c) (size d) a at (before_more c (size c) (size d) a le at))
-
-same_keeps : (c : Collection) → Keeps c c
-same_keeps c = record { funcs = λ _ _ e. e; interfaces = λ _ _ e. e; worlds = λ _ _ e. e }
-
--- what is held unfolds to its parts unfolded
-pub unfolded_step : {L : Type 0} (c : Collection) → IsWellFormed c → (a : AnyType) → holds_type c a ≡ true → unfolded {L = L} c a ≡ step c (unfolded c) a
-unfolded_step c wf a h =
-    let at = type_before c wf a h in
-    unfold_same c c wf (same_keeps c) (size c) (suc (size c)) a at (before_more c (size c) (suc (size c)) a (omega arith) at)
+      unfold_same (size c) (suc (size c)) m a at (before_more c (size c) (suc (size c)) a (omega arith) at)
 
 -- the same of the tree of a type
-pub type_step : (c : Collection) → IsWellFormed c → (a : AnyType) → holds_type c a ≡ true → type_tree c a ≡ step c (type_tree c) a
+pub type_step : (c : Collection) → IsWellFormed c → (a : AnyType) → holds_type c a ≡ true → type_tree c a ≡ step by_name c (λ m. unfolded by_name c m) (resource_names c) a
 unfolding type_tree
-type_step c wf a h = unfolded_step c wf a h
+type_step c wf a h = unfolded_step by_name c wf (resource_names c) a h
+
+pub unfolded_is : (c : Collection) (a : AnyType) → unfolded by_name c (resource_names c) a ≡ type_tree c a
+unfolding type_tree
+unfolded_is c a = refl
 
 pub primitive_in : (c : Collection) (p : PrimitiveType) → value_in c (val.Primitive p) ≡ primitive p
 unfolding type_tree
@@ -125,14 +261,61 @@ within [] i x e = cc
 within (y ∷ xs) zero x e = grind arith
 within (y ∷ xs) (suc i) x e = let h = within xs i x e in grind arith
 
--- the tree of a function type that is held
-pub func_opens : (c : Collection) → IsWellFormed c → (f : FuncTypeId) (x : FuncType) → item_at c.funcs f.0 ≡ Some x → type_tree c (ty.Func f) ≡ func_in c x
-func_opens c wf f x at =
-    let h = held_item _ x at in
-    type_step c wf (ty.Func f) (within c.funcs f.0 h.0 h.1) ∙ ap (of_held (func_in c)) h.1 ∙ ap (func_in c) h.2
+-- a type of which something is held: its rank, and its tree from its parts, which are of lower rank
+pub record Opens (c : Collection) (a : AnyType) (parts : List AnyType) (tree : TypeTree Name) : Type 0 where
+  pub before : ℕ
+  pub rank : type_rank c a ≡ suc before
+  pub held : AreBefore c before parts
+  pub is : type_tree c a ≡ tree
 
--- the tree of an interface that is held
-pub interface_opens : (c : Collection) → IsWellFormed c → (i : InterfaceId) (x : Interface) → item_at c.interfaces i.0 ≡ Some x → type_tree c (ty.Interface i) ≡ instance (listed_in c x.exports)
-interface_opens c wf i x at =
+pub opens_func : (c : Collection) → IsWellFormed c → (f : FuncTypeId) (x : FuncType) → item_at c.funcs f.0 ≡ Some x → Opens c (ty.Func f) (func_mentions x) (func_in c x)
+unfolding type_tree
+opens_func c wf f x at =
     let h = held_item _ x at in
-    type_step c wf (ty.Interface i) (within c.interfaces i.0 h.0 h.1) ∙ ap (of_held (interface_tree (type_tree c))) h.1 ∙ ap (interface_tree (type_tree c)) h.2
+    record {
+      before = h.0.before;
+      rank = ap rank_of_held h.1;
+      held = let P : FuncType → Type 0 = λ y. AreBefore c h.0.before (func_mentions y) in subst P h.2 (wf.funcs f.0 h.0 h.1).1;
+      is = type_step c wf (ty.Func f) (within c.funcs f.0 h.0 h.1) ∙ ap (of_held (func_in c)) h.1 ∙ ap (func_in c) h.2;
+    }
+
+pub opens_defined : (c : Collection) → IsWellFormed c → (f : DefinedTypeId) (x : DefinedType) → item_at c.defined f.0 ≡ Some x → Opens c (ty.Value (val.Defined f)) (defined_mentions x) (defined_in c x)
+unfolding type_tree
+opens_defined c wf f x at =
+    let h = held_item _ x at in
+    record {
+      before = h.0.before;
+      rank = ap rank_of_held h.1;
+      held = let P : DefinedType → Type 0 = λ y. AreBefore c h.0.before (defined_mentions y) in subst P h.2 (wf.defined f.0 h.0 h.1).1;
+      is = type_step c wf (ty.Value (val.Defined f)) (within c.defined f.0 h.0 h.1) ∙ ap (of_held (defined_in c)) h.1 ∙ ap (defined_in c) h.2;
+    }
+
+pub opens_interface : (c : Collection) → IsWellFormed c → (i : InterfaceId) (x : Interface) → item_at c.interfaces i.0 ≡ Some x → Opens c (ty.Interface i) (kind_types x.exports) (instance (listed_in c x.exports))
+unfolding type_tree
+opens_interface c wf i x at =
+    let h = held_item _ x at in
+    let P : Interface → Type 0 = λ y. AreBefore c h.0.before (interface_mentions y) in
+    let f : Interface → TypeTree Name = λ y. instance (listed_in c y.exports) in
+    record {
+      before = h.0.before;
+      rank = ap rank_of_held h.1;
+      held = all_right (IsBefore c h.0.before) (used_types x.uses) (kind_types x.exports) (subst P h.2 (wf.interfaces i.0 h.0 h.1).1);
+      is = type_step c wf (ty.Interface i) (within c.interfaces i.0 h.0 h.1) ∙ ap (of_held f) h.1 ∙ ap f h.2;
+    }
+
+pub opens_world : (c : Collection) → IsWellFormed c → (i : WorldId) (x : World) → item_at c.worlds i.0 ≡ Some x → Opens c (ty.World i) (world_mentions x) (world_in c x)
+unfolding type_tree
+opens_world c wf i x at =
+    let h = held_item _ x at in
+    let P : World → Type 0 = λ y. AreBefore c h.0.before (world_mentions y) in
+    record {
+      before = h.0.before;
+      rank = ap rank_of_held h.1;
+      held = subst P h.2 (wf.worlds i.0 h.0 h.1).1;
+      is = type_step c wf (ty.World i) (within c.worlds i.0 h.0 h.1) ∙ ap (of_held (world_in c)) h.1 ∙ ap (world_in c) h.2;
+    }
+
+pub opens_module : (c : Collection) → IsWellFormed c → (i : ModuleTypeId) (x : ModuleType) → item_at c.modules i.0 ≡ Some x → type_tree c (ty.Module i) ≡ module_tree x
+opens_module c wf i x at =
+    let h = held_item _ x at in
+    type_step c wf (ty.Module i) (within c.modules i.0 h.0 h.1) ∙ ap (of_held module_tree) h.1 ∙ ap module_tree h.2

@@ -1,141 +1,134 @@
--- Trees of value types and of function types are equal where their parts are.
+-- Trees of value types, and what is asked of them.
 use Rattle.std.proofs.Common.{ℕ, zero, suc, Bool, true, false, IsTrue, List, [], ◌∷◌, ◌++◌, map, take, ◌≡◌, ◌≢◌, ◌<◌, ◌≤◌, ◌↔◌, length, refl, ap, sym, ◌∙◌, subst, Option, Some, None, arith, slice_get}
 use Rattle.std.specs.Option.{option_map}
-use Rattle.wac_types.specs.Name.{Name}
+use Rattle.std.specs.List.{AllByRecursion}
+use Rattle.wac_types.specs.Name.{Name, option_case}
+use Rattle.wac_types.specs.declared.checker.Question.{Question}
+use Rattle.wac_types.specs.declared.collection.Held.{Held}
 use Rattle.wac_types.specs.declared.component.PrimitiveType.{PrimitiveType}
+use Rattle.wac_types.specs.declared.component.ResourceId.{ResourceId}
 use Rattle.wac_types.specs.declared.component.ValueType.{ValueType}
 use Rattle.wac_types.specs.declared.component.ValueType.TheVariants as val
+use Rattle.wac_types.specs.declared.component.DefinedType.{DefinedType}
+use Rattle.wac_types.specs.declared.component.DefinedType.TheVariants as def
 use Rattle.wac_types.specs.declared.component.FuncType.{FuncType}
-use Rattle.wac_types.specs.Collection.{Collection}
-use Rattle.wac_types.specs.Tree.{TypeTree, absent, primitive, function}
-use Rattle.wac_types.specs.Held.{part_at, option_tree, func_tree}
-use Rattle.wac_types.specs.Compare.{value_in, optional_in, func_in, entry_in, AreSameParams}
+use Rattle.wac_types.specs.declared.component.«Type».{«Type» as AnyType}
+use Rattle.wac_types.specs.declared.component.«Type».TheVariants as ty
+use Rattle.wac_types.specs.Collection.{Collection, size, seconds, and_maybe, value_types, IsBefore, IsValueBefore, AreBefore}
+use Rattle.wac_types.specs.Tree.{TypeTree, absent, instance, component, module_of, type_equal, instance_item, component_item, module_item, primitive, own, borrow, function}
+use Rattle.wac_types.specs.Held.{Names, part_at, option_tree, func_tree, defined_tree, of_held, resolved, unfolded_to, value_tree}
+use Rattle.wac_types.specs.Subtype.{Sub, IsPlain, by_name, resource_names, type_tree}
+use Rattle.wac_types.specs.Compare.{value_in, optional_in, func_in, defined_in, entry_in, case_in}
+use Rattle.wac_types.specs.Questions.{in_order, Settles, Asks, Refutes, AreThere}
 use Rattle.wac_types.proofs.Unfolding.{primitive_in}
-
-pub not_true : IsTrue false → ⊥
-not_true p = cc
-
-pub false_not : {P : Type 0} → (P → ⊥) → (IsTrue false ↔ P)
-false_not n = (λ p. absurd (not_true p), λ s. absurd (n s))
+use Rattle.wac_types.proofs.Asking.{settles_now, settles_then, settles_iff}
 
 -- the tree of a primitive, by its name
 pub primitive_inj : {L : Type 0} (p q : PrimitiveType) → (let tree : PrimitiveType → TypeTree L = primitive in tree p ≡ tree q) → p ≡ q
 primitive_inj p q e = cc
 
--- an equation of trees along others
-pub along : {T P : Type 0} (x y a b : T) → x ≡ a → y ≡ b → (P ↔ (x ≡ y)) → (P ↔ (a ≡ b))
-along x y a b e f h = (λ p. sym e ∙ h.0 p ∙ f, λ q. h.1 (e ∙ q ∙ sym f))
+pub primitives_same : (c d : Collection) (p q : PrimitiveType) → p ≡ q → value_in c (val.Primitive p) ≡ value_in d (val.Primitive q)
+primitives_same c d p q e = primitive_in c p ∙ ap primitive e ∙ sym (primitive_in d q)
 
--- a value type stands for something
-pub value_there : (c : Collection) (v : ValueType) → value_in c v ≢ absent
-value_there c (val.Primitive p) e = let k : primitive p ≡ absent = sym (primitive_in c p) ∙ e in cc
+pub primitives_inj : (c d : Collection) (p q : PrimitiveType) → value_in c (val.Primitive p) ≡ value_in d (val.Primitive q) → p ≡ q
+primitives_inj c d p q e = primitive_inj p q (sym (primitive_in c p) ∙ e ∙ primitive_in d q)
 
-module _ {V : Type 0} where
-  pub take_one_more : (es : List (Name × V)) (i : ℕ) (n : Name) (v : V) → option_map (λ e. e.0) (slice_get es i) ≡ Some n → option_map (λ e. e.1) (slice_get es i) ≡ Some v
-      → take (suc i) es ≡ take i es ++ (n, v) ∷ []
-  take_one_more [] i n v a b = cc
-  take_one_more (e ∷ es) zero n v a b = let x : e.0 ≡ n = cc in let y : e.1 ≡ v = cc in rw (x, y) refl
-  take_one_more (e ∷ es) (suc i) n v a b = ap (λ r. e ∷ r) (take_one_more es i n v a b)
+module _ {L : Type 0} where
+  -- what is plain is a subtype of its equal alone
+  pub plain_sub : (a b : TypeTree L) → IsPlain a → Sub a b → a ≡ b
+  plain_sub a b p (Sub.same _ q) = refl
+  plain_sub a b p (Sub.instances _ _ f) = absurd p
+  plain_sub a b p (Sub.components _ _ _ _ f g) = absurd p
+  plain_sub a b p (Sub.modules _ _ _ _ f g) = absurd p
+  plain_sub a b p (Sub.type_items _ _ s t) = absurd p
+  plain_sub a b p (Sub.instance_items _ _ s) = absurd p
+  plain_sub a b p (Sub.component_items _ _ s) = absurd p
+  plain_sub a b p (Sub.module_items _ _ s) = absurd p
 
-  -- the entry at a position, from its name and its value
-  pub entry_at : (es : List (Name × V)) (i : ℕ) (n : Name) (v : V) → option_map (λ e. e.0) (slice_get es i) ≡ Some n → option_map (λ e. e.1) (slice_get es i) ≡ Some v → slice_get es i ≡ Some (n, v)
-  entry_at [] i n v a b = cc
-  entry_at (e ∷ es) zero n v a b = let x : e.0 ≡ n = cc in let y : e.1 ≡ v = cc in rw (x, y) refl
-  entry_at (e ∷ es) (suc i) n v a b = entry_at es i n v a b
+  pub plain_same : (a b : TypeTree L) → IsPlain a → a ≡ b → Sub a b
+  plain_same a b p e = let P : TypeTree L → Type 0 = λ x. Sub a x in subst P e (Sub.same a p)
 
-pub names_length : {V W : Type 0} (xs : List (Name × V)) (ys : List (Name × W)) → map (λ p. p.0) xs ≡ map (λ p. p.0) ys → length xs ≡ length ys
-names_length [] [] e = refl
-names_length [] (y ∷ ys) e = cc
-names_length (x ∷ xs) [] e = cc
-names_length (x ∷ xs) (y ∷ ys) e = let rest : map (λ p. p.0) xs ≡ map (λ p. p.0) ys = cc in ap suc (names_length xs ys rest)
+  plain_own : (o : Option L) → IsPlain (option_case o absent own)
+  plain_own None = tt
+  plain_own (Some l) = tt
 
-pub name_in : {V : Type 0} (xs : List (Name × V)) (i : ℕ) (n : Name) (v : V) → slice_get xs i ≡ Some (n, v) → slice_get (map (λ p. p.0) xs) i ≡ Some n
-name_in [] i n v h = cc
-name_in (x ∷ xs) zero n v h = let e : x ≡ (n, v) = cc in ap (λ p. Some p.0) e
-name_in (x ∷ xs) (suc i) n v h = name_in xs i n v h
+  plain_borrow : (o : Option L) → IsPlain (option_case o absent borrow)
+  plain_borrow None = tt
+  plain_borrow (Some l) = tt
 
-pub name_there : {V : Type 0} (xs : List (Name × V)) (i : ℕ) (n : Name) → option_map (λ e. e.0) (slice_get xs i) ≡ Some n → slice_get (map (λ p. p.0) xs) i ≡ Some n
-name_there [] i n h = cc
-name_there (x ∷ xs) zero n h = h
-name_there (x ∷ xs) (suc i) n h = name_there xs i n h
+  plain_held : (t : DefinedType → TypeTree L) → ((d : DefinedType) → IsPlain (t d)) → (o : Option (Held DefinedType)) → IsPlain (of_held t o)
+  plain_held t f None = tt
+  plain_held t f (Some h) = f h.item
 
-pub part_in : {V L : Type 0} (t : V → TypeTree L) (xs : List (Name × V)) (i : ℕ) (n : Name) (v : V) → slice_get xs i ≡ Some (n, v) → part_at (map (λ p. t p.1) xs) i ≡ t v
-part_in t [] i n v h = cc
-part_in t (x ∷ xs) zero n v h = let e : x ≡ (n, v) = cc in ap (λ p. t p.1) e
-part_in t (x ∷ xs) (suc i) n v h = part_in t xs i n v h
+  plain_defined : (t : ValueType → TypeTree L) → ((v : ValueType) → IsPlain (t v)) → (d : DefinedType) → IsPlain (defined_tree t d)
+  plain_defined t f (def.Alias v) = f v
+  plain_defined t f _ = tt
 
--- parameters that are the same at each position
-pub params_all : (c d : Collection) (xs ys : List (Name × ValueType)) → length xs ≡ length ys
-    → ((k : ℕ) → k < length xs → option_map (entry_in c) (slice_get xs k) ≡ option_map (entry_in d) (slice_get ys k))
-    → (map (λ p. p.0) xs ≡ map (λ p. p.0) ys) × (map (λ p. value_in c p.1) xs ≡ map (λ p. value_in d p.1) ys)
-params_all c d [] [] e f = (refl, refl)
-params_all c d [] (y ∷ ys) e f = cc
-params_all c d (x ∷ xs) [] e f = cc
-params_all c d (x ∷ xs) (y ∷ ys) e f =
-    let lens : length xs ≡ length ys = cc in
-    let first : Some (entry_in c x) ≡ Some (entry_in d y) = f 0 (omega arith) in
-    let one : entry_in c x ≡ entry_in d y = cc in
-    let name : x.0 ≡ y.0 = ap (λ p. p.0) one in
-    let tree : value_in c x.1 ≡ value_in d y.1 = ap (λ p. p.1) one in
-    let rest = params_all c d xs ys lens (λ k lt. f (suc k) (omega (arith, lt))) in
-    ((λ i. name i ∷ rest.0 i), (λ i. tree i ∷ rest.1 i))
+-- trees of value types are plain
+plain_to : (c : Collection) (k : ℕ) (v : ValueType) → IsPlain (unfolded_to by_name c k (resource_names c) (ty.Value v))
+plain_to c zero v = tt
+plain_to c (suc k) (val.Primitive p) = tt
+plain_to c (suc k) (val.Own r) = plain_own (resource_names c (resolved c r))
+plain_to c (suc k) (val.Borrow r) = plain_borrow (resource_names c (resolved c r))
+plain_to c (suc k) (val.Defined d) =
+    let t : ValueType → TypeTree Name = λ v. unfolded_to by_name c k (resource_names c) (ty.Value v) in
+    plain_held (defined_tree t) (plain_defined t (plain_to c k)) (slice_get c.defined d.0)
 
-pub same_params_all : (c d : Collection) (xs ys : List (Name × ValueType)) → length xs ≡ length ys
-    → ((k : ℕ) → k < length xs → option_map (entry_in c) (slice_get xs k) ≡ option_map (entry_in d) (slice_get ys k)) → AreSameParams c xs d ys
-same_params_all c d xs ys e f = let r = params_all c d xs ys e f in (r.0, ap part_at r.1)
+pub value_plain : (c : Collection) (v : ValueType) → IsPlain (value_in c v)
+unfolding type_tree
+value_plain c v = plain_to c (suc (size c)) v
 
--- the parts of a function type
-pub record SameFuncs (c d : Collection) (a b : FuncType) : Type 0 where
-  pub async : a.is_async ≡ b.is_async
-  pub res : optional_in c a.result ≡ optional_in d b.result
-  pub params : AreSameParams c a.params d b.params
+module _ {t : Bool} {x y : Collection} where
+  pub asks_now : {E : Type 0} {ps qs : List AnyType} {o : List Question} → E → Asks t x y ps qs o o E
+  asks_now e = record { settles = λ m n hp hq. settles_now _ _ _ e }
 
-function_parts : {L : Type 0} (a b : Bool) (m n : List Name) (p q : ℕ → TypeTree L) (r s : TypeTree L) → function a m p r ≡ function b n q s → (a ≡ b) × (m ≡ n) × (p ≡ q) × (r ≡ s)
-function_parts a b m n p q r s e = (cc, cc, cc, cc)
+  pub asks_iff : {E F : Type 0} {ps qs : List AnyType} {o k : List Question} → (E → F) → (F → E) → Asks t x y ps qs o k E → Asks t x y ps qs o k F
+  asks_iff f g s = record { settles = λ m n hp hq. settles_iff _ _ _ _ f g (s.settles m n hp hq) }
 
-pub func_parts : (c d : Collection) (a b : FuncType) → func_in c a ≡ func_in d b → SameFuncs c d a b
-func_parts c d a b e =
-    let f = function_parts a.is_async b.is_async (map (λ p. p.0) a.params) (map (λ p. p.0) b.params)
-    (part_at (map (λ p. value_in c p.1) a.params)) (part_at (map (λ p. value_in d p.1) b.params)) (optional_in c a.result) (optional_in d b.result) e in
-    record { async = f.0; res = f.3; params = (f.1, f.2) }
+  -- of parts of what is mentioned
+  pub asks_of : {E : Type 0} {ps0 qs0 : List AnyType} (ps qs : List AnyType) {o k : List Question} → ((m : ℕ) → AreBefore x m ps → AreBefore x m ps0) → ((m : ℕ) → AreBefore y m qs → AreBefore y m qs0)
+      → Asks t x y ps0 qs0 o k E → Asks t x y ps qs o k E
+  asks_of ps qs f g s = record { settles = λ m n hp hq. s.settles m n (f m hp) (g n hq) }
 
--- function types are equal where their parts are
-pub funcs_then : (c d : Collection) (a b : FuncType) (r : Bool) → a.is_async ≡ b.is_async → optional_in c a.result ≡ optional_in d b.result → (IsTrue r ↔ AreSameParams c a.params d b.params)
-    → (IsTrue r ↔ (func_in c a ≡ func_in d b))
-funcs_then c d a b r async res iff =
-    ((λ p. let s = iff.0 p in (λ i. function (async i) (s.0 i) (s.1 i) (res i))), (λ e. iff.1 (func_parts c d a b e).params))
+  -- two in turn
+  pub asks_then : {E F : Type 0} {ps qs : List AnyType} {o l k : List Question} → Asks t x y ps qs o l E → Asks t x y ps qs l k F → Asks t x y ps qs o k (E × F)
+  asks_then s r = record { settles = λ m n hp hq. settles_then _ _ _ _ _ (s.settles m n hp hq) (r.settles m n hp hq) }
 
--- a name and a type that are the same at a position
-pub entries_meet : (c d : Collection) (xs ys : List (Name × ValueType)) (i : ℕ) (m n : Name) (v w : ValueType)
-    → option_map (λ e. e.0) (slice_get xs i) ≡ Some m → option_map (λ e. e.1) (slice_get xs i) ≡ Some v → option_map (λ e. e.0) (slice_get ys i) ≡ Some n → option_map (λ e. e.1) (slice_get ys i) ≡ Some w
-    → m ≡ n → value_in c v ≡ value_in d w → option_map (entry_in c) (slice_get xs i) ≡ option_map (entry_in d) (slice_get ys i)
-entries_meet c d xs ys i m n v w a b e f same tree =
-    ap (option_map (entry_in c)) (entry_at xs i m v a b) ∙ (λ k. Some (same k, tree k)) ∙ sym (ap (option_map (entry_in d)) (entry_at ys i n w e f))
+  pub asks_values : (v w : ValueType) {o k : List Question} → Asks t x y (ty.Value v ∷ []) (ty.Value w ∷ []) o k (Sub (value_in x v) (value_in y w)) → Asks t x y (ty.Value v ∷ []) (ty.Value w ∷ []) o k (value_in x v ≡ value_in y w)
+  asks_values v w s = asks_iff (plain_sub (value_in x v) (value_in y w) (value_plain x v)) (plain_same (value_in x v) (value_in y w) (value_plain x v)) s
 
--- parameters that differ in a name or a type at a position
-pub params_differ : (c d : Collection) (xs ys : List (Name × ValueType)) (i : ℕ) (m n : Name) (v w : ValueType)
-    → option_map (λ e. e.0) (slice_get xs i) ≡ Some m → option_map (λ e. e.1) (slice_get xs i) ≡ Some v → option_map (λ e. e.0) (slice_get ys i) ≡ Some n → option_map (λ e. e.1) (slice_get ys i) ≡ Some w
-    → (value_in c v ≡ value_in d w → ⊥) → (IsTrue false ↔ AreSameParams c xs d ys)
-params_differ c d xs ys i m n v w a b e f differ =
-    false_not (λ s. differ (sym (part_in (value_in c) xs i m v (entry_at xs i m v a b)) ∙ ap (λ p. p i) s.1 ∙ part_in (value_in d) ys i n w (entry_at ys i n w e f)))
+pub optionals_none : (t : Bool) (x y : Collection) (v w : Option ValueType) (o : List Question) → v ≡ None → w ≡ None
+    → Asks t x y (value_types (and_maybe v [])) (value_types (and_maybe w [])) o o (optional_in x v ≡ optional_in y w)
+optionals_none t x y v w o e f = asks_now (ap (optional_in x) e ∙ sym (ap (optional_in y) f))
 
-pub names_differ : (c d : Collection) (xs ys : List (Name × ValueType)) (i : ℕ) (m n : Name)
-    → option_map (λ e. e.0) (slice_get xs i) ≡ Some m → option_map (λ e. e.0) (slice_get ys i) ≡ Some n
-    → (m ≡ n → ⊥) → (IsTrue false ↔ AreSameParams c xs d ys)
-names_differ c d xs ys i m n a e differ =
-    false_not (λ s. differ (by (sym (name_there xs i m a) ∙ ap (λ p. slice_get p i) s.0 ∙ name_there ys i n e)))
-  where
-    by : {m n : Name} → Some m ≡ Some n → m ≡ n
-    by e = cc
+pub optionals_some : (t : Bool) (x y : Collection) (v w : Option ValueType) (a b : ValueType) (o k : List Question) → v ≡ Some a → w ≡ Some b
+    → Asks t x y (ty.Value a ∷ []) (ty.Value b ∷ []) o k (value_in x a ≡ value_in y b)
+    → Asks t x y (value_types (and_maybe v [])) (value_types (and_maybe w [])) o k (optional_in x v ≡ optional_in y w)
+optionals_some t x y v w a b o k e f s =
+    let P : Option ValueType → Type 0 = λ u. Asks t x y (value_types (and_maybe u [])) (value_types (and_maybe w [])) o k (optional_in x u ≡ optional_in y w) in
+    let Q : Option ValueType → Type 0 = λ u. Asks t x y (ty.Value a ∷ []) (value_types (and_maybe u [])) o k (value_in x a ≡ optional_in y u) in
+    subst P (sym e) (subst Q (sym f) s)
 
--- lists that are the same at each position
-pub same_lists : {A : Type 0} (xs ys : List A) → length xs ≡ length ys → ((k : ℕ) → k < length xs → slice_get xs k ≡ slice_get ys k) → xs ≡ ys
-same_lists [] [] e f = refl
-same_lists [] (y ∷ ys) e f = cc
-same_lists (x ∷ xs) [] e f = cc
-same_lists (x ∷ xs) (y ∷ ys) e f =
-    let lens : length xs ≡ length ys = cc in
-    let first : Some x ≡ Some y = f 0 (omega arith) in
-    let head : x ≡ y = cc in
-    let rest = same_lists xs ys lens (λ k lt. f (suc k) (omega (arith, lt))) in
-    (λ i. head i ∷ rest i)
+pub optionals_differ : (x y : Collection) (v w : Option ValueType) (a b : ValueType) → v ≡ Some a → w ≡ Some b → (value_in x a ≡ value_in y b → ⊥)
+    → Refutes x y (value_types (and_maybe v [])) (value_types (and_maybe w [])) (optional_in x v ≡ optional_in y w)
+optionals_differ x y v w a b e f n = record { refutes = λ hx hy q. n (sym (ap (optional_in x) e) ∙ q ∙ ap (optional_in y) f) }
+
+pub first_lacks : (x y : Collection) (v w : Option ValueType) (b : ValueType) → v ≡ None → w ≡ Some b → Refutes x y (value_types (and_maybe v [])) (value_types (and_maybe w [])) (optional_in x v ≡ optional_in y w)
+first_lacks x y v w b e f = record {
+  refutes = λ hx hy q.
+      let P : Option ValueType → Type 0 = λ u. AreThere y (value_types (and_maybe u [])) in
+      (subst P f hy).0 (sym (ap (optional_in y) f) ∙ sym q ∙ ap (optional_in x) e);
+}
+
+pub second_lacks : (x y : Collection) (v w : Option ValueType) (a : ValueType) → v ≡ Some a → w ≡ None → Refutes x y (value_types (and_maybe v [])) (value_types (and_maybe w [])) (optional_in x v ≡ optional_in y w)
+second_lacks x y v w a e f = record {
+  refutes = λ hx hy q.
+      let P : Option ValueType → Type 0 = λ u. AreThere x (value_types (and_maybe u [])) in
+      (subst P e hx).0 (sym (ap (optional_in x) e) ∙ q ∙ ap (optional_in y) f);
+}
+
+pub primitives_along : (x y : Collection) (v w : ValueType) (p q : PrimitiveType) → v ≡ val.Primitive p → w ≡ val.Primitive q → p ≡ q → value_in x v ≡ value_in y w
+primitives_along x y v w p q a b e = ap (value_in x) a ∙ primitives_same x y p q e ∙ sym (ap (value_in y) b)
+
+pub primitives_back : (x y : Collection) (v w : ValueType) (p q : PrimitiveType) → v ≡ val.Primitive p → w ≡ val.Primitive q → value_in x v ≡ value_in y w → p ≡ q
+primitives_back x y v w p q a b e = primitives_inj x y p q (sym (ap (value_in x) a) ∙ e ∙ ap (value_in y) b)

@@ -1,16 +1,21 @@
--- What the steps of a comparison answer: function types part by part, listed items name by name.
-use Rattle.std.specs.Prelude.{ℕ, suc, max, ◌≡◌, ◌≢◌, List, [], ◌∷◌, map, Option, Some, None, slice_get}
-use Rattle.wac_types.specs.Name.{Name}
-use Rattle.wac_types.specs.Tree.{TypeTree, absent}
-use Rattle.wac_types.specs.Collection.{Collection, seconds}
-use Rattle.wac_types.specs.Held.{part_at, option_tree, func_tree, listed_tree}
-use Rattle.wac_types.specs.Subtype.{Sub, type_tree}
+-- What the steps of a comparison answer: types part by part, listed items name by name.
+use Rattle.std.specs.Prelude.{ℕ, suc, ◌<◌, ◌≡◌, ◌≢◌, List, [], ◌∷◌, map, Option, Some, None, slice_get}
+use Rattle.wac_types.specs.Name.{Name, option_case}
+use Rattle.wac_types.specs.Core.{CoreItem, no_item}
+use Rattle.wac_types.specs.Tree.{TypeTree, absent, component}
+use Rattle.wac_types.specs.Collection.{Collection, item_at}
+use Rattle.wac_types.specs.Held.{option_tree, func_tree, defined_tree, items_under, core_item, core_under, core_imports}
+use Rattle.wac_types.specs.Subtype.{Sub, IsCoreSubtype, type_tree, kind_tree}
 use Rattle.wac_types.specs.declared.collection.Held.{Held}
+use Rattle.wac_types.specs.declared.core_types.CoreExtern.{CoreExtern}
 use Rattle.wac_types.specs.declared.component.FuncType.{FuncType}
+use Rattle.wac_types.specs.declared.component.DefinedType.{DefinedType}
+use Rattle.wac_types.specs.declared.component.DefinedType.TheVariants as def
+use Rattle.wac_types.specs.declared.component.World.{World}
 use Rattle.wac_types.specs.declared.component.ValueType.{ValueType}
+use Rattle.wac_types.specs.declared.component.ValueType.TheVariants as val
 use Rattle.wac_types.specs.declared.component.«Type».TheVariants as ty
 use Rattle.wac_types.specs.declared.component.ItemKind.{ItemKind}
-use Rattle.wac_types.specs.declared.component.ItemKind.TheVariants as kind
 
 -- the trees of the parts of an item
 abbrev pub value_in : Collection → ValueType → TypeTree Name
@@ -22,35 +27,59 @@ optional_in c v = option_tree (value_in c) v
 abbrev pub func_in : Collection → FuncType → TypeTree Name
 func_in c f = func_tree (value_in c) f
 
-abbrev pub listed_in : Collection → List (Name × ItemKind) → Name → TypeTree Name
-listed_in c es = listed_tree (type_tree c) es
+abbrev pub defined_in : Collection → DefinedType → TypeTree Name
+defined_in c d = defined_tree (value_in c) d
 
--- a parameter: its name and the tree of its type
+abbrev pub listed_in : Collection → List (Name × ItemKind) → Name → TypeTree Name
+listed_in c es = items_under (map (λ e. (e.0, kind_tree c e.1)) es)
+
+-- an entry: its name and the tree of its type
 abbrev pub entry_in : Collection → Name × ValueType → Name × TypeTree Name
 entry_in c e = (e.0, value_in c e.1)
 
--- parameters have the same names and types, in the same order
-abbrev pub AreSameParams : Collection → List (Name × ValueType) → Collection → List (Name × ValueType) → Type 0
-AreSameParams c xs d ys =
-    (map (λ p. p.0) xs ≡ map (λ p. p.0) ys)
-    × (part_at (map (λ p. value_in c p.1) xs) ≡ part_at (map (λ p. value_in d p.1) ys))
+abbrev pub case_in : Collection → Name × Option ValueType → Name × TypeTree Name
+case_in c e = (e.0, optional_in c e.1)
+
+-- what a definition is an alias of
+abbrev pub aliased : DefinedType → Option ValueType
+aliased (def.Alias v) = Some v
+aliased _ = None
+
+-- what a value type is an alias of
+abbrev pub alias_in : Collection → ValueType → Option ValueType
+alias_in c (val.Defined d) = option_case (item_at c.defined d.0) None aliased
+alias_in c v = None
+
+abbrev pub world_in : Collection → World → TypeTree Name
+world_in c w = component (listed_in c w.imports) (listed_in c w.exports)
 
 -- the first have each of the second under its name, as a subtype of it
 abbrev pub Offers : Collection → List (Name × ItemKind) → Collection → List (Name × ItemKind) → Type 0
 Offers c xs d ys = (n : Name) → listed_in d ys n ≢ absent → Sub (listed_in c xs n) (listed_in d ys n)
 
--- how many items were there before the one that an item names, and that one
+-- the same of core items
+abbrev pub OffersCore : List (Name × CoreExtern) → List (Name × CoreExtern) → Type 0
+OffersCore xs ys = (n : Name) → core_under ys n ≢ no_item → IsCoreSubtype (core_under xs n) (core_under ys n)
+
+-- and of core items by module and name
+abbrev pub OffersModules : List (Name × List (Name × CoreExtern)) → List (Name × List (Name × CoreExtern)) → Type 0
+OffersModules xs ys = (m n : Name) → core_imports ys m n ≢ no_item → IsCoreSubtype (core_imports xs m n) (core_imports ys m n)
+
+-- how many items there were up to the one that an id names, and that one
 abbrev pub rank_of_held : {A : Type 0} → Option (Held A) → ℕ
 rank_of_held None = 0
 rank_of_held (Some h) = suc h.before
 
-abbrev pub kind_rank : Collection → ItemKind → ℕ
-kind_rank c (kind.Func f) = 0
-kind_rank c (kind.Instance i) = rank_of_held (slice_get c.interfaces i.0)
+-- two lists agree so far
+abbrev pub AgreeBelow : {A : Type 0} → ℕ → List A → List A → Type 0
+AgreeBelow i xs ys = (k : ℕ) → k < i → slice_get xs k ≡ slice_get ys k
 
-abbrev pub kinds_rank : Collection → List ItemKind → ℕ
-kinds_rank c [] = 0
-kinds_rank c (k ∷ ks) = max (kind_rank c k) (kinds_rank c ks)
+-- the first of the second list are offered by the first list
+abbrev pub OffersBelow : ℕ → Collection → List (Name × ItemKind) → Collection → List (Name × ItemKind) → Type 0
+OffersBelow i c xs d ys = (k : ℕ) → k < i → (e : Name × ItemKind) → slice_get ys k ≡ Some e → Sub (listed_in c xs e.0) (kind_tree d e.1)
 
-abbrev pub items_rank : Collection → List (Name × ItemKind) → ℕ
-items_rank c es = kinds_rank c (seconds es)
+abbrev pub OffersCoreBelow : ℕ → List (Name × CoreExtern) → List (Name × CoreExtern) → Type 0
+OffersCoreBelow i xs ys = (k : ℕ) → k < i → (e : Name × CoreExtern) → slice_get ys k ≡ Some e → IsCoreSubtype (core_under xs e.0) (core_item e.1)
+
+abbrev pub OffersModulesBelow : ℕ → List (Name × List (Name × CoreExtern)) → List (Name × List (Name × CoreExtern)) → Type 0
+OffersModulesBelow i xs ys = (k : ℕ) → k < i → (e : Name × List (Name × CoreExtern)) → slice_get ys k ≡ Some e → (n : Name) → core_under e.1 n ≢ no_item → IsCoreSubtype (core_imports xs e.0 n) (core_under e.1 n)

@@ -4,8 +4,15 @@ pub mod Core
 pub mod Tree
 pub mod Collection
 pub mod Held
+pub mod Bound
+pub mod Aliases
+pub mod Uses
+pub mod Laws
+pub mod Interfaces
 pub mod Words
 pub mod Subtype
 pub mod Compare
+pub mod Questions
+pub mod TreeLaws
 pub mod Package
 pub mod KeyLaws

@@ -9,6 +9,9 @@ use Rattle.semver.specs.Identifiers.{parts_text}
 use Rattle.semver.specs.Order.{pre_cmp, build_cmp}
 use Rattle.wac_types.specs.Name.{Name, option_case}
 use Rattle.wac_types.specs.Collection.{Collection, holds_type, with_interface, world_exports, interface_exports}
+use Rattle.wac_types.specs.Uses.{named_right, unless}
+use Rattle.wac_types.specs.declared.collection.AddTypeError.{AddTypeError}
+use Rattle.wac_types.specs.declared.collection.AddTypeError.TheVariants.{ResourceMisnamed}
 use Rattle.wac_types.specs.declared.component.Interface.{Interface}
 use Rattle.wac_types.specs.declared.component.InterfaceId.{InterfaceId}
 use Rattle.wac_types.specs.declared.component.WorldId.{WorldId}
@@ -60,11 +63,15 @@ key_text k = k.0 ++ option_case k.1 [] (λ v. 64 ∷ parts_text v)
 
 -- the interface of an instance of a component with these exports: it has no id
 abbrev pub instance_with : List (Name × ItemKind) → Interface
-instance_with es = record { id = None; exports = es }
+instance_with es = record { id = None; uses = []; exports = es }
 
 -- with the interface of an instance of this world
 abbrev pub with_instance_of : Collection → WorldId → Collection
 with_instance_of c w = with_interface c (instance_with (world_exports c w))
+
+-- what stands against that interface: an own resource that a component of this world exports under another name than its own
+abbrev pub package_fault : Collection → WorldId → Option AddTypeError
+package_fault c w = unless (named_right c [] (world_exports c w)) ResourceMisnamed
 
 -- the package's world and its instances' interface are held, and list the same exports in the same order
 abbrev pub HoldsPackage : Collection → PackageParts → Type 0

@@ -1,10 +1,13 @@
 -- Subtyping, of types without ids, by its rules.
-use Rattle.std.specs.Prelude.{ℕ, ◌≡◌, ◌≢◌, ◌≤◌, Bool, List, Option, Some, None}
+use Rattle.std.specs.Prelude.{ℕ, ◌≡◌, ◌≢◌, ◌≤◌, Bool, false, List, Option, Some, None, slice_get}
 use Rattle.wac_types.specs.Name.{Name}
 use Rattle.wac_types.specs.Core.{CoreItem, no_item, core_function, core_table, core_memory, core_global, core_tag}
 use Rattle.wac_types.specs.Tree.{TypeTree, absent, instance, component, module_of, type_equal, instance_item, component_item, module_item}
 use Rattle.wac_types.specs.Collection.{Collection}
-use Rattle.wac_types.specs.Held.{unfolded, item_tree}
+use Rattle.wac_types.specs.Held.{Naming, Names, unfolded, item_tree}
+use Rattle.wac_types.specs.declared.collection.Held.{Held}
+use Rattle.wac_types.specs.declared.component.Resource.{Resource}
+use Rattle.wac_types.specs.declared.component.ResourceId.{ResourceId}
 use Rattle.wac_types.specs.declared.component.«Type».{«Type» as AnyType}
 use Rattle.wac_types.specs.declared.component.ItemKind.{ItemKind}
 
@@ -47,13 +50,24 @@ pub data Sub {L : Type 0} : TypeTree L → TypeTree L → Type 0 where
   component_items : (a b : TypeTree L) → Sub a b → Sub (component_item a) (component_item b)
   module_items : (a b : TypeTree L) → Sub a b → Sub (module_item a) (module_item b)
 
--- the tree of a held type, in which resources go by their names
+-- resources go by their names, wherever they are looked at
+abbrev pub by_name : Naming Name
+by_name = record { in_instance = λ i m. m; in_imports = λ w m. m; in_exports = λ w m. m; is_fresh = λ m side e. false }
+
+abbrev pub held_name : Option (Held Resource) → Option Name
+held_name None = None
+held_name (Some h) = Some h.item.name
+
+abbrev pub resource_names : Collection → Names Name
+resource_names c r = held_name (slice_get c.resources r.0)
+
+-- the tree of a held type, in which resources go by the names at the ends of their aliases
 unfoldable pub type_tree : Collection → AnyType → TypeTree Name
-type_tree c t = unfolded c t
+type_tree c t = unfolded by_name c (resource_names c) t
 
 -- the tree of an item of a held type
 abbrev pub kind_tree : Collection → ItemKind → TypeTree Name
-kind_tree c k = item_tree (type_tree c) k
+kind_tree c k = item_tree (type_tree c) false k
 
 -- an item of one collection is a subtype of an item of another
 abbrev pub IsSubtype : Collection → ItemKind → Collection → ItemKind → Type 0

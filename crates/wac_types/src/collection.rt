@@ -1,11 +1,14 @@
 //! The collection: lists of items, each of which mentions only items added before it.
-ghost use Rattle.std.specs.Prelude.{◌≡◌, ◌<◌, ◌↔◌, ℕ, length, Some, Err, true, false, IfOk, OnErr};
-ghost use Rattle.wac_types.specs.Collection.{Collection, IsWellFormed, empty, size, seconds, func_values, holds_value, holds_values, holds_type, holds_items, holds_func, holds_interface, holds_world, with_func, with_interface, with_world, item_at};
+ghost use Rattle.std.specs.Prelude.{◌≡◌, ◌<◌, ℕ, length, Some, None, Err, true, false, IfOk, OnErr};
+ghost use Rattle.std.specs.Option.{option_copied};
+ghost use Rattle.wac_types.specs.Collection.{Collection, IsWellFormed, empty, size, func_mentions, resource_mentions, defined_mentions, holds_value, holds_type, with_resource, with_func, with_defined, with_interface, with_world, with_module, item_at};
+ghost use Rattle.wac_types.specs.Uses.{AnswersBy, mention_fault, interface_fault, world_fault, IsSound};
 
 use crate::component::{
-    FuncType, FuncTypeId, Interface, InterfaceId, ItemKind, Type, ValueType, World, WorldId,
+    DefinedType, DefinedTypeId, FuncType, FuncTypeId, Interface, InterfaceId, ItemKind,
+    ModuleTypeId, Resource, ResourceId, Type, ValueType, World, WorldId,
 };
-use crate::named::Named;
+use crate::core_types::ModuleType;
 use std::alloc::Global;
 use std::marker::Model;
 use std::ops::Index;
@@ -17,6 +20,18 @@ pub enum AddTypeError {
     /// The item mentions an id that isn't held.
     #[error("NotHeld")]
     NotHeld,
+    /// A type is used of an interface without id.
+    #[error("UsedInterfaceUnnamed")]
+    UsedInterfaceUnnamed,
+    /// A type is used of an interface that exports no type item of that name.
+    #[error("UsedTypeMissing")]
+    UsedTypeMissing,
+    /// What is listed under the name of a used type isn't that type.
+    #[error("UsedTypeDiffers")]
+    UsedTypeDiffers,
+    /// A resource is listed under another name than its own, neither as an alias nor as a used type.
+    #[error("ResourceMisnamed")]
+    ResourceMisnamed,
     /// Memory ran out.
     #[error("OutOfMemory")]
     OutOfMemory,
@@ -35,26 +50,36 @@ pub struct Held<T> {
 #[derive(Drop)]
 pub struct Types {
     alloc: Global,
+    resources: Vec<Held<Resource>>,
     funcs: Vec<Held<FuncType>>,
+    defined: Vec<Held<DefinedType>>,
     interfaces: Vec<Held<Interface>>,
     worlds: Vec<Held<World>>,
+    modules: Vec<Held<ModuleType>>,
 }
 
 impl Model for Types {
-    ghost use Rattle.wac_types.specs.Collection.{Collection, IsWellFormed};
+    ghost use Rattle.wac_types.specs.Collection.{Collection};
+    ghost use Rattle.wac_types.specs.Laws.{IsLawful};
 
     ghost Value = { Collection };
 
     ghost view = { λ t. record {
+      resources = t.resources.items;
       funcs = t.funcs.items;
+      defined = t.defined.items;
       interfaces = t.interfaces.items;
       worlds = t.worlds.items;
+      modules = t.modules.items;
     } };
 
-    ghost invariant = { λ t. IsWellFormed (record {
+    ghost invariant = { λ t. IsLawful (record {
+      resources = t.resources.items;
       funcs = t.funcs.items;
+      defined = t.defined.items;
       interfaces = t.interfaces.items;
       worlds = t.worlds.items;
+      modules = t.modules.items;
     }) };
 }
 
@@ -65,9 +90,12 @@ impl Types {
     {
         Types {
             alloc,
+            resources: Vec::new(alloc),
             funcs: Vec::new(alloc),
+            defined: Vec::new(alloc),
             interfaces: Vec::new(alloc),
             worlds: Vec::new(alloc),
+            modules: Vec::new(alloc),
         }
     }
 
@@ -76,6 +104,13 @@ impl Types {
         ensures { IsWellFormed self.now }
     {
         let _ = &self.funcs;
+    }
+
+    /// The law of uses: nothing stands against any interface or world that is held.
+    pub fn uses_law(&self)
+        ensures { IsSound self.now }
+    {
+        let _ = &self.interfaces;
     }
 
     /// The memory that the collection grows in.
@@ -88,67 +123,64 @@ impl Types {
         ensures { result ≡ holds_type self.now ty }
     {
         match ty {
+            Type::Resource(id) => id.0 < self.resources.len(),
             Type::Func(id) => id.0 < self.funcs.len(),
             Type::Value(value) => self.contains_value(value),
             Type::Interface(id) => id.0 < self.interfaces.len(),
             Type::World(id) => id.0 < self.worlds.len(),
+            Type::Module(id) => id.0 < self.modules.len(),
         }
     }
 
     // Whether the ids in a value type are held.
-    fn contains_value(&self, value: ValueType) -> bool
+    pub(crate) fn contains_value(&self, value: ValueType) -> bool
         ensures { result ≡ holds_value self.now value }
     {
         match value {
             ValueType::Primitive(_) => true,
+            ValueType::Borrow(id) => id.0 < self.resources.len(),
+            ValueType::Own(id) => id.0 < self.resources.len(),
+            ValueType::Defined(id) => id.0 < self.defined.len(),
         }
-    }
-
-    fn contains_params(&self, params: &Named<ValueType>) -> bool
-        ensures { result ≡ holds_values self.now (seconds params.now) }
-    {
-        for i in 0..params.len() {
-            if !self.contains_value(*params.value_at(i)) {
-                return false;
-            }
-        }
-        true
-    }
-
-    fn contains_func(&self, func: &FuncType) -> bool
-        ensures { result ≡ holds_func self.now func.now }
-    {
-        if let Some(value) = func.result {
-            self.contains_value(value) && self.contains_params(&func.params)
-        } else {
-            self.contains_params(&func.params)
-        }
-    }
-
-    fn contains_items(&self, items: &Named<ItemKind>) -> bool
-        ensures { result ≡ holds_items self.now items.now }
-    {
-        for i in 0..items.len() {
-            let kind = *items.value_at(i);
-            if !self.contains(kind.ty()) {
-                return false;
-            }
-        }
-        true
     }
 
     // How many items there are.
-    fn count(&self) -> u128
+    pub(crate) fn count(&self) -> u128
         ensures { result ≡ size self.now }
     {
-        self.funcs.len() as u128 + self.interfaces.len() as u128 + self.worlds.len() as u128
+        self.resources.len() as u128
+            + self.funcs.len() as u128
+            + self.defined.len() as u128
+            + self.interfaces.len() as u128
+            + self.worlds.len() as u128
+            + self.modules.len() as u128
+    }
+
+    /// Adds a resource. Answers `NotHeld` where it mentions an id that isn't held, and `OutOfMemory` where memory ran out; then nothing has changed.
+    pub fn add_resource(&mut self, resource: Resource) -> Result<ResourceId, AddTypeError>
+        ensures added { IfOk result (λ id. (id.0 ≡ length self.old.resources) × (self.new ≡ with_resource self.old resource)) }
+        ensures refused { OnErr result (self.new ≡ self.old) }
+        ensures fault { AnswersBy (mention_fault self.old (resource_mentions resource)) result }
+    {
+        if !self.contains_alias(&resource) {
+            return Err(AddTypeError::NotHeld);
+        }
+        let id = self.resources.len();
+        let before = self.count();
+        match self.resources.push(Held {
+            item: resource,
+            before,
+        }) {
+            Ok(()) => Ok(ResourceId(id)),
+            Err(_) => Err(AddTypeError::OutOfMemory),
+        }
     }
 
     /// Adds a function type. Answers `NotHeld` where it mentions an id that isn't held, and `OutOfMemory` where memory ran out; then nothing has changed.
     pub fn add_func_type(&mut self, func: FuncType) -> Result<FuncTypeId, AddTypeError>
         ensures added { IfOk result (λ id. (id.0 ≡ length self.old.funcs) × (self.new ≡ with_func self.old func)) }
         ensures refused { OnErr result (self.new ≡ self.old) }
-        ensures not_held { (result ≡ Err AddTypeError.NotHeld) ↔ (holds_func self.old func ≡ false) }
+        ensures fault { AnswersBy (mention_fault self.old (func_mentions func)) result }
     {
         if !self.contains_func(&func) {
             return Err(AddTypeError::NotHeld);
@@ -161,14 +193,34 @@ impl Types {
         }
     }
 
-    /// Adds an interface. Answers `NotHeld` where it mentions an id that isn't held, and `OutOfMemory` where memory ran out; then nothing has changed.
+    /// Adds a defined type. Answers `NotHeld` where it mentions an id that isn't held, and `OutOfMemory` where memory ran out; then nothing has changed.
+    pub fn add_defined_type(&mut self, defined: DefinedType) -> Result<DefinedTypeId, AddTypeError>
+        ensures added { IfOk result (λ id. (id.0 ≡ length self.old.defined) × (self.new ≡ with_defined self.old defined)) }
+        ensures refused { OnErr result (self.new ≡ self.old) }
+        ensures fault { AnswersBy (mention_fault self.old (defined_mentions defined)) result }
+    {
+        if !self.contains_defined(&defined) {
+            return Err(AddTypeError::NotHeld);
+        }
+        let id = self.defined.len();
+        let before = self.count();
+        match self.defined.push(Held {
+            item: defined,
+            before,
+        }) {
+            Ok(()) => Ok(DefinedTypeId(id)),
+            Err(_) => Err(AddTypeError::OutOfMemory),
+        }
+    }
+
+    /// Adds an interface. Answers the lowest error that stands against it, and `OutOfMemory` where memory ran out; then nothing has changed.
     pub fn add_interface(&mut self, interface: Interface) -> Result<InterfaceId, AddTypeError>
         ensures added { IfOk result (λ id. (id.0 ≡ length self.old.interfaces) × (self.new ≡ with_interface self.old interface)) }
         ensures refused { OnErr result (self.new ≡ self.old) }
-        ensures not_held { (result ≡ Err AddTypeError.NotHeld) ↔ (holds_interface self.old interface ≡ false) }
+        ensures fault { AnswersBy (interface_fault self.old interface) result }
     {
-        if !self.contains_items(&interface.exports) {
-            return Err(AddTypeError::NotHeld);
+        if let Some(fault) = self.interface_fault(&interface) {
+            return Err(fault);
         }
         let id = self.interfaces.len();
         let before = self.count();
@@ -181,14 +233,14 @@ impl Types {
         }
     }
 
-    /// Adds a world. Answers `NotHeld` where it mentions an id that isn't held, and `OutOfMemory` where memory ran out; then nothing has changed.
+    /// Adds a world. Answers the lowest error that stands against it, and `OutOfMemory` where memory ran out; then nothing has changed.
     pub fn add_world(&mut self, world: World) -> Result<WorldId, AddTypeError>
         ensures added { IfOk result (λ id. (id.0 ≡ length self.old.worlds) × (self.new ≡ with_world self.old world)) }
         ensures refused { OnErr result (self.new ≡ self.old) }
-        ensures not_held { (result ≡ Err AddTypeError.NotHeld) ↔ (holds_world self.old world ≡ false) }
+        ensures fault { AnswersBy (world_fault self.old world) result }
     {
-        if !self.contains_items(&world.imports) || !self.contains_items(&world.exports) {
-            return Err(AddTypeError::NotHeld);
+        if let Some(fault) = self.world_fault(&world) {
+            return Err(fault);
         }
         let id = self.worlds.len();
         let before = self.count();
@@ -198,6 +250,65 @@ impl Types {
         }) {
             Ok(()) => Ok(WorldId(id)),
             Err(_) => Err(AddTypeError::OutOfMemory),
+        }
+    }
+
+    /// Adds the type of a core module. Answers `OutOfMemory` where memory ran out; then nothing has changed.
+    pub fn add_module_type(&mut self, module_type: ModuleType) -> Result<ModuleTypeId, AddTypeError>
+        ensures added { IfOk result (λ id. (id.0 ≡ length self.old.modules) × (self.new ≡ with_module self.old module_type)) }
+        ensures refused { OnErr result (self.new ≡ self.old) }
+        ensures fault { AnswersBy None result }
+    {
+        let id = self.modules.len();
+        let before = self.count();
+        match self.modules.push(Held {
+            item: module_type,
+            before,
+        }) {
+            Ok(()) => Ok(ModuleTypeId(id)),
+            Err(_) => Err(AddTypeError::OutOfMemory),
+        }
+    }
+
+    // How many resources there are.
+    pub(crate) fn resource_count(&self) -> usize
+        ensures { result ≡ length self.now.resources }
+    {
+        self.resources.len()
+    }
+
+    // The interfaces, as they are held.
+    pub(crate) fn all_interfaces(&self) -> &[Held<Interface>]
+        ensures { result.now ≡ self.now.interfaces }
+    {
+        self.interfaces.as_slice()
+    }
+
+    // What is held under an id; none where it isn't held.
+    pub(crate) fn find_resource(&self, id: ResourceId) -> Option<&Resource>
+        ensures { option_copied result ≡ item_at self.now.resources id.0 }
+    {
+        match self.resources.get(id.0) {
+            Some(held) => Some(&held.item),
+            None => None,
+        }
+    }
+
+    pub(crate) fn find_defined(&self, id: DefinedTypeId) -> Option<&DefinedType>
+        ensures { option_copied result ≡ item_at self.now.defined id.0 }
+    {
+        match self.defined.get(id.0) {
+            Some(held) => Some(&held.item),
+            None => None,
+        }
+    }
+
+    pub(crate) fn find_interface(&self, id: InterfaceId) -> Option<&Interface>
+        ensures { option_copied result ≡ item_at self.now.interfaces id.0 }
+    {
+        match self.interfaces.get(id.0) {
+            Some(held) => Some(&held.item),
+            None => None,
         }
     }
 }
@@ -241,5 +352,47 @@ impl Index<WorldId> for Types {
 
     fn index(&self, id: WorldId) -> &World {
         &self.worlds[id.0].item
+    }
+}
+
+impl Index<ResourceId> for Types {
+    type Output = Resource;
+
+    ghost use Rattle.wac_types.specs.Collection.{HasResource, item_at};
+
+    ghost can_index = { HasResource };
+
+    ghost index_gives = { λ c id item. item_at c.resources id.0 ≡ Some item };
+
+    fn index(&self, id: ResourceId) -> &Resource {
+        &self.resources[id.0].item
+    }
+}
+
+impl Index<DefinedTypeId> for Types {
+    type Output = DefinedType;
+
+    ghost use Rattle.wac_types.specs.Collection.{HasDefined, item_at};
+
+    ghost can_index = { HasDefined };
+
+    ghost index_gives = { λ c id item. item_at c.defined id.0 ≡ Some item };
+
+    fn index(&self, id: DefinedTypeId) -> &DefinedType {
+        &self.defined[id.0].item
+    }
+}
+
+impl Index<ModuleTypeId> for Types {
+    type Output = ModuleType;
+
+    ghost use Rattle.wac_types.specs.Collection.{HasModule, item_at};
+
+    ghost can_index = { HasModule };
+
+    ghost index_gives = { λ c id item. item_at c.modules id.0 ≡ Some item };
+
+    fn index(&self, id: ModuleTypeId) -> &ModuleType {
+        &self.modules[id.0].item
     }
 }

@@ -2,7 +2,7 @@
 ghost use Rattle.std.specs.Prelude.{◌≡◌, ◌<◌, ◌++◌, ◌∷◌, ◌↔◌, ℕ, List, [], length, slice_get, Some, None, Err, IfOk, OnOk, OnErr, IsSome, string_bytes};
 ghost use Rattle.std.specs.Option.{option_map, option_copied};
 ghost use Rattle.wac_types.specs.Name.{find_name};
-ghost use Rattle.wac_types.specs.Named.{named_at, named_pairs, NoNameTwice};
+ghost use Rattle.wac_types.specs.Named.{named_at, named_pairs, labelled, given_names, find_under, inserted_under, NoNameTwice};
 
 use indexmap::IndexMap;
 use std::alloc::{AllocError, Global};
@@ -48,6 +48,97 @@ impl Text {
         ensures { result.now ≡ self.now }
     {
         self.text.as_str()
+    }
+}
+
+/// Values in order.
+#[derive(Debug, Drop)]
+pub struct Sequence<T> {
+    items: Vec<T>,
+}
+
+impl<T> Model for Sequence<T> {
+    ghost use Rattle.std.specs.Prelude.{List};
+
+    ghost Value = { List T };
+
+    ghost view = { λ s. s.items.items };
+}
+
+impl<T> Sequence<T> {
+    /// The values.
+    pub fn as_slice(&self) -> &[T]
+        ensures { result.now ≡ self.now }
+    {
+        self.items.as_slice()
+    }
+}
+
+impl<T: Copy> Sequence<T> {
+    /// The values, in memory of their own.
+    pub fn new(alloc: Global, values: &[T]) -> Result<Sequence<T>, AllocError>
+        ensures { IfOk result (λ s. s ≡ values.now) }
+    {
+        let mut items = Vec::new(alloc);
+        items.extend_from_slice(values)?;
+        Ok(Sequence { items })
+    }
+}
+
+/// Names in order. None stands twice.
+#[derive(Drop)]
+pub struct Labels {
+    names: Named<()>,
+}
+
+impl Model for Labels {
+    ghost use Rattle.std.specs.Prelude.{List};
+    ghost use Rattle.wac_types.specs.Name.{Name};
+    ghost use Rattle.wac_types.specs.Named.{names_of};
+
+    ghost Value = { List Name };
+
+    ghost view = { λ l. names_of l.names };
+}
+
+impl Labels {
+    /// The names, in the order given. Answers `NameTwice` where a name is given twice, and `OutOfMemory` where memory ran out.
+    pub fn new(alloc: Global, names: &[&str]) -> Result<Labels, ShapeError>
+        ensures built { IfOk result (λ l. l ≡ given_names names.now) }
+        ensures names { OnOk result (NoNameTwice (labelled (given_names names.now))) }
+        ensures name_twice { result ≡ Err ShapeError.NameTwice → NoNameTwice (labelled (given_names names.now)) → ⊥ }
+    {
+        let mut labels = Named::new(alloc);
+        for i in 0..names.len() {
+            match labels.insert(alloc, names[i], ()) {
+                Ok(()) => {}
+                Err(fault) => return Err(fault),
+            }
+        }
+        labels.law();
+        Ok(Labels { names: labels })
+    }
+
+    /// The law of all names in order: none stands twice.
+    pub fn law(&self)
+        ensures { NoNameTwice (labelled self.now) }
+    {
+        self.names.law();
+    }
+
+    /// How many there are.
+    pub fn len(&self) -> usize
+        ensures { result ≡ length self.now }
+    {
+        self.names.len()
+    }
+
+    /// The name at a position.
+    pub fn name_at(&self, index: usize) -> &str
+        requires { index < length self.now }
+        ensures { slice_get self.now index ≡ Some result.now }
+    {
+        self.names.name_at(index)
     }
 }
 
@@ -142,6 +233,31 @@ impl<V: Drop> Named<V> {
         match self.entries.insert(key, value) {
             Ok(_) => Ok(()),
             Err(_) => Err(ShapeError::OutOfMemory),
+        }
+    }
+}
+
+impl<V: Drop> Named<Named<V>> {
+    /// Puts a value under two names, behind the others under the first. Answers `NameTwice` where there is one under both, and `OutOfMemory` where memory ran out; then nothing has changed.
+    pub fn insert_under(
+        &mut self,
+        alloc: Global,
+        outer: &str,
+        name: &str,
+        value: V,
+    ) -> Result<(), ShapeError>
+        ensures inserted { OnOk result (self.new ≡ inserted_under self.old outer.now name.now value) }
+        ensures refused { OnErr result (self.new ≡ self.old) }
+        ensures name_twice { (result ≡ Err ShapeError.NameTwice) ↔ IsSome (find_under self.old outer.now name.now) }
+    {
+        if let Some((index, _)) = self.get_full(outer) {
+            let inner = self.entries.get_index_mut(index).unwrap();
+            return inner.insert(alloc, name, value);
+        }
+        let mut inner = Named::new(alloc);
+        match inner.insert(alloc, name, value) {
+            Ok(()) => self.insert(alloc, outer, inner),
+            Err(fault) => Err(fault),
         }
     }
 }

@@ -1,12 +1,13 @@
 //! Packages: a component's bytes, with the world that they are said to be of.
-ghost use Rattle.std.specs.Prelude.{◌≡◌, ◌≢◌, ◌↔◌, Some, Err, true, false, length, IfOk, OnErr, IsTrue, string_bytes};
+ghost use Rattle.std.specs.Prelude.{◌≡◌, ◌↔◌, Some, true, length, IfOk, OnErr, IsTrue, string_bytes};
 ghost use Rattle.std.proofs.Common.{refl};
 ghost use Rattle.std.specs.Cmp.{partial_equiv_from_equiv};
 ghost use Rattle.std.specs.Hash as fed;
 ghost use Rattle.std.specs.Option.{option_map};
 ghost use Rattle.semver.specs.Identifiers.{parts_of};
 ghost use Rattle.wac_types.specs.Collection.{holds_type};
-ghost use Rattle.wac_types.specs.Package.{with_instance_of, same_key, key_cmp, key_writes, key_text, HoldsPackage};
+ghost use Rattle.wac_types.specs.Uses.{AnswersBy, same_item};
+ghost use Rattle.wac_types.specs.Package.{with_instance_of, package_fault, same_key, key_cmp, key_writes, key_text, HoldsPackage};
 ghost use Rattle.wac_types.specs.KeyLaws.{same_key_equiv, key_total, key_ties, key_po, same_key_writes};
 ghost use Rattle.wac_types.specs.declared.component.«Type».TheVariants.{World as world_type};
 
@@ -48,7 +49,7 @@ impl Model for Package {
 }
 
 impl Package {
-    /// A package of a held world. Adds the interface of its instances: one without an id, with the world's exports. Answers `OutOfMemory` where memory ran out; then the collection is as it was.
+    /// A package of a held world. Adds the interface of its instances: one without an id, with the world's exports. Answers `ResourceMisnamed` where the world exports a resource under another name than its own, unless it is an alias, and `OutOfMemory` where memory ran out; then the collection is as it was.
     pub fn new(
         name: &str,
         version: Option<&Version>,
@@ -66,10 +67,16 @@ impl Package {
         }) }
         ensures added { IfOk result (λ p. types.new ≡ with_instance_of types.old world) }
         ensures refused { OnErr result (types.new ≡ types.old) }
-        ensures never_not_held { result ≢ Err AddTypeError.NotHeld }
+        ensures fault { AnswersBy (package_fault types.old world) result }
+        ensures held { IfOk result (λ p. HoldsPackage types.new p) }
     {
         types.law();
         let alloc = types.allocator();
+        let uses = Named::new(alloc);
+        let named_right = types.named_right(&uses, &types[world].exports);
+        if !named_right {
+            return Err(AddTypeError::ResourceMisnamed);
+        }
         let Ok(name) = String::from_str(alloc, name) else {
             return Err(AddTypeError::OutOfMemory);
         };
@@ -79,7 +86,11 @@ impl Package {
         let Ok(exports) = types[world].exports.copied(alloc) else {
             return Err(AddTypeError::OutOfMemory);
         };
-        match types.add_interface(Interface { id: None, exports }) {
+        match types.add_interface(Interface {
+            id: None,
+            uses,
+            exports,
+        }) {
             Ok(instance_type) => Ok(Package {
                 name,
                 version,
@@ -267,9 +278,16 @@ fn same_items(a: &Named<ItemKind>, b: &Named<ItemKind>) -> bool
         return false;
     }
     for i in 0..a.len() {
-        if a.name_at(i) != b.name_at(i) || *a.value_at(i) != *b.value_at(i) {
+        if a.name_at(i) != b.name_at(i) || !same_item(*a.value_at(i), *b.value_at(i)) {
             return false;
         }
     }
     true
+}
+
+// Whether two items have the same sort and the same id.
+fn same_item(a: ItemKind, b: ItemKind) -> bool
+    ensures { result ≡ same_item a b }
+{
+    a == b
 }

@@ -171,3 +171,159 @@ fn a_key_is_displayed_with_its_version(rt: HostRuntime) -> Result<(), Fail> {
     assert!(rt; plain != key);
     Ok(())
 }
+
+// An enumeration of one case, and an alias of a type.
+fn enumeration(types: &mut Types, alloc: Global) -> Result<ValueType, Fail> {
+    let cases = Enum::new(alloc, &["a"])?;
+    Ok(ValueType::Defined(types.add_defined_type(DefinedType::Enum(cases))?))
+}
+
+fn alias(types: &mut Types, of: ValueType) -> Result<ValueType, Fail> {
+    Ok(ValueType::Defined(types.add_defined_type(DefinedType::Alias(of))?))
+}
+
+// An interface that exports a type under one name.
+fn exporter(
+    types: &mut Types,
+    alloc: Global,
+    id: Option<&str>,
+    name: &str,
+    ty: Type,
+) -> Result<InterfaceId, Fail> {
+    let interface = Interface::new(alloc, id, &[(name, ItemKind::TypeItem(ty))])?;
+    Ok(types.add_interface(interface)?)
+}
+
+// Whether an interface that uses a type as `t`, and exports this one as `t`, is answered so.
+fn user(
+    types: &mut Types,
+    alloc: Global,
+    used: (&str, InterfaceId, Option<&str>),
+    exported: ValueType,
+    want: Result<(), AddTypeError>,
+) -> Result<bool, Fail> {
+    let item = ItemKind::TypeItem(Type::Value(exported));
+    let interface = Interface::with_uses(alloc, Some("n:p/i"), &[used], &[("t", item)])?;
+    match types.add_interface(interface) {
+        Ok(_) => Ok(want == Ok(())),
+        Err(fault) => Ok(want == Err(fault)),
+    }
+}
+
+fn next_id(interfaces: &mut Interfaces) -> Option<InterfaceId> {
+    match interfaces.next() {
+        Some((id, _)) => Some(id),
+        None => None,
+    }
+}
+
+#[test]
+fn a_type_is_used_of_a_named_interface_that_has_it(rt: HostRuntime) -> Result<(), Fail> {
+    let alloc = rt.alloc();
+    let mut types = Types::new(alloc);
+    let t = enumeration(&mut types, alloc)?;
+    let first = exporter(&mut types, alloc, None, "t", Type::Value(t))?;
+    let unnamed = Err(AddTypeError::UsedInterfaceUnnamed);
+    assert!(rt; user(&mut types, alloc, ("t", first, Some("u")), t, unnamed)?);
+    let j = exporter(&mut types, alloc, Some("n:p/j"), "t", Type::Value(t))?;
+    let missing = Err(AddTypeError::UsedTypeMissing);
+    assert!(rt; user(&mut types, alloc, ("t", j, Some("u")), t, missing)?);
+    assert!(rt; user(&mut types, alloc, ("t", j, None), t, Ok(()))?);
+    let mut interfaces = types.interfaces();
+    assert_eq!(rt; next_id(&mut interfaces), Some(first));
+    assert_eq!(rt; next_id(&mut interfaces), Some(j));
+    assert!(rt; next_id(&mut interfaces).is_some());
+    assert!(rt; next_id(&mut interfaces).is_none());
+    Ok(())
+}
+
+#[test]
+fn a_used_type_is_the_one_listed(rt: HostRuntime) -> Result<(), Fail> {
+    let alloc = rt.alloc();
+    let mut types = Types::new(alloc);
+    let t = enumeration(&mut types, alloc)?;
+    let other = enumeration(&mut types, alloc)?;
+    let second = alias(&mut types, t)?;
+    let j = exporter(&mut types, alloc, Some("n:p/j"), "t", Type::Value(t))?;
+    let differs = Err(AddTypeError::UsedTypeDiffers);
+    assert!(rt; user(&mut types, alloc, ("t", j, None), other, differs)?);
+    assert!(rt; user(&mut types, alloc, ("t", j, None), second, Ok(()))?);
+    assert_eq!(rt; types.resolve_value_type(second), t);
+    Ok(())
+}
+
+#[test]
+fn a_resource_is_listed_under_its_own_name(rt: HostRuntime) -> Result<(), Fail> {
+    let alloc = rt.alloc();
+    let mut types = Types::new(alloc);
+    let r = types.add_resource(Resource::new(alloc, "r")?)?;
+    let item = ItemKind::TypeItem(Type::Resource(r));
+    let misnamed = Interface::new(alloc, Some("n:p/i"), &[("s", item)])?;
+    assert_eq!(rt;
+        types.add_interface(misnamed),
+        Err(AddTypeError::ResourceMisnamed)
+    );
+    let first = types.add_resource(Resource::alias(alloc, "s", None, r)?)?;
+    let second = types.add_resource(Resource::alias(alloc, "t", None, first)?)?;
+    exporter(&mut types, alloc, None, "u", Type::Resource(second))?;
+    assert_eq!(rt; types.resolve_resource(second), r);
+    Ok(())
+}
+
+#[test]
+fn a_package_lists_its_resources_by_name(rt: HostRuntime) -> Result<(), Fail> {
+    let alloc = rt.alloc();
+    let mut types = Types::new(alloc);
+    let r = types.add_resource(Resource::new(alloc, "r")?)?;
+    let i = exporter(&mut types, alloc, Some("n:p/i"), "r", Type::Resource(r))?;
+    let item = ItemKind::TypeItem(Type::Resource(r));
+    let world = World::with_uses(alloc, None, &[("s", i, Some("r"))], &[], &[("s", item)])?;
+    let world = types.add_world(world)?;
+    let held = types.contains(Type::World(world));
+    assert!(rt; held);
+    let package = Package::new("n:p", None, Vec::new(alloc), world, &mut types);
+    assert!(rt; matches!(package, Err(AddTypeError::ResourceMisnamed)));
+    Ok(())
+}
+
+#[test]
+fn labels_keep_their_order(rt: HostRuntime) -> Result<(), Fail> {
+    let alloc = rt.alloc();
+    let labels = Labels::new(alloc, &["b", "a"])?;
+    assert_eq!(rt; labels.len(), 2);
+    assert_eq!(rt; labels.name_at(0), "b");
+    let twice = Labels::new(alloc, &["b", "a", "b"]);
+    assert!(rt; matches!(twice, Err(ShapeError::NameTwice)));
+    Ok(())
+}
+
+#[test]
+fn fields_keep_their_order(rt: HostRuntime) -> Result<(), Fail> {
+    let alloc = rt.alloc();
+    let record = Record::new(alloc, &[("y", U32), ("x", BOOL)])?;
+    assert!(rt; matches!(record.fields.get_full("x"), Some((1, _))));
+    let variant = Variant::new(alloc, &[("n", None), ("s", Some(U32))])?;
+    assert!(rt; matches!(variant.cases.get("s"), Some(Some(_))));
+    Ok(())
+}
+
+fn global(mutable: bool) -> CoreExtern {
+    CoreExtern::Global {
+        val_type: CoreType::I32,
+        mutable,
+        shared: false,
+    }
+}
+
+#[test]
+fn a_core_module_imports_each_name_of_a_module_once(rt: HostRuntime) -> Result<(), Fail> {
+    let alloc = rt.alloc();
+    let mut module_type = ModuleType::new(alloc);
+    module_type.import(alloc, "m", "a", global(true))?;
+    module_type.import(alloc, "n", "a", global(true))?;
+    let twice = module_type.import(alloc, "m", "a", global(false));
+    assert_eq!(rt; twice, Err(ShapeError::NameTwice));
+    module_type.export(alloc, "a", global(true))?;
+    assert_eq!(rt; module_type.imports.len(), 2);
+    Ok(())
+}

@@ -1,4 +1,4 @@
-use Rattle.wac_binary.proofs.ScopeLaws.{declared_types_counted, declared_instances_counted, declared_core_types_counted, one_more, declared_new_type, declared_new_core_type, declared_types_earlier, declared_instances_earlier, declared_core_types_earlier, root_grows, grows, around}
+use Rattle.wac_binary.proofs.ScopeLaws.{declared_types_counted, declared_instances_counted, declared_core_types_counted, one_more, declared_new_type, declared_new_core_type, declared_types_earlier, declared_instances_earlier, declared_core_types_earlier, root_grows, grows, around, reach_one_more, reach_kept}
 use Rattle.wac_binary.proofs.laws.scope_law.Goals as goal
 
 pub returns : goal.returns
@@ -15,4 +15,6 @@ returns c = record {
   root_grows = root_grows;
   grows = grows;
   around = around;
+  reach_one_more = reach_one_more;
+  reach_kept = reach_kept;
 }

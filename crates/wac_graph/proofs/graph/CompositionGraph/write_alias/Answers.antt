@@ -14,7 +14,7 @@ index-requires c = source_there c.self.inside c.self.invariant c.args.n (rw (←
 
 pub unreachable-requires-in_default-item_kind : goal.unreachable-requires-in_default-item_kind
 unreachable-requires-in_default-item_kind c =
-    source_is_instance c.self.inside c.self.invariant c.args.n (rw (← c.self.view_is) at c.requires) c.in-Some.source c.in-Some.position c.in-Some.ensures.some c.index.result.now c.in_default-item_kind.field-0 c.index.ensures c.in_default-item_kind.is
+    source_is_instance c.self.inside c.self.invariant c.args.n (rw (← c.self.view_is) at c.requires) c.in-Some.source c.in-Some.position c.in-Some.ensures.some c.index.result.now c.index.ensures c.in_default-item_kind.not-Instance
 
 pub index-requires-2 : goal.index-requires-2
 index-requires-2 c = interface_there c.self.inside c.self.invariant (node_number c.in-Some.source) c.index.result.now c.in-Instance.interface c.index.ensures c.in-Instance.is

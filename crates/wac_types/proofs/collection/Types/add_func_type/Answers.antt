@@ -1,5 +1,5 @@
-use Rattle.std.proofs.Common.{◌≡◌, ◌∙◌, sym}
-use Rattle.wac_types.proofs.Growth.{func_added}
+use Rattle.std.proofs.Common.{◌∙◌, sym}
+use Rattle.wac_types.proofs.Adding.{func_added}
 use Rattle.wac_types.proofs.collection.Types.add_func_type.Goals as goal
 use Rattle.wac_types.proofs.collection.Types.add_func_type.Goals.{in-Ok, in-Err}
 

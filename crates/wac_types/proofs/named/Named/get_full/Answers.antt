@@ -1,8 +1,7 @@
-use Rattle.std.proofs.Common.{◌∙◌, ◌≡◌, sym, ap, Some, None, true, subst, List, ℕ, string_bytes, cond}
+use Rattle.std.proofs.Common.{◌∙◌, sym, ap}
 use Rattle.std.specs.Option.{option_map}
-use Rattle.wac_types.specs.Name.{find_name, same_name}
 use Rattle.wac_types.specs.Named.{named_at, by_bytes}
-use Rattle.wac_types.proofs.Names.{found-by_bytes, named_at-none, named_at-at, found_in_full}
+use Rattle.wac_types.proofs.Names.{found-by_bytes, named_at-none, found_in_full}
 use Rattle.wac_types.proofs.named.Named.get_full.Goals as goal
 
 pub returns-in_err-index : goal.returns-in_err-index

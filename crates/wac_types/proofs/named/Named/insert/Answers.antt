@@ -1,4 +1,4 @@
-use Rattle.std.proofs.Common.{◌∙◌, ap, sym, refl, ◌++◌, ◌∷◌, [], None, ◌≡◌}
+use Rattle.std.proofs.Common.{◌∙◌, ap, refl, ◌++◌, ◌∷◌, [], None, ◌≡◌}
 use Rattle.std.specs.String.{string_eq}
 use Rattle.wac_types.specs.Name.{find_name}
 use Rattle.wac_types.specs.Named.{by_bytes}

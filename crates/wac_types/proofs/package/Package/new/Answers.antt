@@ -1,13 +1,11 @@
-use Rattle.std.proofs.Common.{◌≡◌, ◌∙◌, sym, ap, true, false, Err}
-use Rattle.wac_types.specs.declared.collection.AddTypeError.TheVariants.{NotHeld}
-use Rattle.wac_types.specs.Collection.{holds_items}
-use Rattle.wac_types.proofs.Subtyping.{world_exports_held}
+use Rattle.std.proofs.Common.{refl, None}
+use Rattle.wac_types.specs.declared.component.InterfaceId.{InterfaceId}
+use Rattle.wac_types.specs.contracts.package.«Package».{the_row}
+use Rattle.wac_types.proofs.Packages.{package_refused}
 use Rattle.wac_types.proofs.package.Package.new.Goals as goal
 
-pub returns-in-Err-clause-never_not_held : goal.returns-in-Err-clause-never_not_held
-returns-in-Err-clause-never_not_held c e =
-    let held = world_exports_held c.args.types.now c.law.ensures c.args.world _ c.index.ensures in
-    let fault : c.in-Err.fault ≡ NotHeld = cc e in
-    let not = c.in-Err.ensures.not_held.0 (ap Err fault) in
-    let no : true ≡ false = sym held ∙ sym (ap (holds_items c.args.types.now) c.in-Ok-copied.ensures) ∙ not in
-    cc
+pub returns-in-Err-clause-fault : goal.returns-in-Err-clause-fault
+returns-in-Err-clause-fault c =
+    package_refused InterfaceId the_row.Denot c.args.types.now c.law.ensures c.args.world c.index.result.now c.index-2.result.now c.named_right-named_right.result c.new-uses.result
+    (record { id = None; uses = c.new-uses.result; exports = c.in-Ok-copied.exports }) c.in-Err.fault
+    c.index.ensures c.index-2.ensures c.new-uses.ensures c.named_right-named_right.ensures c.if-not-named_right.false refl c.in-Ok-copied.ensures c.in-Err.ensures.fault

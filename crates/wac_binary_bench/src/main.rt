@@ -1,0 +1,128 @@
+//! Times how fast components are written, beside a plain copy of the same bytes: packages of 4 MiB, function imports,
+//! and nested instance types. Any argument asks for the times; without one it writes a few of each and prints how many
+//! bytes they have.
+#![tactic(auto)]
+
+use std::alloc::Global;
+use std::env;
+use std::time::Instant;
+use wac_binary::{BinaryFault, ComponentBuilder, Description, FuncType, InstanceType};
+
+/// What is written.
+#[derive(Clone, Copy)]
+enum Workload {
+    Packages,
+    Imports,
+    InstanceTypes,
+}
+
+/// A function type without parameters and without a result.
+fn plain() -> FuncType<'static> {
+    FuncType {
+        is_async: false,
+        params: &[],
+        result: None,
+    }
+}
+
+/// A component of so many packages with these bytes.
+fn packages(alloc: Global, count: u32, package: &[u8]) -> Result<Vec<u8>, BinaryFault> {
+    let mut b = ComponentBuilder::new(alloc);
+    for _ in 0..count {
+        let _c = b.component(package)?;
+    }
+    b.into_bytes()
+}
+
+/// A component of so many function imports.
+fn imports(alloc: Global, count: u32) -> Result<Vec<u8>, BinaryFault> {
+    let mut b = ComponentBuilder::new(alloc);
+    let f = b.func_type(&plain())?;
+    for _ in 0..count {
+        let _i = b.import("wasi:cli/environment", Description::Func(f))?;
+    }
+    b.into_bytes()
+}
+
+/// An instance type with a function under two names.
+fn instance_type(alloc: Global) -> Result<InstanceType, BinaryFault> {
+    let mut t = InstanceType::new(alloc);
+    let f = t.func_type(&plain())?;
+    let _run = t.export("run", Description::Func(f))?;
+    let _stop = t.export("stop", Description::Func(f))?;
+    Ok(t)
+}
+
+/// A component of one instance type in which so many are nested, each built by itself.
+fn instance_types(alloc: Global, count: u32) -> Result<Vec<u8>, BinaryFault> {
+    let mut outer = InstanceType::new(alloc);
+    for _ in 0..count {
+        let t = instance_type(alloc)?;
+        let _t = outer.instance_type(&t)?;
+    }
+    let mut b = ComponentBuilder::new(alloc);
+    let _t = b.instance_type(&outer)?;
+    b.into_bytes()
+}
+
+fn written(
+    alloc: Global,
+    workload: Workload,
+    count: u32,
+    package: &[u8],
+) -> Result<Vec<u8>, BinaryFault> {
+    match workload {
+        Workload::Packages => packages(alloc, count, package),
+        Workload::Imports => imports(alloc, count),
+        Workload::InstanceTypes => instance_types(alloc, count),
+    }
+}
+
+/// Megabytes in a second.
+fn speed(bytes: usize, nanoseconds: u128) -> u128 {
+    bytes as u128 * 1000 / nanoseconds.max(1)
+}
+
+fn measure(
+    rt: &HostRuntime,
+    name: &str,
+    workload: Workload,
+    count: u32,
+    package: &[u8],
+) -> anyhow::Result<()> {
+    let start = Instant::now(rt)?;
+    let bytes = written(rt.alloc(), workload, count, package)?;
+    let writing = start.elapsed(rt)?.as_nanos();
+    let start = Instant::now(rt)?;
+    let mut copy = Vec::new(rt.alloc());
+    copy.extend_from_slice(bytes.as_slice())?;
+    let copying = start.elapsed(rt)?.as_nanos();
+    let length = copy.len();
+    let speed_of_writing = speed(length, writing);
+    let speed_of_copying = speed(length, copying);
+    println!(rt;
+        "{count} {name}: {length} bytes, written in {writing} ns ({speed_of_writing} MB/s), copied in {copying} ns ({speed_of_copying} MB/s)"
+    )?;
+    Ok(())
+}
+
+fn main(rt: HostRuntime) -> anyhow::Result<()> {
+    let alloc = rt.alloc();
+    if env::args(&rt)?.count() < 2 {
+        let packages = packages(alloc, 2, &[0; 16])?.len();
+        let imports = imports(alloc, 100)?.len();
+        let types = instance_types(alloc, 100)?.len();
+        println!(rt;
+            "2 packages: {packages} bytes, 100 imports: {imports} bytes, 100 instance types: {types} bytes"
+        )?;
+        return Ok(());
+    }
+    let mut package = Vec::new(alloc);
+    package.resize(4 << 20, 0u8)?;
+    for _ in 0..3 {
+        measure(&rt, "packages", Workload::Packages, 16, package.as_slice())?;
+        measure(&rt, "imports", Workload::Imports, 200_000, &[])?;
+        measure(&rt, "instance types", Workload::InstanceTypes, 50_000, &[])?;
+    }
+    Ok(())
+}

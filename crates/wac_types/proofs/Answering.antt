@@ -1,0 +1,211 @@
+-- What the answers for two value types rest on.
+use Rattle.std.proofs.Common.{ℕ, zero, suc, Bool, true, false, List, [], ◌∷◌, ◌≡◌, ◌≢◌, ◌+◌, ◌<◌, ◌≤◌, length, refl, ap, sym, ◌∙◌, subst, Option, Some, None, arith, nat_lt, slice_get}
+use Rattle.wac_types.specs.Name.{Name, option_case}
+use Rattle.wac_types.specs.declared.checker.Question.{Question}
+use Rattle.wac_types.specs.declared.collection.Held.{Held}
+use Rattle.wac_types.specs.declared.component.ResourceId.{ResourceId}
+use Rattle.wac_types.specs.declared.component.PrimitiveType.{PrimitiveType}
+use Rattle.wac_types.specs.declared.component.DefinedTypeId.{DefinedTypeId}
+use Rattle.wac_types.specs.declared.component.DefinedType.{DefinedType}
+use Rattle.wac_types.specs.declared.component.DefinedType.TheVariants as def
+use Rattle.wac_types.specs.declared.component.ValueType.{ValueType}
+use Rattle.wac_types.specs.declared.component.ValueType.TheVariants as val
+use Rattle.wac_types.specs.declared.component.«Type».{«Type» as AnyType}
+use Rattle.wac_types.specs.declared.component.«Type».TheVariants as ty
+use Rattle.wac_types.specs.Collection.{Collection, IsWellFormed, defined_mentions, holds_type, item_of, item_at}
+use Rattle.wac_types.specs.Tree.{TypeTree, absent, primitive, own, borrow, resource}
+use Rattle.wac_types.specs.Held.{resolved, defined_tree}
+use Rattle.wac_types.specs.Subtype.{Sub, resource_names, type_tree}
+use Rattle.wac_types.specs.Compare.{value_in, defined_in, aliased, alias_in}
+use Rattle.wac_types.specs.Questions.{in_order, type_rank, Settles, Asks, Refutes}
+use Rattle.wac_types.proofs.Unfolding.{Opens, opens_defined, held_at_rank, primitive_in}
+use Rattle.wac_types.proofs.Asking.{settles_now, settles_more, settles_iff, settles_opened}
+use Rattle.wac_types.proofs.Sorts.{are_there, name_of_resource}
+
+pub aliased_is : (x : DefinedType) (a : ValueType) → aliased x ≡ Some a → x ≡ def.Alias a
+aliased_is (def.Alias v) a e = let s : v ≡ a = cc in ap def.Alias s
+aliased_is _ a e = cc
+
+-- an alias of a value type has the tree of what it names
+pub alias_opens : (c : Collection) → IsWellFormed c → (v a : ValueType) → alias_in c v ≡ Some a → Opens c (ty.Value v) (ty.Value a ∷ []) (value_in c a)
+alias_opens c wf (val.Primitive p) a e = cc
+alias_opens c wf (val.Own p) a e = cc
+alias_opens c wf (val.Borrow p) a e = cc
+alias_opens c wf (val.Defined d) a e = opens_defined c wf d (def.Alias a) (by (item_at c.defined d.0) e)
+  where
+    by : (o : Option DefinedType) → option_case o None aliased ≡ Some a → o ≡ Some (def.Alias a)
+    by None h = cc
+    by (Some x) h = ap Some (aliased_is x a h)
+
+module _ (t : Bool) (x y : Collection) (o k : List Question) where
+  pub alias_left : IsWellFormed x → (v w a : ValueType) → holds_type y (ty.Value w) ≡ true → alias_in x v ≡ Some a → Asks t x y (ty.Value a ∷ []) (ty.Value w ∷ []) o k (value_in x a ≡ value_in y w)
+      → Settles (in_order t x y) (type_rank x (ty.Value v) + type_rank y (ty.Value w)) o k (value_in x v ≡ value_in y w)
+  alias_left wf v w a hw e asks =
+      let oa = alias_opens x wf v a e in
+      let n = type_rank y (ty.Value w) in
+      let s = asks.settles oa.before n oa.held (held_at_rank y (ty.Value w) hw, tt) in
+      let r = oa.rank in
+      settles_more _ _ _ o k (omega (arith, r)) (settles_iff _ _ o k (λ h. oa.is ∙ h) (λ h. sym oa.is ∙ h) s)
+
+  pub alias_right : IsWellFormed y → (v w a : ValueType) → holds_type x (ty.Value v) ≡ true → alias_in y w ≡ Some a → Asks t x y (ty.Value v ∷ []) (ty.Value a ∷ []) o k (value_in x v ≡ value_in y a)
+      → Settles (in_order t x y) (type_rank x (ty.Value v) + type_rank y (ty.Value w)) o k (value_in x v ≡ value_in y w)
+  alias_right wf v w a hv e asks =
+      let ob = alias_opens y wf w a e in
+      let m = type_rank x (ty.Value v) in
+      let s = asks.settles m ob.before (held_at_rank x (ty.Value v) hv, tt) ob.held in
+      let r = ob.rank in
+      settles_more _ _ _ o k (omega (arith, r)) (settles_iff _ _ o k (λ h. h ∙ sym ob.is) (λ h. h ∙ ob.is) s)
+
+  pub plain_defined : IsWellFormed x → IsWellFormed y → (v w : ValueType) (d e : DefinedTypeId) (D E : DefinedType) → v ≡ val.Defined d → w ≡ val.Defined e → item_at x.defined d.0 ≡ Some D → item_at y.defined e.0 ≡ Some E
+      → Asks t x y (defined_mentions D) (defined_mentions E) o k (defined_in x D ≡ defined_in y E)
+      → Settles (in_order t x y) (type_rank x (ty.Value v) + type_rank y (ty.Value w)) o k (value_in x v ≡ value_in y w)
+  plain_defined wx wy v w d e D E p q a b asks =
+      let oa = opens_defined x wx d D a in
+      let ob = opens_defined y wy e E b in
+      let P : ValueType → Type 0 = λ u. Settles (in_order t x y) (type_rank x (ty.Value u) + type_rank y (ty.Value w)) o k (value_in x u ≡ value_in y w) in
+      let Q : ValueType → Type 0 = λ u. Settles (in_order t x y) (type_rank x (ty.Value (val.Defined d)) + type_rank y (ty.Value u)) o k (value_in x (val.Defined d) ≡ value_in y u) in
+      subst P (sym p) (subst Q (sym q) (settles_opened t x y _ _ _ _ _ _ o k oa ob (λ h. oa.is ∙ h ∙ sym ob.is) (λ h. sym oa.is ∙ h ∙ ob.is) asks))
+
+module _ (x y : Collection) where
+  pub alias_left_differs : IsWellFormed x → (v w a : ValueType) → alias_in x v ≡ Some a → (value_in x a ≡ value_in y w → ⊥) → value_in x v ≡ value_in y w → ⊥
+  alias_left_differs wf v w a e n h = n (sym (alias_opens x wf v a e).is ∙ h)
+
+  pub alias_right_differs : IsWellFormed y → (v w a : ValueType) → alias_in y w ≡ Some a → (value_in x v ≡ value_in y a → ⊥) → value_in x v ≡ value_in y w → ⊥
+  alias_right_differs wf v w a e n h = n (h ∙ (alias_opens y wf w a e).is)
+
+  pub defined_differ : IsWellFormed x → IsWellFormed y → (v w : ValueType) (d e : DefinedTypeId) (D E : DefinedType) → v ≡ val.Defined d → w ≡ val.Defined e → item_at x.defined d.0 ≡ Some D → item_at y.defined e.0 ≡ Some E
+      → Refutes x y (defined_mentions D) (defined_mentions E) (defined_in x D ≡ defined_in y E) → value_in x v ≡ value_in y w → ⊥
+  defined_differ wx wy v w d e D E p q a b n h =
+      let oa = opens_defined x wx d D a in
+      let ob = opens_defined y wy e E b in
+      n.refutes (are_there x wx oa.before (defined_mentions D) oa.held) (are_there y wy ob.before (defined_mentions E) ob.held)
+      (sym oa.is ∙ sym (ap (value_in x) p) ∙ h ∙ ap (value_in y) q ∙ ob.is)
+
+pub own_in : (c : Collection) (r : ResourceId) → value_in c (val.Own r) ≡ option_case (resource_names c (resolved c r)) absent own
+unfolding type_tree
+own_in c r = refl
+
+pub borrow_in : (c : Collection) (r : ResourceId) → value_in c (val.Borrow r) ≡ option_case (resource_names c (resolved c r)) absent borrow
+unfolding type_tree
+borrow_in c r = refl
+
+pub resource_in : (c : Collection) (r : ResourceId) → type_tree c (ty.Resource r) ≡ option_case (resource_names c (resolved c r)) absent resource
+unfolding type_tree
+resource_in c r = refl
+
+own_inj : (o p : Option Name) → (let f : Option Name → TypeTree Name = λ q. option_case q absent own in f o ≡ f p) → o ≡ p
+own_inj None None e = refl
+own_inj None (Some b) e = cc
+own_inj (Some a) None e = cc
+own_inj (Some a) (Some b) e = let s : a ≡ b = cc in ap Some s
+
+borrow_inj : (o p : Option Name) → (let f : Option Name → TypeTree Name = λ q. option_case q absent borrow in f o ≡ f p) → o ≡ p
+borrow_inj None None e = refl
+borrow_inj None (Some b) e = cc
+borrow_inj (Some a) None e = cc
+borrow_inj (Some a) (Some b) e = let s : a ≡ b = cc in ap Some s
+
+pub resource_inj : (o p : Option Name) → (let f : Option Name → TypeTree Name = λ q. option_case q absent resource in f o ≡ f p) → o ≡ p
+resource_inj None None e = refl
+resource_inj None (Some b) e = cc
+resource_inj (Some a) None e = cc
+resource_inj (Some a) (Some b) e = let s : a ≡ b = cc in ap Some s
+
+module _ (x y : Collection) (v w : ValueType) (r s : ResourceId) where
+  pub owns_same : v ≡ val.Own r → w ≡ val.Own s → resource_names x (resolved x r) ≡ resource_names y (resolved y s) → value_in x v ≡ value_in y w
+  owns_same p q e = ap (value_in x) p ∙ own_in x r ∙ ap (λ o. option_case o absent own) e ∙ sym (own_in y s) ∙ sym (ap (value_in y) q)
+
+  pub owns_back : v ≡ val.Own r → w ≡ val.Own s → value_in x v ≡ value_in y w → resource_names x (resolved x r) ≡ resource_names y (resolved y s)
+  owns_back p q e = own_inj _ _ (sym (own_in x r) ∙ sym (ap (value_in x) p) ∙ e ∙ ap (value_in y) q ∙ own_in y s)
+
+  pub borrows_same : v ≡ val.Borrow r → w ≡ val.Borrow s → resource_names x (resolved x r) ≡ resource_names y (resolved y s) → value_in x v ≡ value_in y w
+  borrows_same p q e = ap (value_in x) p ∙ borrow_in x r ∙ ap (λ o. option_case o absent borrow) e ∙ sym (borrow_in y s) ∙ sym (ap (value_in y) q)
+
+  pub borrows_back : v ≡ val.Borrow r → w ≡ val.Borrow s → value_in x v ≡ value_in y w → resource_names x (resolved x r) ≡ resource_names y (resolved y s)
+  borrows_back p q e = borrow_inj _ _ (sym (borrow_in x r) ∙ sym (ap (value_in x) p) ∙ e ∙ ap (value_in y) q ∙ borrow_in y s)
+
+-- what sort of value type a tree is of
+shape : TypeTree Name → ℕ
+shape (primitive p) = 1
+shape (own r) = 2
+shape (borrow r) = 3
+shape _ = 4
+
+value_shape : ValueType → ℕ
+value_shape (val.Primitive p) = 1
+value_shape (val.Own r) = 2
+value_shape (val.Borrow r) = 3
+value_shape (val.Defined d) = 4
+
+defined_shape : (t : ValueType → TypeTree Name) (d : DefinedType) → aliased d ≡ None → shape (defined_tree t d) ≡ 4
+unfolding shape
+defined_shape t (def.Alias v) e = cc
+defined_shape t (def.Tuple vs) f = refl
+defined_shape t (def.List v) f = refl
+defined_shape t (def.FixedSizeList v n) f = refl
+defined_shape t (def.Option v) f = refl
+defined_shape t (def.Result v w) f = refl
+defined_shape t (def.Variant v) f = refl
+defined_shape t (def.Record v) f = refl
+defined_shape t (def.Flags v) f = refl
+defined_shape t (def.Enum v) f = refl
+defined_shape t (def.Stream v) f = refl
+defined_shape t (def.Future v) f = refl
+
+there_at : {A : Type 0} (xs : List (Held A)) (i : ℕ) → nat_lt i (length xs) ≡ true → (y : A) × (item_at xs i ≡ Some y)
+there_at [] i h = absurd (grind arith)
+there_at (x ∷ xs) zero h = (x.item, refl)
+there_at (x ∷ xs) (suc i) h = there_at xs i (grind arith)
+
+shape_of : (c : Collection) → IsWellFormed c → (v : ValueType) → holds_type c (ty.Value v) ≡ true → alias_in c v ≡ None → shape (value_in c v) ≡ value_shape v
+unfolding shape value_shape
+shape_of c wf (val.Primitive p) h e = ap shape (primitive_in c p)
+shape_of c wf (val.Own r) h e = ap shape (own_in c r) ∙ name_of_resource c wf r (λ o. shape (option_case o absent own) ≡ 2) (λ n. refl) h
+shape_of c wf (val.Borrow r) h e = ap shape (borrow_in c r) ∙ name_of_resource c wf r (λ o. shape (option_case o absent borrow) ≡ 3) (λ n. refl) h
+shape_of c wf (val.Defined d) h e =
+    let x = there_at c.defined d.0 h in
+    ap shape (opens_defined c wf d x.0 x.1).is ∙ defined_shape (value_in c) x.0 (sym (ap (λ o. option_case o None aliased) x.1) ∙ e)
+
+module _ (x y : Collection) (wx : IsWellFormed x) (wy : IsWellFormed y) (v w : ValueType) (hv : holds_type x (ty.Value v) ≡ true) (hw : holds_type y (ty.Value w) ≡ true) (av : alias_in x v ≡ None) (aw : alias_in y w ≡ None) where
+  shapes : value_in x v ≡ value_in y w → value_shape v ≡ value_shape w
+  shapes e = sym (shape_of x wx v hv av) ∙ ap shape e ∙ shape_of y wy w hw aw
+
+  pub not_primitive : (p : PrimitiveType) → v ≡ val.Primitive p → ((q : PrimitiveType) → w ≡ val.Primitive q → ⊥) → value_in x v ≡ value_in y w → ⊥
+  unfolding value_shape
+  not_primitive p e n h = by w n (sym (ap value_shape e) ∙ shapes h)
+    where
+      by : (w : ValueType) → ((q : PrimitiveType) → w ≡ val.Primitive q → ⊥) → value_shape (val.Primitive p) ≡ value_shape w → ⊥
+      by (val.Primitive q) n e = n q refl
+      by (val.Own q) n e = cc
+      by (val.Borrow q) n e = cc
+      by (val.Defined q) n e = cc
+
+  pub not_own : (p : ResourceId) → v ≡ val.Own p → ((q : ResourceId) → w ≡ val.Own q → ⊥) → value_in x v ≡ value_in y w → ⊥
+  unfolding value_shape
+  not_own p e n h = by w n (sym (ap value_shape e) ∙ shapes h)
+    where
+      by : (w : ValueType) → ((q : ResourceId) → w ≡ val.Own q → ⊥) → value_shape (val.Own p) ≡ value_shape w → ⊥
+      by (val.Own q) n e = n q refl
+      by (val.Primitive q) n e = cc
+      by (val.Borrow q) n e = cc
+      by (val.Defined q) n e = cc
+
+  pub not_borrow : (p : ResourceId) → v ≡ val.Borrow p → ((q : ResourceId) → w ≡ val.Borrow q → ⊥) → value_in x v ≡ value_in y w → ⊥
+  unfolding value_shape
+  not_borrow p e n h = by w n (sym (ap value_shape e) ∙ shapes h)
+    where
+      by : (w : ValueType) → ((q : ResourceId) → w ≡ val.Borrow q → ⊥) → value_shape (val.Borrow p) ≡ value_shape w → ⊥
+      by (val.Borrow q) n e = n q refl
+      by (val.Primitive q) n e = cc
+      by (val.Own q) n e = cc
+      by (val.Defined q) n e = cc
+
+  pub not_defined : (p : DefinedTypeId) → v ≡ val.Defined p → ((q : DefinedTypeId) → w ≡ val.Defined q → ⊥) → value_in x v ≡ value_in y w → ⊥
+  unfolding value_shape
+  not_defined p e n h = by w n (sym (ap value_shape e) ∙ shapes h)
+    where
+      by : (w : ValueType) → ((q : DefinedTypeId) → w ≡ val.Defined q → ⊥) → value_shape (val.Defined p) ≡ value_shape w → ⊥
+      by (val.Defined q) n e = n q refl
+      by (val.Primitive q) n e = cc
+      by (val.Own q) n e = cc
+      by (val.Borrow q) n e = cc

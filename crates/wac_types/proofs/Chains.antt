@@ -1,0 +1,123 @@
+-- Chains of aliases, followed a step at a time.
+use Rattle.std.proofs.Common.{ℕ, zero, suc, true, ◌≡◌, ◌<◌, ◌≤◌, ◌+◌, ◌-◌, refl, ap, sym, ◌∙◌, subst, Option, Some, None, arith, slice_get}
+use Rattle.wac_types.specs.Name.{option_case}
+use Rattle.wac_types.specs.declared.collection.Held.{Held}
+use Rattle.wac_types.specs.declared.component.ResourceId.{ResourceId}
+use Rattle.wac_types.specs.declared.component.DefinedType.{DefinedType}
+use Rattle.wac_types.specs.declared.component.DefinedType.TheVariants as def
+use Rattle.wac_types.specs.declared.component.DefinedTypeId.{DefinedTypeId}
+use Rattle.wac_types.specs.declared.component.ValueType.{ValueType}
+use Rattle.wac_types.specs.declared.component.ValueType.TheVariants as val
+use Rattle.wac_types.specs.Collection.{Collection, size, IsWellFormed, IsValueBefore, AddedBefore, AreBefore, holds_value, defined_mentions, item_of}
+use Rattle.wac_types.specs.Held.{resolved_in, source_of}
+use Rattle.wac_types.specs.Aliases.{aliased, target_of, value_resolved_in}
+use Rattle.wac_types.proofs.Growth.{value_more, value_within, added_within}
+
+-- a resource that is no alias is its own end
+pub resource_ends : (n : ℕ) (c : Collection) (r : ResourceId) → source_of (slice_get c.resources r.0) ≡ None → resolved_in n c r ≡ r
+resource_ends zero c r none = refl
+resource_ends (suc n) c r none = ap (λ o. option_case o r (λ source. resolved_in n c source)) none
+
+-- one step further along, of as many as are left
+pub resource_goes : (c : Collection) (r s e : ResourceId) (most k : ℕ) → k < most → source_of (slice_get c.resources r.0) ≡ Some s → resolved_in (most - k) c r ≡ e → resolved_in (most - (k + 1)) c s ≡ e
+resource_goes c r s e most k lt some h =
+    let steps : most - k ≡ suc (most - (k + 1)) = omega arith in
+    sym (ap (λ m. resolved_in m c r) steps ∙ ap (λ o. option_case o r (λ source. resolved_in (most - (k + 1)) c source)) some) ∙ h
+
+pub resource_stops : (c : Collection) (r e : ResourceId) (most k : ℕ) → most ≤ k → resolved_in (most - k) c r ≡ e → r ≡ e
+resource_stops c r e most k le h =
+    let steps : most - k ≡ zero = omega arith in
+    sym (ap (λ m. resolved_in m c r) steps) ∙ h
+
+pub value_ends : (n : ℕ) (c : Collection) (v : ValueType) → target_of c v ≡ None → value_resolved_in n c v ≡ v
+value_ends zero c v none = refl
+value_ends (suc n) c v none = ap (λ o. option_case o v (λ target. value_resolved_in n c target)) none
+
+pub value_goes : (c : Collection) (v t e : ValueType) (most k : ℕ) → k < most → target_of c v ≡ Some t → value_resolved_in (most - k) c v ≡ e → value_resolved_in (most - (k + 1)) c t ≡ e
+value_goes c v t e most k lt some h =
+    let steps : most - k ≡ suc (most - (k + 1)) = omega arith in
+    sym (ap (λ m. value_resolved_in m c v) steps ∙ ap (λ o. option_case o v (λ target. value_resolved_in (most - (k + 1)) c target)) some) ∙ h
+
+pub value_stops : (c : Collection) (v e : ValueType) (most k : ℕ) → most ≤ k → value_resolved_in (most - k) c v ≡ e → v ≡ e
+value_stops c v e most k le h =
+    let steps : most - k ≡ zero = omega arith in
+    sym (ap (λ m. value_resolved_in m c v) steps) ∙ h
+
+-- a definition that is another name for a type is an alias of it
+pub alias_is : (x : DefinedType) (t : ValueType) → aliased x ≡ Some t → x ≡ def.Alias t
+alias_is (def.Alias v) t h = let e : v ≡ t = cc in ap def.Alias e
+alias_is (def.Tuple vs) t h = cc
+alias_is (def.List v) t h = cc
+alias_is (def.FixedSizeList v n) t h = cc
+alias_is (def.Option v) t h = cc
+alias_is (def.Result ok err) t h = cc
+alias_is (def.Variant v) t h = cc
+alias_is (def.Record r) t h = cc
+alias_is (def.Flags names) t h = cc
+alias_is (def.Enum names) t h = cc
+alias_is (def.Stream v) t h = cc
+alias_is (def.Future v) t h = cc
+
+-- what an alias says of its target
+pub record Leads (c : Collection) (v t : ValueType) : Type 0 where
+  pub from_held : holds_value c v ≡ true
+  pub to_held : holds_value c t ≡ true
+  pub earlier : (n : ℕ) → IsValueBefore c (suc n) v → IsValueBefore c n t
+
+defined_leads : (c : Collection) → IsWellFormed c → (d : DefinedTypeId) (t : ValueType) (o : Option (Held DefinedType)) → slice_get c.defined d.0 ≡ o → option_case (item_of o) None aliased ≡ Some t → Leads c (val.Defined d) t
+defined_leads c wf d t None at some = cc
+defined_leads c wf d t (Some h) at some =
+    let P : DefinedType → Type 0 = λ x. AreBefore c h.before (defined_mentions x) in
+    let before : IsValueBefore c h.before t = (subst P (alias_is h.item t some) (wf.defined d.0 h at).1).0 in
+    record {
+      from_held = added_within (suc h.before) c.defined d.0 (let Q : Option (Held DefinedType) → Type 0 = AddedBefore (suc h.before) in subst Q (sym at) (omega arith));
+      to_held = value_within c h.before t before;
+      earlier = λ n b.
+          let Q : Option (Held DefinedType) → Type 0 = AddedBefore (suc n) in
+          let lt : h.before < suc n = subst Q at b in
+          value_more c h.before n t (omega (arith, lt)) before;
+    }
+
+pub leads : (c : Collection) → IsWellFormed c → (v t : ValueType) → target_of c v ≡ Some t → Leads c v t
+leads c wf (val.Primitive p) t some = cc
+leads c wf (val.Own r) t some = cc
+leads c wf (val.Borrow r) t some = cc
+leads c wf (val.Defined d) t some = defined_leads c wf d t _ refl some
+
+none_first : {A : Type 0} (o : Option (Held A)) → AddedBefore zero o → ⊥
+none_first None b = b
+none_first (Some h) b = omega (arith, b)
+
+-- the first item is no alias
+pub first_ends : (c : Collection) → IsWellFormed c → (v t : ValueType) → IsValueBefore c zero v → target_of c v ≡ Some t → ⊥
+first_ends c wf (val.Primitive p) t b some = cc
+first_ends c wf (val.Own r) t b some = cc
+first_ends c wf (val.Borrow r) t b some = cc
+first_ends c wf (val.Defined d) t b some = none_first _ b
+
+-- where a loop over a chain has come
+pub record Follows (c : Collection) (value reached : ValueType) (k : ℕ) : Type 0 where
+  pub same : value_resolved_in (size c - k) c reached ≡ value_resolved_in (size c) c value
+  pub held : holds_value c reached ≡ holds_value c value
+  pub early : holds_value c reached ≡ true → IsValueBefore c (size c - k) reached
+
+pub follows_on : (c : Collection) → IsWellFormed c → (value reached t : ValueType) (k : ℕ) → k < size c → target_of c reached ≡ Some t → Follows c value reached k → Follows c value t (k + 1)
+follows_on c wf value reached t k lt some f =
+    let l = leads c wf reached t some in
+    let steps : size c - k ≡ suc (size c - (k + 1)) = omega arith in
+    let P : ℕ → Type 0 = λ n. IsValueBefore c n reached in
+    record {
+      same = value_goes c reached t _ (size c) k lt some f.same;
+      held = l.to_held ∙ sym l.from_held ∙ f.held;
+      early = λ h. l.earlier (size c - (k + 1)) (subst P steps (f.early l.from_held));
+    }
+
+pub no_target : (c : Collection) → IsWellFormed c → (v : ValueType) → (holds_value c v ≡ true → IsValueBefore c zero v) → (o : Option ValueType) → target_of c v ≡ o → target_of c v ≡ None
+no_target c wf v early None e = e
+no_target c wf v early (Some t) e = absurd (first_ends c wf v t (early (leads c wf v t e).from_held) e)
+
+pub follows_end : (c : Collection) → IsWellFormed c → (value reached : ValueType) (k : ℕ) → size c ≤ k → Follows c value reached k → target_of c reached ≡ None
+follows_end c wf value reached k le f =
+    let steps : size c - k ≡ zero = omega arith in
+    let P : ℕ → Type 0 = λ n. IsValueBefore c n reached in
+    no_target c wf reached (λ h. subst P steps (f.early h)) _ refl

@@ -1,0 +1,43 @@
+-- Trees at greater depths, and trees of aliases.
+use Rattle.std.proofs.Common.{ℕ, zero, suc, Bool, true, List, [], ◌∷◌, ◌≡◌, ◌<◌, ◌≤◌, refl, ap, sym, ◌∙◌, subst, Option, Some, None, arith, slice_get}
+use Rattle.wac_types.specs.Name.{Name, option_case}
+use Rattle.wac_types.specs.Tree.{TypeTree}
+use Rattle.wac_types.specs.declared.collection.Held.{Held}
+use Rattle.wac_types.specs.declared.component.DefinedType.{DefinedType}
+use Rattle.wac_types.specs.declared.component.DefinedType.TheVariants as def
+use Rattle.wac_types.specs.declared.component.ValueType.{ValueType}
+use Rattle.wac_types.specs.declared.component.ValueType.TheVariants as val
+use Rattle.wac_types.specs.declared.component.«Type».{«Type» as AnyType}
+use Rattle.wac_types.specs.declared.component.«Type».TheVariants as ty
+use Rattle.wac_types.specs.Collection.{Collection, size, IsWellFormed, holds_type, item_of, item_at}
+use Rattle.wac_types.specs.Held.{Naming, Names, of_held, defined_tree, unfolded, unfolded_to}
+use Rattle.wac_types.specs.Bound.{Bindings, by_place, held_tree}
+use Rattle.wac_types.specs.Subtype.{by_name, resource_names, type_tree}
+use Rattle.wac_types.specs.Compare.{aliased, alias_in}
+use Rattle.wac_types.specs.TreeLaws.{IsDeepEnough, AliasesAgree}
+use Rattle.wac_types.proofs.Unfolding.{type_before, before_more, unfold_same, unfolded_step, held_item, within}
+use Rattle.wac_types.proofs.Answering.{aliased_is}
+
+pub deep_enough : {L : Type 0} (naming : Naming L) (c : Collection) → IsWellFormed c → IsDeepEnough naming c
+deep_enough naming c wf zero lt m t h = absurd (omega (arith, lt))
+deep_enough naming c wf (suc n) lt m t h =
+    let at = type_before c wf t h in
+    unfold_same naming c wf n (size c) m t (before_more c (size c) n t (omega (arith, lt)) at) at
+
+alias_unfolded : {L : Type 0} (naming : Naming L) (c : Collection) → IsWellFormed c → (m : Names L) (v w : ValueType) → alias_in c v ≡ Some w → unfolded naming c m (ty.Value v) ≡ unfolded naming c m (ty.Value w)
+alias_unfolded naming c wf m (val.Primitive p) w e = cc
+alias_unfolded naming c wf m (val.Own p) w e = cc
+alias_unfolded naming c wf m (val.Borrow p) w e = cc
+alias_unfolded naming c wf m (val.Defined d) w e =
+    let x = by (item_at c.defined d.0) e in
+    let h = held_item (slice_get c.defined d.0) (def.Alias w) x in
+    let t : ValueType → TypeTree _ = λ u. unfolded naming c m (ty.Value u) in
+    unfolded_step naming c wf m (ty.Value (val.Defined d)) (within c.defined d.0 h.0 h.1) ∙ ap (of_held (defined_tree t)) h.1 ∙ ap (defined_tree t) h.2
+  where
+    by : (o : Option DefinedType) → option_case o None aliased ≡ Some w → o ≡ Some (def.Alias w)
+    by None h = cc
+    by (Some x) h = ap Some (aliased_is x w h)
+
+pub aliases_agree : (c : Collection) → IsWellFormed c → AliasesAgree c
+unfolding type_tree held_tree
+aliases_agree c wf v w e = (alias_unfolded by_name c wf (resource_names c) v w e, λ m. alias_unfolded (by_place c) c wf m v w e)

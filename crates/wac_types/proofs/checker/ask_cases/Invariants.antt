@@ -1,0 +1,9 @@
+use Rattle.std.proofs.Common.{map}
+use Rattle.wac_types.specs.Collection.{value_types, case_values}
+use Rattle.wac_types.specs.Compare.{case_in, AgreeBelow}
+use Rattle.wac_types.specs.Questions.{Asks}
+use Rattle.wac_types.proofs.checker.ask_cases.Given as goal
+
+-- those so far are settled
+abbrev pub invariant-loop-i : goal.invariant-loop-i
+invariant-loop-i l = Asks l.sides.turned l.sides.first.now l.sides.second.now (value_types (case_values l.cs)) (value_types (case_values l.ds)) l.initial.asked.keys l.asked.keys (AgreeBelow l.i (map (case_in l.sides.first.now) l.cs) (map (case_in l.sides.second.now) l.ds))

@@ -1,0 +1,10 @@
+use Rattle.std.proofs.Common.{◌≡◌, ℕ, ◌<◌, slice_get, Some}
+use Rattle.wac_types.specs.Name.{Name}
+use Rattle.wac_types.specs.Collection.{kind_types}
+use Rattle.wac_types.specs.Compare.{OffersBelow}
+use Rattle.wac_types.specs.Questions.{Asks}
+use Rattle.wac_types.proofs.checker.ask_items.Given as goal
+
+-- those so far are settled
+abbrev pub invariant-loop-i : goal.invariant-loop-i
+invariant-loop-i l = Asks l.sides.turned l.sides.first.now l.sides.second.now (kind_types l.xs) (kind_types l.ys) l.initial.asked.keys l.asked.keys (OffersBelow l.i l.sides.first.now l.xs l.sides.second.now l.ys)

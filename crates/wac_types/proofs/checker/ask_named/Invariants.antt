@@ -1,0 +1,9 @@
+use Rattle.std.proofs.Common.{map}
+use Rattle.wac_types.specs.Collection.{value_types, seconds}
+use Rattle.wac_types.specs.Compare.{entry_in, AgreeBelow}
+use Rattle.wac_types.specs.Questions.{Asks}
+use Rattle.wac_types.proofs.checker.ask_named.Given as goal
+
+-- those so far are settled
+abbrev pub invariant-loop-i : goal.invariant-loop-i
+invariant-loop-i l = Asks l.sides.turned l.sides.first.now l.sides.second.now (value_types (seconds l.vs)) (value_types (seconds l.ws)) l.initial.asked.keys l.asked.keys (AgreeBelow l.i (map (entry_in l.sides.first.now) l.vs) (map (entry_in l.sides.second.now) l.ws))

@@ -1,0 +1,13 @@
+use Rattle.wac_types.proofs.Sorts.{type_there, kinds_differ}
+use Rattle.wac_types.proofs.Asking.{if_ok}
+use Rattle.wac_types.proofs.Values.{optionals_none, optionals_some, optionals_differ, first_lacks, second_lacks}
+use Rattle.wac_types.proofs.checker.ask_optional.Goals as goal
+
+pub returns-in-None-None-clause-asked : goal.returns-in-None-None-clause-asked
+returns-in-None-None-clause-asked c = optionals_none _ c.args.sides.first.now c.args.sides.second.now c.args.v c.args.w _ c.in-None-None.is-0 c.in-None-None.is-1
+
+pub returns-in_default-clause-mismatch : goal.returns-in_default-clause-mismatch
+returns-in_default-clause-mismatch c = λ _. first_lacks c.args.sides.first.now c.args.sides.second.now c.args.v c.args.w _ c.in_default.is-0 c.in_default.is-1
+
+pub returns-in_default-2-clause-mismatch : goal.returns-in_default-2-clause-mismatch
+returns-in_default-2-clause-mismatch c = λ _. second_lacks c.args.sides.first.now c.args.sides.second.now c.args.v c.args.w _ c.in_default.is-0 c.in_default.is-1

@@ -1,0 +1,8 @@
+use Rattle.wac_types.proofs.Relation.{sub_refl, sub_trans}
+use Rattle.wac_types.proofs.Trees.{deep_enough, aliases_agree}
+use Rattle.wac_types.specs.Subtype.{by_name, kind_tree}
+use Rattle.wac_types.specs.Bound.{by_place}
+use Rattle.wac_types.proofs.laws.subtyping_is_transitive.Goals as goal
+
+pub returns : goal.returns
+returns c = λ s t. sub_trans (kind_tree c.args.bt.now c.args.b) (kind_tree c.args.at.now c.args.a) (kind_tree c.args.ct.now c.args.c) s t

@@ -1,0 +1,8 @@
+use Rattle.wac_types.proofs.Relation.{sub_refl, sub_trans}
+use Rattle.wac_types.proofs.Trees.{deep_enough, aliases_agree}
+use Rattle.wac_types.specs.Subtype.{by_name, kind_tree}
+use Rattle.wac_types.specs.Bound.{by_place}
+use Rattle.wac_types.proofs.laws.trees_are_whole.Goals as goal
+
+pub returns : goal.returns
+returns c = record { named = deep_enough by_name c.args.types.now c.law.ensures; placed = deep_enough (by_place c.args.types.now) c.args.types.now c.law.ensures }

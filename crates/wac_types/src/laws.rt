@@ -1,0 +1,48 @@
+//! Laws of subtyping and of the trees of held types, each given to the caller of a call that does nothing else.
+ghost use Rattle.std.specs.Prelude.{◌≡◌};
+ghost use Rattle.wac_types.specs.Bound.{by_place};
+ghost use Rattle.wac_types.specs.Subtype.{IsSubtype, by_name};
+ghost use Rattle.wac_types.specs.TreeLaws.{IsDeepEnough, AliasesAgree};
+
+use crate::collection::Types;
+use crate::component::ItemKind;
+
+/// Each item is a subtype of itself.
+pub fn subtyping_is_reflexive(types: &Types, item: ItemKind)
+    ensures { IsSubtype types.now item types.now item }
+{
+    types.law();
+    let _ = item;
+}
+
+/// A subtype of a subtype is a subtype.
+pub fn subtyping_is_transitive(
+    at: &Types,
+    a: ItemKind,
+    bt: &Types,
+    b: ItemKind,
+    ct: &Types,
+    c: ItemKind,
+)
+    ensures { IsSubtype at.now a bt.now b → IsSubtype bt.now b ct.now c → IsSubtype at.now a ct.now c }
+{
+    at.law();
+    bt.law();
+    ct.law();
+    let _ = (a, b, c);
+}
+
+/// The tree of a held type is the same at each depth above the number of items.
+pub fn trees_are_whole(types: &Types)
+    ensures named { IsDeepEnough by_name types.now }
+    ensures placed { IsDeepEnough (by_place types.now) types.now }
+{
+    types.law();
+}
+
+/// An alias of a value type has the trees of what it names.
+pub fn aliases_have_the_same_tree(types: &Types)
+    ensures { AliasesAgree types.now }
+{
+    types.law();
+}
