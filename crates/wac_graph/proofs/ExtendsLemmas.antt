@@ -74,8 +74,18 @@ nil xs = rw append-nil refl
 has_more : (c d : Collection) (resources : List (Held Resource)) (funcs : List (Held FuncType)) (defined : List (Held DefinedType)) (interfaces : List (Held Interface)) (worlds : List (Held World)) (modules : List (Held ModuleType))
     → d.resources ≡ c.resources ++ resources → d.funcs ≡ c.funcs ++ funcs → d.defined ≡ c.defined ++ defined → d.interfaces ≡ c.interfaces ++ interfaces → d.worlds ≡ c.worlds ++ worlds → d.modules ≡ c.modules ++ modules → HasMore c d
 has_more c d resources funcs defined interfaces worlds modules r f t i w m = record {
-  resources = resources; funcs = funcs; defined = defined; interfaces = interfaces; worlds = worlds; modules = modules;
-  resources_are = r; funcs_are = f; defined_are = t; interfaces_are = i; worlds_are = w; modules_are = m;
+  resources = resources;
+  funcs = funcs;
+  defined = defined;
+  interfaces = interfaces;
+  worlds = worlds;
+  modules = modules;
+  resources_are = r;
+  funcs_are = f;
+  defined_are = t;
+  interfaces_are = i;
+  worlds_are = w;
+  modules_are = m;
 }
 
 pub extends_itself : (c : Collection) → Extends c c

@@ -1,5 +1,5 @@
 -- What the fields say of aliases and exports that are written.
-use Rattle.std.proofs.Common.{refl, ◌≡◌, ℕ, suc, ◌+◌, ◌<◌, ◌≤◌, true, false, List, [], ◌∷◌, ◌++◌, length, take, ap, ◌∙◌, sym, subst, arith, Some, None, IfSome, IsSomeAnd, is_some, String, Global, string_bytes}
+use Rattle.std.proofs.Common.{refl, ◌≡◌, ℕ, zero, suc, ◌+◌, ◌<◌, ◌≤◌, true, false, List, [], ◌∷◌, ◌++◌, length, take, ap, ◌∙◌, sym, subst, arith, Some, None, IfSome, IsSomeAnd, is_some, String, Global, string_bytes}
 use Rattle.std.specs.Prelude.{slice_get}
 use Rattle.std.specs.List.{flat_map}
 use Rattle.std.specs.Option.{option_map}
@@ -14,7 +14,6 @@ use Rattle.wac_types.specs.declared.component.InterfaceId.{InterfaceId}
 use Rattle.wac_types.specs.declared.component.ItemKind.{ItemKind}
 use Rattle.wac_types.specs.declared.component.ItemKind.TheVariants as item
 use Rattle.wac_types.specs.declared.component.FuncTypeId.{FuncTypeId}
-use Rattle.wac_types.proofs.Names.{take_at}
 use Rattle.wac_binary.specs.declared.sorts.Sort.{Sort}
 use Rattle.wac_binary.specs.Items.{Item, alias_item, export_alias, export_item}
 use Rattle.wac_binary.specs.Indexes.{space, indexes}
@@ -31,6 +30,11 @@ use Rattle.wac_graph.specs.Encoding.{Adds, adds_alias}
 use Rattle.wac_graph.proofs.NodeLemmas.{there, text_pair}
 use Rattle.wac_graph.proofs.EncodingLemmas.{node_is, some_node, if_node}
 use Rattle.wac_graph.proofs.AliasLemmas.{exports_are}
+
+take_at : {A : Type 0} (xs : List A) (i : ℕ) (x : A) → slice_get xs i ≡ Some x → take (suc i) xs ≡ take i xs ++ x ∷ []
+take_at [] i x h = cc
+take_at (y ∷ ys) zero x h = let e : y ≡ x = cc in ap (λ z. z ∷ []) e
+take_at (y ∷ ys) (suc i) x h = ap (λ r. y ∷ r) (take_at ys i x h)
 
 -- an entry of the exports is one of the graph's
 entry_at : (a : Inside) (i : ℕ) (name : String Global) (id : NodeId) → Some (name, id) ≡ slice_get a.exports.entries i → slice_get (graph_of a).exports i ≡ Some (string_bytes name, id)

@@ -174,7 +174,7 @@ module _ (counted : Counted) (earlier : Earlier) (g : Graph) (sound : IsSound g)
           numbers many k e (inr (last, is)) = (
             subst (λ j. j < indexes (space sort.Component) (items ++ nested (package_bytes g id) ∷ [])) (sym (ap (λ x. x.1) is)) (counted_up sort.Component items (nested (package_bytes g id)) refl),
             ap (stands_for (meaning (items ++ nested (package_bytes g id) ∷ [])) sort.Component) (ap (λ x. x.1) is)
-            ∙ nested_stands items (package_bytes g id) (indexes (space sort.Component) items) (sym (counted items sort.Component)) ∙ ap component_at (many ∙ sym last),
+                ∙ nested_stands items (package_bytes g id) (indexes (space sort.Component) items) (sym (counted items sort.Component)) ∙ ap component_at (many ∙ sym last),
           )
 
   -- the component of a package, which is written where it was not

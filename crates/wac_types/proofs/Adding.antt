@@ -11,7 +11,7 @@ use Rattle.wac_types.specs.declared.component.World.{World}
 use Rattle.wac_types.specs.declared.core_types.ModuleType.{ModuleType}
 use Rattle.wac_types.specs.Collection.{Collection, size, Each, resource_mentions, func_mentions, defined_mentions, interface_mentions, world_mentions, holds_all, with_resource, with_func, with_defined, with_interface, with_world, with_module}
 use Rattle.wac_types.specs.Uses.{interface_fault, world_fault, unless}
-use Rattle.wac_types.specs.Laws.{IsLawful}
+use Rattle.wac_types.specs.Lawful.{IsLawful}
 use Rattle.wac_types.proofs.Growth.{Grows, get_either, all_before, grows_resource, grows_func, grows_defined, grows_interface, grows_world, grows_module, resource_well_formed, func_well_formed, defined_well_formed, interface_well_formed, world_well_formed, module_well_formed}
 use Rattle.wac_types.proofs.Steady.{interface_same, world_same}
 

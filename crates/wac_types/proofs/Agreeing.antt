@@ -1,5 +1,5 @@
 -- Lists that agree so far, and what is asked of their parts.
-use Rattle.std.proofs.Common.{ℕ, zero, suc, Bool, true, false, List, [], ◌∷◌, ◌++◌, map, ◌≡◌, ◌≢◌, ◌+◌, ◌<◌, ◌≤◌, length, refl, ap, sym, ◌∙◌, subst, Option, Some, None, arith, slice_get, get_or, below_more, Result, Ok, Err}
+use Rattle.std.proofs.Common.{ℕ, zero, suc, Bool, List, [], ◌∷◌, map, ◌≡◌, ◌+◌, ◌<◌, ◌≤◌, length, refl, ap, sym, ◌∙◌, subst, Option, Some, None, arith, slice_get, get_or, below_more, Result, Ok, Err}
 use Rattle.std.specs.Result.{IsErrAnd}
 use Rattle.std.specs.Option.{option_map}
 use Rattle.std.specs.List.{AllByRecursion}
@@ -9,12 +9,11 @@ use Rattle.wac_types.specs.declared.component.ValueType.{ValueType}
 use Rattle.wac_types.specs.declared.component.«Type».{«Type» as AnyType}
 use Rattle.wac_types.specs.declared.component.«Type».TheVariants as ty
 use Rattle.wac_types.specs.declared.component.ItemKind.{ItemKind}
-use Rattle.wac_types.specs.Collection.{Collection, seconds, and_maybe, case_values, value_types, kind_type, kind_types, AreBefore, IsBefore}
-use Rattle.wac_types.specs.Tree.{TypeTree}
-use Rattle.wac_types.specs.Compare.{value_in, optional_in, entry_in, case_in, AgreeBelow}
-use Rattle.wac_types.specs.Questions.{Asks, Refutes, AreThere}
-use Rattle.wac_types.proofs.Unfolding.{all_left, all_right}
-use Rattle.wac_types.proofs.Values.{asks_now, asks_iff, asks_of, asks_then}
+use Rattle.wac_types.specs.Collection.{Collection, seconds, and_maybe, case_values, value_types, kind_type, kind_types}
+use Rattle.wac_types.specs.Compare.{entry_in, case_in}
+use Rattle.wac_types.proofs.Below.{AgreeBelow}
+use Rattle.wac_types.specs.Questions.{Asks}
+use Rattle.wac_types.proofs.Values.{asks_now, asks_iff, asks_then}
 
 pub same_some : {A : Type 0} (a b : A) → Some a ≡ Some b → a ≡ b
 same_some a b e = cc

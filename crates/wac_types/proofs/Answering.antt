@@ -1,5 +1,5 @@
 -- What the answers for two value types rest on.
-use Rattle.std.proofs.Common.{ℕ, zero, suc, Bool, true, false, List, [], ◌∷◌, ◌≡◌, ◌≢◌, ◌+◌, ◌<◌, ◌≤◌, length, refl, ap, sym, ◌∙◌, subst, Option, Some, None, arith, nat_lt, slice_get}
+use Rattle.std.proofs.Common.{ℕ, zero, suc, Bool, true, List, [], ◌∷◌, ◌≡◌, ◌+◌, length, refl, ap, sym, ◌∙◌, subst, Option, Some, None, arith, nat_lt}
 use Rattle.wac_types.specs.Name.{Name, option_case}
 use Rattle.wac_types.specs.declared.checker.Question.{Question}
 use Rattle.wac_types.specs.declared.collection.Held.{Held}
@@ -10,16 +10,15 @@ use Rattle.wac_types.specs.declared.component.DefinedType.{DefinedType}
 use Rattle.wac_types.specs.declared.component.DefinedType.TheVariants as def
 use Rattle.wac_types.specs.declared.component.ValueType.{ValueType}
 use Rattle.wac_types.specs.declared.component.ValueType.TheVariants as val
-use Rattle.wac_types.specs.declared.component.«Type».{«Type» as AnyType}
 use Rattle.wac_types.specs.declared.component.«Type».TheVariants as ty
-use Rattle.wac_types.specs.Collection.{Collection, IsWellFormed, defined_mentions, holds_type, item_of, item_at}
+use Rattle.wac_types.specs.Collection.{Collection, IsWellFormed, defined_mentions, holds_type, item_at}
 use Rattle.wac_types.specs.Tree.{TypeTree, absent, primitive, own, borrow, resource}
 use Rattle.wac_types.specs.Held.{resolved, defined_tree}
-use Rattle.wac_types.specs.Subtype.{Sub, resource_names, type_tree}
+use Rattle.wac_types.specs.Subtype.{resource_names, type_tree}
 use Rattle.wac_types.specs.Compare.{value_in, defined_in, aliased, alias_in}
 use Rattle.wac_types.specs.Questions.{in_order, type_rank, Settles, Asks, Refutes}
 use Rattle.wac_types.proofs.Unfolding.{Opens, opens_defined, held_at_rank, primitive_in}
-use Rattle.wac_types.proofs.Asking.{settles_now, settles_more, settles_iff, settles_opened}
+use Rattle.wac_types.proofs.Asking.{settles_more, settles_iff, settles_opened}
 use Rattle.wac_types.proofs.Sorts.{are_there, name_of_resource}
 
 pub aliased_is : (x : DefinedType) (a : ValueType) → aliased x ≡ Some a → x ≡ def.Alias a

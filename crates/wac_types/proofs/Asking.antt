@@ -1,5 +1,5 @@
 -- Questions that settle a statement, from those that settle its parts.
-use Rattle.std.proofs.Common.{cond, Result, Ok, Err, IfOk, ℕ, zero, suc, Bool, true, false, List, [], ◌∷◌, ◌++◌, ◌+◌, ◌≡◌, ◌<◌, ◌≤◌, length, refl, ap, sym, ◌∙◌, subst, Option, Some, None, arith, append_assoc, slice_index_or}
+use Rattle.std.proofs.Common.{cond, Result, Ok, Err, IfOk, ℕ, zero, suc, Bool, true, false, List, [], ◌∷◌, ◌++◌, ◌+◌, ◌≡◌, ◌<◌, ◌≤◌, length, refl, ap, sym, ◌∙◌, subst, arith, append_assoc, slice_index_or}
 use Rattle.std.proofs.lemmas.List.{append-nil}
 use Rattle.std.specs.List.{AllByRecursion, Contains, list_any}
 use Rattle.indexmap.specs.IndexSet.{insert_key}
@@ -8,7 +8,7 @@ use Rattle.wac_types.specs.declared.checker.Question.{Question}
 use Rattle.wac_types.specs.declared.component.«Type».{«Type» as AnyType}
 use Rattle.wac_types.specs.Name.{Name}
 use Rattle.wac_types.specs.Tree.{TypeTree}
-use Rattle.wac_types.specs.Collection.{Collection, AreBefore, IsBefore}
+use Rattle.wac_types.specs.Collection.{Collection}
 use Rattle.wac_types.specs.Subtype.{Sub, type_tree}
 use Rattle.wac_types.specs.Questions.{in_order, first_of_pair, second_of_pair, type_rank, rank, IsHeldQuestion, IsYes, IsAskedBelow, IsYesBelow, Settles, Asks, Puts}
 use Rattle.wac_types.proofs.Unfolding.{all_map, all_left, all_both, before_held, before_rank, Opens}

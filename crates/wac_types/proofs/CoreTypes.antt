@@ -1,5 +1,5 @@
 -- `==` tells core types apart.
-use Rattle.std.proofs.Common.{ℕ, Bool, true, false, IsTrue, ◌↔◌, ◌≡◌, refl, ap, sym, subst, ◌∙◌, List, Option, Some, rules}
+use Rattle.std.proofs.Common.{ℕ, Bool, true, IsTrue, ◌↔◌, ◌≡◌, refl, ap, sym, subst, ◌∙◌, List, Option, Some}
 use Rattle.std.specs.Bool.{Decides}
 use Rattle.std.specs.Cmp.Lexicographic.{pointwise}
 use Rattle.std.proofs.lemmas.Slice.Eq.{slice_eq-Decides, bytes_eq-Decides}
@@ -7,7 +7,6 @@ use Rattle.std.specs.Str.{bytes_eq}
 use Rattle.wac_types.specs.contracts.core_types.CoreTypePartialEq.TheImpl as CoreEq
 use Rattle.wac_types.specs.declared.core_types.CoreType.{CoreType}
 use Rattle.wac_types.specs.declared.core_types.CoreType.TheVariants.{I32, I64, F32, F64, V128, Ref}
-use Rattle.wac_types.specs.declared.core_types.CoreRefType.{CoreRefType}
 use Rattle.wac_types.specs.declared.core_types.CoreRefType.TheVariants.{FuncRef, ExternRef}
 
 pub core_type_same : (a b : CoreType) → (CoreEq.ghosts).eq a b ≡ true → a ≡ b

@@ -1,5 +1,5 @@
 -- `==` tells questions apart.
-use Rattle.std.proofs.Common.{eq-eqb, ℕ, Bool, true, false, ◌&&◌, ◌≡◌, refl, ap, sym, subst, ◌∙◌, arith, rules}
+use Rattle.std.proofs.Common.{eq-eqb, Bool, true, false, ◌&&◌, ◌≡◌, refl, ap, sym, subst, rules}
 use Rattle.std.proofs.lemmas.Bool.{eqb-true}
 use denote.Enum.Bare.{same_true, true_same}
 use Rattle.std.specs.Cmp.{IsEquivalence}
@@ -9,7 +9,6 @@ use Rattle.wac_types.specs.contracts.component.ValueTypePartialEq.TheImpl as Val
 use Rattle.wac_types.specs.contracts.component.TypePartialEq.TheImpl as TypeEq
 use Rattle.wac_types.specs.contracts.checker.QuestionPartialEq.TheImpl as QuestionEq
 use Rattle.wac_types.specs.declared.checker.Question.{Question}
-use Rattle.wac_types.specs.declared.component.PrimitiveType.{PrimitiveType}
 use Rattle.wac_types.specs.declared.component.ValueType.{ValueType}
 use Rattle.wac_types.specs.declared.component.ValueType.TheVariants as val
 use Rattle.wac_types.specs.declared.component.«Type».{«Type» as AnyType}

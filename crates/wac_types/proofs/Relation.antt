@@ -1,10 +1,10 @@
 -- Subtyping is reflexive and transitive.
-use Rattle.std.proofs.Common.{ℕ, zero, suc, ◌≡◌, ◌≢◌, ◌<◌, ◌≤◌, refl, ap, sym, ◌∙◌, subst, Option, Some, None, arith}
+use Rattle.std.proofs.Common.{ℕ, ◌≡◌, ◌≢◌, refl, sym, ◌∙◌, subst, Option, Some, None, arith}
 use Rattle.wac_types.specs.Name.{Name}
 use Rattle.wac_types.specs.Core.{CoreItem, no_item, core_function, core_table, core_memory, core_global, core_tag}
-use Rattle.wac_types.specs.Tree.{TypeTree, absent, resource, primitive, own, borrow, record_of, variant_of, list_of, fixed_list_of, tuple_of, flags_of, enum_of, option_of, result_of, stream_of, future_of, function, instance, component, module_of, fresh, type_equal, function_item, instance_item, component_item, module_item, value_item}
+use Rattle.wac_types.specs.Tree.{TypeTree, absent, instance, component, module_of, type_equal, instance_item, component_item, module_item}
 use Rattle.wac_types.specs.Subtype.{Sub, IsPlain, IsCoreSubtype, IsMaximumWithin}
-use Rattle.wac_types.proofs.Values.{plain_sub, plain_same}
+use Rattle.wac_types.proofs.Values.{plain_sub}
 
 maximum_refl : (m : Option ℕ) → IsMaximumWithin m m
 maximum_refl None = tt

@@ -1,29 +1,24 @@
 -- The tree of a held type is of the type's sort, so it is there.
-use Rattle.std.proofs.Common.{ℕ, zero, suc, Bool, true, false, List, [], ◌∷◌, ◌++◌, map, ◌≡◌, ◌≢◌, ◌<◌, ◌≤◌, length, refl, ap, sym, ◌∙◌, subst, Option, Some, None, arith, nat_lt, slice_get}
-use Rattle.std.specs.List.{AllByRecursion}
+use Rattle.std.proofs.Common.{ℕ, zero, suc, true, List, [], ◌∷◌, ◌≡◌, ◌≢◌, ◌<◌, length, refl, ap, sym, ◌∙◌, subst, Option, Some, None, arith, nat_lt, slice_get}
 use Rattle.wac_types.specs.Name.{Name, option_case}
 use Rattle.wac_types.specs.declared.collection.Held.{Held}
 use Rattle.wac_types.specs.declared.component.Resource.{Resource}
 use Rattle.wac_types.specs.declared.component.ResourceAlias.{ResourceAlias}
 use Rattle.wac_types.specs.declared.component.ResourceId.{ResourceId}
-use Rattle.wac_types.specs.declared.component.FuncType.{FuncType}
 use Rattle.wac_types.specs.declared.component.DefinedType.{DefinedType}
 use Rattle.wac_types.specs.declared.component.DefinedType.TheVariants as def
-use Rattle.wac_types.specs.declared.component.Interface.{Interface}
-use Rattle.wac_types.specs.declared.component.World.{World}
-use Rattle.wac_types.specs.declared.core_types.ModuleType.{ModuleType}
 use Rattle.wac_types.specs.declared.component.ValueType.{ValueType}
 use Rattle.wac_types.specs.declared.component.ValueType.TheVariants as val
 use Rattle.wac_types.specs.declared.component.«Type».{«Type» as AnyType}
 use Rattle.wac_types.specs.declared.component.«Type».TheVariants as ty
 use Rattle.wac_types.specs.declared.component.ItemKind.{ItemKind}
 use Rattle.wac_types.specs.declared.component.ItemKind.TheVariants as kind
-use Rattle.wac_types.specs.Collection.{Collection, size, item_of, item_at, kind_type, owner_types, alias_types, resource_mentions, defined_mentions, IsWellFormed, IsBefore, IsValueBefore, AreBefore, AddedBefore, holds_type}
-use Rattle.wac_types.specs.Tree.{TypeTree, absent, primitive, own, borrow, resource, record_of, variant_of, list_of, fixed_list_of, tuple_of, option_of, result_of, stream_of, future_of, flags_of, enum_of, function, instance, component, module_of, fresh, type_equal, function_item, instance_item, component_item, module_item, value_item}
-use Rattle.wac_types.specs.Held.{Names, of_held, func_tree, defined_tree, interface_tree, world_tree, module_tree, resolved, resolved_in, source_of, unfolded_to, unfolded, step}
+use Rattle.wac_types.specs.Collection.{Collection, size, item_of, item_at, alias_types, defined_mentions, IsWellFormed, IsBefore, IsValueBefore, AreBefore, AddedBefore, holds_type}
+use Rattle.wac_types.specs.Tree.{TypeTree, absent, own, borrow, resource, function, instance, component, module_of, fresh, type_equal, function_item, instance_item, component_item, module_item, value_item}
+use Rattle.wac_types.specs.Held.{of_held, defined_tree, resolved, resolved_in, source_of, unfolded_to}
 use Rattle.wac_types.specs.Subtype.{Sub, by_name, held_name, resource_names, type_tree, kind_tree}
 use Rattle.wac_types.specs.Questions.{AreThere}
-use Rattle.wac_types.proofs.Unfolding.{all_map, before_more, before_held, type_before, within}
+use Rattle.wac_types.proofs.Unfolding.{all_map, before_more, before_held, type_before}
 
 -- what sort of thing a tree is of
 abbrev pub tree_sort : {L : Type 0} → TypeTree L → ℕ
@@ -78,7 +73,7 @@ kind_tree_sort c (kind.Value v) = refl
 
 -- the resource at the end of the aliases is held
 module _ (c : Collection) (wf : IsWellFormed c) where
-  resolved_there : (k n : ℕ) (r : ResourceId) → IsBefore c n (ty.Resource r) → (m : ℕ) × IsBefore c m (ty.Resource (resolved_in k c r))
+  pub resolved_there : (k n : ℕ) (r : ResourceId) → IsBefore c n (ty.Resource r) → (m : ℕ) × IsBefore c m (ty.Resource (resolved_in k c r))
   resolved_there zero n r h = (n, h)
   resolved_there (suc k) n r h = by (λ m a b. resolved_there k m a b) (slice_get c.resources r.0) refl
     where

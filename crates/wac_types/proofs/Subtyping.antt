@@ -1,13 +1,11 @@
 -- Subtyping of items from that of their types, and of what is listed name by name.
-use Rattle.std.proofs.Common.{ℕ, zero, suc, not, Bool, true, false, cond, List, [], ◌∷◌, ◌++◌, ◌≡◌, ◌≢◌, ◌<◌, ◌≤◌, ◌+◌, length, map, refl, ap, sym, ◌∙◌, subst, Option, Some, None, arith, slice_get, ◌⊎◌, inl, inr, below_more}
+use Rattle.std.proofs.Common.{ℕ, suc, not, Bool, true, false, cond, List, [], ◌∷◌, ◌≡◌, ◌≢◌, ◌≤◌, ◌+◌, length, refl, ap, sym, ◌∙◌, subst, Option, Some, None, arith, slice_get, inl, inr, below_more}
 use Rattle.std.proofs.lemmas.Bool.{cases_Bool}
-use Rattle.std.specs.Option.{option_map}
 use Rattle.std.specs.List.{AllByRecursion}
 use Rattle.wac_types.specs.Name.{Name, same_name, find_name}
 use Rattle.wac_types.specs.Named.{NoNameTwice}
 use Rattle.wac_types.specs.declared.checker.Question.{Question}
 use Rattle.wac_types.specs.declared.collection.Held.{Held}
-use Rattle.wac_types.specs.declared.component.Interface.{Interface}
 use Rattle.wac_types.specs.declared.component.World.{World}
 use Rattle.wac_types.specs.declared.component.FuncType.{FuncType}
 use Rattle.wac_types.specs.declared.component.FuncTypeId.{FuncTypeId}
@@ -21,13 +19,14 @@ use Rattle.wac_types.specs.declared.component.ItemKind.{ItemKind}
 use Rattle.wac_types.specs.declared.component.ItemKind.TheVariants as kind
 use Rattle.wac_types.specs.Collection.{Collection, size, kind_type, kind_types, used_types, world_mentions, IsBefore, AreBefore}
 use Rattle.wac_types.specs.Tree.{TypeTree, absent, instance, component, type_equal, function_item, instance_item, component_item, module_item, value_item}
-use Rattle.wac_types.specs.Held.{items_under, of_held, func_tree, unfolded_to}
+use Rattle.wac_types.specs.Held.{of_held, func_tree, unfolded_to}
 use Rattle.wac_types.specs.Subtype.{Sub, IsPlain, by_name, resource_names, type_tree, kind_tree}
-use Rattle.wac_types.specs.Compare.{value_in, listed_in, world_in, Offers, OffersBelow}
-use Rattle.wac_types.specs.Questions.{in_order, Settles, Asks}
+use Rattle.wac_types.specs.Compare.{value_in, listed_in, world_in, Offers}
+use Rattle.wac_types.proofs.Below.{OffersBelow}
+use Rattle.wac_types.specs.Questions.{Settles, Asks}
 use Rattle.wac_types.proofs.Names.{find_name-at, find_position}
 use Rattle.wac_types.proofs.Unfolding.{all_left, all_right}
-use Rattle.wac_types.proofs.Values.{plain_sub, plain_same, value_plain, asks_now, asks_iff, asks_of, asks_then}
+use Rattle.wac_types.proofs.Values.{plain_sub, plain_same, asks_now, asks_iff, asks_of, asks_then}
 use Rattle.wac_types.proofs.Agreeing.{kind_among, same_some}
 
 module _ {L : Type 0} where

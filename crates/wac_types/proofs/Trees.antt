@@ -1,17 +1,15 @@
 -- Trees at greater depths, and trees of aliases.
-use Rattle.std.proofs.Common.{ℕ, zero, suc, Bool, true, List, [], ◌∷◌, ◌≡◌, ◌<◌, ◌≤◌, refl, ap, sym, ◌∙◌, subst, Option, Some, None, arith, slice_get}
-use Rattle.wac_types.specs.Name.{Name, option_case}
+use Rattle.std.proofs.Common.{zero, suc, ◌≡◌, ap, ◌∙◌, Option, Some, None, arith, slice_get}
+use Rattle.wac_types.specs.Name.{option_case}
 use Rattle.wac_types.specs.Tree.{TypeTree}
-use Rattle.wac_types.specs.declared.collection.Held.{Held}
 use Rattle.wac_types.specs.declared.component.DefinedType.{DefinedType}
 use Rattle.wac_types.specs.declared.component.DefinedType.TheVariants as def
 use Rattle.wac_types.specs.declared.component.ValueType.{ValueType}
 use Rattle.wac_types.specs.declared.component.ValueType.TheVariants as val
-use Rattle.wac_types.specs.declared.component.«Type».{«Type» as AnyType}
 use Rattle.wac_types.specs.declared.component.«Type».TheVariants as ty
-use Rattle.wac_types.specs.Collection.{Collection, size, IsWellFormed, holds_type, item_of, item_at}
-use Rattle.wac_types.specs.Held.{Naming, Names, of_held, defined_tree, unfolded, unfolded_to}
-use Rattle.wac_types.specs.Bound.{Bindings, by_place, held_tree}
+use Rattle.wac_types.specs.Collection.{Collection, size, IsWellFormed, item_at}
+use Rattle.wac_types.specs.Held.{Naming, Names, of_held, defined_tree, unfolded}
+use Rattle.wac_types.specs.Bound.{by_place, held_tree}
 use Rattle.wac_types.specs.Subtype.{by_name, resource_names, type_tree}
 use Rattle.wac_types.specs.Compare.{aliased, alias_in}
 use Rattle.wac_types.specs.TreeLaws.{IsDeepEnough, AliasesAgree}

@@ -1,5 +1,5 @@
 -- What the answer to a question rests on, by the sort of its types.
-use Rattle.std.proofs.Common.{ℕ, zero, suc, Bool, true, false, IsTrue, List, [], ◌∷◌, ◌≡◌, ◌≢◌, ◌+◌, ◌<◌, ◌≤◌, ◌↔◌, length, refl, ap, sym, ◌∙◌, subst, Option, Some, None, arith}
+use Rattle.std.proofs.Common.{Bool, true, false, IsTrue, List, ◌≡◌, ◌+◌, ◌↔◌, refl, ap, sym, ◌∙◌, subst, Option, Some, None}
 use Rattle.wac_types.specs.Name.{Name, option_case}
 use Rattle.wac_types.specs.declared.checker.Question.{Question}
 use Rattle.wac_types.specs.declared.component.ResourceId.{ResourceId}
@@ -15,7 +15,7 @@ use Rattle.wac_types.specs.declared.component.ValueType.{ValueType}
 use Rattle.wac_types.specs.declared.component.«Type».{«Type» as AnyType}
 use Rattle.wac_types.specs.declared.component.«Type».TheVariants as ty
 use Rattle.wac_types.specs.Collection.{Collection, IsWellFormed, func_mentions, kind_types, world_mentions, holds_type, item_at}
-use Rattle.wac_types.specs.Tree.{TypeTree, absent, resource, instance}
+use Rattle.wac_types.specs.Tree.{TypeTree, absent, resource}
 use Rattle.wac_types.specs.Held.{resolved, module_tree}
 use Rattle.wac_types.specs.Subtype.{Sub, IsPlain, resource_names, type_tree}
 use Rattle.wac_types.specs.Compare.{value_in, func_in, listed_in, world_in, Offers, OffersCore, OffersModules}

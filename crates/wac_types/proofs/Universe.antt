@@ -1,8 +1,6 @@
 -- All questions of two collections, and that no more are asked.
-use Rattle.std.proofs.Common.{ℕ, zero, suc, Bool, true, false, List, [], ◌∷◌, ◌++◌, ◌≡◌, ◌<◌, ◌≤◌, ◌+◌, length, map, refl, ap, sym, ◌∙◌, subst, arith, nat_lt, ◌⊎◌, inl, inr, ◌||◌}
-use Rattle.std.specs.List.{AllByRecursion, list_any, Contains}
-use Rattle.std.specs.Cmp.{IsEquivalence}
-use Rattle.std.specs.Set.{is_member}
+use Rattle.std.proofs.Common.{ℕ, zero, suc, Bool, true, false, List, [], ◌∷◌, ◌++◌, ◌≡◌, ◌≤◌, length, map, refl, ap, sym, ◌∙◌, subst, arith, nat_lt, ◌⊎◌, inl, inr, ◌||◌}
+use Rattle.std.specs.List.{AllByRecursion, list_any}
 use Rattle.std.specs.List.{IsDistinct}
 use Rattle.std.proofs.lemmas.Map.Made.{length-le_from_is_member}
 use Rattle.indexmap.proofs.CallerLemmas.{Contains-list_any}

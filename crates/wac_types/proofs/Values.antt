@@ -1,25 +1,21 @@
 -- Trees of value types, and what is asked of them.
-use Rattle.std.proofs.Common.{ℕ, zero, suc, Bool, true, false, IsTrue, List, [], ◌∷◌, ◌++◌, map, take, ◌≡◌, ◌≢◌, ◌<◌, ◌≤◌, ◌↔◌, length, refl, ap, sym, ◌∙◌, subst, Option, Some, None, arith, slice_get}
-use Rattle.std.specs.Option.{option_map}
-use Rattle.std.specs.List.{AllByRecursion}
+use Rattle.std.proofs.Common.{ℕ, zero, suc, Bool, List, [], ◌∷◌, ◌≡◌, refl, ap, sym, ◌∙◌, subst, Option, Some, None, slice_get}
 use Rattle.wac_types.specs.Name.{Name, option_case}
 use Rattle.wac_types.specs.declared.checker.Question.{Question}
 use Rattle.wac_types.specs.declared.collection.Held.{Held}
 use Rattle.wac_types.specs.declared.component.PrimitiveType.{PrimitiveType}
-use Rattle.wac_types.specs.declared.component.ResourceId.{ResourceId}
 use Rattle.wac_types.specs.declared.component.ValueType.{ValueType}
 use Rattle.wac_types.specs.declared.component.ValueType.TheVariants as val
 use Rattle.wac_types.specs.declared.component.DefinedType.{DefinedType}
 use Rattle.wac_types.specs.declared.component.DefinedType.TheVariants as def
-use Rattle.wac_types.specs.declared.component.FuncType.{FuncType}
 use Rattle.wac_types.specs.declared.component.«Type».{«Type» as AnyType}
 use Rattle.wac_types.specs.declared.component.«Type».TheVariants as ty
-use Rattle.wac_types.specs.Collection.{Collection, size, seconds, and_maybe, value_types, IsBefore, IsValueBefore, AreBefore}
-use Rattle.wac_types.specs.Tree.{TypeTree, absent, instance, component, module_of, type_equal, instance_item, component_item, module_item, primitive, own, borrow, function}
-use Rattle.wac_types.specs.Held.{Names, part_at, option_tree, func_tree, defined_tree, of_held, resolved, unfolded_to, value_tree}
+use Rattle.wac_types.specs.Collection.{Collection, size, and_maybe, value_types, AreBefore}
+use Rattle.wac_types.specs.Tree.{TypeTree, absent, primitive, own, borrow}
+use Rattle.wac_types.specs.Held.{defined_tree, of_held, resolved, unfolded_to}
 use Rattle.wac_types.specs.Subtype.{Sub, IsPlain, by_name, resource_names, type_tree}
-use Rattle.wac_types.specs.Compare.{value_in, optional_in, func_in, defined_in, entry_in, case_in}
-use Rattle.wac_types.specs.Questions.{in_order, Settles, Asks, Refutes, AreThere}
+use Rattle.wac_types.specs.Compare.{value_in, optional_in}
+use Rattle.wac_types.specs.Questions.{Asks, Refutes, AreThere}
 use Rattle.wac_types.proofs.Unfolding.{primitive_in}
 use Rattle.wac_types.proofs.Asking.{settles_now, settles_then, settles_iff}
 

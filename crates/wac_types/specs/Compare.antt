@@ -1,10 +1,10 @@
 -- What the steps of a comparison answer: types part by part, listed items name by name.
-use Rattle.std.specs.Prelude.{ℕ, suc, ◌<◌, ◌≡◌, ◌≢◌, List, [], ◌∷◌, map, Option, Some, None, slice_get}
+use Rattle.std.specs.Prelude.{ℕ, suc, ◌≢◌, List, map, Option, Some, None}
 use Rattle.wac_types.specs.Name.{Name, option_case}
-use Rattle.wac_types.specs.Core.{CoreItem, no_item}
+use Rattle.wac_types.specs.Core.{CoreItem, no_item, core_table, core_memory}
 use Rattle.wac_types.specs.Tree.{TypeTree, absent, component}
 use Rattle.wac_types.specs.Collection.{Collection, item_at}
-use Rattle.wac_types.specs.Held.{option_tree, func_tree, defined_tree, items_under, core_item, core_under, core_imports}
+use Rattle.wac_types.specs.Held.{option_tree, func_tree, defined_tree, items_under, core_under, core_imports}
 use Rattle.wac_types.specs.Subtype.{Sub, IsCoreSubtype, type_tree, kind_tree}
 use Rattle.wac_types.specs.declared.collection.Held.{Held}
 use Rattle.wac_types.specs.declared.core_types.CoreExtern.{CoreExtern}
@@ -53,6 +53,16 @@ alias_in c v = None
 abbrev pub world_in : Collection → World → TypeTree Name
 world_in c w = component (listed_in c w.imports) (listed_in c w.exports)
 
+-- both are tables, and the first is a subtype of the second
+abbrev pub IsTableSubtype : CoreItem → CoreItem → Type 0
+IsTableSubtype (core_table e wide shared least most) (core_table e_b wide_b shared_b least_b most_b) = IsCoreSubtype (core_table e wide shared least most) (core_table e_b wide_b shared_b least_b most_b)
+IsTableSubtype a b = ⊥
+
+-- both are memories, and the first is a subtype of the second
+abbrev pub IsMemorySubtype : CoreItem → CoreItem → Type 0
+IsMemorySubtype (core_memory wide shared least most page) (core_memory wide_b shared_b least_b most_b page_b) = IsCoreSubtype (core_memory wide shared least most page) (core_memory wide_b shared_b least_b most_b page_b)
+IsMemorySubtype a b = ⊥
+
 -- the first have each of the second under its name, as a subtype of it
 abbrev pub Offers : Collection → List (Name × ItemKind) → Collection → List (Name × ItemKind) → Type 0
 Offers c xs d ys = (n : Name) → listed_in d ys n ≢ absent → Sub (listed_in c xs n) (listed_in d ys n)
@@ -69,17 +79,3 @@ OffersModules xs ys = (m n : Name) → core_imports ys m n ≢ no_item → IsCor
 abbrev pub rank_of_held : {A : Type 0} → Option (Held A) → ℕ
 rank_of_held None = 0
 rank_of_held (Some h) = suc h.before
-
--- two lists agree so far
-abbrev pub AgreeBelow : {A : Type 0} → ℕ → List A → List A → Type 0
-AgreeBelow i xs ys = (k : ℕ) → k < i → slice_get xs k ≡ slice_get ys k
-
--- the first of the second list are offered by the first list
-abbrev pub OffersBelow : ℕ → Collection → List (Name × ItemKind) → Collection → List (Name × ItemKind) → Type 0
-OffersBelow i c xs d ys = (k : ℕ) → k < i → (e : Name × ItemKind) → slice_get ys k ≡ Some e → Sub (listed_in c xs e.0) (kind_tree d e.1)
-
-abbrev pub OffersCoreBelow : ℕ → List (Name × CoreExtern) → List (Name × CoreExtern) → Type 0
-OffersCoreBelow i xs ys = (k : ℕ) → k < i → (e : Name × CoreExtern) → slice_get ys k ≡ Some e → IsCoreSubtype (core_under xs e.0) (core_item e.1)
-
-abbrev pub OffersModulesBelow : ℕ → List (Name × List (Name × CoreExtern)) → List (Name × List (Name × CoreExtern)) → Type 0
-OffersModulesBelow i xs ys = (k : ℕ) → k < i → (e : Name × List (Name × CoreExtern)) → slice_get ys k ≡ Some e → (n : Name) → core_under e.1 n ≢ no_item → IsCoreSubtype (core_imports xs e.0 n) (core_under e.1 n)

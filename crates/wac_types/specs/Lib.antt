@@ -7,7 +7,7 @@ pub mod Held
 pub mod Bound
 pub mod Aliases
 pub mod Uses
-pub mod Laws
+pub mod Lawful
 pub mod Interfaces
 pub mod Words
 pub mod Subtype

@@ -1,13 +1,12 @@
 -- Subtyping, of types without ids, by its rules.
-use Rattle.std.specs.Prelude.{ℕ, ◌≡◌, ◌≢◌, ◌≤◌, Bool, false, List, Option, Some, None, slice_get}
+use Rattle.std.specs.Prelude.{ℕ, ◌≡◌, ◌≢◌, ◌≤◌, false, Option, Some, None, slice_get}
 use Rattle.wac_types.specs.Name.{Name}
-use Rattle.wac_types.specs.Core.{CoreItem, no_item, core_function, core_table, core_memory, core_global, core_tag}
+use Rattle.wac_types.specs.Core.{CoreItem, no_item, core_table, core_memory}
 use Rattle.wac_types.specs.Tree.{TypeTree, absent, instance, component, module_of, type_equal, instance_item, component_item, module_item}
 use Rattle.wac_types.specs.Collection.{Collection}
 use Rattle.wac_types.specs.Held.{Naming, Names, unfolded, item_tree}
 use Rattle.wac_types.specs.declared.collection.Held.{Held}
 use Rattle.wac_types.specs.declared.component.Resource.{Resource}
-use Rattle.wac_types.specs.declared.component.ResourceId.{ResourceId}
 use Rattle.wac_types.specs.declared.component.«Type».{«Type» as AnyType}
 use Rattle.wac_types.specs.declared.component.ItemKind.{ItemKind}
 

@@ -1,12 +1,17 @@
 -- Laws of trees and of subtyping, which calls give to their callers.
-use Rattle.std.specs.Prelude.{ℕ, ◌≡◌, ◌<◌, true, Some}
-use Rattle.wac_types.specs.Name.{Name}
-use Rattle.wac_types.specs.Tree.{Leaf}
-use Rattle.wac_types.specs.Collection.{Collection, size, holds_type}
+use Rattle.std.specs.Prelude.{ℕ, ◌≡◌, ◌<◌, true, Some, slice_get}
+use Rattle.wac_types.specs.Collection.{Collection, size, holds_type, with_resource, with_func, with_defined, with_interface, with_world, with_module}
 use Rattle.wac_types.specs.Held.{Naming, Names, unfolded, unfolded_to}
-use Rattle.wac_types.specs.Bound.{Bindings, by_place, held_tree}
-use Rattle.wac_types.specs.Subtype.{by_name, type_tree}
+use Rattle.wac_types.specs.Bound.{Bindings, held_tree}
+use Rattle.wac_types.specs.Subtype.{type_tree}
 use Rattle.wac_types.specs.Compare.{alias_in}
+use Rattle.wac_types.specs.declared.collection.Held.{Held}
+use Rattle.wac_types.specs.declared.component.Resource.{Resource}
+use Rattle.wac_types.specs.declared.component.FuncType.{FuncType}
+use Rattle.wac_types.specs.declared.component.DefinedType.{DefinedType}
+use Rattle.wac_types.specs.declared.component.Interface.{Interface}
+use Rattle.wac_types.specs.declared.component.World.{World}
+use Rattle.wac_types.specs.declared.core_types.ModuleType.{ModuleType}
 use Rattle.wac_types.specs.declared.component.ValueType.{ValueType}
 use Rattle.wac_types.specs.declared.component.«Type».{«Type» as AnyType}
 use Rattle.wac_types.specs.declared.component.«Type».TheVariants as ty
@@ -18,3 +23,25 @@ IsDeepEnough naming c = (n : ℕ) → size c < n → (m : Names _) (t : AnyType)
 -- an alias has the trees of what it names
 abbrev pub AliasesAgree : Collection → Type 0
 AliasesAgree c = (v w : ValueType) → alias_in c v ≡ Some w → (type_tree c (ty.Value v) ≡ type_tree c (ty.Value w)) × ((m : Bindings) → held_tree c m (ty.Value v) ≡ held_tree c m (ty.Value w))
+
+-- what the one holds stands in the other, at the same positions
+pub record IsKeptBy (c d : Collection) : Type 0 where
+  pub resources : (i : ℕ) (h : Held Resource) → slice_get c.resources i ≡ Some h → slice_get d.resources i ≡ Some h
+  pub funcs : (i : ℕ) (h : Held FuncType) → slice_get c.funcs i ≡ Some h → slice_get d.funcs i ≡ Some h
+  pub defined : (i : ℕ) (h : Held DefinedType) → slice_get c.defined i ≡ Some h → slice_get d.defined i ≡ Some h
+  pub interfaces : (i : ℕ) (h : Held Interface) → slice_get c.interfaces i ≡ Some h → slice_get d.interfaces i ≡ Some h
+  pub worlds : (i : ℕ) (h : Held World) → slice_get c.worlds i ≡ Some h → slice_get d.worlds i ≡ Some h
+  pub modules : (i : ℕ) (h : Held ModuleType) → slice_get c.modules i ≡ Some h → slice_get d.modules i ≡ Some h
+
+-- each type that the one holds has the same trees in the other
+abbrev pub KeepsTrees : Collection → Collection → Type 0
+KeepsTrees c d = ((t : AnyType) → holds_type c t ≡ true → type_tree d t ≡ type_tree c t) × ((m : Bindings) (t : AnyType) → holds_type c t ≡ true → held_tree d m t ≡ held_tree c m t)
+
+-- whatever is added, the trees of what is held stay
+pub record GrowthKeepsTrees (c : Collection) : Type 0 where
+  pub resource : (x : Resource) → KeepsTrees c (with_resource c x)
+  pub func : (x : FuncType) → KeepsTrees c (with_func c x)
+  pub defined : (x : DefinedType) → KeepsTrees c (with_defined c x)
+  pub interface : (x : Interface) → KeepsTrees c (with_interface c x)
+  pub world : (x : World) → KeepsTrees c (with_world c x)
+  pub module_type : (x : ModuleType) → KeepsTrees c (with_module c x)

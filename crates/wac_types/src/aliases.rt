@@ -1,5 +1,5 @@
 //! The types at the ends of aliases.
-ghost use Rattle.std.specs.Prelude.{◌≡◌, None, true, slice_get};
+ghost use Rattle.std.specs.Prelude.{◌≡◌, None, slice_get};
 ghost use Rattle.wac_types.specs.Collection.{holds_value};
 ghost use Rattle.wac_types.specs.Held.{resolved, source_of};
 ghost use Rattle.wac_types.specs.Aliases.{target_of, value_resolved, handle_resolved, type_resolved};

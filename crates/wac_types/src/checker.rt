@@ -3,7 +3,7 @@ ghost use Rattle.std.specs.Prelude.{◌≡◌, ◌≢◌, ◌≤◌, ◌+◌, �
 ghost use Rattle.wac_types.specs.Collection.{kind_type, kind_types, value_types, and_maybe, seconds, case_values, func_mentions, defined_mentions, world_mentions, holds_type};
 ghost use Rattle.wac_types.specs.Held.{core_item, resolved};
 ghost use Rattle.wac_types.specs.Subtype.{Sub, IsSubtype, IsCoreSubtype, IsMaximumWithin, type_tree, kind_tree, resource_names};
-ghost use Rattle.wac_types.specs.Compare.{value_in, optional_in, func_in, defined_in, world_in, entry_in, case_in, aliased, alias_in, Offers, OffersCore, OffersModules};
+ghost use Rattle.wac_types.specs.Compare.{value_in, optional_in, func_in, defined_in, world_in, entry_in, case_in, aliased, alias_in, IsTableSubtype, IsMemorySubtype, Offers, OffersCore, OffersModules};
 ghost use Rattle.wac_types.specs.Questions.{in_order, type_rank, Settles, Asks, Refutes, Puts};
 ghost use Rattle.wac_types.specs.declared.component.«Type».TheVariants as ty;
 
@@ -556,13 +556,11 @@ fn same_core_func(f: &CoreFuncType, g: &CoreFuncType) -> bool
         && same_core_types(f.results.as_slice(), g.results.as_slice())
 }
 
-// Whether one core item is a subtype of the other.
-fn is_core_subtype(x: &CoreExtern, y: &CoreExtern) -> bool
-    ensures { IsTrue result ↔ IsCoreSubtype (core_item x.now) (core_item y.now) }
+// Whether both are tables, and one is a subtype of the other.
+fn is_table_subtype(x: &CoreExtern, y: &CoreExtern) -> bool
+    ensures { IsTrue result ↔ IsTableSubtype (core_item x.now) (core_item y.now) }
 {
     match (x, y) {
-        (CoreExtern::Func(f), CoreExtern::Func(g)) => same_core_func(f, g),
-        (CoreExtern::Tag(f), CoreExtern::Tag(g)) => same_core_func(f, g),
         (
             CoreExtern::Table {
                 element_type,
@@ -584,6 +582,15 @@ fn is_core_subtype(x: &CoreExtern, y: &CoreExtern) -> bool
                 && *shared == *together
                 && is_within(*initial, *maximum, *least, *most)
         }
+        _ => false,
+    }
+}
+
+// Whether both are memories, and one is a subtype of the other.
+fn is_memory_subtype(x: &CoreExtern, y: &CoreExtern) -> bool
+    ensures { IsTrue result ↔ IsMemorySubtype (core_item x.now) (core_item y.now) }
+{
+    match (x, y) {
         (
             CoreExtern::Memory {
                 memory64,
@@ -605,6 +612,19 @@ fn is_core_subtype(x: &CoreExtern, y: &CoreExtern) -> bool
                 && *page_size_log2 == *page
                 && is_within(*initial, *maximum, *least, *most)
         }
+        _ => false,
+    }
+}
+
+// Whether one core item is a subtype of the other.
+fn is_core_subtype(x: &CoreExtern, y: &CoreExtern) -> bool
+    ensures { IsTrue result ↔ IsCoreSubtype (core_item x.now) (core_item y.now) }
+{
+    match (x, y) {
+        (CoreExtern::Func(f), CoreExtern::Func(g)) => same_core_func(f, g),
+        (CoreExtern::Tag(f), CoreExtern::Tag(g)) => same_core_func(f, g),
+        (CoreExtern::Table { .. }, CoreExtern::Table { .. }) => is_table_subtype(x, y),
+        (CoreExtern::Memory { .. }, CoreExtern::Memory { .. }) => is_memory_subtype(x, y),
         (
             CoreExtern::Global {
                 val_type,

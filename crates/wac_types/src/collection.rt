@@ -1,12 +1,12 @@
 //! The collection: lists of items, each of which mentions only items added before it.
-ghost use Rattle.std.specs.Prelude.{◌≡◌, ◌<◌, ℕ, length, Some, None, Err, true, false, IfOk, OnErr};
+ghost use Rattle.std.specs.Prelude.{◌≡◌, length, Some, None, IfOk, OnErr};
 ghost use Rattle.std.specs.Option.{option_copied};
-ghost use Rattle.wac_types.specs.Collection.{Collection, IsWellFormed, empty, size, func_mentions, resource_mentions, defined_mentions, holds_value, holds_type, with_resource, with_func, with_defined, with_interface, with_world, with_module, item_at};
+ghost use Rattle.wac_types.specs.Collection.{IsWellFormed, empty, size, func_mentions, resource_mentions, defined_mentions, holds_value, holds_type, with_resource, with_func, with_defined, with_interface, with_world, with_module, item_at};
 ghost use Rattle.wac_types.specs.Uses.{AnswersBy, mention_fault, interface_fault, world_fault, IsSound};
 
 use crate::component::{
-    DefinedType, DefinedTypeId, FuncType, FuncTypeId, Interface, InterfaceId, ItemKind,
-    ModuleTypeId, Resource, ResourceId, Type, ValueType, World, WorldId,
+    DefinedType, DefinedTypeId, FuncType, FuncTypeId, Interface, InterfaceId, ModuleTypeId,
+    Resource, ResourceId, Type, ValueType, World, WorldId,
 };
 use crate::core_types::ModuleType;
 use std::alloc::Global;
@@ -60,7 +60,7 @@ pub struct Types {
 
 impl Model for Types {
     ghost use Rattle.wac_types.specs.Collection.{Collection};
-    ghost use Rattle.wac_types.specs.Laws.{IsLawful};
+    ghost use Rattle.wac_types.specs.Lawful.{IsLawful};
 
     ghost Value = { Collection };
 

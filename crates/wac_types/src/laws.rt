@@ -2,7 +2,7 @@
 ghost use Rattle.std.specs.Prelude.{◌≡◌};
 ghost use Rattle.wac_types.specs.Bound.{by_place};
 ghost use Rattle.wac_types.specs.Subtype.{IsSubtype, by_name};
-ghost use Rattle.wac_types.specs.TreeLaws.{IsDeepEnough, AliasesAgree};
+ghost use Rattle.wac_types.specs.TreeLaws.{IsDeepEnough, AliasesAgree, GrowthKeepsTrees};
 
 use crate::collection::Types;
 use crate::component::ItemKind;
@@ -43,6 +43,13 @@ pub fn trees_are_whole(types: &Types)
 /// An alias of a value type has the trees of what it names.
 pub fn aliases_have_the_same_tree(types: &Types)
     ensures { AliasesAgree types.now }
+{
+    types.law();
+}
+
+/// Each type that a collection holds keeps its trees when something is added.
+pub fn growth_keeps_trees(types: &Types)
+    ensures { GrowthKeepsTrees types.now }
 {
     types.law();
 }

@@ -325,5 +325,8 @@ fn a_core_module_imports_each_name_of_a_module_once(rt: HostRuntime) -> Result<(
     assert_eq!(rt; twice, Err(ShapeError::NameTwice));
     module_type.export(alloc, "a", global(true))?;
     assert_eq!(rt; module_type.imports.len(), 2);
+    let mut types = Types::new(alloc);
+    let id = types.add_module_type(module_type)?;
+    assert!(rt; types.contains(Type::Module(id)));
     Ok(())
 }

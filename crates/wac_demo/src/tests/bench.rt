@@ -252,12 +252,12 @@ impl Bench {
         Ok(self.graph[id].name())
     }
 
-    // The name by which the node at a place is imported.
-    pub fn imported_name(&self, rt: &impl Abort, place: usize) -> Result<Option<&str>, Fail> {
+    // Whether the node at a place is imported by a name.
+    pub fn imports(&self, rt: &impl Abort, place: usize, name: &str) -> Result<bool, Fail> {
         let node = self.node(place)?;
         let held = self.graph.has_node(node);
         assert!(rt; held);
-        Ok(self.graph.get_import_name(node))
+        Ok(self.graph.get_import_name(node) == Some(name))
     }
 
     // Whether the node at a place is exported by a name.

@@ -1,6 +1,7 @@
 use super::bench::Call::{Alias, Export, Import, Instantiate, Register, Set};
 use super::bench::Item::{Instance, Other, Plain};
 use super::bench::{Bench, Call};
+use std::process::Abort;
 use std::test::Fail;
 use wac_graph::{EncodeOptions, Processor};
 
@@ -110,6 +111,52 @@ const NAMES: &[(Call<'static>, &str)] = &[
     (Export(0, "x"), ""),
 ];
 
+// What `encode` answers after the calls.
+fn encoded(
+    rt: &(impl Abort + AllocGlobal),
+    calls: &[(Call<'_>, &str)],
+    options: EncodeOptions<'_>,
+) -> Result<String, Fail> {
+    let mut bench = Bench::new(rt.alloc());
+    bench.calls(rt, calls)?;
+    bench.encoded(options)
+}
+
+// What the node at a place is after the calls.
+fn described(
+    rt: &(impl Abort + AllocGlobal),
+    calls: &[(Call<'_>, &str)],
+    place: usize,
+) -> Result<String, Fail> {
+    let mut bench = Bench::new(rt.alloc());
+    bench.calls(rt, calls)?;
+    bench.described(rt, place)
+}
+
+// Whether the node at a place is imported by a name after the calls.
+fn imports(
+    rt: &(impl Abort + AllocGlobal),
+    calls: &[(Call<'_>, &str)],
+    place: usize,
+    name: &str,
+) -> Result<bool, Fail> {
+    let mut bench = Bench::new(rt.alloc());
+    bench.calls(rt, calls)?;
+    bench.imports(rt, place, name)
+}
+
+// Whether the node at a place is exported by a name after the calls.
+fn exports(
+    rt: &(impl Abort + AllocGlobal),
+    calls: &[(Call<'_>, &str)],
+    place: usize,
+    name: &str,
+) -> Result<bool, Fail> {
+    let mut bench = Bench::new(rt.alloc());
+    bench.calls(rt, calls)?;
+    Ok(bench.exports(place, name))
+}
+
 #[test]
 fn graphs_are_encoded(rt: HostRuntime) -> Result<(), Fail> {
     let rows = [
@@ -135,9 +182,8 @@ fn graphs_are_encoded(rt: HostRuntime) -> Result<(), Fail> {
         ),
     ];
     for (calls, want) in rows {
-        let mut bench = Bench::new(rt.alloc());
-        bench.calls(&rt, calls)?;
-        assert_eq!(rt; bench.encoded(EncodeOptions::default())?.as_str(), want);
+        let answer = encoded(&rt, calls, EncodeOptions::default())?;
+        assert_eq!(rt; answer.as_str(), want);
     }
     Ok(())
 }
@@ -146,39 +192,38 @@ fn graphs_are_encoded(rt: HostRuntime) -> Result<(), Fail> {
 fn options_that_are_not_served_yet(rt: HostRuntime) -> Result<(), Fail> {
     let plain = EncodeOptions::default();
     assert!(rt; plain.define_components && plain.validate && plain.processor.is_none());
-    let mut bench = Bench::new(rt.alloc());
-    bench.calls(&rt, EXPORTED)?;
     let imported = EncodeOptions {
         define_components: false,
         ..plain
     };
-    assert_eq!(rt; bench.encoded(imported)?.as_str(), NOT_YET);
+    assert_eq!(rt; encoded(&rt, EXPORTED, imported)?.as_str(), NOT_YET);
     let processor = Some(Processor {
         name: "wac_demo",
         version: "1.0.0",
     });
     let processed = EncodeOptions { processor, ..plain };
-    assert_eq!(rt; bench.encoded(processed)?.as_str(), NOT_YET);
-    assert!(rt; bench.exports(1, "x") && !bench.exports(1, "a"));
+    assert_eq!(rt; encoded(&rt, EXPORTED, processed)?.as_str(), NOT_YET);
     Ok(())
 }
 
 #[test]
 fn ids_give_nodes_and_packages(rt: HostRuntime) -> Result<(), Fail> {
-    let mut bench = Bench::new(rt.alloc());
-    bench.calls(&rt, EXPORTED)?;
-    let instance = bench.described(&rt, 0)?;
-    assert_eq!(rt;
-        instance.as_str(),
-        "instantiation, instance, my:package1, no name, no name"
-    );
-    let alias = bench.described(&rt, 1)?;
-    assert_eq!(rt; alias.as_str(), "alias, function, my:package1, no name, x");
-    let mut bench = Bench::new(rt.alloc());
-    bench.calls(&rt, NAMES)?;
-    let import = bench.described(&rt, 0)?;
-    assert_eq!(rt; import.as_str(), "import, function, no package, x, x");
-    assert_eq!(rt; bench.imported_name(&rt, 0)?, Some("x"));
-    assert_eq!(rt; bench.imported_name(&rt, 1)?, Some("unlocked-dep=<a:b>"));
+    let rows = [
+        (
+            EXPORTED,
+            0,
+            "instantiation, instance, my:package1, no name, no name",
+        ),
+        (EXPORTED, 1, "alias, function, my:package1, no name, x"),
+        (NAMES, 0, "import, function, no package, x, x"),
+    ];
+    for (calls, place, want) in rows {
+        let answer = described(&rt, calls, place)?;
+        assert_eq!(rt; answer.as_str(), want);
+    }
+    assert!(rt; exports(&rt, EXPORTED, 1, "x")?);
+    assert!(rt; !exports(&rt, EXPORTED, 1, "a")?);
+    assert!(rt; imports(&rt, NAMES, 0, "x")?);
+    assert!(rt; imports(&rt, NAMES, 1, "unlocked-dep=<a:b>")?);
     Ok(())
 }

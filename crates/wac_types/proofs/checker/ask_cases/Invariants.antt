@@ -1,6 +1,7 @@
 use Rattle.std.proofs.Common.{map}
 use Rattle.wac_types.specs.Collection.{value_types, case_values}
-use Rattle.wac_types.specs.Compare.{case_in, AgreeBelow}
+use Rattle.wac_types.specs.Compare.{case_in}
+use Rattle.wac_types.proofs.Below.{AgreeBelow}
 use Rattle.wac_types.specs.Questions.{Asks}
 use Rattle.wac_types.proofs.checker.ask_cases.Given as goal
 

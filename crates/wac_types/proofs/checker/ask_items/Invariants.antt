@@ -1,7 +1,5 @@
-use Rattle.std.proofs.Common.{◌≡◌, ℕ, ◌<◌, slice_get, Some}
-use Rattle.wac_types.specs.Name.{Name}
 use Rattle.wac_types.specs.Collection.{kind_types}
-use Rattle.wac_types.specs.Compare.{OffersBelow}
+use Rattle.wac_types.proofs.Below.{OffersBelow}
 use Rattle.wac_types.specs.Questions.{Asks}
 use Rattle.wac_types.proofs.checker.ask_items.Given as goal
 

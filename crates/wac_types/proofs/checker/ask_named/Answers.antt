@@ -1,11 +1,9 @@
-use Rattle.std.proofs.Common.{arith, map, ap, ◌∙◌, sym, ◌≢◌}
+use Rattle.std.proofs.Common.{arith, map}
 use Rattle.wac_types.specs.Collection.{IsBefore, value_types, seconds}
-use Rattle.wac_types.specs.Tree.{absent}
-use Rattle.wac_types.specs.Subtype.{type_tree}
-use Rattle.wac_types.specs.Compare.{value_in, optional_in, entry_in}
+use Rattle.wac_types.specs.Compare.{value_in, entry_in}
 use Rattle.wac_types.proofs.Names.{ne-true, ne-false}
 use Rattle.wac_types.proofs.Values.{asks_of}
-use Rattle.wac_types.proofs.Agreeing.{get_map, entry_at, handed_on, agree_none, agree_more, agree_maps, under_name, under_apart, entry_names_differ, lengths_differ, second_among, differ_at}
+use Rattle.wac_types.proofs.Agreeing.{get_map, entry_at, handed_on, agree_none, agree_more, agree_maps, under_name, under_apart, entry_names_differ, second_among, differ_at}
 use Rattle.wac_types.proofs.checker.ask_named.Goals as goal
 
 pub loop-i-init : goal.loop-i-init

@@ -1,6 +1,4 @@
-use Rattle.wac_types.proofs.Sorts.{type_there, kinds_differ}
-use Rattle.wac_types.proofs.Asking.{if_ok}
-use Rattle.wac_types.proofs.Values.{optionals_none, optionals_some, optionals_differ, first_lacks, second_lacks}
+use Rattle.wac_types.proofs.Values.{optionals_none, first_lacks, second_lacks}
 use Rattle.wac_types.proofs.checker.ask_optional.Goals as goal
 
 pub returns-in-None-None-clause-asked : goal.returns-in-None-None-clause-asked

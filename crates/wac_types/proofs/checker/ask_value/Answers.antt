@@ -1,5 +1,3 @@
-use Rattle.std.proofs.Common.{◌≡◌, ◌∙◌, sym, ap}
-use Rattle.wac_types.specs.Compare.{value_in}
 use Rattle.wac_types.proofs.Values.{asks_now, asks_values, primitives_along, primitives_back}
 use Rattle.wac_types.proofs.Asking.{if_ok}
 use Rattle.wac_types.proofs.checker.ask_value.Goals as goal

@@ -1,4 +1,4 @@
-use Rattle.std.proofs.Common.{arith, map, ap, ◌∙◌, sym}
+use Rattle.std.proofs.Common.{arith, map}
 use Rattle.wac_types.specs.Collection.{IsBefore, value_types}
 use Rattle.wac_types.specs.Compare.{value_in}
 use Rattle.wac_types.proofs.Values.{asks_of}

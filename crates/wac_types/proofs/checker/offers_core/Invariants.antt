@@ -1,5 +1,4 @@
-use Rattle.std.proofs.Common.{◌≡◌, ℕ, ◌<◌, slice_get, Some}
-use Rattle.wac_types.specs.Compare.{OffersCoreBelow}
+use Rattle.wac_types.proofs.Below.{OffersCoreBelow}
 use Rattle.wac_types.proofs.checker.offers_core.Given as goal
 
 -- those so far are offered

@@ -1,5 +1,5 @@
 use Rattle.wac_types.proofs.Asking.{puts_inserted}
-use Rattle.wac_types.proofs.QuestionKeys.{same_question, question_laws}
+use Rattle.wac_types.proofs.QuestionKeys.{same_question}
 use Rattle.wac_types.proofs.checker.put.Goals as goal
 
 pub returns-in-Ok-clause-put : goal.returns-in-Ok-clause-put

@@ -1,4 +1,4 @@
-use Rattle.wac_types.specs.Compare.{AgreeBelow}
+use Rattle.wac_types.proofs.Below.{AgreeBelow}
 use Rattle.wac_types.proofs.checker.same_labels.Given as goal
 
 -- those so far are the same

@@ -1,4 +1,4 @@
-use Rattle.std.proofs.Common.{◌≡◌, ◌∙◌, sym, rules}
+use Rattle.std.proofs.Common.{◌∙◌, sym, rules}
 use denote.Enum.Bare.{same_true, true_same}
 use Rattle.wac_types.specs.contracts.component.PrimitiveType.{the_type}
 use Rattle.wac_types.proofs.Asking.{differ}

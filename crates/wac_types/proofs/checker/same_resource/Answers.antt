@@ -1,4 +1,4 @@
-use Rattle.std.proofs.Common.{◌≡◌, ◌<◌, ◌∙◌, sym, ap, length, subst}
+use Rattle.std.proofs.Common.{◌<◌, sym, length, subst}
 use Rattle.wac_types.specs.declared.component.ResourceId.{ResourceId}
 use Rattle.wac_types.proofs.CoreTypes.{called_same}
 use Rattle.wac_types.proofs.Sorts.{resolved_less, resource_called}

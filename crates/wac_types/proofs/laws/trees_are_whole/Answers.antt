@@ -1,6 +1,5 @@
-use Rattle.wac_types.proofs.Relation.{sub_refl, sub_trans}
-use Rattle.wac_types.proofs.Trees.{deep_enough, aliases_agree}
-use Rattle.wac_types.specs.Subtype.{by_name, kind_tree}
+use Rattle.wac_types.proofs.Trees.{deep_enough}
+use Rattle.wac_types.specs.Subtype.{by_name}
 use Rattle.wac_types.specs.Bound.{by_place}
 use Rattle.wac_types.proofs.laws.trees_are_whole.Goals as goal
 

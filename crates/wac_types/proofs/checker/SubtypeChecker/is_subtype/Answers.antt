@@ -1,4 +1,4 @@
-use Rattle.std.proofs.Common.{arith, length, ap, subst, ◌≡◌, ◌+◌, ◌∙◌, sym, ◌<◌, ◌≤◌, List, slice_get}
+use Rattle.std.proofs.Common.{arith, length, ap, subst, ◌+◌, ◌∙◌, sym, ◌<◌, ◌≤◌, List, slice_get}
 use Rattle.wac_types.specs.declared.checker.Question.{Question}
 use Rattle.wac_types.proofs.Agreeing.{get_read}
 use Rattle.wac_types.proofs.Universe.{universe, asked_few}

@@ -1,4 +1,4 @@
-use Rattle.std.proofs.Common.{◌-◌, ◌≡◌, length}
+use Rattle.std.proofs.Common.{◌-◌, length}
 use Rattle.wac_types.proofs.Comparing.{Compares}
 use Rattle.wac_types.proofs.Universe.{universe}
 use Rattle.wac_types.proofs.checker.SubtypeChecker.is_subtype.Given as goal
