@@ -47,7 +47,7 @@ fn shown<T: Display + Drop>(alloc: Global, value: T) -> Result<String, Fail> {
 
 // Whether this is the answer of a call for which memory was refused.
 fn is_refused(answer: &str) -> bool {
-    answer == "out of memory" || answer == "OutOfMemory"
+    answer == "out of memory" || answer == "OutOfMemory" || answer == "memory allocation failed"
 }
 
 fn other_function(alloc: Global, graph: &mut CompositionGraph) -> Result<ItemKind, Fail> {
