@@ -4,6 +4,8 @@ use std::alloc::Global;
 use std::process::Abort;
 use std::test::Fail;
 
+mod subtyping;
+
 const BOOL: ValueType = ValueType::Primitive(PrimitiveType::Bool);
 
 const U32: ValueType = ValueType::Primitive(PrimitiveType::U32);
