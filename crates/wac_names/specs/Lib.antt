@@ -5,6 +5,7 @@ pub mod Grammar
 pub mod Faults
 pub mod Track
 pub mod Reading
+pub mod ReadingLaws
 pub mod Views
 pub mod Name
 pub mod Clash

@@ -51,5 +51,6 @@ pub use kind::{
 };
 pub use name::{ComponentName, one_answer};
 pub use tracks::{
-    Track, are_semver_compatible, compare_versions, keys_tell_tracks, one_track_laws, version_laws,
+    Track, are_semver_compatible, compare_versions, keys_tell_tracks, one_track_laws, reading_laws,
+    version_laws,
 };

@@ -5,6 +5,7 @@ ghost use Rattle.std.specs.Option.{option_cmp, option_copied, option_map};
 ghost use Rattle.semver.specs.Identifiers.{parts_of};
 ghost use Rattle.semver.specs.Parse.{Parts};
 ghost use Rattle.wac_names.specs.Reading.{is_interface_name, read_track, read_version, track_at};
+ghost use Rattle.wac_names.specs.ReadingLaws.{ReadingLaws};
 ghost use Rattle.wac_names.specs.Text.{has, before};
 ghost use Rattle.wac_names.specs.Track.{HasTrack, HasVersion, KeysTellTracks, OneTrack, OneTrackLaws, key_text, parts_piece, VersionLaws, series, version_cmp};
 ghost use Rattle.wac_names.specs.Views.{track_view};
@@ -157,4 +158,9 @@ pub fn keys_tell_tracks()
 /// Each text has one version at most, and versions are in a total order.
 pub fn version_laws()
     ensures { VersionLaws }
+{}
+
+/// The track and the version that are read of a text are its own.
+pub fn reading_laws()
+    ensures { ReadingLaws }
 {}
