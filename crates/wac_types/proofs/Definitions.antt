@@ -141,13 +141,13 @@ module _ {L : Type 0} where
       back (function c k f g) = g
       back _ = absent
 
-  list_inj : (a b : TypeTree L) → list_of a ≡ list_of b → a ≡ b
+  pub list_inj : (a b : TypeTree L) → list_of a ≡ list_of b → a ≡ b
   list_inj a b e = cc
 
   fixed_inj : (m : ℕ) (a b : TypeTree L) → fixed_list_of m a ≡ fixed_list_of m b → a ≡ b
   fixed_inj m a b e = cc
 
-  option_inj : (a b : TypeTree L) → option_of a ≡ option_of b → a ≡ b
+  pub option_inj : (a b : TypeTree L) → option_of a ≡ option_of b → a ≡ b
   option_inj a b e = cc
 
   stream_inj : (a b : TypeTree L) → stream_of a ≡ stream_of b → a ≡ b

@@ -19,6 +19,7 @@ pub mod Agreeing
 pub mod Definitions
 pub mod Answering
 pub mod Typing
+pub mod Opening
 pub mod Universe
 pub mod Comparing
 pub mod Relation

@@ -54,7 +54,7 @@ module _ {L : Type 0} where
   of_module_items a b (Sub.same _ p) = absurd p
   of_module_items a b (Sub.module_items _ _ s) = s
 
-  function_item_inj : (a b : TypeTree L) → function_item a ≡ function_item b → a ≡ b
+  pub function_item_inj : (a b : TypeTree L) → function_item a ≡ function_item b → a ≡ b
   function_item_inj a b e = cc
 
   value_item_inj : (a b : TypeTree L) → value_item a ≡ value_item b → a ≡ b

@@ -45,6 +45,11 @@ abbrev pub aliased : DefinedType → Option ValueType
 aliased (def.Alias v) = Some v
 aliased _ = None
 
+-- the definition of a value type
+abbrev pub definition_in : Collection → ValueType → Option DefinedType
+definition_in c (val.Defined d) = item_at c.defined d.0
+definition_in c v = None
+
 -- what a value type is an alias of
 abbrev pub alias_in : Collection → ValueType → Option ValueType
 alias_in c (val.Defined d) = option_case (item_at c.defined d.0) None aliased

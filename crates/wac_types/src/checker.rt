@@ -1,15 +1,17 @@
 //! Subtyping between items of two collections.
 ghost use Rattle.std.specs.Prelude.{◌≡◌, ◌≢◌, ◌≤◌, ◌+◌, ◌↔◌, [], ◌∷◌, map, not, true, None, Err, IfOk, IsTrue};
+ghost use Rattle.std.specs.Option.{option_copied};
+ghost use Rattle.wac_types.specs.Name.{find_name};
 ghost use Rattle.wac_types.specs.Collection.{kind_type, kind_types, value_types, and_maybe, seconds, case_values, func_mentions, defined_mentions, world_mentions, holds_type};
 ghost use Rattle.wac_types.specs.Held.{core_item, resolved};
 ghost use Rattle.wac_types.specs.Subtype.{Sub, IsSubtype, IsCoreSubtype, IsMaximumWithin, type_tree, kind_tree, resource_names};
-ghost use Rattle.wac_types.specs.Compare.{value_in, optional_in, func_in, defined_in, world_in, entry_in, case_in, aliased, alias_in, IsTableSubtype, IsMemorySubtype, Offers, OffersCore, OffersModules};
+ghost use Rattle.wac_types.specs.Compare.{definition_in, value_in, optional_in, func_in, defined_in, world_in, entry_in, case_in, aliased, alias_in, IsTableSubtype, IsMemorySubtype, Offers, OffersCore, OffersModules};
 ghost use Rattle.wac_types.specs.Questions.{in_order, type_rank, Settles, Asks, Refutes, Puts};
 ghost use Rattle.wac_types.specs.declared.component.«Type».TheVariants as ty;
 
 use crate::collection::Types;
 use crate::component::{
-    DefinedType, FuncType, ItemKind, PrimitiveType, ResourceId, Type, ValueType, World,
+    DefinedType, FuncType, FuncTypeId, ItemKind, PrimitiveType, ResourceId, Type, ValueType, World,
 };
 use crate::core_types::{CoreExtern, CoreFuncType, CoreType, ModuleType};
 use crate::named::{Labels, Named};
@@ -26,6 +28,9 @@ pub enum TypeFault {
     #[error("OutOfMemory")]
     OutOfMemory,
 }
+
+/// How many parameters or fields a type may have that is looked into wherever it is mentioned.
+const FEW_PARTS: usize = 8;
 
 /// Compares items of two collections.
 #[derive(Clone, Copy, Debug)]
@@ -59,7 +64,7 @@ impl SubtypeChecker {
         SubtypeChecker {}
     }
 
-    /// Whether an item of one collection is a subtype of an item of another. Answers `Mismatch` where it isn't, and `OutOfMemory` where memory ran out before that was known. Each pair of types is compared once.
+    /// Whether an item of one collection is a subtype of an item of another. Answers `Mismatch` where it isn't, and `OutOfMemory` where memory ran out before that was known. Each pair of types is compared once; only small ones are compared wherever they are mentioned.
     pub fn is_subtype(
         &self,
         a: ItemKind,
@@ -136,8 +141,8 @@ fn ask_type(asked: &mut IndexSet<Question>, sides: Sides, a: Type, b: Type) -> R
     )
 }
 
-// Asks whether one value type is another.
-fn ask_value(
+// Asks whether one value type is another, which is a question of its own unless both are primitives.
+fn ask_part(
     asked: &mut IndexSet<Question>,
     sides: Sides,
     v: ValueType,
@@ -149,6 +154,107 @@ fn ask_value(
     match (v, w) {
         (ValueType::Primitive(p), ValueType::Primitive(q)) => same_primitive(p, q),
         _ => ask_type(asked, sides, Type::Value(v), Type::Value(w)),
+    }
+}
+
+// The definition of a value type, where one is held.
+fn definition(types: &Types, v: ValueType) -> Option<&DefinedType>
+    ensures { option_copied result ≡ definition_in types.now v }
+{
+    match v {
+        ValueType::Defined(id) => types.find_defined(id),
+        _ => None,
+    }
+}
+
+// Whether both are known at sight to be the same primitive.
+fn is_same_primitive(sides: Sides, v: ValueType, w: ValueType) -> bool
+    ensures { IsTrue result → value_in sides.entry.first.now v ≡ value_in sides.entry.second.now w }
+{
+    match (v, w) {
+        (ValueType::Primitive(p), ValueType::Primitive(q)) => p == q,
+        _ => false,
+    }
+}
+
+// Whether both are known at sight to be the same: a primitive, or a list or an option of one.
+fn is_same_flat(sides: Sides, v: ValueType, w: ValueType) -> bool
+    ensures { IsTrue result → value_in sides.entry.first.now v ≡ value_in sides.entry.second.now w }
+{
+    sides.first.law();
+    sides.second.law();
+    let (Some(d), Some(e)) = (definition(sides.first, v), definition(sides.second, w)) else {
+        return is_same_primitive(sides, v, w);
+    };
+    match (d, e) {
+        (DefinedType::List(a), DefinedType::List(b)) => is_same_primitive(sides, *a, *b),
+        (DefinedType::Option(a), DefinedType::Option(b)) => is_same_primitive(sides, *a, *b),
+        _ => false,
+    }
+}
+
+// Whether there are few fields, which are known at sight to be the same.
+fn have_same_fields(sides: Sides, vs: &Named<ValueType>, ws: &Named<ValueType>) -> bool
+    ensures { IsTrue result → map (entry_in sides.entry.first.now) vs.now ≡ map (entry_in sides.entry.second.now) ws.now }
+{
+    if vs.len() != ws.len() || vs.len() > FEW_PARTS {
+        return false;
+    }
+    for i in 0..vs.len() {
+        let (first_name, v) = vs.entry_at(i);
+        let (second_name, w) = ws.entry_at(i);
+        if first_name != second_name {
+            return false;
+        }
+        if !is_same_flat(sides, *v, *w) {
+            return false;
+        }
+    }
+    true
+}
+
+// The same, where lists, options and small records are looked into at once, which takes no longer than a question does.
+fn ask_opened(
+    asked: &mut IndexSet<Question>,
+    sides: Sides,
+    v: ValueType,
+    w: ValueType,
+) -> Result<(), TypeFault>
+    ensures asked { IfOk result (λ _. Asks sides.entry.turned sides.entry.first.now sides.entry.second.now (ty.Value v ∷ []) (ty.Value w ∷ []) asked.old.keys asked.new.keys (value_in sides.entry.first.now v ≡ value_in sides.entry.second.now w)) }
+    ensures mismatch { result ≡ Err TypeFault.Mismatch → value_in sides.entry.first.now v ≡ value_in sides.entry.second.now w → ⊥ }
+{
+    sides.first.law();
+    sides.second.law();
+    let (Some(d), Some(e)) = (definition(sides.first, v), definition(sides.second, w)) else {
+        return ask_part(asked, sides, v, w);
+    };
+    match (d, e) {
+        (DefinedType::List(a), DefinedType::List(b)) => ask_part(asked, sides, *a, *b),
+        (DefinedType::Option(a), DefinedType::Option(b)) => ask_part(asked, sides, *a, *b),
+        (DefinedType::Record(r), DefinedType::Record(s)) => {
+            if have_same_fields(sides, &r.fields, &s.fields) {
+                return Ok(());
+            }
+            ask_part(asked, sides, v, w)
+        }
+        _ => ask_part(asked, sides, v, w),
+    }
+}
+
+// Asks whether one value type is another.
+#[inline(always)]
+fn ask_value(
+    asked: &mut IndexSet<Question>,
+    sides: Sides,
+    v: ValueType,
+    w: ValueType,
+) -> Result<(), TypeFault>
+    ensures asked { IfOk result (λ _. Asks sides.entry.turned sides.entry.first.now sides.entry.second.now (ty.Value v ∷ []) (ty.Value w ∷ []) asked.old.keys asked.new.keys (value_in sides.entry.first.now v ≡ value_in sides.entry.second.now w)) }
+    ensures mismatch { result ≡ Err TypeFault.Mismatch → value_in sides.entry.first.now v ≡ value_in sides.entry.second.now w → ⊥ }
+{
+    match (v, w) {
+        (ValueType::Primitive(p), ValueType::Primitive(q)) => same_primitive(p, q),
+        _ => ask_opened(asked, sides, v, w),
     }
 }
 
@@ -202,10 +308,12 @@ fn ask_named(
         return Err(TypeFault::Mismatch);
     }
     for i in 0..vs.len() {
-        if vs.name_at(i) != ws.name_at(i) {
+        let (name, v) = vs.entry_at(i);
+        let (other, w) = ws.entry_at(i);
+        if name != other {
             return Err(TypeFault::Mismatch);
         }
-        ask_value(asked, sides, *vs.value_at(i), *ws.value_at(i))?;
+        ask_value(asked, sides, *v, *w)?;
     }
     Ok(())
 }
@@ -274,6 +382,29 @@ fn ask_func(
     }
     ask_optional(asked, sides, f.result, g.result)?;
     ask_named(asked, sides, &f.params, &g.params)
+}
+
+// Asks whether one function type is the other. Those of few parameters are looked into at once.
+fn ask_func_type(
+    asked: &mut IndexSet<Question>,
+    sides: Sides,
+    i: FuncTypeId,
+    j: FuncTypeId,
+) -> Result<(), TypeFault>
+    ensures asked { IfOk result (λ _. Asks sides.entry.turned sides.entry.first.now sides.entry.second.now (ty.Func i ∷ []) (ty.Func j ∷ []) asked.old.keys asked.new.keys (Sub (type_tree sides.entry.first.now (ty.Func i)) (type_tree sides.entry.second.now (ty.Func j)))) }
+    ensures mismatch { result ≡ Err TypeFault.Mismatch → Sub (type_tree sides.entry.first.now (ty.Func i)) (type_tree sides.entry.second.now (ty.Func j)) → ⊥ }
+{
+    sides.first.law();
+    sides.second.law();
+    if !sides.first.contains(Type::Func(i)) || !sides.second.contains(Type::Func(j)) {
+        return ask_type(asked, sides, Type::Func(i), Type::Func(j));
+    }
+    let f = &sides.first[i];
+    let g = &sides.second[j];
+    if f.params.len() > FEW_PARTS {
+        return ask_type(asked, sides, Type::Func(i), Type::Func(j));
+    }
+    ask_func(asked, sides, f, g)
 }
 
 // Asks whether one definition is the other; neither is an alias.
@@ -360,9 +491,7 @@ fn ask_kinds(
             ask_type(asked, sides, a, b)?;
             ask_type(asked, sides.turned(), b, a)
         }
-        (ItemKind::Func(i), ItemKind::Func(j)) => {
-            ask_type(asked, sides, Type::Func(i), Type::Func(j))
-        }
+        (ItemKind::Func(i), ItemKind::Func(j)) => ask_func_type(asked, sides, i, j),
         (ItemKind::Instance(i), ItemKind::Instance(j)) => {
             ask_type(asked, sides, Type::Interface(i), Type::Interface(j))
         }
@@ -377,6 +506,17 @@ fn ask_kinds(
     }
 }
 
+// The item under a name, looked for at a position first.
+fn item_near<'a>(items: &'a Named<ItemKind>, index: usize, name: &str) -> Option<&'a ItemKind>
+    ensures { option_copied result ≡ find_name items.now name.now }
+{
+    items.law();
+    if index < items.len() && items.name_at(index) == name {
+        return Some(items.value_at(index));
+    }
+    items.get(name)
+}
+
 // Asks whether each item of the second list is offered by the first.
 fn ask_items(
     asked: &mut IndexSet<Question>,
@@ -389,7 +529,7 @@ fn ask_items(
 {
     ys.law();
     for i in 0..ys.len() {
-        match xs.get(ys.name_at(i)) {
+        match item_near(xs, i, ys.name_at(i)) {
             Some(x) => ask_kinds(asked, sides, *x, *ys.value_at(i))?,
             None => return Err(TypeFault::Mismatch),
         }

@@ -207,6 +207,15 @@ impl<V> Named<V> {
         entry.0.as_str()
     }
 
+    // The name and the value at a position.
+    pub(crate) fn entry_at(&self, index: usize) -> (&str, &V)
+        requires { index < length self.now }
+        ensures { slice_get self.now index ≡ Some (result.0.now, result.1.now) }
+    {
+        let (name, value) = self.entries.get_index(index).unwrap();
+        (name.as_str(), value)
+    }
+
     /// The value at a position.
     pub fn value_at(&self, index: usize) -> &V
         requires { index < length self.now }

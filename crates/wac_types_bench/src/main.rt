@@ -1,15 +1,25 @@
 //! Times how long items of two collections take to compare: tuples doubled so many deep, a chain of lists, aliases and
-//! options, and interfaces of functions over records. Without an argument it compares small ones and prints no time.
+//! options, and interfaces of functions over records. Without an argument it compares a few and prints no time. With a
+//! number it compares each at that count, twice and four times it, and prints by which power of the count the time grows.
 #![tactic(auto)]
 
 use anyhow::Result;
 use std::alloc::Global;
 use std::env;
-use std::time::Instant;
+use std::time::{Duration, Instant};
 use wac_types::{
     DefinedType, FuncType, Interface, ItemKind, Named, PrimitiveType, Record, Sequence,
     SubtypeChecker, Types, ValueType,
 };
+
+/// How often each comparison is timed.
+const ROUNDS: usize = 5;
+
+/// Four times the count takes so many times as long for each tenth of the power: the tenth root of 4.
+const TENTH: f64 = 1.148698354997035;
+
+/// The square root of that, to round to the nearest tenth.
+const HALF_TENTH: f64 = 1.0717734625362931;
 
 /// What is compared.
 #[derive(Clone, Copy)]
@@ -19,9 +29,20 @@ enum Sort {
     Functions,
 }
 
+/// How long the rounds of a comparison took.
+#[derive(Clone, Copy)]
+struct Times {
+    least: Duration,
+    middle: Duration,
+}
+
+fn primitive(primitive: PrimitiveType) -> ValueType {
+    ValueType::Primitive(primitive)
+}
+
 /// Adds tuples, each of the one before twice.
 fn tuples(alloc: Global, types: &mut Types, count: u64) -> Result<ItemKind> {
-    let mut value = ValueType::Primitive(PrimitiveType::Bool);
+    let mut value = primitive(PrimitiveType::Bool);
     for _ in 0..count {
         let pair = Sequence::new(alloc, &[value, value])?;
         value = ValueType::Defined(types.add_defined_type(DefinedType::Tuple(pair))?);
@@ -31,7 +52,7 @@ fn tuples(alloc: Global, types: &mut Types, count: u64) -> Result<ItemKind> {
 
 /// Adds lists, aliases and options in turn, each of the one before.
 fn chain(types: &mut Types, count: u64) -> Result<ItemKind> {
-    let mut value = ValueType::Primitive(PrimitiveType::Bool);
+    let mut value = primitive(PrimitiveType::Bool);
     for number in 0..count {
         let next = match number % 3 {
             0 => DefinedType::List(value),
@@ -43,25 +64,33 @@ fn chain(types: &mut Types, count: u64) -> Result<ItemKind> {
     Ok(ItemKind::Value(value))
 }
 
-/// Adds an interface of functions, each over a record of its own.
+/// Adds a list, an option, and a record with fields of them.
+fn record(alloc: Global, types: &mut Types) -> Result<ValueType> {
+    let list = types.add_defined_type(DefinedType::List(primitive(PrimitiveType::U8)))?;
+    let option = types.add_defined_type(DefinedType::Option(primitive(PrimitiveType::U64)))?;
+    let record = Record::new(
+        alloc,
+        &[
+            ("a", primitive(PrimitiveType::U32)),
+            ("b", primitive(PrimitiveType::String)),
+            ("c", ValueType::Defined(list)),
+            ("d", ValueType::Defined(option)),
+        ],
+    )?;
+    let id = types.add_defined_type(DefinedType::Record(record))?;
+    Ok(ValueType::Defined(id))
+}
+
+/// Adds an interface of functions, each over two records of its own.
 fn functions(alloc: Global, types: &mut Types, count: u64) -> Result<ItemKind> {
-    let text = ValueType::Primitive(PrimitiveType::String);
-    let number_of = ValueType::Primitive(PrimitiveType::U32);
     let mut exports = Named::new(alloc);
     for number in 0..count {
-        let record = Record::new(
-            alloc,
-            &[("name", text), ("size", number_of), ("kind", text)],
-        )?;
-        let value = ValueType::Defined(types.add_defined_type(DefinedType::Record(record))?);
-        let func = FuncType::new(
-            alloc,
-            &[("first", value), ("second", text)],
-            Some(value),
-            false,
-        )?;
+        let x = record(alloc, types)?;
+        let y = record(alloc, types)?;
+        let returned = Some(primitive(PrimitiveType::Bool));
+        let func = FuncType::new(alloc, &[("x", x), ("y", y)], returned, false)?;
         let id = types.add_func_type(func)?;
-        let name = format!(in alloc; "function-{number}")?;
+        let name = format!(in alloc; "f{number}")?;
         exports.insert(alloc, name.as_str(), ItemKind::Func(id))?;
     }
     let interface = Interface {
@@ -88,36 +117,78 @@ fn is_subtype(a: ItemKind, at: &Types, b: ItemKind, bt: &Types) -> bool {
     SubtypeChecker::new().is_subtype(a, at, b, bt).is_ok()
 }
 
-fn measure(rt: &HostRuntime, what: &str, sort: Sort, count: u64) -> Result<()> {
+/// Adds items of so many parts to two collections, and prints how long they take to compare.
+fn measure(rt: &HostRuntime, what: &str, sort: Sort, count: u64) -> Result<Times> {
     let mut first = Types::new(rt.alloc());
     let mut second = Types::new(rt.alloc());
-    let start = Instant::now(rt)?;
     let a = item(rt.alloc(), &mut first, sort, count)?;
     let b = item(rt.alloc(), &mut second, sort, count)?;
-    let added = start.elapsed(rt)?.as_micros();
-    let start = Instant::now(rt)?;
-    let answer = is_subtype(a, &first, b, &second);
-    let time = start.elapsed(rt)?.as_micros();
-    println!(rt; "{what} {count}: {answer}, added in {added} us, compared in {time} us")?;
+    let mut rounds = Vec::new(rt.alloc());
+    let mut answer = true;
+    for _ in 0..ROUNDS {
+        let start = Instant::now(rt)?;
+        answer = is_subtype(a, &first, b, &second) && answer;
+        rounds.push(start.elapsed(rt)?)?;
+    }
+    rounds.sort()?;
+    let times = Times {
+        least: rounds.first().copied().unwrap_or(Duration::ZERO),
+        middle: rounds.get(ROUNDS / 2).copied().unwrap_or(Duration::ZERO),
+    };
+    let least = times.least.as_micros();
+    let middle = times.middle.as_micros();
+    println!(rt; "{what} {count}: {answer}, least {least} us, middle {middle} us")?;
+    Ok(times)
+}
+
+/// By which power of the count the time grows, in tenths, where `last` was of four times the count of `first`.
+fn power_in_tenths(first: Duration, last: Duration) -> u32 {
+    let last = last.as_secs_f64();
+    let mut reached = first.as_secs_f64() * HALF_TENTH;
+    for tenths in 0..100 {
+        if reached > last {
+            return tenths;
+        }
+        reached *= TENTH;
+    }
+    100
+}
+
+/// Measures at a count, twice and four times it, and prints how the time grows.
+fn measure_growth(rt: &HostRuntime, what: &str, sort: Sort, count: u32) -> Result<()> {
+    let count = u64::from(count);
+    let first = measure(rt, what, sort, count)?;
+    let _ = measure(rt, what, sort, 2 * count)?;
+    let last = measure(rt, what, sort, 4 * count)?;
+    let tenths = power_in_tenths(first.least, last.least);
+    let whole = tenths / 10;
+    let rest = tenths % 10;
+    println!(rt; "{what}: the time grows by the power {whole}.{rest} of the count")?;
     Ok(())
 }
 
 fn main(rt: HostRuntime) -> Result<()> {
     let count = match env::args(&rt)?.nth(1) {
-        Some(text) => text.as_str().parse::<u64>().ok(),
+        Some(text) => text.as_str().parse::<u32>().ok(),
         None => None,
     };
     let Some(count) = count else {
         let mut first = Types::new(rt.alloc());
+        let mut second = Types::new(rt.alloc());
         let a = tuples(rt.alloc(), &mut first, 60)?;
-        let b = chain(&mut first, 3)?;
+        let b = chain(&mut first, 100_000)?;
+        let c = chain(&mut second, 100_000)?;
         let same = is_subtype(a, &first, a, &first);
         let other = is_subtype(a, &first, b, &first);
-        println!(rt; "tuples doubled 60 deep: {same}; a tuple for a list: {other}")?;
+        let long = is_subtype(b, &first, c, &second);
+        println!(rt;
+            "tuples doubled 60 deep: {same}; a tuple for a list: {other}; a chain of 100000: {long}"
+        )?;
         return Ok(());
     };
     measure(&rt, "tuples", Sort::Tuples, 60)?;
-    measure(&rt, "chain", Sort::Chain, count)?;
-    measure(&rt, "functions", Sort::Functions, count)?;
+    measure_growth(&rt, "tuples", Sort::Tuples, count)?;
+    measure_growth(&rt, "chain", Sort::Chain, count)?;
+    measure_growth(&rt, "functions", Sort::Functions, count)?;
     Ok(())
 }

@@ -1,5 +1,6 @@
 use Rattle.wac_types.proofs.Asking.{if_ok}
 use Rattle.wac_types.proofs.Subtyping.{asks_type_items, asks_func_items, asks_instance_items, asks_component_items, asks_module_items, asks_value_items}
+use Rattle.wac_types.proofs.Opening.{func_items_differ}
 use Rattle.wac_types.proofs.checker.ask_kinds.Goals as goal
 
 pub returns-in_ok-ask_type-in-TypeItem-TypeItem-clause-asked : goal.returns-in_ok-ask_type-in-TypeItem-TypeItem-clause-asked
@@ -8,7 +9,7 @@ returns-in_ok-ask_type-in-TypeItem-TypeItem-clause-asked c = if_ok c.ask_type-in
     _ _ _ c.turned.ensures.turned c.turned.ensures.first c.turned.ensures.second s) c.ask_type-in-TypeItem-TypeItem.ensures.asked
 
 pub returns-in-Func-Func-clause-asked : goal.returns-in-Func-Func-clause-asked
-returns-in-Func-Func-clause-asked c = if_ok c.ask_type-in-Func-Func.result _ _ (λ _ s. asks_func_items c.args.x c.args.y _ _ c.in-Func-Func.is-0 c.in-Func-Func.is-1 s) c.ask_type-in-Func-Func.ensures.asked
+returns-in-Func-Func-clause-asked c = if_ok c.ask_func_type.result _ _ (λ _ s. asks_func_items c.args.x c.args.y _ _ c.in-Func-Func.is-0 c.in-Func-Func.is-1 s) c.ask_func_type.ensures.asked
 
 pub returns-in-Instance-Instance-clause-asked : goal.returns-in-Instance-Instance-clause-asked
 returns-in-Instance-Instance-clause-asked c = if_ok c.ask_type-in-Instance-Instance.result _ _ (λ _ s. asks_instance_items c.args.x c.args.y _ _ c.in-Instance-Instance.is-0 c.in-Instance-Instance.is-1 s) c.ask_type-in-Instance-Instance.ensures.asked
@@ -21,3 +22,6 @@ returns-in-Module-Module-clause-asked c = if_ok c.ask_type-in-Module-Module.resu
 
 pub returns-in-Value-Value-clause-asked : goal.returns-in-Value-Value-clause-asked
 returns-in-Value-Value-clause-asked c = if_ok c.ask_value.result _ _ (λ _ s. asks_value_items c.args.x c.args.y _ _ c.in-Value-Value.is-0 c.in-Value-Value.is-1 s) c.ask_value.ensures.asked
+
+pub returns-in-Func-Func-clause-mismatch : goal.returns-in-Func-Func-clause-mismatch
+returns-in-Func-Func-clause-mismatch c = λ is. func_items_differ c.args.sides.first.now c.args.sides.second.now c.args.x c.args.y _ _ c.in-Func-Func.is-0 c.in-Func-Func.is-1 (c.ask_func_type.ensures.mismatch is)
