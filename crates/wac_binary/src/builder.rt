@@ -90,7 +90,7 @@ impl ComponentBuilder {
             &mut self.bytes,
             &mut self.things,
             &mut self.next,
-            self.open_section,
+            &self.open_section,
             item,
         )?;
         self.counts[at] = index + 1;

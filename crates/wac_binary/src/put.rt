@@ -46,7 +46,7 @@ pub(crate) fn put_text(out: &mut Vec<u8>, t: &str) -> Result<(), AllocError>
 }
 
 /// The code of a primitive type.
-pub(crate) fn primitive_byte(t: PrimitiveType) -> u8
+fn primitive_byte(t: PrimitiveType) -> u8
     ensures { result ≡ primitive t }
 {
     match t {

@@ -4,7 +4,7 @@ ghost use Rattle.std.specs.Prelude.{◌≡◌, List, ℕ, ◌<◌, ◌≤◌, �
 ghost use Rattle.wac_binary.specs.Bytes.{text, value, optional, field, case, vector, outcome, value_def_bytes, type_bytes};
 ghost use Rattle.wac_binary.specs.Views.{named, texts_of, func_of, defined_of};
 
-use crate::put::{primitive_byte, put_indexed, put_text, put_unsigned, put_value};
+use crate::put::{put_indexed, put_text, put_unsigned, put_value};
 use crate::types::{ComponentValType, DefinedType, FuncType};
 use std::alloc::AllocError;
 
@@ -135,10 +135,7 @@ pub(crate) fn put_defined(out: &mut Vec<u8>, t: &DefinedType<'_>) -> Result<(), 
     ensures grows { (more : List ℕ) × (out.new.items ≡ out.old.items ++ more) }
 {
     match *t {
-        DefinedType::Primitive(p) => {
-            out.push(primitive_byte(p))?;
-            Ok(())
-        }
+        DefinedType::Primitive(p) => put_value(out, ComponentValType::Primitive(p)),
         DefinedType::Record(fields) => {
             out.push(0x72)?;
             put_fields(out, fields)

@@ -46,6 +46,7 @@ pub(crate) fn unsigned_len(n: u64) -> u64
 }
 
 /// Whether a section with these things fits 32 bits.
+#[tactic(auto, using(crate::specs::LebLaws::leb_length, std::proofs::lemmas::Grind::common_steps))]
 fn fits(last: Open, things: &[u8]) -> bool
     requires { last.count ≤ 2 ^ 32 }
     ensures { IsTrue result ↔ SectionFits (section last things.now) }
@@ -53,6 +54,10 @@ fn fits(last: Open, things: &[u8]) -> bool
     let size = things.len() as u64;
     if size >= 1 << 32 {
         return false;
+    }
+    // The count has at most one byte more than its value, so far from the limit its bytes need no counting.
+    if last.count + size < (1 << 32) - 1 {
+        return true;
     }
     let head = if is_shared(last.id) {
         unsigned_len(last.count)
@@ -153,24 +158,24 @@ pub(crate) fn put_shared(
     bytes: &mut Vec<u8>,
     things: &mut Vec<u8>,
     next: &mut Vec<u8>,
-    last: Option<Open>,
+    last: &Option<Open>,
     item: &ItemRef<'_>,
 ) -> Result<u64, BinaryFault>
-    requires { IfSome (section_of last things.old.items) SectionFits }
-    ensures bytes { OnOk result (bytes.new.items ≡ bytes.old.items ++ flat_map section_bytes (before (section_of last things.old.items) (item_of item.now))) }
-    ensures opened { IfOk result (λ n. section (record { id = id_of (item_of item.now); count = n }) things.new.items ≡ next_section (section_of last things.old.items) (item_of item.now)) }
-    ensures fits { OnOk result (SectionFits (next_section (section_of last things.old.items) (item_of item.now))) }
+    requires { IfSome (section_of last.now things.old.items) SectionFits }
+    ensures bytes { OnOk result (bytes.new.items ≡ bytes.old.items ++ flat_map section_bytes (before (section_of last.now things.old.items) (item_of item.now))) }
+    ensures opened { IfOk result (λ n. section (record { id = id_of (item_of item.now); count = n }) things.new.items ≡ next_section (section_of last.now things.old.items) (item_of item.now)) }
+    ensures fits { OnOk result (SectionFits (next_section (section_of last.now things.old.items) (item_of item.now))) }
     ensures refused_bytes { OnErr result (bytes.new.items ≡ bytes.old.items) }
     ensures refused_things { OnErr result (things.new.items ≡ things.old.items) }
-    ensures too_large { IfErr result (λ e. e ≡ TooLarge → ¬ SectionFits (next_section (section_of last things.old.items) (item_of item.now))) }
+    ensures too_large { IfErr result (λ e. e ≡ TooLarge → ¬ SectionFits (next_section (section_of last.now things.old.items) (item_of item.now))) }
 {
     let id = section_id(item);
-    match last {
+    match *last {
         Some(o) if is_shared(o.id) && o.id == id => join(things, o, item),
         _ => {
             next.clear();
             let first = join(next, Open { id, count: 0 }, item)?;
-            close(bytes, last, things)?;
+            close(bytes, *last, things)?;
             swap(things, next);
             Ok(first)
         }

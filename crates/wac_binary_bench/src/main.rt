@@ -8,6 +8,9 @@ use std::env;
 use std::time::Instant;
 use wac_binary::{BinaryFault, ComponentBuilder, Description, FuncType, InstanceType};
 
+/// How often each is written, so that the least and the median of the times say more than one does.
+const ROUNDS: usize = 41;
+
 /// What is written.
 #[derive(Clone, Copy)]
 enum Workload {
@@ -83,6 +86,43 @@ fn speed(bytes: usize, nanoseconds: u128) -> u128 {
     bytes as u128 * 1000 / nanoseconds.max(1)
 }
 
+/// The first and the middle one of times in order.
+fn least_and_median(times: &[u128]) -> (u128, u128) {
+    let least = times.first().copied().unwrap_or(1);
+    let median = times.get(times.len() / 2).copied().unwrap_or(1);
+    (least, median)
+}
+
+/// The times of writing, in order.
+fn times_of_writing(
+    rt: &HostRuntime,
+    workload: Workload,
+    count: u32,
+    package: &[u8],
+) -> anyhow::Result<Vec<u128>> {
+    let mut times = Vec::new(rt.alloc());
+    for _ in 0..ROUNDS {
+        let start = Instant::now(rt)?;
+        let _bytes = written(rt.alloc(), workload, count, package)?;
+        times.push(start.elapsed(rt)?.as_nanos())?;
+    }
+    times.sort()?;
+    Ok(times)
+}
+
+/// The times of copying bytes, in order.
+fn times_of_copying(rt: &HostRuntime, bytes: &[u8]) -> anyhow::Result<Vec<u128>> {
+    let mut times = Vec::new(rt.alloc());
+    for _ in 0..ROUNDS {
+        let start = Instant::now(rt)?;
+        let mut copy = Vec::new(rt.alloc());
+        copy.extend_from_slice(bytes)?;
+        times.push(start.elapsed(rt)?.as_nanos())?;
+    }
+    times.sort()?;
+    Ok(times)
+}
+
 fn measure(
     rt: &HostRuntime,
     name: &str,
@@ -90,18 +130,13 @@ fn measure(
     count: u32,
     package: &[u8],
 ) -> anyhow::Result<()> {
-    let start = Instant::now(rt)?;
+    let (least, median) = least_and_median(&times_of_writing(rt, workload, count, package)?);
     let bytes = written(rt.alloc(), workload, count, package)?;
-    let writing = start.elapsed(rt)?.as_nanos();
-    let start = Instant::now(rt)?;
-    let mut copy = Vec::new(rt.alloc());
-    copy.extend_from_slice(bytes.as_slice())?;
-    let copying = start.elapsed(rt)?.as_nanos();
-    let length = copy.len();
-    let speed_of_writing = speed(length, writing);
-    let speed_of_copying = speed(length, copying);
+    let (least_copy, median_copy) = least_and_median(&times_of_copying(rt, bytes.as_slice())?);
+    let length = bytes.len();
+    let speed = speed(length, median);
     println!(rt;
-        "{count} {name}: {length} bytes, written in {writing} ns ({speed_of_writing} MB/s), copied in {copying} ns ({speed_of_copying} MB/s)"
+        "{count} {name}: {length} bytes, written in {least} ns at least and {median} ns in the median ({speed} MB/s), copied in {least_copy} ns and {median_copy} ns"
     )?;
     Ok(())
 }
@@ -119,10 +154,8 @@ fn main(rt: HostRuntime) -> anyhow::Result<()> {
     }
     let mut package = Vec::new(alloc);
     package.resize(4 << 20, 0u8)?;
-    for _ in 0..3 {
-        measure(&rt, "packages", Workload::Packages, 16, package.as_slice())?;
-        measure(&rt, "imports", Workload::Imports, 200_000, &[])?;
-        measure(&rt, "instance types", Workload::InstanceTypes, 50_000, &[])?;
-    }
+    measure(&rt, "imports", Workload::Imports, 200_000, &[])?;
+    measure(&rt, "instance types", Workload::InstanceTypes, 50_000, &[])?;
+    measure(&rt, "packages", Workload::Packages, 16, package.as_slice())?;
     Ok(())
 }
