@@ -1,4 +1,5 @@
 mod bench;
 mod graph;
 mod names;
+mod packages;
 mod program;

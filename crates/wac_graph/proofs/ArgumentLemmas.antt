@@ -51,7 +51,7 @@ sets_at a id argument n name result new had h =
     subst (λ o. IfSome o (λ m. IfSome (node_at (graph_of a) argument) (λ g. SetsOn (graph_of a) id m name argument g result new))) (sym at)
     (IfSome-eq (node_at (graph_of a) argument) (λ g. SetsOn (graph_of a) id (node_of n) name argument g result new) h)
 
-no_instantiation : (k : NodeKind) → ((s : BTreeSet ℕ) → k ≡ code.Instantiation s → ⊥) → kind_of k ≡ graph.instantiation → ⊥
+pub no_instantiation : (k : NodeKind) → ((s : BTreeSet ℕ) → k ≡ code.Instantiation s → ⊥) → kind_of k ≡ graph.instantiation → ⊥
 no_instantiation code.Definition h e = cc
 no_instantiation (code.Import name) h e = cc
 no_instantiation (code.Instantiation s) h e = h s refl
@@ -105,7 +105,7 @@ module _ (a : Inside) (v : Invariant a) (id : NodeId) (n : Node) (s : BTreeSet �
       lt_of : (k m : ℕ) → nat_lt k m ≡ true → k < m
       lt_of k m h = grind (arith, nat_tests)
 
-    package_is : package_of (graph_of a) (node_of n) ≡ Some p
+    pub package_is : package_of (graph_of a) (node_of n) ≡ Some p
     package_is = by_owner n.«package» some where
       by_owner : (x : Option PackageId) → x ≡ Some o → package_of (graph_of a) (record (node_of n) { owner = x }) ≡ Some p
       by_owner x at = rw at (sym there)

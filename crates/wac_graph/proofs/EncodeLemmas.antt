@@ -8,7 +8,6 @@ use Rattle.std.specs.Ordering.{eq_by_cmp}
 use Rattle.std.proofs.lemmas.List.{append-nil}
 use Rattle.std.proofs.lemmas.List.Elements.{filter-append}
 use Rattle.std.proofs.lemmas.Grind.{flat_map-append}
-use Rattle.std.proofs.lemmas.Bool.{eqb-true}
 use Rattle.wac_types.specs.Name.{Name, option_case}
 use Rattle.wac_types.specs.Tree.{Tree}
 use Rattle.wac_types.specs.declared.component.ItemKind.{ItemKind}
@@ -24,86 +23,15 @@ use Rattle.wac_graph.specs.Edge.{edge_cmp, argument_edge}
 use Rattle.wac_graph.specs.Graph as graph
 use Rattle.wac_graph.specs.Graph.{Graph, GraphNode, Kind, node_at, imports_of, IsSatisfied}
 use Rattle.wac_graph.specs.Sound.{IsSound}
-use Rattle.wac_graph.specs.Order.{Writes, IsLowestReady, Leads, IsOnCycle}
+use Rattle.wac_graph.specs.Order.{Writes, IsLowestReady}
 use Rattle.wac_graph.specs.Asked.{is_argument, is_satisfied, unsatisfied, asked_by, imported_by, asked, Entry, class_names, merged}
 use Rattle.wac_graph.specs.Means.{node_number, node_is, is_instantiation, is_written, instantiations, IsThing, sort_of_kind, with_package, used_after, used_packages, package_bytes, AreInstantiations, HasItem, shown, export_of, export_item_of, Means}
 use Rattle.wac_graph.specs.Encoding.{Adds, adds_instantiation, adds_alias}
 use Rattle.wac_graph.proofs.EdgeLemmas.{exact_edges}
-use Rattle.wac_graph.proofs.WrittenOrder.{has, minus, minus-push, eqb_same, in_push, all_in}
-use Rattle.wac_graph.proofs.ThingLemmas.{IsPlain, is_written-node, ready_sources}
+use Rattle.wac_graph.proofs.WrittenOrder.{minus, eqb_same, all_in}
+use Rattle.wac_graph.proofs.ThingLemmas.{IsPlain, is_written-node}
 use Rattle.wac_graph.proofs.MeaningLemmas.{export_shown, export_others, indexes-push}
 use Rattle.wac_graph.proofs.WrittenLemmas.{Counted, Earlier, Written, with_component, instance_more, alias_more, used-append, HasItem-push, used_prefix}
-
-clash : (b : Bool) → b ≡ true → b ≡ false → ⊥
-clash true _ h = cc
-clash false h _ = cc
-
--- where every node can be written no edges form a cycle
-module _ (g : Graph) (sound : IsSound g) (plain : IsPlain g) where
-  -- each of these nodes has an edge from one of them
-  abbrev Preceded : List ℕ → Type 0
-  Preceded xs = (m : ℕ) → has xs m ≡ true → (e : Edge) × (set.contains g.edges e ≡ true) × (e.target ≡ m) × (has xs e.source ≡ true)
-
-  preceded_on : (a b : ℕ) (cs : List ℕ) → Leads g.edges a cs b → (m : ℕ) → (m ≡ b) ⊎ (has cs m ≡ true) → (e : Edge) × (set.contains g.edges e ≡ true) × (e.target ≡ m) × (has (a ∷ cs) e.source ≡ true)
-  preceded_on a b [] (e, stands, from, to) m (inl is) = (e, stands, to ∙ sym is, rw (from, eqb_same a) refl)
-  preceded_on a b [] leads m (inr wrong) = cc
-  preceded_on a b (c ∷ cs) ((e, stands, from, to), leads) m which = split (eqb m c) refl which (λ w. preceded_on c b cs leads m w) where
-    split : (t : Bool) → eqb m c ≡ t → (m ≡ b) ⊎ (has (c ∷ cs) m ≡ true) → ((m ≡ b) ⊎ (has cs m ≡ true) → (x : Edge) × (set.contains g.edges x ≡ true) × (x.target ≡ m) × (has (c ∷ cs) x.source ≡ true)) → (x : Edge) × (set.contains g.edges x ≡ true) × (x.target ≡ m) × (has (a ∷ c ∷ cs) x.source ≡ true)
-    split true same _ _ = (e, stands, to ∙ sym (eqb-true m c same), rw (from, eqb_same a) refl)
-    split false other (inl is) more = let (x, s, t, h) = more (inl is) in (x, s, t, further x.source h) where
-      further : (k : ℕ) → has (c ∷ cs) k ≡ true → has (a ∷ c ∷ cs) k ≡ true
-      further k h = rw h (or_yes (eqb k a)) where
-        or_yes : (b : Bool) → (b || true) ≡ true
-        or_yes true = refl
-        or_yes false = refl
-    split false other (inr within) more = let (x, s, t, h) = more (inr (sym (ap (λ z. z || has cs m) other) ∙ within)) in (x, s, t, further x.source h) where
-      further : (k : ℕ) → has (c ∷ cs) k ≡ true → has (a ∷ c ∷ cs) k ≡ true
-      further k h = rw h (or_yes (eqb k a)) where
-        or_yes : (b : Bool) → (b || true) ≡ true
-        or_yes true = refl
-        or_yes false = refl
-
-  preceded : (n : ℕ) (ns : List ℕ) → Leads g.edges n ns n → Preceded (n ∷ ns)
-  preceded n ns leads m h = preceded_on n n ns leads m (split (eqb m n) refl h) where
-    split : (b : Bool) → eqb m n ≡ b → (b || has ns m) ≡ true → (m ≡ n) ⊎ (has ns m ≡ true)
-    split true same _ = inl (eqb-true m n same)
-    split false _ rest = inr rest
-
-  -- none of such nodes is ever written
-  never : (xs : List ℕ) → Preceded xs → (rest done : List ℕ) → Writes g.edges (minus (is_written g) done) rest → ((m : ℕ) → has done m ≡ true → has xs m ≡ false) → (m : ℕ) → has xs m ≡ true → has (done ++ rest) m ≡ false
-  never xs pred [] done stop apart m here = ap (λ ys. has ys m) (rw append-nil refl) ∙ out (has done m) refl where
-    out : (b : Bool) → has done m ≡ b → b ≡ false
-    out true is = absurd (clash (has xs m) here (apart m is))
-    out false _ = refl
-  never xs pred (n ∷ rest) done (ready, later) apart m here =
-      ap (λ ys. has ys m) (sym (append_assoc done (n ∷ []) rest))
-      ∙ never xs pred rest (done ++ n ∷ []) (subst (λ l. Writes g.edges l rest) (sym (minus-push (is_written g) done n)) later) (λ k within. split k (in_push done n k within)) m here where
-        not_here : (b : Bool) → has xs n ≡ b → b ≡ false
-        not_here false _ = refl
-        not_here true is =
-            let (e, stands, leads, from) = pred n is in
-            absurd (clash (has xs e.source) from (apart e.source (ready_sources g sound plain done n ready e stands leads)))
-
-        split : (k : ℕ) → (k ≡ n) ⊎ (has done k ≡ true) → has xs k ≡ false
-        split k (inl same) = ap (has xs) same ∙ not_here (has xs n) refl
-        split k (inr was) = apart k was
-
-  pub no_cycle : (order : List ℕ) → Writes g.edges (is_written g) order → (n : ℕ) → IsOnCycle g.edges n → ⊥
-  no_cycle order writes n (ns, leads) =
-      let pred = preceded n ns leads in
-      let (e, stands, to, _) = pred n (ap (λ b. b || has ns n) (eqb_same n)) in
-      let there = (sound.ends e stands).1 in
-      clash (has order n) (all_in g.edges (is_written g) order [] writes n (node_written n (ap (λ k. is_some_node (node_at g (node_number k))) (sym to) ∙ there)))
-      (never (n ∷ ns) pred order [] writes (λ m wrong. cc) n (ap (λ b. b || has ns n) (eqb_same n))) where
-        is_some_node : Option GraphNode → Bool
-        is_some_node None = false
-        is_some_node (Some _) = true
-
-        node_written : (k : ℕ) → is_some_node (node_at g (node_number k)) ≡ true → is_written g k ≡ true
-        node_written k h = split (node_at g (node_number k)) refl h where
-          split : (o : Option GraphNode) → node_at g (node_number k) ≡ o → is_some_node o ≡ true → is_written g k ≡ true
-          split None _ wrong = cc
-          split (Some node) is _ = is_written-node g sound plain k node is
 
 -- where every argument is set nothing is asked
 module _ (g : Graph) where

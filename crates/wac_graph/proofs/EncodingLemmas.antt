@@ -1,5 +1,5 @@
 -- What the fields say of the nodes that are written.
-use Rattle.std.proofs.Common.{◌≡◌, ℕ, zero, suc, ◌<◌, ◌≤◌, Bool, true, false, not, List, [], ◌∷◌, length, refl, ap, ◌∙◌, sym, subst, arith, Option, Some, None, IfSome, IsSome, IsSomeAnd, is_some, inl, inr, get_or, String, Global, string_bytes}
+use Rattle.std.proofs.Common.{◌≡◌, ℕ, zero, suc, ◌<◌, ◌≤◌, Bool, true, false, List, [], ◌∷◌, length, refl, ap, ◌∙◌, sym, subst, arith, Option, Some, None, IfSome, IsSome, IsSomeAnd, is_some, inl, inr, get_or, String, Global, string_bytes}
 use Rattle.std.proofs.lemmas.Bool.Decides.{nat_tests}
 use Rattle.std.specs.Prelude.{slice_get, nat_lt}
 use Rattle.std.specs.Option.{option_map}
@@ -20,23 +20,24 @@ use Rattle.wac_graph.specs.declared.graph.CompositionGraph.TheInside.{Inside}
 use Rattle.wac_graph.specs.declared.encode.EncodeOptions.{EncodeOptions}
 use Rattle.wac_graph.specs.Edge.{is_left}
 use Rattle.wac_graph.specs.Graph as graph
-use Rattle.wac_graph.specs.Graph.{Graph, GraphNode, Kind, node_at, package_at, package_in, imports_of}
+use Rattle.wac_graph.specs.Graph.{Graph, GraphNode, Kind, node_at, package_at, package_in, package_of, imports_of}
 use Rattle.wac_graph.specs.Inside.{node_of, kind_of, graph_of, Invariant, satisfied, satisfied_at}
-use Rattle.wac_graph.specs.Means.{node_number, is_written, is_import}
+use Rattle.wac_graph.specs.Means.{node_number, is_there}
 use Rattle.wac_graph.specs.Gives.{GivesNode}
 use Rattle.wac_graph.specs.NotYet.{IsNotYet, IsWritable, AllWritable, unset, defined, imported}
 use Rattle.wac_graph.proofs.NodeLemmas.{get-nodes_of}
-use Rattle.wac_graph.proofs.ArgumentLemmas.{owned, registered, world_there, imports_are}
+use Rattle.wac_graph.proofs.ArgumentLemmas.{owned, registered, world_there, package_is, imports_are}
 
 -- the node of a number, as the fields have it
 pub node_is : (a : Inside) (n : ℕ) (o : Option Node) → get a.nodes n ≡ o → node_at (graph_of a) (node_number n) ≡ option_map node_of o
 node_is a n o had = get-nodes_of a.nodes.slots n ∙ ap (option_map node_of) had
 
-pub written_none : (a : Inside) (n : ℕ) → None ≡ get a.nodes n → false ≡ is_written (graph_of a) n
-written_none a n none = sym (ap (λ o. option_case o false (λ node. not (is_import node.kind))) (node_is a n None (sym none)))
-
-pub written_some : (a : Inside) (n : ℕ) (node : Node) (b : Bool) → Some node ≡ get a.nodes n → not (is_import (kind_of node.kind)) ≡ b → b ≡ is_written (graph_of a) n
-written_some a n node b some is = sym is ∙ sym (ap (λ o. option_case o false (λ x. not (is_import x.kind))) (node_is a n (Some node) (sym some)))
+-- whether a node of the number is there
+pub there_is : (a : Inside) (n : ℕ) → is_there (graph_of a) n ≡ is_some (get a.nodes n)
+there_is a n = ap (λ o. option_case o false (λ x. true)) (get-nodes_of a.nodes.slots n) ∙ decide (get a.nodes n) where
+  decide : (o : Option Node) → option_case (option_map node_of o) false (λ x. true) ≡ is_some o
+  decide None = refl
+  decide (Some x) = refl
 
 -- a node that a fact speaks of is in the fields
 the_node : (o : Option Node) (P : GraphNode → Type 0) → IsSomeAnd (option_map node_of o) P → (n : Node) × (o ≡ Some n) × P (node_of n)
@@ -80,6 +81,9 @@ module _ (a : Inside) (v : Invariant a) (n : ℕ) (node : Node) (had : get a.nod
       → IfSome (node_at (graph_of a) (node_number n)) (λ x. w.imports ≡ imports_of (graph_of a) x)
   imports_at o p some there w at = let (s, is) = set_of in if_node a n node (λ x. w.imports ≡ imports_of (graph_of a) x) had (sym (imports_are a v (node_number n) node s [] had is o p some there w at))
 
+  pub package_at_is : (o : PackageId) (p : PackageParts) → node.«package» ≡ Some o → Some p ≡ package_in (slice_get a.slots.items o.slot) o → IfSome (node_at (graph_of a) (node_number n)) (λ x. package_of (graph_of a) x ≡ Some p)
+  package_at_is o p some there = let (s, is) = set_of in if_node a n node (λ x. package_of (graph_of a) x ≡ Some p) had (package_is a v (node_number n) node s [] had is o p some there)
+
 -- no node is past the slots
 pub none_past : (a : Inside) (n : ℕ) → length a.nodes.slots ≤ n → get a.nodes n ≡ None
 none_past a n far = past a.nodes.slots n far where
@@ -97,8 +101,8 @@ flag_past (b ∷ flags) zero h = absurd (omega arith)
 flag_past (b ∷ flags) (suc m) h = flag_past flags m (omega arith)
 
 -- flags for all nodes
-pub all_flags : (a : Inside) (flags : List Bool) (k : ℕ) → length flags ≡ k → length a.nodes.slots ≤ k → ((m : ℕ) → m < k → is_left flags m ≡ is_written (graph_of a) m) → (m : ℕ) → is_left flags m ≡ is_written (graph_of a) m
-all_flags a flags k many slots below m = by_lt m k (below m) (λ above. flag_past flags m (omega arith) ∙ written_none a m (sym (none_past a m (omega arith))))
+pub all_flags : (a : Inside) (flags : List Bool) (k : ℕ) → length flags ≡ k → length a.nodes.slots ≤ k → ((m : ℕ) → m < k → is_left flags m ≡ is_there (graph_of a) m) → (m : ℕ) → is_left flags m ≡ is_there (graph_of a) m
+all_flags a flags k many slots below m = by_lt m k (below m) (λ above. flag_past flags m (omega arith) ∙ sym (there_is a m ∙ ap is_some (none_past a m (omega arith))))
 
 -- all nodes are writable where those below the capacity are
 pub all_writable : (a : Inside) (k : ℕ) → length a.nodes.slots ≤ k → ((m : ℕ) → m < k → IfSome (node_at (graph_of a) (node_number m)) (IsWritable (graph_of a) m)) → AllWritable (graph_of a)

@@ -1,6 +1,7 @@
 pub mod EdgeLemmas
 pub mod OrderLemmas
 pub mod CycleLemmas
+pub mod ReachLemmas
 pub mod MeaningLemmas
 pub mod WrittenOrder
 pub mod ThingLemmas
@@ -21,6 +22,8 @@ pub mod SatisfyLemmas
 pub mod ArgumentLemmas
 pub mod EncodingLemmas
 pub mod MeansLemmas
+pub mod CauseLemmas
+pub mod ConflictLemmas
 pub mod WriteAliasLemmas
 pub mod WriteArgumentsLemmas
 pub mod Rows

@@ -2,8 +2,6 @@
 use Rattle.std.proofs.Common.{◌≡◌, ℕ, zero, suc, ◌+◌, ◌<◌, List, [], ◌∷◌, ◌++◌, length, map, refl, ap, ◌∙◌, arith}
 use Rattle.wac_types.specs.Name.{Name}
 use Rattle.wac_types.specs.Tree.{Tree}
-use Rattle.wac_types.specs.declared.component.ItemKind.{ItemKind}
-use Rattle.wac_types.specs.declared.component.ItemKind.TheVariants as item
 use Rattle.wac_binary.specs.declared.sorts.Sort.{Sort}
 use Rattle.wac_binary.specs.declared.sorts.Sort.TheVariants as sort
 use Rattle.wac_binary.specs.Items.{Item, nested, instantiate, alias_item, export_alias, export_item}
@@ -11,7 +9,7 @@ use Rattle.wac_binary.specs.Indexes.{indexes, is_in, adds}
 use Rattle.wac_binary.specs.Unfold.{Scope, with_alias, bound_at}
 use Rattle.wac_binary.specs.Meaning.{Thing, instance_at, component_at, projected, Root, Instantiation, Export, start, things, thing_at, stands_for, with_thing, read, read_all, meaning}
 use Rattle.std.proofs.lemmas.List.{map-append}
-use Rattle.wac_graph.specs.Means.{sort_of_kind, shown}
+use Rattle.wac_graph.specs.Means.{shown}
 
 read_all-append : (r : Root) (items : List Item) (x : Item) → read_all r (items ++ x ∷ []) ≡ read (read_all r items) x
 read_all-append r [] x = refl

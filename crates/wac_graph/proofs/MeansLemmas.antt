@@ -1,13 +1,15 @@
 -- The items that are written of a graph mean it.
-use Rattle.std.proofs.Common.{◌≡◌, ℕ, ◌<◌, Bool, true, false, List, [], ◌∷◌, ◌++◌, length, refl, ap, ◌∙◌, sym, subst, arith, append_assoc, eqb, Option, Some, None, IfSome, IfNone, IsSome, is_some, ◌≤◌, ◌⊎◌, inl, inr}
+use Rattle.std.proofs.Common.{◌≡◌, ℕ, ◌<◌, Bool, true, false, not, List, [], ◌∷◌, ◌++◌, length, refl, ap, ◌∙◌, sym, subst, arith, append_assoc, eqb, Option, Some, None, IfSome, IfNone, IsSome, is_some, ◌≤◌, ◌⊎◌, inl, inr}
 use Rattle.std.proofs.Math.Path.{fun_ext}
 use Rattle.std.specs.List.{flat_map}
+use Rattle.std.specs.FinSet as set
 use Rattle.std.specs.Prelude.{slice_get, slice_set}
 use Rattle.std.proofs.lemmas.Bool.Decides.{nat_tests}
 use Rattle.std.proofs.lemmas.List.{append-nil, length-set, get_or-set_same, get_or-set_other}
 use Rattle.wac_types.specs.Name.{Name, option_case}
 use Rattle.wac_binary.specs.Items.{Item, export_item}
 use Rattle.wac_binary.specs.Meaning.{Thing}
+use Rattle.wac_graph.specs.declared.edges.Edge.{Edge}
 use Rattle.wac_graph.specs.declared.node.NodeId.{NodeId}
 use Rattle.wac_graph.specs.declared.encode.EncodeOptions.{EncodeOptions}
 use Rattle.wac_graph.specs.declared.graph.CompositionGraph.TheInside.{Inside}
@@ -16,15 +18,16 @@ use Rattle.wac_graph.specs.Graph as graph
 use Rattle.wac_graph.specs.Graph.{Graph, GraphNode, Kind, node_at}
 use Rattle.wac_graph.specs.Inside.{graph_of, Invariant}
 use Rattle.wac_graph.specs.Sound.{IsSound}
-use Rattle.wac_graph.specs.Order.{Writes, IsOnCycle}
-use Rattle.wac_graph.specs.Means.{node_number, is_written, IsThing, sort_of_kind, export_item_of, Means}
+use Rattle.wac_graph.specs.Order.{Writes, IsOnCycle, IsAcyclic, IsLowestOnCycle}
+use Rattle.wac_graph.specs.Means.{node_number, is_there, is_written, is_import, IsThing, sort_of_kind, export_item_of, Means}
 use Rattle.wac_graph.specs.Encoding.{Adds, Progress, WroteAll, index_in}
-use Rattle.wac_graph.specs.NotYet.{AllWritable, IsNotYet, cyclic, unset, defined, imported, undefined_components, processed}
+use Rattle.wac_graph.specs.NotYet.{AllWritable, IsNotYet, unset, defined, imported, undefined_components, processed}
 use Rattle.wac_graph.proofs.WrittenOrder.{has, written_left, minus-push, minus-true, split_writes, slice_get-middle}
-use Rattle.wac_graph.proofs.ThingLemmas.{IsPlain, node_of_written, all_things}
+use Rattle.wac_graph.proofs.ThingLemmas.{IsPlain, is_written-node, node_of_written, all_things}
 use Rattle.wac_graph.proofs.EncodingLemmas.{node_is, none_past, by_lt}
+use Rattle.wac_graph.proofs.ReachLemmas.{ordered_acyclic}
 use Rattle.wac_graph.proofs.WrittenLemmas.{Counted, Earlier}
-use Rattle.wac_graph.proofs.EncodeLemmas.{AllSet, Done, no_cycle, adds_more, nothing_done, Exported, no_exports, export_more, means}
+use Rattle.wac_graph.proofs.EncodeLemmas.{AllSet, Done, adds_more, nothing_done, Exported, no_exports, export_more, means}
 
 pub plain : (g : Graph) → AllWritable g → IsPlain g
 plain g all n node there = (all n node there).plain
@@ -97,39 +100,62 @@ module _ (counted : Counted) (earlier : Earlier) (g : Graph) (sound : IsSound g)
       let (at, is_thing) = all_things g sound (plain g all) order writes in
       subst (λ its. Means its g) (sym end) (means_written at is_thing indexes room q (subst (λ x. WroteAll g order x q) start wrote))
 
--- where all nodes are written and the options ask for no more, nothing is left for later
-pub none_left : (g : Graph) → IsSound g → AllWritable g → (order : List ℕ) → Writes g.edges (is_written g) order → (o : EncodeOptions) → o.define_components ≡ true → (IsSome o.processor → ⊥) → IsNotYet g o → ⊥
-none_left g sound all order writes o define none (cyclic n on) = no_cycle g sound (plain g all) order writes n on
-none_left g sound all order writes o define none (unset n node i there is small lacks) = let (source, stands) = (all n node there).set is i small in lacks source stands
-none_left g sound all order writes o define none (defined n node there is) = not_plain ((all n node there).plain) is where
+-- where all nodes can be written and the options ask for no more, nothing is left for later
+pub none_left : (g : Graph) → AllWritable g → (o : EncodeOptions) → o.define_components ≡ true → (IsSome o.processor → ⊥) → IsNotYet g o → ⊥
+none_left g all o define none (unset n node i there is small lacks) = let (source, stands) = (all n node there).set is i small in lacks source stands
+none_left g all o define none (defined n node there is) = not_plain ((all n node there).plain) is where
   not_plain : {k : Kind} → (k ≡ graph.instantiation) ⊎ (k ≡ graph.alias) → k ≡ graph.definition → ⊥
   not_plain (inl p) q = cc
   not_plain (inr p) q = cc
-none_left g sound all order writes o define none (imported n node name there is) = not_plain ((all n node there).plain) is where
+none_left g all o define none (imported n node name there is) = not_plain ((all n node there).plain) is where
   not_plain : {k : Kind} → (k ≡ graph.instantiation) ⊎ (k ≡ graph.alias) → k ≡ graph.import name → ⊥
   not_plain (inl p) q = cc
   not_plain (inr p) q = cc
-none_left g sound all order writes o define none (undefined_components is) = clash o.define_components define is where
+none_left g all o define none (undefined_components is) = clash o.define_components define is where
   clash : (b : Bool) → b ≡ true → b ≡ false → ⊥
   clash true _ h = cc
   clash false h _ = cc
-none_left g sound all order writes o define none (processed some) = none some
+none_left g all o define none (processed some) = none some
 
 module _ (a : Inside) (v : Invariant a) (g : Graph) (view : graph_of a ≡ g) where
   pub sound_now : IsSound g
   sound_now = subst (λ x. IsSound x) view v.sound
 
-  pub writes_now : (flags : List Bool) (ns : List ℕ) → ((n : ℕ) → is_left flags n ≡ is_written g n) → Writes a.edges (is_left flags) ns → Writes g.edges (is_written g) ns
-  writes_now flags ns same w = subst (λ l. Writes g.edges l ns) (fun_ext same) (subst (λ x. Writes x.edges (is_left flags) ns) view w)
+  pub ordered_now : (flags : List Bool) (ns : List ℕ) → ((n : ℕ) → is_left flags n ≡ is_there g n) → Writes a.edges (is_left flags) ns → Writes g.edges (is_there g) ns
+  ordered_now flags ns same w = subst (λ l. Writes g.edges l ns) (fun_ext same) (subst (λ x. Writes x.edges (is_left flags) ns) view w)
 
-  pub cyclic_now : (o : EncodeOptions) → (n : ℕ) × IsOnCycle a.edges n → IsNotYet g o
-  cyclic_now o (n, on) = subst (λ x. IsNotYet x o) view (cyclic n on)
+  pub acyclic_now : IsAcyclic a.edges → IsAcyclic g.edges
+  acyclic_now none = subst (λ x. IsAcyclic x.edges) view none
+
+  pub lowest_now : (n : ℕ) → IsLowestOnCycle a.edges n → IsLowestOnCycle g.edges n
+  lowest_now n lowest = subst (λ x. IsLowestOnCycle x.edges n) view lowest
+
+  pub on_cycle_now : (n : ℕ) × IsOnCycle a.edges n → (n : ℕ) × IsOnCycle g.edges n
+  on_cycle_now on = subst (λ x. (n : ℕ) × IsOnCycle x.edges n) view on
 
   pub has_room : (k : ℕ) → length a.nodes.slots ≤ k → (n : ℕ) → IsSome (node_at g (node_number n)) → n < k
   has_room k slots n some = by_lt n k (λ small. small) (λ above. absurd (nothing (node_at (graph_of a) (node_number n)) (node_is a n None (none_past a n (omega arith))) (subst (λ x. IsSome (node_at x (node_number n))) (sym view) some))) where
     nothing : (o : Option GraphNode) → o ≡ None → IsSome o → ⊥
     nothing None _ h = cc
     nothing (Some x) h _ = cc
+
+-- edges lead to nodes, so to numbers below the capacity
+pub targets_below : (a : Inside) → Invariant a → (k : ℕ) → length a.nodes.slots ≤ k → (e : Edge) → set.contains a.edges e ≡ true → e.target < k
+targets_below a v k slots e stands = has_room a v (graph_of a) refl k slots e.target ((v.sound).ends e stands).1
+
+-- an order of all nodes leaves no cycle
+pub acyclic : (g : Graph) → IsSound g → (order : List ℕ) → Writes g.edges (is_there g) order → IsAcyclic g.edges
+acyclic g sound order writes = ordered_acyclic g.edges (is_there g) order (λ e stands. there (node_at g (node_number e.target)) (sound.ends e stands).1) writes where
+  there : (o : Option GraphNode) → IsSome o → option_case o false (λ x. true) ≡ true
+  there None h = cc
+  there (Some x) h = refl
+
+-- where all nodes can be written an order of all is one of those that are written
+pub writes_all : (g : Graph) → IsSound g → AllWritable g → (order : List ℕ) → Writes g.edges (is_there g) order → Writes g.edges (is_written g) order
+writes_all g sound all order writes = subst (λ l. Writes g.edges l order) (fun_ext (λ n. same n (node_at g (node_number n)) refl)) writes where
+  same : (n : ℕ) (o : Option GraphNode) → node_at g (node_number n) ≡ o → is_there g n ≡ is_written g n
+  same n None is = ap (λ x. option_case x false (λ z. true)) is ∙ sym (ap (λ x. option_case x false (λ z. not (is_import z.kind))) is)
+  same n (Some node) is = ap (λ x. option_case x false (λ z. true)) is ∙ sym (is_written-node g sound (plain g all) n node is)
 
 -- the nodes of an order stand in the graph
 pub in_order : (g : Graph) → IsSound g → AllWritable g → (order : List ℕ) → Writes g.edges (is_written g) order → (n : ℕ) → has order n ≡ true → IsSome (node_at g (node_number n))

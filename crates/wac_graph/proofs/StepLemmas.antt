@@ -1,5 +1,5 @@
 -- What a call leaves in the fields is a step of the graph.
-use Rattle.std.proofs.Common.{◌≡◌, ℕ, List, [], ◌∷◌, ◌++◌, length, ap, ◌∙◌, sym, subst, Option, Some, None, IfSome, Ok, Global, Vec}
+use Rattle.std.proofs.Common.{◌≡◌, ◌↔◌, ℕ, List, [], ◌∷◌, ◌++◌, length, ap, refl, ◌∙◌, sym, subst, Option, Some, None, IfSome, IsSome, Ok, Global, Vec}
 use Rattle.std.specs.Option.{option_map}
 use Rattle.std.specs.Map.{lookup}
 use Rattle.std.specs.HashMap.{HashMap}
@@ -56,3 +56,14 @@ registered a v p names slots id absent grown new = (
 
 pub there_already : (a : Inside) (v : Invariant a) (key : Key) (id : PackageId) → Some id ≡ lookup (same_key key) a.package_map.entries → (other : PackageId) × IsRegistered (graph_of a) key other
 there_already a v key id at = let (p, there, same) = v.found key id (sym at) in (id, (p, there, sym (same_key-true key (key_of p) same)))
+
+-- what is found under a key is what is registered under it
+pub found_registered : (a : Inside) (v : Invariant a) (key : Key) (o : Option PackageId) → o ≡ lookup (same_key key) a.package_map.entries → (id : PackageId) → (o ≡ Some id) ↔ IsRegistered (graph_of a) key id
+found_registered a v key o at id = (
+  λ e. let (p, there, same) = v.found key id (sym at ∙ e) in (p, there, sym (same_key-true key (key_of p) same)),
+  λ (p, there, same). at ∙ ap (λ (k : Key). lookup (same_key k) a.package_map.entries) (sym same) ∙ v.keyed id p there,
+)
+
+-- and is there
+pub found_package : (a : Inside) (v : Invariant a) (key : Key) (id : PackageId) → Some id ≡ lookup (same_key key) a.package_map.entries → IsSome (package_at (graph_of a) id)
+found_package a v key id at = let (p, there, same) = v.found key id (sym at) in subst (λ o. IsSome o) (sym there) refl

@@ -1,5 +1,5 @@
 -- What the fields say of aliases and exports that are written.
-use Rattle.std.proofs.Common.{refl, ◌≡◌, ℕ, zero, suc, ◌+◌, ◌<◌, ◌≤◌, true, false, List, [], ◌∷◌, ◌++◌, length, take, ap, ◌∙◌, sym, subst, arith, Some, None, IfSome, IsSomeAnd, is_some, String, Global, string_bytes}
+use Rattle.std.proofs.Common.{refl, ◌≡◌, ℕ, zero, suc, ◌+◌, ◌<◌, ◌≤◌, true, false, List, [], ◌∷◌, ◌++◌, length, take, ap, ◌∙◌, sym, subst, arith, Some, IfSome, IsSomeAnd, is_some, String, Global, string_bytes}
 use Rattle.std.specs.Prelude.{slice_get}
 use Rattle.std.specs.List.{flat_map}
 use Rattle.std.specs.Option.{option_map}
@@ -13,7 +13,6 @@ use Rattle.wac_types.specs.declared.component.Interface.{Interface}
 use Rattle.wac_types.specs.declared.component.InterfaceId.{InterfaceId}
 use Rattle.wac_types.specs.declared.component.ItemKind.{ItemKind}
 use Rattle.wac_types.specs.declared.component.ItemKind.TheVariants as item
-use Rattle.wac_types.specs.declared.component.FuncTypeId.{FuncTypeId}
 use Rattle.wac_binary.specs.declared.sorts.Sort.{Sort}
 use Rattle.wac_binary.specs.Items.{Item, alias_item, export_alias, export_item}
 use Rattle.wac_binary.specs.Indexes.{space, indexes}

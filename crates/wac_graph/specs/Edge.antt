@@ -1,5 +1,5 @@
 -- An edge as a key of a set.
-use Rattle.std.specs.Prelude.{◌≡◌, ℕ, Bool, true, false, ◌&&◌, ◌==◌, List, [], ◌∷◌, refl, zero, suc, slice_index_or}
+use Rattle.std.specs.Prelude.{◌≡◌, ℕ, Bool, true, false, not, ◌&&◌, ◌||◌, ◌==◌, List, [], ◌∷◌, refl, zero, suc, slice_index_or}
 use Rattle.std.proofs.Common.{ap}
 use Rattle.std.specs.FinSet as set
 use Rattle.std.specs.Ordering.{nat_cmp}
@@ -55,6 +55,10 @@ is_left flags n = slice_index_or flags n false
 -- the edge leads to n from a node that is left
 abbrev pub blocks : (ℕ → Bool) → ℕ → Edge → Bool
 blocks left n e = e.target == n && left e.source
+
+-- the edge leads from this node or from one that is reached to one that is not
+abbrev pub onward : ℕ → (ℕ → Bool) → Edge → Bool
+onward from reached e = (e.source == from || reached e.source) && not (reached e.target)
 
 -- an edge leads to n from a node that is left
 abbrev pub IsBlocked : set.FinSet edge_cmp → (ℕ → Bool) → ℕ → Type 0

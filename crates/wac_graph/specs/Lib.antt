@@ -1,6 +1,7 @@
 pub mod Edge
 pub mod Order
 pub mod Graph
+pub mod PackageKeys
 pub mod Sound
 pub mod Inside
 pub mod ExternName
@@ -10,6 +11,8 @@ pub mod Asked
 pub mod Means
 pub mod Encoding
 pub mod NotYet
+pub mod Cause
+pub mod Search
 pub mod EncoderView
 pub mod Faults
 pub mod Gives

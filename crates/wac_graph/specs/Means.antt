@@ -39,6 +39,10 @@ node_number n = record { 0 = n }
 abbrev pub node_is : Graph → (GraphNode → Bool) → ℕ → Bool
 node_is g test n = option_case (node_at g (node_number n)) false test
 
+-- does a node of this number stand in the graph
+abbrev pub is_there : Graph → ℕ → Bool
+is_there g = node_is g (λ node. true)
+
 -- the nodes that are written: all that are not imports
 abbrev pub is_written : Graph → ℕ → Bool
 is_written g = node_is g (λ node. not (is_import node.kind))

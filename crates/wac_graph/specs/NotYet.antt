@@ -4,7 +4,6 @@ use Rattle.wac_graph.specs.declared.encode.EncodeOptions.{EncodeOptions}
 use Rattle.wac_types.specs.Name.{Name}
 use Rattle.wac_graph.specs.Graph as graph
 use Rattle.wac_graph.specs.Graph.{Graph, GraphNode, node_at, imports_of, IsSatisfied, IsUnsatisfied}
-use Rattle.wac_graph.specs.Order.{IsOnCycle}
 use Rattle.wac_graph.specs.Means.{node_number}
 
 -- the node is an instantiation of which every argument is set, or an alias
@@ -18,8 +17,6 @@ AllWritable g = (n : ℕ) (node : GraphNode) → node_at g (node_number n) ≡ S
 
 -- what stands in the graph or is asked by the options and is not written yet
 pub data IsNotYet (g : Graph) (o : EncodeOptions) : Type 0 where
-  -- edges form a cycle
-  cyclic : (n : ℕ) → IsOnCycle g.edges n → IsNotYet g o
   -- an argument is not set
   unset : (n : ℕ) (node : GraphNode) (i : ℕ) → node_at g (node_number n) ≡ Some node → node.kind ≡ graph.instantiation → i < length (imports_of g node) → IsUnsatisfied g (node_number n) i → IsNotYet g o
   -- a node is a definition or an import

@@ -1,8 +1,8 @@
 -- The order in which nodes are written: each is the lowest of those left to which no edge leads from one that is left.
-use Rattle.std.specs.Prelude.{◌≡◌, ℕ, ◌<◌, Bool, true, false, not, ◌&&◌, ◌==◌, List, [], ◌∷◌}
+use Rattle.std.specs.Prelude.{◌≡◌, ℕ, ◌<◌, ◌≤◌, Bool, true, false, not, ◌&&◌, ◌==◌, List, [], ◌∷◌}
 use Rattle.std.specs.FinSet as set
 use Rattle.wac_graph.specs.declared.edges.Edge.{Edge}
-use Rattle.wac_graph.specs.Edge.{edge_cmp, IsBlocked, IsFree}
+use Rattle.wac_graph.specs.Edge.{edge_cmp, onward, IsBlocked, IsFree}
 
 abbrev pub Edges : Type 0
 Edges = set.FinSet edge_cmp
@@ -42,3 +42,16 @@ Leads edges a (c ∷ cs) b = IsEdge edges a c × Leads edges c cs b
 -- the node is on a cycle of edges
 abbrev pub IsOnCycle : Edges → ℕ → Type 0
 IsOnCycle edges n = (ns : List ℕ) × Leads edges n ns n
+
+-- no edges form a cycle
+abbrev pub IsAcyclic : Edges → Type 0
+IsAcyclic edges = (n : ℕ) → IsOnCycle edges n → ⊥
+
+-- the node is on a cycle of edges, and no lower one is
+pub record IsLowestOnCycle (edges : Edges) (n : ℕ) : Type 0 where
+  pub here : IsOnCycle edges n
+  pub lowest : (m : ℕ) → IsOnCycle edges m → n ≤ m
+
+-- m is not reached, and an edge leads to it from this node or from one that is reached
+abbrev pub IsNext : Edges → ℕ → (ℕ → Bool) → ℕ → Type 0
+IsNext edges from reached m = (e : Edge) × (set.contains edges e ≡ true) × (e.target ≡ m) × (onward from reached e ≡ true)

@@ -3,7 +3,9 @@ ghost use Rattle.std.specs.Prelude.{◌≡◌, ◌≢◌, ℕ, Bool, true, false
 ghost use Rattle.std.specs.FinSet as set;
 ghost use Rattle.std.specs.Bool.{OnTrue, OnFalse};
 ghost use Rattle.wac_graph.specs.declared.edges.Label.TheVariants.{Alias, Argument, Dependency};
-ghost use Rattle.wac_graph.specs.Edge.{edge_cmp, alias_edge, argument_edge, IsBlocked, IsFree, blocks, is_left as left_flag};
+ghost use Rattle.wac_graph.specs.Edge.{edge_cmp, alias_edge, argument_edge, IsBlocked, IsFree, blocks, onward, is_left as flag_at};
+ghost use Rattle.wac_graph.specs.Order.{IsNext};
+ghost use Rattle.wac_graph.specs.declared.edges.Edge.{Edge as AnEdge};
 ghost use Rattle.std.specs.List.{list_any};
 ghost use Rattle.wac_graph.specs.contracts.edges.EdgePartialEq.TheImpl as EdgeEq;
 ghost use Rattle.std.specs.List.{filter};
@@ -106,10 +108,18 @@ impl Edges {
 
     /// Whether an edge leads to a node from one that is left.
     pub fn is_blocked(&self, left: &[bool], target: usize) -> bool
-        ensures blocked { OnTrue result (IsBlocked self.now (left_flag left.now) target) }
-        ensures free { OnFalse result (IsFree self.now (left_flag left.now) target) }
+        ensures blocked { OnTrue result (IsBlocked self.now (flag_at left.now) target) }
+        ensures free { OnFalse result (IsFree self.now (flag_at left.now) target) }
     {
         is_blocked_in(&self.list, left, target)
+    }
+
+    /// A node that is not reached, to which an edge leads from this node or from one that is reached.
+    pub fn next_reached(&self, from: usize, reached: &[bool]) -> Option<usize>
+        ensures some { IfSome result (λ m. IsNext self.now from (flag_at reached.now) m) }
+        ensures none { IfNone result ((m : ℕ) → IsNext self.now from (flag_at reached.now) m → ⊥) }
+    {
+        next_in(&self.list, from, reached)
     }
 }
 
@@ -162,17 +172,36 @@ fn argument_in(list: &[Edge], target: usize, position: usize) -> Option<usize>
 }
 
 fn is_blocked_in(list: &[Edge], left: &[bool], target: usize) -> bool
-    ensures { result ≡ list_any (blocks (left_flag left.now) target) list.now }
+    ensures { result ≡ list_any (blocks (flag_at left.now) target) list.now }
 {
     list.iter()
-        .any(|edge| edge.target == target && is_left(left, edge.source))
+        .any(|edge| edge.target == target && flag_at(left, edge.source))
 }
 
-fn is_left(left: &[bool], n: usize) -> bool
-    ensures { result ≡ left_flag left.now n }
+fn next_in(list: &[Edge], from: usize, reached: &[bool]) -> Option<usize>
+    ensures some { IfSome result (λ m. (e : AnEdge) × Contains list.now e × (e.target ≡ m) × (onward from (flag_at reached.now) e ≡ true)) }
+    ensures none { IfNone result ((e : AnEdge) → Contains list.now e → onward from (flag_at reached.now) e ≡ false) }
 {
-    match left.get(n) {
-        Some(left) => *left,
+    for edge in list {
+        if is_onward(*edge, from, reached) {
+            return Some(edge.target);
+        }
+    }
+    None
+}
+
+fn is_onward(edge: Edge, from: usize, reached: &[bool]) -> bool
+    ensures { result ≡ onward from (flag_at reached.now) edge }
+{
+    (edge.source == from || flag_at(reached, edge.source)) && !flag_at(reached, edge.target)
+}
+
+/// The flag of a node; unset where none is kept.
+fn flag_at(flags: &[bool], n: usize) -> bool
+    ensures { result ≡ flag_at flags.now n }
+{
+    match flags.get(n) {
+        Some(flag) => *flag,
         None => false,
     }
 }

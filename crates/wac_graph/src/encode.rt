@@ -9,14 +9,20 @@ ghost use Rattle.std.specs.Ordering.{nat_cmp};
 ghost use Rattle.wac_binary.specs.Views.{arguments_of};
 ghost use Rattle.wac_graph.specs.Edge.{is_left};
 ghost use Rattle.wac_graph.specs.Graph.{node_at, imports_of, instantiation, alias};
-ghost use Rattle.wac_graph.specs.Means.{Means, node_number, is_written, same_package, sort_of_kind, export_item_of};
+ghost use Rattle.wac_graph.specs.Means.{Means, node_number, is_there, same_package, sort_of_kind, export_item_of};
 ghost use Rattle.wac_graph.specs.Encoding.{Adds, AreArgumentItems, Wrote, WroteAll, index_in};
+ghost use Rattle.std.specs.Result.{IsErrAnd};
+ghost use Rattle.wac_graph.specs.Cause.{Cause, cause_of, Stands};
+ghost use Rattle.wac_graph.specs.Search.{IsRefused};
 ghost use Rattle.wac_graph.specs.NotYet.{IsNotYet, IsWritable, AllWritable};
+ghost use Rattle.wac_graph.specs.Sound.{IsSound};
+ghost use Rattle.wac_graph.specs.Order.{Writes, IsOnCycle, IsAcyclic};
 ghost use Rattle.wac_graph.specs.declared.encode.EncodeOptions.{EncodeOptions as Asked};
 
+use crate::cycles::lowest_on_cycle;
 use crate::errors::EncodeError;
 use crate::graph::{CompositionGraph, package_in_slots};
-use crate::node::NodeKind;
+use crate::node::{NodeId, NodeKind};
 use crate::order::order;
 use crate::packages::PackageId;
 use std::alloc::{AllocError, Global};
@@ -68,24 +74,57 @@ impl CompositionGraph {
 
     /// The bytes of one component that is what the graph composes: its packages, instances, aliases and exports.
     ///
-    /// Answers `NotYet` exactly where edges form a cycle, an argument is not set, a node is an import, or the options ask
-    /// for imported components or a processor; else `TooLarge` where a size does not fit 32 bits, or `OutOfMemory`.
+    /// Answers `GraphContainsCycle` exactly where edges form a cycle, with the lowest node on one; else
+    /// `ImplicitImportConflict` where an import of an instantiation is not satisfied and has exactly the name of an import
+    /// node, with the lowest such instantiation and its first such import; else `NotYet` where an argument is not set, a
+    /// node is an import, or the options ask for imported components or a processor; else `TooLarge` where a size does not
+    /// fit 32 bits. Where memory ran out it answers `OutOfMemory`.
     pub fn encode(&self, options: EncodeOptions<'_>) -> Result<Vec<u8>, EncodeError>
         ensures means { IfOk result (λ bytes. (items : List AnItem) × (bytes.items ≡ bytes_of items) × Means items self.now) }
-        ensures not_yet { result ≡ Err EncodeError.NotYet → IsNotYet self.now options.entry }
-        ensures refused { IsNotYet self.now options.entry → (result ≡ Err EncodeError.NotYet) ⊎ (result ≡ Err EncodeError.OutOfMemory) }
+        ensures cause { IfErr result (λ e. IfSome (cause_of e) (Stands self.now options.entry)) }
+        ensures refused { (cause : Cause) → Stands self.now options.entry cause → IsErrAnd result (λ e. (cause_of e ≡ Some cause) ⊎ (e ≡ EncodeError.OutOfMemory)) }
     {
         wac_binary::law();
+        self.sound_law();
+        let order = self.ordered()?;
+        self.check_conflicts()?;
         if !options.define_components || options.processor.is_some() || self.holds_unwritten() {
             return Err(EncodeError::NotYet);
         }
-        let Some(order) = order(self.alloc, &self.edges, self.left()?)? else {
-            return Err(EncodeError::NotYet);
-        };
         let mut encoder = Encoder::new(self.alloc, self.nodes.capacity())?;
         self.write_nodes(&mut encoder, &order)?;
         self.write_exports(&mut encoder)?;
         Ok(encoder.builder.into_bytes()?)
+    }
+
+    /// The law of all graphs: each is sound.
+    fn sound_law(&self)
+        ensures { IsSound self.now }
+    {
+        let _ = &self.edges;
+    }
+
+    /// The nodes, each the lowest of those that are left to which no edge leads from one that is left.
+    fn ordered(&self) -> Result<Vec<usize>, EncodeError>
+        ensures whole { IfOk result (λ ns. Writes self.now.edges (is_there self.now) ns.items) }
+        ensures acyclic { OnOk result (IsAcyclic self.now.edges) }
+        ensures refused { IfErr result (λ e. (o : Asked) → IsRefused self.now o e) }
+    {
+        match order(self.alloc, &self.edges, self.there()?)? {
+            Some(order) => Ok(order),
+            None => Err(self.cycle()?),
+        }
+    }
+
+    /// The refusal that names the lowest node on a cycle.
+    fn cycle(&self) -> Result<EncodeError, AllocError>
+        requires { (n : ℕ) × IsOnCycle self.now.edges n }
+        ensures { IfOk result (λ e. (o : Asked) → IsRefused self.now o e) }
+    {
+        let Some(n) = lowest_on_cycle(self.alloc, &self.edges, self.nodes.capacity())? else {
+            unreachable!()
+        };
+        Ok(EncodeError::GraphContainsCycle { node: NodeId(n) })
     }
 
     /// Whether a node is a definition or an import, or an instantiation of which an argument is not set.
@@ -118,7 +157,7 @@ impl CompositionGraph {
     }
 
     /// What the world of an instantiation's package imports.
-    fn imports_at(&self, n: usize) -> &Named<ItemKind>
+    pub(crate) fn imports_at(&self, n: usize) -> &Named<ItemKind>
         requires { IsSomeAnd (node_at self.now (node_number n)) (λ node. node.kind ≡ instantiation) }
         ensures { IfSome (node_at self.now (node_number n)) (λ node. result.now ≡ imports_of self.now node) }
     {
@@ -131,29 +170,21 @@ impl CompositionGraph {
         &self.types[package.ty()].imports
     }
 
-    /// Which nodes are written: all that are not imports.
-    fn left(&self) -> Result<Vec<bool>, AllocError>
-        ensures { IfOk result (λ left. (n : ℕ) → is_left left.items n ≡ is_written self.now n) }
+    /// Which numbers are those of nodes.
+    fn there(&self) -> Result<Vec<bool>, AllocError>
+        ensures { IfOk result (λ there. (n : ℕ) → is_left there.items n ≡ is_there self.now n) }
     {
-        let mut left = Vec::new(self.alloc);
+        let mut there = Vec::new(self.alloc);
         for n in 0..self.nodes.capacity() {
-            left.push(self.is_written(n))?;
+            there.push(self.is_there(n))?;
         }
-        Ok(left)
+        Ok(there)
     }
 
-    fn is_written(&self, n: usize) -> bool
-        ensures { result ≡ is_written self.now n }
+    fn is_there(&self, n: usize) -> bool
+        ensures { result ≡ is_there self.now n }
     {
-        let Some(node) = self.nodes.get(n) else {
-            return false;
-        };
-        match &node.kind {
-            NodeKind::Import(_) => false,
-            NodeKind::Definition => true,
-            NodeKind::Instantiation(_) => true,
-            NodeKind::Alias => true,
-        }
+        self.nodes.contains(n)
     }
 
     /// Writes these nodes one after another.
@@ -163,7 +194,7 @@ impl CompositionGraph {
         requires room { (n : ℕ) → IsSome (node_at self.now (node_number n)) → n < length encoder.old.indexes.items }
         ensures written { OnOk result (WroteAll self.now order.now (progress encoder.old) (progress encoder.new)) }
         ensures kept { length encoder.new.indexes.items ≡ length encoder.old.indexes.items }
-        ensures fault { IfErr result (λ e. e ≢ EncodeError.NotYet) }
+        ensures fault { IfErr result (λ e. cause_of e ≡ None) }
     {
         for n in order {
             self.write_node(encoder, *n)?;
@@ -177,7 +208,7 @@ impl CompositionGraph {
         requires room { n < length encoder.old.indexes.items }
         ensures written { OnOk result (Wrote self.now n (progress encoder.old) (progress encoder.new)) }
         ensures kept { length encoder.new.indexes.items ≡ length encoder.old.indexes.items }
-        ensures fault { IfErr result (λ e. e ≢ EncodeError.NotYet) }
+        ensures fault { IfErr result (λ e. cause_of e ≡ None) }
     {
         let index = match &self.nodes[n].kind {
             NodeKind::Instantiation(_) => self.write_instantiation(encoder, n)?,
@@ -194,7 +225,7 @@ impl CompositionGraph {
         requires set { IsSomeAnd (node_at self.now (node_number n)) (IsWritable self.now n) }
         ensures written { IfOk result (λ i. IfSome (node_at self.now (node_number n)) (λ node. Adds self.now n node (index_in encoder.old.indexes.items) encoder.old.components.items encoder.new.components.items encoder.old.builder encoder.new.builder i)) }
         ensures kept { encoder.new.indexes ≡ encoder.old.indexes }
-        ensures fault { IfErr result (λ e. e ≢ EncodeError.NotYet) }
+        ensures fault { IfErr result (λ e. cause_of e ≡ None) }
     {
         let Some(id) = self.nodes[n].package else {
             unreachable!()
@@ -231,7 +262,7 @@ impl CompositionGraph {
         requires { IsSomeAnd (node_at self.now (node_number n)) (λ node. node.kind ≡ alias) }
         ensures written { IfOk result (λ i. IfSome (node_at self.now (node_number n)) (λ node. Adds self.now n node (index_in encoder.old.indexes.items) encoder.old.components.items encoder.new.components.items encoder.old.builder encoder.new.builder i)) }
         ensures kept { encoder.new.indexes ≡ encoder.old.indexes }
-        ensures fault { IfErr result (λ e. e ≢ EncodeError.NotYet) }
+        ensures fault { IfErr result (λ e. cause_of e ≡ None) }
     {
         let Some((source, position)) = self.edges.alias_source(n) else {
             unreachable!()
@@ -248,7 +279,7 @@ impl CompositionGraph {
     /// Writes the graph's exports, in its order.
     fn write_exports(&self, encoder: &mut Encoder) -> Result<(), EncodeError>
         ensures written { OnOk result (encoder.new.builder ≡ encoder.old.builder ++ flat_map (export_item_of self.now (index_in encoder.old.indexes.items)) self.now.exports) }
-        ensures fault { IfErr result (λ e. e ≢ EncodeError.NotYet) }
+        ensures fault { IfErr result (λ e. cause_of e ≡ None) }
     {
         for i in 0..self.exports.len() {
             let Some((name, id)) = self.exports.get_index(i) else {
@@ -284,7 +315,7 @@ impl Encoder {
     fn component(&mut self, id: PackageId, bytes: &[u8]) -> Result<u32, EncodeError>
         ensures there { IfOk result (λ c. HasComponent bytes.now id c self.old.components.items self.new.components.items self.old.builder self.new.builder) }
         ensures kept { self.new.indexes ≡ self.old.indexes }
-        ensures fault { IfErr result (λ e. e ≢ EncodeError.NotYet) }
+        ensures fault { IfErr result (λ e. cause_of e ≡ None) }
     {
         if let Some(index) = component_in(&self.components, id) {
             return Ok(index);

@@ -176,13 +176,26 @@ impl From<AllocError> for InstantiationArgumentError {
 /// Why `encode` is refused.
 #[derive(Debug, Drop, Error)]
 pub enum EncodeError {
+    /// Edges form a cycle; the lowest node on one.
+    #[error("the graph contains a cycle and cannot be encoded")]
+    GraphContainsCycle {
+        node: NodeId,
+    },
+    /// An import of an instantiation is not satisfied, and an import node has its name.
+    #[error("an instantiation of package `{package}` implicitly imports an item named `{name}`, but it conflicts with an explicit import of the same name")]
+    ImplicitImportConflict {
+        import: NodeId,
+        instantiation: NodeId,
+        package: PackageKey,
+        name: String,
+    },
     /// An index, a count or a size does not fit 32 bits.
     #[error("an index or a size does not fit 32 bits")]
     TooLarge,
     /// There was no memory.
     #[error("out of memory")]
     OutOfMemory,
-    /// Edges form a cycle, an argument is not set, a node is an import, or the options ask for what is not written yet.
+    /// An argument is not set, a node is an import, or the options ask for what is not written yet.
     #[error("the graph holds something that is not written yet")]
     NotYet,
 }

@@ -8,7 +8,7 @@ ghost use Rattle.wac_types.specs.Package.{HoldsPackage, with_instance_of, packag
 ghost use Rattle.wac_types.specs.Uses.{AnswersBy, mention_fault, interface_fault, world_fault};
 ghost use Rattle.wac_types.specs.Named.{named_at};
 ghost use Rattle.wac_types.specs.declared.component.«Type».TheVariants.{World as world_type};
-ghost use Rattle.wac_graph.specs.Graph.{node_at, package_at, export_at, package_in, import_name};
+ghost use Rattle.wac_graph.specs.Graph.{node_at, package_at, export_at, package_in, import_name, IsRegistered};
 ghost use Rattle.wac_graph.specs.Steps.{IsEmpty, Adds, Registers, Imports, Instantiates, Aliases, SetsArgument, Exports};
 
 use crate::arguments::argument_edge;
@@ -18,7 +18,7 @@ use crate::errors::{
 };
 use crate::names::{export_fault, import_fault};
 use crate::node::{Node, NodeId, NodeKind};
-use crate::packages::{PackageId, Slot};
+use crate::packages::{BorrowedPackageKey, PackageId, Slot};
 use indexmap::IndexMap;
 use semver::Version;
 use slab::Slab;
@@ -196,6 +196,20 @@ impl CompositionGraph {
             })
             .unwrap();
         Ok(id)
+    }
+
+    /// The registered package of this name and version, with its id; none where no package of both is registered.
+    pub fn get_package_by_name(
+        &self,
+        name: &str,
+        version: Option<&Version>,
+    ) -> Option<(PackageId, &Package)>
+        ensures registered { (id : PackageId) → (option_map (λ found. found.0) result ≡ Some id) ↔ IsRegistered self.now (name.now, option_map (λ v. parts_of v.now) version.entry) id }
+        ensures there { IfSome result (λ found. package_at self.now found.0 ≡ Some found.1.now) }
+    {
+        let key = BorrowedPackageKey::from_name_and_version(name, version);
+        let id = *self.package_map.get(key)?;
+        Some((id, &self[id]))
     }
 
     /// An import of an item of a held type, under a name that no node imports yet. Answers `ImportAlreadyExists` where

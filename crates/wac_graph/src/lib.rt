@@ -3,6 +3,8 @@
 #![tactic(auto)]
 
 mod arguments;
+mod conflicts;
+mod cycles;
 mod edges;
 mod encode;
 mod errors;

@@ -16,6 +16,8 @@ pub enum Item {
     Other,
     // An instance that exports the function `a`.
     Instance,
+    // An instance without exports.
+    Empty,
 }
 
 // A call. A package or a node is meant by its place among those that were answered.
@@ -62,6 +64,11 @@ fn instance(alloc: Global, graph: &mut CompositionGraph) -> Result<ItemKind, Fai
     Ok(ItemKind::Instance(graph.add_interface(interface)?))
 }
 
+fn empty_instance(alloc: Global, graph: &mut CompositionGraph) -> Result<ItemKind, Fail> {
+    let interface = Interface::new(alloc, None, &[])?;
+    Ok(ItemKind::Instance(graph.add_interface(interface)?))
+}
+
 impl Bench {
     pub fn new(alloc: Global) -> Bench {
         Bench {
@@ -77,6 +84,7 @@ impl Bench {
             Item::Plain => Ok(function(self.alloc, &mut self.graph)?),
             Item::Other => other_function(self.alloc, &mut self.graph),
             Item::Instance => instance(self.alloc, &mut self.graph),
+            Item::Empty => empty_instance(self.alloc, &mut self.graph),
         }
     }
 
@@ -220,6 +228,28 @@ impl Bench {
         match answer {
             Ok(bytes) => Ok(hex::encode(self.alloc, &bytes)?),
             Err(error) => shown(self.alloc, error),
+        }
+    }
+
+    // What the refusal names: the node of a cycle, or the import, the instantiation, its package and the name; asked
+    // once more where memory was refused.
+    pub fn refused(&self) -> Result<String, Fail> {
+        let options = EncodeOptions::default();
+        let answer = match self.graph.encode(options) {
+            Err(EncodeError::OutOfMemory) => self.graph.encode(options),
+            answer => answer,
+        };
+        match answer {
+            Err(EncodeError::GraphContainsCycle { node }) => shown(self.alloc, node),
+            Err(
+                EncodeError::ImplicitImportConflict {
+                    import,
+                    instantiation,
+                    package,
+                    name,
+                },
+            ) => Ok(format!(in self.alloc; "{import}, {instantiation}, {package}, {name}")?),
+            _ => Ok(String::new(self.alloc)),
         }
     }
 

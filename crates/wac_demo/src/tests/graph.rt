@@ -1,11 +1,16 @@
 use super::bench::Call::{Alias, Export, Import, Instantiate, Register, Set};
-use super::bench::Item::{Instance, Other, Plain};
+use super::bench::Item::{Empty, Instance, Other, Plain};
 use super::bench::{Bench, Call};
 use std::process::Abort;
 use std::test::Fail;
 use wac_graph::{EncodeOptions, Processor};
 
 const NOT_YET: &str = "the graph holds something that is not written yet";
+
+const CONTAINS_CYCLE: &str = "the graph contains a cycle and cannot be encoded";
+
+const IMPORT_CONFLICT: &str =
+    "an instantiation of package `my:package` implicitly imports an item named `x`, but it conflicts with an explicit import of the same name";
 
 // The function `a` of an instance, exported as `x`.
 const EXPORTED: &[(Call<'static>, &str)] = &[
@@ -45,6 +50,41 @@ const CYCLE: &[(Call<'static>, &str)] = &[
     (Instantiate(0), "0"),
     (Alias(0, "a"), "1"),
     (Set(0, "a", 1), ""),
+];
+
+// An instance that is its own argument.
+const OWN_ARGUMENT: &[(Call<'static>, &str)] = &[
+    (Register("my:package", &[("i", Empty)], &[]), ""),
+    (Instantiate(0), "0"),
+    (Set(0, "i", 0), ""),
+];
+
+// Two instances that are each other's arguments, and one that is given one of them.
+const RING: &[(Call<'static>, &str)] = &[
+    (Register("my:package", &[("i", Empty)], &[]), ""),
+    (Instantiate(0), "0"),
+    (Instantiate(0), "1"),
+    (Instantiate(0), "2"),
+    (Set(2, "i", 1), ""),
+    (Set(1, "i", 2), ""),
+    (Set(0, "i", 1), ""),
+];
+
+// An argument that is not set, under the name of an import.
+const CONFLICT: &[(Call<'static>, &str)] = &[
+    (Import("x", Plain), "0"),
+    (Register("my:package", &[("x", Plain)], &[]), ""),
+    (Instantiate(0), "1"),
+];
+
+// The same, and an instance that is its own argument.
+const CONFLICT_AND_CYCLE: &[(Call<'static>, &str)] = &[
+    (Import("x", Plain), "0"),
+    (Register("my:package", &[("x", Plain)], &[]), ""),
+    (Instantiate(0), "1"),
+    (Register("my:other", &[("i", Empty)], &[]), ""),
+    (Instantiate(1), "2"),
+    (Set(2, "i", 2), ""),
 ];
 
 // A second package, whose instance is given the function `a` of an instance of the first, and what is refused it.
@@ -122,6 +162,13 @@ fn encoded(
     bench.encoded(options)
 }
 
+// What the refusal of `encode` names after the calls.
+fn refused(rt: &(impl Abort + AllocGlobal), calls: &[(Call<'_>, &str)]) -> Result<String, Fail> {
+    let mut bench = Bench::new(rt.alloc());
+    bench.calls(rt, calls)?;
+    bench.refused()
+}
+
 // What the node at a place is after the calls.
 fn described(
     rt: &(impl Abort + AllocGlobal),
@@ -173,7 +220,11 @@ fn graphs_are_encoded(rt: HostRuntime) -> Result<(), Fail> {
             "0061736d0d00010004080061736d0d000100050401000000060b0205000001690100010161",
         ),
         (UNSET, NOT_YET),
-        (CYCLE, NOT_YET),
+        (CYCLE, CONTAINS_CYCLE),
+        (OWN_ARGUMENT, CONTAINS_CYCLE),
+        (RING, CONTAINS_CYCLE),
+        (CONFLICT, IMPORT_CONFLICT),
+        (CONFLICT_AND_CYCLE, CONTAINS_CYCLE),
         (ARGUMENTS, NOT_YET),
         (NAMES, NOT_YET),
         (
@@ -183,6 +234,23 @@ fn graphs_are_encoded(rt: HostRuntime) -> Result<(), Fail> {
     ];
     for (calls, want) in rows {
         let answer = encoded(&rt, calls, EncodeOptions::default())?;
+        assert_eq!(rt; answer.as_str(), want);
+    }
+    Ok(())
+}
+
+#[test]
+fn refusals_name_their_causes(rt: HostRuntime) -> Result<(), Fail> {
+    let rows = [
+        (CYCLE, "0"),
+        (OWN_ARGUMENT, "0"),
+        (RING, "1"),
+        (CONFLICT, "0, 1, my:package, x"),
+        (CONFLICT_AND_CYCLE, "2"),
+        (UNSET, ""),
+    ];
+    for (calls, want) in rows {
+        let answer = refused(&rt, calls)?;
         assert_eq!(rt; answer.as_str(), want);
     }
     Ok(())
