@@ -1,0 +1,11 @@
+pub mod Lists
+pub mod ClassFacts
+pub mod Links
+pub mod Numbers
+pub mod Newest
+pub mod Rows
+pub mod Canonical
+pub mod MergedRows
+pub mod NodeLaws
+pub mod NodeKeys
+pub mod NodeAdding

@@ -1,0 +1,120 @@
+-- When two entries of a class agree, and where they do not.
+use Rattle.std.specs.Prelude.{ℕ, ◌≡◌, ◌<◌, ◌≤◌, true, false, List, [], ◌∷◌, ◌++◌, map, Option, Some, None, slice_get, ◌⊎◌}
+use Rattle.std.specs.List.{AllByRecursion}
+use Rattle.wac_types.specs.Name.{Name, option_case, first_some}
+use Rattle.wac_types.specs.Tree.{imported, exported, Place, named, Leaf, TypeTree, absent, instance, instance_item, further_out}
+use Rattle.wac_types.specs.Collection.{Collection, item_at, interface_exports}
+use Rattle.wac_types.specs.Held.{Naming, Names, unfolded, item_tree, items_under}
+use Rattle.wac_types.specs.Bound.{own_name, bound_by_imports, bound_in_world}
+use Rattle.wac_types.specs.declared.component.ResourceId.{ResourceId}
+use Rattle.wac_types.specs.declared.component.Interface.{Interface}
+use Rattle.wac_types.specs.declared.component.InterfaceId.{InterfaceId}
+use Rattle.wac_types.specs.declared.component.ItemKind.{ItemKind}
+use Rattle.wac_types.specs.declared.component.ItemKind.TheVariants as kind
+use Rattle.wac_merge.specs.Classes.{Entry, NameRules, same_class}
+use Rattle.wac_merge.specs.Binding.{class_binds, binding_class}
+
+-- What a resource is called where entries are compared, its own name too.
+pub data Called : Type 0 where
+  -- bound by the entry or its class: so many scopes out, on a side, under a path of names
+  bound_at : Leaf → Name → Called
+  -- bound by the class of this number, under a path of names
+  of_class : ℕ → List Place → Name → Called
+  -- bound by nothing: itself
+  itself : ResourceId → Name → Called
+
+abbrev pub one_out : Called → Called
+one_out (bound_at l n) = bound_at (further_out l) n
+one_out (of_class k path n) = of_class k path n
+one_out (itself r n) = itself r n
+
+abbrev pub resource_name : Collection → ResourceId → Name
+resource_name c r = option_case (item_at c.resources r.0) [] (λ it. it.name)
+
+abbrev pub called_at : Collection → ResourceId → Leaf → Called
+called_at c r l = bound_at l (resource_name c r)
+
+-- inside an instance and on both sides of a component: what is bound there, else what is bound around it
+abbrev pub or_around : Collection → Option Leaf → Names Called → Names Called
+or_around c here m r = first_some (option_case here None (λ l. Some (called_at c r l))) (option_case (m r) None (λ x. Some (one_out x)))
+
+abbrev pub own_leaf : Collection → Interface → ResourceId → Option Leaf
+own_leaf c it r = option_case (own_name c it.uses it.exports r) None (λ n. Some (record { out = 0; side = exported; path = named n ∷ [] }))
+
+abbrev pub by_binding : Collection → Naming Called
+by_binding c = record {
+  in_instance = λ it m r. or_around c (own_leaf c it r) m r;
+  in_imports = λ w m r. or_around c (bound_by_imports c w r) m r;
+  in_exports = λ w m r. or_around c (bound_in_world c w r) m r;
+  is_fresh = λ m side e. false;
+}
+
+-- outside an entry: the first class that binds it, else itself
+abbrev pub called_outside : NameRules → Collection → List Entry → Names Called
+called_outside rules c es r = Some (option_case (binding_class rules c es r) (itself r (resource_name c r)) (λ b. of_class b.0 b.1 (resource_name c r)))
+
+-- what the class binds, else what is outside
+abbrev pub called_in_class : NameRules → Collection → List Entry → Name → Names Called
+called_in_class rules c es class r =
+    first_some
+    (option_case (class_binds rules c es class r) None (λ path. Some (called_at c r (record { out = 0; side = imported; path = path }))))
+    (called_outside rules c es r)
+
+-- inside an instance of the class: its own resources, what the class binds, else what is outside
+abbrev pub called_inside : NameRules → Collection → List Entry → Name → Interface → Names Called
+called_inside rules c es class it r =
+    first_some
+    (option_case (own_leaf c it r) None (λ l. Some (called_at c r l)))
+    (first_some
+    (option_case (class_binds rules c es class r) None (λ path. Some (called_at c r (record { out = 0; side = exported; path = path }))))
+    (called_outside rules c es r))
+
+-- the tree by which an entry of a class is compared
+abbrev pub compared : NameRules → Collection → List Entry → Name → ItemKind → TypeTree Called
+compared rules c es class (kind.Instance i) =
+    option_case (item_at c.interfaces i.0) absent (λ it.
+    instance_item (instance (items_under (map (λ e. (e.0, item_tree (unfolded (by_binding c) c (called_inside rules c es class it)) false e.1)) it.exports))))
+compared rules c es class k = item_tree (unfolded (by_binding c) c (called_in_class rules c es class)) false k
+
+-- items agree where they are equal, or both instances of which each export that both have agrees
+abbrev pub Agree : TypeTree Called → TypeTree Called → Type 0
+Agree (instance f) (instance g) = (n : Name) → (f n ≡ absent) ⊎ ((g n ≡ absent) ⊎ Agree (f n) (g n))
+Agree (instance_item t) (instance_item u) = Agree t u
+Agree t u = t ≡ u
+
+-- an entry, and a later one of its class that does not agree with it
+pub record IsDisagreement (rules : NameRules) (c : Collection) (es : List Entry) (first second : ℕ) : Type 0 where
+  pub earlier : Entry
+  pub later : Entry
+  pub at_first : slice_get es first ≡ Some earlier
+  pub at_second : slice_get es second ≡ Some later
+  pub before : first < second
+  pub one_class : same_class rules es earlier.name later.name ≡ true
+  pub apart : Agree (compared rules c es earlier.name earlier.kind) (compared rules c es earlier.name later.kind) → ⊥
+
+-- the earliest entry that disagrees with an earlier one, and the earliest that it disagrees with
+pub record IsFirstDisagreement (rules : NameRules) (c : Collection) (es : List Entry) (first second : ℕ) : Type 0 where
+  pub disagree : IsDisagreement rules c es first second
+  pub earliest : (i j : ℕ) → IsDisagreement rules c es i j → second ≤ j
+  pub with_earliest : (i : ℕ) → IsDisagreement rules c es i second → first ≤ i
+
+-- the export is missing from the first, or agrees
+abbrev pub AgreesAt : (Name → TypeTree Called) → (Name → TypeTree Called) → Name × ItemKind → Type 0
+AgreesAt f g e = (f e.0 ≡ absent) ⊎ Agree (f e.0) (g e.0)
+
+abbrev pub AreInstances : TypeTree Called → TypeTree Called → Type 0
+AreInstances (instance_item t) (instance_item u) = Unit {0}
+AreInstances t u = ⊥
+
+-- the names of the exports that lead to the first disagreement, in the order of the later item, which is of this kind
+pub data LeadsApart (c : Collection) : TypeTree Called → TypeTree Called → ItemKind → List Name → Type 0 where
+  here : (t u : TypeTree Called) (k : ItemKind) → (AreInstances t u → ⊥) → (Agree t u → ⊥) → LeadsApart c t u k []
+  below : (f g : Name → TypeTree Called) (i : InterfaceId) (before after : List (Name × ItemKind)) (e : Name × ItemKind) (names : List Name)
+      → interface_exports c i ≡ before ++ e ∷ after → AllByRecursion (AgreesAt f g) before → (AgreesAt f g e → ⊥) → LeadsApart c (f e.0) (g e.0) e.1 names
+      → LeadsApart c (instance_item (instance f)) (instance_item (instance g)) (kind.Instance i) (e.0 ∷ names)
+
+-- names joined by `/`
+abbrev pub joined : List Name → Name
+joined [] = []
+joined (n ∷ []) = n
+joined (n ∷ names) = n ++ 47 ∷ joined names

@@ -1,0 +1,9 @@
+pub mod Classes
+pub mod Numbering
+pub mod Binding
+pub mod Union
+pub mod Agreement
+pub mod ClassOrder
+pub mod Merge
+pub mod Nodes
+pub mod NodeViews

@@ -1,0 +1,97 @@
+-- Types as nodes of a table, each once. A node mentions others by their numbers, which are lower than its own.
+use Rattle.std.specs.Prelude.{ℕ, zero, suc, ◌≡◌, ◌<◌, Bool, List, [], ◌∷◌, ◌++◌, ◌⊎◌, length, map, Option, Some, None, slice_get}
+use Rattle.std.specs.List.{AllByRecursion}
+use Rattle.wac_types.specs.Name.{Name, option_case}
+use Rattle.wac_types.specs.declared.component.PrimitiveType.{PrimitiveType}
+use Rattle.wac_types.specs.Tree.{TypeTree, absent, resource, primitive, own, borrow, record_of, variant_of, list_of, fixed_list_of, tuple_of, flags_of, enum_of, option_of, result_of, stream_of, future_of, function}
+use Rattle.wac_types.specs.Held.{part_at}
+
+pub data Node : Type 0 where
+  of_resource : ℕ → Node
+  of_primitive : PrimitiveType → Node
+  of_own : ℕ → Node
+  of_borrow : ℕ → Node
+  of_record : List (Name × ℕ) → Node
+  of_variant : List (Name × Option ℕ) → Node
+  of_list : ℕ → Node
+  of_fixed_list : ℕ → ℕ → Node
+  of_tuple : List ℕ → Node
+  of_flags : List Name → Node
+  of_enum : List Name → Node
+  of_option : ℕ → Node
+  of_result : Option ℕ → Option ℕ → Node
+  of_stream : Option ℕ → Node
+  of_future : Option ℕ → Node
+  of_function : Bool → List (Name × ℕ) → Option ℕ → Node
+
+abbrev pub and_optional : Option ℕ → List ℕ → List ℕ
+and_optional None ns = ns
+and_optional (Some n) ns = n ∷ ns
+
+abbrev pub optionals : List (Name × Option ℕ) → List ℕ
+optionals [] = []
+optionals (e ∷ es) = and_optional e.1 (optionals es)
+
+abbrev pub seconds : List (Name × ℕ) → List ℕ
+seconds [] = []
+seconds (e ∷ es) = e.1 ∷ seconds es
+
+-- the nodes that a node mentions
+abbrev pub mentions : Node → List ℕ
+mentions (of_resource r) = []
+mentions (of_primitive p) = []
+mentions (of_own r) = []
+mentions (of_borrow r) = []
+mentions (of_record fields) = seconds fields
+mentions (of_variant cases) = optionals cases
+mentions (of_list n) = n ∷ []
+mentions (of_fixed_list k n) = n ∷ []
+mentions (of_tuple ns) = ns
+mentions (of_flags names) = []
+mentions (of_enum names) = []
+mentions (of_option n) = n ∷ []
+mentions (of_result ok err) = and_optional ok (and_optional err [])
+mentions (of_stream n) = and_optional n []
+mentions (of_future n) = and_optional n []
+mentions (of_function is_async params result) = and_optional result (seconds params)
+
+abbrev pub optional_tree : (ℕ → TypeTree ℕ) → Option ℕ → TypeTree ℕ
+optional_tree t None = absent
+optional_tree t (Some n) = t n
+
+-- the tree of a node, given those of the nodes that it mentions; resources go by their numbers
+abbrev pub node_tree : (ℕ → TypeTree ℕ) → Node → TypeTree ℕ
+node_tree t (of_resource r) = resource r
+node_tree t (of_primitive p) = primitive p
+node_tree t (of_own r) = own r
+node_tree t (of_borrow r) = borrow r
+node_tree t (of_record fields) = record_of (map (λ e. e.0) fields) (part_at (map (λ e. t e.1) fields))
+node_tree t (of_variant cases) = variant_of (map (λ e. e.0) cases) (part_at (map (λ e. optional_tree t e.1) cases))
+node_tree t (of_list n) = list_of (t n)
+node_tree t (of_fixed_list k n) = fixed_list_of k (t n)
+node_tree t (of_tuple ns) = tuple_of (length ns) (part_at (map t ns))
+node_tree t (of_flags names) = flags_of names
+node_tree t (of_enum names) = enum_of names
+node_tree t (of_option n) = option_of (t n)
+node_tree t (of_result ok err) = result_of (optional_tree t ok) (optional_tree t err)
+node_tree t (of_stream n) = stream_of (optional_tree t n)
+node_tree t (of_future n) = future_of (optional_tree t n)
+node_tree t (of_function is_async params result) = function is_async (map (λ p. p.0) params) (part_at (map (λ p. t p.1) params)) (optional_tree t result)
+
+-- as many nodes deep as the number says
+abbrev pub tree_to : ℕ → List Node → ℕ → TypeTree ℕ
+tree_to zero ns i = absent
+tree_to (suc k) ns i = option_case (slice_get ns i) absent (node_tree (tree_to k ns))
+
+-- the tree of the node of a number
+abbrev pub tree_at : List Node → ℕ → TypeTree ℕ
+tree_at ns i = tree_to (suc i) ns i
+
+-- each node mentions lower ones, and stands once
+pub record IsTable (ns : List Node) : Type 0 where
+  pub lower : (i : ℕ) (n : Node) → slice_get ns i ≡ Some n → AllByRecursion (λ m. m < i) (mentions n)
+  pub once : (i j : ℕ) (n : Node) → slice_get ns i ≡ Some n → slice_get ns j ≡ Some n → i ≡ j
+
+-- the node stands at i: it was there, or it was put behind the others
+abbrev pub Added : List Node → Node → List Node → ℕ → Type 0
+Added old n new i = (slice_get new i ≡ Some n) × ((new ≡ old) ⊎ (new ≡ old ++ n ∷ []))

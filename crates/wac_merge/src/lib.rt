@@ -1,0 +1,27 @@
+//! Imports that are asked for, and the classes in which they are merged.
+//!
+//! Entries of one name are of one class, and so are instances whose names have one track, and what a chain of such pairs
+//! links. A class is imported under its canonical name, that of the greatest version.
+//!
+//! | Asked for | Imported as |
+//! |---|---|
+//! | instances `a:b/c@0.2.0` and `a:b/c@0.2.9` | `a:b/c@0.2.9` |
+//! | instances `a:b/c@0.2.0` and `a:b/c@0.3.0` | each under its own name |
+//! | functions `f` and `f` | `f` |
+//!
+//! # Memory and time
+//!
+//! Each entry keeps its name. The classes take one more copy of each name, and keep a text for each class. Numbering
+//! reads each entry's name a few times, and with it the greatest name that its class has so far.
+#![tactic(auto)]
+
+mod aggregator;
+mod asked;
+mod classes;
+mod entry;
+pub mod laws;
+mod nodes;
+#[cfg(test)]
+mod tests;
+
+pub use aggregator::TypeAggregator;

@@ -1,0 +1,95 @@
+//! Types as nodes of a table, each once.
+ghost use Rattle.std.specs.Prelude.{◌≡◌, ◌<◌, ℕ, [], length, OnOk, OnErr, IfOk};
+ghost use Rattle.std.specs.List.{AllByRecursion};
+ghost use Rattle.wac_merge.specs.Nodes.{mentions, tree_at, Added};
+ghost use Rattle.wac_merge.specs.NodeViews.{node_view};
+
+use indexmap::IndexSet;
+use std::alloc::{AllocError, Global};
+use std::marker::Model;
+use wac_types::PrimitiveType;
+
+/// A type that mentions other types by their numbers in a table, and resources by numbers of their own.
+#[derive(PartialEq, Eq, Hash, Drop)]
+pub(crate) enum Node {
+    /// A resource.
+    Resource(usize),
+    /// A primitive.
+    Primitive(PrimitiveType),
+    /// A handle to a resource that is owned.
+    Own(usize),
+    /// A handle to a resource that is lent.
+    Borrow(usize),
+    /// Fields under names.
+    Record(Vec<(String, usize)>),
+    /// Cases under names.
+    Variant(Vec<(String, Option<usize>)>),
+    /// A list of any length.
+    List(usize),
+    /// A list of this length.
+    FixedSizeList(usize, u32),
+    /// Values one after another.
+    Tuple(Vec<usize>),
+    /// Flags under names.
+    Flags(Vec<String>),
+    /// One of these names.
+    Enum(Vec<String>),
+    /// A value or none.
+    Option(usize),
+    /// A value or an error.
+    Result(Option<usize>, Option<usize>),
+    /// A stream.
+    Stream(Option<usize>),
+    /// A future.
+    Future(Option<usize>),
+    /// A function: whether it is asynchronous, its parameters, its result.
+    Func(bool, Vec<(String, usize)>, Option<usize>),
+}
+
+/// Nodes, each once, which mention lower ones.
+#[derive(Drop)]
+pub(crate) struct Nodes {
+    nodes: IndexSet<Node>,
+}
+
+impl Model for Nodes {
+    ghost use Rattle.std.specs.Prelude.{List, map};
+    ghost use Rattle.wac_merge.specs.Nodes as table;
+    ghost use Rattle.wac_merge.specs.NodeViews.{node_view};
+
+    ghost Value = { List table.Node };
+
+    ghost view = { λ t. map node_view t.nodes.keys };
+
+    ghost invariant = { λ t. table.IsTable (map node_view t.nodes.keys) };
+}
+
+impl Nodes {
+    /// No node.
+    pub(crate) fn new(alloc: Global) -> Nodes
+        ensures { result ≡ [] }
+    {
+        Nodes {
+            nodes: IndexSet::new(alloc),
+        }
+    }
+
+    /// The law of all tables: nodes of equal trees are one.
+    pub(crate) fn law(&self)
+        ensures { (i j : ℕ) → i < length self.now → j < length self.now → tree_at self.now i ≡ tree_at self.now j → i ≡ j }
+    {
+        let _ = &self.nodes;
+    }
+
+    /// The number of a node, which is put behind the others where it is not there. Where memory runs out nothing has changed.
+    pub(crate) fn add(&mut self, node: Node) -> Result<usize, AllocError>
+        requires { AllByRecursion (λ m. m < length self.old) (mentions (node_view node)) }
+        ensures added { OnOk result (IfOk result (λ i. Added self.old (node_view node) self.new i)) }
+        ensures refused { OnErr result (self.new ≡ self.old) }
+    {
+        let Ok((index, _)) = self.nodes.insert_full(node) else {
+            return Err(AllocError);
+        };
+        Ok(index)
+    }
+}
