@@ -6,6 +6,7 @@ pub mod Newest
 pub mod Rows
 pub mod Canonical
 pub mod MergedRows
+pub mod SortedMaps
 pub mod NodeLaws
 pub mod NodeKeys
 pub mod NodeAdding

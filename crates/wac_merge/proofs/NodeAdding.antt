@@ -3,7 +3,7 @@ use Rattle.std.proofs.Common.{◌≡◌, ℕ, zero, suc, ◌<◌, ◌||◌, Bool
 use Rattle.std.specs.Prelude.{slice_get, if◌then◌else◌}
 use Rattle.std.specs.List.{AllByRecursion, list_any}
 use Rattle.indexmap.specs.IndexSet.{insert_key}
-use Rattle.wac_merge.specs.Nodes.{Node, mentions, IsTable, Added}
+use Rattle.wac_merge.specs.Nodes.{Node, mentions, IsSorted, IsTable, Added}
 
 -- what stands in a list with one more
 get_push : (ns : List Node) (n m : Node) (i : ℕ) → slice_get (ns ++ n ∷ []) i ≡ Some m → ((i < length ns) × (slice_get ns i ≡ Some m)) ⊎ ((i ≡ length ns) × (m ≡ n))
@@ -21,11 +21,16 @@ get_last : (ns : List Node) (n : Node) → slice_get (ns ++ n ∷ []) (length ns
 get_last [] n = refl
 get_last (x ∷ ns) n = get_last ns n
 
-pub push_table : (ns : List Node) (n : Node) → IsTable ns → AllByRecursion (λ m. m < length ns) (mentions n) → ((i : ℕ) → slice_get ns i ≡ Some n → ⊥) → IsTable (ns ++ n ∷ [])
-push_table ns n table low new = record {
+pub push_table : (ns : List Node) (n : Node) → IsTable ns → IsSorted n → AllByRecursion (λ m. m < length ns) (mentions n) → ((i : ℕ) → slice_get ns i ≡ Some n → ⊥) → IsTable (ns ++ n ∷ [])
+push_table ns n table ordered low new = record {
+  sorted = λ i m is. sorted i m (get_push ns n m i is);
   lower = λ i m is. lower i m (get_push ns n m i is);
   once = λ i j m is also. once i j m (get_push ns n m i is) (get_push ns n m j also);
 } where
+  sorted : (i : ℕ) (m : Node) → ((i < length ns) × (slice_get ns i ≡ Some m)) ⊎ ((i ≡ length ns) × (m ≡ n)) → IsSorted m
+  sorted i m (inl (_, is)) = table.sorted i m is
+  sorted i m (inr (_, is)) = subst IsSorted (sym is) ordered
+
   lower : (i : ℕ) (m : Node) → ((i < length ns) × (slice_get ns i ≡ Some m)) ⊎ ((i ≡ length ns) × (m ≡ n)) → AllByRecursion (λ k. k < i) (mentions m)
   lower i m (inl (_, is)) = table.lower i m is
   lower i m (inr (last, is)) = subst (λ k. AllByRecursion (λ q. q < k) (mentions m)) (sym last) (subst (λ x. AllByRecursion (λ q. q < length ns) (mentions x)) (sym is) low)
@@ -68,11 +73,11 @@ module _ {R : Type 0} (view : R → Node) (eq : R → R → Bool) (same : (a b :
     seen (Some r) = Some (view r)
   get_map (x ∷ ks) (suc i) k is = get_map ks i k is
 
-  pub inserted_table : (ks : List R) (k : R) → IsTable (map view ks) → AllByRecursion (λ m. m < length (map view ks)) (mentions (view k)) → IsTable (map view (insert_key eq ks k))
-  inserted_table ks k table low =
+  pub inserted_table : (ks : List R) (k : R) → IsTable (map view ks) → IsSorted (view k) → AllByRecursion (λ m. m < length (map view ks)) (mentions (view k)) → IsTable (map view (insert_key eq ks k))
+  inserted_table ks k table ordered low =
       elim (list_any (eq k) ks) as (λ b. list_any (eq k) ks ≡ b → IsTable (map view (if b then ks else ks ++ k ∷ []))) [
         | true ↦ λ _. table
-        | false ↦ λ none. subst IsTable (sym (map_push ks k)) (push_table (map view ks) (view k) table low (absent ks k none))
+        | false ↦ λ none. subst IsTable (sym (map_push ks k)) (push_table (map view ks) (view k) table ordered low (absent ks k none))
       ] refl
 
   pub inserted_added : (ks : List R) (k : R) (i : ℕ) (x : R) → slice_get (insert_key eq ks k) i ≡ Some x → eq k x ≡ true → Added (map view ks) (view k) (map view (insert_key eq ks k)) i

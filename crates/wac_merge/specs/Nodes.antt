@@ -1,10 +1,23 @@
 -- Types as nodes of a table, each once. A node mentions others by their numbers, which are lower than its own.
-use Rattle.std.specs.Prelude.{ℕ, zero, suc, ◌≡◌, ◌<◌, Bool, List, [], ◌∷◌, ◌++◌, ◌⊎◌, length, map, Option, Some, None, slice_get}
+use Rattle.std.specs.Prelude.{ℕ, zero, suc, ◌≡◌, ◌≢◌, ◌<◌, Bool, List, [], ◌∷◌, ◌++◌, ◌⊎◌, length, map, Option, Some, None, slice_get}
 use Rattle.std.specs.List.{AllByRecursion}
-use Rattle.wac_types.specs.Name.{Name, option_case}
+use Rattle.std.specs.Ordering.{nat_cmp}
+use Rattle.std.specs.declared.cmp.Ordering.TheVariants.{Less}
+use Rattle.std.specs.Cmp.Lexicographic.{slice_cmp}
+use Rattle.wac_types.specs.Name.{Name, find_name, option_case}
 use Rattle.wac_types.specs.declared.component.PrimitiveType.{PrimitiveType}
-use Rattle.wac_types.specs.Tree.{TypeTree, absent, resource, primitive, own, borrow, record_of, variant_of, list_of, fixed_list_of, tuple_of, flags_of, enum_of, option_of, result_of, stream_of, future_of, function}
-use Rattle.wac_types.specs.Held.{part_at}
+use Rattle.wac_types.specs.Core.{CoreItem, no_item}
+use Rattle.wac_types.specs.Tree.{TypeTree, absent, resource, primitive, own, borrow, record_of, variant_of, list_of, fixed_list_of, tuple_of, flags_of, enum_of, option_of, result_of, stream_of, future_of, function, instance, component, module_of, type_equal, function_item, instance_item, component_item, module_item, value_item}
+use Rattle.wac_types.specs.Held.{part_at, items_under}
+
+-- what an instance or a component lists under a name: its sort, and the number of its type
+pub data Item : Type 0 where
+  a_type : ℕ → Item
+  a_func : ℕ → Item
+  an_instance : ℕ → Item
+  a_component : ℕ → Item
+  a_module : ℕ → Item
+  a_value : ℕ → Item
 
 pub data Node : Type 0 where
   of_resource : ℕ → Node
@@ -23,6 +36,9 @@ pub data Node : Type 0 where
   of_stream : Option ℕ → Node
   of_future : Option ℕ → Node
   of_function : Bool → List (Name × ℕ) → Option ℕ → Node
+  of_instance : List (Name × Item) → Node
+  of_component : List (Name × Item) → List (Name × Item) → Node
+  of_module : List (Name × List (Name × CoreItem)) → List (Name × CoreItem) → Node
 
 abbrev pub and_optional : Option ℕ → List ℕ → List ℕ
 and_optional None ns = ns
@@ -35,6 +51,18 @@ optionals (e ∷ es) = and_optional e.1 (optionals es)
 abbrev pub seconds : List (Name × ℕ) → List ℕ
 seconds [] = []
 seconds (e ∷ es) = e.1 ∷ seconds es
+
+abbrev pub type_of : Item → ℕ
+type_of (a_type n) = n
+type_of (a_func n) = n
+type_of (an_instance n) = n
+type_of (a_component n) = n
+type_of (a_module n) = n
+type_of (a_value n) = n
+
+abbrev pub types_of : List (Name × Item) → List ℕ
+types_of [] = []
+types_of (e ∷ es) = type_of e.1 ∷ types_of es
 
 -- the nodes that a node mentions
 abbrev pub mentions : Node → List ℕ
@@ -54,10 +82,31 @@ mentions (of_result ok err) = and_optional ok (and_optional err [])
 mentions (of_stream n) = and_optional n []
 mentions (of_future n) = and_optional n []
 mentions (of_function is_async params result) = and_optional result (seconds params)
+mentions (of_instance exports) = types_of exports
+mentions (of_component imports exports) = types_of imports ++ types_of exports
+mentions (of_module imports exports) = []
 
 abbrev pub optional_tree : (ℕ → TypeTree ℕ) → Option ℕ → TypeTree ℕ
 optional_tree t None = absent
 optional_tree t (Some n) = t n
+
+abbrev pub item_tree : (ℕ → TypeTree ℕ) → Item → TypeTree ℕ
+item_tree t (a_type n) = type_equal (t n)
+item_tree t (a_func n) = function_item (t n)
+item_tree t (an_instance n) = instance_item (t n)
+item_tree t (a_component n) = component_item (t n)
+item_tree t (a_module n) = module_item (t n)
+item_tree t (a_value n) = value_item (t n)
+
+abbrev pub listed_tree : (ℕ → TypeTree ℕ) → List (Name × Item) → Name → TypeTree ℕ
+listed_tree t es = items_under (map (λ e. (e.0, item_tree t e.1)) es)
+
+-- the core item under a name, and under two
+abbrev pub core_under : List (Name × CoreItem) → Name → CoreItem
+core_under es n = option_case (find_name es n) no_item (λ x. x)
+
+abbrev pub core_under_both : List (Name × List (Name × CoreItem)) → Name → Name → CoreItem
+core_under_both ms m = option_case (find_name ms m) (λ n. no_item) core_under
 
 -- the tree of a node, given those of the nodes that it mentions; resources go by their numbers
 abbrev pub node_tree : (ℕ → TypeTree ℕ) → Node → TypeTree ℕ
@@ -77,6 +126,9 @@ node_tree t (of_result ok err) = result_of (optional_tree t ok) (optional_tree t
 node_tree t (of_stream n) = stream_of (optional_tree t n)
 node_tree t (of_future n) = future_of (optional_tree t n)
 node_tree t (of_function is_async params result) = function is_async (map (λ p. p.0) params) (part_at (map (λ p. t p.1) params)) (optional_tree t result)
+node_tree t (of_instance exports) = instance (listed_tree t exports)
+node_tree t (of_component imports exports) = component (listed_tree t imports) (listed_tree t exports)
+node_tree t (of_module imports exports) = module_of (core_under_both imports) (core_under exports)
 
 -- as many nodes deep as the number says
 abbrev pub tree_to : ℕ → List Node → ℕ → TypeTree ℕ
@@ -87,8 +139,25 @@ tree_to (suc k) ns i = option_case (slice_get ns i) absent (node_tree (tree_to k
 abbrev pub tree_at : List Node → ℕ → TypeTree ℕ
 tree_at ns i = tree_to (suc i) ns i
 
--- each node mentions lower ones, and stands once
+-- each name comes before those behind it, byte by byte
+abbrev pub Sorted : {V : Type 0} → List (Name × V) → Type 0
+Sorted [] = Unit {0}
+Sorted (e ∷ es) = AllByRecursion (λ x. slice_cmp nat_cmp e.0 x.0 ≡ Less) es × Sorted es
+
+-- core items, sorted, each there
+abbrev pub AreCoreItems : List (Name × CoreItem) → Type 0
+AreCoreItems es = Sorted es × AllByRecursion (λ e. e.1 ≢ no_item) es
+
+-- what a node lists is sorted; no module is listed without an item
+abbrev pub IsSorted : Node → Type 0
+IsSorted (of_instance exports) = Sorted exports
+IsSorted (of_component imports exports) = Sorted imports × Sorted exports
+IsSorted (of_module imports exports) = (Sorted imports × AllByRecursion (λ e. AreCoreItems e.1 × (e.1 ≢ [])) imports) × AreCoreItems exports
+IsSorted _ = Unit {0}
+
+-- each node is sorted, mentions lower ones, and stands once
 pub record IsTable (ns : List Node) : Type 0 where
+  pub sorted : (i : ℕ) (n : Node) → slice_get ns i ≡ Some n → IsSorted n
   pub lower : (i : ℕ) (n : Node) → slice_get ns i ≡ Some n → AllByRecursion (λ m. m < i) (mentions n)
   pub once : (i j : ℕ) (n : Node) → slice_get ns i ≡ Some n → slice_get ns j ≡ Some n → i ≡ j
 

@@ -1,13 +1,45 @@
 //! Types as nodes of a table, each once.
 ghost use Rattle.std.specs.Prelude.{◌≡◌, ◌<◌, ℕ, [], length, OnOk, OnErr, IfOk};
 ghost use Rattle.std.specs.List.{AllByRecursion};
-ghost use Rattle.wac_merge.specs.Nodes.{mentions, tree_at, Added};
+ghost use Rattle.wac_merge.specs.Nodes.{mentions, tree_at, Added, IsSorted};
 ghost use Rattle.wac_merge.specs.NodeViews.{node_view};
 
 use indexmap::IndexSet;
 use std::alloc::{AllocError, Global};
 use std::marker::Model;
-use wac_types::PrimitiveType;
+use wac_types::{CoreRefType, CoreType, PrimitiveType};
+
+/// What an instance or a component lists under a name: its sort, and the number of its type.
+#[derive(Clone, Copy, PartialEq, Eq, Hash)]
+pub(crate) enum Item {
+    /// A type.
+    Type(usize),
+    /// A function.
+    Func(usize),
+    /// An instance.
+    Instance(usize),
+    /// A component.
+    Component(usize),
+    /// A core module.
+    Module(usize),
+    /// A value.
+    Value(usize),
+}
+
+/// What a core module imports or exports.
+#[derive(PartialEq, Eq, Hash, Drop)]
+pub(crate) enum Core {
+    /// A function: its parameters and its results.
+    Func(Vec<CoreType>, Vec<CoreType>),
+    /// A table: its element type, whether it has indexes of 64 bits, whether it is shared, its least and greatest size.
+    Table(CoreRefType, bool, bool, u64, Option<u64>),
+    /// A memory: whether it has addresses of 64 bits, whether it is shared, its least and greatest size, and the logarithm of its page size.
+    Memory(bool, bool, u64, Option<u64>, Option<u32>),
+    /// A global: its type, whether it is mutable, whether it is shared.
+    Global(CoreType, bool, bool),
+    /// A tag: its parameters and its results.
+    Tag(Vec<CoreType>, Vec<CoreType>),
+}
 
 /// A type that mentions other types by their numbers in a table, and resources by numbers of their own.
 #[derive(PartialEq, Eq, Hash, Drop)]
@@ -44,6 +76,12 @@ pub(crate) enum Node {
     Future(Option<usize>),
     /// A function: whether it is asynchronous, its parameters, its result.
     Func(bool, Vec<(String, usize)>, Option<usize>),
+    /// An instance: its exports, sorted by name.
+    Instance(Vec<(String, Item)>),
+    /// A component: its imports and its exports, each sorted by name.
+    Component(Vec<(String, Item)>, Vec<(String, Item)>),
+    /// A core module: its imports by module and name, and its exports, each sorted by name.
+    Module(Vec<(String, Vec<(String, Core)>)>, Vec<(String, Core)>),
 }
 
 /// Nodes, each once, which mention lower ones.
@@ -83,7 +121,8 @@ impl Nodes {
 
     /// The number of a node, which is put behind the others where it is not there. Where memory runs out nothing has changed.
     pub(crate) fn add(&mut self, node: Node) -> Result<usize, AllocError>
-        requires { AllByRecursion (λ m. m < length self.old) (mentions (node_view node)) }
+        requires lower { AllByRecursion (λ m. m < length self.old) (mentions (node_view node)) }
+        requires sorted { IsSorted (node_view node) }
         ensures added { OnOk result (IfOk result (λ i. Added self.old (node_view node) self.new i)) }
         ensures refused { OnErr result (self.new ≡ self.old) }
     {

@@ -10,8 +10,8 @@ use Rattle.wac_merge.proofs.nodes.Nodes.add.Goals as goal
 pub invariant_of-self-2 : goal.invariant_of-self-2
 invariant_of-self-2 c =
     subst (λ ks. IsTable (map node_view ks)) (sym c.in-Ok.ensures.keys)
-    (inserted_table node_view (NodeEq.ghosts).eq same_node node_itself c.self.inside.nodes.keys c.args.node c.self.invariant
-    (subst (λ ns. AllByRecursion (λ m. m < length ns) (mentions (node_view c.args.node))) (sym c.self.view_is) c.requires))
+    (inserted_table node_view (NodeEq.ghosts).eq same_node node_itself c.self.inside.nodes.keys c.args.node c.self.invariant c.requires.sorted
+    (subst (λ ns. AllByRecursion (λ m. m < length ns) (mentions (node_view c.args.node))) (sym c.self.view_is) c.requires.lower))
 
 pub returns-clause-added : goal.returns-clause-added
 returns-clause-added c =
