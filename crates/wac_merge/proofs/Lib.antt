@@ -8,5 +8,7 @@ pub mod Canonical
 pub mod MergedRows
 pub mod SortedMaps
 pub mod NodeLaws
+pub mod Telling
+pub mod CalledKeys
 pub mod NodeKeys
 pub mod NodeAdding

@@ -26,46 +26,11 @@ use Rattle.wac_merge.specs.declared.nodes.Item.TheVariants as item
 use Rattle.wac_merge.specs.Nodes.{type_of}
 use Rattle.wac_merge.specs.declared.nodes.Node.{Node}
 use Rattle.wac_merge.specs.declared.nodes.Node.TheVariants as node
+use Rattle.wac_merge.specs.CalledViews.{called_view}
 use Rattle.wac_merge.specs.NodeViews.{named, item_view, listed, core_view, core_items, core_modules, node_view}
 use Rattle.wac_merge.specs.Nodes as table
-
--- the test decides whether both stand for the same
-abbrev Tells : {A B : Type 0} → (A → B) → (A → A → Bool) → Type 0
-Tells v E = (x y : _) → (E x y ≡ true → v x ≡ v y) × (v x ≡ v y → E x y ≡ true)
-
-both : (p q : Bool) → (p && q) ≡ true → (p ≡ true) × (q ≡ true)
-both true q e = (refl, e)
-both false q e = cc e
-
-list_same : {A B : Type 0} (v : A → B) (E : A → A → Bool) → Tells v E → (xs ys : List A) → pointwise E xs ys ≡ true → map v xs ≡ map v ys
-list_same v E t [] [] h = refl
-list_same v E t [] (y ∷ ys) h = cc
-list_same v E t (x ∷ xs) [] h = cc
-list_same v E t (x ∷ xs) (y ∷ ys) h = let (a, b) = both (E x y) (pointwise E xs ys) h in rw ((t x y).0 a, list_same v E t xs ys b) refl
-
-and_true : (p q : Bool) → p ≡ true → q ≡ true → (p && q) ≡ true
-and_true true q h g = g
-and_true false q h g = cc
-
-list_itself : {A B : Type 0} (v : A → B) (E : A → A → Bool) → Tells v E → (xs ys : List A) → map v xs ≡ map v ys → pointwise E xs ys ≡ true
-list_itself v E t [] [] h = refl
-list_itself v E t [] (y ∷ ys) h = cc
-list_itself v E t (x ∷ xs) [] h = cc
-list_itself v E t (x ∷ xs) (y ∷ ys) h = and_true (E x y) (pointwise E xs ys) ((t x y).1 (head h)) (list_itself v E t xs ys (tail h)) where
-  head : v x ∷ map v xs ≡ v y ∷ map v ys → v x ≡ v y
-  head e = cc
-
-  tail : v x ∷ map v xs ≡ v y ∷ map v ys → map v xs ≡ map v ys
-  tail e = cc
-
-abbrev Text : Type 0
-Text = String Global
-
-abbrev text_eq : Text → Text → Bool
-text_eq x y = pointwise nat_eq (string_bytes x) (string_bytes y)
-
-text_tells : Tells string_bytes text_eq
-text_tells x y = bytes_decides (string_bytes x) (string_bytes y)
+use Rattle.wac_merge.proofs.Telling.{Tells, both, and_true, list_same, list_itself, Text, text_eq, text_tells}
+use Rattle.wac_merge.proofs.CalledKeys.{called_tells}
 
 number_tells : (x y : ℕ) → (nat_eq x y ≡ true → x ≡ y) × (x ≡ y → nat_eq x y ≡ true)
 number_tells x y = (eqb-true x y, eq-eqb x y)
@@ -250,10 +215,10 @@ modules_tell : Tells module_entry (entry_eq cores_eq)
 modules_tell = pair_tells (λ (x : Vec (Text × Core) Global). core_items x.items) cores_eq cores_tell
 
 pub same_node : (a b : Node) → (NodeEq.ghosts).eq a b ≡ true → node_view a ≡ node_view b
-same_node (node.Resource a) (node.Resource b) e = ap table.of_resource (eqb-true a b e)
+same_node (node.Resource a) (node.Resource b) e = ap table.of_resource ((called_tells a b).0 e)
 same_node (node.Primitive a) (node.Primitive b) e = ap table.of_primitive (same_true the_type (search rules) a b e)
-same_node (node.Own a) (node.Own b) e = ap table.of_own (eqb-true a b e)
-same_node (node.Borrow a) (node.Borrow b) e = ap table.of_borrow (eqb-true a b e)
+same_node (node.Own a) (node.Own b) e = ap table.of_own ((called_tells a b).0 e)
+same_node (node.Borrow a) (node.Borrow b) e = ap table.of_borrow ((called_tells a b).0 e)
 same_node (node.Record a) (node.Record b) e = ap table.of_record (list_same (pair_view (λ v. v)) (entry_eq nat_eq) (entry_tells nat_eq number_tells) a.items b.items e)
 same_node (node.Variant a) (node.Variant b) e = ap table.of_variant (list_same (pair_view (λ v. v)) (entry_eq (option_eq nat_eq)) (entry_tells (option_eq nat_eq) optional_tells) a.items b.items e)
 same_node (node.List a) (node.List b) e = ap table.of_list (eqb-true a b e)
@@ -279,17 +244,17 @@ same_node (node.Module i a) (node.Module j b) e =
 same_node _ _ e = cc e
 
 pub node_itself : (a b : Node) → node_view a ≡ node_view b → (NodeEq.ghosts).eq a b ≡ true
-node_itself (node.Resource a) (node.Resource b) e = eq-eqb a b (inner e) where
-  inner : table.of_resource a ≡ table.of_resource b → a ≡ b
+node_itself (node.Resource a) (node.Resource b) e = (called_tells a b).1 (inner e) where
+  inner : table.of_resource (called_view a) ≡ table.of_resource (called_view b) → called_view a ≡ called_view b
   inner e = cc
 node_itself (node.Primitive a) (node.Primitive b) e = true_same the_type a b (inner e) where
   inner : table.of_primitive a ≡ table.of_primitive b → a ≡ b
   inner e = cc
-node_itself (node.Own a) (node.Own b) e = eq-eqb a b (inner e) where
-  inner : table.of_own a ≡ table.of_own b → a ≡ b
+node_itself (node.Own a) (node.Own b) e = (called_tells a b).1 (inner e) where
+  inner : table.of_own (called_view a) ≡ table.of_own (called_view b) → called_view a ≡ called_view b
   inner e = cc
-node_itself (node.Borrow a) (node.Borrow b) e = eq-eqb a b (inner e) where
-  inner : table.of_borrow a ≡ table.of_borrow b → a ≡ b
+node_itself (node.Borrow a) (node.Borrow b) e = (called_tells a b).1 (inner e) where
+  inner : table.of_borrow (called_view a) ≡ table.of_borrow (called_view b) → called_view a ≡ called_view b
   inner e = cc
 node_itself (node.Record a) (node.Record b) e = list_itself (pair_view (λ v. v)) (entry_eq nat_eq) (entry_tells nat_eq number_tells) a.items b.items (inner e) where
   inner : table.of_record (named a.items) ≡ table.of_record (named b.items) → named a.items ≡ named b.items

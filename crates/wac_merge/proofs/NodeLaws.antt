@@ -6,14 +6,15 @@ use Rattle.std.specs.List.{AllByRecursion}
 use Rattle.wac_types.specs.Name.{Name, option_case}
 use Rattle.wac_types.specs.Core.{CoreItem, no_item}
 use Rattle.wac_types.specs.Tree.{TypeTree, absent}
+use Rattle.wac_types.specs.Called.{Called}
 use Rattle.wac_types.specs.Held.{part_at}
 use Rattle.wac_merge.specs.Nodes.{Node, of_resource, of_primitive, of_own, of_borrow, of_record, of_variant, of_list, of_fixed_list, of_tuple, of_flags, of_enum, of_option, of_result, of_stream, of_future, of_function, of_instance, of_component, of_module, core_under, core_under_both, AreCoreItems, Item, a_type, a_func, an_instance, a_component, a_module, a_value, type_of, types_of, item_tree, listed_tree, Sorted, IsSorted, and_optional, optionals, seconds, mentions, optional_tree, node_tree, tree_to, tree_at, IsTable}
 
-abbrev listed : (ℕ → TypeTree ℕ) → List (Name × Item) → List (Name × TypeTree ℕ)
+abbrev listed : (ℕ → TypeTree Called) → List (Name × Item) → List (Name × TypeTree Called)
 listed t es = map (λ e. (e.0, item_tree t e.1)) es
 
 -- ---- equal trees of the nodes that are mentioned give one tree
-module _ (t u : ℕ → TypeTree ℕ) where
+module _ (t u : ℕ → TypeTree Called) where
   SameAt : List ℕ → Type 0
   SameAt ns = AllByRecursion (λ m. t m ≡ u m) ns
 
@@ -99,7 +100,7 @@ grown ns ms table (suc k) i low = rw (get_before ns ms i low) (at (slice_get ns 
   at (Some n) is lower = same_tree (tree_to k (ns ++ ms)) (tree_to k ns) n (all_of lower (mentions n) (table.lower i n is))
 
 -- ---- a node has a tree
-node_there : (t : ℕ → TypeTree ℕ) (n : Node) → node_tree t n ≡ absent → ⊥
+node_there : (t : ℕ → TypeTree Called) (n : Node) → node_tree t n ≡ absent → ⊥
 node_there t (of_resource r) e = cc
 node_there t (of_primitive r) e = cc
 node_there t (of_own r) e = cc
@@ -137,7 +138,7 @@ equal_modules is js h g p q e =
     (λ m. sym (found_are (λ n. no_item) core_under is m) ∙ ap (λ f. f m) e ∙ found_are (λ n. no_item) core_under js m)
 
 -- ---- equal trees are of equal nodes
-module _ (k : ℕ) (t : ℕ → TypeTree ℕ) (apart : (a b : ℕ) → a < k → b < k → t a ≡ t b → a ≡ b) (there : (a : ℕ) → a < k → t a ≡ absent → ⊥) where
+module _ (k : ℕ) (t : ℕ → TypeTree Called) (apart : (a b : ℕ) → a < k → b < k → t a ≡ t b → a ≡ b) (there : (a : ℕ) → a < k → t a ≡ absent → ⊥) where
   abbrev Below : List ℕ → Type 0
   Below ns = AllByRecursion (λ m. m < k) ns
 

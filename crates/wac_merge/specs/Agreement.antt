@@ -2,10 +2,10 @@
 use Rattle.std.specs.Prelude.{ℕ, ◌≡◌, ◌<◌, ◌≤◌, true, false, List, [], ◌∷◌, ◌++◌, map, Option, Some, None, slice_get, ◌⊎◌}
 use Rattle.std.specs.List.{AllByRecursion}
 use Rattle.wac_types.specs.Name.{Name, option_case, first_some}
-use Rattle.wac_types.specs.Tree.{imported, exported, Place, named, Leaf, TypeTree, absent, instance, instance_item, further_out}
+use Rattle.wac_types.specs.Tree.{imported, exported, TypeTree, absent, instance, instance_item}
 use Rattle.wac_types.specs.Collection.{Collection, item_at, interface_exports}
-use Rattle.wac_types.specs.Held.{Naming, Names, unfolded, item_tree, items_under}
-use Rattle.wac_types.specs.Bound.{own_name, bound_by_imports, bound_in_world}
+use Rattle.wac_types.specs.Held.{Names, unfolded, item_tree, items_under}
+use Rattle.wac_types.specs.Called.{Called, of_class, itself, resource_name, called_at, own_leaf, by_binding}
 use Rattle.wac_types.specs.declared.component.ResourceId.{ResourceId}
 use Rattle.wac_types.specs.declared.component.Interface.{Interface}
 use Rattle.wac_types.specs.declared.component.InterfaceId.{InterfaceId}
@@ -13,41 +13,6 @@ use Rattle.wac_types.specs.declared.component.ItemKind.{ItemKind}
 use Rattle.wac_types.specs.declared.component.ItemKind.TheVariants as kind
 use Rattle.wac_merge.specs.Classes.{Entry, NameRules, same_class}
 use Rattle.wac_merge.specs.Binding.{class_binds, binding_class}
-
--- What a resource is called where entries are compared, its own name too.
-pub data Called : Type 0 where
-  -- bound by the entry or its class: so many scopes out, on a side, under a path of names
-  bound_at : Leaf → Name → Called
-  -- bound by the class of this number, under a path of names
-  of_class : ℕ → List Place → Name → Called
-  -- bound by nothing: itself
-  itself : ResourceId → Name → Called
-
-abbrev pub one_out : Called → Called
-one_out (bound_at l n) = bound_at (further_out l) n
-one_out (of_class k path n) = of_class k path n
-one_out (itself r n) = itself r n
-
-abbrev pub resource_name : Collection → ResourceId → Name
-resource_name c r = option_case (item_at c.resources r.0) [] (λ it. it.name)
-
-abbrev pub called_at : Collection → ResourceId → Leaf → Called
-called_at c r l = bound_at l (resource_name c r)
-
--- inside an instance and on both sides of a component: what is bound there, else what is bound around it
-abbrev pub or_around : Collection → Option Leaf → Names Called → Names Called
-or_around c here m r = first_some (option_case here None (λ l. Some (called_at c r l))) (option_case (m r) None (λ x. Some (one_out x)))
-
-abbrev pub own_leaf : Collection → Interface → ResourceId → Option Leaf
-own_leaf c it r = option_case (own_name c it.uses it.exports r) None (λ n. Some (record { out = 0; side = exported; path = named n ∷ [] }))
-
-abbrev pub by_binding : Collection → Naming Called
-by_binding c = record {
-  in_instance = λ it m r. or_around c (own_leaf c it r) m r;
-  in_imports = λ w m r. or_around c (bound_by_imports c w r) m r;
-  in_exports = λ w m r. or_around c (bound_in_world c w r) m r;
-  is_fresh = λ m side e. false;
-}
 
 -- outside an entry: the first class that binds it, else itself
 abbrev pub called_outside : NameRules → Collection → List Entry → Names Called

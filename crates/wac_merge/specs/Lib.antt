@@ -3,7 +3,9 @@ pub mod Numbering
 pub mod Binding
 pub mod Union
 pub mod Agreement
+pub mod Scopes
 pub mod ClassOrder
 pub mod Merge
+pub mod CalledViews
 pub mod Nodes
 pub mod NodeViews

@@ -4,6 +4,7 @@ use Rattle.std.specs.Prelude.{Vec, List, map, string_bytes}
 use Rattle.std.specs.declared.string.String.{String}
 use Rattle.wac_types.specs.Name.{Name}
 use Rattle.wac_types.specs.Core.{CoreItem, core_function, core_table, core_memory, core_global, core_tag}
+use Rattle.wac_merge.specs.CalledViews.{called_view}
 use Rattle.wac_merge.specs.declared.nodes.Core.{Core}
 use Rattle.wac_merge.specs.declared.nodes.Core.TheVariants as core
 use Rattle.wac_merge.specs.declared.nodes.Item.{Item}
@@ -40,10 +41,10 @@ abbrev pub core_modules : List (String Global × Vec (String Global × Core) Glo
 core_modules ms = map (λ e. (string_bytes e.0, core_items e.1.items)) ms
 
 abbrev pub node_view : Node → table.Node
-node_view (node.Resource r) = table.of_resource r
+node_view (node.Resource r) = table.of_resource (called_view r)
 node_view (node.Primitive p) = table.of_primitive p
-node_view (node.Own r) = table.of_own r
-node_view (node.Borrow r) = table.of_borrow r
+node_view (node.Own r) = table.of_own (called_view r)
+node_view (node.Borrow r) = table.of_borrow (called_view r)
 node_view (node.Record fields) = table.of_record (named fields.items)
 node_view (node.Variant cases) = table.of_variant (named cases.items)
 node_view (node.List n) = table.of_list n

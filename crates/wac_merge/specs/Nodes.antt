@@ -9,6 +9,7 @@ use Rattle.wac_types.specs.declared.component.PrimitiveType.{PrimitiveType}
 use Rattle.wac_types.specs.Core.{CoreItem, no_item}
 use Rattle.wac_types.specs.Tree.{TypeTree, absent, resource, primitive, own, borrow, record_of, variant_of, list_of, fixed_list_of, tuple_of, flags_of, enum_of, option_of, result_of, stream_of, future_of, function, instance, component, module_of, type_equal, function_item, instance_item, component_item, module_item, value_item}
 use Rattle.wac_types.specs.Held.{part_at, items_under}
+use Rattle.wac_types.specs.Called.{Called}
 
 -- what an instance or a component lists under a name: its sort, and the number of its type
 pub data Item : Type 0 where
@@ -20,10 +21,10 @@ pub data Item : Type 0 where
   a_value : ℕ → Item
 
 pub data Node : Type 0 where
-  of_resource : ℕ → Node
+  of_resource : Called → Node
   of_primitive : PrimitiveType → Node
-  of_own : ℕ → Node
-  of_borrow : ℕ → Node
+  of_own : Called → Node
+  of_borrow : Called → Node
   of_record : List (Name × ℕ) → Node
   of_variant : List (Name × Option ℕ) → Node
   of_list : ℕ → Node
@@ -86,11 +87,11 @@ mentions (of_instance exports) = types_of exports
 mentions (of_component imports exports) = types_of imports ++ types_of exports
 mentions (of_module imports exports) = []
 
-abbrev pub optional_tree : (ℕ → TypeTree ℕ) → Option ℕ → TypeTree ℕ
+abbrev pub optional_tree : (ℕ → TypeTree Called) → Option ℕ → TypeTree Called
 optional_tree t None = absent
 optional_tree t (Some n) = t n
 
-abbrev pub item_tree : (ℕ → TypeTree ℕ) → Item → TypeTree ℕ
+abbrev pub item_tree : (ℕ → TypeTree Called) → Item → TypeTree Called
 item_tree t (a_type n) = type_equal (t n)
 item_tree t (a_func n) = function_item (t n)
 item_tree t (an_instance n) = instance_item (t n)
@@ -98,7 +99,7 @@ item_tree t (a_component n) = component_item (t n)
 item_tree t (a_module n) = module_item (t n)
 item_tree t (a_value n) = value_item (t n)
 
-abbrev pub listed_tree : (ℕ → TypeTree ℕ) → List (Name × Item) → Name → TypeTree ℕ
+abbrev pub listed_tree : (ℕ → TypeTree Called) → List (Name × Item) → Name → TypeTree Called
 listed_tree t es = items_under (map (λ e. (e.0, item_tree t e.1)) es)
 
 -- the core item under a name, and under two
@@ -108,8 +109,8 @@ core_under es n = option_case (find_name es n) no_item (λ x. x)
 abbrev pub core_under_both : List (Name × List (Name × CoreItem)) → Name → Name → CoreItem
 core_under_both ms m = option_case (find_name ms m) (λ n. no_item) core_under
 
--- the tree of a node, given those of the nodes that it mentions; resources go by their numbers
-abbrev pub node_tree : (ℕ → TypeTree ℕ) → Node → TypeTree ℕ
+-- the tree of a node, given those of the nodes that it mentions
+abbrev pub node_tree : (ℕ → TypeTree Called) → Node → TypeTree Called
 node_tree t (of_resource r) = resource r
 node_tree t (of_primitive p) = primitive p
 node_tree t (of_own r) = own r
@@ -131,12 +132,12 @@ node_tree t (of_component imports exports) = component (listed_tree t imports) (
 node_tree t (of_module imports exports) = module_of (core_under_both imports) (core_under exports)
 
 -- as many nodes deep as the number says
-abbrev pub tree_to : ℕ → List Node → ℕ → TypeTree ℕ
+abbrev pub tree_to : ℕ → List Node → ℕ → TypeTree Called
 tree_to zero ns i = absent
 tree_to (suc k) ns i = option_case (slice_get ns i) absent (node_tree (tree_to k ns))
 
 -- the tree of the node of a number
-abbrev pub tree_at : List Node → ℕ → TypeTree ℕ
+abbrev pub tree_at : List Node → ℕ → TypeTree Called
 tree_at ns i = tree_to (suc i) ns i
 
 -- each name comes before those behind it, byte by byte

@@ -17,10 +17,12 @@
 
 mod aggregator;
 mod asked;
+mod called;
 mod classes;
 mod entry;
 pub mod laws;
 mod nodes;
+mod scopes;
 #[cfg(test)]
 mod tests;
 

@@ -1,9 +1,10 @@
 //! Types as nodes of a table, each once.
-ghost use Rattle.std.specs.Prelude.{◌≡◌, ◌<◌, ℕ, [], length, OnOk, OnErr, IfOk};
+ghost use Rattle.std.specs.Prelude.{◌≡◌, ◌<◌, ℕ, [], length, Some, slice_get, OnOk, OnErr, IfOk};
 ghost use Rattle.std.specs.List.{AllByRecursion};
-ghost use Rattle.wac_merge.specs.Nodes.{mentions, tree_at, Added, IsSorted};
+ghost use Rattle.wac_merge.specs.Nodes.{mentions, tree_at, Added, IsSorted, IsTable};
 ghost use Rattle.wac_merge.specs.NodeViews.{node_view};
 
+use crate::called::Called;
 use indexmap::IndexSet;
 use std::alloc::{AllocError, Global};
 use std::marker::Model;
@@ -41,17 +42,17 @@ pub(crate) enum Core {
     Tag(Vec<CoreType>, Vec<CoreType>),
 }
 
-/// A type that mentions other types by their numbers in a table, and resources by numbers of their own.
+/// A type that mentions other types by their numbers in a table.
 #[derive(PartialEq, Eq, Hash, Drop)]
 pub(crate) enum Node {
     /// A resource.
-    Resource(usize),
+    Resource(Called),
     /// A primitive.
     Primitive(PrimitiveType),
     /// A handle to a resource that is owned.
-    Own(usize),
+    Own(Called),
     /// A handle to a resource that is lent.
-    Borrow(usize),
+    Borrow(Called),
     /// Fields under names.
     Record(Vec<(String, usize)>),
     /// Cases under names.
@@ -117,6 +118,21 @@ impl Nodes {
         ensures { (i j : ℕ) → i < length self.now → j < length self.now → tree_at self.now i ≡ tree_at self.now j → i ≡ j }
     {
         let _ = &self.nodes;
+    }
+
+    /// The law of all tables: each node is sorted, mentions lower ones, and stands once.
+    pub(crate) fn table_law(&self)
+        ensures { IsTable self.now }
+    {
+        let _ = &self.nodes;
+    }
+
+    /// The node of a number.
+    pub(crate) fn node(&self, number: usize) -> &Node
+        requires { number < length self.now }
+        ensures { slice_get self.now number ≡ Some (node_view result.now) }
+    {
+        self.nodes.get_index(number).unwrap()
     }
 
     /// The number of a node, which is put behind the others where it is not there. Where memory runs out nothing has changed.

@@ -1,5 +1,5 @@
--- Chains of aliases, followed a step at a time.
-use Rattle.std.proofs.Common.{ℕ, zero, suc, true, ◌≡◌, ◌<◌, ◌≤◌, ◌+◌, ◌-◌, refl, ap, sym, ◌∙◌, subst, Option, Some, None, arith, slice_get}
+-- Chains of aliases.
+use Rattle.std.proofs.Common.{ℕ, zero, suc, true, ◌≡◌, ◌<◌, refl, ap, sym, subst, Option, Some, None, arith, slice_get}
 use Rattle.wac_types.specs.Name.{option_case}
 use Rattle.wac_types.specs.declared.collection.Held.{Held}
 use Rattle.wac_types.specs.declared.component.ResourceId.{ResourceId}
@@ -8,7 +8,7 @@ use Rattle.wac_types.specs.declared.component.DefinedType.TheVariants as def
 use Rattle.wac_types.specs.declared.component.DefinedTypeId.{DefinedTypeId}
 use Rattle.wac_types.specs.declared.component.ValueType.{ValueType}
 use Rattle.wac_types.specs.declared.component.ValueType.TheVariants as val
-use Rattle.wac_types.specs.Collection.{Collection, size, IsWellFormed, IsValueBefore, AddedBefore, AreBefore, holds_value, defined_mentions, item_of}
+use Rattle.wac_types.specs.Collection.{Collection, IsWellFormed, IsValueBefore, AddedBefore, AreBefore, holds_value, defined_mentions, item_of}
 use Rattle.wac_types.specs.Held.{resolved_in, source_of}
 use Rattle.wac_types.specs.Aliases.{aliased, target_of, value_resolved_in}
 use Rattle.wac_types.proofs.Growth.{value_more, value_within, added_within}
@@ -18,30 +18,9 @@ pub resource_ends : (n : ℕ) (c : Collection) (r : ResourceId) → source_of (s
 resource_ends zero c r none = refl
 resource_ends (suc n) c r none = ap (λ o. option_case o r (λ source. resolved_in n c source)) none
 
--- one step further along, of as many as are left
-pub resource_goes : (c : Collection) (r s e : ResourceId) (most k : ℕ) → k < most → source_of (slice_get c.resources r.0) ≡ Some s → resolved_in (most - k) c r ≡ e → resolved_in (most - (k + 1)) c s ≡ e
-resource_goes c r s e most k lt some h =
-    let steps : most - k ≡ suc (most - (k + 1)) = omega arith in
-    sym (ap (λ m. resolved_in m c r) steps ∙ ap (λ o. option_case o r (λ source. resolved_in (most - (k + 1)) c source)) some) ∙ h
-
-pub resource_stops : (c : Collection) (r e : ResourceId) (most k : ℕ) → most ≤ k → resolved_in (most - k) c r ≡ e → r ≡ e
-resource_stops c r e most k le h =
-    let steps : most - k ≡ zero = omega arith in
-    sym (ap (λ m. resolved_in m c r) steps) ∙ h
-
 pub value_ends : (n : ℕ) (c : Collection) (v : ValueType) → target_of c v ≡ None → value_resolved_in n c v ≡ v
 value_ends zero c v none = refl
 value_ends (suc n) c v none = ap (λ o. option_case o v (λ target. value_resolved_in n c target)) none
-
-pub value_goes : (c : Collection) (v t e : ValueType) (most k : ℕ) → k < most → target_of c v ≡ Some t → value_resolved_in (most - k) c v ≡ e → value_resolved_in (most - (k + 1)) c t ≡ e
-value_goes c v t e most k lt some h =
-    let steps : most - k ≡ suc (most - (k + 1)) = omega arith in
-    sym (ap (λ m. value_resolved_in m c v) steps ∙ ap (λ o. option_case o v (λ target. value_resolved_in (most - (k + 1)) c target)) some) ∙ h
-
-pub value_stops : (c : Collection) (v e : ValueType) (most k : ℕ) → most ≤ k → value_resolved_in (most - k) c v ≡ e → v ≡ e
-value_stops c v e most k le h =
-    let steps : most - k ≡ zero = omega arith in
-    sym (ap (λ m. value_resolved_in m c v) steps) ∙ h
 
 -- a definition that is another name for a type is an alias of it
 pub alias_is : (x : DefinedType) (t : ValueType) → aliased x ≡ Some t → x ≡ def.Alias t
@@ -95,29 +74,6 @@ first_ends c wf (val.Own r) t b some = cc
 first_ends c wf (val.Borrow r) t b some = cc
 first_ends c wf (val.Defined d) t b some = none_first _ b
 
--- where a loop over a chain has come
-pub record Follows (c : Collection) (value reached : ValueType) (k : ℕ) : Type 0 where
-  pub same : value_resolved_in (size c - k) c reached ≡ value_resolved_in (size c) c value
-  pub held : holds_value c reached ≡ holds_value c value
-  pub early : holds_value c reached ≡ true → IsValueBefore c (size c - k) reached
-
-pub follows_on : (c : Collection) → IsWellFormed c → (value reached t : ValueType) (k : ℕ) → k < size c → target_of c reached ≡ Some t → Follows c value reached k → Follows c value t (k + 1)
-follows_on c wf value reached t k lt some f =
-    let l = leads c wf reached t some in
-    let steps : size c - k ≡ suc (size c - (k + 1)) = omega arith in
-    let P : ℕ → Type 0 = λ n. IsValueBefore c n reached in
-    record {
-      same = value_goes c reached t _ (size c) k lt some f.same;
-      held = l.to_held ∙ sym l.from_held ∙ f.held;
-      early = λ h. l.earlier (size c - (k + 1)) (subst P steps (f.early l.from_held));
-    }
-
 pub no_target : (c : Collection) → IsWellFormed c → (v : ValueType) → (holds_value c v ≡ true → IsValueBefore c zero v) → (o : Option ValueType) → target_of c v ≡ o → target_of c v ≡ None
 no_target c wf v early None e = e
 no_target c wf v early (Some t) e = absurd (first_ends c wf v t (early (leads c wf v t e).from_held) e)
-
-pub follows_end : (c : Collection) → IsWellFormed c → (value reached : ValueType) (k : ℕ) → size c ≤ k → Follows c value reached k → target_of c reached ≡ None
-follows_end c wf value reached k le f =
-    let steps : size c - k ≡ zero = omega arith in
-    let P : ℕ → Type 0 = λ n. IsValueBefore c n reached in
-    no_target c wf reached (λ h. subst P steps (f.early h)) _ refl

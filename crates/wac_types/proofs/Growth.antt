@@ -13,7 +13,7 @@ use Rattle.wac_types.specs.declared.component.ValueType.{ValueType}
 use Rattle.wac_types.specs.declared.component.ValueType.TheVariants as val
 use Rattle.wac_types.specs.declared.component.«Type».{«Type» as AnyType}
 use Rattle.wac_types.specs.declared.component.«Type».TheVariants as ty
-use Rattle.wac_types.specs.Collection.{Collection, size, Each, IsWellFormed, IsBefore, IsValueBefore, AddedBefore, AreBefore, IsSourceBelow, resource_mentions, func_mentions, defined_mentions, interface_mentions, world_mentions, alias_types, holds_value, holds_type, holds_all, with_resource, with_func, with_defined, with_interface, with_world, with_module}
+use Rattle.wac_types.specs.Collection.{Collection, size, Each, IsWellFormed, IsBefore, IsValueBefore, AddedBefore, AreBefore, IsSourceBelow, IsPartBelow, defined_values, value_types, resource_mentions, func_mentions, defined_mentions, interface_mentions, world_mentions, alias_types, holds_value, holds_type, holds_all, with_resource, with_func, with_defined, with_interface, with_world, with_module}
 
 -- what stood in a list stands there when it has grown
 pub get_grown : {A : Type 0} (xs : List A) (y : A) (i : ℕ) (x : A) → slice_get xs i ≡ Some x → slice_get (xs ++ y ∷ []) i ≡ Some x
@@ -228,6 +228,28 @@ source_within : (c : Collection) (a : Option ResourceAlias) → holds_all c (ali
 source_within c None h = tt
 source_within c (Some a) h = grind arith
 
+-- the parts of definitions stand below
+parts_grown : (xs : List (Held DefinedType)) (y : Held DefinedType) → ((i : ℕ) (h : Held DefinedType) → slice_get xs i ≡ Some h → AllByRecursion (IsPartBelow i) (defined_values h.item))
+    → AllByRecursion (IsPartBelow (length xs)) (defined_values y.item)
+    → (i : ℕ) (h : Held DefinedType) → slice_get (xs ++ y ∷ []) i ≡ Some h → AllByRecursion (IsPartBelow i) (defined_values h.item)
+parts_grown xs y each new i h is = elim (get_where xs y i h is) [
+  | inl old ↦ each i h old
+  | inr e ↦ let P : Held DefinedType → Type 0 = λ x. AllByRecursion (IsPartBelow i) (defined_values x.item) in let Q : ℕ → Type 0 = λ j. AllByRecursion (IsPartBelow j) (defined_values y.item) in subst P e.1 (subst Q (sym e.0) new)
+]
+
+part_within : (c : Collection) (v : ValueType) → holds_value c v ≡ true → IsPartBelow (length c.defined) v
+part_within c (val.Primitive p) h = tt
+part_within c (val.Own r) h = tt
+part_within c (val.Borrow r) h = tt
+part_within c (val.Defined d) h = grind arith
+
+parts_within : (c : Collection) (vs : List ValueType) → holds_all c (value_types vs) ≡ true → AllByRecursion (IsPartBelow (length c.defined)) vs
+parts_within c [] h = tt
+parts_within c (v ∷ vs) h =
+    let first : holds_value c v ≡ true = grind arith in
+    let rest : holds_all c (value_types vs) ≡ true = grind arith in
+    (part_within c v first, parts_within c vs rest)
+
 pub resource_well_formed : (c : Collection) → IsWellFormed c → (x : Resource) → holds_all c (resource_mentions x) ≡ true → IsWellFormed (with_resource c x)
 resource_well_formed c wf x h =
     let d = with_resource c x in
@@ -240,6 +262,7 @@ resource_well_formed c wf x h =
       worlds = each_more _ _ _ wf.worlds (still c d g world_mentions);
       modules = each_more _ _ _ wf.modules (λ y lt. omega (arith, lt, g.grew));
       sources = sources_grown c.resources _ wf.sources (source_within c x.alias h);
+      parts = wf.parts;
     }
 
 pub func_well_formed : (c : Collection) → IsWellFormed c → (x : FuncType) → holds_all c (func_mentions x) ≡ true → IsWellFormed (with_func c x)
@@ -254,6 +277,7 @@ func_well_formed c wf x h =
       worlds = each_more _ _ _ wf.worlds (still c d g world_mentions);
       modules = each_more _ _ _ wf.modules (λ y lt. omega (arith, lt, g.grew));
       sources = wf.sources;
+      parts = wf.parts;
     }
 
 pub defined_well_formed : (c : Collection) → IsWellFormed c → (x : DefinedType) → holds_all c (defined_mentions x) ≡ true → IsWellFormed (with_defined c x)
@@ -268,6 +292,7 @@ defined_well_formed c wf x h =
       worlds = each_more _ _ _ wf.worlds (still c d g world_mentions);
       modules = each_more _ _ _ wf.modules (λ y lt. omega (arith, lt, g.grew));
       sources = wf.sources;
+      parts = parts_grown c.defined _ wf.parts (parts_within c (defined_values x) h);
     }
 
 pub interface_well_formed : (c : Collection) → IsWellFormed c → (x : Interface) → holds_all c (interface_mentions x) ≡ true → IsWellFormed (with_interface c x)
@@ -282,6 +307,7 @@ interface_well_formed c wf x h =
       worlds = each_more _ _ _ wf.worlds (still c d g world_mentions);
       modules = each_more _ _ _ wf.modules (λ y lt. omega (arith, lt, g.grew));
       sources = wf.sources;
+      parts = wf.parts;
     }
 
 pub world_well_formed : (c : Collection) → IsWellFormed c → (x : World) → holds_all c (world_mentions x) ≡ true → IsWellFormed (with_world c x)
@@ -296,6 +322,7 @@ world_well_formed c wf x h =
       worlds = each_grown _ _ _ _ wf.worlds (still c d g world_mentions) (newly c d wf g world_mentions x h);
       modules = each_more _ _ _ wf.modules (λ y lt. omega (arith, lt, g.grew));
       sources = wf.sources;
+      parts = wf.parts;
     }
 
 pub module_well_formed : (c : Collection) → IsWellFormed c → (x : ModuleType) → IsWellFormed (with_module c x)
@@ -310,4 +337,5 @@ module_well_formed c wf x =
       worlds = each_more _ _ _ wf.worlds (still c d g world_mentions);
       modules = each_grown _ _ _ _ wf.modules (λ y lt. omega (arith, lt, g.grew)) g.grew;
       sources = wf.sources;
+      parts = wf.parts;
     }

@@ -3,6 +3,7 @@ pub mod Growth
 pub mod Loops
 pub mod Mentioned
 pub mod Chains
+pub mod Ends
 pub mod Steady
 pub mod Adding
 pub mod Ids

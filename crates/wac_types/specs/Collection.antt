@@ -239,6 +239,11 @@ abbrev pub IsSourceBelow : ℕ → Option ResourceAlias → Type 0
 IsSourceBelow i None = Unit {0}
 IsSourceBelow i (Some a) = a.source.0 < i
 
+-- a value type is no definition at this position or behind it
+abbrev pub IsPartBelow : ℕ → ValueType → Type 0
+IsPartBelow i (val.Defined d) = d.0 < i
+IsPartBelow i v = Unit {0}
+
 -- every item mentions only items added before it
 pub record IsWellFormed (c : Collection) : Type 0 where
   pub resources : Each c.resources (λ h. (h.before < size c) × AreBefore c h.before (resource_mentions h.item))
@@ -248,3 +253,4 @@ pub record IsWellFormed (c : Collection) : Type 0 where
   pub worlds : Each c.worlds (λ h. (h.before < size c) × AreBefore c h.before (world_mentions h.item))
   pub modules : Each c.modules (λ h. h.before < size c)
   pub sources : (i : ℕ) (h : Held Resource) → slice_get c.resources i ≡ Some h → IsSourceBelow i h.item.alias
+  pub parts : (i : ℕ) (h : Held DefinedType) → slice_get c.defined i ≡ Some h → AllByRecursion (IsPartBelow i) (defined_values h.item)

@@ -5,9 +5,11 @@ pub mod Tree
 pub mod Collection
 pub mod Held
 pub mod Bound
+pub mod Called
 pub mod Aliases
 pub mod Uses
 pub mod Lawful
+pub mod Ends
 pub mod Interfaces
 pub mod Words
 pub mod Subtype

@@ -1,46 +1,18 @@
 //! The types at the ends of aliases.
-ghost use Rattle.std.specs.Prelude.{◌≡◌, None, slice_get};
+ghost use Rattle.std.specs.Prelude.{◌≡◌, None};
 ghost use Rattle.wac_types.specs.Collection.{holds_value};
-ghost use Rattle.wac_types.specs.Held.{resolved, source_of};
+ghost use Rattle.wac_types.specs.Held.{resolved};
 ghost use Rattle.wac_types.specs.Aliases.{target_of, value_resolved, handle_resolved, type_resolved};
 
 use crate::collection::Types;
-use crate::component::{DefinedType, ResourceId, Type, ValueType};
+use crate::component::{ResourceId, Type, ValueType};
 
 impl Types {
-    // The resource that a resource is an alias of, where it is one.
-    fn source(&self, id: ResourceId) -> Option<ResourceId>
-        ensures { result ≡ source_of (slice_get self.now.resources id.0) }
-    {
-        let alias = self.find_resource(id)?.alias?;
-        Some(alias.source)
-    }
-
     /// The resource at the end of the aliases; the resource itself where it is none.
     pub fn resolve_resource(&self, id: ResourceId) -> ResourceId
         ensures { result ≡ resolved self.now id }
     {
-        let mut reached = id;
-        for _ in 0..self.resource_count() {
-            match self.source(reached) {
-                Some(source) => reached = source,
-                None => return reached,
-            }
-        }
-        reached
-    }
-
-    // What a value type is another name for, where it is an alias.
-    fn target(&self, value: ValueType) -> Option<ValueType>
-        ensures { result ≡ target_of self.now value }
-    {
-        match value {
-            ValueType::Defined(id) => match self.find_defined(id)? {
-                DefinedType::Alias(target) => Some(*target),
-                _ => None,
-            },
-            _ => None,
-        }
+        self.resource_end(id)
     }
 
     /// The value type at the end of the aliases: held where the first is, and never an alias.
@@ -50,14 +22,7 @@ impl Types {
         ensures no_alias { target_of self.now result ≡ None }
     {
         self.law();
-        let mut reached = value;
-        for _ in 0..self.count() {
-            match self.target(reached) {
-                Some(target) => reached = target,
-                None => return reached,
-            }
-        }
-        reached
+        self.value_end(value)
     }
 
     // A type at the ends of its aliases.

@@ -2,6 +2,9 @@
 ghost use Rattle.std.specs.Prelude.{◌≡◌, length, Some, None, IfOk, OnErr};
 ghost use Rattle.std.specs.Option.{option_copied};
 ghost use Rattle.wac_types.specs.Collection.{IsWellFormed, empty, size, func_mentions, resource_mentions, defined_mentions, holds_value, holds_type, with_resource, with_func, with_defined, with_interface, with_world, with_module, item_at};
+ghost use Rattle.wac_types.specs.Held.{resolved};
+ghost use Rattle.wac_types.specs.Aliases.{value_resolved};
+ghost use Rattle.wac_types.specs.declared.component.ValueType.TheVariants as val;
 ghost use Rattle.wac_types.specs.Uses.{AnswersBy, mention_fault, interface_fault, world_fault, IsSound};
 
 use crate::component::{
@@ -51,8 +54,12 @@ pub struct Held<T> {
 pub struct Types {
     alloc: Global,
     resources: Vec<Held<Resource>>,
+    /// For each resource the one at the end of its aliases.
+    resource_ends: Vec<ResourceId>,
     funcs: Vec<Held<FuncType>>,
     defined: Vec<Held<DefinedType>>,
+    /// For each definition the value type at the end of its aliases.
+    value_ends: Vec<ValueType>,
     interfaces: Vec<Held<Interface>>,
     worlds: Vec<Held<World>>,
     modules: Vec<Held<ModuleType>>,
@@ -60,7 +67,7 @@ pub struct Types {
 
 impl Model for Types {
     ghost use Rattle.wac_types.specs.Collection.{Collection};
-    ghost use Rattle.wac_types.specs.Lawful.{IsLawful};
+    ghost use Rattle.wac_types.specs.Ends.{HasEnds};
 
     ghost Value = { Collection };
 
@@ -73,14 +80,14 @@ impl Model for Types {
       modules = t.modules.items;
     } };
 
-    ghost invariant = { λ t. IsLawful (record {
+    ghost invariant = { λ t. HasEnds (record {
       resources = t.resources.items;
       funcs = t.funcs.items;
       defined = t.defined.items;
       interfaces = t.interfaces.items;
       worlds = t.worlds.items;
       modules = t.modules.items;
-    }) };
+    }) t.resource_ends.items t.value_ends.items };
 }
 
 impl Types {
@@ -91,8 +98,10 @@ impl Types {
         Types {
             alloc,
             resources: Vec::new(alloc),
+            resource_ends: Vec::new(alloc),
             funcs: Vec::new(alloc),
             defined: Vec::new(alloc),
+            value_ends: Vec::new(alloc),
             interfaces: Vec::new(alloc),
             worlds: Vec::new(alloc),
             modules: Vec::new(alloc),
@@ -165,15 +174,21 @@ impl Types {
         if !self.contains_alias(&resource) {
             return Err(AddTypeError::NotHeld);
         }
-        let id = self.resources.len();
+        let id = ResourceId(self.resources.len());
         let before = self.count();
-        match self.resources.push(Held {
+        let end = match resource.alias {
+            Some(alias) => self.resource_end(alias.source),
+            None => id,
+        };
+        let held = Held {
             item: resource,
             before,
-        }) {
-            Ok(()) => Ok(ResourceId(id)),
-            Err(_) => Err(AddTypeError::OutOfMemory),
+        };
+        if self.resource_ends.reserve(1).is_err() || self.resources.push(held).is_err() {
+            return Err(AddTypeError::OutOfMemory);
         }
+        self.resource_ends.push(end).unwrap();
+        Ok(id)
     }
 
     /// Adds a function type. Answers `NotHeld` where it mentions an id that isn't held, and `OutOfMemory` where memory ran out; then nothing has changed.
@@ -202,15 +217,21 @@ impl Types {
         if !self.contains_defined(&defined) {
             return Err(AddTypeError::NotHeld);
         }
-        let id = self.defined.len();
+        let id = DefinedTypeId(self.defined.len());
         let before = self.count();
-        match self.defined.push(Held {
+        let end = match &defined {
+            DefinedType::Alias(target) => self.value_end(*target),
+            _ => ValueType::Defined(id),
+        };
+        let held = Held {
             item: defined,
             before,
-        }) {
-            Ok(()) => Ok(DefinedTypeId(id)),
-            Err(_) => Err(AddTypeError::OutOfMemory),
+        };
+        if self.value_ends.reserve(1).is_err() || self.defined.push(held).is_err() {
+            return Err(AddTypeError::OutOfMemory);
         }
+        self.value_ends.push(end).unwrap();
+        Ok(id)
     }
 
     /// Adds an interface. Answers the lowest error that stands against it, and `OutOfMemory` where memory ran out; then nothing has changed.
@@ -270,11 +291,34 @@ impl Types {
         }
     }
 
-    // How many resources there are.
-    pub(crate) fn resource_count(&self) -> usize
-        ensures { result ≡ length self.now.resources }
+    // The resource at the end of the aliases; the resource itself where it isn't held.
+    pub(crate) fn resource_end(&self, id: ResourceId) -> ResourceId
+        ensures { result ≡ resolved self.now id }
     {
-        self.resources.len()
+        match self.resource_ends.get(id.0) {
+            Some(end) => *end,
+            None => id,
+        }
+    }
+
+    // The value type at the end of the aliases; the value type itself where it isn't held.
+    pub(crate) fn value_end(&self, value: ValueType) -> ValueType
+        ensures { result ≡ value_resolved self.now value }
+    {
+        match value {
+            ValueType::Defined(id) => self.definition_end(id),
+            _ => value,
+        }
+    }
+
+    // The value type at the end of the aliases of a definition.
+    fn definition_end(&self, id: DefinedTypeId) -> ValueType
+        ensures { result ≡ value_resolved self.now (val.Defined id) }
+    {
+        match self.value_ends.get(id.0) {
+            Some(end) => *end,
+            None => ValueType::Defined(id),
+        }
     }
 
     // The interfaces, as they are held.

@@ -1,6 +1,7 @@
 //! Laws of subtyping and of the trees of held types, each given to the caller of a call that does nothing else.
 ghost use Rattle.std.specs.Prelude.{◌≡◌};
 ghost use Rattle.wac_types.specs.Bound.{by_place};
+ghost use Rattle.wac_types.specs.Called.{by_binding};
 ghost use Rattle.wac_types.specs.Subtype.{IsSubtype, by_name};
 ghost use Rattle.wac_types.specs.TreeLaws.{IsDeepEnough, AliasesAgree, GrowthKeepsTrees};
 
@@ -36,6 +37,7 @@ pub fn subtyping_is_transitive(
 pub fn trees_are_whole(types: &Types)
     ensures named { IsDeepEnough by_name types.now }
     ensures placed { IsDeepEnough (by_place types.now) types.now }
+    ensures bound { IsDeepEnough (by_binding types.now) types.now }
 {
     types.law();
 }
