@@ -27,3 +27,4 @@ pub mod ConflictLemmas
 pub mod WriteAliasLemmas
 pub mod WriteArgumentsLemmas
 pub mod Rows
+pub mod ImportRows

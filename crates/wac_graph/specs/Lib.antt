@@ -8,7 +8,9 @@ pub mod ExternName
 pub mod Steps
 pub mod Arguments
 pub mod Asked
+pub mod Imports
 pub mod Means
+pub mod ImportsLeft
 pub mod Encoding
 pub mod NotYet
 pub mod Cause

@@ -9,6 +9,7 @@ mod edges;
 mod encode;
 mod errors;
 mod graph;
+mod imports;
 mod names;
 mod node;
 mod order;
@@ -20,6 +21,7 @@ pub use errors::{
     RegisterPackageError,
 };
 pub use graph::CompositionGraph;
+pub use imports::Imports;
 pub use names::one_export_answer;
 pub use node::{Node, NodeId, NodeKind};
 pub use packages::PackageId;

@@ -1,11 +1,10 @@
 -- `==` tells names of resources apart by what they stand for.
-use Rattle.std.proofs.Common.{Global, ◌≡◌, ℕ, Bool, true, false, ◌&&◌, nat_eq, List, [], ◌∷◌, map, refl, ap, eq-eqb, rules}
+use Rattle.std.proofs.Common.{◌≡◌, true, nat_eq, [], refl, ap, eq-eqb}
 use Rattle.std.proofs.lemmas.Bool.{eqb-true}
 use Rattle.std.specs.Cmp.Lexicographic.{pointwise}
 use Rattle.std.specs.Prelude.{string_bytes}
-use Rattle.std.specs.declared.string.String.{String}
 use Rattle.wac_types.specs.Name.{Name}
-use Rattle.wac_types.specs.Tree.{Side, imported, exported, Place, position, named, Leaf}
+use Rattle.wac_types.specs.Tree.{imported, Place, position, named, Leaf}
 use Rattle.wac_types.specs.Called as spec
 use Rattle.wac_types.specs.declared.component.ResourceId.{ResourceId}
 use Rattle.wac_merge.specs.contracts.called.CalledPartialEq.TheImpl as CalledEq

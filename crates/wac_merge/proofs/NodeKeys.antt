@@ -1,11 +1,10 @@
 -- `==` tells nodes apart by what they stand for.
-use Rattle.std.proofs.Common.{subst, Global, Vec, ◌≡◌, ℕ, Bool, true, false, ◌&&◌, nat_eq, List, [], ◌∷◌, map, Option, Some, None, refl, ap, eq-eqb, rules}
+use Rattle.std.proofs.Common.{subst, Global, Vec, ◌≡◌, ℕ, Bool, true, false, ◌&&◌, nat_eq, List, map, Option, Some, None, refl, ap, eq-eqb, rules}
 use Rattle.std.proofs.lemmas.Bool.{eqb-true}
 use Rattle.std.specs.Cmp.Lexicographic.{pointwise, pointwise_decides, bytes_decides}
 use Rattle.std.specs.Bool.{beq}
 use Rattle.std.specs.Option.{option_eq}
 use Rattle.std.specs.Prelude.{string_bytes}
-use Rattle.std.specs.declared.string.String.{String}
 use denote.Enum.Bare.{same_true, true_same}
 use Rattle.wac_types.specs.Name.{Name}
 use Rattle.wac_types.specs.contracts.component.PrimitiveType.{the_type}

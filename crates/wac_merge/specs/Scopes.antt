@@ -55,7 +55,12 @@ abbrev pub IsBelow : ℕ → Option ℕ → Type 0
 IsBelow i None = Unit {0}
 IsBelow i (Some p) = p < i
 
--- The scopes of an item: first those that it opens itself, and for each scope those that its listed items open, in order, one after another from `first` on.
+-- where a scope comes from: the item itself at its own place, or what the scope around it lists
+abbrev pub ComesFrom : Collection → List Opener → List Scope → ℕ → Opener → Option ℕ → Type 0
+ComesFrom c roots ss i o None = slice_get roots i ≡ Some o
+ComesFrom c roots ss i o (Some p) = (t : Scope) × (j : ℕ) × (slice_get ss p ≡ Some t) × (slice_get (opened (listed_in c t.opener)) j ≡ Some o) × (i ≡ t.first + j)
+
+-- The scopes of an item, and no others: first those that it opens itself, and for each scope those that its listed items open, in order, one after another from `first` on.
 pub record AreScopes (c : Collection) (roots : List Opener) (ss : List Scope) : Type 0 where
   pub rooted : (j : ℕ) (o : Opener) → slice_get roots j ≡ Some o → (s : Scope) × (slice_get ss j ≡ Some s) × (s.opener ≡ o) × (s.parent ≡ None)
   pub nested : (i j : ℕ) (s : Scope) (o : Opener) → slice_get ss i ≡ Some s → slice_get (opened (listed_in c s.opener)) j ≡ Some o
@@ -63,6 +68,7 @@ pub record AreScopes (c : Collection) (roots : List Opener) (ss : List Scope) : 
   pub later : (i : ℕ) (s : Scope) → slice_get ss i ≡ Some s → i < s.first
   pub around : (i : ℕ) (s : Scope) → slice_get ss i ≡ Some s → IsBelow i s.parent
   pub held : (i : ℕ) (s : Scope) → slice_get ss i ≡ Some s → holds_type c (opener_type s.opener) ≡ true
+  pub known : (i : ℕ) (s : Scope) → slice_get ss i ≡ Some s → ComesFrom c roots ss i s.opener s.parent
 
 -- What resources are called in the scopes that an entry of a class opens: inside an instance of the class by the rule for that, else by what the scope binds or the class around it.
 abbrev pub called_in_root : NameRules → Collection → List Entry → Name → ItemKind → Opener → Names Called

@@ -38,6 +38,13 @@ impl Entry {
         self.name.as_str()
     }
 
+    /// The item.
+    pub(crate) fn kind(&self) -> ItemKind
+        ensures { result ≡ self.now.kind }
+    {
+        self.kind
+    }
+
     /// Whether it is an instance.
     pub(crate) fn is_instance(&self) -> bool
         ensures { result ≡ is_instance self.now.kind }

@@ -16,13 +16,23 @@
 #![tactic(auto)]
 
 mod aggregator;
+mod agreement;
+mod apart;
 mod asked;
+mod bindings;
+mod bound;
 mod called;
+mod circles;
 mod classes;
 mod entry;
 pub mod laws;
+mod naming;
 mod nodes;
+mod reach;
+#[cfg(test)]
+mod resting_tests;
 mod scopes;
+mod slots;
 #[cfg(test)]
 mod tests;
 
