@@ -290,6 +290,20 @@ impl Bench {
         Ok(self.graph.get_import_name(node) == Some(name))
     }
 
+    // The imports that the graph asks for, each with its name, what it is and, of an import node, the node.
+    pub fn asked(&self) -> Result<String, Fail> {
+        let mut rows = String::new(self.alloc);
+        for (name, kind, node) in self.graph.imports() {
+            let kind = kind.desc(self.graph.types());
+            let row = match node {
+                Some(node) => format!(in self.alloc; "{name}: {kind}, {node}; ")?,
+                None => format!(in self.alloc; "{name}: {kind}; ")?,
+            };
+            rows.push_str(row.as_str())?;
+        }
+        Ok(rows)
+    }
+
     // Whether the node at a place is exported by a name.
     pub fn exports(&self, place: usize, name: &str) -> bool {
         match self.nodes.get(place) {

@@ -151,6 +151,18 @@ const NAMES: &[(Call<'static>, &str)] = &[
     (Export(0, "x"), ""),
 ];
 
+// An import, and two instances of one package, of which the first is given the import as its argument `a`.
+const ASKED: &[(Call<'static>, &str)] = &[
+    (Import("x", Plain), "0"),
+    (
+        Register("my:package", &[("a", Plain), ("b", Instance)], &[]),
+        "",
+    ),
+    (Instantiate(0), "1"),
+    (Instantiate(0), "2"),
+    (Set(1, "a", 0), ""),
+];
+
 // What `encode` answers after the calls.
 fn encoded(
     rt: &(impl Abort + AllocGlobal),
@@ -178,6 +190,13 @@ fn described(
     let mut bench = Bench::new(rt.alloc());
     bench.calls(rt, calls)?;
     bench.described(rt, place)
+}
+
+// The imports that the graph asks for after the calls.
+fn asked(rt: &(impl Abort + AllocGlobal), calls: &[(Call<'_>, &str)]) -> Result<String, Fail> {
+    let mut bench = Bench::new(rt.alloc());
+    bench.calls(rt, calls)?;
+    bench.asked()
 }
 
 // Whether the node at a place is imported by a name after the calls.
@@ -293,5 +312,15 @@ fn ids_give_nodes_and_packages(rt: HostRuntime) -> Result<(), Fail> {
     assert!(rt; !exports(&rt, EXPORTED, 1, "a")?);
     assert!(rt; imports(&rt, NAMES, 0, "x")?);
     assert!(rt; imports(&rt, NAMES, 1, "unlocked-dep=<a:b>")?);
+    Ok(())
+}
+
+#[test]
+fn imports_are_asked_for_in_order(rt: HostRuntime) -> Result<(), Fail> {
+    let answer = asked(&rt, ASKED)?;
+    assert_eq!(rt;
+        answer.as_str(),
+        "b: instance; a: function; b: instance; x: function, 0; "
+    );
     Ok(())
 }
