@@ -28,3 +28,4 @@ pub mod WriteAliasLemmas
 pub mod WriteArgumentsLemmas
 pub mod Rows
 pub mod ImportRows
+pub mod ImportExample

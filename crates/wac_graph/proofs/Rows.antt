@@ -31,7 +31,7 @@ use Rattle.wac_graph.proofs.ThingLemmas.{IsPlain}
 use Rattle.wac_graph.proofs.EncodeLemmas.{AllSet, asked_none}
 
 -- two packages of the same bytes: the first exports the function `a`, the second imports the function `b`
-abbrev of_function : ItemKind
+abbrev pub of_function : ItemKind
 of_function = item.Func (record { 0 = 0 })
 
 abbrev types : Collection
@@ -57,7 +57,7 @@ instance_of_first = record { kind = graph.instantiation; item_kind = item.Instan
 abbrev alias_of_first : GraphNode
 alias_of_first = record { kind = graph.alias; item_kind = of_function; owner = Some first; name = None; export_name = None }
 
-abbrev instance_of_second : GraphNode
+abbrev pub instance_of_second : GraphNode
 instance_of_second = record { kind = graph.instantiation; item_kind = item.Instance (record { 0 = 1 }); owner = Some second; name = None; export_name = None }
 
 abbrev entries : List (ℕ × GraphNode)
@@ -67,7 +67,7 @@ abbrev edge_list : List Edge
 edge_list = alias_edge 0 1 0 ∷ argument_edge 1 2 0 ∷ []
 
 -- an instance of the first, its alias `a`, an instance of the second, to which the alias is given as `b`
-abbrev readme_graph : Graph
+abbrev pub readme_graph : Graph
 readme_graph = record {
   types = types;
   nodes = finite.from_entries entries;

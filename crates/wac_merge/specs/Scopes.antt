@@ -1,4 +1,4 @@
--- The scopes of an item, and what resources are called in each.
+-- The scopes of an item, and what resources are called in each. Private functions alone cite this.
 use Rattle.std.specs.Prelude.{ℕ, zero, suc, ◌+◌, ◌≡◌, ◌<◌, true, false, List, [], ◌∷◌, ◌++◌, map, Option, Some, None, slice_get}
 use Rattle.wac_types.specs.Name.{Name, option_case}
 use Rattle.wac_types.specs.Tree.{Leaf, TypeTree, instance}
