@@ -6,8 +6,8 @@ use Rattle.std.specs.FinSet as set
 use Rattle.std.specs.List.{flat_map, list_any}
 use Rattle.std.specs.Ordering.{nat_cmp, eq_by_cmp, is_eq}
 use Rattle.std.specs.Cmp.{nat_cmp_total, tied_itself}
-use Rattle.wac_types.specs.Name.{Name}
-use Rattle.wac_types.specs.declared.component.ItemKind.{ItemKind}
+use Rattle.wac_collection.specs.Name.{Name}
+use Rattle.wac_collection.specs.declared.component.ItemKind.{ItemKind}
 use Rattle.wac_graph.specs.declared.edges.Edge.{Edge}
 use Rattle.wac_graph.specs.declared.node.NodeId.{NodeId}
 use Rattle.wac_graph.specs.Edge.{edge_cmp}

@@ -9,10 +9,10 @@ use Rattle.std.specs.HashMap.{HashMap}
 use Rattle.std.specs.declared.hash.FoldHasher.{FoldHasher}
 use Rattle.std.specs.declared.hash.BuildHasherDefault.{BuildHasherDefault}
 use Rattle.slab.specs.Slab.{Slab, get, Updates}
-use Rattle.wac_types.specs.Name.{Name, find_name}
-use Rattle.wac_types.specs.Collection.{Collection, holds_type, kind_type}
-use Rattle.wac_types.specs.Package.{PackageParts, Key, same_key, HoldsPackage}
-use Rattle.wac_types.specs.declared.component.ItemKind.{ItemKind}
+use Rattle.wac_collection.specs.Name.{Name, find_name}
+use Rattle.wac_collection.specs.Collection.{Collection, holds_type, kind_type}
+use Rattle.wac_collection.specs.Package.{PackageParts, Key, same_key, HoldsPackage}
+use Rattle.wac_collection.specs.declared.component.ItemKind.{ItemKind}
 use Rattle.wac_graph.specs.declared.edges.Edge.{Edge}
 use Rattle.wac_graph.specs.declared.edges.Label.TheVariants as label
 use Rattle.wac_graph.specs.declared.node.Node.{Node}
@@ -27,7 +27,7 @@ use Rattle.wac_graph.specs.Sound.{IsSound}
 use Rattle.wac_graph.specs.Inside.{node_of, nodes_of, names_of, graph_of, Invariant, satisfied, satisfied_at, key_of}
 use Rattle.wac_graph.specs.Steps.{instance_node, import_node, alias_node}
 use Rattle.wac_graph.proofs.SoundLemmas.{by_eq, insert_same, insert_other, ImportIn, import_before, import_after, sound_import, Extends, sound_types, sound_slot, sound_node, sound_alias, sound_argument, sound_export, added_edge, kept_edge, new_edge, package_before, package_after}
-use Rattle.wac_types.specs.KeyLaws.{same_key-true, same_key_equiv}
+use Rattle.wac_collection.specs.KeyLaws.{same_key-true, same_key_equiv}
 use Rattle.indexmap.specs.IndexMap.{insert_entry}
 use Rattle.wac_graph.proofs.WrittenOrder.{eqb_same, slice_get-middle}
 use Rattle.std.proofs.lemmas.Bool.{eqb-true}

@@ -1,7 +1,7 @@
 -- What one more item adds to what items mean.
 use Rattle.std.proofs.Common.{◌≡◌, ℕ, zero, suc, ◌+◌, ◌<◌, List, [], ◌∷◌, ◌++◌, length, map, refl, ap, ◌∙◌, arith}
-use Rattle.wac_types.specs.Name.{Name}
-use Rattle.wac_types.specs.Tree.{Tree}
+use Rattle.wac_collection.specs.Name.{Name}
+use Rattle.wac_collection.specs.Tree.{Tree}
 use Rattle.wac_binary.specs.declared.sorts.Sort.{Sort}
 use Rattle.wac_binary.specs.declared.sorts.Sort.TheVariants as sort
 use Rattle.wac_binary.specs.Items.{Item, nested, instantiate, alias_item, export_alias, export_item}

@@ -6,10 +6,10 @@ use Rattle.std.specs.HashMap.{HashMap}
 use Rattle.std.specs.declared.hash.FoldHasher.{FoldHasher}
 use Rattle.std.specs.declared.hash.BuildHasherDefault.{BuildHasherDefault}
 use Rattle.slab.specs.Slab.{Slab, get, Updates}
-use Rattle.wac_types.specs.Package.{PackageParts, Key, same_key}
-use Rattle.wac_types.specs.KeyLaws.{same_key-true}
-use Rattle.wac_types.specs.declared.component.ItemKind.TheVariants.{Instance}
-use Rattle.wac_types.specs.declared.component.InterfaceId.{InterfaceId}
+use Rattle.wac_collection.specs.Package.{PackageParts, Key, same_key}
+use Rattle.wac_collection.specs.KeyLaws.{same_key-true}
+use Rattle.wac_collection.specs.declared.component.ItemKind.TheVariants.{Instance}
+use Rattle.wac_collection.specs.declared.component.InterfaceId.{InterfaceId}
 use Rattle.wac_graph.specs.declared.node.Node.{Node}
 use Rattle.wac_graph.specs.declared.packages.PackageId.{PackageId}
 use Rattle.wac_graph.specs.declared.packages.Slot.{Slot}

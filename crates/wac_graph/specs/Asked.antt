@@ -3,10 +3,10 @@ use Rattle.std.specs.Prelude.{ℕ, suc, Bool, false, not, ◌&&◌, ◌==◌, if
 use Rattle.std.specs.List.{flat_map, list_any}
 use Rattle.std.specs.FinMap as finite
 use Rattle.std.specs.FinSet as set
-use Rattle.wac_types.specs.Name.{Name, same_name}
-use Rattle.wac_types.specs.Tree.{imported, Tree, absent, instance, instance_item}
-use Rattle.wac_types.specs.Bound.{held_item}
-use Rattle.wac_types.specs.declared.component.ItemKind.{ItemKind}
+use Rattle.wac_collection.specs.Name.{Name, same_name}
+use Rattle.wac_collection.specs.Tree.{imported, Tree, absent, instance, instance_item}
+use Rattle.wac_collection.specs.Bound.{held_item}
+use Rattle.wac_collection.specs.declared.component.ItemKind.{ItemKind}
 use Rattle.wac_graph.specs.declared.edges.Label.{Label}
 use Rattle.wac_graph.specs.declared.edges.Label.TheVariants.{Argument}
 use Rattle.wac_graph.specs.declared.edges.Edge.{Edge}

@@ -1,8 +1,8 @@
 -- Why `encode` is refused.
 use Rattle.std.specs.Prelude.{ℕ, ◌≡◌, ◌≤◌, Option, Some, None, IsSomeAnd, slice_get, string_bytes}
-use Rattle.wac_types.specs.Name.{Name}
-use Rattle.wac_types.specs.Package.{Key}
-use Rattle.wac_types.specs.declared.component.ItemKind.{ItemKind}
+use Rattle.wac_collection.specs.Name.{Name}
+use Rattle.wac_collection.specs.Package.{Key}
+use Rattle.wac_collection.specs.declared.component.ItemKind.{ItemKind}
 use Rattle.wac_graph.specs.declared.encode.EncodeOptions.{EncodeOptions}
 use Rattle.wac_graph.specs.declared.errors.EncodeError.{EncodeError}
 use Rattle.wac_graph.specs.declared.errors.EncodeError.TheVariants as error

@@ -1,6 +1,6 @@
 -- What a graph gives by an id.
 use Rattle.std.specs.Prelude.{ℕ, ◌≡◌, true, Some, IsSome}
-use Rattle.wac_types.specs.Package.{PackageParts}
+use Rattle.wac_collection.specs.Package.{PackageParts}
 use Rattle.wac_graph.specs.declared.node.Node.{Node}
 use Rattle.wac_graph.specs.declared.node.NodeId.{NodeId}
 use Rattle.wac_graph.specs.declared.packages.PackageId.{PackageId}

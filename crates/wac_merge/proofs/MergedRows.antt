@@ -1,21 +1,21 @@
 -- Worked examples of merging, each decided by computing.
 use Rattle.std.specs.Prelude.{ℕ, ◌≡◌, Bool, false, nat_lt, List, [], ◌∷◌, Option, Some, None, refl}
 use Rattle.wac_names.specs.Track.{Track, whole, major}
-use Rattle.wac_types.specs.Name.{Name}
-use Rattle.wac_types.specs.Tree.{Tree, imported, exported, position, named, own, absent, fresh, function, function_item, type_equal, resource, items_in, type_in}
-use Rattle.wac_types.specs.Held.{part_at}
-use Rattle.wac_types.specs.Bound.{held_tree}
-use Rattle.wac_types.specs.Collection.{Collection}
-use Rattle.wac_types.specs.declared.collection.Held.{Held}
-use Rattle.wac_types.specs.declared.component.Resource.{Resource}
-use Rattle.wac_types.specs.declared.component.FuncType.{FuncType}
-use Rattle.wac_types.specs.declared.component.Interface.{Interface}
-use Rattle.wac_types.specs.declared.component.UsedType.{UsedType}
-use Rattle.wac_types.specs.declared.component.ItemKind.{ItemKind}
-use Rattle.wac_types.specs.declared.component.ItemKind.TheVariants as kind
-use Rattle.wac_types.specs.declared.component.ValueType.{ValueType}
-use Rattle.wac_types.specs.declared.component.ValueType.TheVariants as val
-use Rattle.wac_types.specs.declared.component.«Type».TheVariants as ty
+use Rattle.wac_collection.specs.Name.{Name}
+use Rattle.wac_collection.specs.Tree.{Tree, imported, exported, position, named, own, absent, fresh, function, function_item, type_equal, resource, items_in, type_in}
+use Rattle.wac_collection.specs.Held.{part_at}
+use Rattle.wac_collection.specs.Bound.{held_tree}
+use Rattle.wac_collection.specs.Collection.{Collection}
+use Rattle.wac_collection.specs.declared.collection.Held.{Held}
+use Rattle.wac_collection.specs.declared.component.Resource.{Resource}
+use Rattle.wac_collection.specs.declared.component.FuncType.{FuncType}
+use Rattle.wac_collection.specs.declared.component.Interface.{Interface}
+use Rattle.wac_collection.specs.declared.component.UsedType.{UsedType}
+use Rattle.wac_collection.specs.declared.component.ItemKind.{ItemKind}
+use Rattle.wac_collection.specs.declared.component.ItemKind.TheVariants as kind
+use Rattle.wac_collection.specs.declared.component.ValueType.{ValueType}
+use Rattle.wac_collection.specs.declared.component.ValueType.TheVariants as val
+use Rattle.wac_collection.specs.declared.component.«Type».TheVariants as ty
 use Rattle.wac_merge.specs.Classes.{Entry, NameRules, class_names, canonical}
 use Rattle.wac_merge.specs.Binding.{binding_class, root_bindings}
 use Rattle.wac_merge.specs.Union.{merged}

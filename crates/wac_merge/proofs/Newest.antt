@@ -4,8 +4,8 @@ use Rattle.std.proofs.Math.ListN.{set}
 use Rattle.std.proofs.lemmas.Bool.{cases_Bool}
 use Rattle.std.proofs.lemmas.List.{append-nil, take_all}
 use Rattle.std.proofs.lemmas.List.Elements.{filter-append}
-use Rattle.wac_types.specs.Name.{Name, find_name}
-use Rattle.wac_types.proofs.Names.{take_at}
+use Rattle.wac_collection.specs.Name.{Name, find_name}
+use Rattle.wac_collection.proofs.Names.{take_at}
 use Rattle.wac_merge.specs.Classes.{Entry, NameRules, by_names, is_asked, same_class, class_names, names_of_classes, newest, AreClasses}
 use Rattle.wac_merge.specs.Numbering.{AreFound, AreKeyed, AreNewest, HaveNumbers, IsNumbered, class_names_to, members_in}
 use Rattle.wac_merge.proofs.Lists.{push-cases, set-cases, some-at}

@@ -5,7 +5,7 @@ use Rattle.std.specs.Ordering.{ordering_reverse}
 use Rattle.std.specs.declared.cmp.Ordering.TheVariants.{Less, Equal, Greater}
 use Rattle.std.specs.Cmp.Lexicographic.{nat_list_cmp_total}
 use Rattle.std.specs.FinMap.{nat_cmp-IsAntisymmetric, slice_cmp-IsAntisymmetric}
-use Rattle.wac_types.specs.Name.{Name, find_name}
+use Rattle.wac_collection.specs.Name.{Name, find_name}
 use Rattle.wac_merge.specs.Nodes.{Sorted}
 use Rattle.wac_merge.specs.Shapes.{compare, AreBefore, AreBehind}
 use Rattle.wac_merge.proofs.Stepping.{less_cases}

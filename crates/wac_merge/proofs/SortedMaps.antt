@@ -7,10 +7,10 @@ use Rattle.std.specs.declared.cmp.Ordering.{Ordering}
 use Rattle.std.specs.declared.cmp.Ordering.TheVariants.{Less, Equal, Greater}
 use Rattle.std.specs.Cmp.Lexicographic.{slice_cmp, nat_list_cmp_total}
 use Rattle.std.specs.FinMap.{nat_cmp-IsAntisymmetric, slice_cmp-IsAntisymmetric}
-use Rattle.wac_types.specs.Name.{Name, same_name}
-use Rattle.wac_types.specs.Name.{find_name, option_case}
-use Rattle.wac_types.specs.Tree.{TypeTree, absent}
-use Rattle.wac_types.specs.Held.{items_under}
+use Rattle.wac_collection.specs.Name.{Name, same_name}
+use Rattle.wac_collection.specs.Name.{find_name, option_case}
+use Rattle.wac_collection.specs.Tree.{TypeTree, absent}
+use Rattle.wac_collection.specs.Held.{items_under}
 use Rattle.wac_merge.specs.Nodes.{Sorted}
 
 abbrev compare : Name → Name → Ordering

@@ -1,9 +1,9 @@
 -- What a finished merge holds.
 use Rattle.std.specs.Prelude.{ℕ, suc, ◌≡◌, ◌==◌, if◌then◌else◌, List, [], ◌∷◌, length, Some, slice_get}
-use Rattle.wac_types.specs.Name.{Name}
-use Rattle.wac_types.specs.Tree.{imported, position}
-use Rattle.wac_types.specs.Collection.{Collection}
-use Rattle.wac_types.specs.Bound.{held_item}
+use Rattle.wac_collection.specs.Name.{Name}
+use Rattle.wac_collection.specs.Tree.{imported, position}
+use Rattle.wac_collection.specs.Collection.{Collection}
+use Rattle.wac_collection.specs.Bound.{held_item}
 use Rattle.wac_merge.specs.Classes.{Entry, NameRules, class_names, canonical}
 use Rattle.wac_merge.specs.Binding.{root_bindings}
 use Rattle.wac_merge.specs.Union.{merged}

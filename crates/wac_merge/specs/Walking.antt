@@ -1,11 +1,11 @@
 -- What resources are called, as scopes are walked outwards. Private functions alone cite this.
 use Rattle.std.specs.Prelude.{ℕ, suc, ◌+◌, ◌≡◌, ◌≤◌, Bool, true, false, List, length, Option, Some, None, slice_get}
 use Rattle.std.specs.Option.{option_map}
-use Rattle.wac_types.specs.Tree.{imported, exported, Place, Leaf}
-use Rattle.wac_types.specs.Collection.{Collection}
-use Rattle.wac_types.specs.Held.{Names}
+use Rattle.wac_collection.specs.Tree.{imported, exported, Place, Leaf}
+use Rattle.wac_collection.specs.Collection.{Collection}
+use Rattle.wac_collection.specs.Held.{Names}
 use Rattle.wac_types.specs.Called.{Called, bound_at, of_class, itself, resource_name}
-use Rattle.wac_types.specs.declared.component.ResourceId.{ResourceId}
+use Rattle.wac_collection.specs.declared.component.ResourceId.{ResourceId}
 use Rattle.wac_merge.specs.declared.scopes.Opener.{Opener}
 use Rattle.wac_merge.specs.declared.scopes.Scope.{Scope}
 use Rattle.wac_merge.specs.Scopes.{binds, called_in}

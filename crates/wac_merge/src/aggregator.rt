@@ -1,6 +1,6 @@
 //! The collector of imports that are asked for.
 ghost use Rattle.std.specs.Prelude.{◌≡◌, ◌∷◌, ◌++◌, [], IfOk, true};
-ghost use Rattle.wac_types.specs.Collection.{holds_type, kind_type};
+ghost use Rattle.wac_collection.specs.Collection.{holds_type, kind_type};
 
 use crate::entry::Entry;
 use std::alloc::{AllocError, Global};

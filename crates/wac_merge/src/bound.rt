@@ -1,9 +1,9 @@
 //! What one scope binds: for each resource, where.
 ghost use Rattle.std.specs.Prelude.{◌≡◌, ◌<◌, [], true, Some, length, slice_get, IfOk, OnOk};
 ghost use Rattle.std.specs.Option.{option_copied, option_map};
-ghost use Rattle.wac_types.specs.Bound.{first_bound};
-ghost use Rattle.wac_types.specs.Collection.{holds_all, holds_type, kind_type, kind_types};
-ghost use Rattle.wac_types.specs.declared.component.ResourceId.{ResourceId as AnId};
+ghost use Rattle.wac_collection.specs.Bound.{first_bound};
+ghost use Rattle.wac_collection.specs.Collection.{holds_all, holds_type, kind_type, kind_types};
+ghost use Rattle.wac_collection.specs.declared.component.ResourceId.{ResourceId as AnId};
 ghost use Rattle.wac_merge.specs.CalledViews.{path_view, side_view};
 ghost use Rattle.wac_merge.specs.Places.{Adds, bound_by_instance, find_resource, given_path, leaf_at, only, own_at, own_resource, place_view, resource_itself, under};
 ghost use Rattle.wac_merge.specs.Scopes.{binds, opener_type};
@@ -74,8 +74,8 @@ pub(crate) struct Bound {
 
 impl Model for Bound {
     ghost use Rattle.std.specs.Prelude.{List};
-    ghost use Rattle.wac_types.specs.Tree.{Leaf};
-    ghost use Rattle.wac_types.specs.declared.component.ResourceId.{ResourceId};
+    ghost use Rattle.wac_collection.specs.Tree.{Leaf};
+    ghost use Rattle.wac_collection.specs.declared.component.ResourceId.{ResourceId};
     ghost use Rattle.wac_merge.specs.Places.{leaves};
 
     ghost Value = { List (ResourceId × Leaf) };

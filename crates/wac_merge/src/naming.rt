@@ -1,9 +1,9 @@
 //! What resources are called in the scopes of an item.
 ghost use Rattle.std.specs.Prelude.{ℕ, List, ◌≡◌, ◌+◌, ◌<◌, ◌^◌, length, Some, IfOk, slice_get, string_bytes};
 ghost use Rattle.wac_types.specs.Called.{resource_name};
-ghost use Rattle.wac_types.specs.Collection.{HasResource};
-ghost use Rattle.wac_types.specs.Held.{resolved};
-ghost use Rattle.wac_types.specs.Name.{Name};
+ghost use Rattle.wac_collection.specs.Collection.{HasResource};
+ghost use Rattle.wac_collection.specs.Held.{resolved};
+ghost use Rattle.wac_collection.specs.Name.{Name};
 ghost use Rattle.wac_merge.specs.Bindings.{AreBindings, first_in, path_in};
 ghost use Rattle.wac_merge.specs.CalledViews.{called_view, path_view};
 ghost use Rattle.wac_merge.specs.Classes.{by_names, class_names, is_instance};

@@ -1,19 +1,19 @@
 -- What the answers for two value types rest on.
 use Rattle.std.proofs.Common.{ℕ, zero, suc, Bool, true, List, [], ◌∷◌, ◌≡◌, ◌+◌, length, refl, ap, sym, ◌∙◌, subst, Option, Some, None, arith, nat_lt}
-use Rattle.wac_types.specs.Name.{Name, option_case}
+use Rattle.wac_collection.specs.Name.{Name, option_case}
 use Rattle.wac_types.specs.declared.checker.Question.{Question}
-use Rattle.wac_types.specs.declared.collection.Held.{Held}
-use Rattle.wac_types.specs.declared.component.ResourceId.{ResourceId}
-use Rattle.wac_types.specs.declared.component.PrimitiveType.{PrimitiveType}
-use Rattle.wac_types.specs.declared.component.DefinedTypeId.{DefinedTypeId}
-use Rattle.wac_types.specs.declared.component.DefinedType.{DefinedType}
-use Rattle.wac_types.specs.declared.component.DefinedType.TheVariants as def
-use Rattle.wac_types.specs.declared.component.ValueType.{ValueType}
-use Rattle.wac_types.specs.declared.component.ValueType.TheVariants as val
-use Rattle.wac_types.specs.declared.component.«Type».TheVariants as ty
-use Rattle.wac_types.specs.Collection.{Collection, IsWellFormed, defined_mentions, holds_type, item_at}
-use Rattle.wac_types.specs.Tree.{TypeTree, absent, primitive, own, borrow, resource}
-use Rattle.wac_types.specs.Held.{resolved, defined_tree}
+use Rattle.wac_collection.specs.declared.collection.Held.{Held}
+use Rattle.wac_collection.specs.declared.component.ResourceId.{ResourceId}
+use Rattle.wac_collection.specs.declared.component.PrimitiveType.{PrimitiveType}
+use Rattle.wac_collection.specs.declared.component.DefinedTypeId.{DefinedTypeId}
+use Rattle.wac_collection.specs.declared.component.DefinedType.{DefinedType}
+use Rattle.wac_collection.specs.declared.component.DefinedType.TheVariants as def
+use Rattle.wac_collection.specs.declared.component.ValueType.{ValueType}
+use Rattle.wac_collection.specs.declared.component.ValueType.TheVariants as val
+use Rattle.wac_collection.specs.declared.component.«Type».TheVariants as ty
+use Rattle.wac_collection.specs.Collection.{Collection, IsWellFormed, defined_mentions, holds_type, item_at}
+use Rattle.wac_collection.specs.Tree.{TypeTree, absent, primitive, own, borrow, resource}
+use Rattle.wac_collection.specs.Held.{resolved, defined_tree}
 use Rattle.wac_types.specs.Subtype.{resource_names, type_tree}
 use Rattle.wac_types.specs.Compare.{value_in, defined_in, aliased, alias_in}
 use Rattle.wac_types.specs.Questions.{in_order, type_rank, Settles, Asks, Refutes}

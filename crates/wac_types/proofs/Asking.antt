@@ -5,10 +5,10 @@ use Rattle.std.specs.List.{AllByRecursion, Contains, list_any}
 use Rattle.indexmap.specs.IndexSet.{insert_key}
 use Rattle.indexmap.proofs.CallerLemmas.{Contains-insert_key}
 use Rattle.wac_types.specs.declared.checker.Question.{Question}
-use Rattle.wac_types.specs.declared.component.«Type».{«Type» as AnyType}
-use Rattle.wac_types.specs.Name.{Name}
-use Rattle.wac_types.specs.Tree.{TypeTree}
-use Rattle.wac_types.specs.Collection.{Collection}
+use Rattle.wac_collection.specs.declared.component.«Type».{«Type» as AnyType}
+use Rattle.wac_collection.specs.Name.{Name}
+use Rattle.wac_collection.specs.Tree.{TypeTree}
+use Rattle.wac_collection.specs.Collection.{Collection}
 use Rattle.wac_types.specs.Subtype.{Sub, type_tree}
 use Rattle.wac_types.specs.Questions.{in_order, first_of_pair, second_of_pair, type_rank, rank, IsHeldQuestion, IsYes, IsAskedBelow, IsYesBelow, Settles, Asks, Puts}
 use Rattle.wac_types.proofs.Unfolding.{all_map, all_left, all_both, before_held, before_rank, Opens}

@@ -1,19 +1,19 @@
 -- What is asked of definitions and of function types, part by part.
 use Rattle.std.proofs.Common.{ℕ, suc, Bool, false, List, [], ◌∷◌, map, ◌≡◌, length, refl, ap, sym, ◌∙◌, subst, Option}
-use Rattle.wac_types.specs.Name.{Name}
+use Rattle.wac_collection.specs.Name.{Name}
 use Rattle.wac_types.specs.declared.checker.Question.{Question}
-use Rattle.wac_types.specs.declared.component.ValueType.{ValueType}
-use Rattle.wac_types.specs.declared.component.Variant.{Variant}
-use Rattle.wac_types.specs.declared.component.Record.{Record}
-use Rattle.wac_types.specs.declared.component.Flags.{Flags}
-use Rattle.wac_types.specs.declared.component.Enum.{Enum}
-use Rattle.wac_types.specs.declared.component.DefinedType.{DefinedType}
-use Rattle.wac_types.specs.declared.component.DefinedType.TheVariants as def
-use Rattle.wac_types.specs.declared.component.FuncType.{FuncType}
-use Rattle.wac_types.specs.declared.component.«Type».TheVariants as ty
-use Rattle.wac_types.specs.Collection.{Collection, seconds, and_maybe, case_values, value_types, func_mentions, defined_mentions, IsBefore}
-use Rattle.wac_types.specs.Tree.{TypeTree, absent, record_of, variant_of, list_of, fixed_list_of, tuple_of, flags_of, enum_of, option_of, result_of, stream_of, future_of, function}
-use Rattle.wac_types.specs.Held.{part_at}
+use Rattle.wac_collection.specs.declared.component.ValueType.{ValueType}
+use Rattle.wac_collection.specs.declared.component.Variant.{Variant}
+use Rattle.wac_collection.specs.declared.component.Record.{Record}
+use Rattle.wac_collection.specs.declared.component.Flags.{Flags}
+use Rattle.wac_collection.specs.declared.component.Enum.{Enum}
+use Rattle.wac_collection.specs.declared.component.DefinedType.{DefinedType}
+use Rattle.wac_collection.specs.declared.component.DefinedType.TheVariants as def
+use Rattle.wac_collection.specs.declared.component.FuncType.{FuncType}
+use Rattle.wac_collection.specs.declared.component.«Type».TheVariants as ty
+use Rattle.wac_collection.specs.Collection.{Collection, seconds, and_maybe, case_values, value_types, func_mentions, defined_mentions, IsBefore}
+use Rattle.wac_collection.specs.Tree.{TypeTree, absent, record_of, variant_of, list_of, fixed_list_of, tuple_of, flags_of, enum_of, option_of, result_of, stream_of, future_of, function}
+use Rattle.wac_collection.specs.Held.{part_at}
 use Rattle.wac_types.specs.Compare.{value_in, optional_in, func_in, defined_in, entry_in, case_in}
 use Rattle.wac_types.specs.Questions.{Asks, Refutes}
 use Rattle.wac_types.proofs.Values.{asks_now, asks_iff, asks_of, asks_then}

@@ -1,20 +1,20 @@
 -- Types that are looked into where they are mentioned: what is asked of their parts is asked of them.
 use Rattle.std.proofs.Common.{Bool, List, [], ◌∷◌, map, ◌≡◌, refl, ap, sym, ◌∙◌, subst, Some, arith}
-use Rattle.wac_types.specs.Name.{Name}
+use Rattle.wac_collection.specs.Name.{Name}
 use Rattle.wac_types.specs.declared.checker.Question.{Question}
-use Rattle.wac_types.specs.declared.component.FuncTypeId.{FuncTypeId}
-use Rattle.wac_types.specs.declared.component.FuncType.{FuncType}
-use Rattle.wac_types.specs.declared.component.Record.{Record}
-use Rattle.wac_types.specs.declared.component.DefinedType.{DefinedType}
-use Rattle.wac_types.specs.declared.component.DefinedType.TheVariants as def
-use Rattle.wac_types.specs.declared.component.ValueType.{ValueType}
-use Rattle.wac_types.specs.declared.component.ValueType.TheVariants as val
-use Rattle.wac_types.specs.declared.component.ItemKind.{ItemKind}
-use Rattle.wac_types.specs.declared.component.ItemKind.TheVariants as kind
-use Rattle.wac_types.specs.declared.component.«Type».{«Type» as AnyType}
-use Rattle.wac_types.specs.declared.component.«Type».TheVariants as ty
-use Rattle.wac_types.specs.Collection.{Collection, IsWellFormed, defined_mentions, func_mentions, item_at}
-use Rattle.wac_types.specs.Tree.{TypeTree, list_of, option_of, function_item}
+use Rattle.wac_collection.specs.declared.component.FuncTypeId.{FuncTypeId}
+use Rattle.wac_collection.specs.declared.component.FuncType.{FuncType}
+use Rattle.wac_collection.specs.declared.component.Record.{Record}
+use Rattle.wac_collection.specs.declared.component.DefinedType.{DefinedType}
+use Rattle.wac_collection.specs.declared.component.DefinedType.TheVariants as def
+use Rattle.wac_collection.specs.declared.component.ValueType.{ValueType}
+use Rattle.wac_collection.specs.declared.component.ValueType.TheVariants as val
+use Rattle.wac_collection.specs.declared.component.ItemKind.{ItemKind}
+use Rattle.wac_collection.specs.declared.component.ItemKind.TheVariants as kind
+use Rattle.wac_collection.specs.declared.component.«Type».{«Type» as AnyType}
+use Rattle.wac_collection.specs.declared.component.«Type».TheVariants as ty
+use Rattle.wac_collection.specs.Collection.{Collection, IsWellFormed, defined_mentions, func_mentions, item_at}
+use Rattle.wac_collection.specs.Tree.{TypeTree, list_of, option_of, function_item}
 use Rattle.wac_types.specs.Subtype.{Sub, type_tree, kind_tree}
 use Rattle.wac_types.specs.Compare.{value_in, entry_in, defined_in, definition_in, func_in}
 use Rattle.wac_types.specs.Questions.{Asks, Refutes}

@@ -1,20 +1,20 @@
 -- Laws of trees and of subtyping, which calls give to their callers.
 use Rattle.std.specs.Prelude.{ℕ, ◌≡◌, ◌<◌, true, Some, slice_get}
-use Rattle.wac_types.specs.Collection.{Collection, size, holds_type, with_resource, with_func, with_defined, with_interface, with_world, with_module}
-use Rattle.wac_types.specs.Held.{Naming, Names, unfolded, unfolded_to}
-use Rattle.wac_types.specs.Bound.{Bindings, held_tree}
+use Rattle.wac_collection.specs.Collection.{Collection, size, holds_type, with_resource, with_func, with_defined, with_interface, with_world, with_module}
+use Rattle.wac_collection.specs.Held.{Naming, Names, unfolded, unfolded_to}
+use Rattle.wac_collection.specs.Bound.{Bindings, held_tree}
 use Rattle.wac_types.specs.Subtype.{type_tree}
 use Rattle.wac_types.specs.Compare.{alias_in}
-use Rattle.wac_types.specs.declared.collection.Held.{Held}
-use Rattle.wac_types.specs.declared.component.Resource.{Resource}
-use Rattle.wac_types.specs.declared.component.FuncType.{FuncType}
-use Rattle.wac_types.specs.declared.component.DefinedType.{DefinedType}
-use Rattle.wac_types.specs.declared.component.Interface.{Interface}
-use Rattle.wac_types.specs.declared.component.World.{World}
-use Rattle.wac_types.specs.declared.core_types.ModuleType.{ModuleType}
-use Rattle.wac_types.specs.declared.component.ValueType.{ValueType}
-use Rattle.wac_types.specs.declared.component.«Type».{«Type» as AnyType}
-use Rattle.wac_types.specs.declared.component.«Type».TheVariants as ty
+use Rattle.wac_collection.specs.declared.collection.Held.{Held}
+use Rattle.wac_collection.specs.declared.component.Resource.{Resource}
+use Rattle.wac_collection.specs.declared.component.FuncType.{FuncType}
+use Rattle.wac_collection.specs.declared.component.DefinedType.{DefinedType}
+use Rattle.wac_collection.specs.declared.component.Interface.{Interface}
+use Rattle.wac_collection.specs.declared.component.World.{World}
+use Rattle.wac_collection.specs.declared.core_types.ModuleType.{ModuleType}
+use Rattle.wac_collection.specs.declared.component.ValueType.{ValueType}
+use Rattle.wac_collection.specs.declared.component.«Type».{«Type» as AnyType}
+use Rattle.wac_collection.specs.declared.component.«Type».TheVariants as ty
 
 -- an unfolding deeper than there are items is no other one
 abbrev pub IsDeepEnough : {L : Type 0} → Naming L → Collection → Type 0

@@ -1,22 +1,20 @@
 //! Subtyping between items of two collections.
 ghost use Rattle.std.specs.Prelude.{◌≡◌, ◌≢◌, ◌≤◌, ◌+◌, ◌↔◌, [], ◌∷◌, map, not, true, None, Err, IfOk, IsTrue};
 ghost use Rattle.std.specs.Option.{option_copied};
-ghost use Rattle.wac_types.specs.Name.{find_name};
-ghost use Rattle.wac_types.specs.Collection.{kind_type, kind_types, value_types, and_maybe, seconds, case_values, func_mentions, defined_mentions, world_mentions, holds_type};
-ghost use Rattle.wac_types.specs.Held.{core_item, resolved};
+ghost use Rattle.wac_collection.specs.Name.{find_name};
+ghost use Rattle.wac_collection.specs.Collection.{kind_type, kind_types, value_types, and_maybe, seconds, case_values, func_mentions, defined_mentions, world_mentions, holds_type};
+ghost use Rattle.wac_collection.specs.Held.{core_item, resolved};
 ghost use Rattle.wac_types.specs.Subtype.{Sub, IsSubtype, IsCoreSubtype, IsMaximumWithin, type_tree, kind_tree, resource_names};
 ghost use Rattle.wac_types.specs.Compare.{definition_in, value_in, optional_in, func_in, defined_in, world_in, entry_in, case_in, aliased, alias_in, IsTableSubtype, IsMemorySubtype, Offers, OffersCore, OffersModules};
 ghost use Rattle.wac_types.specs.Questions.{in_order, type_rank, Settles, Asks, Refutes, Puts};
-ghost use Rattle.wac_types.specs.declared.component.«Type».TheVariants as ty;
+ghost use Rattle.wac_collection.specs.declared.component.«Type».TheVariants as ty;
 
-use crate::collection::Types;
-use crate::component::{
-    DefinedType, FuncType, FuncTypeId, ItemKind, PrimitiveType, ResourceId, Type, ValueType, World,
-};
-use crate::core_types::{CoreExtern, CoreFuncType, CoreType, ModuleType};
-use crate::named::{Labels, Named};
 use indexmap::IndexSet;
 use thiserror::Error;
+use wac_collection::{
+    CoreExtern, CoreFuncType, CoreType, DefinedType, FuncType, FuncTypeId, ItemKind, Labels,
+    ModuleType, Named, PrimitiveType, ResourceId, Type, Types, ValueType, World,
+};
 
 /// Why an item is not known to be a subtype of another.
 #[derive(Clone, Copy, Debug, PartialEq, Eq, Error)]

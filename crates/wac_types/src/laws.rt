@@ -1,12 +1,11 @@
 //! Laws of subtyping and of the trees of held types, each given to the caller of a call that does nothing else.
 ghost use Rattle.std.specs.Prelude.{◌≡◌};
-ghost use Rattle.wac_types.specs.Bound.{by_place};
+ghost use Rattle.wac_collection.specs.Bound.{by_place};
 ghost use Rattle.wac_types.specs.Called.{by_binding};
 ghost use Rattle.wac_types.specs.Subtype.{IsSubtype, by_name};
 ghost use Rattle.wac_types.specs.TreeLaws.{IsDeepEnough, AliasesAgree, GrowthKeepsTrees};
 
-use crate::collection::Types;
-use crate::component::ItemKind;
+use wac_collection::{ItemKind, Types};
 
 /// Each item is a subtype of itself.
 pub fn subtyping_is_reflexive(types: &Types, item: ItemKind)

@@ -1,5 +1,5 @@
 use Rattle.std.proofs.Common.{ap, ◌∙◌}
-use Rattle.wac_types.specs.Package.{PackageParts}
+use Rattle.wac_collection.specs.Package.{PackageParts}
 use Rattle.wac_demo.proofs.Following.{stays-trans, world-stays, made-stays, registered-stays, registered-is}
 use Rattle.wac_demo.proofs.compositions.register.Goals as goal
 

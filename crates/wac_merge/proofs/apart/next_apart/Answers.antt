@@ -1,6 +1,6 @@
 use Rattle.std.proofs.Common.{◌≡◌, sym, ap, []}
-use Rattle.wac_types.specs.Name.{option_case}
-use Rattle.wac_types.specs.Collection.{interface_exports}
+use Rattle.wac_collection.specs.Name.{option_case}
+use Rattle.wac_collection.specs.Collection.{interface_exports}
 use Rattle.wac_merge.specs.NodeViews.{item_view, listed}
 use Rattle.wac_merge.proofs.Comparing.{open_sorted}
 use Rattle.wac_merge.proofs.Leading.{open_low, next_ok}

@@ -1,5 +1,5 @@
 use Rattle.std.proofs.Common.{◌<◌, List, ◌++◌, length, map, string_bytes}
-use Rattle.wac_types.specs.Name.{Name}
+use Rattle.wac_collection.specs.Name.{Name}
 use Rattle.wac_merge.specs.Nodes.{item_tree, tree_at, type_of}
 use Rattle.wac_merge.specs.NodeViews.{item_view}
 use Rattle.wac_merge.specs.Agreement.{LeadsApart}

@@ -1,5 +1,5 @@
 use Rattle.std.proofs.Common.{◌≡◌, take}
-use Rattle.wac_types.specs.declared.component.ResourceId.{ResourceId}
+use Rattle.wac_collection.specs.declared.component.ResourceId.{ResourceId}
 use Rattle.wac_merge.specs.Bindings.{first_from}
 use Rattle.wac_merge.specs.Places.{find_resource}
 use Rattle.wac_merge.proofs.bindings.first_classes.Given as goal

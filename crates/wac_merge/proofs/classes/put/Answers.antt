@@ -1,5 +1,5 @@
 use Rattle.std.proofs.Common.{Err, ap, ◌∙◌}
-use Rattle.wac_types.specs.Name.{find_name}
+use Rattle.wac_collection.specs.Name.{find_name}
 use Rattle.wac_merge.proofs.Numbers.{more-pushed, more-there, some-there}
 use Rattle.wac_merge.proofs.classes.put.Goals as goal
 

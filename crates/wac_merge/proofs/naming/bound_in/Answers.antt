@@ -1,6 +1,6 @@
 use Rattle.std.proofs.Common.{◌+◌, take, List, sym, subst}
-use Rattle.wac_types.specs.Tree.{Leaf}
-use Rattle.wac_types.specs.declared.component.ResourceId.{ResourceId}
+use Rattle.wac_collection.specs.Tree.{Leaf}
+use Rattle.wac_collection.specs.declared.component.ResourceId.{ResourceId}
 use Rattle.wac_merge.specs.Walking.{AreBound}
 use Rattle.wac_merge.proofs.Walking.{bound-more}
 use Rattle.wac_merge.proofs.naming.bound_in.Goals as goal

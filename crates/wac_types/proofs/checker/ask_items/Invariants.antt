@@ -1,4 +1,4 @@
-use Rattle.wac_types.specs.Collection.{kind_types}
+use Rattle.wac_collection.specs.Collection.{kind_types}
 use Rattle.wac_types.proofs.Below.{OffersBelow}
 use Rattle.wac_types.specs.Questions.{Asks}
 use Rattle.wac_types.proofs.checker.ask_items.Given as goal

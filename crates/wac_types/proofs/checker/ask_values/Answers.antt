@@ -1,5 +1,5 @@
 use Rattle.std.proofs.Common.{arith, map}
-use Rattle.wac_types.specs.Collection.{IsBefore, value_types}
+use Rattle.wac_collection.specs.Collection.{IsBefore, value_types}
 use Rattle.wac_types.specs.Compare.{value_in}
 use Rattle.wac_types.proofs.Values.{asks_of}
 use Rattle.wac_types.proofs.Agreeing.{get_map, get_read, handed_on, agree_none, agree_more, agree_maps, value_among, differ_at}

@@ -1,5 +1,5 @@
 use Rattle.std.proofs.Common.{map}
-use Rattle.wac_types.specs.Collection.{value_types}
+use Rattle.wac_collection.specs.Collection.{value_types}
 use Rattle.wac_types.specs.Compare.{value_in}
 use Rattle.wac_types.proofs.Below.{AgreeBelow}
 use Rattle.wac_types.specs.Questions.{Asks}

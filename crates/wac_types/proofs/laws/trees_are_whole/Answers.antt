@@ -1,6 +1,6 @@
 use Rattle.wac_types.proofs.Trees.{deep_enough}
 use Rattle.wac_types.specs.Subtype.{by_name}
-use Rattle.wac_types.specs.Bound.{by_place}
+use Rattle.wac_collection.specs.Bound.{by_place}
 use Rattle.wac_types.specs.Called.{by_binding}
 use Rattle.wac_types.proofs.laws.trees_are_whole.Goals as goal
 

@@ -1,5 +1,5 @@
 use Rattle.std.proofs.Common.{ap, ◌∙◌, sym}
-use Rattle.wac_types.specs.Collection.{item_at}
+use Rattle.wac_collection.specs.Collection.{item_at}
 use Rattle.wac_graph.proofs.NodeLemmas.{there}
 use Rattle.wac_graph.proofs.ArgumentLemmas.{not_instantiation, owned, registered, world_there, invalid_name, import_held, has_import}
 use Rattle.wac_graph.proofs.graph.CompositionGraph.import_of.Goals as goal

@@ -1,5 +1,5 @@
 use Rattle.std.proofs.Common.{◌≡◌, ap, sym, ◌∙◌}
-use Rattle.wac_types.specs.Collection.{item_at}
+use Rattle.wac_collection.specs.Collection.{item_at}
 use Rattle.wac_graph.specs.Graph.{instantiation}
 use Rattle.wac_graph.proofs.EncodingLemmas.{contains_node, owned_at, registered_at, world_at, imports_at}
 use Rattle.wac_graph.proofs.graph.CompositionGraph.imports_at.Goals as goal

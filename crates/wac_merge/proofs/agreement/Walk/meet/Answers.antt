@@ -1,6 +1,6 @@
 use Rattle.std.proofs.Common.{◌∙◌, sym, refl}
 use Rattle.std.proofs.lemmas.Bool.{false≢true}
-use Rattle.wac_types.proofs.Under.{on_ok}
+use Rattle.wac_collection.proofs.Under.{on_ok}
 use Rattle.wac_merge.specs.Slots.{spot_view}
 use Rattle.wac_merge.specs.NodeViews.{item_view}
 use Rattle.wac_merge.specs.Apart.{fitting, apart}

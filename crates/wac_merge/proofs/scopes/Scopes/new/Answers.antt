@@ -1,5 +1,5 @@
 use Rattle.std.proofs.Common.{◌≡◌, ◌++◌, None, true, map, ap, ◌∙◌, arith}
-use Rattle.wac_types.specs.Collection.{holds_type}
+use Rattle.wac_collection.specs.Collection.{holds_type}
 use Rattle.wac_merge.specs.Scopes.{opened_by}
 use Rattle.wac_merge.specs.Opening.{inside}
 use Rattle.wac_merge.proofs.Opening.{opened-by-all, first-opened, opened-after, all-opened, fewer}

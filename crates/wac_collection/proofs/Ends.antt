@@ -1,0 +1,292 @@
+-- The ends of aliases, as the collection grows.
+use Rattle.std.proofs.Common.{ℕ, zero, suc, Bool, true, false, List, [], ◌∷◌, ◌++◌, ◌≡◌, ◌<◌, ◌≤◌, length, refl, ap, sym, ◌∙◌, subst, Option, Some, None, arith, length-append, nat_lt, slice_get, inl, inr}
+use Rattle.std.proofs.Math.ListN.{get_or}
+use Rattle.std.proofs.lemmas.Option.{slice_get-get_or}
+use Rattle.wac_collection.specs.Name.{option_case}
+use Rattle.wac_collection.specs.declared.collection.Held.{Held}
+use Rattle.wac_collection.specs.declared.component.Resource.{Resource}
+use Rattle.wac_collection.specs.declared.component.ResourceId.{ResourceId}
+use Rattle.wac_collection.specs.declared.component.ResourceAlias.{ResourceAlias}
+use Rattle.wac_collection.specs.declared.component.FuncType.{FuncType}
+use Rattle.wac_collection.specs.declared.component.Interface.{Interface}
+use Rattle.wac_collection.specs.declared.component.World.{World}
+use Rattle.wac_collection.specs.declared.core_types.ModuleType.{ModuleType}
+use Rattle.wac_collection.specs.Uses.{interface_fault, world_fault}
+use Rattle.wac_collection.specs.declared.component.DefinedType.{DefinedType}
+use Rattle.wac_collection.specs.declared.component.DefinedType.TheVariants as def
+use Rattle.wac_collection.specs.declared.component.DefinedTypeId.{DefinedTypeId}
+use Rattle.wac_collection.specs.declared.component.ValueType.{ValueType}
+use Rattle.wac_collection.specs.declared.component.ValueType.TheVariants as val
+use Rattle.wac_collection.specs.Collection.{Collection, size, IsWellFormed, IsValueBefore, holds_value, holds_all, resource_mentions, defined_mentions, alias_types, value_types, func_mentions, with_resource, with_defined, with_func, with_interface, with_world, with_module, item_of}
+use Rattle.wac_collection.specs.Held.{resolved, resolved_in, source_of}
+use Rattle.wac_collection.specs.Aliases.{aliased, target_of, value_resolved, value_resolved_in}
+use Rattle.wac_collection.specs.Ends.{AreEnds, HasEnds}
+use Rattle.wac_collection.proofs.Growth.{Grows, get_where, get_new, grows_resource, grows_defined, grows_func, grows_interface, grows_world, grows_module, value_before}
+use Rattle.wac_collection.proofs.Steady.{resource_same, resource_same_in, value_same, value_same_in}
+use Rattle.wac_collection.proofs.Adding.{resource_added, defined_added, func_added, interface_added, world_added, module_added}
+use Rattle.wac_collection.proofs.Chains.{leads, no_target, value_ends, alias_is}
+
+there : {A : Type 0} (xs : List A) (i : ℕ) (x : A) → slice_get xs i ≡ Some x → i < length xs
+there [] i x h = cc
+there (y ∷ ys) zero x h = omega arith
+there (y ∷ ys) (suc i) x h = let l = there ys i x h in omega arith
+
+is_less : (i n : ℕ) → i < n → nat_lt i n ≡ true
+is_less i n h = grind arith
+
+less_is : (i n : ℕ) → nat_lt i n ≡ true → i < n
+less_is i n h = grind arith
+
+module _ (c d : Collection) (wf : IsWellFormed c) (g : Grows c d) (rs : List ResourceId) (vs : List ValueType) (are : AreEnds c rs vs) where
+  old_resource : (i : ℕ) (e : ResourceId) → slice_get rs i ≡ Some e → e ≡ resolved d (record { 0 = i })
+  old_resource i e is =
+      let lt = there rs i e is in
+      are.resource_end i e is ∙ sym (resource_same c d wf g (record { 0 = i }) (is_less i (length c.resources) (omega (arith, lt, are.resources_counted))))
+
+  old_value : (i : ℕ) (e : ValueType) → slice_get vs i ≡ Some e → e ≡ value_resolved d (val.Defined (record { 0 = i }))
+  old_value i e is =
+      let lt = there vs i e is in
+      are.value_end i e is ∙ sym (value_same c d wf g (val.Defined (record { 0 = i })) (is_less i (length c.defined) (omega (arith, lt, are.values_counted))))
+
+  -- where neither a resource nor a definition is added
+  pub ends_stay : length d.resources ≡ length c.resources → length d.defined ≡ length c.defined → AreEnds d rs vs
+  ends_stay same also = record {
+    resources_counted = are.resources_counted ∙ sym same;
+    values_counted = are.values_counted ∙ sym also;
+    resource_end = old_resource;
+    value_end = old_value;
+  }
+
+-- the end of a new resource
+abbrev pub new_end : Collection → ℕ → Option ResourceAlias → ResourceId
+new_end c n None = record { 0 = n }
+new_end c n (Some a) = resolved c a.source
+
+new_resource_by : (c d : Collection) (wf : IsWellFormed c) (g : Grows c d) (r : ResourceId) (a : Option ResourceAlias) → holds_all c (alias_types a) ≡ true
+    → new_end c r.0 a ≡ option_case (option_case a None (λ x. Some x.source)) r (λ q. resolved_in (length c.resources) d q)
+new_resource_by c d wf g r None held = refl
+new_resource_by c d wf g r (Some a) held =
+    let low : nat_lt a.source.0 (length c.resources) ≡ true = grind arith in
+    let lt = less_is _ _ low in
+    sym (resource_same_in c d wf g (length c.resources) (length c.resources) a.source lt lt lt)
+
+pub resource_ends_pushed : (c : Collection) (x : Resource) → IsWellFormed c → holds_all c (resource_mentions x) ≡ true → (rs : List ResourceId) (vs : List ValueType) (e : ResourceId) → AreEnds c rs vs
+    → e ≡ new_end c (length c.resources) x.alias → AreEnds (with_resource c x) (rs ++ e ∷ []) vs
+resource_ends_pushed c x wf held rs vs e are is = record {
+  resources_counted = omega (arith, length-append rs (e ∷ []), length-append c.resources (y ∷ []), are.resources_counted);
+  values_counted = are.values_counted;
+  resource_end = λ i f at. elim (get_where rs e i f at) [
+    | inl old ↦ old_resource c d wf g rs vs are i f old
+    | inr new ↦ sym new.1 ∙ is ∙ end i (new.0 ∙ are.resources_counted)
+  ];
+  value_end = old_value c d wf g rs vs are;
+} where
+  d : Collection
+  d = with_resource c x
+
+  g : Grows c d
+  g = grows_resource c x
+
+  y : Held Resource
+  y = record { item = x; before = size c }
+
+  end : (i : ℕ) → i ≡ length c.resources → new_end c (length c.resources) x.alias ≡ resolved d (record { 0 = i })
+  end i at =
+      let r : ResourceId = record { 0 = length c.resources } in
+      let count : length d.resources ≡ suc (length c.resources) = omega (arith, length-append c.resources (y ∷ [])) in
+      new_resource_by c d wf g r x.alias held
+      ∙ sym (ap (λ n. resolved_in n d r) count ∙ ap (λ o. option_case (source_of o) r (λ q. resolved_in (length c.resources) d q)) (get_new c.resources y))
+      ∙ sym (ap (λ n. resolved d (record { 0 = n })) at)
+
+-- the end of a new definition
+abbrev pub new_value_end : Collection → ℕ → Option ValueType → ValueType
+new_value_end c n None = val.Defined (record { 0 = n })
+new_value_end c n (Some v) = value_resolved c v
+
+new_value_by : (c d : Collection) (wf : IsWellFormed c) (g : Grows c d) (x : DefinedType) (v : ValueType) (n : ℕ) (o : Option ValueType) → aliased x ≡ o → holds_all c (defined_mentions x) ≡ true
+    → v ≡ val.Defined (record { 0 = n }) → new_value_end c n o ≡ option_case o v (λ t. value_resolved_in (size c) d t)
+new_value_by c d wf g x v n None at held is = sym is
+new_value_by c d wf g x v n (Some t) at held is =
+    let same : holds_all c (defined_mentions x) ≡ holds_all c (value_types (t ∷ [])) = ap (λ y. holds_all c (defined_mentions y)) (alias_is x t at) in
+    let all : holds_all c (value_types (t ∷ [])) ≡ true = sym same ∙ held in
+    let here : holds_value c t ≡ true = grind arith in
+    let b = value_before c wf t here in
+    sym (value_same_in c d wf g (size c) (size c) t b b)
+
+pub defined_ends_pushed : (c : Collection) (x : DefinedType) → IsWellFormed c → holds_all c (defined_mentions x) ≡ true → (rs : List ResourceId) (vs : List ValueType) (e : ValueType) → AreEnds c rs vs
+    → e ≡ new_value_end c (length c.defined) (aliased x) → AreEnds (with_defined c x) rs (vs ++ e ∷ [])
+defined_ends_pushed c x wf held rs vs e are is = record {
+  resources_counted = are.resources_counted;
+  values_counted = omega (arith, length-append vs (e ∷ []), length-append c.defined (y ∷ []), are.values_counted);
+  resource_end = old_resource c d wf g rs vs are;
+  value_end = λ i f at. elim (get_where vs e i f at) [
+    | inl old ↦ old_value c d wf g rs vs are i f old
+    | inr new ↦ sym new.1 ∙ is ∙ end i (new.0 ∙ are.values_counted)
+  ];
+} where
+  d : Collection
+  d = with_defined c x
+
+  g : Grows c d
+  g = grows_defined c x
+
+  y : Held DefinedType
+  y = record { item = x; before = size c }
+
+  end : (i : ℕ) → i ≡ length c.defined → new_value_end c (length c.defined) (aliased x) ≡ value_resolved d (val.Defined (record { 0 = i }))
+  end i at =
+      let v : ValueType = val.Defined (record { 0 = length c.defined }) in
+      let count : size d ≡ suc (size c) = omega (arith, length-append c.defined (y ∷ [])) in
+      new_value_by c d wf g x v (length c.defined) _ refl held refl
+      ∙ sym (ap (λ n. value_resolved_in n d v) count ∙ ap (λ o. option_case (option_case (item_of o) None aliased) v (λ t. value_resolved_in (size c) d t)) (get_new c.defined y))
+      ∙ sym (ap (λ n. value_resolved d (val.Defined (record { 0 = n }))) at)
+
+-- what is at the end is no alias
+end_by : (c : Collection) → IsWellFormed c → (n : ℕ) (v : ValueType) (o : Option ValueType) → target_of c v ≡ o → IsValueBefore c (suc n) v
+    → ((t : ValueType) → IsValueBefore c n t → target_of c (value_resolved_in n c t) ≡ None) → target_of c (option_case o v (λ t. value_resolved_in n c t)) ≡ None
+end_by c wf n v None e b rest = e
+end_by c wf n v (Some t) e b rest = rest t ((leads c wf v t e).earlier n b)
+
+end_in : (c : Collection) → IsWellFormed c → (n : ℕ) (v : ValueType) → IsValueBefore c n v → target_of c (value_resolved_in n c v) ≡ None
+end_in c wf zero v b = no_target c wf v (λ h. b) _ refl
+end_in c wf (suc n) v b = end_by c wf n v _ refl b (λ t h. end_in c wf n t h)
+
+held_by : (c : Collection) → IsWellFormed c → (n : ℕ) (v : ValueType) (o : Option ValueType) → target_of c v ≡ o → holds_value c v ≡ true
+    → ((t : ValueType) → holds_value c t ≡ true → holds_value c (value_resolved_in n c t) ≡ true) → holds_value c (option_case o v (λ t. value_resolved_in n c t)) ≡ true
+held_by c wf n v None e held rest = held
+held_by c wf n v (Some t) e held rest = rest t (leads c wf v t e).to_held
+
+held_in : (c : Collection) → IsWellFormed c → (n : ℕ) (v : ValueType) → holds_value c v ≡ true → holds_value c (value_resolved_in n c v) ≡ true
+held_in c wf zero v h = h
+held_in c wf (suc n) v h = held_by c wf n v _ refl h (λ t a. held_in c wf n t a)
+
+unheld_by : (c : Collection) → IsWellFormed c → (v : ValueType) (o : Option ValueType) → target_of c v ≡ o → (holds_value c v ≡ true → ⊥) → target_of c v ≡ None
+unheld_by c wf v None e not = e
+unheld_by c wf v (Some t) e not = absurd (not (leads c wf v t e).from_held)
+
+pub unheld_value : (c : Collection) → IsWellFormed c → (i : ℕ) → length c.defined ≤ i → value_resolved c (val.Defined (record { 0 = i })) ≡ val.Defined (record { 0 = i })
+unheld_value c wf i le = value_ends (size c) c (val.Defined (record { 0 = i })) (unheld_by c wf (val.Defined (record { 0 = i })) _ refl (λ h. absurd (let lt = less_is i (length c.defined) h in omega (arith, lt, le))))
+
+pub end_no_alias : (c : Collection) → IsWellFormed c → (v : ValueType) → (b : Bool) → holds_value c v ≡ b → target_of c (value_resolved c v) ≡ None
+end_no_alias c wf v true h = end_in c wf (size c) v (value_before c wf v h)
+end_no_alias c wf v false h =
+    let none = unheld_by c wf v _ refl (λ t. clash (sym h ∙ t)) in
+    ap (target_of c) (value_ends (size c) c v none) ∙ none
+  where
+    clash : false ≡ true → ⊥
+    clash e = cc
+
+pub end_is_held : (c : Collection) → IsWellFormed c → (v : ValueType) → (b : Bool) → holds_value c v ≡ b → holds_value c (value_resolved c v) ≡ holds_value c v
+end_is_held c wf v true h = held_in c wf (size c) v h ∙ sym h
+end_is_held c wf v false h =
+    let none = unheld_by c wf v _ refl (λ t. clash (sym h ∙ t)) in
+    ap (holds_value c) (value_ends (size c) c v none)
+  where
+    clash : false ≡ true → ⊥
+    clash e = cc
+
+pub no_alias : (x : DefinedType) → ((v : ValueType) → x ≡ def.Alias v → ⊥) → aliased x ≡ None
+no_alias (def.Alias v) not = absurd (not v refl)
+no_alias (def.Tuple vs) not = refl
+no_alias (def.List v) not = refl
+no_alias (def.FixedSizeList v n) not = refl
+no_alias (def.Option v) not = refl
+no_alias (def.Result ok err) not = refl
+no_alias (def.Variant v) not = refl
+no_alias (def.Record r) not = refl
+no_alias (def.Flags names) not = refl
+no_alias (def.Enum names) not = refl
+no_alias (def.Stream v) not = refl
+no_alias (def.Future v) not = refl
+
+-- what is no definition is its own end
+pub plain_value : (c : Collection) (v : ValueType) → ((d : DefinedTypeId) → v ≡ val.Defined d → ⊥) → v ≡ value_resolved c v
+plain_value c (val.Primitive p) not = sym (value_ends (size c) c (val.Primitive p) refl)
+plain_value c (val.Own r) not = sym (value_ends (size c) c (val.Own r) refl)
+plain_value c (val.Borrow r) not = sym (value_ends (size c) c (val.Borrow r) refl)
+plain_value c (val.Defined d) not = absurd (not d refl)
+
+-- the fields after a resource or a definition is added
+pub resource_kept : (c s : Collection) (x : Resource) (n : ℕ) (xs : List (Held Resource)) (rs es : List ResourceId) (vs : List ValueType) (e : ResourceId) → HasEnds c rs vs → c ≡ s → n ≡ size s
+    → holds_all s (resource_mentions x) ≡ true → xs ≡ c.resources ++ record { item = x; before = n } ∷ [] → es ≡ rs ++ e ∷ [] → e ≡ new_end s (length s.resources) x.alias
+    → HasEnds (record c { resources = xs }) es vs
+resource_kept c s x n xs rs es vs e has same at held is more end =
+    let count : n ≡ size c = at ∙ sym (ap size same) in
+    let here : holds_all c (resource_mentions x) ≡ true = ap (λ y. holds_all y (resource_mentions x)) same ∙ held in
+    let all : xs ≡ c.resources ++ record { item = x; before = size c } ∷ [] = is ∙ ap (λ k. c.resources ++ record { item = x; before = k } ∷ []) count in
+    let last : e ≡ new_end c (length c.resources) x.alias = end ∙ sym (ap (λ y. new_end y (length y.resources) x.alias) same) in
+    let P : List (Held Resource) → Type 0 = λ ys. AreEnds (record c { resources = ys }) es vs in
+    let Q : List ResourceId → Type 0 = λ ys. AreEnds (with_resource c x) ys vs in
+    record {
+      lawful = resource_added c s x n xs has.lawful same at held is;
+      ends = subst P (sym all) (subst Q (sym more) (resource_ends_pushed c x has.lawful.ordered here rs vs e has.ends last));
+    }
+
+pub defined_kept : (c s : Collection) (x : DefinedType) (n : ℕ) (xs : List (Held DefinedType)) (rs : List ResourceId) (vs es : List ValueType) (e : ValueType) → HasEnds c rs vs → c ≡ s → n ≡ size s
+    → holds_all s (defined_mentions x) ≡ true → xs ≡ c.defined ++ record { item = x; before = n } ∷ [] → es ≡ vs ++ e ∷ [] → e ≡ new_value_end s (length s.defined) (aliased x)
+    → HasEnds (record c { defined = xs }) rs es
+defined_kept c s x n xs rs vs es e has same at held is more end =
+    let count : n ≡ size c = at ∙ sym (ap size same) in
+    let here : holds_all c (defined_mentions x) ≡ true = ap (λ y. holds_all y (defined_mentions x)) same ∙ held in
+    let all : xs ≡ c.defined ++ record { item = x; before = size c } ∷ [] = is ∙ ap (λ k. c.defined ++ record { item = x; before = k } ∷ []) count in
+    let last : e ≡ new_value_end c (length c.defined) (aliased x) = end ∙ sym (ap (λ y. new_value_end y (length y.defined) (aliased x)) same) in
+    let P : List (Held DefinedType) → Type 0 = λ ys. AreEnds (record c { defined = ys }) rs es in
+    let Q : List ValueType → Type 0 = λ ys. AreEnds (with_defined c x) rs ys in
+    record {
+      lawful = defined_added c s x n xs has.lawful same at held is;
+      ends = subst P (sym all) (subst Q (sym more) (defined_ends_pushed c x has.lawful.ordered here rs vs e has.ends last));
+    }
+
+pub looked_up : {A : Type 0} (xs ys : List A) (i : ℕ) (x : A) → xs ≡ ys → true ≡ nat_lt i (length xs) → x ≡ get_or xs i x → slice_get ys i ≡ Some x
+looked_up xs ys i x same low is = ap (λ zs. slice_get zs i) (sym same) ∙ slice_get-get_or xs i x (less_is i (length xs) (sym low)) ∙ ap Some (sym is)
+
+pub definition_there : (c s : Collection) (rs : List ResourceId) (vs ws : List ValueType) (i : ℕ) (e : ValueType) → HasEnds c rs vs → c ≡ s → ws ≡ vs → true ≡ nat_lt i (length ws) → e ≡ get_or ws i e → e ≡ value_resolved s (val.Defined (record { 0 = i }))
+definition_there c s rs vs ws i e has same read low is = has.ends.value_end i e (looked_up ws vs i e read low is) ∙ ap (λ x. value_resolved x (val.Defined (record { 0 = i }))) same
+
+pub definition_past : (c s : Collection) (rs : List ResourceId) (vs ws : List ValueType) (i : ℕ) → HasEnds c rs vs → c ≡ s → ws ≡ vs → length ws ≤ i → val.Defined (record { 0 = i }) ≡ value_resolved s (val.Defined (record { 0 = i }))
+definition_past c s rs vs ws i has same read past =
+    let count : length ws ≡ length vs = ap length read in
+    sym (unheld_value c has.lawful.ordered i (omega (arith, past, count, has.ends.values_counted))) ∙ ap (λ x. value_resolved x (val.Defined (record { 0 = i }))) same
+
+pub past : (i n : ℕ) → false ≡ nat_lt i n → n ≤ i
+past i n h = grind arith
+
+pub func_kept : (c s : Collection) (x : FuncType) (n : ℕ) (xs : List (Held FuncType)) (rs : List ResourceId) (vs : List ValueType) → HasEnds c rs vs → c ≡ s → n ≡ size s → holds_all s (func_mentions x) ≡ true
+    → xs ≡ c.funcs ++ record { item = x; before = n } ∷ [] → HasEnds (record c { funcs = xs }) rs vs
+func_kept c s x n xs rs vs has same at held is =
+    let all : xs ≡ c.funcs ++ record { item = x; before = size c } ∷ [] = is ∙ ap (λ k. c.funcs ++ record { item = x; before = k } ∷ []) (at ∙ sym (ap size same)) in
+    let P : List (Held FuncType) → Type 0 = λ ys. AreEnds (record c { funcs = ys }) rs vs in
+    record {
+      lawful = func_added c s x n xs has.lawful same at held is;
+      ends = subst P (sym all) (ends_stay c (with_func c x) has.lawful.ordered (grows_func c x) rs vs has.ends refl refl);
+    }
+
+pub interface_kept : (c s : Collection) (x : Interface) (n : ℕ) (xs : List (Held Interface)) (rs : List ResourceId) (vs : List ValueType) → HasEnds c rs vs → c ≡ s → n ≡ size s → interface_fault s x ≡ None
+    → xs ≡ c.interfaces ++ record { item = x; before = n } ∷ [] → HasEnds (record c { interfaces = xs }) rs vs
+interface_kept c s x n xs rs vs has same at held is =
+    let all : xs ≡ c.interfaces ++ record { item = x; before = size c } ∷ [] = is ∙ ap (λ k. c.interfaces ++ record { item = x; before = k } ∷ []) (at ∙ sym (ap size same)) in
+    let P : List (Held Interface) → Type 0 = λ ys. AreEnds (record c { interfaces = ys }) rs vs in
+    record {
+      lawful = interface_added c s x n xs has.lawful same at held is;
+      ends = subst P (sym all) (ends_stay c (with_interface c x) has.lawful.ordered (grows_interface c x) rs vs has.ends refl refl);
+    }
+
+pub world_kept : (c s : Collection) (x : World) (n : ℕ) (xs : List (Held World)) (rs : List ResourceId) (vs : List ValueType) → HasEnds c rs vs → c ≡ s → n ≡ size s → world_fault s x ≡ None
+    → xs ≡ c.worlds ++ record { item = x; before = n } ∷ [] → HasEnds (record c { worlds = xs }) rs vs
+world_kept c s x n xs rs vs has same at held is =
+    let all : xs ≡ c.worlds ++ record { item = x; before = size c } ∷ [] = is ∙ ap (λ k. c.worlds ++ record { item = x; before = k } ∷ []) (at ∙ sym (ap size same)) in
+    let P : List (Held World) → Type 0 = λ ys. AreEnds (record c { worlds = ys }) rs vs in
+    record {
+      lawful = world_added c s x n xs has.lawful same at held is;
+      ends = subst P (sym all) (ends_stay c (with_world c x) has.lawful.ordered (grows_world c x) rs vs has.ends refl refl);
+    }
+
+pub module_kept : (c s : Collection) (x : ModuleType) (n : ℕ) (xs : List (Held ModuleType)) (rs : List ResourceId) (vs : List ValueType) → HasEnds c rs vs → c ≡ s → n ≡ size s
+    → xs ≡ c.modules ++ record { item = x; before = n } ∷ [] → HasEnds (record c { modules = xs }) rs vs
+module_kept c s x n xs rs vs has same at is =
+    let all : xs ≡ c.modules ++ record { item = x; before = size c } ∷ [] = is ∙ ap (λ k. c.modules ++ record { item = x; before = k } ∷ []) (at ∙ sym (ap size same)) in
+    let P : List (Held ModuleType) → Type 0 = λ ys. AreEnds (record c { modules = ys }) rs vs in
+    record {
+      lawful = module_added c s x n xs has.lawful same at is;
+      ends = subst P (sym all) (ends_stay c (with_module c x) has.lawful.ordered (grows_module c x) rs vs has.ends refl refl);
+    }

@@ -1,0 +1,12 @@
+pub mod Names
+pub mod Growth
+pub mod Loops
+pub mod Mentioned
+pub mod Chains
+pub mod Ends
+pub mod Steady
+pub mod Adding
+pub mod Ids
+pub mod Packages
+pub mod AsGiven
+pub mod Under

@@ -1,0 +1,41 @@
+-- The types at the ends of aliases.
+use Rattle.std.specs.Prelude.{ℕ, zero, suc, Option, Some, None}
+use Rattle.wac_collection.specs.Name.{option_case}
+use Rattle.wac_collection.specs.Collection.{Collection, size, item_at}
+use Rattle.wac_collection.specs.Held.{resolved}
+use Rattle.wac_collection.specs.declared.component.DefinedType.{DefinedType}
+use Rattle.wac_collection.specs.declared.component.DefinedType.TheVariants as def
+use Rattle.wac_collection.specs.declared.component.ValueType.{ValueType}
+use Rattle.wac_collection.specs.declared.component.ValueType.TheVariants as val
+use Rattle.wac_collection.specs.declared.component.«Type».{«Type» as AnyType}
+use Rattle.wac_collection.specs.declared.component.«Type».TheVariants as ty
+
+-- what a definition is another name for, where it is an alias
+abbrev pub aliased : DefinedType → Option ValueType
+aliased (def.Alias v) = Some v
+aliased d = None
+
+abbrev pub target_of : Collection → ValueType → Option ValueType
+target_of c (val.Defined d) = option_case (item_at c.defined d.0) None aliased
+target_of c v = None
+
+-- the end of a chain of at most so many aliases of value types
+abbrev pub value_resolved_in : ℕ → Collection → ValueType → ValueType
+value_resolved_in zero c v = v
+value_resolved_in (suc n) c v = option_case (target_of c v) v (λ target. value_resolved_in n c target)
+
+-- the value type at the end of the aliases; no chain is longer than there are items
+abbrev pub value_resolved : Collection → ValueType → ValueType
+value_resolved c = value_resolved_in (size c) c
+
+-- a handle, to the resource at the end of the aliases
+abbrev pub handle_resolved : Collection → ValueType → ValueType
+handle_resolved c (val.Own r) = val.Own (resolved c r)
+handle_resolved c (val.Borrow r) = val.Borrow (resolved c r)
+handle_resolved c v = v
+
+-- a type at the ends of its aliases
+abbrev pub type_resolved : Collection → AnyType → AnyType
+type_resolved c (ty.Resource r) = ty.Resource (resolved c r)
+type_resolved c (ty.Value v) = ty.Value (handle_resolved c (value_resolved c v))
+type_resolved c t = t

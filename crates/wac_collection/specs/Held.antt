@@ -1,0 +1,152 @@
+-- The tree of a held type: what its ids mean. A Naming says what a resource is called from where it is looked at.
+use Rattle.std.specs.Prelude.{ℕ, zero, suc, Bool, if◌then◌else◌, List, [], ◌∷◌, length, map, Option, Some, None, slice_get}
+use Rattle.wac_collection.specs.Name.{Name, same_name, find_name, option_case}
+use Rattle.wac_collection.specs.Core.{CoreItem, no_item, core_function, core_table, core_memory, core_global, core_tag}
+use Rattle.wac_collection.specs.Tree.{Side, imported, exported, TypeTree, absent, resource, primitive, own, borrow, record_of, variant_of, list_of, fixed_list_of, tuple_of, flags_of, enum_of, option_of, result_of, stream_of, future_of, function, instance, component, module_of, fresh, type_equal, function_item, instance_item, component_item, module_item, value_item}
+use Rattle.wac_collection.specs.Collection.{Collection, size}
+use Rattle.wac_collection.specs.declared.collection.Held.{Held}
+use Rattle.wac_collection.specs.declared.component.Resource.{Resource}
+use Rattle.wac_collection.specs.declared.component.ResourceId.{ResourceId}
+use Rattle.wac_collection.specs.declared.component.FuncType.{FuncType}
+use Rattle.wac_collection.specs.declared.component.DefinedType.{DefinedType}
+use Rattle.wac_collection.specs.declared.component.DefinedType.TheVariants as def
+use Rattle.wac_collection.specs.declared.component.Interface.{Interface}
+use Rattle.wac_collection.specs.declared.component.World.{World}
+use Rattle.wac_collection.specs.declared.core_types.ModuleType.{ModuleType}
+use Rattle.wac_collection.specs.declared.core_types.CoreExtern.{CoreExtern}
+use Rattle.wac_collection.specs.declared.core_types.CoreExtern.TheVariants as core
+use Rattle.wac_collection.specs.declared.component.ValueType.{ValueType}
+use Rattle.wac_collection.specs.declared.component.ValueType.TheVariants as val
+use Rattle.wac_collection.specs.declared.component.«Type».{«Type» as AnyType}
+use Rattle.wac_collection.specs.declared.component.«Type».TheVariants as ty
+use Rattle.wac_collection.specs.declared.component.ItemKind.{ItemKind}
+use Rattle.wac_collection.specs.declared.component.ItemKind.TheVariants as kind
+
+-- the end of a chain of at most so many aliases of resources
+abbrev pub source_of : Option (Held Resource) → Option ResourceId
+source_of None = None
+source_of (Some h) = option_case h.item.alias None (λ a. Some a.source)
+
+abbrev pub resolved_in : ℕ → Collection → ResourceId → ResourceId
+resolved_in zero c r = r
+resolved_in (suc n) c r = option_case (source_of (slice_get c.resources r.0)) r (λ source. resolved_in n c source)
+
+-- the resource at the end of the aliases
+abbrev pub resolved : Collection → ResourceId → ResourceId
+resolved c = resolved_in (length c.resources) c
+
+-- what resources are called, where they are called anything
+abbrev pub Names : Type 0 → Type 0
+Names L = ResourceId → Option L
+
+-- What resources are called inside an instance type and on the two sides of a component type, and which items are fresh there.
+pub record Naming (L : Type 0) : Type 0 where
+  pub in_instance : Interface → Names L → Names L
+  pub in_imports : World → Names L → Names L
+  pub in_exports : World → Names L → Names L
+  pub is_fresh : Names L → Side → Name × ItemKind → Bool
+
+-- the tree of each type, under names of resources; a resource without a name has no tree
+abbrev pub Unfolding : Type 0 → Type 0
+Unfolding L = Names L → AnyType → TypeTree L
+
+-- what a core module imports or exports
+abbrev pub core_item : CoreExtern → CoreItem
+core_item (core.Func f) = core_function f.params f.results
+core_item (core.Table element least most wide shared) = core_table element wide shared least most
+core_item (core.Memory wide shared least most page) = core_memory wide shared least most page
+core_item (core.Global value mutable shared) = core_global value mutable shared
+core_item (core.Tag f) = core_tag f.params f.results
+
+-- the core item under a name
+abbrev pub core_under : List (Name × CoreExtern) → Name → CoreItem
+core_under es n = option_case (find_name es n) no_item core_item
+
+abbrev pub core_imports : List (Name × List (Name × CoreExtern)) → Name → Name → CoreItem
+core_imports ms m n = option_case (find_name ms m) no_item (λ es. core_under es n)
+
+module _ {L : Type 0} where
+  -- parts in order, by position
+  abbrev pub part_at : List (TypeTree L) → ℕ → TypeTree L
+  part_at [] i = absent
+  part_at (t ∷ ts) zero = t
+  part_at (t ∷ ts) (suc i) = part_at ts i
+
+  -- items by name; the first, where a name stands twice
+  abbrev pub items_under : List (Name × TypeTree L) → Name → TypeTree L
+  items_under [] n = absent
+  items_under (e ∷ rest) n = if same_name n e.0 then e.1 else items_under rest n
+
+  abbrev pub option_tree : (ValueType → TypeTree L) → Option ValueType → TypeTree L
+  option_tree t None = absent
+  option_tree t (Some v) = t v
+
+  -- the tree of a definition; an alias has that of what it names
+  abbrev pub defined_tree : (ValueType → TypeTree L) → DefinedType → TypeTree L
+  defined_tree t (def.Tuple vs) = tuple_of (length vs) (part_at (map t vs))
+  defined_tree t (def.List v) = list_of (t v)
+  defined_tree t (def.FixedSizeList v n) = fixed_list_of n (t v)
+  defined_tree t (def.Option v) = option_of (t v)
+  defined_tree t (def.Result ok err) = result_of (option_tree t ok) (option_tree t err)
+  defined_tree t (def.Variant v) = variant_of (map (λ e. e.0) v.cases) (part_at (map (λ e. option_tree t e.1) v.cases))
+  defined_tree t (def.Record r) = record_of (map (λ e. e.0) r.fields) (part_at (map (λ e. t e.1) r.fields))
+  defined_tree t (def.Flags names) = flags_of names.0
+  defined_tree t (def.Enum names) = enum_of names.0
+  defined_tree t (def.Alias v) = t v
+  defined_tree t (def.Stream v) = stream_of (option_tree t v)
+  defined_tree t (def.Future v) = future_of (option_tree t v)
+
+  abbrev pub func_tree : (ValueType → TypeTree L) → FuncType → TypeTree L
+  func_tree t f = function f.is_async (map (λ p. p.0) f.params) (part_at (map (λ p. t p.1) f.params)) (option_tree t f.result)
+
+  -- the item that a listed kind is
+  abbrev pub item_tree : (AnyType → TypeTree L) → Bool → ItemKind → TypeTree L
+  item_tree t is_fresh (kind.TypeItem a) = if is_fresh then fresh else type_equal (t a)
+  item_tree t is_fresh (kind.Func f) = function_item (t (ty.Func f))
+  item_tree t is_fresh (kind.Instance i) = instance_item (t (ty.Interface i))
+  item_tree t is_fresh (kind.Component w) = component_item (t (ty.World w))
+  item_tree t is_fresh (kind.Module m) = module_item (t (ty.Module m))
+  item_tree t is_fresh (kind.Value v) = value_item (t (ty.Value v))
+
+  abbrev pub module_tree : ModuleType → TypeTree L
+  module_tree m = module_of (core_imports m.imports) (core_under m.exports)
+
+  -- the tree of what is held, where it is
+  abbrev pub of_held : {A : Type 0} → (A → TypeTree L) → Option (Held A) → TypeTree L
+  of_held t None = absent
+  of_held t (Some h) = t h.item
+
+  module _ (naming : Naming L) (c : Collection) where
+    -- the items that are listed on a side, under these names of resources
+    abbrev pub listed_tree : Unfolding L → Names L → Side → List (Name × ItemKind) → Name → TypeTree L
+    listed_tree u m side es = items_under (map (λ e. (e.0, item_tree (u m) (naming.is_fresh m side e) e.1)) es)
+
+    abbrev pub interface_tree : Unfolding L → Names L → Interface → TypeTree L
+    interface_tree u m i = instance (listed_tree u (naming.in_instance i m) exported i.exports)
+
+    abbrev pub world_tree : Unfolding L → Names L → World → TypeTree L
+    world_tree u m w = component (listed_tree u (naming.in_imports w m) imported w.imports) (listed_tree u (naming.in_exports w m) exported w.exports)
+
+    abbrev pub value_tree : (ValueType → TypeTree L) → Names L → ValueType → TypeTree L
+    value_tree t m (val.Primitive p) = primitive p
+    value_tree t m (val.Own r) = option_case (m (resolved c r)) absent own
+    value_tree t m (val.Borrow r) = option_case (m (resolved c r)) absent borrow
+    value_tree t m (val.Defined d) = of_held (defined_tree t) (slice_get c.defined d.0)
+
+    -- one id unfolded, and those in it by u
+    abbrev pub step : Unfolding L → Unfolding L
+    step u m (ty.Resource r) = option_case (m (resolved c r)) absent resource
+    step u m (ty.Func f) = of_held (func_tree (λ v. u m (ty.Value v))) (slice_get c.funcs f.0)
+    step u m (ty.Value v) = value_tree (λ w. u m (ty.Value w)) m v
+    step u m (ty.Interface i) = of_held (interface_tree u m) (slice_get c.interfaces i.0)
+    step u m (ty.World w) = of_held (world_tree u m) (slice_get c.worlds w.0)
+    step u m (ty.Module k) = of_held module_tree (slice_get c.modules k.0)
+
+    -- as many ids deep as the number says
+    abbrev pub unfolded_to : ℕ → Unfolding L
+    unfolded_to zero m t = absent
+    unfolded_to (suc k) m t = step (unfolded_to k) m t
+
+    -- no chain of ids is longer than there are items
+    abbrev pub unfolded : Unfolding L
+    unfolded = unfolded_to (suc (size c))

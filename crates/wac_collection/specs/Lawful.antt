@@ -1,0 +1,7 @@
+-- The laws of every collection.
+use Rattle.wac_collection.specs.Collection.{Collection, IsWellFormed}
+use Rattle.wac_collection.specs.Uses.{IsSound}
+
+pub record IsLawful (c : Collection) : Type 0 where
+  pub ordered : IsWellFormed c
+  pub sound : IsSound c

@@ -1,0 +1,15 @@
+pub mod Name
+pub mod Named
+pub mod Core
+pub mod Tree
+pub mod Collection
+pub mod Held
+pub mod Bound
+pub mod Aliases
+pub mod Uses
+pub mod Lawful
+pub mod Ends
+pub mod Interfaces
+pub mod Words
+pub mod Package
+pub mod KeyLaws

@@ -1,0 +1,49 @@
+//! The types at the ends of aliases.
+ghost use Rattle.std.specs.Prelude.{◌≡◌, None};
+ghost use Rattle.wac_collection.specs.Collection.{holds_value};
+ghost use Rattle.wac_collection.specs.Held.{resolved};
+ghost use Rattle.wac_collection.specs.Aliases.{target_of, value_resolved, handle_resolved, type_resolved};
+
+use crate::collection::Types;
+use crate::component::{ResourceId, Type, ValueType};
+
+impl Types {
+    /// The resource at the end of the aliases; the resource itself where it is none.
+    pub fn resolve_resource(&self, id: ResourceId) -> ResourceId
+        ensures { result ≡ resolved self.now id }
+    {
+        self.resource_end(id)
+    }
+
+    /// The value type at the end of the aliases: held where the first is, and never an alias.
+    pub fn resolve_value_type(&self, value: ValueType) -> ValueType
+        ensures end { result ≡ value_resolved self.now value }
+        ensures held { holds_value self.now result ≡ holds_value self.now value }
+        ensures no_alias { target_of self.now result ≡ None }
+    {
+        self.law();
+        self.value_end(value)
+    }
+
+    // A type at the ends of its aliases.
+    pub(crate) fn resolve_type(&self, ty: Type) -> Type
+        ensures { result ≡ type_resolved self.now ty }
+    {
+        match ty {
+            Type::Resource(id) => Type::Resource(self.resolve_resource(id)),
+            Type::Value(value) => Type::Value(self.resolve_handle(self.resolve_value_type(value))),
+            _ => ty,
+        }
+    }
+
+    // A handle, to the resource at the end of the aliases.
+    fn resolve_handle(&self, value: ValueType) -> ValueType
+        ensures { result ≡ handle_resolved self.now value }
+    {
+        match value {
+            ValueType::Own(id) => ValueType::Own(self.resolve_resource(id)),
+            ValueType::Borrow(id) => ValueType::Borrow(self.resolve_resource(id)),
+            _ => value,
+        }
+    }
+}

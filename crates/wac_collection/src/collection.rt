@@ -1,0 +1,443 @@
+//! The collection: lists of items, each of which mentions only items added before it.
+ghost use Rattle.std.specs.Prelude.{◌≡◌, length, Some, None, IfOk, OnErr};
+ghost use Rattle.std.specs.Option.{option_copied};
+ghost use Rattle.wac_collection.specs.Collection.{IsWellFormed, empty, size, func_mentions, resource_mentions, defined_mentions, holds_value, holds_type, with_resource, with_func, with_defined, with_interface, with_world, with_module, item_at};
+ghost use Rattle.wac_collection.specs.Held.{resolved};
+ghost use Rattle.wac_collection.specs.Aliases.{value_resolved};
+ghost use Rattle.wac_collection.specs.declared.component.ValueType.TheVariants as val;
+ghost use Rattle.wac_collection.specs.Uses.{AnswersBy, mention_fault, interface_fault, world_fault, IsSound};
+
+use crate::component::{
+    DefinedType, DefinedTypeId, FuncType, FuncTypeId, Interface, InterfaceId, ModuleTypeId,
+    Resource, ResourceId, Type, ValueType, World, WorldId,
+};
+use crate::core_types::ModuleType;
+use std::alloc::Global;
+use std::marker::Model;
+use std::ops::Index;
+use thiserror::Error;
+
+/// Why an item is not added: the first that stands.
+#[derive(Clone, Copy, Debug, PartialEq, Eq, Error)]
+pub enum AddTypeError {
+    /// The item mentions an id that isn't held.
+    #[error("NotHeld")]
+    NotHeld,
+    /// A type is used of an interface without id.
+    #[error("UsedInterfaceUnnamed")]
+    UsedInterfaceUnnamed,
+    /// A type is used of an interface that exports no type item of that name.
+    #[error("UsedTypeMissing")]
+    UsedTypeMissing,
+    /// What is listed under the name of a used type isn't that type.
+    #[error("UsedTypeDiffers")]
+    UsedTypeDiffers,
+    /// A resource is listed under another name than its own, neither as an alias nor as a used type.
+    #[error("ResourceMisnamed")]
+    ResourceMisnamed,
+    /// Memory ran out.
+    #[error("OutOfMemory")]
+    OutOfMemory,
+}
+
+/// An item, and how many items were there before it.
+#[derive(Drop)]
+pub struct Held<T> {
+    /// The item.
+    pub item: T,
+    /// How many items were there before it.
+    pub before: u128,
+}
+
+/// A collection of types. Each item mentions only items added before it.
+#[derive(Drop)]
+pub struct Types {
+    alloc: Global,
+    resources: Vec<Held<Resource>>,
+    /// For each resource the one at the end of its aliases.
+    resource_ends: Vec<ResourceId>,
+    funcs: Vec<Held<FuncType>>,
+    defined: Vec<Held<DefinedType>>,
+    /// For each definition the value type at the end of its aliases.
+    value_ends: Vec<ValueType>,
+    interfaces: Vec<Held<Interface>>,
+    worlds: Vec<Held<World>>,
+    modules: Vec<Held<ModuleType>>,
+}
+
+impl Model for Types {
+    ghost use Rattle.wac_collection.specs.Collection.{Collection};
+    ghost use Rattle.wac_collection.specs.Ends.{HasEnds};
+
+    ghost Value = { Collection };
+
+    ghost view = { λ t. record {
+      resources = t.resources.items;
+      funcs = t.funcs.items;
+      defined = t.defined.items;
+      interfaces = t.interfaces.items;
+      worlds = t.worlds.items;
+      modules = t.modules.items;
+    } };
+
+    ghost invariant = { λ t. HasEnds (record {
+      resources = t.resources.items;
+      funcs = t.funcs.items;
+      defined = t.defined.items;
+      interfaces = t.interfaces.items;
+      worlds = t.worlds.items;
+      modules = t.modules.items;
+    }) t.resource_ends.items t.value_ends.items };
+}
+
+impl Types {
+    /// An empty collection.
+    pub fn new(alloc: Global) -> Types
+        ensures { result ≡ empty }
+    {
+        Types {
+            alloc,
+            resources: Vec::new(alloc),
+            resource_ends: Vec::new(alloc),
+            funcs: Vec::new(alloc),
+            defined: Vec::new(alloc),
+            value_ends: Vec::new(alloc),
+            interfaces: Vec::new(alloc),
+            worlds: Vec::new(alloc),
+            modules: Vec::new(alloc),
+        }
+    }
+
+    /// The law of every collection: each item mentions only items added before it.
+    pub fn law(&self)
+        ensures { IsWellFormed self.now }
+    {
+        let _ = &self.funcs;
+    }
+
+    /// The law of uses: nothing stands against any interface or world that is held.
+    pub fn uses_law(&self)
+        ensures { IsSound self.now }
+    {
+        let _ = &self.interfaces;
+    }
+
+    /// The memory that the collection grows in.
+    pub fn allocator(&self) -> Global {
+        self.alloc
+    }
+
+    /// Whether the ids in a type are held.
+    pub fn contains(&self, ty: Type) -> bool
+        ensures { result ≡ holds_type self.now ty }
+    {
+        match ty {
+            Type::Resource(id) => id.0 < self.resources.len(),
+            Type::Func(id) => id.0 < self.funcs.len(),
+            Type::Value(value) => self.contains_value(value),
+            Type::Interface(id) => id.0 < self.interfaces.len(),
+            Type::World(id) => id.0 < self.worlds.len(),
+            Type::Module(id) => id.0 < self.modules.len(),
+        }
+    }
+
+    // Whether the ids in a value type are held.
+    pub(crate) fn contains_value(&self, value: ValueType) -> bool
+        ensures { result ≡ holds_value self.now value }
+    {
+        match value {
+            ValueType::Primitive(_) => true,
+            ValueType::Borrow(id) => id.0 < self.resources.len(),
+            ValueType::Own(id) => id.0 < self.resources.len(),
+            ValueType::Defined(id) => id.0 < self.defined.len(),
+        }
+    }
+
+    // How many items there are.
+    pub(crate) fn count(&self) -> u128
+        ensures { result ≡ size self.now }
+    {
+        self.resources.len() as u128
+            + self.funcs.len() as u128
+            + self.defined.len() as u128
+            + self.interfaces.len() as u128
+            + self.worlds.len() as u128
+            + self.modules.len() as u128
+    }
+
+    /// Adds a resource. Answers `NotHeld` where it mentions an id that isn't held, and `OutOfMemory` where memory ran out; then nothing has changed.
+    pub fn add_resource(&mut self, resource: Resource) -> Result<ResourceId, AddTypeError>
+        ensures added { IfOk result (λ id. (id.0 ≡ length self.old.resources) × (self.new ≡ with_resource self.old resource)) }
+        ensures refused { OnErr result (self.new ≡ self.old) }
+        ensures fault { AnswersBy (mention_fault self.old (resource_mentions resource)) result }
+    {
+        if !self.contains_alias(&resource) {
+            return Err(AddTypeError::NotHeld);
+        }
+        let id = ResourceId(self.resources.len());
+        let before = self.count();
+        let end = match resource.alias {
+            Some(alias) => self.resource_end(alias.source),
+            None => id,
+        };
+        let held = Held {
+            item: resource,
+            before,
+        };
+        if self.resource_ends.reserve(1).is_err() || self.resources.push(held).is_err() {
+            return Err(AddTypeError::OutOfMemory);
+        }
+        self.resource_ends.push(end).unwrap();
+        Ok(id)
+    }
+
+    /// Adds a function type. Answers `NotHeld` where it mentions an id that isn't held, and `OutOfMemory` where memory ran out; then nothing has changed.
+    pub fn add_func_type(&mut self, func: FuncType) -> Result<FuncTypeId, AddTypeError>
+        ensures added { IfOk result (λ id. (id.0 ≡ length self.old.funcs) × (self.new ≡ with_func self.old func)) }
+        ensures refused { OnErr result (self.new ≡ self.old) }
+        ensures fault { AnswersBy (mention_fault self.old (func_mentions func)) result }
+    {
+        if !self.contains_func(&func) {
+            return Err(AddTypeError::NotHeld);
+        }
+        let id = self.funcs.len();
+        let before = self.count();
+        match self.funcs.push(Held { item: func, before }) {
+            Ok(()) => Ok(FuncTypeId(id)),
+            Err(_) => Err(AddTypeError::OutOfMemory),
+        }
+    }
+
+    /// Adds a defined type. Answers `NotHeld` where it mentions an id that isn't held, and `OutOfMemory` where memory ran out; then nothing has changed.
+    pub fn add_defined_type(&mut self, defined: DefinedType) -> Result<DefinedTypeId, AddTypeError>
+        ensures added { IfOk result (λ id. (id.0 ≡ length self.old.defined) × (self.new ≡ with_defined self.old defined)) }
+        ensures refused { OnErr result (self.new ≡ self.old) }
+        ensures fault { AnswersBy (mention_fault self.old (defined_mentions defined)) result }
+    {
+        if !self.contains_defined(&defined) {
+            return Err(AddTypeError::NotHeld);
+        }
+        let id = DefinedTypeId(self.defined.len());
+        let before = self.count();
+        let end = match &defined {
+            DefinedType::Alias(target) => self.value_end(*target),
+            _ => ValueType::Defined(id),
+        };
+        let held = Held {
+            item: defined,
+            before,
+        };
+        if self.value_ends.reserve(1).is_err() || self.defined.push(held).is_err() {
+            return Err(AddTypeError::OutOfMemory);
+        }
+        self.value_ends.push(end).unwrap();
+        Ok(id)
+    }
+
+    /// Adds an interface. Answers the lowest error that stands against it, and `OutOfMemory` where memory ran out; then nothing has changed.
+    pub fn add_interface(&mut self, interface: Interface) -> Result<InterfaceId, AddTypeError>
+        ensures added { IfOk result (λ id. (id.0 ≡ length self.old.interfaces) × (self.new ≡ with_interface self.old interface)) }
+        ensures refused { OnErr result (self.new ≡ self.old) }
+        ensures fault { AnswersBy (interface_fault self.old interface) result }
+    {
+        if let Some(fault) = self.interface_fault(&interface) {
+            return Err(fault);
+        }
+        let id = self.interfaces.len();
+        let before = self.count();
+        match self.interfaces.push(Held {
+            item: interface,
+            before,
+        }) {
+            Ok(()) => Ok(InterfaceId(id)),
+            Err(_) => Err(AddTypeError::OutOfMemory),
+        }
+    }
+
+    /// Adds a world. Answers the lowest error that stands against it, and `OutOfMemory` where memory ran out; then nothing has changed.
+    pub fn add_world(&mut self, world: World) -> Result<WorldId, AddTypeError>
+        ensures added { IfOk result (λ id. (id.0 ≡ length self.old.worlds) × (self.new ≡ with_world self.old world)) }
+        ensures refused { OnErr result (self.new ≡ self.old) }
+        ensures fault { AnswersBy (world_fault self.old world) result }
+    {
+        if let Some(fault) = self.world_fault(&world) {
+            return Err(fault);
+        }
+        let id = self.worlds.len();
+        let before = self.count();
+        match self.worlds.push(Held {
+            item: world,
+            before,
+        }) {
+            Ok(()) => Ok(WorldId(id)),
+            Err(_) => Err(AddTypeError::OutOfMemory),
+        }
+    }
+
+    /// Adds the type of a core module. Answers `OutOfMemory` where memory ran out; then nothing has changed.
+    pub fn add_module_type(&mut self, module_type: ModuleType) -> Result<ModuleTypeId, AddTypeError>
+        ensures added { IfOk result (λ id. (id.0 ≡ length self.old.modules) × (self.new ≡ with_module self.old module_type)) }
+        ensures refused { OnErr result (self.new ≡ self.old) }
+        ensures fault { AnswersBy None result }
+    {
+        let id = self.modules.len();
+        let before = self.count();
+        match self.modules.push(Held {
+            item: module_type,
+            before,
+        }) {
+            Ok(()) => Ok(ModuleTypeId(id)),
+            Err(_) => Err(AddTypeError::OutOfMemory),
+        }
+    }
+
+    // The resource at the end of the aliases; the resource itself where it isn't held.
+    pub(crate) fn resource_end(&self, id: ResourceId) -> ResourceId
+        ensures { result ≡ resolved self.now id }
+    {
+        match self.resource_ends.get(id.0) {
+            Some(end) => *end,
+            None => id,
+        }
+    }
+
+    // The value type at the end of the aliases; the value type itself where it isn't held.
+    pub(crate) fn value_end(&self, value: ValueType) -> ValueType
+        ensures { result ≡ value_resolved self.now value }
+    {
+        match value {
+            ValueType::Defined(id) => self.definition_end(id),
+            _ => value,
+        }
+    }
+
+    // The value type at the end of the aliases of a definition.
+    fn definition_end(&self, id: DefinedTypeId) -> ValueType
+        ensures { result ≡ value_resolved self.now (val.Defined id) }
+    {
+        match self.value_ends.get(id.0) {
+            Some(end) => *end,
+            None => ValueType::Defined(id),
+        }
+    }
+
+    // The interfaces, as they are held.
+    pub(crate) fn all_interfaces(&self) -> &[Held<Interface>]
+        ensures { result.now ≡ self.now.interfaces }
+    {
+        self.interfaces.as_slice()
+    }
+
+    // What is held under an id; none where it isn't held.
+    pub(crate) fn find_resource(&self, id: ResourceId) -> Option<&Resource>
+        ensures { option_copied result ≡ item_at self.now.resources id.0 }
+    {
+        match self.resources.get(id.0) {
+            Some(held) => Some(&held.item),
+            None => None,
+        }
+    }
+
+    /// The definition under an id; none where the id isn't held.
+    pub fn find_defined(&self, id: DefinedTypeId) -> Option<&DefinedType>
+        ensures { option_copied result ≡ item_at self.now.defined id.0 }
+    {
+        match self.defined.get(id.0) {
+            Some(held) => Some(&held.item),
+            None => None,
+        }
+    }
+
+    pub(crate) fn find_interface(&self, id: InterfaceId) -> Option<&Interface>
+        ensures { option_copied result ≡ item_at self.now.interfaces id.0 }
+    {
+        match self.interfaces.get(id.0) {
+            Some(held) => Some(&held.item),
+            None => None,
+        }
+    }
+}
+
+impl Index<FuncTypeId> for Types {
+    type Output = FuncType;
+
+    ghost use Rattle.wac_collection.specs.Collection.{HasFunc, item_at};
+
+    ghost can_index = { HasFunc };
+
+    ghost index_gives = { λ c id func. item_at c.funcs id.0 ≡ Some func };
+
+    fn index(&self, id: FuncTypeId) -> &FuncType {
+        &self.funcs[id.0].item
+    }
+}
+
+impl Index<InterfaceId> for Types {
+    type Output = Interface;
+
+    ghost use Rattle.wac_collection.specs.Collection.{HasInterface, item_at};
+
+    ghost can_index = { HasInterface };
+
+    ghost index_gives = { λ c id interface. item_at c.interfaces id.0 ≡ Some interface };
+
+    fn index(&self, id: InterfaceId) -> &Interface {
+        &self.interfaces[id.0].item
+    }
+}
+
+impl Index<WorldId> for Types {
+    type Output = World;
+
+    ghost use Rattle.wac_collection.specs.Collection.{HasWorld, item_at};
+
+    ghost can_index = { HasWorld };
+
+    ghost index_gives = { λ c id world. item_at c.worlds id.0 ≡ Some world };
+
+    fn index(&self, id: WorldId) -> &World {
+        &self.worlds[id.0].item
+    }
+}
+
+impl Index<ResourceId> for Types {
+    type Output = Resource;
+
+    ghost use Rattle.wac_collection.specs.Collection.{HasResource, item_at};
+
+    ghost can_index = { HasResource };
+
+    ghost index_gives = { λ c id item. item_at c.resources id.0 ≡ Some item };
+
+    fn index(&self, id: ResourceId) -> &Resource {
+        &self.resources[id.0].item
+    }
+}
+
+impl Index<DefinedTypeId> for Types {
+    type Output = DefinedType;
+
+    ghost use Rattle.wac_collection.specs.Collection.{HasDefined, item_at};
+
+    ghost can_index = { HasDefined };
+
+    ghost index_gives = { λ c id item. item_at c.defined id.0 ≡ Some item };
+
+    fn index(&self, id: DefinedTypeId) -> &DefinedType {
+        &self.defined[id.0].item
+    }
+}
+
+impl Index<ModuleTypeId> for Types {
+    type Output = ModuleType;
+
+    ghost use Rattle.wac_collection.specs.Collection.{HasModule, item_at};
+
+    ghost can_index = { HasModule };
+
+    ghost index_gives = { λ c id item. item_at c.modules id.0 ≡ Some item };
+
+    fn index(&self, id: ModuleTypeId) -> &ModuleType {
+        &self.modules[id.0].item
+    }
+}

@@ -1,0 +1,54 @@
+//! The interfaces of a collection, in order.
+ghost use Rattle.std.specs.Prelude.{◌≡◌};
+ghost use Rattle.wac_collection.specs.Interfaces.{numbered};
+
+use crate::collection::{Held, Types};
+use crate::component::{Interface, InterfaceId};
+use std::marker::Model;
+
+/// The interfaces of a collection that are still to come, each with its id.
+#[derive(Drop)]
+pub struct Interfaces<'a> {
+    held: &'a [Held<Interface>],
+    position: usize,
+}
+
+impl<'a> Model for Interfaces<'a> {
+    ghost use Rattle.std.specs.Prelude.{List, drop};
+    ghost use Rattle.wac_collection.specs.Interfaces.{numbered};
+    ghost use Rattle.wac_collection.specs.declared.component.InterfaceId.{InterfaceId};
+    ghost use Rattle.wac_collection.specs.declared.component.Interface.{Interface};
+
+    ghost Value = { List (InterfaceId × Interface) };
+
+    ghost view = { λ s. numbered s.position (drop s.position s.held.now) };
+}
+
+impl<'a> Iterator for Interfaces<'a> {
+    type Item = (InterfaceId, &'a Interface);
+
+    ghost use Rattle.std.specs.Iterator.{YieldsFirstBy, item_count};
+
+    ghost next_gives = { YieldsFirstBy (λ x. (x.0, x.1.now)) (λ s. s) };
+
+    ghost remaining = { item_count (λ s. s) };
+
+    fn next(&mut self) -> Option<(InterfaceId, &'a Interface)> {
+        let held = self.held.get(self.position)?;
+        let id = InterfaceId(self.position);
+        self.position += 1;
+        Some((id, &held.item))
+    }
+}
+
+impl Types {
+    /// The interfaces, each with its id, in the order in which they were added.
+    pub fn interfaces(&self) -> Interfaces<'_>
+        ensures { result ≡ numbered 0 self.now.interfaces }
+    {
+        Interfaces {
+            held: self.all_interfaces(),
+            position: 0,
+        }
+    }
+}

@@ -1,0 +1,293 @@
+//! Packages: a component's bytes, with the world that they are said to be of.
+ghost use Rattle.std.specs.Prelude.{◌≡◌, ◌↔◌, Some, true, length, IfOk, OnErr, IsTrue, string_bytes};
+ghost use Rattle.std.proofs.Common.{refl};
+ghost use Rattle.std.specs.Cmp.{partial_equiv_from_equiv};
+ghost use Rattle.std.specs.Hash as fed;
+ghost use Rattle.std.specs.Option.{option_map};
+ghost use Rattle.semver.specs.Identifiers.{parts_of};
+ghost use Rattle.wac_collection.specs.Collection.{holds_type};
+ghost use Rattle.wac_collection.specs.Uses.{AnswersBy, same_item};
+ghost use Rattle.wac_collection.specs.Package.{with_instance_of, package_fault, same_key, key_cmp, key_writes, key_text, HoldsPackage};
+ghost use Rattle.wac_collection.specs.KeyLaws.{same_key_equiv, key_total, key_ties, key_po, same_key_writes};
+ghost use Rattle.wac_collection.specs.declared.component.«Type».TheVariants.{World as world_type};
+
+use crate::collection::{AddTypeError, Types};
+use crate::component::{Interface, InterfaceId, ItemKind, Type, WorldId};
+use crate::named::Named;
+use semver::Version;
+use std::alloc::AllocError;
+use std::cmp::Ordering;
+use std::fmt;
+use std::hash::{Hash, Hasher};
+use std::marker::Model;
+
+/// A package: a component's bytes under a name, with the world that they are said to be of.
+#[derive(Drop)]
+pub struct Package {
+    name: String,
+    version: Option<Version>,
+    bytes: Vec<u8>,
+    world: WorldId,
+    instance_type: InterfaceId,
+}
+
+impl Model for Package {
+    ghost use Rattle.std.specs.Prelude.{string_bytes};
+    ghost use Rattle.std.specs.Option.{option_map};
+    ghost use Rattle.semver.specs.Identifiers.{parts_of};
+    ghost use Rattle.wac_collection.specs.Package.{PackageParts};
+
+    ghost Value = { PackageParts };
+
+    ghost view = { λ p. record {
+      name = string_bytes p.name;
+      version = option_map parts_of p.version;
+      bytes = p.bytes.items;
+      world = p.world;
+      instance_type = p.instance_type;
+    } };
+}
+
+impl Package {
+    /// A package of a held world. Adds the interface of its instances: one without an id, with the world's exports. Answers `ResourceMisnamed` where the world exports a resource under another name than its own, unless it is an alias, and `OutOfMemory` where memory ran out; then the collection is as it was.
+    pub fn new(
+        name: &str,
+        version: Option<&Version>,
+        bytes: Vec<u8>,
+        world: WorldId,
+        types: &mut Types,
+    ) -> Result<Package, AddTypeError>
+        requires { holds_type types.old (world_type world) ≡ true }
+        ensures built { IfOk result (λ p. p ≡ record {
+          name = name.now;
+          version = option_map (λ v. parts_of v.now) version.entry;
+          bytes = bytes.items;
+          world = world;
+          instance_type = record { 0 = length types.old.interfaces };
+        }) }
+        ensures added { IfOk result (λ p. types.new ≡ with_instance_of types.old world) }
+        ensures refused { OnErr result (types.new ≡ types.old) }
+        ensures fault { AnswersBy (package_fault types.old world) result }
+        ensures held { IfOk result (λ p. HoldsPackage types.new p) }
+    {
+        types.law();
+        let alloc = types.allocator();
+        let uses = Named::new(alloc);
+        let named_right = types.named_right(&uses, &types[world].exports);
+        if !named_right {
+            return Err(AddTypeError::ResourceMisnamed);
+        }
+        let Ok(name) = String::from_str(alloc, name) else {
+            return Err(AddTypeError::OutOfMemory);
+        };
+        let Ok(version) = cloned(version) else {
+            return Err(AddTypeError::OutOfMemory);
+        };
+        let Ok(exports) = types[world].exports.copied(alloc) else {
+            return Err(AddTypeError::OutOfMemory);
+        };
+        match types.add_interface(Interface {
+            id: None,
+            uses,
+            exports,
+        }) {
+            Ok(instance_type) => Ok(Package {
+                name,
+                version,
+                bytes,
+                world,
+                instance_type,
+            }),
+            Err(fault) => Err(fault),
+        }
+    }
+
+    /// The package's name.
+    pub fn name(&self) -> &str
+        ensures { result.now ≡ self.now.name }
+    {
+        self.name.as_str()
+    }
+
+    /// The package's version.
+    pub fn version(&self) -> Option<&Version>
+        ensures { option_map (λ v. parts_of v.now) result ≡ self.now.version }
+    {
+        self.version.as_ref()
+    }
+
+    /// The component's bytes.
+    pub fn bytes(&self) -> &[u8]
+        ensures { result.now ≡ self.now.bytes }
+    {
+        self.bytes.as_slice()
+    }
+
+    /// The component's world.
+    pub fn ty(&self) -> WorldId
+        ensures { result ≡ self.now.world }
+    {
+        self.world
+    }
+
+    /// The interface of the component's instances.
+    pub fn instance_type(&self) -> InterfaceId
+        ensures { result ≡ self.now.instance_type }
+    {
+        self.instance_type
+    }
+
+    /// The name and version, under which a graph knows the package.
+    pub fn key(&self) -> Result<PackageKey, AllocError>
+        ensures { IfOk result (λ k. k ≡ (self.now.name, self.now.version)) }
+    {
+        let name = self.name.clone()?;
+        let version = cloned(self.version.as_ref())?;
+        Ok(PackageKey { name, version })
+    }
+}
+
+// The version, in memory of its own.
+fn cloned(version: Option<&Version>) -> Result<Option<Version>, AllocError>
+    ensures { IfOk result (λ v. option_map parts_of v ≡ option_map (λ x. parts_of x.now) version.entry) }
+{
+    match version {
+        Some(version) => Ok(Some(version.clone()?)),
+        None => Ok(None),
+    }
+}
+
+/// A package's name and version.
+#[derive(Debug, Drop)]
+pub struct PackageKey {
+    name: String,
+    version: Option<Version>,
+}
+
+impl Model for PackageKey {
+    ghost use Rattle.std.specs.Prelude.{string_bytes};
+    ghost use Rattle.std.specs.Option.{option_map};
+    ghost use Rattle.semver.specs.Identifiers.{parts_of};
+    ghost use Rattle.wac_collection.specs.Package.{Key};
+
+    ghost Value = { Key };
+
+    ghost view = { λ k. (string_bytes k.name, option_map parts_of k.version) };
+}
+
+impl PackageKey {
+    /// The name.
+    pub fn name(&self) -> &str
+        ensures { result.now ≡ self.now.0 }
+    {
+        self.name.as_str()
+    }
+
+    /// The version.
+    pub fn version(&self) -> Option<&Version>
+        ensures { option_map (λ v. parts_of v.now) result ≡ self.now.1 }
+    {
+        self.version.as_ref()
+    }
+}
+
+/// Shows `name`, or `name@version`.
+impl fmt::Display for PackageKey {
+    ghost output = { λ k. Some (key_text k) };
+
+    fn fmt<W: fmt::Write>(&self, f: &mut fmt::Formatter<W>) -> fmt::Result {
+        let name = self.name.as_str();
+        match &self.version {
+            None => write!(f, "{name}"),
+            Some(version) => write!(f, "{name}@{version}"),
+        }
+    }
+}
+
+impl PartialEq for PackageKey {
+    ghost eq = { same_key };
+
+    ghost laws = { partial_equiv_from_equiv same_key_equiv };
+
+    fn eq(&self, other: &PackageKey) -> bool {
+        self.name.as_str() == other.name.as_str() && self.version == other.version
+    }
+}
+
+impl Eq for PackageKey {
+    ghost laws = { same_key_equiv };
+}
+
+impl PartialOrd for PackageKey {
+    ghost partial_cmp = { λ a b. Some (key_cmp a b) };
+
+    ghost laws = { key_po };
+
+    fn partial_cmp(&self, other: &PackageKey) -> Option<Ordering> {
+        Some(self.cmp(other))
+    }
+}
+
+impl Ord for PackageKey {
+    ghost cmp = { key_cmp };
+
+    ghost total = { key_total };
+
+    ghost matches_partial_cmp = { λ a b. refl };
+
+    ghost matches_eq = { key_ties };
+
+    fn cmp(&self, other: &PackageKey) -> Ordering {
+        self.name
+            .as_str()
+            .cmp(other.name.as_str())
+            .then(self.version.cmp(&other.version))
+    }
+}
+
+impl Hash for PackageKey {
+    ghost hash_input = { key_writes };
+
+    ghost respects_eq = { λ a b e. same_key_writes a b e };
+
+    fn hash<H: Hasher>(&self, state: &mut H) {
+        self.name.as_str().hash(state);
+        self.version.hash(state);
+    }
+}
+
+impl Types {
+    /// Whether a package's world and the interface of its instances are held, and list the same exports in the same order.
+    pub fn holds_package(&self, package: &Package) -> bool
+        ensures { IsTrue result ↔ HoldsPackage self.now «package».now }
+    {
+        let world = package.ty();
+        let interface = package.instance_type();
+        if !self.contains(Type::World(world)) || !self.contains(Type::Interface(interface)) {
+            return false;
+        }
+        same_items(&self[interface].exports, &self[world].exports)
+    }
+}
+
+// Whether the same items are listed in the same order.
+fn same_items(a: &Named<ItemKind>, b: &Named<ItemKind>) -> bool
+    ensures { IsTrue result ↔ (a.now ≡ b.now) }
+{
+    if a.len() != b.len() {
+        return false;
+    }
+    for i in 0..a.len() {
+        if a.name_at(i) != b.name_at(i) || !same_item(*a.value_at(i), *b.value_at(i)) {
+            return false;
+        }
+    }
+    true
+}
+
+// Whether two items have the same sort and the same id.
+fn same_item(a: ItemKind, b: ItemKind) -> bool
+    ensures { result ≡ same_item a b }
+{
+    a == b
+}

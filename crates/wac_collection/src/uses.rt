@@ -1,0 +1,193 @@
+//! What an interface or a world uses of other interfaces, and what stands against adding it.
+ghost use Rattle.std.specs.Prelude.{◌≡◌};
+ghost use Rattle.wac_collection.specs.Name.{same_name};
+ghost use Rattle.wac_collection.specs.Uses.{used_item, is_used_by_id, is_there, same_type, same_type_item, is_listed_as_used, is_named_right, used_by_id, are_there, listed_as_used, named_right, uses_fault, interface_fault, world_fault};
+
+use crate::collection::{AddTypeError, Types};
+use crate::component::{Interface, ItemKind, Resource, Type, UsedType, World};
+use crate::named::Named;
+
+// Whether two types have the same sort and the same id.
+fn same_type(a: Type, b: Type) -> bool
+    ensures { result ≡ same_type a b }
+{
+    a == b
+}
+
+// Whether a resource has this name.
+fn is_named(resource: &Resource, name: &str) -> bool
+    ensures { result ≡ same_name resource.now.name name.now }
+{
+    resource.name.as_str() == name
+}
+
+impl Types {
+    // The item that the interface of a used type exports under its name there.
+    fn used_item(&self, name: &str, used: &UsedType) -> Option<ItemKind>
+        ensures { result ≡ used_item self.now name.now used.now }
+    {
+        let interface = self.find_interface(used.interface)?;
+        match &used.name {
+            Some(text) => interface.exports.get(text.as_str()).copied(),
+            None => interface.exports.get(name).copied(),
+        }
+    }
+
+    // Whether the interface that a type is used from has an id.
+    fn is_used_by_id(&self, used: &UsedType) -> bool
+        ensures { result ≡ is_used_by_id self.now used.now }
+    {
+        match self.find_interface(used.interface) {
+            Some(interface) => interface.id.is_some(),
+            None => false,
+        }
+    }
+
+    // Whether that interface exports a type item of the used name.
+    fn is_there(&self, name: &str, used: &UsedType) -> bool
+        ensures { result ≡ is_there self.now (name.now, used.now) }
+    {
+        match self.used_item(name, used) {
+            Some(ItemKind::TypeItem(_)) => true,
+            _ => false,
+        }
+    }
+
+    // Whether two items are type items of the same type, at the ends of aliases.
+    fn same_type_item(&self, a: ItemKind, b: ItemKind) -> bool
+        ensures { result ≡ same_type_item self.now a b }
+    {
+        match (a, b) {
+            (ItemKind::TypeItem(a), ItemKind::TypeItem(b)) => {
+                same_type(self.resolve_type(a), self.resolve_type(b))
+            }
+            _ => false,
+        }
+    }
+
+    // Whether what is listed under the name of a used type, where something is, is the used type.
+    fn is_listed_as_used(&self, listed: &Named<ItemKind>, name: &str, used: &UsedType) -> bool
+        ensures { result ≡ is_listed_as_used self.now listed.now (name.now, used.now) }
+    {
+        match listed.get(name) {
+            None => true,
+            Some(kind) => match self.used_item(name, used) {
+                None => false,
+                Some(used) => self.same_type_item(*kind, used),
+            },
+        }
+    }
+
+    // Whether an item, where it is an own resource, is listed under the resource's own name.
+    fn is_named_right(&self, uses: &Named<UsedType>, name: &str, kind: ItemKind) -> bool
+        ensures { result ≡ is_named_right self.now uses.now (name.now, kind) }
+    {
+        match kind {
+            ItemKind::TypeItem(Type::Resource(id)) => {
+                if uses.get(name).is_some() {
+                    return true;
+                }
+                match self.find_resource(id) {
+                    None => false,
+                    Some(resource) => resource.alias.is_some() || is_named(resource, name),
+                }
+            }
+            _ => true,
+        }
+    }
+
+    fn used_by_id(&self, uses: &Named<UsedType>) -> bool
+        ensures { result ≡ used_by_id self.now uses.now }
+    {
+        for i in 0..uses.len() {
+            if !self.is_used_by_id(uses.value_at(i)) {
+                return false;
+            }
+        }
+        true
+    }
+
+    fn are_there(&self, uses: &Named<UsedType>) -> bool
+        ensures { result ≡ are_there self.now uses.now }
+    {
+        for i in 0..uses.len() {
+            if !self.is_there(uses.name_at(i), uses.value_at(i)) {
+                return false;
+            }
+        }
+        true
+    }
+
+    fn listed_as_used(&self, uses: &Named<UsedType>, listed: &Named<ItemKind>) -> bool
+        ensures { result ≡ listed_as_used self.now uses.now listed.now }
+    {
+        for i in 0..uses.len() {
+            if !self.is_listed_as_used(listed, uses.name_at(i), uses.value_at(i)) {
+                return false;
+            }
+        }
+        true
+    }
+
+    pub(crate) fn named_right(&self, uses: &Named<UsedType>, listed: &Named<ItemKind>) -> bool
+        ensures { result ≡ named_right self.now uses.now listed.now }
+    {
+        for i in 0..listed.len() {
+            if !self.is_named_right(uses, listed.name_at(i), *listed.value_at(i)) {
+                return false;
+            }
+        }
+        true
+    }
+
+    // The lowest error that stands against uses beside these items.
+    fn uses_fault(&self, uses: &Named<UsedType>, listed: &Named<ItemKind>) -> Option<AddTypeError>
+        ensures { result ≡ uses_fault self.now uses.now listed.now }
+    {
+        if !self.used_by_id(uses) {
+            Some(AddTypeError::UsedInterfaceUnnamed)
+        } else if !self.are_there(uses) {
+            Some(AddTypeError::UsedTypeMissing)
+        } else if !self.listed_as_used(uses, listed) {
+            Some(AddTypeError::UsedTypeDiffers)
+        } else {
+            None
+        }
+    }
+
+    // The lowest error that stands against an interface.
+    pub(crate) fn interface_fault(&self, interface: &Interface) -> Option<AddTypeError>
+        ensures { result ≡ interface_fault self.now interface.now }
+    {
+        if !self.contains_interface(interface) {
+            return Some(AddTypeError::NotHeld);
+        }
+        if let Some(fault) = self.uses_fault(&interface.uses, &interface.exports) {
+            return Some(fault);
+        }
+        if self.named_right(&interface.uses, &interface.exports) {
+            None
+        } else {
+            Some(AddTypeError::ResourceMisnamed)
+        }
+    }
+
+    // The lowest error that stands against a world.
+    pub(crate) fn world_fault(&self, world: &World) -> Option<AddTypeError>
+        ensures { result ≡ world_fault self.now world.now }
+    {
+        if !self.contains_world(world) {
+            return Some(AddTypeError::NotHeld);
+        }
+        if let Some(fault) = self.uses_fault(&world.uses, &world.imports) {
+            return Some(fault);
+        }
+        if self.named_right(&world.uses, &world.imports)
+            && self.named_right(&world.uses, &world.exports)
+        {
+            None
+        } else {
+            Some(AddTypeError::ResourceMisnamed)
+        }
+    }
+}
