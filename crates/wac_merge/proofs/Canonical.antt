@@ -137,7 +137,7 @@ module _ (all : List Entry) where
   ]
 
   -- the members of one class, from two of its names
-  members-alike : (a b : Name) (es : List Entry) → same_class by_names all a b ≡ true → filter (λ e. same_class by_names all a e.name) es ≡ filter (λ e. same_class by_names all b e.name) es
+  pub members-alike : (a b : Name) (es : List Entry) → same_class by_names all a b ≡ true → filter (λ e. same_class by_names all a e.name) es ≡ filter (λ e. same_class by_names all b e.name) es
   members-alike a b [] t = refl
   members-alike a b (e ∷ es) t = λ i. cond (alike a b e.name t i) (e ∷ members-alike a b es t i) (members-alike a b es t i)
 
@@ -196,7 +196,7 @@ module _ (all : List Entry) where
 -- ---- the name of an import
 
 -- class names are names of entries
-class_name-asked : (all es : List Entry) (m : Name) → list_any (λ n. same_name n m) (names_of_classes by_names all es) ≡ true → is_asked es m ≡ true
+pub class_name-asked : (all es : List Entry) (m : Name) → list_any (λ n. same_name n m) (names_of_classes by_names all es) ≡ true → is_asked es m ≡ true
 class_name-asked all [] m h = absurd (false≢true h)
 class_name-asked all (e ∷ es) m h =
     let rest : List Name = names_of_classes by_names all es in

@@ -1,16 +1,17 @@
 -- The way to where two items disagree.
-use Rattle.std.proofs.Common.{◌≡◌, ℕ, zero, suc, ◌+◌, ◌<◌, Bool, true, false, not, is_some, ◌↔◌, List, [], ◌∷◌, ◌++◌, ◌⊎◌, inl, inr, length, map, take, Option, Some, None, refl, ap, sym, ◌∙◌, subst, arith, add-one}
+use Rattle.std.proofs.Common.{◌≡◌, ℕ, zero, suc, ◌+◌, ◌<◌, if◌then◌else◌, Bool, true, false, not, is_some, ◌↔◌, List, [], ◌∷◌, ◌++◌, ◌⊎◌, inl, inr, length, map, take, Option, Some, None, refl, ap, sym, ◌∙◌, subst, arith, add-one}
 use Rattle.std.specs.Prelude.{slice_get, IsTrue, IsSome, IfOk, Result, Ok, Err, string_bytes}
 use Rattle.std.specs.List.{AllByRecursion}
 use Rattle.std.specs.Option.{MatchOption, option_map}
-use Rattle.wac_collection.specs.Name.{Name, find_name, option_case}
+use Rattle.wac_collection.specs.Name.{Name, same_name, find_name, option_case}
 use Rattle.wac_collection.specs.Tree.{TypeTree, absent, instance, instance_item}
 use Rattle.wac_types.specs.Called.{Called}
 use Rattle.wac_collection.specs.Collection.{Collection, interface_exports}
 use Rattle.wac_collection.specs.declared.component.ItemKind.{ItemKind}
 use Rattle.wac_collection.specs.declared.component.ItemKind.TheVariants as kind
 use Rattle.wac_collection.specs.declared.component.InterfaceId.{InterfaceId}
-use Rattle.wac_collection.proofs.Names.{take_at}
+use Rattle.wac_collection.proofs.Names.{take_at, same_name-from, same_name-refl, same_name-true}
+use Rattle.std.proofs.lemmas.Bool.{cases_Bool}
 use Rattle.wac_merge.specs.Agreement.{LeadsApart, here, below, AgreesAt}
 use Rattle.wac_merge.specs.Nodes.{Node, Item, type_of, item_tree, listed_tree, tree_at, IsTable}
 use Rattle.wac_merge.specs.declared.apart.Step.{Step}
@@ -53,9 +54,22 @@ split_at [] i x at = absurd (no_some x at)
 split_at (y ∷ xs) zero x at = (xs, ap (λ z. z ∷ xs) (some_same y x at))
 split_at (y ∷ xs) (suc i) x at = let (after, is) = split_at xs i x at in (after, ap (λ l. y ∷ l) is)
 
-at_middle : {A : Type 0} (xs : List A) (x : A) (ys : List A) → slice_get (xs ++ x ∷ ys) (length xs) ≡ Some x
-at_middle [] x ys = refl
-at_middle (z ∷ xs) x ys = at_middle xs x ys
+-- something is found under a name that stands in a listing
+find_there : {V : Type 0} (es : List (Name × V)) (q : ℕ) (e : Name × V) → slice_get es q ≡ Some e → (v : V) × (find_name es e.0 ≡ Some v)
+find_there [] q e at = absurd (no_some e at)
+find_there (y ∷ es) zero e at = (y.1, ap (λ b. if b then Some y.1 else find_name es e.0) (same_name-from e.0 y.0 (ap (λ z. z.0) (sym (some_same y e at)))))
+find_there (y ∷ es) (suc q) e at = elim (cases_Bool (same_name e.0 y.0)) [
+  | inl t ↦ (y.1, ap (λ b. if b then Some y.1 else find_name es e.0) t)
+  | inr f ↦ let (v, is) = find_there es q e at in (v, ap (λ b. if b then Some y.1 else find_name es e.0) f ∙ is)
+]
+
+-- what stands behind names that all have what its own has not is found
+find_first : {V : Type 0} (P : Name → Type 0) (before : List (Name × V)) (n : Name) (v : V) (after : List (Name × V)) → AllByRecursion (λ e. P e.0) before → (P n → ⊥) → find_name (before ++ (n, v) ∷ after) n ≡ Some v
+find_first P [] n v after h never = ap (λ b. if b then Some v else find_name after n) (same_name-refl n)
+find_first P (y ∷ before) n v after h never = elim (cases_Bool (same_name n y.0)) [
+  | inl t ↦ absurd (never (subst P (sym (same_name-true n y.0 t)) h.0))
+  | inr f ↦ ap (λ b. if b then Some y.1 else find_name (before ++ (n, v) ∷ after) n) f ∙ find_first P before n v after h.1 never
+]
 
 at_first : {A : Type 0} (xs ys : List A) (k : ℕ) (x : A) → slice_get xs k ≡ Some x → slice_get (xs ++ ys) k ≡ Some x
 at_first [] ys k x at = absurd (no_some x at)
@@ -82,8 +96,7 @@ of_kind_shaped c (instance_item (instance g)) (kind.Instance i) h = λ n. at n (
   at n (inl gone) _ = subst (λ t. IsShaped t) (sym gone) tt
   at n (inr there) on =
       let (k, is) = some_of (find_name (interface_exports c i) n) (h.1 n there) in
-      let (q, at) = find_at (interface_exports c i) n k is in
-      on k (h.2 q (n, k) at).1
+      on k (h.2 n k is).1
 of_kind_shaped c (instance_item (instance g)) _ h = absurd h
 of_kind_shaped c (instance_item _) k h = h
 of_kind_shaped c _ k h = tt
@@ -125,16 +138,20 @@ module _ (c : Collection) (ns : List Node) (table : IsTable ns) where
         all : IsShaped (instance_item (instance f))
         all = subst (λ t. IsShaped t) (open_tree ns table x es open_x) shaped
 
-      listed_here : slice_get (interface_exports c i) (length next.before) ≡ Some (n, k)
-      listed_here = ap (λ l. slice_get l (length next.before)) next.order ∙ at_middle next.before (n, k) next.after
+      listed_here : find_name (interface_exports c i) n ≡ Some k
+      listed_here =
+          ap (λ l. find_name l n) next.order
+          ∙ find_first (AgreeUnder ns es fs) next.before n k next.after next.agree (λ agree. next.under.apart (agree a b next.under.in_first next.under.in_second))
 
       pub of_kind_on : IsOfKind c (item_tree (tree_at ns) b) k
-      of_kind_on = subst (λ t. IsOfKind c t k) (in_g n (Some b) next.under.in_second) (opened.2 (length next.before) (n, k) listed_here).1
+      of_kind_on = subst (λ t. IsOfKind c t k) (in_g n (Some b) next.under.in_second) (opened.2 n k listed_here).1
 
       agrees_at : (q : ℕ) (e : Name × ItemKind) → slice_get next.before q ≡ Some e → AgreeUnder ns es fs e.0 → AgreesAt f g e
       agrees_at q e at agree = go (find_name es e.0) (find_name fs e.0) refl refl where
         there : g e.0 ≡ absent → ⊥
-        there = (opened.2 q e (ap (λ l. slice_get l q) next.order ∙ at_first next.before ((n, k) ∷ next.after) q e at)).0
+        there =
+            let (l, is) = find_there (interface_exports c i) q e (ap (λ l. slice_get l q) next.order ∙ at_first next.before ((n, k) ∷ next.after) q e at) in
+            (opened.2 e.0 l is).0
 
         go : (o r : Option Item) → find_name es e.0 ≡ o → find_name fs e.0 ≡ r → AgreesAt f g e
         go None r is also = inl (in_f e.0 None is)

@@ -28,12 +28,12 @@ some-same : {A : Type 0} (x y : A) → Some x ≡ Some y → x ≡ y
 some-same x y e = cc
 
 module _ {A : Type 0} where
-  get-left : (xs ys : List A) (i : ℕ) (x : A) → slice_get xs i ≡ Some x → slice_get (xs ++ ys) i ≡ Some x
+  pub get-left : (xs ys : List A) (i : ℕ) (x : A) → slice_get xs i ≡ Some x → slice_get (xs ++ ys) i ≡ Some x
   get-left [] ys i x at = cc
   get-left (z ∷ xs) ys zero x at = at
   get-left (z ∷ xs) ys (suc i) x at = get-left xs ys i x at
 
-  get-right : (xs ys : List A) (j k : ℕ) → k ≡ length xs + j → slice_get (xs ++ ys) k ≡ slice_get ys j
+  pub get-right : (xs ys : List A) (j k : ℕ) → k ≡ length xs + j → slice_get (xs ++ ys) k ≡ slice_get ys j
   get-right [] ys j k e = let same : k ≡ j = omega (arith, e) in ap (slice_get ys) same
   get-right (z ∷ xs) ys j zero e = absurd (omega (arith, e))
   get-right (z ∷ xs) ys j (suc k) e = get-right xs ys j k (omega (arith, e))
@@ -97,7 +97,7 @@ listed-more ss more last p es e first next =
     ∙ ap (λ r. ss ++ r) (sym (map-both (inside p) (opened es) (opened_by e.1)) ∙ ap (map (inside p)) (sym whole))))
 
 -- the item whose kind is read at a position
-entry-at : (es : List (Name × ItemKind)) (i : ℕ) (k : ItemKind) → option_map (λ e. e.1) (slice_get es i) ≡ Some k → (e : Name × ItemKind) × (slice_get es i ≡ Some e) × (e.1 ≡ k)
+pub entry-at : (es : List (Name × ItemKind)) (i : ℕ) (k : ItemKind) → option_map (λ e. e.1) (slice_get es i) ≡ Some k → (e : Name × ItemKind) × (slice_get es i ≡ Some e) × (e.1 ≡ k)
 entry-at [] i k at = cc
 entry-at (e ∷ es) zero k at = (e, refl, some-same e.1 k at)
 entry-at (e ∷ es) (suc i) k at = entry-at es i k at

@@ -315,6 +315,14 @@ exports_held c wf i it at =
     subst (λ (x : Interface). holds_all c (kind_types x.exports) ≡ true) w.2
     (all_within c (w.0).before (kind_types (w.0).item.exports) (behind (IsBefore c (w.0).before) (used_types (w.0).item.uses) (kind_types (w.0).item.exports) h))
 
+-- and so are the interfaces from which a held interface uses types
+pub uses_held : (c : Collection) → IsWellFormed c → (i : InterfaceId) (it : Interface) → item_at c.interfaces i.0 ≡ Some it → holds_all c (used_types it.uses) ≡ true
+uses_held c wf i it at =
+    let w = item-held c.interfaces i.0 it at in
+    let h = (wf.interfaces i.0 w.0 w.1).1 in
+    subst (λ (x : Interface). holds_all c (used_types x.uses) ≡ true) w.2
+    (all_within c (w.0).before (used_types (w.0).item.uses) (before (IsBefore c (w.0).before) (used_types (w.0).item.uses) (kind_types (w.0).item.exports) h))
+
 module _ (c : Collection) (wf : IsWellFormed c) (i : WorldId) (world : World) (at : item_at c.worlds i.0 ≡ Some world) where
   pub imports_held : holds_all c (kind_types world.imports) ≡ true
   imports_held =

@@ -123,7 +123,7 @@ pub class_none : (rules : NameRules) (c : Collection) (es : List Entry) (class :
 class_none rules c es class h r = members_none rules c class (members rules es class) r h
 
 module _ (b : ℕ) where
-  abbrev M : TypeTree Leaf → Type 0
+  abbrev pub M : TypeTree Leaf → Type 0
   M t = Mentions (λ l. begins_at b l.path) t
 
   abbrev R : TypeTree Called → Type 0
@@ -132,7 +132,7 @@ module _ (b : ℕ) where
   abbrev pub Same : TypeTree Leaf → TypeTree Called → Type 0
   Same t u = Mentions (λ l. begins_at b l.path) t ↔ Reaches (IsOfClass b) u
 
-  held : (t : TypeTree Leaf) → M t → Holding (λ l. begins_at b l.path) t
+  pub held : (t : TypeTree Leaf) → M t → Holding (λ l. begins_at b l.path) t
   held t h = holding (λ l. begins_at b l.path) t h
 
   in_it : (u : TypeTree Called) → R u → Inside (IsOfClass b) u
@@ -291,19 +291,19 @@ module _ (b : ℕ) where
       (same_parts (λ p. t p.1) (λ p. u p.1) (λ p. s p.1) f.params) (same_optional t u s f.result)
 
   -- ---- in a component nothing begins at a position
-  abbrev No : Option Leaf → Type 0
+  abbrev pub No : Option Leaf → Type 0
   No o = (l : Leaf) → o ≡ Some l → begins_at b l.path → ⊥
 
-  no_none : No None
+  pub no_none : No None
   no_none l is h = cc
 
-  no_some : (k : Leaf) → (begins_at b k.path → ⊥) → No (Some k)
+  pub no_some : (k : Leaf) → (begins_at b k.path → ⊥) → No (Some k)
   no_some k none l is h = let same : k ≡ l = cc in none (subst (λ x. begins_at b x.path) (sym same) h)
 
   no_named : (o : ℕ) (s : Side) (n : Name) (p : List Place) → No (Some (record { out = o; side = s; path = named n ∷ p }))
   no_named o s n p = no_some (record { out = o; side = s; path = named n ∷ p }) (λ h. h)
 
-  no_first : (o p : Option Leaf) → No o → No p → No (first_some o p)
+  pub no_first : (o p : Option Leaf) → No o → No p → No (first_some o p)
   no_first None p h g = g
   no_first (Some l) p h g = h
 
@@ -343,7 +343,7 @@ module _ (b : ℕ) where
       no_first (bound_in_order c uses s (filter (λ e. not (lists_type e)) es) r) (bound_in_order c uses s (filter lists_type es) r)
       (no_in_order c uses s (filter (λ e. not (lists_type e)) es) r) (no_in_order c uses s (filter lists_type es) r)
 
-  abbrev Nothing : Names Leaf → Type 0
+  abbrev pub Nothing : Names Leaf → Type 0
   Nothing m = (r : ResourceId) → No (m r)
 
   no_imports : (c : Collection) (w : World) → Nothing (bound_by_imports c w)
@@ -352,7 +352,7 @@ module _ (b : ℕ) where
   no_exports : (c : Collection) (w : World) → Nothing (bound_in_world c w)
   no_exports c w r = no_first (bound_by_imports c w r) (first_bound c w.uses exported w.exports r) (no_imports c w r) (no_listed c w.uses exported w.exports r)
 
-  no_outer : (o : Option Leaf) → No o → No (option_case o None (λ l. Some (further_out l)))
+  pub no_outer : (o : Option Leaf) → No o → No (option_case o None (λ l. Some (further_out l)))
   no_outer None h = no_none
   no_outer (Some l) h = no_some (further_out l) (h l refl)
 
@@ -362,7 +362,7 @@ module _ (b : ℕ) where
     split None = no_outer (m r) (none r)
     split (Some n) = no_named 0 exported n []
 
-  abbrev Quiet : TypeTree Leaf → Type 0
+  abbrev pub Quiet : TypeTree Leaf → Type 0
   Quiet t = Mentions (λ l. begins_at b l.path) t → ⊥
 
   quiet_parts : {A : Type 0} (f : A → TypeTree Leaf) → ((a : A) → Quiet (f a)) → (es : List A) (i : ℕ) → Quiet (part_at (map f es) i)
@@ -370,7 +370,7 @@ module _ (b : ℕ) where
   quiet_parts f q (e ∷ es) zero h = q e h
   quiet_parts f q (e ∷ es) (suc i) h = quiet_parts f q es i h
 
-  quiet_items : (f : Name × ItemKind → TypeTree Leaf) → ((e : Name × ItemKind) → Quiet (f e)) → (es : List (Name × ItemKind)) (n : Name) → Quiet (items_under (map (λ e. (e.0, f e)) es) n)
+  pub quiet_items : (f : Name × ItemKind → TypeTree Leaf) → ((e : Name × ItemKind) → Quiet (f e)) → (es : List (Name × ItemKind)) (n : Name) → Quiet (items_under (map (λ e. (e.0, f e)) es) n)
   quiet_items f q [] n = λ h. held absent h
   quiet_items f q (e ∷ es) n = elim (same_name n e.0) as (λ t. Quiet (if t then f e else items_under (map (λ x. (x.0, f x)) es) n)) [
     | true ↦ q e
@@ -408,7 +408,7 @@ module _ (b : ℕ) where
     split (inl (i, g)) = quiet_parts (λ p. t p.1) (λ p. q p.1) f.params i g
     split (inr g) = quiet_optional t q f.result g
 
-  quiet_item : (t : AnyType → TypeTree Leaf) → ((a : AnyType) → Quiet (t a)) → (f : Bool) (k : ItemKind) → Quiet (item_tree t f k)
+  pub quiet_item : (t : AnyType → TypeTree Leaf) → ((a : AnyType) → Quiet (t a)) → (f : Bool) (k : ItemKind) → Quiet (item_tree t f k)
   quiet_item t q true (kind.TypeItem a) h = held fresh h
   quiet_item t q false (kind.TypeItem a) h = q a (held (type_equal (t a)) h)
   quiet_item t q f (kind.Func x) h = q (ty.Func x) (held (function_item (t (ty.Func x))) h)
@@ -456,7 +456,7 @@ module _ (b : ℕ) where
         quiet_items (place_item c (bound_in_world c w) exported (u (bound_in_world c w)))
         (λ e. quiet_item (u (bound_in_world c w)) (q (bound_in_world c w) (no_exports c w)) (binds_here c (bound_in_world c w) exported (named e.0 ∷ []) e.1) e.1) w.exports n g
 
-  quiet_to : (c : Collection) (k : ℕ) (m : Names Leaf) → Nothing m → (t : AnyType) → Quiet (unfolded_to (by_place c) c k m t)
+  pub quiet_to : (c : Collection) (k : ℕ) (m : Names Leaf) → Nothing m → (t : AnyType) → Quiet (unfolded_to (by_place c) c k m t)
   quiet_to c zero m none t h = held absent h
   quiet_to c (suc k) m none (ty.Resource r) h = quiet_resource (m (resolved c r)) (none (resolved c r)) h
   quiet_to c (suc k) m none (ty.Func f) h =
@@ -602,7 +602,7 @@ module _ (b : ℕ) where
   same_to c (suc k) m n alike (ty.Module x) = same_held module_tree module_tree (λ y. (λ h. absurd (held (module_tree y) h), λ h. absurd (in_it (module_tree y) h))) (slice_get c.modules x.0)
 
   -- ---- what a class binds begins at no position
-  abbrev Free : Option (List Place) → Type 0
+  abbrev pub Free : Option (List Place) → Type 0
   Free o = (p : List Place) → o ≡ Some p → begins_at b p → ⊥
 
   free_none : Free None
@@ -652,7 +652,7 @@ module _ (b : ℕ) where
   free_members rules c class [] r = free_none
   free_members rules c class (e ∷ es) r = free_first (kind_binds rules c class e.kind r) (first_binds rules c class es r) (free_kind rules c class e.kind r) (free_members rules c class es r)
 
-  free_class : (rules : NameRules) (c : Collection) (es : List Entry) (class : Name) (r : ResourceId) → Free (class_binds rules c es class r)
+  pub free_class : (rules : NameRules) (c : Collection) (es : List Entry) (class : Name) (r : ResourceId) → Free (class_binds rules c es class r)
   free_class rules c es class r = free_members rules c class (members rules es class) r
 
   -- ---- at the root, and inside an entry

@@ -19,3 +19,13 @@ pub mod Shapes
 pub mod Reach
 pub mod ReachSteps
 pub mod Circles
+pub mod CallsView
+pub mod Tasks
+pub mod Coding
+pub mod ModuleCoding
+pub mod ItemCoding
+pub mod Listings
+pub mod Compared
+pub mod Faults
+pub mod Aggregate
+pub mod Resting

@@ -26,7 +26,7 @@ IsShaped t = Unit {0}
 -- a tree is of a kind: it is an instance where the kind is one of an interface, and then it exports what the interface lists, each of its kind
 abbrev pub IsOfKind : Collection → TypeTree Called → ItemKind → Type 0
 IsOfKind c (instance_item (instance g)) (kind.Instance i) =
-    HasInterface c i × ((n : Name) → (g n ≡ absent → ⊥) → IsSome (find_name (interface_exports c i) n)) × ((k : ℕ) (e : Name × ItemKind) → slice_get (interface_exports c i) k ≡ Some e → (g e.0 ≡ absent → ⊥) × IsOfKind c (g e.0) e.1)
+    HasInterface c i × ((n : Name) → (g n ≡ absent → ⊥) → IsSome (find_name (interface_exports c i) n)) × ((n : Name) (k : ItemKind) → find_name (interface_exports c i) n ≡ Some k → (g n ≡ absent → ⊥) × IsOfKind c (g n) k)
 IsOfKind c (instance_item t) k = ⊥
 IsOfKind c t (kind.Instance i) = ⊥
 IsOfKind c t k = Unit {0}

@@ -18,22 +18,35 @@
 mod aggregator;
 mod agreement;
 mod apart;
-mod asked;
 mod bindings;
 mod bound;
 mod called;
+mod calls;
 mod circles;
 mod classes;
+mod coder;
+mod compared;
 mod entry;
+mod fault;
+#[cfg(test)]
+mod finish_tests;
+mod items;
 pub mod laws;
+mod listing;
+mod listings;
+mod memo;
+mod modules;
 mod naming;
 mod nodes;
 mod reach;
 #[cfg(test)]
 mod resting_tests;
+mod rests;
 mod scopes;
 mod slots;
+mod tasks;
 #[cfg(test)]
 mod tests;
 
 pub use aggregator::TypeAggregator;
+pub use fault::MergeFault;

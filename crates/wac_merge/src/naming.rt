@@ -4,6 +4,7 @@ ghost use Rattle.wac_types.specs.Called.{resource_name};
 ghost use Rattle.wac_collection.specs.Collection.{HasResource};
 ghost use Rattle.wac_collection.specs.Held.{resolved};
 ghost use Rattle.wac_collection.specs.Name.{Name};
+ghost use Rattle.wac_merge.specs.Agreement.{called_in_class};
 ghost use Rattle.wac_merge.specs.Bindings.{AreBindings, first_in, path_in};
 ghost use Rattle.wac_merge.specs.CalledViews.{called_view, path_view};
 ghost use Rattle.wac_merge.specs.Classes.{by_names, class_names, is_instance};
@@ -116,5 +117,30 @@ pub(crate) fn called(
         };
         position = parent;
         out += 1;
+    }
+}
+
+/// What a resource is called around the scopes of an item.
+pub(crate) fn called_outside(
+    alloc: Global,
+    types: &Types,
+    bindings: &Bindings,
+    class: usize,
+    resource: ResourceId,
+) -> Result<Called, AllocError>
+    requires held { HasResource types.now resource }
+    ensures { IfOk result (λ x. (es : List classes.Entry) (name : Name) → AreBindings types.now es bindings.now → slice_get (class_names by_names es) class ≡ Some name
+        → called_in_class by_names types.now es name (resolved types.now resource) ≡ Some (called_view x)) }
+{
+    types.law();
+    let resource = types.resolve_resource(resource);
+    let name = own_name(alloc, types, resource)?;
+    if let Some(path) = bindings.path(class, resource) {
+        let path = copied(alloc, path)?;
+        return Ok(Called::Bound(0, Side::Imported, path, name));
+    }
+    match bindings.first(resource) {
+        Some((number, path)) => Ok(Called::OfClass(number, copied(alloc, path)?, name)),
+        None => Ok(Called::Itself(resource, name)),
     }
 }

@@ -57,7 +57,7 @@ fn class_of(called: &Called) -> Option<usize>
 }
 
 /// Puts a number among others.
-fn put(numbers: &mut BTreeSet<usize>, number: usize) -> Result<(), AllocError>
+pub(crate) fn put(numbers: &mut BTreeSet<usize>, number: usize) -> Result<(), AllocError>
     ensures { OnOk result (numbers.new.keys ≡ set.insert_key nat_cmp numbers.old.keys number) }
 {
     match numbers.insert(number) {
@@ -67,7 +67,10 @@ fn put(numbers: &mut BTreeSet<usize>, number: usize) -> Result<(), AllocError>
 }
 
 /// Puts a number among others, where there is one.
-fn put_optional(numbers: &mut BTreeSet<usize>, number: Option<usize>) -> Result<(), AllocError>
+pub(crate) fn put_optional(
+    numbers: &mut BTreeSet<usize>,
+    number: Option<usize>,
+) -> Result<(), AllocError>
     ensures { OnOk result (numbers.new.keys ≡ with_all numbers.old.keys (and_optional number [])) }
 {
     match number {
@@ -110,7 +113,7 @@ fn put_all(numbers: &mut BTreeSet<usize>, more: &[usize]) -> Result<(), AllocErr
 }
 
 /// The number of an item's type.
-fn type_of(item: Item) -> usize
+pub(crate) fn type_of(item: Item) -> usize
     ensures { result ≡ type_of (item_view item) }
 {
     match item {

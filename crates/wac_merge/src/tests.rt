@@ -1,5 +1,5 @@
 use crate::TypeAggregator;
-use crate::asked::Asked;
+use crate::classes::Classes;
 use crate::entry::Entry;
 use std::alloc::Global;
 use std::test::Fail;
@@ -12,9 +12,7 @@ fn interface(types: &mut Types, alloc: Global) -> Result<InterfaceId, Fail> {
 }
 
 #[test]
-fn instances_on_one_track_are_imported_under_the_greatest_name(
-    rt: HostRuntime,
-) -> Result<(), Fail> {
+fn instances_on_one_track_are_of_one_class(rt: HostRuntime) -> Result<(), Fail> {
     let alloc = rt.alloc();
     let mut types = Types::new(alloc);
     let instance = ItemKind::Instance(interface(&mut types, alloc)?);
@@ -22,16 +20,14 @@ fn instances_on_one_track_are_imported_under_the_greatest_name(
     for name in ["a:b/c@0.2.0", "a:b/d@0.2.0", "a:b/c@0.2.9", "a:b/c@0.3.0"] {
         entries.push(Entry::new(alloc, name, instance)?)?;
     }
-    let asked = Asked::new(alloc, entries)?;
-    for (name, want) in [
-        ("a:b/c@0.2.0", "a:b/c@0.2.9"),
-        ("a:b/c@0.2.9", "a:b/c@0.2.9"),
-        ("a:b/c@0.3.0", "a:b/c@0.3.0"),
-        ("a:b/d@0.2.0", "a:b/d@0.2.0"),
-        ("a:b/c@0.2.1", "a:b/c@0.2.1"),
-    ] {
-        assert_eq!(rt; asked.canonical_import_name(name), want);
-    }
+    let classes = Classes::new(alloc, entries.as_slice())?;
+    assert_eq!(rt;
+        classes.number("a:b/c@0.2.9"),
+        classes.number("a:b/c@0.2.0")
+    );
+    assert!(rt; classes.number("a:b/c@0.3.0") != classes.number("a:b/c@0.2.0"));
+    assert!(rt; classes.number("a:b/d@0.2.0") != classes.number("a:b/c@0.2.0"));
+    assert_eq!(rt; classes.number("a:b/c@0.2.1"), None);
     Ok(())
 }
 
@@ -52,9 +48,12 @@ fn what_is_no_instance_is_joined_by_its_name_alone(rt: HostRuntime) -> Result<()
     ] {
         entries.push(Entry::new(alloc, name, kind)?)?;
     }
-    let asked = Asked::new(alloc, entries)?;
-    assert_eq!(rt; asked.canonical_import_name("a:b/c@0.2.0"), "a:b/c@0.2.9");
-    assert_eq!(rt; asked.canonical_import_name("a:b/d@0.2.0"), "a:b/d@0.2.0");
+    let classes = Classes::new(alloc, entries.as_slice())?;
+    assert_eq!(rt;
+        classes.number("a:b/c@0.2.9"),
+        classes.number("a:b/c@0.2.0")
+    );
+    assert!(rt; classes.number("a:b/d@0.2.9") != classes.number("a:b/d@0.2.0"));
     Ok(())
 }
 

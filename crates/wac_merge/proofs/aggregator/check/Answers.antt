@@ -1,0 +1,52 @@
+use Rattle.std.proofs.Common.{◌≡◌, ◌<◌, ℕ, List, length, map, refl, ap, sym, ◌∙◌, subst, Some, None, slice_get, string_bytes, inr}
+use Rattle.std.proofs.lemmas.Option.{slice_get_within}
+use Rattle.wac_merge.specs.Classes.{by_names, class_names, canonical}
+use Rattle.wac_merge.specs.ClassOrder.{IsFirstOnCircle}
+use Rattle.wac_merge.specs.Compared.{AreCompared}
+use Rattle.wac_merge.specs.Faults.{Disagrees, HasNoCircle, HasNoDisagreement, disagree, use_each_other}
+use Rattle.wac_merge.specs.NodeViews.{item_view}
+use Rattle.wac_merge.specs.declared.compared.Disagreement.{Disagreement}
+use Rattle.wac_merge.specs.declared.nodes.Item.{Item}
+use Rattle.wac_merge.proofs.FaultLemmas.{circle_class, none_of, pair_of}
+use Rattle.wac_merge.proofs.aggregator.check.Goals as goal
+
+pub first_pair-requires-clause-items : goal.first_pair-requires-clause-items
+first_pair-requires-clause-items c =
+    subst (λ (xs : List Item). AreCompared c.entry_items.new.nodes c.args.types.now c.args.entries.now (map item_view xs)) (sym c.as_slice-items.ensures.value) c.in_ok-items.ensures.items
+
+pub returns-in-Some-clause-fault : goal.returns-in-Some-clause-fault
+returns-in-Some-clause-fault c =
+    let t = c.args.types.now in
+    let es = c.args.entries.now in
+    let d = c.in-Some.pair in
+    let has = pair_of (λ (x : Disagreement). Disagrees by_names t es x.first x.second (string_bytes x.export)) (HasNoDisagreement by_names t es) c.in_ok-pair.field-0 d c.in_ok-pair.ensures c.in-Some.is in
+    inr (disagree d.first d.second (string_bytes d.export), refl, has)
+
+pub first_on_circle-requires-clause-items : goal.first_on_circle-requires-clause-items
+first_on_circle-requires-clause-items c =
+    subst (λ (xs : List Item). AreCompared c.entry_items.new.nodes c.args.types.now c.args.entries.now (map item_view xs)) (sym c.as_slice-items.ensures.value) c.in_ok-items.ensures.items
+
+pub circle-requires-clause-number : goal.circle-requires-clause-number
+circle-requires-clause-number c =
+    let t = c.args.types.now in
+    let es = c.args.entries.now in
+    let n : ℕ = c.in-Some-2.number in
+    let is_first = pair_of (λ (a : ℕ). IsFirstOnCircle by_names t es a) (HasNoCircle by_names t es) c.in_ok-number.field-0 n c.in_ok-number.ensures c.in-Some-2.is in
+    let w = circle_class t es n is_first.on in
+    slice_get_within (class_names by_names es) n w.0 w.1
+
+pub returns-in-Some-2-clause-fault : goal.returns-in-Some-2-clause-fault
+returns-in-Some-2-clause-fault c =
+    let t = c.args.types.now in
+    let es = c.args.entries.now in
+    let n : ℕ = c.in-Some-2.number in
+    let agree = none_of (λ (x : Disagreement). Disagrees by_names t es x.first x.second (string_bytes x.export)) (HasNoDisagreement by_names t es) c.in_ok-pair.field-0 c.in_ok-pair.ensures c.in_default.is in
+    let is_first = pair_of (λ (a : ℕ). IsFirstOnCircle by_names t es a) (HasNoCircle by_names t es) c.in_ok-number.field-0 n c.in_ok-number.ensures c.in-Some-2.is in
+    let (class, numbered) = circle_class t es n is_first.on in
+    inr (use_each_other (canonical by_names es class), c.in_ok-circle-in-Some-2.ensures class numbered, (agree, record { number = n; class = class; is_first = is_first; numbered = numbered; named = refl }))
+
+pub first_on_circle-requires-clause-agree : goal.first_on_circle-requires-clause-agree
+first_on_circle-requires-clause-agree c =
+    let t = c.args.types.now in
+    let es = c.args.entries.now in
+    none_of (λ (x : Disagreement). Disagrees by_names t es x.first x.second (string_bytes x.export)) (HasNoDisagreement by_names t es) c.in_ok-pair.field-0 c.in_ok-pair.ensures c.in_default.is

@@ -1,0 +1,177 @@
+use crate::{MergeFault, TypeAggregator};
+use std::alloc::Global;
+use std::process::Abort;
+use std::test::Fail;
+use wac_types::{
+    DefinedType, Enum, FuncType, Interface, InterfaceId, ItemKind, PrimitiveType, Type, Types,
+    ValueType,
+};
+
+// A function without parameters that gives nothing.
+fn plain(types: &mut Types, alloc: Global) -> Result<ItemKind, Fail> {
+    let func = FuncType::new(alloc, &[], None, false)?;
+    Ok(ItemKind::Func(types.add_func_type(func)?))
+}
+
+// A function without parameters that gives a bool.
+fn telling(types: &mut Types, alloc: Global) -> Result<ItemKind, Fail> {
+    let result = Some(ValueType::Primitive(PrimitiveType::Bool));
+    let func = FuncType::new(alloc, &[], result, false)?;
+    Ok(ItemKind::Func(types.add_func_type(func)?))
+}
+
+// An instance that exports one function.
+fn exporting(
+    types: &mut Types,
+    alloc: Global,
+    name: &str,
+    func: ItemKind,
+) -> Result<ItemKind, Fail> {
+    let interface = Interface::new(alloc, None, &[(name, func)])?;
+    Ok(ItemKind::Instance(types.add_interface(interface)?))
+}
+
+// An interface with an enum under a name.
+fn with_type(
+    types: &mut Types,
+    alloc: Global,
+    id: &str,
+    name: &str,
+    item: ItemKind,
+) -> Result<InterfaceId, Fail> {
+    let interface = Interface::new(alloc, Some(id), &[(name, item)])?;
+    Ok(types.add_interface(interface)?)
+}
+
+// An interface that uses a type of another.
+fn with_use(
+    types: &mut Types,
+    alloc: Global,
+    id: &str,
+    name: &str,
+    of: InterfaceId,
+    item: ItemKind,
+) -> Result<InterfaceId, Fail> {
+    let interface = Interface::with_uses(alloc, Some(id), &[(name, of, None)], &[(name, item)])?;
+    Ok(types.add_interface(interface)?)
+}
+
+// What `finish` answers where these are asked for.
+fn finished(
+    alloc: Global,
+    rt: &impl Abort,
+    types: &Types,
+    asked: &[(&str, ItemKind)],
+) -> Result<Result<TypeAggregator, MergeFault>, Fail> {
+    let mut aggregator = TypeAggregator::new(alloc);
+    for i in 0..asked.len() {
+        let (name, kind) = asked[i];
+        assert!(rt; types.contains(kind.ty()));
+        aggregator = aggregator.aggregate(name, types, kind)?;
+    }
+    Ok(aggregator.finish(types))
+}
+
+// Two entries do not agree.
+fn assert_disagree(
+    alloc: Global,
+    rt: &impl Abort,
+    types: &Types,
+    asked: &[(&str, ItemKind)],
+    want: (usize, usize, &str),
+) -> Result<(), Fail> {
+    match finished(alloc, rt, types, asked)? {
+        Err(
+            MergeFault::Disagree {
+                first,
+                second,
+                export,
+            },
+        ) => {
+            assert_eq!(rt; first, want.0);
+            assert_eq!(rt; second, want.1);
+            assert_eq!(rt; export.as_str(), want.2);
+            Ok(())
+        }
+        _ => Err(Fail::new("another answer")),
+    }
+}
+
+#[test]
+fn functions_of_one_name_are_to_be_equal(rt: HostRuntime) -> Result<(), Fail> {
+    let alloc = rt.alloc();
+    let mut types = Types::new(alloc);
+    let a = plain(&mut types, alloc)?;
+    let b = telling(&mut types, alloc)?;
+    assert_disagree(alloc, &rt, &types, &[("x", a), ("x", b)], (0, 1, ""))
+}
+
+#[test]
+fn the_first_export_that_differs_is_named(rt: HostRuntime) -> Result<(), Fail> {
+    let alloc = rt.alloc();
+    let mut types = Types::new(alloc);
+    let a = plain(&mut types, alloc)?;
+    let b = telling(&mut types, alloc)?;
+    let f = exporting(&mut types, alloc, "f", a)?;
+    let g = exporting(&mut types, alloc, "g", a)?;
+    let h = exporting(&mut types, alloc, "g", b)?;
+    let asked = [("a:b/c@0.2.0", f), ("a:b/c@0.2.1", g), ("a:b/c@0.2.2", h)];
+    assert_disagree(alloc, &rt, &types, &asked, (1, 2, "g"))
+}
+
+#[test]
+fn classes_are_named_by_the_greatest_version(rt: HostRuntime) -> Result<(), Fail> {
+    let alloc = rt.alloc();
+    let mut types = Types::new(alloc);
+    let a = plain(&mut types, alloc)?;
+    let f = exporting(&mut types, alloc, "f", a)?;
+    let g = exporting(&mut types, alloc, "g", a)?;
+    let asked = [
+        ("a:b/c@0.2.0", f),
+        ("a:b/c@0.2.3", g),
+        ("a:b/c@0.3.0", g),
+        ("primary", f),
+        ("secondary", f),
+    ];
+    let Ok(merged) = finished(alloc, &rt, &types, &asked)? else {
+        return Err(Fail::new("another answer"));
+    };
+    for (name, want) in [
+        ("a:b/c@0.2.0", "a:b/c@0.2.3"),
+        ("a:b/c@0.2.3", "a:b/c@0.2.3"),
+        ("a:b/c@0.3.0", "a:b/c@0.3.0"),
+        ("primary", "primary"),
+        ("secondary", "secondary"),
+        ("a:b/c@0.2.1", "a:b/c@0.2.1"),
+    ] {
+        assert_eq!(rt; merged.canonical_import_name(name), want);
+    }
+    Ok(())
+}
+
+#[test]
+fn imports_that_use_each_other_are_refused(rt: HostRuntime) -> Result<(), Fail> {
+    let alloc = rt.alloc();
+    let mut types = Types::new(alloc);
+    let t = types.add_defined_type(DefinedType::Enum(Enum::new(alloc, &["a"])?))?;
+    let t = ItemKind::TypeItem(Type::Value(ValueType::Defined(t)));
+    let u = types.add_defined_type(DefinedType::Enum(Enum::new(alloc, &["b"])?))?;
+    let u = ItemKind::TypeItem(Type::Value(ValueType::Defined(u)));
+    let y = with_type(&mut types, alloc, "a:b/y@1.0.0", "t", t)?;
+    let x = with_use(&mut types, alloc, "a:b/x@1.0.0", "t", y, t)?;
+    let later_x = with_type(&mut types, alloc, "a:b/x@1.1.0", "u", u)?;
+    let later_y = with_use(&mut types, alloc, "a:b/y@1.1.0", "u", later_x, u)?;
+    let asked = [
+        ("a:b/y@1.0.0", ItemKind::Instance(y)),
+        ("a:b/x@1.0.0", ItemKind::Instance(x)),
+        ("a:b/x@1.1.0", ItemKind::Instance(later_x)),
+        ("a:b/y@1.1.0", ItemKind::Instance(later_y)),
+    ];
+    match finished(alloc, &rt, &types, &asked)? {
+        Err(MergeFault::UseEachOther { import }) => {
+            assert_eq!(rt; import.as_str(), "a:b/y@1.1.0");
+            Ok(())
+        }
+        _ => Err(Fail::new("another answer")),
+    }
+}
