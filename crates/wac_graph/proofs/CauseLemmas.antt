@@ -9,12 +9,17 @@ use Rattle.wac_graph.specs.declared.encode.EncodeOptions.{EncodeOptions}
 use Rattle.wac_graph.specs.declared.errors.EncodeError.{EncodeError}
 use Rattle.wac_graph.specs.declared.errors.EncodeError.TheVariants as error
 use Rattle.wac_graph.specs.declared.node.NodeId.{NodeId}
+use Rattle.wac_graph.specs.Graph as graph
 use Rattle.wac_graph.specs.Graph.{Graph, GraphNode, node_at, imports_of, package_of, IsImportOf}
 use Rattle.wac_graph.specs.Sound.{IsSound}
 use Rattle.wac_graph.specs.Order.{IsAcyclic, IsLowestOnCycle}
 use Rattle.wac_graph.specs.Means.{node_number}
 use Rattle.wac_graph.specs.NotYet.{IsNotYet, AllWritable}
-use Rattle.wac_graph.specs.Cause.{IsFirstConflict, HasNoConflict, Cause, cycle, conflict, not_yet, Stands, cause_of}
+use Rattle.wac_merge.specs.Classes.{by_names}
+use Rattle.wac_merge.specs.Faults.{OneFault, Fault, disagree, use_each_other}
+use Rattle.wac_graph.specs.Asked.{Entry}
+use Rattle.wac_graph.specs.Entries.{asked_entries, to_merge}
+use Rattle.wac_graph.specs.Cause.{IsFirstConflict, HasNoConflict, HasMerge, IsMergeConflict, IsImplicitMerge, IsExplicitMerge, IsImportCircle, Cause, cycle, conflict, implicit_merge, explicit_merge, import_circle, not_yet, Stands, cause_of}
 use Rattle.wac_graph.specs.Search.{IsRefused}
 use Rattle.wac_graph.proofs.MeansLemmas.{none_left}
 
@@ -48,17 +53,124 @@ one_conflict g sound i j n m k l s t a b =
     let (import, key, text) = same_first g sound i j n k l s t a (subst (λ x. IsFirstConflict g j x l t) (sym here) b) in
     λ d. conflict (import d) (here d) (key d) (text d)
 
+-- ---- causes of merging
+same_some : {A : Type 0} (o : Option A) (x y : A) → o ≡ Some x → o ≡ Some y → x ≡ y
+same_some o x y p q = let e : Some x ≡ Some y = sym p ∙ q in cc
+
+module _ (g : Graph) (law : OneFault) where
+  abbrev first_in : Fault → ℕ
+  first_in (disagree p q x) = p
+  first_in (use_each_other x) = 0
+
+  abbrev second_in : Fault → ℕ
+  second_in (disagree p q x) = q
+  second_in (use_each_other x) = 0
+
+  abbrev text_in : Fault → Name
+  text_in (disagree p q x) = x
+  text_in (use_each_other x) = x
+
+  record SamePair (p q r s : ℕ) (x y : Name) (a : IsMergeConflict g p q x) (b : IsMergeConflict g r s y) : Type 0 where
+    first : p ≡ r
+    second : q ≡ s
+    text : x ≡ y
+    earlier : a.earlier ≡ b.earlier
+    later : a.later ≡ b.later
+
+  same_pair : (p q r s : ℕ) (x y : Name) (a : IsMergeConflict g p q x) (b : IsMergeConflict g r s y) → SamePair p q r s x y a b
+  same_pair p q r s x y a b =
+      let same : disagree p q x ≡ disagree r s y = law g.types (to_merge (asked_entries g)) (disagree p q x) (disagree r s y) a.disagree b.disagree in
+      let first : p ≡ r = ap first_in same in
+      let second : q ≡ s = ap second_in same in
+      record {
+        first = first;
+        second = second;
+        text = ap text_in same;
+        earlier = same_some (slice_get (asked_entries g) p) a.earlier b.earlier a.at_first (ap (slice_get (asked_entries g)) first ∙ b.at_first);
+        later = same_some (slice_get (asked_entries g) q) a.later b.later a.at_second (ap (slice_get (asked_entries g)) second ∙ b.at_second);
+      }
+
+  same_node : (n m : NodeId) → n.0 ≡ m.0 → n ≡ m
+  same_node n m e = λ d. record { 0 = e d }
+
+  one_implicit : (i j : Name) (f s t u : NodeId) (p q r v : ℕ) (x y : Name) → IsImplicitMerge g i f s p q x → IsImplicitMerge g j t u r v y → implicit_merge i f s p q x ≡ implicit_merge j t u r v y
+  one_implicit i j f s t u p q r v x y a b =
+      let same = same_pair p q r v x y a.conflict b.conflict in
+      let name : i ≡ j = a.name ∙ (ap (λ (e : Entry). e.name) same.later ∙ sym b.name) in
+      let firsts : f ≡ t = same_node f t (a.by_first ∙ (ap (λ (e : Entry). e.node) same.earlier ∙ sym b.by_first)) in
+      let seconds : s ≡ u = same_node s u (a.by_second ∙ (ap (λ (e : Entry). e.node) same.later ∙ sym b.by_second)) in
+      let at : p ≡ r = same.first in
+      let behind : q ≡ v = same.second in
+      let text : x ≡ y = same.text in
+      λ d. implicit_merge (name d) (firsts d) (seconds d) (at d) (behind d) (text d)
+
+  one_explicit : (i j : Name) (n o m k : NodeId) → IsExplicitMerge g i n o → IsExplicitMerge g j m k → explicit_merge i n o ≡ explicit_merge j m k
+  one_explicit i j n o m k a b =
+      let same = same_pair a.first a.second b.first b.second a.export b.export a.conflict b.conflict in
+      let name : i ≡ j = a.name ∙ (ap (λ (e : Entry). e.name) same.later ∙ sym b.name) in
+      let nodes : n ≡ m = same_node n m (a.by_node ∙ (ap (λ (e : Entry). e.node) same.later ∙ sym b.by_node)) in
+      let others : o ≡ k = same_node o k (a.by_other ∙ (ap (λ (e : Entry). e.node) same.earlier ∙ sym b.by_other)) in
+      λ d. explicit_merge (name d) (nodes d) (others d)
+
+  not_both : (i j : Name) (f s n o : NodeId) (p q : ℕ) (x : Name) → IsImplicitMerge g i f s p q x → IsExplicitMerge g j n o → ⊥
+  not_both i j f s n o p q x a b =
+      let same = same_pair p q b.first b.second x b.export a.conflict b.conflict in
+      let one : s ≡ n = same_node s n (a.by_second ∙ (ap (λ (e : Entry). e.node) same.later ∙ sym b.by_node)) in
+      let node : (a.asked).node ≡ (b.asked).node = same_some (node_at g s) (a.asked).node (b.asked).node (a.asked).there (ap (node_at g) one ∙ (b.asked).there) in
+      let kind : graph.instantiation ≡ graph.import (b.asked).name = sym (a.asked).instantiated ∙ (ap (λ (x : GraphNode). x.kind) node ∙ (b.asked).imported) in
+      cc
+
+  one_circle : (i j : Name) → IsImportCircle g i → IsImportCircle g j → import_circle i ≡ import_circle j
+  one_circle i j a b = ap import_circle (ap text_in (law g.types (to_merge (asked_entries g)) (use_each_other i) (use_each_other j) (a.agree, a.circle) (b.agree, b.circle)))
+
+  -- who disagrees
+  apart_in : (p q : ℕ) (x : Name) → IsMergeConflict g p q x → HasMerge g → ⊥
+  apart_in p q x a merges = merges.0 p q (a.disagree).is_first.disagree
+
+  circle_in : (i : Name) → IsImportCircle g i → HasMerge g → ⊥
+  circle_in i a merges = merges.1 (a.circle).number (a.circle).is_first.on
+
+  apart_circle : (p q : ℕ) (x i : Name) → IsMergeConflict g p q x → IsImportCircle g i → ⊥
+  apart_circle p q x i a b = b.agree p q (a.disagree).is_first.disagree
+
 -- no two causes stand
-pub one_cause : (g : Graph) → IsSound g → (o : EncodeOptions) (a b : Cause) → Stands g o a → Stands g o b → a ≡ b
-one_cause g sound o (cycle n) (cycle m) a b = ap cycle (same_id n m (a.lowest m.0 b.here) (b.lowest n.0 a.here))
-one_cause g sound o (cycle n) (conflict j m l t) a b = absurd (b.0 n.0 a.here)
-one_cause g sound o (cycle n) not_yet a b = absurd (b.0 n.0 a.here)
-one_cause g sound o (conflict i n k s) (cycle m) a b = absurd (a.0 m.0 b.here)
-one_cause g sound o (conflict i n k s) (conflict j m l t) a b = one_conflict g sound i j n m k l s t a.1 b.1
-one_cause g sound o (conflict i n k s) not_yet a b = absurd (b.1 i n (a.1).position s (a.1).conflict)
-one_cause g sound o not_yet (cycle m) a b = absurd (a.0 m.0 b.here)
-one_cause g sound o not_yet (conflict j m l t) a b = absurd (a.1 j m (b.1).position t (b.1).conflict)
-one_cause g sound o not_yet not_yet a b = refl
+pub one_cause : (g : Graph) → IsSound g → OneFault → (o : EncodeOptions) (a b : Cause) → Stands g o a → Stands g o b → a ≡ b
+one_cause g sound law o (cycle n) (cycle m) a b = ap cycle (same_id n m (a.lowest m.0 b.here) (b.lowest n.0 a.here))
+one_cause g sound law o (cycle n) (conflict j m l t) a b = absurd (b.0 n.0 a.here)
+one_cause g sound law o (cycle n) (implicit_merge i f s p q x) a b = absurd (b.0 n.0 a.here)
+one_cause g sound law o (cycle n) (explicit_merge i m k) a b = absurd (b.0 n.0 a.here)
+one_cause g sound law o (cycle n) (import_circle i) a b = absurd (b.0 n.0 a.here)
+one_cause g sound law o (cycle n) not_yet a b = absurd (b.0 n.0 a.here)
+one_cause g sound law o (conflict i n k s) (cycle m) a b = absurd (a.0 m.0 b.here)
+one_cause g sound law o (conflict i n k s) (conflict j m l t) a b = one_conflict g sound i j n m k l s t a.1 b.1
+one_cause g sound law o (conflict i n k s) (implicit_merge j f t p q x) a b = absurd (b.1 i n (a.1).position s (a.1).conflict)
+one_cause g sound law o (conflict i n k s) (explicit_merge j m t) a b = absurd (b.1 i n (a.1).position s (a.1).conflict)
+one_cause g sound law o (conflict i n k s) (import_circle j) a b = absurd (b.1 i n (a.1).position s (a.1).conflict)
+one_cause g sound law o (conflict i n k s) not_yet a b = absurd (b.1 i n (a.1).position s (a.1).conflict)
+one_cause g sound law o (implicit_merge i f s p q x) (cycle m) a b = absurd (a.0 m.0 b.here)
+one_cause g sound law o (implicit_merge i f s p q x) (conflict j m l t) a b = absurd (a.1 j m (b.1).position t (b.1).conflict)
+one_cause g sound law o (implicit_merge i f s p q x) (implicit_merge j t u r v y) a b = one_implicit g law i j f s t u p q r v x y a.2 b.2
+one_cause g sound law o (implicit_merge i f s p q x) (explicit_merge j n k) a b = absurd (not_both g law i j f s n k p q x a.2 b.2)
+one_cause g sound law o (implicit_merge i f s p q x) (import_circle j) a b = absurd (apart_circle g law p q x j (a.2).conflict b.2)
+one_cause g sound law o (implicit_merge i f s p q x) not_yet a b = absurd (apart_in g law p q x (a.2).conflict b.2)
+one_cause g sound law o (explicit_merge i n k) (cycle m) a b = absurd (a.0 m.0 b.here)
+one_cause g sound law o (explicit_merge i n k) (conflict j m l t) a b = absurd (a.1 j m (b.1).position t (b.1).conflict)
+one_cause g sound law o (explicit_merge i n k) (implicit_merge j t u r v y) a b = absurd (not_both g law j i t u n k r v y b.2 a.2)
+one_cause g sound law o (explicit_merge i n k) (explicit_merge j m l) a b = one_explicit g law i j n k m l a.2 b.2
+one_cause g sound law o (explicit_merge i n k) (import_circle j) a b = absurd (apart_circle g law (a.2).first (a.2).second (a.2).export j (a.2).conflict b.2)
+one_cause g sound law o (explicit_merge i n k) not_yet a b = absurd (apart_in g law (a.2).first (a.2).second (a.2).export (a.2).conflict b.2)
+one_cause g sound law o (import_circle i) (cycle m) a b = absurd (a.0 m.0 b.here)
+one_cause g sound law o (import_circle i) (conflict j m l t) a b = absurd (a.1 j m (b.1).position t (b.1).conflict)
+one_cause g sound law o (import_circle i) (implicit_merge j t u r v y) a b = absurd (apart_circle g law r v y i (b.2).conflict a.2)
+one_cause g sound law o (import_circle i) (explicit_merge j m l) a b = absurd (apart_circle g law (b.2).first (b.2).second (b.2).export i (b.2).conflict a.2)
+one_cause g sound law o (import_circle i) (import_circle j) a b = one_circle g law i j a.2 b.2
+one_cause g sound law o (import_circle i) not_yet a b = absurd (circle_in g law i a.2 b.2)
+one_cause g sound law o not_yet (cycle m) a b = absurd (a.0 m.0 b.here)
+one_cause g sound law o not_yet (conflict j m l t) a b = absurd (a.1 j m (b.1).position t (b.1).conflict)
+one_cause g sound law o not_yet (implicit_merge j t u r v y) a b = absurd (apart_in g law r v y (b.2).conflict a.2)
+one_cause g sound law o not_yet (explicit_merge j m l) a b = absurd (apart_in g law (b.2).first (b.2).second (b.2).export (b.2).conflict a.2)
+one_cause g sound law o not_yet (import_circle j) a b = absurd (circle_in g law j b.2 a.2)
+one_cause g sound law o not_yet not_yet a b = refl
 
 -- the cause that a refusal names stands
 pub names_cause : (g : Graph) (o : EncodeOptions) (e : EncodeError) → IsRefused g o e → IfSome (cause_of e) (Stands g o)
@@ -66,18 +178,21 @@ names_cause g o e (inl is) = subst (λ x. IfSome (cause_of x) (Stands g o)) (sym
 names_cause g o e (inr (cause, names, stands)) = subst (λ x. IfSome x (Stands g o)) (sym names) stands
 
 -- the cause that stands is the one that a refusal names
-pub refused_for : (g : Graph) → IsSound g → (o : EncodeOptions) (e : EncodeError) → IsRefused g o e → (cause : Cause) → Stands g o cause → (cause_of e ≡ Some cause) ⊎ (e ≡ error.OutOfMemory)
-refused_for g sound o e (inl is) cause stands = inr is
-refused_for g sound o e (inr (named, names, there)) cause stands = inl (names ∙ ap Some (one_cause g sound o named cause there stands))
+pub refused_for : (g : Graph) → IsSound g → OneFault → (o : EncodeOptions) (e : EncodeError) → IsRefused g o e → (cause : Cause) → Stands g o cause → (cause_of e ≡ Some cause) ⊎ (e ≡ error.OutOfMemory)
+refused_for g sound law o e (inl is) cause stands = inr is
+refused_for g sound law o e (inr (named, names, there)) cause stands = inl (names ∙ ap Some (one_cause g sound law o named cause there stands))
 
 -- where nothing is refused no cause stands
-pub none_stands : (g : Graph) (o : EncodeOptions) → IsAcyclic g.edges → HasNoConflict g → AllWritable g → o.define_components ≡ true → (IsSome o.processor → ⊥) → (cause : Cause) → Stands g o cause → ⊥
-none_stands g o acyclic apart all define plain (cycle n) s = acyclic n.0 s.here
-none_stands g o acyclic apart all define plain (conflict i n k t) s = apart i n (s.1).position t (s.1).conflict
-none_stands g o acyclic apart all define plain not_yet s = none_left g all o define plain s.2
+pub none_stands : (g : Graph) → OneFault → (o : EncodeOptions) → IsAcyclic g.edges → HasNoConflict g → HasMerge g → AllWritable g → o.define_components ≡ true → (IsSome o.processor → ⊥) → (cause : Cause) → Stands g o cause → ⊥
+none_stands g law o acyclic apart merges all define plain (cycle n) s = acyclic n.0 s.here
+none_stands g law o acyclic apart merges all define plain (conflict i n k t) s = apart i n (s.1).position t (s.1).conflict
+none_stands g law o acyclic apart merges all define plain (implicit_merge i f t p q x) s = apart_in g law p q x (s.2).conflict merges
+none_stands g law o acyclic apart merges all define plain (explicit_merge i n k) s = apart_in g law (s.2).first (s.2).second (s.2).export (s.2).conflict merges
+none_stands g law o acyclic apart merges all define plain (import_circle i) s = circle_in g law i s.2 merges
+none_stands g law o acyclic apart merges all define plain not_yet s = none_left g all o define plain s.3
 
-pub at_not_yet : (g : Graph) (o : EncodeOptions) → IsAcyclic g.edges → HasNoConflict g → IsNotYet g o → IsRefused g o error.NotYet
-at_not_yet g o acyclic apart here = inr (not_yet, refl, (acyclic, apart, here))
+pub at_not_yet : (g : Graph) (o : EncodeOptions) → IsAcyclic g.edges → HasNoConflict g → HasMerge g → IsNotYet g o → IsRefused g o error.NotYet
+at_not_yet g o acyclic apart merges here = inr (not_yet, refl, (acyclic, apart, merges, here))
 
 pub at_cycle : (g : Graph) (n : ℕ) → IsLowestOnCycle g.edges n → (o : EncodeOptions) → IsRefused g o (error.GraphContainsCycle (node_number n))
 at_cycle g n lowest o = inr (cycle (node_number n), refl, lowest)

@@ -269,7 +269,7 @@ spread f (Some x ∷ slots) j (suc count) h vacant =
     ap (λ rows. f j ++ rows) (spread f slots (j + 1) count (omega arith) (λ k none. let e : (j + 1) + k ≡ j + suc k = omega arith in ap f e ∙ vacant (suc k) none))
 
 module _ (a : Inside) (end : ℕ) (slots : length a.nodes.slots ≤ end) where
-  by_numbers : (f : ℕ → List Row) → ((n : ℕ) → get a.nodes n ≡ None → f n ≡ []) → flat_map f (finite.keys (nodes_of a.nodes.slots)) ≡ flat_map f (range_with_len 0 end)
+  pub by_numbers : {X : Type 0} (f : ℕ → List X) → ((n : ℕ) → get a.nodes n ≡ None → f n ≡ []) → flat_map f (finite.keys (nodes_of a.nodes.slots)) ≡ flat_map f (range_with_len 0 end)
   by_numbers f vacant =
       ap (λ es. flat_map f (map (λ e. e.0) es)) (entries_are a.nodes.slots 0)
       ∙ spread f a.nodes.slots 0 end slots (λ k none. let e : 0 + k ≡ k = omega arith in ap f e ∙ vacant k none)

@@ -28,4 +28,12 @@ pub mod WriteAliasLemmas
 pub mod WriteArgumentsLemmas
 pub mod Rows
 pub mod ImportRows
+pub mod EntryLists
+pub mod UsedEntries
+pub mod AskingTasks
+pub mod AskingKnown
+pub mod AskingLoops
+pub mod AskingWalk
 pub mod ImportExample
+pub mod AskedHeld
+pub mod MergeLemmas

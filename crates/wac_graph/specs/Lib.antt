@@ -9,6 +9,8 @@ pub mod Steps
 pub mod Arguments
 pub mod Asked
 pub mod Imports
+pub mod Entries
+pub mod EntriesLeft
 pub mod Means
 pub mod ImportsLeft
 pub mod Encoding

@@ -28,6 +28,7 @@ use crate::packages::PackageId;
 use std::alloc::{AllocError, Global};
 use std::collections::BTreeSet;
 use wac_binary::{ComponentBuilder, Sort};
+use wac_merge::laws::fault_law;
 use wac_types::{ItemKind, Named};
 
 /// What is named in the component as its processor.
@@ -76,18 +77,23 @@ impl CompositionGraph {
     ///
     /// Answers `GraphContainsCycle` exactly where edges form a cycle, with the lowest node on one; else
     /// `ImplicitImportConflict` where an import of an instantiation is not satisfied and has exactly the name of an import
-    /// node, with the lowest such instantiation and its first such import; else `NotYet` where an argument is not set, a
-    /// node is an import, or the options ask for imported components or a processor; else `TooLarge` where a size does not
-    /// fit 32 bits. Where memory ran out it answers `OutOfMemory`.
+    /// node, with the lowest such instantiation and its first such import; else, where two imports of one class do not
+    /// agree, with the first that does not agree with an earlier one and the first that it does not agree with,
+    /// `ImportTypeMergeConflict` where an instantiation asks for it and `ExplicitImportMergeConflict` where it is an import
+    /// node; else `ImportsUseEachOther` where imports rest on each other in a circle; else `NotYet` where an argument is not
+    /// set, a node is an import, or the options ask for imported components or a processor; else `TooLarge` where a size
+    /// does not fit 32 bits. Where memory ran out it answers `OutOfMemory`.
     pub fn encode(&self, options: EncodeOptions<'_>) -> Result<Vec<u8>, EncodeError>
         ensures means { IfOk result (λ bytes. (items : List AnItem) × (bytes.items ≡ bytes_of items) × Means items self.now) }
         ensures cause { IfErr result (λ e. IfSome (cause_of e) (Stands self.now options.entry)) }
         ensures refused { (cause : Cause) → Stands self.now options.entry cause → IsErrAnd result (λ e. (cause_of e ≡ Some cause) ⊎ (e ≡ EncodeError.OutOfMemory)) }
     {
         wac_binary::law();
+        fault_law();
         self.sound_law();
         let order = self.ordered()?;
         self.check_conflicts()?;
+        self.check_merge()?;
         if !options.define_components || options.processor.is_some() || self.holds_unwritten() {
             return Err(EncodeError::NotYet);
         }
@@ -98,7 +104,7 @@ impl CompositionGraph {
     }
 
     /// The law of all graphs: each is sound.
-    fn sound_law(&self)
+    pub(crate) fn sound_law(&self)
         ensures { IsSound self.now }
     {
         let _ = &self.edges;

@@ -5,6 +5,7 @@ use crate::node::NodeId;
 use std::alloc::{AllocError, AllocFailed};
 use thiserror::Error;
 use wac_binary::BinaryFault;
+use wac_merge::MergeFault;
 use wac_names::NameFault;
 use wac_types::{PackageKey, TypeFault};
 
@@ -188,6 +189,28 @@ pub enum EncodeError {
         instantiation: NodeId,
         package: PackageKey,
         name: String,
+    },
+    /// An import that an instantiation asks for does not agree with an earlier one of its class: its name, the node that asks
+    /// for the earlier, the instantiation, and where they do not agree.
+    #[error("failed to merge the type definition for implicit import `{import}` due to conflicting types")]
+    ImportTypeMergeConflict {
+        import: String,
+        first: NodeId,
+        second: NodeId,
+        source: MergeFault,
+    },
+    /// An import node does not agree with an earlier import of its class: its name, the node, and the node that asks for the
+    /// earlier.
+    #[error("failed to merge the type definition for explicit import `{import}` due to conflicting types")]
+    ExplicitImportMergeConflict {
+        import: String,
+        node: NodeId,
+        other: NodeId,
+    },
+    /// Imports rest on each other in a circle: the name of the one that is asked for first.
+    #[error("import `{import}` rests on itself through other imports")]
+    ImportsUseEachOther {
+        import: String,
     },
     /// An index, a count or a size does not fit 32 bits.
     #[error("an index or a size does not fit 32 bits")]

@@ -107,7 +107,7 @@ impl CompositionGraph {
 
     /// The first import of a node from a position on that no argument satisfies: the position behind it, its name and
     /// its kind.
-    fn unset_at(&self, n: usize, from: usize) -> Option<(usize, &str, ItemKind)>
+    pub(crate) fn unset_at(&self, n: usize, from: usize) -> Option<(usize, &str, ItemKind)>
         ensures { MatchOption result (node_left self.now n from (node_at self.now (node_number n)) ≡ []) (λ r. node_left self.now n from (node_at self.now (node_number n)) ≡ (r.1.now, r.2, None) ∷ node_left self.now n r.0 (node_at self.now (node_number n))) }
     {
         let node = self.nodes.get(n)?;
@@ -131,7 +131,7 @@ impl CompositionGraph {
     }
 
     /// The name and the kind of the node of this number, where it is an import node.
-    fn import_node_at(&self, n: usize) -> Option<(&str, ItemKind)>
+    pub(crate) fn import_node_at(&self, n: usize) -> Option<(&str, ItemKind)>
         ensures { MatchOption result (node_rows self.now n ≡ []) (λ r. node_rows self.now n ≡ (r.0.now, r.1, Some (node_number n)) ∷ []) }
     {
         let node = self.nodes.get(n)?;

@@ -3,6 +3,7 @@
 #![tactic(auto)]
 
 mod arguments;
+mod asked;
 mod conflicts;
 mod cycles;
 mod edges;
@@ -10,6 +11,7 @@ mod encode;
 mod errors;
 mod graph;
 mod imports;
+mod merging;
 mod names;
 mod node;
 mod order;
@@ -25,5 +27,6 @@ pub use imports::Imports;
 pub use names::one_export_answer;
 pub use node::{Node, NodeId, NodeKind};
 pub use packages::PackageId;
+pub use wac_merge::MergeFault;
 pub use wac_names::NameFault;
 pub use wac_types as types;

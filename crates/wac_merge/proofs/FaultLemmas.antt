@@ -137,7 +137,7 @@ module _ (c : Collection) (es : List Entry) where
       let class : a.class ≡ b.class = same_some (slice_get (class_names by_names es) a.number) a.class b.class a.numbered (ap (slice_get (class_names by_names es)) same ∙ b.numbered) in
       ap use_each_other (a.named ∙ (ap (canonical by_names es) class ∙ sym b.named))
 
-  one_fault : (a b : Fault) → HasFault by_names c es a → HasFault by_names c es b → a ≡ b
+  pub one_fault : (a b : Fault) → HasFault by_names c es a → HasFault by_names c es b → a ≡ b
   one_fault (disagree i j x) (disagree k l y) a b = one_pair i j k l x y a b
   one_fault (disagree i j x) (use_each_other y) a b = absurd (b.0 i j a.is_first.disagree)
   one_fault (use_each_other x) (disagree k l y) a b = absurd (a.0 k l b.is_first.disagree)

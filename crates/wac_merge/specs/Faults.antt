@@ -2,7 +2,7 @@
 use Rattle.std.specs.Prelude.{ℕ, ◌≡◌, List, Option, Some, None, slice_get, string_bytes}
 use Rattle.wac_collection.specs.Name.{Name}
 use Rattle.wac_collection.specs.Collection.{Collection}
-use Rattle.wac_merge.specs.Classes.{Entry, NameRules, class_names, canonical}
+use Rattle.wac_merge.specs.Classes.{Entry, NameRules, by_names, class_names, canonical}
 use Rattle.wac_merge.specs.Agreement.{compared, IsDisagreement, IsFirstDisagreement, LeadsApart, joined}
 use Rattle.wac_merge.specs.ClassOrder.{IsOnCircle, IsFirstOnCircle}
 use Rattle.wac_merge.specs.declared.fault.MergeFault.{MergeFault}
@@ -47,3 +47,7 @@ abbrev pub fault_of : MergeFault → Option Fault
 fault_of (merge.Disagree first second export) = Some (disagree first second (string_bytes export))
 fault_of (merge.UseEachOther import) = Some (use_each_other (string_bytes import))
 fault_of merge.OutOfMemory = None
+
+-- entries have one fault at most
+abbrev pub OneFault : Type 0
+OneFault = (c : Collection) (es : List Entry) (a b : Fault) → HasFault by_names c es a → HasFault by_names c es b → a ≡ b

@@ -16,7 +16,7 @@ returns-in_err-order-clause-cause c = exit_cause (λ e. IfSome (cause_of e) (Sta
 
 pub returns-in_err-order-clause-refused : goal.returns-in_err-order-clause-refused
 returns-in_err-order-clause-refused c = λ cause stands. exit_refused (λ e. (cause_of e ≡ Some cause) ⊎ (e ≡ OutOfMemory)) c.from_residual.result (c.in_err-order.field-0).0 c.from_residual.ensures.1
-    (refused_for c.args.self.now c.sound_law.ensures c.args.options (c.in_err-order.field-0).0 (c.in_err-order.ensures.refused c.args.options) cause stands)
+    (refused_for c.args.self.now c.sound_law.ensures c.fault_law.ensures c.args.options (c.in_err-order.field-0).0 (c.in_err-order.ensures.refused c.args.options) cause stands)
 
 pub returns-in_err-check_conflicts-clause-cause : goal.returns-in_err-check_conflicts-clause-cause
 returns-in_err-check_conflicts-clause-cause c = exit_cause (λ e. IfSome (cause_of e) (Stands c.args.self.now c.args.options)) c.from_residual-in_err-check_conflicts.result (c.in_err-check_conflicts.field-0).0 c.from_residual-in_err-check_conflicts.ensures.1
@@ -24,12 +24,21 @@ returns-in_err-check_conflicts-clause-cause c = exit_cause (λ e. IfSome (cause_
 
 pub returns-in_err-check_conflicts-clause-refused : goal.returns-in_err-check_conflicts-clause-refused
 returns-in_err-check_conflicts-clause-refused c = λ cause stands. exit_refused (λ e. (cause_of e ≡ Some cause) ⊎ (e ≡ OutOfMemory)) c.from_residual-in_err-check_conflicts.result (c.in_err-check_conflicts.field-0).0 c.from_residual-in_err-check_conflicts.ensures.1
-    (refused_for c.args.self.now c.sound_law.ensures c.args.options (c.in_err-check_conflicts.field-0).0 (c.in_err-check_conflicts.ensures.refused c.args.options) cause stands)
+    (refused_for c.args.self.now c.sound_law.ensures c.fault_law.ensures c.args.options (c.in_err-check_conflicts.field-0).0 (c.in_err-check_conflicts.ensures.refused c.args.options) cause stands)
+
+pub returns-in_err-check_merge-clause-cause : goal.returns-in_err-check_merge-clause-cause
+returns-in_err-check_merge-clause-cause c = exit_cause (λ e. IfSome (cause_of e) (Stands c.args.self.now c.args.options)) c.from_residual-in_err-check_merge.result (c.in_err-check_merge.field-0).0 c.from_residual-in_err-check_merge.ensures.1
+    (names_cause c.args.self.now c.args.options (c.in_err-check_merge.field-0).0 (c.in_err-check_merge.ensures.refused c.args.options))
+
+pub returns-in_err-check_merge-clause-refused : goal.returns-in_err-check_merge-clause-refused
+returns-in_err-check_merge-clause-refused c = λ cause stands. exit_refused (λ e. (cause_of e ≡ Some cause) ⊎ (e ≡ OutOfMemory)) c.from_residual-in_err-check_merge.result (c.in_err-check_merge.field-0).0 c.from_residual-in_err-check_merge.ensures.1
+    (refused_for c.args.self.now c.sound_law.ensures c.fault_law.ensures c.args.options (c.in_err-check_merge.field-0).0 (c.in_err-check_merge.ensures.refused c.args.options) cause stands)
 
 pub returns-then-not-options-clause-cause : goal.returns-then-not-options-clause-cause
 returns-then-not-options-clause-cause c = (
   c.in_ok-order.ensures.acyclic,
   c.in_ok-check_conflicts.ensures.none,
+  c.in_ok-check_merge.ensures.merges,
   elim c.then-not-options.branch [
     | then-not-options-via-then-not-options w ↦ undefined_components w.if-not-options.true
     | then-not-options-via-else-not-options+then-is_some w ↦ processed (sym w.is_some.ensures ∙ w.if-is_some.true)
@@ -38,20 +47,20 @@ returns-then-not-options-clause-cause c = (
 )
 
 pub returns-then-not-options-clause-refused : goal.returns-then-not-options-clause-refused
-returns-then-not-options-clause-refused c = refused_for c.args.self.now c.sound_law.ensures c.args.options NotYet (at_not_yet c.args.self.now c.args.options c.in_ok-order.ensures.acyclic c.in_ok-check_conflicts.ensures.none (elim c.then-not-options.branch [
+returns-then-not-options-clause-refused c = refused_for c.args.self.now c.sound_law.ensures c.fault_law.ensures c.args.options NotYet (at_not_yet c.args.self.now c.args.options c.in_ok-order.ensures.acyclic c.in_ok-check_conflicts.ensures.none c.in_ok-check_merge.ensures.merges (elim c.then-not-options.branch [
   | then-not-options-via-then-not-options w ↦ undefined_components w.if-not-options.true
   | then-not-options-via-else-not-options+then-is_some w ↦ processed (sym w.is_some.ensures ∙ w.if-is_some.true)
   | then-not-options-via-else-not-options+else-is_some+then-holds_unwritten w ↦ w.if-holds_unwritten.ensures.unwritten c.args.options
 ]))
 
 pub returns-in_err-write_nodes-clause-refused : goal.returns-in_err-write_nodes-clause-refused
-returns-in_err-write_nodes-clause-refused c = λ cause stands. absurd (none_stands c.args.self.now c.args.options c.in_ok-order.ensures.acyclic c.in_ok-check_conflicts.ensures.none c.if-holds_unwritten.ensures.writable c.if-not-options.false (λ some. let is = c.is_some.ensures in let no = c.if-is_some.false in cc) cause stands)
+returns-in_err-write_nodes-clause-refused c = λ cause stands. absurd (none_stands c.args.self.now c.fault_law.ensures c.args.options c.in_ok-order.ensures.acyclic c.in_ok-check_conflicts.ensures.none c.in_ok-check_merge.ensures.merges c.if-holds_unwritten.ensures.writable c.if-not-options.false (λ some. let is = c.is_some.ensures in let no = c.if-is_some.false in cc) cause stands)
 
 pub returns-in_err-write_exports-clause-refused : goal.returns-in_err-write_exports-clause-refused
-returns-in_err-write_exports-clause-refused c = λ cause stands. absurd (none_stands c.args.self.now c.args.options c.in_ok-order.ensures.acyclic c.in_ok-check_conflicts.ensures.none c.if-holds_unwritten.ensures.writable c.if-not-options.false (λ some. let is = c.is_some.ensures in let no = c.if-is_some.false in cc) cause stands)
+returns-in_err-write_exports-clause-refused c = λ cause stands. absurd (none_stands c.args.self.now c.fault_law.ensures c.args.options c.in_ok-order.ensures.acyclic c.in_ok-check_conflicts.ensures.none c.in_ok-check_merge.ensures.merges c.if-holds_unwritten.ensures.writable c.if-not-options.false (λ some. let is = c.is_some.ensures in let no = c.if-is_some.false in cc) cause stands)
 
 pub returns-clause-refused : goal.returns-clause-refused
-returns-clause-refused c = λ cause stands. absurd (none_stands c.args.self.now c.args.options c.in_ok-order.ensures.acyclic c.in_ok-check_conflicts.ensures.none c.if-holds_unwritten.ensures.writable c.if-not-options.false (λ some. let is = c.is_some.ensures in let no = c.if-is_some.false in cc) cause stands)
+returns-clause-refused c = λ cause stands. absurd (none_stands c.args.self.now c.fault_law.ensures c.args.options c.in_ok-order.ensures.acyclic c.in_ok-check_conflicts.ensures.none c.in_ok-check_merge.ensures.merges c.if-holds_unwritten.ensures.writable c.if-not-options.false (λ some. let is = c.is_some.ensures in let no = c.if-is_some.false in cc) cause stands)
 
 pub write_nodes-requires-clause-nodes : goal.write_nodes-requires-clause-nodes
 write_nodes-requires-clause-nodes c = λ n h.
