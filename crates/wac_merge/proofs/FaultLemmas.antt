@@ -1,10 +1,10 @@
 -- One fault stands at most; from what was looked for to what `finish` answers.
-use Rattle.std.proofs.Common.{Ok, Err, Result, IfErr, IfOk, ◌≡◌, ℕ, ◌<◌, ◌≤◌, List, [], ◌∷◌, ◌++◌, length, refl, ap, ◌∙◌, sym, subst, arith, Option, Some, None, IfSome, ◌⊎◌, inl, inr}
-use Rattle.std.specs.Prelude.{slice_get, string_bytes, OnOk}
+use Rattle.std.proofs.Common.{Ok, Err, Result, ◌≡◌, ℕ, ◌≤◌, List, [], ◌∷◌, ◌++◌, refl, ap, ◌∙◌, sym, subst, arith, Option, Some, None, IfSome, ◌⊎◌, inl, inr}
+use Rattle.std.specs.Prelude.{slice_get}
 use Rattle.std.specs.List.{AllByRecursion}
 use Rattle.std.specs.Option.{MatchOption}
 use Rattle.std.specs.Result.{IsErrAnd}
-use Rattle.wac_collection.specs.Name.{Name, option_case}
+use Rattle.wac_collection.specs.Name.{Name}
 use Rattle.wac_collection.specs.Tree.{TypeTree, absent, instance, instance_item}
 use Rattle.wac_types.specs.Called.{Called}
 use Rattle.wac_collection.specs.Collection.{Collection, interface_exports}
@@ -13,9 +13,9 @@ use Rattle.wac_collection.specs.declared.component.ItemKind.TheVariants as kind
 use Rattle.wac_collection.specs.declared.component.InterfaceId.{InterfaceId}
 use Rattle.wac_merge.specs.declared.fault.MergeFault.{MergeFault}
 use Rattle.wac_merge.specs.declared.fault.MergeFault.TheVariants as merge
-use Rattle.wac_merge.specs.Classes.{Entry, NameRules, by_names, class_names, canonical}
-use Rattle.wac_merge.specs.Agreement.{compared, AreInstances, AgreesAt, IsDisagreement, IsFirstDisagreement, LeadsApart, here, below, joined}
-use Rattle.wac_merge.specs.ClassOrder.{IsOnCircle, IsFirstOnCircle, RestsThrough, RestsOn, step, further, by_use, by_resource}
+use Rattle.wac_merge.specs.Classes.{Entry, by_names, class_names, canonical}
+use Rattle.wac_merge.specs.Agreement.{compared, AreInstances, AgreesAt, IsDisagreement, LeadsApart, here, below, joined}
+use Rattle.wac_merge.specs.ClassOrder.{IsOnCircle, RestsThrough, RestsOn, step, further, by_use, by_resource}
 use Rattle.wac_merge.specs.Faults.{HasNoDisagreement, HasNoCircle, Disagrees, UseEachOther, Fault, disagree, use_each_other, HasFault, fault_of}
 use Rattle.wac_merge.specs.Aggregate.{IsFault}
 

@@ -1,5 +1,5 @@
 -- What an aggregator holds.
-use Rattle.std.specs.Prelude.{◌≡◌, Bool, true, false, List, ◌⊎◌, Some}
+use Rattle.std.specs.Prelude.{◌≡◌, Bool, List, ◌⊎◌, Some}
 use Rattle.wac_collection.specs.Collection.{Collection}
 use Rattle.wac_merge.specs.Classes.{Entry, by_names}
 use Rattle.wac_merge.specs.Faults.{Fault, HasFault, fault_of}

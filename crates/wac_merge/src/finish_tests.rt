@@ -1,3 +1,5 @@
+ghost use Rattle.std.specs.Prelude.{◌≡◌, true, IfOk};
+
 use crate::{MergeFault, TypeAggregator};
 use std::alloc::Global;
 use std::process::Abort;
@@ -62,7 +64,9 @@ fn finished(
     rt: &impl Abort,
     types: &Types,
     asked: &[(&str, ItemKind)],
-) -> Result<Result<TypeAggregator, MergeFault>, Fail> {
+) -> Result<Result<TypeAggregator, MergeFault>, Fail>
+    ensures { IfOk result (λ answer. IfOk answer (λ merged. merged.is_finished ≡ true)) }
+{
     let mut aggregator = TypeAggregator::new(alloc);
     for i in 0..asked.len() {
         let (name, kind) = asked[i];

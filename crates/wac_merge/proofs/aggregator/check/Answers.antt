@@ -1,4 +1,4 @@
-use Rattle.std.proofs.Common.{◌≡◌, ◌<◌, ℕ, List, length, map, refl, ap, sym, ◌∙◌, subst, Some, None, slice_get, string_bytes, inr}
+use Rattle.std.proofs.Common.{ℕ, List, map, refl, sym, subst, string_bytes, inr}
 use Rattle.std.proofs.lemmas.Option.{slice_get_within}
 use Rattle.wac_merge.specs.Classes.{by_names, class_names, canonical}
 use Rattle.wac_merge.specs.ClassOrder.{IsFirstOnCircle}

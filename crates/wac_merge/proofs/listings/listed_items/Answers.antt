@@ -6,7 +6,6 @@ use Rattle.std.proofs.Math.Seq.{take-length}
 use Rattle.wac_merge.specs.declared.nodes.Item.{Item}
 use Rattle.wac_merge.specs.Coding.{source_tree}
 use Rattle.wac_merge.specs.ItemCoding.{AreItems}
-use Rattle.wac_merge.specs.Scopes.{opened}
 use Rattle.wac_merge.proofs.CodingGrowth.{grown_not, grown_twice}
 use Rattle.wac_merge.proofs.OpenedItems.{listings-grown, items-more, opens-at, opens-next, opens-within, listed-held}
 use Rattle.wac_merge.proofs.listings.listed_items.Goals as goal

@@ -1,5 +1,4 @@
-use Rattle.std.proofs.Common.{◌≡◌, Some, IfSome, sym, ap, ◌∙◌, subst}
-use Rattle.wac_merge.specs.Aggregate.{Aggregate}
+use Rattle.std.proofs.Common.{IfSome, sym, ◌∙◌, subst}
 use Rattle.wac_merge.specs.Classes.{AreClasses, by_names}
 use Rattle.wac_merge.specs.declared.classes.Classes.{Classes}
 use Rattle.wac_merge.proofs.Canonical.{imported-there, imported-other}
