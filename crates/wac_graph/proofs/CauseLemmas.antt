@@ -15,7 +15,6 @@ use Rattle.wac_graph.specs.Sound.{IsSound}
 use Rattle.wac_graph.specs.Order.{IsAcyclic, IsLowestOnCycle}
 use Rattle.wac_graph.specs.Means.{node_number}
 use Rattle.wac_graph.specs.NotYet.{IsNotYet, AllWritable}
-use Rattle.wac_merge.specs.Classes.{by_names}
 use Rattle.wac_merge.specs.Faults.{OneFault, Fault, disagree, use_each_other}
 use Rattle.wac_graph.specs.Asked.{Entry}
 use Rattle.wac_graph.specs.Entries.{asked_entries, to_merge}

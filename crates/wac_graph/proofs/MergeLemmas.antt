@@ -1,5 +1,5 @@
 -- From what merging answers to what `encode` does.
-use Rattle.std.proofs.Common.{◌≡◌, ℕ, zero, suc, ◌<◌, Bool, true, false, is_some, List, [], ◌∷◌, length, map, get_or, refl, ap, ◌∙◌, sym, subst, arith, Some, None, Option, IfSome, ◌⊎◌, inl, inr}
+use Rattle.std.proofs.Common.{◌≡◌, ℕ, zero, suc, ◌<◌, true, false, is_some, List, [], ◌∷◌, length, map, get_or, refl, ap, ◌∙◌, sym, subst, arith, Some, None, Option, IfSome, ◌⊎◌, inl, inr}
 use Rattle.std.specs.Global.{Global}
 use Rattle.std.specs.Prelude.{slice_get, string_bytes}
 use Rattle.std.specs.List.{AllByRecursion}

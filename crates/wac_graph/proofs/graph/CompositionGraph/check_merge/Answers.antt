@@ -10,7 +10,6 @@ use Rattle.wac_graph.specs.Asked.{Entry}
 use Rattle.wac_graph.specs.Entries.{asked_entries, entry_view, to_merge}
 use Rattle.wac_graph.specs.EntriesLeft.{IsHeldKind}
 use Rattle.wac_graph.specs.Graph.{Graph}
-use Rattle.wac_graph.specs.declared.asked.AskedEntry.{AskedEntry}
 use Rattle.wac_graph.proofs.AskedHeld.{held_entries}
 use Rattle.wac_graph.proofs.MergeLemmas.{is_fault, merge_held}
 use Rattle.wac_graph.proofs.graph.CompositionGraph.check_merge.Goals as goal
