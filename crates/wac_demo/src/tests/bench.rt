@@ -16,6 +16,8 @@ pub enum Item {
     Other,
     // An instance that exports the function `a`.
     Instance,
+    // An instance that exports another function `a`.
+    OtherInstance,
     // An instance without exports.
     Empty,
 }
@@ -64,6 +66,12 @@ fn instance(alloc: Global, graph: &mut CompositionGraph) -> Result<ItemKind, Fai
     Ok(ItemKind::Instance(graph.add_interface(interface)?))
 }
 
+fn other_instance(alloc: Global, graph: &mut CompositionGraph) -> Result<ItemKind, Fail> {
+    let a = other_function(alloc, graph)?;
+    let interface = Interface::new(alloc, None, &[("a", a)])?;
+    Ok(ItemKind::Instance(graph.add_interface(interface)?))
+}
+
 fn empty_instance(alloc: Global, graph: &mut CompositionGraph) -> Result<ItemKind, Fail> {
     let interface = Interface::new(alloc, None, &[])?;
     Ok(ItemKind::Instance(graph.add_interface(interface)?))
@@ -84,6 +92,7 @@ impl Bench {
             Item::Plain => Ok(function(self.alloc, &mut self.graph)?),
             Item::Other => other_function(self.alloc, &mut self.graph),
             Item::Instance => instance(self.alloc, &mut self.graph),
+            Item::OtherInstance => other_instance(self.alloc, &mut self.graph),
             Item::Empty => empty_instance(self.alloc, &mut self.graph),
         }
     }
@@ -231,8 +240,8 @@ impl Bench {
         }
     }
 
-    // What the refusal names: the node of a cycle, or the import, the instantiation, its package and the name; asked
-    // once more where memory was refused.
+    // What the refusal names: the node of a cycle, or the import, the instantiation, its package and the name, or an import
+    // that cannot be merged and the nodes that ask for it; asked once more where memory was refused.
     pub fn refused(&self) -> Result<String, Fail> {
         let options = EncodeOptions::default();
         let answer = match self.graph.encode(options) {
@@ -249,6 +258,17 @@ impl Bench {
                     name,
                 },
             ) => Ok(format!(in self.alloc; "{import}, {instantiation}, {package}, {name}")?),
+            Err(
+                EncodeError::ImportTypeMergeConflict {
+                    import,
+                    first,
+                    second,
+                    source,
+                },
+            ) => Ok(format!(in self.alloc; "{import}, {first}, {second}, {source}")?),
+            Err(EncodeError::ExplicitImportMergeConflict { import, node, other }) => {
+                Ok(format!(in self.alloc; "{import}, {node}, {other}")?)
+            }
             _ => Ok(String::new(self.alloc)),
         }
     }

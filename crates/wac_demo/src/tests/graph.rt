@@ -1,5 +1,5 @@
 use super::bench::Call::{Alias, Export, Import, Instantiate, Register, Set};
-use super::bench::Item::{Empty, Instance, Other, Plain};
+use super::bench::Item::{Empty, Instance, Other, OtherInstance, Plain};
 use super::bench::{Bench, Call};
 use std::process::Abort;
 use std::test::Fail;
@@ -85,6 +85,24 @@ const CONFLICT_AND_CYCLE: &[(Call<'static>, &str)] = &[
     (Register("my:other", &[("i", Empty)], &[]), ""),
     (Instantiate(1), "2"),
     (Set(2, "i", 2), ""),
+];
+
+// Two packages that import functions of one name which differ.
+const IMPLICIT_MERGE: &[(Call<'static>, &str)] = &[
+    (Register("my:package", &[("x", Plain)], &[]), ""),
+    (Register("my:other", &[("x", Other)], &[]), ""),
+    (Instantiate(0), "0"),
+    (Instantiate(1), "1"),
+];
+
+// An import of a later version of what a package imports, with another function.
+const EXPLICIT_MERGE: &[(Call<'static>, &str)] = &[
+    (
+        Register("my:package", &[("a:b/c@0.2.0", Instance)], &[]),
+        "",
+    ),
+    (Instantiate(0), "0"),
+    (Import("a:b/c@0.2.1", OtherInstance), "1"),
 ];
 
 // A second package, whose instance is given the function `a` of an instance of the first, and what is refused it.
@@ -266,6 +284,8 @@ fn refusals_name_their_causes(rt: HostRuntime) -> Result<(), Fail> {
         (RING, "1"),
         (CONFLICT, "0, 1, my:package, x"),
         (CONFLICT_AND_CYCLE, "2"),
+        (IMPLICIT_MERGE, "x, 0, 1, Disagree"),
+        (EXPLICIT_MERGE, "a:b/c@0.2.1, 1, 0"),
         (UNSET, ""),
     ];
     for (calls, want) in rows {
