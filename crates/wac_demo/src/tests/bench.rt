@@ -266,9 +266,13 @@ impl Bench {
                     source,
                 },
             ) => Ok(format!(in self.alloc; "{import}, {first}, {second}, {source}")?),
-            Err(EncodeError::ExplicitImportMergeConflict { import, node, other }) => {
-                Ok(format!(in self.alloc; "{import}, {node}, {other}")?)
-            }
+            Err(
+                EncodeError::ExplicitImportMergeConflict {
+                    import,
+                    node,
+                    other,
+                },
+            ) => { Ok(format!(in self.alloc; "{import}, {node}, {other}")?) }
             _ => Ok(String::new(self.alloc)),
         }
     }
