@@ -10,3 +10,4 @@ pub mod Ids
 pub mod Packages
 pub mod AsGiven
 pub mod Under
+pub mod Clones

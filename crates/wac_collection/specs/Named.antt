@@ -1,5 +1,6 @@
 -- Entries under names, in order.
 use Rattle.std.specs.Prelude.{ℕ, suc, ◌≡◌, if◌then◌else◌, List, [], ◌∷◌, ◌++◌, map, string_bytes, Option, Some, None}
+use Rattle.std.specs.List.{AllZip}
 use Rattle.std.specs.Borrow.{Bor}
 use Rattle.std.specs.declared.string.String.{String}
 use Rattle.wac_collection.specs.Name.{Name, same_name, find_name, option_case}
@@ -28,6 +29,10 @@ NoNameTwice (e ∷ rest) = (find_name rest e.0 ≡ None) × NoNameTwice rest
 -- the names alone
 abbrev pub names_of : {V : Type 0} → List (Name × V) → List Name
 names_of es = map (λ e. e.0) es
+
+-- the same names in the same order, with values that are clones by C
+abbrev pub AreNamedClones : {V : Type 0} → (V → V → Type 0) → List (Name × V) → List (Name × V) → Type 0
+AreNamedClones C es fs = AllZip (λ e f. (f.0 ≡ e.0) × C e.1 f.1) es fs
 
 -- names alone, as entries, and as given
 abbrev pub labelled : List Name → List (Name × Unit {0})

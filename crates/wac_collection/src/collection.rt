@@ -12,7 +12,7 @@ use crate::component::{
     Resource, ResourceId, Type, ValueType, World, WorldId,
 };
 use crate::core_types::ModuleType;
-use std::alloc::Global;
+use std::alloc::{AllocError, Global};
 use std::marker::Model;
 use std::ops::Index;
 use thiserror::Error;
@@ -41,7 +41,7 @@ pub enum AddTypeError {
 }
 
 /// An item, and how many items were there before it.
-#[derive(Drop)]
+#[derive(Clone, Drop)]
 pub struct Held<T> {
     /// The item.
     pub item: T,
@@ -88,6 +88,33 @@ impl Model for Types {
       worlds = t.worlds.items;
       modules = t.modules.items;
     }) t.resource_ends.items t.value_ends.items };
+}
+
+/// The clone is the same collection: each id means in it what it means here. Both grow on their own. Answers `AllocError` where memory ran out.
+impl Clone for Types {
+    ghost is_clone = { λ a b. b ≡ a };
+
+    fn clone(&self) -> Result<Types, AllocError> {
+        let resources = self.resources.clone()?;
+        let resource_ends = self.resource_ends.clone()?;
+        let funcs = self.funcs.clone()?;
+        let defined = self.defined.clone()?;
+        let value_ends = self.value_ends.clone()?;
+        let interfaces = self.interfaces.clone()?;
+        let worlds = self.worlds.clone()?;
+        let modules = self.modules.clone()?;
+        Ok(Types {
+            alloc: self.alloc,
+            resources,
+            resource_ends,
+            funcs,
+            defined,
+            value_ends,
+            interfaces,
+            worlds,
+            modules,
+        })
+    }
 }
 
 impl Types {

@@ -1,4 +1,4 @@
-//! The shapes of component types. An id is a position in its list of a collection.
+//! The shapes of component types. An id is a position in its list of a collection. A clone is equal to its source, in memory of its own; where memory ran out, `clone` answers `AllocError`.
 ghost use Rattle.std.specs.Prelude.{◌≡◌, [], None, Some, Err, IfOk, OnOk};
 ghost use Rattle.std.specs.Option.{option_copied};
 ghost use Rattle.wac_collection.specs.Named.{NoNameTwice, named_pairs, labelled, given_names, used_pairs};
@@ -184,7 +184,7 @@ pub struct ResourceAlias {
 }
 
 /// A resource.
-#[derive(Drop)]
+#[derive(Clone, Drop)]
 pub struct Resource {
     /// Its name.
     pub name: Text,
@@ -217,7 +217,7 @@ impl Resource {
 }
 
 /// A variant.
-#[derive(Drop)]
+#[derive(Clone, Drop)]
 pub struct Variant {
     /// The cases, in order, each with the type of its payload where it has one.
     pub cases: Named<Option<ValueType>>,
@@ -238,7 +238,7 @@ impl Variant {
 }
 
 /// A record.
-#[derive(Drop)]
+#[derive(Clone, Drop)]
 pub struct Record {
     /// The fields, in order.
     pub fields: Named<ValueType>,
@@ -259,7 +259,7 @@ impl Record {
 }
 
 /// Flags.
-#[derive(Drop)]
+#[derive(Clone, Drop)]
 pub struct Flags(pub Labels);
 
 impl Flags {
@@ -277,7 +277,7 @@ impl Flags {
 }
 
 /// An enumeration.
-#[derive(Drop)]
+#[derive(Clone, Drop)]
 pub struct Enum(pub Labels);
 
 impl Enum {
@@ -295,7 +295,7 @@ impl Enum {
 }
 
 /// A value type with a definition.
-#[derive(Drop)]
+#[derive(Clone, Drop)]
 pub enum DefinedType {
     /// A tuple of these types.
     Tuple(Sequence<ValueType>),
@@ -339,7 +339,7 @@ impl DefinedType {
 }
 
 /// A function type.
-#[derive(Drop)]
+#[derive(Clone, Drop)]
 pub struct FuncType {
     /// The parameters, in order.
     pub params: Named<ValueType>,
@@ -373,7 +373,7 @@ impl FuncType {
 }
 
 /// A type that is taken from another interface.
-#[derive(Drop)]
+#[derive(Clone, Drop)]
 pub struct UsedType {
     /// The interface that it is taken from.
     pub interface: InterfaceId,
@@ -410,7 +410,7 @@ fn used_types(
 }
 
 /// An interface.
-#[derive(Drop)]
+#[derive(Clone, Drop)]
 pub struct Interface {
     /// The interface's name, as `namespace:package/interface`.
     pub id: Option<Text>,
@@ -460,7 +460,7 @@ impl Interface {
 }
 
 /// A world.
-#[derive(Drop)]
+#[derive(Clone, Drop)]
 pub struct World {
     /// The world's name, as `namespace:package/world`.
     pub id: Option<Text>,

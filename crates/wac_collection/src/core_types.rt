@@ -1,4 +1,4 @@
-//! The shapes of core types.
+//! The shapes of core types. A clone is equal to its source, in memory of its own; where memory ran out, `clone` answers `AllocError`.
 
 ghost use Rattle.std.specs.Prelude.{◌≡◌, ◌++◌, ◌∷◌, ◌↔◌, [], Err, IfOk, OnOk, OnErr, IsSome};
 ghost use Rattle.wac_collection.specs.Name.{find_name};
@@ -34,7 +34,7 @@ pub enum CoreType {
 }
 
 /// The type of a core function.
-#[derive(Drop)]
+#[derive(Clone, Drop)]
 pub struct CoreFuncType {
     /// The types of the parameters.
     pub params: Sequence<CoreType>,
@@ -58,7 +58,7 @@ impl CoreFuncType {
 }
 
 /// What a core module imports or exports.
-#[derive(Drop)]
+#[derive(Clone, Drop)]
 pub enum CoreExtern {
     /// A function.
     Func(CoreFuncType),
@@ -102,7 +102,7 @@ pub enum CoreExtern {
 }
 
 /// The type of a core module.
-#[derive(Drop)]
+#[derive(Clone, Drop)]
 pub struct ModuleType {
     /// What it imports, by module and then by name.
     pub imports: Named<Named<CoreExtern>>,

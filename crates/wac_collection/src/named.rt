@@ -34,6 +34,17 @@ impl Model for Text {
     ghost view = { λ t. string_bytes t.text };
 }
 
+/// The clone is the same text, in memory of its own. Answers `AllocError` where memory ran out.
+impl Clone for Text {
+    ghost is_clone = { λ a b. b ≡ a };
+
+    fn clone(&self) -> Result<Text, AllocError> {
+        Ok(Text {
+            text: self.text.clone()?,
+        })
+    }
+}
+
 impl Text {
     /// The text, in memory of its own.
     pub fn new(alloc: Global, text: &str) -> Result<Text, AllocError>
@@ -63,6 +74,19 @@ impl<T> Model for Sequence<T> {
     ghost Value = { List T };
 
     ghost view = { λ s. s.items.items };
+}
+
+/// The clone has clones of the values, in the same order. Answers `AllocError` where memory ran out.
+impl<T: Clone> Clone for Sequence<T> {
+    ghost use Rattle.std.specs.List.{AllZip};
+
+    ghost is_clone = { λ a b. AllZip T.is_clone a b };
+
+    fn clone(&self) -> Result<Sequence<T>, AllocError> {
+        Ok(Sequence {
+            items: self.items.clone()?,
+        })
+    }
 }
 
 impl<T> Sequence<T> {
@@ -99,6 +123,17 @@ impl Model for Labels {
     ghost Value = { List Name };
 
     ghost view = { λ l. names_of l.names };
+}
+
+/// The clone has the same names in the same order. Answers `AllocError` where memory ran out.
+impl Clone for Labels {
+    ghost is_clone = { λ a b. b ≡ a };
+
+    fn clone(&self) -> Result<Labels, AllocError> {
+        Ok(Labels {
+            names: self.names.clone()?,
+        })
+    }
 }
 
 impl Labels {
@@ -157,6 +192,18 @@ impl<V> Model for Named<V> {
     ghost view = { λ n. by_bytes n.entries.entries };
 
     ghost invariant = { λ n. NoNameTwice (by_bytes n.entries.entries) };
+}
+
+/// The clone has the same names in the same order, and under them clones of the values. Answers `AllocError` where memory ran out.
+impl<V: Clone> Clone for Named<V> {
+    ghost use Rattle.wac_collection.specs.Named.{AreNamedClones};
+
+    ghost is_clone = { λ a b. AreNamedClones V.is_clone a b };
+
+    fn clone(&self) -> Result<Named<V>, AllocError> {
+        let entries = self.entries.clone()?;
+        Ok(Named { entries })
+    }
 }
 
 impl<V> Named<V> {

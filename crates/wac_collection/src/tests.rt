@@ -247,3 +247,23 @@ fn a_core_module_imports_each_name_of_a_module_once(rt: HostRuntime) -> Result<(
     assert!(rt; types.contains(Type::Module(id)));
     Ok(())
 }
+
+#[test]
+fn a_clone_grows_on_its_own(rt: HostRuntime) -> Result<(), Fail> {
+    let alloc = rt.alloc();
+    let mut types = Types::new(alloc);
+    let owned = ValueType::Own(types.add_resource(Resource::new(alloc, "r")?)?);
+    let cases = enumeration(&mut types, alloc)?;
+    let tuple = DefinedType::tuple(alloc, &[cases, owned])?;
+    let tuple = ValueType::Defined(types.add_defined_type(tuple)?);
+    let f = func(&mut types, alloc, &[("x", tuple)], None, false)?;
+    let interface = Interface::new(alloc, Some("n:p/i"), &[("f", f)])?;
+    let interface = types.add_interface(interface)?;
+    let mut copy = types.clone()?;
+    assert!(rt; copy.contains(Type::Interface(interface)));
+    assert!(rt; copy.contains(Type::Value(tuple)));
+    let g = func(&mut copy, alloc, &[], Some(cases), false)?;
+    assert!(rt; copy.contains(g.ty()));
+    assert!(rt; !types.contains(g.ty()));
+    Ok(())
+}
