@@ -105,7 +105,7 @@ newest-start n (e ∷ es) = elim (cases_Bool (by_names.is_newer e.name n)) [
 ]
 
 -- none that was seen is newer
-newest-each : (n : Name) (es : List Entry) (x : Name) → is_asked es x ≡ true → by_names.is_newer x (newest by_names n es) ≡ false
+pub newest-each : (n : Name) (es : List Entry) (x : Name) → is_asked es x ≡ true → by_names.is_newer x (newest by_names n es) ≡ false
 newest-each n [] x a = absurd (false≢true a)
 newest-each n (e ∷ es) x a = elim (or_cases (same_name e.name x) (is_asked es x) a) [
   | inl s ↦ subst (λ (y : Name). by_names.is_newer y (newest by_names n (e ∷ es)) ≡ false) (same_name-true e.name x s) (elim (cases_Bool (by_names.is_newer e.name n)) [

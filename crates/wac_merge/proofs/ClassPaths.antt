@@ -38,7 +38,7 @@ some-same x y e = cc
 -- ---- tracks of classes
 
 -- the newest of names in a class is in the class
-newest-class : (es : List Entry) (m n : Name) (xs : List Entry) → same_class by_names es m n ≡ true
+pub newest-class : (es : List Entry) (m n : Name) (xs : List Entry) → same_class by_names es m n ≡ true
     → same_class by_names es m (newest by_names n (filter (λ e. same_class by_names es m e.name) xs)) ≡ true
 newest-class es m n [] t = t
 newest-class es m n (e ∷ xs) t = elim (cases_Bool (same_class by_names es m e.name)) [
@@ -139,7 +139,7 @@ binds-append c class (x ∷ xs) e r = by (kind_binds by_names c class x.kind r) 
   by (Some p) h = refl
 
 module _ (es : List Entry) where
-  members-more : (i : ℕ) (e : Entry) (n : Name) → slice_get es i ≡ Some e → members_in es (take (suc i) es) n ≡ members_in es (take i es) n ++ cond (same_class by_names es n e.name) (e ∷ []) []
+  pub members-more : (i : ℕ) (e : Entry) (n : Name) → slice_get es i ≡ Some e → members_in es (take (suc i) es) n ≡ members_in es (take i es) n ++ cond (same_class by_names es n e.name) (e ∷ []) []
   members-more i e n at = ap (λ l. members_in es l n) (take_at es i e at) ∙ filter-append (λ x. same_class by_names es n x.name) (take i es) (e ∷ [])
 
   -- the entry at i of the class with the number k, which has one more

@@ -41,7 +41,7 @@ all_joined P [] ys h g = g
 all_joined P (x ∷ xs) ys h g = (h.0, all_joined P xs ys h.1 g)
 
 -- ---- parts of held definitions stand below them
-parts_below : (c : Collection) → IsWellFormed c → (d : DefinedTypeId) → AllByRecursion (IsPartBelow d.0) (parts_of c d)
+pub parts_below : (c : Collection) → IsWellFormed c → (d : DefinedTypeId) → AllByRecursion (IsPartBelow d.0) (parts_of c d)
 parts_below c wf d = at (slice_get c.defined d.0) refl where
   at : (o : Option (Held DefinedType)) → slice_get c.defined d.0 ≡ o → AllByRecursion (IsPartBelow d.0) (option_case (item_of o) [] defined_values)
   at None is = tt
@@ -58,7 +58,7 @@ total_same : {A : Type 0} (f g : A → ℕ) (xs : List A) → AllByRecursion (λ
 total_same f g [] h = refl
 total_same f g (x ∷ xs) h = rw (h.0, total_same f g xs h.1) refl
 
-total_joined : {A : Type 0} (f : A → ℕ) (xs ys : List A) → total f (xs ++ ys) ≡ total f xs + total f ys
+pub total_joined : {A : Type 0} (f : A → ℕ) (xs ys : List A) → total f (xs ++ ys) ≡ total f xs + total f ys
 total_joined f [] ys = omega arith
 total_joined f (x ∷ xs) ys = let e = total_joined f xs ys in omega (arith, e)
 
@@ -88,14 +88,14 @@ module _ (c : Collection) (wf : IsWellFormed c) where
   opening_weighs k (val.Borrow p) h = weighs_same 0 k (val.Borrow p) tt tt
   opening_weighs k (val.Defined d) h = let below : d.0 < suc d.0 = omega arith in let e = weighs_same (suc d.0) k (val.Defined d) below h in omega (arith, e)
 
-  openings_weigh : (k : ℕ) (vs : List ValueType) → AllByRecursion (IsPartBelow k) vs → tasks_weight c (openings vs) ≡ total (weight_to k c) vs
+  pub openings_weigh : (k : ℕ) (vs : List ValueType) → AllByRecursion (IsPartBelow k) vs → tasks_weight c (openings vs) ≡ total (weight_to k c) vs
   openings_weigh k [] h = refl
   openings_weigh k (v ∷ vs) h =
       let first = opening_weighs k v h.0 in
       let rest = openings_weigh k vs h.1 in
       total_joined (task_weight c) (opening v) (openings vs) ∙ (λ i. first i + rest i)
 
-  some_weight : (t : Task) → 0 < task_weight c t
+  pub some_weight : (t : Task) → 0 < task_weight c t
   some_weight (Open d) = omega arith
   some_weight (Close d) = omega arith
 
@@ -120,21 +120,21 @@ module _ (c : Collection) (wf : IsWellFormed c) where
   opening_held i (val.Borrow p) low h = tt
   opening_held i (val.Defined d) low h = (omega (arith, low, h), tt)
 
-  openings_held : (i : ℕ) (vs : List ValueType) → i < length c.defined → AllByRecursion (IsPartBelow i) vs → AllByRecursion (IsHeldTask c) (openings vs)
+  pub openings_held : (i : ℕ) (vs : List ValueType) → i < length c.defined → AllByRecursion (IsPartBelow i) vs → AllByRecursion (IsHeldTask c) (openings vs)
   openings_held i [] low h = tt
   openings_held i (v ∷ vs) low h = all_joined (IsHeldTask c) (opening v) (openings vs) (opening_held i v low h.0) (openings_held i vs low h.1)
 
 -- ---- what waits
-has_behind : (d : DefinedTypeId) (xs ys : List Task) → HasTask d ys → HasTask d (xs ++ ys)
+pub has_behind : (d : DefinedTypeId) (xs ys : List Task) → HasTask d ys → HasTask d (xs ++ ys)
 has_behind d [] ys h = h
 has_behind d (x ∷ xs) ys h = inr (has_behind d xs ys h)
 
-has_front : (d : DefinedTypeId) (xs ys : List Task) → HasTask d xs → HasTask d (xs ++ ys)
+pub has_front : (d : DefinedTypeId) (xs ys : List Task) → HasTask d xs → HasTask d (xs ++ ys)
 has_front d [] ys h = absurd h
 has_front d (x ∷ xs) ys (inl e) = inl e
 has_front d (x ∷ xs) ys (inr h) = inr (has_front d xs ys h)
 
-has_parted : (d : DefinedTypeId) (xs ys : List Task) → HasTask d (xs ++ ys) → HasTask d xs ⊎ HasTask d ys
+pub has_parted : (d : DefinedTypeId) (xs ys : List Task) → HasTask d (xs ++ ys) → HasTask d xs ⊎ HasTask d ys
 has_parted d [] ys h = inr h
 has_parted d (x ∷ xs) ys (inl e) = inl (inl e)
 has_parted d (x ∷ xs) ys (inr h) = on (has_parted d xs ys h) where

@@ -1,6 +1,6 @@
 -- One fault stands at most; from what was looked for to what `finish` answers.
 use Rattle.std.proofs.Common.{Ok, Err, Result, ◌≡◌, ℕ, ◌≤◌, List, [], ◌∷◌, ◌++◌, refl, ap, ◌∙◌, sym, subst, arith, Option, Some, None, IfSome, ◌⊎◌, inl, inr}
-use Rattle.std.specs.Prelude.{slice_get}
+use Rattle.std.specs.Prelude.{slice_get, IfErr}
 use Rattle.std.specs.List.{AllByRecursion}
 use Rattle.std.specs.Option.{MatchOption}
 use Rattle.std.specs.Result.{IsErrAnd}
@@ -180,3 +180,7 @@ none_of P Q (Some y) h is = cc
 pub exit_refused : {A : Type 0} (P : MergeFault → Type 0) (r : Result A MergeFault) (e : MergeFault) → IsErrAnd r (λ y. y ≡ e) → P e → IsErrAnd r P
 exit_refused P (Ok x) e h p = absurd h
 exit_refused P (Err y) e h p = subst P (sym h) p
+
+pub exit_cause : {A : Type 0} (P : MergeFault → Type 0) (r : Result A MergeFault) (e : MergeFault) → IsErrAnd r (λ y. y ≡ e) → P e → IfErr r P
+exit_cause P (Ok x) e h p = absurd h
+exit_cause P (Err y) e h p = subst P (sym h) p

@@ -1,7 +1,7 @@
 -- What each step of the numbering of classes adds.
-use Rattle.std.proofs.Common.{◌≡◌, ℕ, suc, ◌+◌, Bool, true, false, cond, ◌&&◌, ◌||◌, List, [], ◌∷◌, ◌++◌, map, take, length, slice_get, Option, Some, None, is_some, IsSome, refl, sym, ap, ◌∙◌, subst, inl, inr, ◌⊎◌, arith, add-one}
+use Rattle.std.proofs.Common.{◌≡◌, ℕ, zero, suc, ◌+◌, ◌<◌, ◌≤◌, Bool, true, false, cond, ◌&&◌, ◌||◌, List, [], ◌∷◌, ◌++◌, map, take, length, slice_get, Option, Some, None, is_some, IsSome, refl, sym, ap, ◌∙◌, subst, inl, inr, ◌⊎◌, arith, add-one}
 use Rattle.std.specs.List.{list_any}
-use Rattle.std.proofs.lemmas.Bool.{or_right, or_from, cases_Bool}
+use Rattle.std.proofs.lemmas.Bool.{or_left, or_right, or_from, cases_Bool, cases_eq, false≢true}
 use Rattle.std.proofs.lemmas.List.Folds.{list_any-append}
 use Rattle.std.specs.Option.{MatchOption}
 use Rattle.std.proofs.lemmas.List.{append-nil, map-append, length-append, length-map}
@@ -13,9 +13,9 @@ use Rattle.wac_names.proofs.TrackFacts.{one_track-read, track-had}
 use Rattle.wac_collection.specs.Name.{Name, same_name, find_name}
 use Rattle.wac_collection.specs.Named.{named_at}
 use Rattle.wac_collection.proofs.Names.{same_name-true, same_name-from, same_name-sym, take_at}
-use Rattle.wac_merge.specs.Classes.{Entry, by_names, is_asked, is_instance, names_instance, same_class}
+use Rattle.wac_merge.specs.Classes.{Entry, IsFirstNamed, by_names, is_asked, is_instance, names_instance, same_class}
 use Rattle.wac_merge.specs.Numbering.{AreFound, AreInstances, AreKeyed, HasMore, IsNumbered, Places, class_key, class_names_to, key_for}
-use Rattle.wac_merge.proofs.Lists.{any-at, at-push, at-end, push-cases}
+use Rattle.wac_merge.proofs.Lists.{any-at, at-push, at-end, push-cases, some-at}
 use Rattle.wac_merge.proofs.ClassFacts.{IsOneTrack, added, has_class, class-parts, class-from, class-of_same, class-refl, class-sym, class-sym-false, names_of_classes-push}
 
 -- ---- names among others
@@ -200,28 +200,55 @@ module _ (es : List Entry) where
   has-number : (ms : List Name) (n : Name) (k : ℕ) → IsNumbered es ms n k → has_class by_names es ms n ≡ true
   has-number ms n k w = any-at (λ m. same_class by_names es m n) ms k w.0 w.1 w.2
 
+  has_more : (ms ns : List Name) (n : Name) → has_class by_names es ms n ≡ true → has_class by_names es (ms ++ ns) n ≡ true
+  has_more ms ns n t = list_any-append (λ m. same_class by_names es m n) ms ns ∙ or_left (has_class by_names es ms n) _ t
+
+  has_added : (ms : List Name) (n : Name) (b : Bool) → has_class by_names es ms n ≡ b → has_class by_names es (ms ++ added b n) n ≡ true
+  has_added ms n true is = has_more ms [] n is
+  has_added ms n false is =
+      list_any-append (λ m. same_class by_names es m n) ms (n ∷ []) ∙ or_right (has_class by_names es ms n) _ (or_left (same_class by_names es n n) _ (class-refl by_names es n))
+
+  -- the name of an entry that was seen has a class
+  pub has_prior : (i j : ℕ) (x : Entry) → j < i → i ≤ length es → slice_get es j ≡ Some x → has_class by_names es (class_names_to es i) x.name ≡ true
+  has_prior zero j x before within at = absurd (omega (arith, before))
+  has_prior (suc i) j x before within at = rw (sym (add-one i)) (split (cases_eq j i) (λ other. has_prior i j x (omega (arith, before, other)) (omega (arith, within)) at)) where
+    old : (e : Entry) → slice_get es i ≡ Some e → has_class by_names es (class_names_to es i) x.name ≡ true → has_class by_names es (class_names_to es (i + 1)) x.name ≡ true
+    old e here t = ap (λ l. has_class by_names es l x.name) (names-more i e here) ∙ has_more (class_names_to es i) (added (has_class by_names es (class_names_to es i) e.name) e.name) x.name t
+
+    split : (j ≡ i) ⊎ (j ≡ i → ⊥) → ((j ≡ i → ⊥) → has_class by_names es (class_names_to es i) x.name ≡ true) → has_class by_names es (class_names_to es (i + 1)) x.name ≡ true
+    split (inl same) prior =
+        let here : slice_get es i ≡ Some x = ap (slice_get es) (sym same) ∙ at in
+        ap (λ l. has_class by_names es l x.name) (names-more i x here) ∙ has_added (class_names_to es i) x.name (has_class by_names es (class_names_to es i) x.name) refl
+    split (inr other) prior = let w = some-at es i (omega (arith, within)) in old w.0 w.1 (prior other)
+
+  -- so a name without a class was not seen
+  not-seen : (i : ℕ) (e : Entry) → slice_get es i ≡ Some e → has_class by_names es (class_names_to es i) e.name ≡ false → IsFirstNamed es i e.name
+  not-seen i e at f j x before there same =
+      let within = slice_get_within es i e at in
+      false≢true (sym f ∙ (ap (has_class by_names es (class_names_to es i)) (sym same) ∙ has_prior i j x before (omega (arith, within)) there))
+
   -- ---- keys and where classes begin
 
-  begins-pushed : (ms : List Name) (firsts : List ℕ) (i : ℕ) (e : Entry) → slice_get es i ≡ Some e → length firsts ≡ length ms
-      → ((k p : ℕ) (m : Name) → slice_get ms k ≡ Some m → slice_get firsts k ≡ Some p → (a : Entry) × (slice_get es p ≡ Some a) × (a.name ≡ m))
-      → (k p : ℕ) (m : Name) → slice_get (ms ++ e.name ∷ []) k ≡ Some m → slice_get (firsts ++ i ∷ []) k ≡ Some p → (a : Entry) × (slice_get es p ≡ Some a) × (a.name ≡ m)
-  begins-pushed ms firsts i e at same old k p m h g = elim (push-cases ms e.name k m h) [
+  begins-pushed : (ms : List Name) (firsts : List ℕ) (i : ℕ) (e : Entry) → slice_get es i ≡ Some e → IsFirstNamed es i e.name → length firsts ≡ length ms
+      → ((k p : ℕ) (m : Name) → slice_get ms k ≡ Some m → slice_get firsts k ≡ Some p → (a : Entry) × (slice_get es p ≡ Some a) × (a.name ≡ m) × IsFirstNamed es p a.name)
+      → (k p : ℕ) (m : Name) → slice_get (ms ++ e.name ∷ []) k ≡ Some m → slice_get (firsts ++ i ∷ []) k ≡ Some p → (a : Entry) × (slice_get es p ≡ Some a) × (a.name ≡ m) × IsFirstNamed es p a.name
+  begins-pushed ms firsts i e at new same old k p m h g = elim (push-cases ms e.name k m h) [
     | inl x ↦ elim (push-cases firsts i k p g) [
       | inl y ↦ old k p m x y
       | inr y ↦ let w = slice_get_within ms k m x in absurd (omega (arith, w, y.0, same))
     ]
     | inr x ↦ elim (push-cases firsts i k p g) [
       | inl y ↦ let w = slice_get_within firsts k p y in absurd (omega (arith, w, x.0, same))
-      | inr y ↦ (e, ap (slice_get es) y.1 ∙ at, sym x.1)
+      | inr y ↦ (e, ap (slice_get es) y.1 ∙ at, sym x.1, subst (λ (q : ℕ). IsFirstNamed es q e.name) (sym y.1) new)
     ]
   ]
 
-  keyed-pushed : (ms : List Name) (keys : List (Name × Unit {0})) (firsts : List ℕ) (i : ℕ) (e : Entry) → slice_get es i ≡ Some e → AreKeyed es ms keys firsts
+  keyed-pushed : (ms : List Name) (keys : List (Name × Unit {0})) (firsts : List ℕ) (i : ℕ) (e : Entry) → slice_get es i ≡ Some e → IsFirstNamed es i e.name → AreKeyed es ms keys firsts
       → AreKeyed es (ms ++ e.name ∷ []) (keys ++ (class_key es e.name, tt) ∷ []) (firsts ++ i ∷ [])
-  keyed-pushed ms keys firsts i e at a = record {
+  keyed-pushed ms keys firsts i e at new a = record {
     keyed = ap (λ l. l ++ (class_key es e.name, tt) ∷ []) a.keyed ∙ sym (map-append (λ n. (class_key es n, tt)) ms (e.name ∷ []));
     positioned = length-append firsts (i ∷ []) ∙ ap (λ l. l + 1) a.positioned ∙ sym (length-append ms (e.name ∷ []));
-    begins = begins-pushed ms firsts i e at a.positioned a.begins;
+    begins = begins-pushed ms firsts i e at new a.positioned a.begins;
   }
 
   -- the classes with one more, and the number of its entry
@@ -242,7 +269,7 @@ module _ (es : List Entry) where
       let more = names-new i e at f in
       let ms = class_names_to es i in
       record {
-        keyed = subst (λ (l : List Name). AreKeyed es l (keys ++ (class_key es e.name, tt) ∷ []) (firsts ++ i ∷ [])) (sym more) (keyed-pushed ms keys firsts i e at a);
+        keyed = subst (λ (l : List Name). AreKeyed es l (keys ++ (class_key es e.name, tt) ∷ []) (firsts ++ i ∷ [])) (sym more) (keyed-pushed ms keys firsts i e at (not-seen i e at f) a);
         number = (e.name, ap (λ l. slice_get l (length ms)) more ∙ at-end ms e.name, class-refl by_names es e.name);
       }
 

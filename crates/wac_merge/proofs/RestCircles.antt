@@ -96,7 +96,7 @@ module _ (c : Collection) (es : List Entry) where
     pub are_within : AreWithin sets
     are_within a b h = let low : b < length (class_names by_names es) = rests_low a b ((rests a b).0 h) in omega (arith, counted, low)
 
-    first_of : (o : Option ℕ) → MatchOption o (circles.HasNoCircle sets) (λ n. IsLowestOnCircle sets n) → MatchOption o (HasNoCircle by_names c es) (λ n. IsFirstOnCircle by_names c es n)
+    pub first_of : (o : Option ℕ) → MatchOption o (circles.HasNoCircle sets) (λ n. IsLowestOnCircle sets n) → MatchOption o (HasNoCircle by_names c es) (λ n. IsFirstOnCircle by_names c es n)
     first_of None none = λ a on. none a (along (RestsOn by_names c es) (Leads sets) (λ x y h. (rests x y).1 h) a a on)
     first_of (Some n) lowest = record {
       on = along (Leads sets) (RestsOn by_names c es) (λ x y h. (rests x y).0 h) n n lowest.on;

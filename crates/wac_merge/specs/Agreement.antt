@@ -46,6 +46,11 @@ Agree (instance f) (instance g) = (n : Name) → (f n ≡ absent) ⊎ ((g n ≡ 
 Agree (instance_item t) (instance_item u) = Agree t u
 Agree t u = t ≡ u
 
+-- any two entries of one class agree
+abbrev pub AllMembersAgree : NameRules → Collection → List Entry → Type 0
+AllMembersAgree rules c es = (class : Name) (i j : ℕ) (e f : Entry) → slice_get es i ≡ Some e → slice_get es j ≡ Some f → same_class rules es class e.name ≡ true → same_class rules es class f.name ≡ true
+    → Agree (compared rules c es class e.kind) (compared rules c es class f.kind)
+
 -- an entry, and a later one of its class that does not agree with it
 pub record IsDisagreement (rules : NameRules) (c : Collection) (es : List Entry) (first second : ℕ) : Type 0 where
   pub earlier : Entry

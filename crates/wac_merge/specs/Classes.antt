@@ -1,5 +1,5 @@
 -- Entries that are asked for, and their classes: entries of one name, and instances whose names have one track.
-use Rattle.std.specs.Prelude.{◌≡◌, ◌↔◌, ℕ, Bool, true, false, not, ◌&&◌, ◌||◌, ◌==◌, if◌then◌else◌, List, [], ◌∷◌, filter, length, Some, IsSome, slice_get}
+use Rattle.std.specs.Prelude.{◌≡◌, ◌<◌, ◌↔◌, ℕ, Bool, true, false, not, ◌&&◌, ◌||◌, ◌==◌, if◌then◌else◌, List, [], ◌∷◌, filter, length, Some, IsSome, slice_get}
 use Rattle.std.specs.List.{list_any}
 use Rattle.std.specs.Option.{option_cmp}
 use Rattle.std.specs.declared.cmp.Ordering.{Ordering}
@@ -85,6 +85,10 @@ IsClassOf rules es n k = (m : Name) × (slice_get (class_names rules es) k ≡ S
 abbrev pub is_asked : List Entry → Name → Bool
 is_asked es n = list_any (λ e. same_name e.name n) es
 
+-- no entry before a position has a name
+abbrev pub IsFirstNamed : List Entry → ℕ → Name → Type 0
+IsFirstNamed es p n = (j : ℕ) (e : Entry) → j < p → slice_get es j ≡ Some e → e.name ≡ n → ⊥
+
 -- the classes of entries: the number of each entry's class, for each class the position of an entry, and the class under each name
 pub record AreClasses (rules : NameRules) (es : List Entry) (numbers positions : List ℕ) (names : List (Name × ℕ)) : Type 0 where
   -- each entry has a number
@@ -99,6 +103,8 @@ pub record AreClasses (rules : NameRules) (es : List Entry) (numbers positions :
   -- where the entry with its canonical name stands
   pub greatest : (k p : ℕ) (n : Name) → slice_get (class_names rules es) k ≡ Some n → slice_get positions k ≡ Some p
       → (e : Entry) × (slice_get es p ≡ Some e) × (e.name ≡ canonical rules es n)
+  -- and none before it has that name
+  pub first : (k p : ℕ) (n : Name) → slice_get (class_names rules es) k ≡ Some n → slice_get positions k ≡ Some p → IsFirstNamed es p (canonical rules es n)
   -- the names that are found are those that are asked for
   pub found : (n : Name) → IsSome (find_name names n) ↔ (is_asked es n ≡ true)
   -- each with its class

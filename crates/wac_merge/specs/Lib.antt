@@ -29,3 +29,15 @@ pub mod Compared
 pub mod Faults
 pub mod Aggregate
 pub mod Resting
+pub mod Unions
+pub mod Became
+pub mod Renaming
+pub mod Writing
+pub mod MergedClasses
+pub mod Order
+pub mod UnionSteps
+pub mod GroupViews
+pub mod MergedKinds
+pub mod RenamingSteps
+pub mod FreshSteps
+pub mod WritingSteps

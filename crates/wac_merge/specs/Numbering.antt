@@ -5,7 +5,7 @@ use Rattle.wac_names.specs.Track.{key_text}
 use Rattle.wac_names.specs.Reading.{read_track}
 use Rattle.wac_collection.specs.Name.{Name, find_name, same_name}
 use Rattle.wac_collection.specs.Named.{named_at}
-use Rattle.wac_merge.specs.Classes.{Entry, by_names, same_class, names_of_classes, class_names, names_instance, is_asked, newest}
+use Rattle.wac_merge.specs.Classes.{Entry, IsFirstNamed, by_names, same_class, names_of_classes, class_names, names_instance, is_asked, newest}
 
 -- the entries of the class of a name among those that were seen
 abbrev pub members_in : List Entry → List Entry → Name → List Entry
@@ -45,7 +45,7 @@ Places keys firsts key i more_keys more_firsts k = MatchOption (named_at 0 key k
 pub record AreKeyed (es : List Entry) (ms : List Name) (keys : List (Name × Unit {0})) (firsts : List ℕ) : Type 0 where
   pub keyed : keys ≡ map (λ n. (class_key es n, tt)) ms
   pub positioned : length firsts ≡ length ms
-  pub begins : (k p : ℕ) (m : Name) → slice_get ms k ≡ Some m → slice_get firsts k ≡ Some p → (e : Entry) × (slice_get es p ≡ Some e) × (e.name ≡ m)
+  pub begins : (k p : ℕ) (m : Name) → slice_get ms k ≡ Some m → slice_get firsts k ≡ Some p → (e : Entry) × (slice_get es p ≡ Some e) × (e.name ≡ m) × IsFirstNamed es p e.name
 
 -- the names that were seen are found, each with its class
 pub record AreFound (es : List Entry) (ms : List Name) (seen : List Entry) (names : List (Name × ℕ)) : Type 0 where
@@ -56,7 +56,7 @@ pub record AreFound (es : List Entry) (ms : List Name) (seen : List Entry) (name
 abbrev pub HaveNumbers : List Entry → List Name → List ℕ → Type 0
 HaveNumbers es ms numbers = (j k : ℕ) (e : Entry) → slice_get es j ≡ Some e → slice_get numbers j ≡ Some k → IsNumbered es ms e.name k
 
--- each class has the position of an entry with the newest of its names among those that were seen
+-- each class has the position of the first entry with the newest of its names among those that were seen
 abbrev pub AreNewest : List Entry → List Entry → List ℕ → Type 0
 AreNewest es seen positions = (k p : ℕ) (n : Name) → slice_get (class_names by_names es) k ≡ Some n → slice_get positions k ≡ Some p
-    → (e : Entry) × (slice_get es p ≡ Some e) × (e.name ≡ newest by_names n (members_in es seen n))
+    → (e : Entry) × (slice_get es p ≡ Some e) × (e.name ≡ newest by_names n (members_in es seen n)) × IsFirstNamed es p e.name

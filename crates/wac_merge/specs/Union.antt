@@ -1,7 +1,7 @@
 -- The item that a class is: the union of its members' items.
 use Rattle.std.specs.Prelude.{ℕ, List, [], ◌∷◌, map, Some, None}
 use Rattle.wac_collection.specs.Name.{Name, option_case, first_some}
-use Rattle.wac_collection.specs.Tree.{imported, exported, position, named, Tree, absent, instance, instance_item, further_out}
+use Rattle.wac_collection.specs.Tree.{imported, exported, position, named, Tree, absent, fresh, type_equal, instance, instance_item, further_out}
 use Rattle.wac_collection.specs.Collection.{Collection, item_at}
 use Rattle.wac_collection.specs.Held.{items_under}
 use Rattle.wac_collection.specs.Bound.{Bindings, own_name, held_item}
@@ -27,9 +27,10 @@ member_tree rules c es class at m (kind.Instance i) =
     instance_item (instance (items_under (map (λ e. (e.0, held_item c (inside_member rules c es class it m) exported (named e.0 ∷ []) e.1)) it.exports))))
 member_tree rules c es class at m k = held_item c m imported (position at ∷ []) k
 
--- the union of two items that agree: of instances, by name
+-- the union of two items that agree: of instances, by name; a resource that is fresh in one is fresh
 abbrev pub union : Tree → Tree → Tree
 union absent u = u
+union (type_equal t) fresh = fresh
 union (instance f) (instance g) = instance (λ n. union (f n) (g n))
 union (instance_item t) (instance_item u) = instance_item (union t u)
 union t u = t

@@ -1,54 +1,67 @@
 //! The collector of imports that are asked for.
-ghost use Rattle.std.specs.Prelude.{◌≡◌, ◌<◌, ◌∷◌, ◌++◌, ◌⊎◌, [], length, slice_get, IfOk, IfErr, IfSome, OnOk, Some, true, false};
+ghost use Rattle.std.specs.Prelude.{Contains, ℕ, ◌≡◌, ◌<◌, ◌∷◌, ◌++◌, ◌⊎◌, ◌↔◌, [], length, slice_get, IfOk, IfErr, IfSome, OnOk, Some, true};
 ghost use Rattle.std.specs.Result.{IsErrAnd};
 ghost use Rattle.wac_collection.specs.Collection.{holds_type, kind_type};
 ghost use Rattle.wac_collection.specs.Name.{Name as AName};
-ghost use Rattle.wac_merge.specs.Aggregate.{IsFault};
-ghost use Rattle.wac_merge.specs.Bindings.{AreHeld};
+ghost use Rattle.wac_merge.specs.Aggregate.{IsFault, own_resource, unmerged};
+ghost use Rattle.wac_merge.specs.Agreement.{AllMembersAgree};
+ghost use Rattle.wac_merge.specs.Bindings.{AreBindings, AreHeld};
+ghost use Rattle.wac_merge.specs.ClassOrder.{IsWrittenOrder};
 ghost use Rattle.wac_merge.specs.Classes.{AreClasses, by_names, canonical, class_names, imported_as};
 ghost use Rattle.wac_merge.specs.Faults.{Fault as AFault, HasFault, HasNoCircle, HasNoDisagreement, fault_of, use_each_other};
+ghost use Rattle.wac_merge.specs.Merge.{IsMerge, bound_resource, import_entries, listed_resource};
 
 use crate::bindings::Bindings;
+use crate::circles::lowest_on_circle;
 use crate::classes::Classes;
 use crate::compared::{entry_items, first_pair};
 use crate::entry::Entry;
 use crate::fault::MergeFault;
+use crate::merged::Merged;
 use crate::nodes::Nodes;
-use crate::rests::first_on_circle;
+use crate::order::written_order;
+use crate::rests::rests;
 use std::alloc::{AllocError, Global};
 use std::marker::Model;
-use wac_types::{ItemKind, Types};
+use wac_types::{ItemKind, Named, ResourceId, Type, Types};
 
-/// Imports that are asked for, in order; once finished, with their classes.
+/// The classes of entries, and their merge.
+#[derive(Drop)]
+struct Finished {
+    classes: Classes,
+    merged: Merged,
+}
+
+/// Imports that are asked for, in order; once finished, with their classes and their merge.
 #[derive(Drop)]
 pub struct TypeAggregator {
     alloc: Global,
     entries: Vec<Entry>,
-    classes: Option<Classes>,
+    finished: Option<Finished>,
 }
 
 impl Model for TypeAggregator {
     ghost use Rattle.std.specs.Prelude.{is_some, IfSome};
-    ghost use Rattle.wac_collection.specs.Name.{Name as AName};
-    ghost use Rattle.wac_merge.specs.Aggregate.{Aggregate};
+    ghost use Rattle.wac_collection.specs.Name.{option_case};
+    ghost use Rattle.wac_merge.specs.Aggregate.{Aggregate, nothing};
     ghost use Rattle.wac_merge.specs.Classes.{AreClasses, by_names};
 
     ghost Value = { Aggregate };
 
-    ghost view = { λ a. record { entries = a.entries.items; is_finished = is_some a.classes } };
+    ghost view = { λ a. record { entries = a.entries.items; is_finished = is_some a.finished; merge = option_case a.finished nothing (λ f. f.merged) } };
 
-    ghost invariant = { λ a. IfSome a.classes (λ k. AreClasses by_names a.entries.items k.numbers.items k.positions.items k.names) };
+    ghost invariant = { λ a. IfSome a.finished (λ f. AreClasses by_names a.entries.items f.classes.numbers.items f.classes.positions.items f.classes.names) };
 }
 
 impl TypeAggregator {
     /// Nothing is asked for.
     pub fn new(alloc: Global) -> Self
-        ensures { result ≡ record { entries = []; is_finished = false } }
+        ensures { result ≡ unmerged [] }
     {
         TypeAggregator {
             alloc,
             entries: Vec::new(alloc),
-            classes: None,
+            finished: None,
         }
     }
 
@@ -56,7 +69,7 @@ impl TypeAggregator {
     /// in each call. A refusal, for want of memory, consumes the aggregator.
     pub fn aggregate(self, name: &str, types: &Types, kind: ItemKind) -> Result<Self, AllocError>
         requires { holds_type types.now (kind_type kind) ≡ true }
-        ensures { IfOk result (λ a. a ≡ record { entries = self.entries ++ record { name = name.now; kind = kind } ∷ []; is_finished = false }) }
+        ensures { IfOk result (λ a. a ≡ unmerged (self.entries ++ record { name = name.now; kind = kind } ∷ [])) }
     {
         let _ = types;
         let TypeAggregator {
@@ -68,31 +81,70 @@ impl TypeAggregator {
         Ok(TypeAggregator {
             alloc,
             entries,
-            classes: None,
+            finished: None,
         })
     }
 
-    /// Looks whether the entries have a merge, which all are of the collection.
+    /// Merges the entries, which all are of the collection.
+    ///
+    /// Answers one import for each class, under its canonical name, in the order in which they are written, with the
+    /// collection of their types: a copy of the entries' collection, and behind it what is merged. Each import is a subtype
+    /// of each entry of its class.
     ///
     /// Answers `Disagree` exactly where two entries of one class do not agree, with the first that does not and the first
     /// that it disagrees with; else `UseEachOther` where classes rest on each other in a circle, with the one that is asked
     /// first. Where memory ran out it answers `OutOfMemory`. A refusal consumes the aggregator.
     pub fn finish(self, types: &Types) -> Result<Self, MergeFault>
         requires { AreHeld types.now self.entries }
-        ensures finished { IfOk result (λ a. a ≡ record { entries = self.entries; is_finished = true }) }
+        ensures finished { IfOk result (λ a. (a.entries ≡ self.entries) × (a.is_finished ≡ true)) }
+        ensures merged { IfOk result (λ a. IsMerge by_names types.now self.entries a.merge) }
         ensures agree { OnOk result (HasNoDisagreement by_names types.now self.entries) }
         ensures ordered { OnOk result (HasNoCircle by_names types.now self.entries) }
         ensures fault { IfErr result (λ e. IfSome (fault_of e) (HasFault by_names types.now self.entries)) }
         ensures refused { (fault : AFault) → HasFault by_names types.now self.entries fault → IsErrAnd result (λ e. (fault_of e ≡ Some fault) ⊎ (e ≡ MergeFault.OutOfMemory)) }
     {
         let TypeAggregator { alloc, entries, .. } = self;
-        let classes = Classes::new(alloc, entries.as_slice())?;
-        check(alloc, types, entries.as_slice(), &classes)?;
+        let asked = entries.as_slice();
+        let classes = Classes::new(alloc, asked)?;
+        let bindings = Bindings::new(alloc, types, asked, &classes)?;
+        let order = check(alloc, types, asked, &classes, &bindings)?;
+        let merged = Merged::new(alloc, types, asked, &classes, &bindings, order.as_slice())?;
         Ok(TypeAggregator {
             alloc,
             entries,
-            classes: Some(classes),
+            finished: Some(Finished { classes, merged }),
         })
+    }
+
+    /// The merged imports: the canonical name of each class with its merged item, in the order in which they are written.
+    pub fn imports(&self) -> &Named<ItemKind>
+        requires { self.now.is_finished ≡ true }
+        ensures { import_entries result.now ≡ self.now.merge.imports }
+    {
+        let Some(finished) = &self.finished else {
+            unreachable!()
+        };
+        &finished.merged.imports
+    }
+
+    /// The collection of the merged imports. Each id of the entries' collection means in it what it meant.
+    pub fn types(&self) -> &Types
+        requires { self.now.is_finished ≡ true }
+        ensures { result.now ≡ self.now.merge.types }
+    {
+        let Some(finished) = &self.finished else {
+            unreachable!()
+        };
+        &finished.merged.types
+    }
+
+    /// The resource of a name that the import of an interface's id binds: its own of that name; none where there is none.
+    pub fn resource(&self, id: &str, name: &str) -> Option<ResourceId>
+        requires { self.now.is_finished ≡ true }
+        ensures { result ≡ bound_resource self.now.merge id.now name.now }
+    {
+        let kind = self.imports().get(id)?;
+        own_resource(self.types(), *kind, id, name)
     }
 
     /// The canonical name of the class that has a name, and the name itself where no entry has it.
@@ -100,32 +152,37 @@ impl TypeAggregator {
         requires { self.now.is_finished ≡ true }
         ensures { result.now ≡ imported_as by_names self.now.entries name.now }
     {
-        let Some(classes) = &self.classes else {
+        let Some(finished) = &self.finished else {
             unreachable!()
         };
-        match classes.position(name) {
+        match finished.classes.position(name) {
             Some(position) => self.entries[position].name(),
             None => name,
         }
     }
 }
 
-/// Refuses entries that have no merge.
+/// The order in which the classes are written. Refuses entries that have no merge.
 fn check(
     alloc: Global,
     types: &Types,
     entries: &[Entry],
     classes: &Classes,
-) -> Result<(), MergeFault>
+    bindings: &Bindings,
+) -> Result<Vec<usize>, MergeFault>
     requires held { AreHeld types.now entries.now }
     requires classes { AreClasses by_names entries.now classes.now.numbers.items classes.now.positions.items classes.now.names }
+    requires bindings { AreBindings types.now entries.now bindings.now }
     ensures agree { OnOk result (HasNoDisagreement by_names types.now entries.now) }
+    ensures agreed { OnOk result (AllMembersAgree by_names types.now entries.now) }
     ensures ordered { OnOk result (HasNoCircle by_names types.now entries.now) }
     ensures fault { IfErr result (λ e. IsFault types.now entries.now e) }
+    ensures written { IfOk result (λ o. IsWrittenOrder by_names types.now entries.now o.items) }
+    ensures each { IfOk result (λ o. (k : ℕ) → (Contains o.items k ↔ k < length (class_names by_names entries.now))) }
+    ensures once { IfOk result (λ o. (i j k : ℕ) → slice_get o.items i ≡ Some k → slice_get o.items j ≡ Some k → i ≡ j) }
 {
-    let bindings = Bindings::new(alloc, types, entries, classes)?;
     let mut nodes = Nodes::new(alloc);
-    let items = entry_items(alloc, &mut nodes, types, entries, classes, &bindings)?;
+    let items = entry_items(alloc, &mut nodes, types, entries, classes, bindings)?;
     let items = items.as_slice();
     if let Some(pair) = first_pair(alloc, &nodes, types, entries, classes, items)? {
         return Err(MergeFault::Disagree {
@@ -134,10 +191,12 @@ fn check(
             export: pair.export,
         });
     }
-    match first_on_circle(alloc, &nodes, types, entries, classes, &bindings, items)? {
-        Some(number) => Err(circle(alloc, entries, classes, number)?),
-        None => Ok(()),
+    let rests = rests(alloc, &nodes, types, entries, classes, bindings, items)?;
+    let rests = rests.as_slice();
+    if let Some(number) = lowest_on_circle(alloc, rests)? {
+        return Err(circle(alloc, entries, classes, number)?);
     }
+    Ok(written_order(alloc, types, entries, classes, rests)?)
 }
 
 /// The fault that names a class by its canonical name.
@@ -154,4 +213,37 @@ fn circle(
     let position = classes.positions()[number];
     let import = String::from_str(alloc, entries[position].name())?;
     Ok(MergeFault::UseEachOther { import })
+}
+
+/// The resource that an instance binds under a name, where its interface has this id: its own of that name.
+fn own_resource(types: &Types, kind: ItemKind, id: &str, name: &str) -> Option<ResourceId>
+    ensures { result ≡ own_resource types.now id.now name.now kind }
+{
+    let ItemKind::Instance(interface) = kind else {
+        return None;
+    };
+    if !types.contains(Type::Interface(interface)) {
+        return None;
+    }
+    let interface = &types[interface];
+    let Some(text) = &interface.id else {
+        return None;
+    };
+    if text.as_str() != id {
+        return None;
+    }
+    listed_resource(types, *interface.exports.get(name)?)
+}
+
+/// A resource that is listed, and is no alias.
+fn listed_resource(types: &Types, kind: ItemKind) -> Option<ResourceId>
+    ensures { result ≡ listed_resource types.now kind }
+{
+    let ItemKind::TypeItem(Type::Resource(resource)) = kind else {
+        return None;
+    };
+    if types.contains(Type::Resource(resource)) && types[resource].alias.is_some() {
+        return None;
+    }
+    Some(resource)
 }

@@ -24,7 +24,7 @@ use wac_names::Track;
 use wac_types::{InterfaceId, ItemKind, ResourceId, Types};
 
 /// The track of each class.
-fn class_tracks<'a>(
+pub(crate) fn class_tracks<'a>(
     alloc: Global,
     entries: &'a [Entry],
     classes: &Classes,

@@ -50,7 +50,7 @@ pub(crate) fn resource_itself(types: &Types, kind: ItemKind) -> Option<ResourceI
 }
 
 /// The resource that an item lists as its own.
-fn own_resource(
+pub(crate) fn own_resource(
     types: &Types,
     uses: &Named<UsedType>,
     name: &str,

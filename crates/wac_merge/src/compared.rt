@@ -1,9 +1,9 @@
 //! Entries as items of a table, and the first two that do not agree.
 ghost use Rattle.std.specs.Prelude.{◌≡◌, ◌<◌, true, length, map, Some, None, IfOk, slice_get, string_bytes};
-ghost use Rattle.std.specs.Option.{MatchOption};
+ghost use Rattle.std.specs.Option.{IfNone, MatchOption};
 ghost use Rattle.wac_collection.specs.Collection.{holds_type, kind_type};
 ghost use Rattle.wac_collection.specs.Name.{Name};
-ghost use Rattle.wac_merge.specs.Agreement.{joined};
+ghost use Rattle.wac_merge.specs.Agreement.{AllMembersAgree, joined};
 ghost use Rattle.wac_merge.specs.Bindings.{AreBindings, AreHeld};
 ghost use Rattle.wac_merge.specs.Classes.{AreClasses, by_names, class_names};
 ghost use Rattle.wac_merge.specs.Coding.{IsGrown};
@@ -148,7 +148,8 @@ pub(crate) fn first_pair(
     requires classes { AreClasses by_names entries.now classes.now.numbers.items classes.now.positions.items classes.now.names }
     requires counted { length items.now ≡ length entries.now }
     requires items { AreCompared nodes.now types.now entries.now (map item_view items.now) }
-    ensures { IfOk result (λ o. MatchOption o (HasNoDisagreement by_names types.now entries.now) (λ d. Disagrees by_names types.now entries.now d.first d.second (string_bytes d.export))) }
+    ensures first { IfOk result (λ o. MatchOption o (HasNoDisagreement by_names types.now entries.now) (λ d. Disagrees by_names types.now entries.now d.first d.second (string_bytes d.export))) }
+    ensures agreed { IfOk result (λ o. IfNone o (AllMembersAgree by_names types.now entries.now)) }
 {
     types.law();
     let Some((first, second)) = first_disagreement(alloc, nodes, items, classes.numbers())? else {

@@ -1,5 +1,7 @@
 //! Imports that are asked for, and the classes in which they are merged.
 //!
+//! `TypeAggregator::finish` answers the merged imports, each under its canonical name, and the collection of their types.
+//!
 //! Entries of one name are of one class, and so are instances whose names have one track, and what a chain of such pairs
 //! links. A class is imported under its canonical name, that of the greatest version.
 //!
@@ -12,12 +14,14 @@
 //! # Memory and time
 //!
 //! Each entry keeps its name. The classes take one more copy of each name, and keep a text for each class. Numbering
-//! reads each entry's name a few times, and with it the greatest name that its class has so far.
+//! reads each entry's name a few times, and with it the greatest name that its class has so far. A finished merge keeps a
+//! copy of the entries' collection, with what is merged behind it. To make the copy takes time in the collection's size.
 #![tactic(auto)]
 
 mod aggregator;
 mod agreement;
 mod apart;
+mod became;
 mod bindings;
 mod bound;
 mod called;
@@ -30,15 +34,20 @@ mod entry;
 mod fault;
 #[cfg(test)]
 mod finish_tests;
+mod fresh;
+mod grouped;
 mod items;
 pub mod laws;
 mod listing;
 mod listings;
 mod memo;
+mod merged;
 mod modules;
 mod naming;
 mod nodes;
+mod order;
 mod reach;
+mod renamer;
 #[cfg(test)]
 mod resting_tests;
 mod rests;
@@ -47,6 +56,8 @@ mod slots;
 mod tasks;
 #[cfg(test)]
 mod tests;
+mod unions;
+mod writing;
 
 pub use aggregator::TypeAggregator;
 pub use fault::MergeFault;

@@ -1,14 +1,13 @@
 //! On which classes a class rests: those whose interfaces its members use, and those whose resources they mean.
 ghost use Rattle.std.specs.Prelude.{ℕ, ◌≡◌, ◌<◌, ◌↔◌, ◌⊎◌, true, length, map, Some, IfOk, OnOk};
-ghost use Rattle.std.specs.Option.{MatchOption};
 ghost use Rattle.wac_collection.specs.Collection.{holds_type, holds_all, kind_type, used_types};
 ghost use Rattle.wac_collection.specs.declared.component.ItemKind.TheVariants as kind_of;
 ghost use Rattle.wac_merge.specs.Bindings.{AreBindings, AreHeld};
 ghost use Rattle.wac_merge.specs.Circles.{Leads};
 ghost use Rattle.wac_merge.specs.Classes.{AreClasses, by_names, class_names};
-ghost use Rattle.wac_merge.specs.ClassOrder.{IsFirstOnCircle, RestsOn};
+ghost use Rattle.wac_merge.specs.ClassOrder.{RestsOn};
 ghost use Rattle.wac_merge.specs.Compared.{AreCompared};
-ghost use Rattle.wac_merge.specs.Faults.{HasNoCircle, HasNoDisagreement};
+ghost use Rattle.wac_merge.specs.Faults.{HasNoDisagreement};
 ghost use Rattle.wac_merge.specs.Nodes.{tree_at, type_of as type_in};
 ghost use Rattle.wac_merge.specs.NodeViews.{item_view};
 ghost use Rattle.wac_merge.specs.Reach.{IsOfClass, Reaches};
@@ -16,7 +15,6 @@ ghost use Rattle.wac_merge.specs.ReachSteps.{Has, with_all};
 ghost use Rattle.wac_merge.specs.Resting.{Gains, ItemLeads, classes_used, first_class, interface_class, used_classes};
 
 use crate::bindings::Bindings;
-use crate::circles::lowest_on_circle;
 use crate::classes::Classes;
 use crate::entry::Entry;
 use crate::nodes::{Item, Nodes};
@@ -170,26 +168,4 @@ pub(crate) fn rests(
         put_others(&mut rests[numbers[i]], numbers[i], &leads)?;
     }
     Ok(rests)
-}
-
-/// Of the classes that rest on themselves through others the one that is asked first.
-pub(crate) fn first_on_circle(
-    alloc: Global,
-    nodes: &Nodes,
-    types: &Types,
-    entries: &[Entry],
-    classes: &Classes,
-    bindings: &Bindings,
-    items: &[Item],
-) -> Result<Option<usize>, AllocError>
-    requires held { AreHeld types.now entries.now }
-    requires classes { AreClasses by_names entries.now classes.now.numbers.items classes.now.positions.items classes.now.names }
-    requires bindings { AreBindings types.now entries.now bindings.now }
-    requires counted { length items.now ≡ length entries.now }
-    requires items { AreCompared nodes.now types.now entries.now (map item_view items.now) }
-    requires agree { HasNoDisagreement by_names types.now entries.now }
-    ensures { IfOk result (λ o. MatchOption o (HasNoCircle by_names types.now entries.now) (λ a. IsFirstOnCircle by_names types.now entries.now a)) }
-{
-    let rests = rests(alloc, nodes, types, entries, classes, bindings, items)?;
-    lowest_on_circle(alloc, rests.as_slice())
 }

@@ -3,13 +3,13 @@ use Rattle.std.proofs.Common.{◌≡◌, true, false, List, [], ◌∷◌, ◌++
 use Rattle.wac_collection.specs.Name.{Name}
 use Rattle.wac_collection.specs.Collection.{Collection, holds_type, kind_type}
 use Rattle.wac_collection.specs.declared.component.ItemKind.{ItemKind}
-use Rattle.wac_merge.specs.Aggregate.{Aggregate}
+use Rattle.wac_merge.specs.Aggregate.{Aggregate, unmerged}
 use Rattle.wac_merge.specs.Bindings.{AreHeld}
 use Rattle.wac_merge.specs.Classes.{Entry}
 use Rattle.wac_merge.proofs.Lists.{push-cases}
 
 pub held-push : (c : Collection) (es : List Entry) (a : Aggregate) (n : Name) (k : ItemKind) → AreHeld c es → holds_type c (kind_type k) ≡ true
-    → a ≡ record { entries = es ++ record { name = n; kind = k } ∷ []; is_finished = false } → AreHeld c a.entries
+    → a ≡ unmerged (es ++ record { name = n; kind = k } ∷ []) → AreHeld c a.entries
 held-push c es a n k held new is i e at =
     elim (push-cases es (record { name = n; kind = k }) i e (ap (λ b. slice_get b.entries i) (sym is) ∙ at)) [
       | inl before ↦ held i e before

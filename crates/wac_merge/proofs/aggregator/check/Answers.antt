@@ -1,5 +1,9 @@
 use Rattle.std.proofs.Common.{ℕ, List, map, refl, sym, subst, string_bytes, inr}
+use Rattle.std.specs.BTreeSet.{BTreeSet}
+use Rattle.std.specs.Option.{MatchOption}
 use Rattle.std.proofs.lemmas.Option.{slice_get_within}
+use Rattle.wac_merge.specs.Circles.{AreWithin, IsLowestOnCircle}
+use Rattle.wac_merge.specs.Circles as circles
 use Rattle.wac_merge.specs.Classes.{by_names, class_names, canonical}
 use Rattle.wac_merge.specs.ClassOrder.{IsFirstOnCircle}
 use Rattle.wac_merge.specs.Compared.{AreCompared}
@@ -8,6 +12,7 @@ use Rattle.wac_merge.specs.NodeViews.{item_view}
 use Rattle.wac_merge.specs.declared.compared.Disagreement.{Disagreement}
 use Rattle.wac_merge.specs.declared.nodes.Item.{Item}
 use Rattle.wac_merge.proofs.FaultLemmas.{circle_class, none_of, pair_of}
+use Rattle.wac_merge.proofs.RestCircles.{are_within, first_of}
 use Rattle.wac_merge.proofs.aggregator.check.Goals as goal
 
 pub first_pair-requires-clause-items : goal.first_pair-requires-clause-items
@@ -19,19 +24,26 @@ returns-in-Some-clause-fault c =
     let t = c.args.types.now in
     let es = c.args.entries.now in
     let d = c.in-Some.pair in
-    let has = pair_of (λ (x : Disagreement). Disagrees by_names t es x.first x.second (string_bytes x.export)) (HasNoDisagreement by_names t es) c.in_ok-pair.field-0 d c.in_ok-pair.ensures c.in-Some.is in
+    let has = pair_of (λ (x : Disagreement). Disagrees by_names t es x.first x.second (string_bytes x.export)) (HasNoDisagreement by_names t es) c.in_ok-pair.field-0 d c.in_ok-pair.ensures.first c.in-Some.is in
     inr (disagree d.first d.second (string_bytes d.export), refl, has)
 
-pub first_on_circle-requires-clause-items : goal.first_on_circle-requires-clause-items
-first_on_circle-requires-clause-items c =
+pub rests-requires-clause-items : goal.rests-requires-clause-items
+rests-requires-clause-items c =
     subst (λ (xs : List Item). AreCompared c.entry_items.new.nodes c.args.types.now c.args.entries.now (map item_view xs)) (sym c.as_slice-items.ensures.value) c.in_ok-items.ensures.items
+
+pub lowest_on_circle-requires : goal.lowest_on_circle-requires
+lowest_on_circle-requires c =
+    subst (λ (sets : List (BTreeSet ℕ)). AreWithin sets) (sym c.as_slice-rests.ensures.value)
+    (are_within c.args.types.now c.args.entries.now c.in_ok-rests.rests.items c.in_ok-rests.ensures.counted c.in_ok-rests.ensures.rests)
 
 pub circle-requires-clause-number : goal.circle-requires-clause-number
 circle-requires-clause-number c =
     let t = c.args.types.now in
     let es = c.args.entries.now in
     let n : ℕ = c.in-Some-2.number in
-    let is_first = pair_of (λ (a : ℕ). IsFirstOnCircle by_names t es a) (HasNoCircle by_names t es) c.in_ok-number.field-0 n c.in_ok-number.ensures c.in-Some-2.is in
+    let found = first_of t es c.in_ok-rests.rests.items c.in_ok-rests.ensures.counted c.in_ok-rests.ensures.rests c.in_ok-number.field-0
+    (subst (λ (sets : List (BTreeSet ℕ)). MatchOption c.in_ok-number.field-0 (circles.HasNoCircle sets) (λ n. IsLowestOnCircle sets n)) c.as_slice-rests.ensures.value c.in_ok-number.ensures) in
+    let is_first = pair_of (λ (a : ℕ). IsFirstOnCircle by_names t es a) (HasNoCircle by_names t es) c.in_ok-number.field-0 n found c.in-Some-2.is in
     let w = circle_class t es n is_first.on in
     slice_get_within (class_names by_names es) n w.0 w.1
 
@@ -40,13 +52,25 @@ returns-in-Some-2-clause-fault c =
     let t = c.args.types.now in
     let es = c.args.entries.now in
     let n : ℕ = c.in-Some-2.number in
-    let agree = none_of (λ (x : Disagreement). Disagrees by_names t es x.first x.second (string_bytes x.export)) (HasNoDisagreement by_names t es) c.in_ok-pair.field-0 c.in_ok-pair.ensures c.in_default.is in
-    let is_first = pair_of (λ (a : ℕ). IsFirstOnCircle by_names t es a) (HasNoCircle by_names t es) c.in_ok-number.field-0 n c.in_ok-number.ensures c.in-Some-2.is in
+    let agree = none_of (λ (x : Disagreement). Disagrees by_names t es x.first x.second (string_bytes x.export)) (HasNoDisagreement by_names t es) c.in_ok-pair.field-0 c.in_ok-pair.ensures.first c.in_default.is in
+    let found = first_of t es c.in_ok-rests.rests.items c.in_ok-rests.ensures.counted c.in_ok-rests.ensures.rests c.in_ok-number.field-0
+    (subst (λ (sets : List (BTreeSet ℕ)). MatchOption c.in_ok-number.field-0 (circles.HasNoCircle sets) (λ n. IsLowestOnCircle sets n)) c.as_slice-rests.ensures.value c.in_ok-number.ensures) in
+    let is_first = pair_of (λ (a : ℕ). IsFirstOnCircle by_names t es a) (HasNoCircle by_names t es) c.in_ok-number.field-0 n found c.in-Some-2.is in
     let (class, numbered) = circle_class t es n is_first.on in
-    inr (use_each_other (canonical by_names es class), c.in_ok-circle-in-Some-2.ensures class numbered, (agree, record { number = n; class = class; is_first = is_first; numbered = numbered; named = refl }))
+    inr (use_each_other (canonical by_names es class), c.in_ok-circle.ensures class numbered, (agree, record { number = n; class = class; is_first = is_first; numbered = numbered; named = refl }))
 
-pub first_on_circle-requires-clause-agree : goal.first_on_circle-requires-clause-agree
-first_on_circle-requires-clause-agree c =
+pub written_order-requires-clause-ordered : goal.written_order-requires-clause-ordered
+written_order-requires-clause-ordered c =
     let t = c.args.types.now in
     let es = c.args.entries.now in
-    none_of (λ (x : Disagreement). Disagrees by_names t es x.first x.second (string_bytes x.export)) (HasNoDisagreement by_names t es) c.in_ok-pair.field-0 c.in_ok-pair.ensures c.in_default.is
+    let found = first_of t es c.in_ok-rests.rests.items c.in_ok-rests.ensures.counted c.in_ok-rests.ensures.rests c.in_ok-number.field-0
+    (subst (λ (sets : List (BTreeSet ℕ)). MatchOption c.in_ok-number.field-0 (circles.HasNoCircle sets) (λ n. IsLowestOnCircle sets n)) c.as_slice-rests.ensures.value c.in_ok-number.ensures) in
+    none_of (λ (a : ℕ). IsFirstOnCircle by_names t es a) (HasNoCircle by_names t es) c.in_ok-number.field-0 found c.in_default-2.is
+
+pub returns-clause-ordered : goal.returns-clause-ordered
+returns-clause-ordered c =
+    let t = c.args.types.now in
+    let es = c.args.entries.now in
+    let found = first_of t es c.in_ok-rests.rests.items c.in_ok-rests.ensures.counted c.in_ok-rests.ensures.rests c.in_ok-number.field-0
+    (subst (λ (sets : List (BTreeSet ℕ)). MatchOption c.in_ok-number.field-0 (circles.HasNoCircle sets) (λ n. IsLowestOnCircle sets n)) c.as_slice-rests.ensures.value c.in_ok-number.ensures) in
+    none_of (λ (a : ℕ). IsFirstOnCircle by_names t es a) (HasNoCircle by_names t es) c.in_ok-number.field-0 found c.in_default-2.is

@@ -11,14 +11,15 @@ use Rattle.wac_merge.specs.declared.nodes.Item.TheVariants as item
 use Rattle.wac_collection.specs.declared.component.ItemKind.{ItemKind}
 use Rattle.wac_merge.proofs.Leading.{match_some, match_none}
 use Rattle.wac_merge.proofs.Meeting.{mapped_length}
+use Rattle.wac_merge.proofs.MergedSubtypesClasses.{members_agree}
 use Rattle.wac_merge.proofs.Pairs.{all_low, low_at, of_kind_at, shaped_at, none_disagrees, first_disagrees, first_within, second_within, apart_at, read_map}
 use Rattle.wac_merge.proofs.compared.first_pair.Goals as goal
 
 pub first_disagreement-requires-clause-low : goal.first_disagreement-requires-clause-low
 first_disagreement-requires-clause-low c = all_low c.args.types.now c.args.nodes.now c.args.entries.now (map item_view c.args.items.now) (mapped_length item_view c.args.items.now ∙ c.requires.counted) c.requires.items
 
-pub returns-in_default : goal.returns-in_default
-returns-in_default c =
+pub returns-in_default-clause-first : goal.returns-in_default-clause-first
+returns-in_default-clause-first c =
     let ns = c.args.nodes.now in
     let items = map item_view c.args.items.now in
     let numbers = c.numbers.result.now in
@@ -26,6 +27,17 @@ returns-in_default c =
     let are : AreClasses by_names c.args.entries.now numbers classes.positions.items classes.names =
     subst (λ (l : List ℕ). AreClasses by_names c.args.entries.now l classes.positions.items classes.names) (sym c.numbers.ensures) c.requires.classes in
     none_disagrees c.args.types.now ns c.args.entries.now items (mapped_length item_view c.args.items.now ∙ c.requires.counted) c.requires.items numbers classes.positions.items classes.names are
+    (match_none (AllAgree ns items numbers) (λ p. IsFirstApart ns items numbers p.0 p.1) c.in_ok-first.field-0 c.in_ok-first.ensures c.in_default.not-Some)
+
+pub returns-in_default-clause-agreed : goal.returns-in_default-clause-agreed
+returns-in_default-clause-agreed c =
+    let ns = c.args.nodes.now in
+    let items = map item_view c.args.items.now in
+    let numbers = c.numbers.result.now in
+    let classes = c.args.classes.now in
+    let are : AreClasses by_names c.args.entries.now numbers classes.positions.items classes.names =
+    subst (λ (l : List ℕ). AreClasses by_names c.args.entries.now l classes.positions.items classes.names) (sym c.numbers.ensures) c.requires.classes in
+    members_agree ns c.args.types.now c.args.entries.now items numbers classes.positions.items classes.names are (mapped_length item_view c.args.items.now ∙ c.requires.counted) c.requires.items
     (match_none (AllAgree ns items numbers) (λ p. IsFirstApart ns items numbers p.0 p.1) c.in_ok-first.field-0 c.in_ok-first.ensures c.in_default.not-Some)
 
 pub bounds-entries-second : goal.bounds-entries-second
@@ -113,8 +125,8 @@ path_apart-requires-clause-apart c =
     let at_second : slice_get items j ≡ Some y = read_map item_view c.args.items.now j (item.«Type» 0) (second_within ns items numbers i j h) in
     apart_at ns items numbers i j x y h at_first at_second
 
-pub returns : goal.returns
-returns c =
+pub returns-clause-first : goal.returns-clause-first
+returns-clause-first c =
     let ns = c.args.nodes.now in
     let items = map item_view c.args.items.now in
     let numbers = c.numbers.result.now in

@@ -1,29 +1,61 @@
-use Rattle.std.proofs.Common.{◌≡◌, List, ap, ◌∙◌, subst, Some, ◌⊎◌}
+use Rattle.std.proofs.Common.{ℕ, ◌≡◌, ◌<◌, List, length, Contains, refl, ap, sym, ◌∙◌, subst, Some, IfSome, ◌⊎◌, inr}
+use Rattle.std.specs.Prelude.{◌↔◌}
+use Rattle.wac_merge.specs.Bindings.{AreHeld}
 use Rattle.wac_merge.specs.Aggregate.{Aggregate, IsFault}
-use Rattle.wac_merge.specs.Classes.{Entry, by_names}
-use Rattle.wac_merge.specs.Faults.{HasNoCircle, HasNoDisagreement, fault_of}
+use Rattle.wac_merge.specs.Classes.{Entry, by_names, class_names}
+use Rattle.wac_merge.specs.Faults.{HasFault, HasNoCircle, HasNoDisagreement, fault_of}
 use Rattle.wac_merge.specs.declared.fault.MergeFault.{MergeFault}
 use Rattle.wac_merge.specs.declared.fault.MergeFault.TheVariants.{OutOfMemory}
-use Rattle.wac_merge.proofs.FaultLemmas.{exit_refused, no_fault, refused_for}
+use Rattle.wac_merge.proofs.FaultLemmas.{exit_cause, exit_refused, names_fault, no_fault, refused_for}
 use Rattle.wac_merge.proofs.aggregator.TypeAggregator.finish.Goals as goal
-
-pub returns-in_err-check-clause-refused : goal.returns-in_err-check-clause-refused
-returns-in_err-check-clause-refused c = λ fault has.
-    let t = c.args.types.now in
-    let same : c.as_slice-2.result.now ≡ c.args.self.entries = c.as_slice-2.ensures.value ∙ ap (λ (a : Aggregate). a.entries) c.self.view_is in
-    let f : MergeFault = (c.in_err-check.field-0).0 in
-    exit_refused (λ e. (fault_of e ≡ Some fault) ⊎ (e ≡ OutOfMemory)) c.from_residual-in_err-check.result f c.from_residual-in_err-check.ensures.1
-    (refused_for t c.args.self.entries f (subst (λ (es : List Entry). IsFault t es f) same c.in_err-check.ensures.fault) fault has)
 
 pub returns-clause-agree : goal.returns-clause-agree
 returns-clause-agree c =
-    let same : c.as_slice-2.result.now ≡ c.args.self.entries = c.as_slice-2.ensures.value ∙ ap (λ (a : Aggregate). a.entries) c.self.view_is in
-    subst (λ (es : List Entry). HasNoDisagreement by_names c.args.types.now es) same c.in_ok-check.ensures.agree
+    let same : c.as_slice-asked.result.now ≡ c.args.self.entries = c.as_slice-asked.ensures.value ∙ ap (λ (a : Aggregate). a.entries) c.self.view_is in
+    subst (λ (es : List Entry). HasNoDisagreement by_names c.args.types.now es) same c.in_ok-order.ensures.agree
 
 pub returns-clause-refused : goal.returns-clause-refused
 returns-clause-refused c = λ fault has.
     let t = c.args.types.now in
-    let same : c.as_slice-2.result.now ≡ c.args.self.entries = c.as_slice-2.ensures.value ∙ ap (λ (a : Aggregate). a.entries) c.self.view_is in
-    let agree = subst (λ (es : List Entry). HasNoDisagreement by_names t es) same c.in_ok-check.ensures.agree in
-    let ordered = subst (λ (es : List Entry). HasNoCircle by_names t es) same c.in_ok-check.ensures.ordered in
+    let same : c.as_slice-asked.result.now ≡ c.args.self.entries = c.as_slice-asked.ensures.value ∙ ap (λ (a : Aggregate). a.entries) c.self.view_is in
+    let agree = subst (λ (es : List Entry). HasNoDisagreement by_names t es) same c.in_ok-order.ensures.agree in
+    let ordered = subst (λ (es : List Entry). HasNoCircle by_names t es) same c.in_ok-order.ensures.ordered in
     no_fault t c.args.self.entries agree ordered fault has
+
+pub check-requires-clause-held : goal.check-requires-clause-held
+check-requires-clause-held c =
+    let same : c.as_slice-asked.result.now ≡ c.args.self.entries = c.as_slice-asked.ensures.value ∙ ap (λ (a : Aggregate). a.entries) c.self.view_is in
+    subst (λ (es : List Entry). AreHeld c.args.types.now es) (sym same) c.requires
+
+pub new-requires-3-clause-held : goal.new-requires-3-clause-held
+new-requires-3-clause-held c =
+    let same : c.as_slice-asked.result.now ≡ c.args.self.entries = c.as_slice-asked.ensures.value ∙ ap (λ (a : Aggregate). a.entries) c.self.view_is in
+    subst (λ (es : List Entry). AreHeld c.args.types.now es) (sym same) c.requires
+
+pub new-requires-3-clause-each : goal.new-requires-3-clause-each
+new-requires-3-clause-each c =
+    subst (λ (o : List ℕ). (k : ℕ) → (Contains o k ↔ k < length (class_names by_names c.as_slice-asked.result.now))) (sym c.as_slice.ensures.value) c.in_ok-order.ensures.each
+
+pub returns-in_err-order-clause-fault : goal.returns-in_err-order-clause-fault
+returns-in_err-order-clause-fault c =
+    let t = c.args.types.now in
+    let same : c.as_slice-asked.result.now ≡ c.args.self.entries = c.as_slice-asked.ensures.value ∙ ap (λ (a : Aggregate). a.entries) c.self.view_is in
+    let f : MergeFault = (c.in_err-order.field-0).0 in
+    exit_cause (λ e. IfSome (fault_of e) (HasFault by_names t c.args.self.entries)) c.from_residual-in_err-order.result f c.from_residual-in_err-order.ensures.1
+    (names_fault t c.args.self.entries f (subst (λ (es : List Entry). IsFault t es f) same c.in_err-order.ensures.fault))
+
+pub returns-in_err-order-clause-refused : goal.returns-in_err-order-clause-refused
+returns-in_err-order-clause-refused c = λ fault has.
+    let t = c.args.types.now in
+    let same : c.as_slice-asked.result.now ≡ c.args.self.entries = c.as_slice-asked.ensures.value ∙ ap (λ (a : Aggregate). a.entries) c.self.view_is in
+    let f : MergeFault = (c.in_err-order.field-0).0 in
+    exit_refused (λ e. (fault_of e ≡ Some fault) ⊎ (e ≡ OutOfMemory)) c.from_residual-in_err-order.result f c.from_residual-in_err-order.ensures.1
+    (refused_for t c.args.self.entries f (subst (λ (es : List Entry). IsFault t es f) same c.in_err-order.ensures.fault) fault has)
+
+pub returns-in_err-merged-clause-fault : goal.returns-in_err-merged-clause-fault
+returns-in_err-merged-clause-fault c =
+    exit_cause (λ e. IfSome (fault_of e) (HasFault by_names c.args.types.now c.args.self.entries)) c.from_residual-in_err-merged.result OutOfMemory c.from_residual-in_err-merged.ensures.1 tt
+
+pub returns-in_err-merged-clause-refused : goal.returns-in_err-merged-clause-refused
+returns-in_err-merged-clause-refused c = λ fault has.
+    exit_refused (λ e. (fault_of e ≡ Some fault) ⊎ (e ≡ OutOfMemory)) c.from_residual-in_err-merged.result OutOfMemory c.from_residual-in_err-merged.ensures.1 (inr refl)

@@ -1,0 +1,224 @@
+-- What the members of a class agree in: the parts of its union, and the trees by name of items that are no instances.
+use Rattle.std.proofs.Common.{◌≡◌, ℕ, ◌<◌, true, false, List, [], ◌⊎◌, inl, inr, length, map, Option, Some, None, slice_get, refl, sym, ap, ◌∙◌, subst, arith}
+use Rattle.std.proofs.lemmas.Bool.{cases_order}
+use Rattle.std.proofs.lemmas.Option.{slice_get_within}
+use Rattle.std.specs.List.{Contains}
+use Rattle.std.specs.Option.{option_map}
+use Rattle.wac_collection.specs.Name.{Name, first_some, option_case}
+use Rattle.wac_collection.specs.Tree.{Leaf, Place, TypeTree, absent, exported, imported, instance, instance_item}
+use Rattle.wac_collection.specs.Collection.{Collection, HasResource, IsWellFormed, holds_type, interface_exports, item_at, kind_type}
+use Rattle.wac_collection.specs.Held.{Names, item_tree, items_under, resolved, unfolded}
+use Rattle.wac_collection.specs.declared.component.Interface.{Interface}
+use Rattle.wac_collection.specs.declared.component.InterfaceId.{InterfaceId}
+use Rattle.wac_collection.specs.declared.component.ItemKind.{ItemKind}
+use Rattle.wac_collection.specs.declared.component.ItemKind.TheVariants as kind
+use Rattle.wac_collection.specs.declared.component.ResourceId.{ResourceId}
+use Rattle.wac_collection.specs.declared.component.«Type».TheVariants as ty
+use Rattle.wac_types.specs.Called.{Called, by_binding, called_at, itself, of_class, own_leaf, resource_name}
+use Rattle.wac_types.specs.Subtype.{IsSubtype, Sub, type_tree, kind_tree, resource_names}
+use Rattle.wac_types.proofs.Relation.{sub_refl}
+use Rattle.wac_merge.specs.Agreement.{Agree, called_in_class, called_inside, called_outside, compared}
+use Rattle.wac_merge.specs.Apart.{AllAgree}
+use Rattle.wac_merge.specs.Became.{IsNew}
+use Rattle.wac_merge.specs.Binding.{binding_class, class_binds}
+use Rattle.wac_merge.specs.Bindings.{ClassBindings}
+use Rattle.wac_merge.specs.Classes.{AreClasses, Entry, NameRules, by_names, same_class}
+use Rattle.wac_merge.specs.Compared.{AreCompared}
+use Rattle.wac_merge.specs.Nodes.{Item, Node, tree_at}
+use Rattle.wac_merge.specs.Nodes as nodes
+use Rattle.wac_merge.specs.declared.fresh.Fresh.{Fresh}
+use Rattle.wac_merge.specs.declared.unions.Part.{Part}
+use Rattle.wac_merge.specs.declared.unions.Union.{Union}
+use Rattle.wac_merge.specs.Unions.{part_lists}
+use Rattle.wac_merge.proofs.Alike.{compared_alike}
+use Rattle.wac_merge.proofs.ClassFacts.{class-sym, class-trans}
+use Rattle.wac_merge.proofs.Comparing.{agree_at}
+use Rattle.wac_merge.proofs.Lists.{some-at}
+use Rattle.wac_merge.proofs.MergedSubtypes.{AreSubtyped, merged_subtype, part_called}
+use Rattle.wac_merge.proofs.MergedSubtypesKinds.{IsInstance, agree_itself, new_tree, resource_tree}
+use Rattle.wac_merge.proofs.MergedSubtypesTrees.{sub_to}
+use Rattle.wac_merge.proofs.MergedSubtypesNames.{KeepsNames, called_name, name_there, same_by_name}
+
+-- ---- around and inside the members of a class resources keep their names
+
+module _ (rules : NameRules) (c : Collection) (es : List Entry) where
+  pub outside_keeps : KeepsNames c (called_outside rules c es)
+  outside_keeps r held = ap Some (by (binding_class rules c es r)) where
+    by : (o : Option (ℕ × List Place)) → called_name (option_case o (itself r (resource_name c r)) (λ b. of_class b.0 b.1 (resource_name c r))) ≡ resource_name c r
+    by None = refl
+    by (Some b) = refl
+
+  pub class_keeps : (class : Name) → KeepsNames c (called_in_class rules c es class)
+  class_keeps class r held = by (class_binds rules c es class r) where
+    by : (o : Option (List Place)) → option_map called_name (first_some (option_case o None (λ path. Some (called_at c r (record { out = 0; side = imported; path = path })))) (called_outside rules c es r)) ≡ Some (resource_name c r)
+    by None = outside_keeps r held
+    by (Some path) = refl
+
+  pub inside_keeps : (class : Name) (it : Interface) → KeepsNames c (called_inside rules c es class it)
+  inside_keeps class it r held = by (own_leaf c it r) (class_binds rules c es class r) where
+    by : (l : Option Leaf) (o : Option (List Place)) → option_map called_name (first_some (option_case l None (λ x. Some (called_at c r x)))
+        (first_some (option_case o None (λ path. Some (called_at c r (record { out = 0; side = exported; path = path })))) (called_outside rules c es r))) ≡ Some (resource_name c r)
+    by (Some l) o = refl
+    by None (Some path) = refl
+    by None None = outside_keeps r held
+
+  -- an instance of a class is compared as its part lists
+  pub part_compared : (ps : List Part) (called : ℕ → Names Called) (class : Name) (p : ℕ) (x : Part) (it : Interface) → slice_get ps p ≡ Some x → item_at c.interfaces x.interface.0 ≡ Some it → called p ≡ called_inside rules c es class it
+      → compared rules c es class (kind.Instance x.interface) ≡ instance_item (part_called c ps called p)
+  part_compared ps called class p x it at item names =
+      let lists : part_lists c ps p ≡ it.exports = ap (λ o. option_case o [] (λ (z : Part). interface_exports c z.interface)) at ∙ ap (λ o. option_case o [] (λ (i : Interface). i.exports)) item in
+      ap (λ o. option_case o absent (λ (i : Interface). instance_item (instance (items_under (map (λ e. (e.0, item_tree (unfolded (by_binding c) c (called_inside rules c es class i)) false e.1)) i.exports))))) item
+      ∙ sym (λ d. instance_item (instance (items_under (map (λ e. (e.0, item_tree (unfolded (by_binding c) c (names d)) false e.1)) (lists d)))))
+
+  -- so two parts agree where the instances do
+  pub parts_agree : (ps : List Part) (called : ℕ → Names Called) (class : Name) (p q : ℕ) (x y : Part) (it jt : Interface) → slice_get ps p ≡ Some x → slice_get ps q ≡ Some y
+      → item_at c.interfaces x.interface.0 ≡ Some it → item_at c.interfaces y.interface.0 ≡ Some jt → called p ≡ called_inside rules c es class it → called q ≡ called_inside rules c es class jt
+      → Agree (compared rules c es class (kind.Instance x.interface)) (compared rules c es class (kind.Instance y.interface)) → Agree (part_called c ps called p) (part_called c ps called q)
+  parts_agree ps called class p q x y it jt at there item other names also h =
+      agree_at (instance_item (part_called c ps called p)) (instance_item (part_called c ps called q)) (compared rules c es class (kind.Instance x.interface)) (compared rules c es class (kind.Instance y.interface))
+      (sym (part_compared ps called class p x it at item names)) (sym (part_compared ps called class q y jt there other also)) h
+
+-- ---- members of a class agree
+
+-- agreement goes both ways
+pub agree_turned : (t u : TypeTree Called) → Agree t u → Agree u t
+agree_turned (instance f) (instance g) h = λ n. turned (f n) (g n) (λ k. agree_turned (f n) (g n) k) (h n) where
+  turned : (a b : TypeTree Called) → (Agree a b → Agree b a) → (a ≡ absent) ⊎ ((b ≡ absent) ⊎ Agree a b) → (b ≡ absent) ⊎ ((a ≡ absent) ⊎ Agree b a)
+  turned a b turn (inl none) = inr (inl none)
+  turned a b turn (inr (inl none)) = inl none
+  turned a b turn (inr (inr k)) = inr (inr (turn k))
+agree_turned (instance f) u h = subst (λ z. Agree z (instance f)) h (agree_itself (instance f))
+agree_turned (instance_item t) (instance_item u) h = agree_turned t u h
+agree_turned (instance_item t) u h = subst (λ z. Agree z (instance_item t)) h (agree_itself (instance_item t))
+agree_turned t u h = subst (λ z. Agree z t) h (agree_itself t)
+
+-- what a part of the union of a class is of: a member that is an instance
+pub record IsOfMember (c : Collection) (es : List Entry) (ps : List Part) (called : ℕ → Names Called) (class : Name) (p : ℕ) : Type 0 where
+  pub part : Part
+  pub interface : Interface
+  pub position : ℕ
+  pub entry : Entry
+  pub at : slice_get ps p ≡ Some part
+  pub item : item_at c.interfaces part.interface.0 ≡ Some interface
+  pub calls : called p ≡ called_inside by_names c es class interface
+  pub there : slice_get es position ≡ Some entry
+  pub is : entry.kind ≡ kind.Instance part.interface
+  pub member : same_class by_names es class entry.name ≡ true
+
+-- the later of two entries of one class agrees with the earlier, where all items of one class do
+module _ (ns : List Node) (c : Collection) (es : List Entry) (items : List Item) (numbers positions : List ℕ) (names : List (Name × ℕ)) (classes : AreClasses by_names es numbers positions names)
+    (counted : length items ≡ length es) (are : AreCompared ns c es items) (all : AllAgree ns items numbers) where
+  later_agrees : (i j : ℕ) (e f : Entry) → i < j → slice_get es i ≡ Some e → slice_get es j ≡ Some f → same_class by_names es e.name f.name ≡ true → Agree (compared by_names c es e.name e.kind) (compared by_names c es f.name f.kind)
+  later_agrees i j e f less at there one =
+      let low : i < length es = slice_get_within es i e at in
+      let below : j < length es = slice_get_within es j f there in
+      let x = some-at items i (omega (arith, low, counted)) in
+      let y = some-at items j (omega (arith, below, counted)) in
+      let k = some-at numbers i (omega (arith, low, classes.counted)) in
+      let l = some-at numbers j (omega (arith, below, classes.counted)) in
+      let same : k.0 ≡ l.0 = (classes.told_apart i j k.0 l.0 e f at there k.1 l.1).1 one in
+      agree_at (compared by_names c es e.name e.kind) (compared by_names c es f.name f.kind) (nodes.item_tree (tree_at ns) x.0) (nodes.item_tree (tree_at ns) y.0)
+      (sym (are i e x.0 at x.1).is) (sym (are j f y.0 there y.1).is) (all i j k.0 x.0 y.0 less (slice_get_within items j y.0 y.1) x.1 y.1 k.1 (l.1 ∙ ap Some (sym same)))
+
+  -- so any two members of a class agree
+  pub members_agree : (class : Name) (i j : ℕ) (e f : Entry) → slice_get es i ≡ Some e → slice_get es j ≡ Some f → same_class by_names es class e.name ≡ true → same_class by_names es class f.name ≡ true
+      → Agree (compared by_names c es class e.kind) (compared by_names c es class f.kind)
+  members_agree class i j e f at there first second = elim (cases_order i j) [
+    | inr (inl less) ↦ around (later_agrees i j e f less at there one)
+    | inr (inr more) ↦ around (agree_turned (compared by_names c es f.name f.kind) (compared by_names c es e.name e.kind) (later_agrees j i f e more there at (class-sym by_names es e.name f.name one)))
+    | inl same ↦
+        let equal : e ≡ f = some_same e f (sym at ∙ ap (slice_get es) same ∙ there) in
+        subst (λ (z : Entry). Agree (compared by_names c es class e.kind) (compared by_names c es class z.kind)) equal (agree_itself (compared by_names c es class e.kind))
+  ] where
+    one : same_class by_names es e.name f.name ≡ true
+    one = class-trans by_names es e.name class f.name (class-sym by_names es class e.name first) second
+
+    around : Agree (compared by_names c es e.name e.kind) (compared by_names c es f.name f.kind) → Agree (compared by_names c es class e.kind) (compared by_names c es class f.kind)
+    around h = agree_at (compared by_names c es class e.kind) (compared by_names c es class f.kind) (compared by_names c es e.name e.kind) (compared by_names c es f.name f.kind)
+        (compared_alike c es class e.name first e.kind) (compared_alike c es class f.name second f.kind) h
+
+    some_same : (a b : Entry) → Some a ≡ Some b → a ≡ b
+    some_same a b same = cc
+
+-- ---- members that are no instances
+
+module _ (rules : NameRules) (c : Collection) (wf : IsWellFormed c) (es : List Entry) (class : Name) where
+  abbrev plain : ItemKind → TypeTree Called
+  plain k = item_tree (unfolded (by_binding c) c (called_in_class rules c es class)) false k
+
+  first_equal : (k : ItemKind) (t : TypeTree Called) → (IsInstance k → ⊥) → Agree (compared rules c es class k) t → plain k ≡ t
+  first_equal (kind.Instance i) t never h = absurd (never tt)
+  first_equal (kind.TypeItem a) t never h = h
+  first_equal (kind.Func x) t never h = h
+  first_equal (kind.Component w) t never h = h
+  first_equal (kind.Module w) t never h = h
+  first_equal (kind.Value v) t never h = h
+
+  no_instance : (k : ItemKind) (o : Option Interface) (g : Interface → TypeTree Called) → (IsInstance k → ⊥) → plain k ≡ option_case o absent (λ it. instance_item (g it)) → ⊥
+  no_instance (kind.Instance i) o g never e = never tt
+  no_instance (kind.TypeItem a) None g never e = cc
+  no_instance (kind.TypeItem a) (Some it) g never e = cc
+  no_instance (kind.Func a) None g never e = cc
+  no_instance (kind.Func a) (Some it) g never e = cc
+  no_instance (kind.Component a) None g never e = cc
+  no_instance (kind.Component a) (Some it) g never e = cc
+  no_instance (kind.Module a) None g never e = cc
+  no_instance (kind.Module a) (Some it) g never e = cc
+  no_instance (kind.Value a) None g never e = cc
+  no_instance (kind.Value a) (Some it) g never e = cc
+
+  second_equal : (k l : ItemKind) → (IsInstance k → ⊥) → plain k ≡ compared rules c es class l → plain k ≡ plain l
+  second_equal k (kind.Instance i) never e =
+      absurd (no_instance k (item_at c.interfaces i.0) (λ it. instance (items_under (map (λ x. (x.0, item_tree (unfolded (by_binding c) c (called_inside rules c es class it)) false x.1)) it.exports))) never e)
+  second_equal k (kind.TypeItem a) never e = e
+  second_equal k (kind.Func x) never e = e
+  second_equal k (kind.Component w) never e = e
+  second_equal k (kind.Module w) never e = e
+  second_equal k (kind.Value v) never e = e
+
+  -- members of which the first is no instance have one tree by name
+  pub members_equal : (k l : ItemKind) → (IsInstance k → ⊥) → holds_type c (kind_type k) ≡ true → holds_type c (kind_type l) ≡ true → Agree (compared rules c es class k) (compared rules c es class l) → kind_tree c k ≡ kind_tree c l
+  members_equal k l never held also h =
+      let keeps = class_keeps rules c es class in
+      same_by_name c wf (called_in_class rules c es class) (called_in_class rules c es class) k l keeps keeps held also (second_equal k l never (first_equal k (compared rules c es class l) never h))
+
+  -- what has the tree of the first is a subtype of each
+  pub class_subtype : (m : Collection) (w k l : ItemKind) → kind_tree m w ≡ kind_tree c k → (IsInstance k → ⊥) → holds_type c (kind_type k) ≡ true → holds_type c (kind_type l) ≡ true → Agree (compared rules c es class k) (compared rules c es class l) → IsSubtype m w c l
+  class_subtype m w k l same never held also h =
+      sub_to (kind_tree m w) (kind_tree c l) (kind_tree c k) (kind_tree c k) same (sym (members_equal k l never held also h)) (sub_refl (kind_tree c k))
+
+-- the new resource that a class is has the tree of the resource that it binds
+pub whole_tree : (c m : Collection) (q r : ResourceId) → HasResource c r → resolved c r ≡ r → IsNew c m q (resource_name c r) → kind_tree m (kind.TypeItem (ty.Resource q)) ≡ kind_tree c (kind.TypeItem (ty.Resource r))
+whole_tree c m q r held end new =
+    new_tree c m q (resource_name c r) new ∙ sym (resource_tree c r (resource_name c r) (ap (resource_names c) end ∙ name_there c.resources r.0 held))
+
+-- ---- what stands for a class is a subtype of each member
+
+-- any two members of a class agree
+abbrev pub MembersAgree : Collection → List Entry → Type 0
+MembersAgree c es = (class : Name) (i j : ℕ) (e f : Entry) → slice_get es i ≡ Some e → slice_get es j ≡ Some f → same_class by_names es class e.name ≡ true → same_class by_names es class f.name ≡ true
+    → Agree (compared by_names c es class e.kind) (compared by_names c es class f.kind)
+
+module _ (c : Collection) (es : List Entry) (agreed : MembersAgree c es) where
+  -- the parts of the union of a class agree
+  pub union_agrees : (ps : List Part) (called : ℕ → Names Called) (class : Name) (p q : ℕ) → IsOfMember c es ps called class p → IsOfMember c es ps called class q → Agree (part_called c ps called p) (part_called c ps called q)
+  union_agrees ps called class p q a b =
+      parts_agree by_names c es ps called class p q a.part b.part a.interface b.interface a.at b.at a.item b.item a.calls b.calls
+      (agree_at (compared by_names c es class (kind.Instance a.part.interface)) (compared by_names c es class (kind.Instance b.part.interface)) (compared by_names c es class a.entry.kind) (compared by_names c es class b.entry.kind)
+      (ap (compared by_names c es class) (sym a.is)) (ap (compared by_names c es class) (sym b.is))
+      (agreed class a.position b.position a.entry b.entry a.there b.there a.member b.member))
+
+  -- the written interface of a class of instances is a subtype of each
+  pub instance_subtype : (m : Collection) (roots : List (List InterfaceId)) (us : List Union) (ps : List Part) (bs : ClassBindings) (f : Fresh) (ids : List (Option Name)) (ws : List InterfaceId) (called : ℕ → Names Called)
+      → AreSubtyped c m roots us ps bs f ids ws called → (u : ℕ) (x : Union) (w : InterfaceId) (class : Name) → slice_get us u ≡ Some x → slice_get ws u ≡ Some w
+      → ((p : ℕ) → Contains x.parts.items p → IsOfMember c es ps called class p) → (p : ℕ) → Contains x.parts.items p → (o : IsOfMember c es ps called class p) → IsSubtype m (kind.Instance w) c o.entry.kind
+  instance_subtype m roots us ps bs f ids ws called all u x w class at at_w each p there o =
+      let sub = merged_subtype c m roots us ps bs f ids ws called all u x w at at_w (λ a b in_a in_b. union_agrees ps called class a b (each a in_a) (each b in_b)) p o.part there o.at in
+      sub_to (kind_tree m (kind.Instance w)) (kind_tree c o.entry.kind) (kind_tree m (kind.Instance w)) (kind_tree c (kind.Instance o.part.interface)) refl (ap (kind_tree c) o.is)
+      (Sub.instance_items (type_tree m (ty.Interface w)) (type_tree c (ty.Interface o.part.interface)) sub)
+
+  -- what has the tree of a member that is no instance is a subtype of each member
+  pub member_subtype : IsWellFormed c → (m : Collection) (w : ItemKind) (class : Name) (i j : ℕ) (e f : Entry) → slice_get es i ≡ Some e → slice_get es j ≡ Some f → same_class by_names es class e.name ≡ true → same_class by_names es class f.name ≡ true
+      → (IsInstance e.kind → ⊥) → holds_type c (kind_type e.kind) ≡ true → holds_type c (kind_type f.kind) ≡ true → kind_tree m w ≡ kind_tree c e.kind → IsSubtype m w c f.kind
+  member_subtype wf m w class i j e f at there first second never held also same =
+      class_subtype by_names c wf es class m w e.kind f.kind same never held also (agreed class i j e f at there first second)
