@@ -17,8 +17,8 @@ use Rattle.wac_graph.specs.declared.asked.Asking.{Asking}
 use Rattle.wac_graph.specs.declared.asked.Task.{Task}
 use Rattle.wac_graph.specs.declared.asked.Task.TheVariants.{Open, Close}
 use Rattle.wac_graph.specs.Asked.{Entry}
-use Rattle.wac_graph.specs.Entries.{under_id, same_instance, asks_again, entry_view}
-use Rattle.wac_graph.specs.EntriesLeft.{by_node, instance_under, has, added, AreApart, entries_of, knows, IsRight, openings, Did, skipped, put_off, closed, passed}
+use Rattle.wac_graph.specs.Entries.{under_id, same_instance, asks_again}
+use Rattle.wac_graph.specs.EntriesLeft.{entry_view, by_node, instance_under, has, added, AreApart, entries_of, knows, IsRight, openings, Did, skipped, put_off, closed, passed}
 use Rattle.wac_graph.proofs.EntryLists.{has_by, has_joined, apart_pushed}
 
 abbrev pub Key : Type 0

@@ -9,13 +9,14 @@ use Rattle.std.proofs.lemmas.List.{append-nil}
 use Rattle.std.proofs.lemmas.List.Elements.{filter-append}
 use Rattle.std.proofs.lemmas.Grind.{flat_map-append}
 use Rattle.wac_collection.specs.Name.{Name, option_case}
-use Rattle.wac_collection.specs.Tree.{Tree}
 use Rattle.wac_collection.specs.declared.component.ItemKind.{ItemKind}
 use Rattle.wac_binary.specs.declared.sorts.Sort.{Sort}
 use Rattle.wac_binary.specs.declared.sorts.Sort.TheVariants as sort
 use Rattle.wac_binary.specs.Items.{Item, alias_item, export_alias, export_item}
 use Rattle.wac_binary.specs.Indexes.{space, indexes}
 use Rattle.wac_binary.specs.Meaning.{Thing, stands_for, meaning}
+use Rattle.wac_merge.specs.Classes.{by_names}
+use Rattle.wac_merge.specs.ClassOrder as classes
 use Rattle.wac_graph.specs.declared.edges.Edge.{Edge}
 use Rattle.wac_graph.specs.declared.node.NodeId.{NodeId}
 use Rattle.wac_graph.specs.declared.packages.PackageId.{PackageId}
@@ -24,7 +25,9 @@ use Rattle.wac_graph.specs.Graph as graph
 use Rattle.wac_graph.specs.Graph.{Graph, GraphNode, Kind, node_at, imports_of, IsSatisfied}
 use Rattle.wac_graph.specs.Sound.{IsSound}
 use Rattle.wac_graph.specs.Order.{Writes, IsLowestReady}
-use Rattle.wac_graph.specs.Asked.{is_argument, is_satisfied, unsatisfied, asked_by, imported_by, asked, Entry, class_names, merged}
+use Rattle.wac_graph.specs.Asked.{is_argument, is_satisfied, unsatisfied, asked_by, imported_by, asked}
+use Rattle.wac_graph.specs.Entries.{with_used, once, to_merge}
+use Rattle.wac_graph.specs.OuterImports.{AreOuterImports}
 use Rattle.wac_graph.specs.Means.{node_number, node_is, is_instantiation, is_written, instantiations, IsThing, sort_of_kind, with_package, used_after, used_packages, package_bytes, AreInstantiations, HasItem, shown, export_of, export_item_of, Means}
 use Rattle.wac_graph.specs.Encoding.{Adds, adds_instantiation, adds_alias}
 use Rattle.wac_graph.proofs.EdgeLemmas.{exact_edges}
@@ -32,6 +35,17 @@ use Rattle.wac_graph.proofs.WrittenOrder.{minus, eqb_same, all_in}
 use Rattle.wac_graph.proofs.ThingLemmas.{IsPlain, is_written-node}
 use Rattle.wac_graph.proofs.MeaningLemmas.{export_shown, export_others, indexes-push}
 use Rattle.wac_graph.proofs.WrittenLemmas.{Counted, Earlier, Written, with_component, instance_more, alias_more, used-append, HasItem-push, used_prefix}
+
+-- where nothing is asked for there are no imports
+pub no_imports : (g : Graph) → asked g ≡ [] → AreOuterImports g []
+no_imports g none = record {
+  order = [];
+  written = subst (λ es. classes.IsWrittenOrder by_names g.types (to_merge (once (flat_map (with_used g.types) es))) []) (sym none) (classes.done []);
+  count = refl;
+  each = λ p k class e at _ _. absurd (nothing at);
+} where
+  nothing : {k : ℕ} → None ≡ Some k → ⊥
+  nothing e = cc
 
 -- where every argument is set nothing is asked
 module _ (g : Graph) where
@@ -201,7 +215,7 @@ module _ (counted : Counted) (earlier : Earlier) (g : Graph) (sound : IsSound g)
     in_order = writes;
     at = at;
     index = index;
-    imports = e.imports ∙ ap (λ es. outer_of es) (sym (asked_none g plain all));
+    imports = subst (AreOuterImports g) (sym e.imports) (no_imports g (asked_none g plain all));
     components = e.bytes;
     instances = e.made;
     things = is_thing;
@@ -213,6 +227,4 @@ module _ (counted : Counted) (earlier : Earlier) (g : Graph) (sound : IsSound g)
     body = base;
     last = e.split;
     customs = e.customs;
-  } where
-    outer_of : List Entry → List (Name × Tree)
-    outer_of es = map (λ name. (name, merged g name)) (class_names es)
+  }

@@ -25,7 +25,7 @@ nodes = (0, import_of_x) ∷ (1, instance_of_second) ∷ []
 abbrev asking : Graph
 asking = record readme_graph { nodes = finite.from_entries nodes; next = 2; edges = set.from_list [] }
 
-no_entries : (es : List (ℕ × GraphNode)) → length es ≡ 0 → es ≡ []
+pub no_entries : (es : List (ℕ × GraphNode)) → length es ≡ 0 → es ≡ []
 no_entries [] h = refl
 no_entries (e ∷ es) h = absurd (omega arith)
 
@@ -40,7 +40,7 @@ at_0 = finite.get-from_entries nat_cmp_total nodes 0
 at_1 : node_at asking (node_number 1) ≡ Some instance_of_second
 at_1 = finite.get-from_entries nat_cmp_total nodes 1
 
-no_items : (es : List Edge) → ((e : Edge) → list_any (eq_by_cmp edge_cmp e) es ≡ false) → es ≡ []
+pub no_items : (es : List Edge) → ((e : Edge) → list_any (eq_by_cmp edge_cmp e) es ≡ false) → es ≡ []
 no_items [] none = refl
 no_items (e ∷ es) none = absurd (clash (eq_by_cmp edge_cmp e e) (list_any (eq_by_cmp edge_cmp e) es) (ap is_eq (tied_itself edge_cmp_total e)) (none e)) where
   clash : (a b : Bool) → a ≡ true → (a || b) ≡ false → ⊥

@@ -35,5 +35,8 @@ pub mod AskingKnown
 pub mod AskingLoops
 pub mod AskingWalk
 pub mod ImportExample
+pub mod EntryExample
+pub mod CauseExample
+pub mod OuterOrder
 pub mod AskedHeld
 pub mod MergeLemmas

@@ -8,8 +8,7 @@ use Rattle.std.specs.Ordering.{nat_cmp, eq_by_cmp}
 use Rattle.std.specs.Cmp.{nat_cmp_total}
 use Rattle.std.specs.Prelude.{slice_get}
 use Rattle.std.proofs.lemmas.Bool.Decides.{nat_tests}
-use Rattle.wac_collection.specs.Name.{Name, option_case}
-use Rattle.wac_collection.specs.Tree.{Tree}
+use Rattle.wac_collection.specs.Name.{option_case}
 use Rattle.wac_collection.specs.Collection.{Collection}
 use Rattle.wac_collection.specs.declared.component.ItemKind.{ItemKind}
 use Rattle.wac_collection.specs.declared.component.ItemKind.TheVariants as item
@@ -23,12 +22,12 @@ use Rattle.wac_graph.specs.Edge.{edge_cmp, alias_edge, argument_edge}
 use Rattle.wac_graph.specs.Graph as graph
 use Rattle.wac_graph.specs.Graph.{Graph, GraphNode, node_at, imports_of, IsSatisfied}
 use Rattle.wac_graph.specs.Order.{Edges, Writes, IsLowestReady, without}
-use Rattle.wac_graph.specs.Asked.{Entry, class_names, merged, outer_imports}
+use Rattle.wac_graph.specs.OuterImports.{AreOuterImports}
 use Rattle.wac_graph.specs.Means.{Means, is_import, is_written, node_number, instantiations, used_after, used_packages, package_bytes, sort_of_kind, AreInstantiations, IsThing, as_instantiation, as_alias, given, HasItem, shown, export_of, export_item_of}
 use Rattle.wac_graph.proofs.EdgeLemmas.{edge_cmp_total, exact_edges}
 use Rattle.wac_graph.proofs.WrittenOrder.{eqb_same}
 use Rattle.wac_graph.proofs.ThingLemmas.{IsPlain}
-use Rattle.wac_graph.proofs.EncodeLemmas.{AllSet, asked_none}
+use Rattle.wac_graph.proofs.EncodeLemmas.{AllSet, no_imports, asked_none}
 
 -- two packages of the same bytes: the first exports the function `a`, the second imports the function `b`
 abbrev pub of_function : ItemKind
@@ -51,7 +50,7 @@ abbrev second : PackageId
 second = record { slot = 1; generation = 0 }
 
 -- the three nodes
-abbrev instance_of_first : GraphNode
+abbrev pub instance_of_first : GraphNode
 instance_of_first = record { kind = graph.instantiation; item_kind = item.Instance (record { 0 = 0 }); owner = Some first; name = None; export_name = None }
 
 abbrev alias_of_first : GraphNode
@@ -264,10 +263,8 @@ all_given = by_node (λ n node. node.kind ≡ graph.instantiation → (i : ℕ) 
       of_second (suc i) small = absurd (not_below_1 i small)
 
 -- nothing is asked
-readme_imports : (meaning readme).imports ≡ outer_imports readme_graph
-readme_imports = ap (λ es. outer_of es) (sym (asked_none readme_graph readme_plain all_given)) where
-  outer_of : List Entry → List (Name × Tree)
-  outer_of es = map (λ name. (name, merged readme_graph name)) (class_names es)
+readme_imports : AreOuterImports readme_graph (meaning readme).imports
+readme_imports = no_imports readme_graph (asked_none readme_graph readme_plain all_given)
 
 -- the two instantiations, the second with the alias as `b`
 readme_instances : AreInstantiations readme_graph readme_at (0 ∷ 1 ∷ 2 ∷ []) (instantiations readme_graph (0 ∷ 1 ∷ 2 ∷ [])) (meaning readme).instantiations
@@ -355,7 +352,7 @@ both (suc (suc n)) = false
 
 module _ (g : Graph) (x y : GraphNode) (is_0 : node_at g (node_number 0) ≡ Some x) (is_1 : node_at g (node_number 1) ≡ Some y) (more : (n : ℕ) → node_at g (node_number (suc (suc n))) ≡ None) where
   -- what holds of the two nodes holds of each
-  by_two : (P : ℕ → GraphNode → Type 0) → P 0 x → P 1 y → (n : ℕ) (node : GraphNode) → node_at g (node_number n) ≡ Some node → P n node
+  pub by_two : (P : ℕ → GraphNode → Type 0) → P 0 x → P 1 y → (n : ℕ) (node : GraphNode) → node_at g (node_number n) ≡ Some node → P n node
   by_two P a b zero node is = subst (λ z. P 0 z) (some_same (sym is_0 ∙ is)) a
   by_two P a b (suc zero) node is = subst (λ z. P 1 z) (some_same (sym is_1 ∙ is)) b
   by_two P a b (suc (suc n)) node is = absurd (none_some (sym (more n) ∙ is))
@@ -434,11 +431,8 @@ twice_at n = instance_at n
 abbrev twice_place : ℕ → ℕ
 twice_place n = suc n
 
-twice_imports : (meaning twice).imports ≡ outer_imports twice_graph
-twice_imports = ap (λ es. outer_of es) (sym (asked_none twice_graph plain all)) where
-  outer_of : List Entry → List (Name × Tree)
-  outer_of es = map (λ name. (name, merged twice_graph name)) (class_names es)
-
+twice_imports : AreOuterImports twice_graph (meaning twice).imports
+twice_imports = no_imports twice_graph (asked_none twice_graph plain all) where
   plain : IsPlain twice_graph
   plain = by_twice (λ n node. (node.kind ≡ graph.instantiation) ⊎ (node.kind ≡ graph.alias)) (inl refl) (inl refl)
 
@@ -544,11 +538,8 @@ exporting_in_order = Writes-same exporting_graph.edges both (is_written exportin
   (record { here = refl; free = λ e stands _. ap (λ (x : Edge). without both 0 x.source) (exporting_edge e stands); lower = λ m small left. absurd (lower_1 m small left) }, none_of_both),
 )
 
-exporting_imports : (meaning exporting).imports ≡ outer_imports exporting_graph
-exporting_imports = ap (λ es. outer_of es) (sym (asked_none exporting_graph plain all)) where
-  outer_of : List Entry → List (Name × Tree)
-  outer_of es = map (λ name. (name, merged exporting_graph name)) (class_names es)
-
+exporting_imports : AreOuterImports exporting_graph (meaning exporting).imports
+exporting_imports = no_imports exporting_graph (asked_none exporting_graph plain all) where
   plain : IsPlain exporting_graph
   plain = by_exporting (λ n node. (node.kind ≡ graph.instantiation) ⊎ (node.kind ≡ graph.alias)) (inl refl) (inr refl)
 

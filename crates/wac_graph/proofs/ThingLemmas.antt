@@ -64,7 +64,7 @@ module _ (g : Graph) (sound : IsSound g) (plain : IsPlain g) where
 
     -- what a node that is written stands for stays
     kept : (done : List ℕ) (at : ℕ → Thing) (n : ℕ) (t : Thing) → Good done at → has done n ≡ false → (m : ℕ) (node : GraphNode) → has done m ≡ true → IsThing g at order m node → IsThing g (put_at at n t) order m node
-    kept done at n t good absent m node here (as_import name k is) = as_import name k (put_other at n t m (apart done m n here absent) ∙ is)
+    kept done at n t good absent m node here (as_import name p k place is) = as_import name p k place (put_other at n t m (apart done m n here absent) ∙ is)
     kept done at n t good absent m node here (as_instantiation j k place is) = as_instantiation j k place (put_other at n t m (apart done m n here absent) ∙ is)
     kept done at n t good absent m node here (as_alias instance source i name k aliased there exported is) =
         let before : has done instance.0 ≡ true = good.closed (alias_edge instance.0 m i) aliased here in

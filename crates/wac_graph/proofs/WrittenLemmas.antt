@@ -208,7 +208,7 @@ module _ (counted : Counted) (earlier : Earlier) (g : Graph) (sound : IsSound g)
 
   -- what a node stands for is something
   projected_thing : (m : ℕ) (node : GraphNode) (name : Name) → IsThing g at order m node → projected (at m) name ≡ projection (at m) name
-  projected_thing m node name (as_import n k is) = rw is refl
+  projected_thing m node name (as_import n p k place is) = rw is refl
   projected_thing m node name (as_instantiation j k place is) = rw is refl
   projected_thing m node name (as_alias instance source i n k aliased there exported is) = rw is refl
 
@@ -347,7 +347,7 @@ module _ (counted : Counted) (earlier : Earlier) (g : Graph) (sound : IsSound g)
 
           -- what the alias is
           is_projection : IsThing g at order n node → at n ≡ projection (at instance.0) name
-          is_projection (as_import other other_kind is) = absurd (two_kinds kind other_kind) where
+          is_projection (as_import other p other_kind at_p is) = absurd (two_kinds kind other_kind) where
             two_kinds : {q : Kind} {m : Name} → q ≡ graph.alias → q ≡ graph.import m → ⊥
             two_kinds a b = cc
           is_projection (as_instantiation j other_kind at_j is) = absurd (two_kinds kind other_kind) where
@@ -443,7 +443,7 @@ module _ (counted : Counted) (earlier : Earlier) (g : Graph) (sound : IsSound g)
           this = record { node = node; there = there; owner = id; owned = owned; place = k; used = first; component = stands; arguments = are_arguments 0 (imports_of g node) arguments given_items }
 
           is_instance : IsThing g at order n node → at n ≡ instance_at (length (instantiations g done))
-          is_instance (as_import other other_kind is) = absurd (two_kinds kind other_kind) where
+          is_instance (as_import other p other_kind at_p is) = absurd (two_kinds kind other_kind) where
             two_kinds : {q : Kind} {m : Name} → q ≡ graph.instantiation → q ≡ graph.import m → ⊥
             two_kinds a b = cc
           is_instance (as_instantiation j _ at_j is) = is ∙ ap instance_at (only_instance j kind at_j)

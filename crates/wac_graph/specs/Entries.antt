@@ -7,7 +7,6 @@ use Rattle.wac_collection.specs.declared.component.InterfaceId.{InterfaceId}
 use Rattle.wac_collection.specs.declared.component.ItemKind.{ItemKind}
 use Rattle.wac_collection.specs.declared.component.ItemKind.TheVariants as kind
 use Rattle.wac_merge.specs.Classes as merge
-use Rattle.wac_graph.specs.declared.asked.AskedEntry.{AskedEntry}
 use Rattle.wac_graph.specs.Graph.{Graph}
 use Rattle.wac_graph.specs.Asked.{Entry, asked}
 
@@ -45,10 +44,6 @@ once (e ∷ es) = e ∷ filter (λ x. not (asks_again e x)) (once es)
 -- all that is asked for, used interfaces before what uses them
 abbrev pub asked_entries : Graph → List Entry
 asked_entries g = once (flat_map (with_used g.types) (asked g))
-
--- what an entry says
-abbrev pub entry_view : AskedEntry → Entry
-entry_view e = record { name = e.name.now; kind = e.kind; node = e.node }
 
 -- entries as merging takes them
 abbrev pub to_merge : List Entry → List merge.Entry

@@ -13,6 +13,7 @@ use Rattle.wac_collection.specs.declared.component.InterfaceId.{InterfaceId}
 use Rattle.wac_collection.specs.declared.component.ItemKind.{ItemKind}
 use Rattle.wac_collection.specs.declared.component.ItemKind.TheVariants as kind
 use Rattle.wac_collection.specs.declared.component.UsedType.{UsedType}
+use Rattle.wac_graph.specs.declared.asked.AskedEntry.{AskedEntry}
 use Rattle.wac_graph.specs.declared.asked.Asking.{Asking}
 use Rattle.wac_graph.specs.declared.asked.Task.{Task}
 use Rattle.wac_graph.specs.declared.asked.Task.TheVariants.{Open, Close}
@@ -20,7 +21,11 @@ use Rattle.wac_graph.specs.declared.node.NodeId.{NodeId}
 use Rattle.wac_graph.specs.Graph.{Graph, node_at}
 use Rattle.wac_graph.specs.ImportsLeft.{node_left}
 use Rattle.wac_graph.specs.Asked.{Entry, asked_by, imported_by}
-use Rattle.wac_graph.specs.Entries.{under_id, used_by, asks_again, once, with_used, entry_view}
+use Rattle.wac_graph.specs.Entries.{under_id, used_by, asks_again, once, with_used}
+
+-- what an entry says
+abbrev pub entry_view : AskedEntry → Entry
+entry_view e = record { name = e.name.now; kind = e.kind; node = e.node }
 
 -- the entry of an item that is used by what a node asks for
 abbrev pub by_node : ℕ → Name × ItemKind → Entry

@@ -11,6 +11,7 @@ pub mod Asked
 pub mod Imports
 pub mod Entries
 pub mod EntriesLeft
+pub mod OuterImports
 pub mod Means
 pub mod ImportsLeft
 pub mod Encoding

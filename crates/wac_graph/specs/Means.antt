@@ -13,7 +13,7 @@ use Rattle.wac_graph.specs.declared.node.NodeId.{NodeId}
 use Rattle.wac_graph.specs.declared.packages.PackageId.{PackageId}
 use Rattle.wac_graph.specs.Graph.{Graph, GraphNode, Kind, import, instantiation, alias, node_at, package_at, imports_of, exports_of, IsAliasOf, IsArgumentOf, IsUnsatisfied}
 use Rattle.wac_graph.specs.Order.{Writes}
-use Rattle.wac_graph.specs.Asked.{outer_imports, class_position}
+use Rattle.wac_graph.specs.OuterImports.{AreOuterImports, IsImportPlace}
 
 -- the sort of the index of an item
 abbrev pub sort_of_kind : ItemKind → Sort
@@ -73,7 +73,7 @@ package_bytes g p = option_case (package_at g p) [] (λ it. it.bytes)
 -- an argument: the node that was set, or the import into which the name fell
 pub data IsArgument (g : Graph) (at : ℕ → Thing) (n i : ℕ) (name : Name) : Thing → Type 0 where
   given : (node : NodeId) → IsArgumentOf g (node_number n) i node → IsArgument g at n i name (at node.0)
-  asked : IsUnsatisfied g (node_number n) i → IsArgument g at n i name (import_at (class_position g name))
+  asked : (p : ℕ) → IsUnsatisfied g (node_number n) i → IsImportPlace g name p → IsArgument g at n i name (import_at p)
 
 -- one argument for each import, in world order, under the import's name
 abbrev pub AreArguments : Graph → (ℕ → Thing) → ℕ → ℕ → List (Name × ItemKind) → List (Name × Thing) → Type 0
@@ -100,7 +100,7 @@ AreInstantiations g at order _ _ = ⊥
 
 -- what a node is, given what the others are
 pub data IsThing (g : Graph) (at : ℕ → Thing) (order : List ℕ) (n : ℕ) (node : GraphNode) : Type 0 where
-  as_import : (name : Name) → node.kind ≡ import name → at n ≡ import_at (class_position g name) → IsThing g at order n node
+  as_import : (name : Name) (p : ℕ) → node.kind ≡ import name → IsImportPlace g name p → at n ≡ import_at p → IsThing g at order n node
   as_instantiation : (k : ℕ) → node.kind ≡ instantiation → slice_get (instantiations g order) k ≡ Some n → at n ≡ instance_at k → IsThing g at order n node
   as_alias : (instance : NodeId) (source : GraphNode) (i : ℕ) (name : Name) → node.kind ≡ alias → IsAliasOf g instance i (node_number n) → node_at g instance ≡ Some source → slice_get (exports_of g source) i ≡ Some (name, node.item_kind) → at n ≡ projection (at instance.0) name → IsThing g at order n node
 
@@ -138,8 +138,8 @@ pub record Means (items : List Item) (g : Graph) : Type 0 where
   pub in_order : Writes g.edges (is_written g) order
   pub at : ℕ → Thing
   pub index : ℕ → ℕ
-  -- the imports are the asked classes, under their names with their items
-  pub imports : (meaning items).imports ≡ outer_imports g
+  -- the imports are the classes of what is asked for, under their canonical names with their merged items
+  pub imports : AreOuterImports g (meaning items).imports
   -- the components are the instantiated packages' bytes, in order of first use
   pub components : (meaning items).nested_bytes ≡ map (package_bytes g) (used_packages g order)
   pub instances : AreInstantiations g at order (instantiations g order) (meaning items).instantiations

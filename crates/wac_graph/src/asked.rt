@@ -7,8 +7,8 @@ ghost use Rattle.wac_collection.specs.Collection.{HasInterface};
 ghost use Rattle.wac_collection.specs.declared.component.ItemKind.TheVariants.{Instance};
 ghost use Rattle.wac_graph.specs.declared.asked.Task.{Task as ATask};
 ghost use Rattle.wac_graph.specs.declared.asked.Task.TheVariants.{Open, Close};
-ghost use Rattle.wac_graph.specs.Entries.{used_by, with_used, asked_entries, entry_view};
-ghost use Rattle.wac_graph.specs.EntriesLeft.{entries_of, IsRight, IsHeldTask, IsHeldKind, AreSettled, StandsFor, Did, has, added, by_node, instance_under, openings, asked_at, all_with_used, all_asked_by, all_imported_by};
+ghost use Rattle.wac_graph.specs.Entries.{used_by, with_used, asked_entries};
+ghost use Rattle.wac_graph.specs.EntriesLeft.{entry_view, entries_of, IsRight, IsHeldTask, IsHeldKind, AreSettled, StandsFor, Did, has, added, by_node, instance_under, openings, asked_at, all_with_used, all_asked_by, all_imported_by};
 
 use crate::graph::CompositionGraph;
 use std::alloc::{AllocError, Global};

@@ -4,7 +4,9 @@ use std::alloc::Global;
 use std::fmt::Display;
 use std::process::Abort;
 use std::test::Fail;
-use wac_graph::types::{FuncType, Interface, ItemKind, PrimitiveType, ValueType};
+use wac_graph::types::{
+    DefinedType, Enum, FuncType, Interface, ItemKind, PrimitiveType, Type, ValueType,
+};
 use wac_graph::{CompositionGraph, EncodeError, EncodeOptions, NodeId, NodeKind, PackageId};
 
 // What a package imports or exports.
@@ -20,6 +22,8 @@ pub enum Item {
     OtherInstance,
     // An instance without exports.
     Empty,
+    // An instance of an interface of this name, which uses the type of this name of the interface of that name.
+    Using(&'static str, &'static str, &'static str),
 }
 
 // A call. A package or a node is meant by its place among those that were answered.
@@ -77,6 +81,20 @@ fn empty_instance(alloc: Global, graph: &mut CompositionGraph) -> Result<ItemKin
     Ok(ItemKind::Instance(graph.add_interface(interface)?))
 }
 
+fn using_instance(
+    alloc: Global,
+    graph: &mut CompositionGraph,
+    id: &str,
+    name: &str,
+    used: &str,
+) -> Result<ItemKind, Fail> {
+    let cases = graph.add_defined_type(DefinedType::Enum(Enum::new(alloc, &["a"])?))?;
+    let item = ItemKind::TypeItem(Type::Value(ValueType::Defined(cases)));
+    let of = graph.add_interface(Interface::new(alloc, Some(used), &[(name, item)])?)?;
+    let interface = Interface::with_uses(alloc, Some(id), &[(name, of, None)], &[(name, item)])?;
+    Ok(ItemKind::Instance(graph.add_interface(interface)?))
+}
+
 impl Bench {
     pub fn new(alloc: Global) -> Bench {
         Bench {
@@ -94,6 +112,9 @@ impl Bench {
             Item::Instance => instance(self.alloc, &mut self.graph),
             Item::OtherInstance => other_instance(self.alloc, &mut self.graph),
             Item::Empty => empty_instance(self.alloc, &mut self.graph),
+            Item::Using(id, name, used) => {
+                using_instance(self.alloc, &mut self.graph, id, name, used)
+            }
         }
     }
 
@@ -241,7 +262,7 @@ impl Bench {
     }
 
     // What the refusal names: the node of a cycle, or the import, the instantiation, its package and the name, or an import
-    // that cannot be merged and the nodes that ask for it; asked once more where memory was refused.
+    // that cannot be merged and the nodes that ask for it, or one of a circle; asked once more where memory was refused.
     pub fn refused(&self) -> Result<String, Fail> {
         let options = EncodeOptions::default();
         let answer = match self.graph.encode(options) {
@@ -273,6 +294,7 @@ impl Bench {
                     other,
                 },
             ) => { Ok(format!(in self.alloc; "{import}, {node}, {other}")?) }
+            Err(EncodeError::ImportsUseEachOther { import }) => Ok(import),
             _ => Ok(String::new(self.alloc)),
         }
     }

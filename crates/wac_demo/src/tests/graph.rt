@@ -1,5 +1,5 @@
 use super::bench::Call::{Alias, Export, Import, Instantiate, Register, Set};
-use super::bench::Item::{Empty, Instance, Other, OtherInstance, Plain};
+use super::bench::Item::{Empty, Instance, Other, OtherInstance, Plain, Using};
 use super::bench::{Bench, Call};
 use std::process::Abort;
 use std::test::Fail;
@@ -103,6 +103,29 @@ const EXPLICIT_MERGE: &[(Call<'static>, &str)] = &[
     ),
     (Instantiate(0), "0"),
     (Import("a:b/c@0.2.1", OtherInstance), "1"),
+];
+
+// Two packages, of which the first imports an interface that uses one of the second's, in another version, and the second
+// one that uses one of the first's.
+const IMPORT_CIRCLE: &[(Call<'static>, &str)] = &[
+    (
+        Register(
+            "my:package",
+            &[("a:b/x@1.0.0", Using("a:b/x@1.0.0", "t", "a:b/y@1.0.0"))],
+            &[],
+        ),
+        "",
+    ),
+    (
+        Register(
+            "my:other",
+            &[("a:b/y@1.1.0", Using("a:b/y@1.1.0", "u", "a:b/x@1.1.0"))],
+            &[],
+        ),
+        "",
+    ),
+    (Instantiate(0), "0"),
+    (Instantiate(1), "1"),
 ];
 
 // A second package, whose instance is given the function `a` of an instance of the first, and what is refused it.
@@ -286,6 +309,7 @@ fn refusals_name_their_causes(rt: HostRuntime) -> Result<(), Fail> {
         (CONFLICT_AND_CYCLE, "2"),
         (IMPLICIT_MERGE, "x, 0, 1, Disagree"),
         (EXPLICIT_MERGE, "a:b/c@0.2.1, 1, 0"),
+        (IMPORT_CIRCLE, "a:b/y@1.1.0"),
         (UNSET, ""),
     ];
     for (calls, want) in rows {

@@ -1,7 +1,7 @@
 use Rattle.std.proofs.Common.{refl, ap, sym, ◌∙◌, subst}
 use Rattle.std.specs.HashSet.{contains}
 use Rattle.wac_graph.specs.declared.asked.Asking.{Asking}
-use Rattle.wac_graph.specs.Entries.{entry_view}
+use Rattle.wac_graph.specs.EntriesLeft.{entry_view}
 use Rattle.wac_graph.proofs.AskingKnown.{IsNoted, key_eq, there_already, instance_noted, other_noted, entries_added, right_pushed}
 use Rattle.wac_graph.proofs.asked.Asking.add.Goals as goal
 use Rattle.wac_graph.proofs.asked.Asking.add.Goals.{in-Instance+in-Ok-true, in_default}

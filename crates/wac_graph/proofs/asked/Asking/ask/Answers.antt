@@ -1,8 +1,8 @@
 use Rattle.std.proofs.Common.{sym, ◌∙◌, ◌≡◌}
 use Rattle.std.proofs.Common.{◌++◌}
 use Rattle.wac_collection.specs.Collection.{HasInterface}
-use Rattle.wac_graph.specs.Entries.{with_used, entry_view}
-use Rattle.wac_graph.specs.EntriesLeft.{entries_of, added}
+use Rattle.wac_graph.specs.Entries.{with_used}
+use Rattle.wac_graph.specs.EntriesLeft.{entry_view, entries_of, added}
 use Rattle.wac_graph.proofs.AskingTasks.{on_ok, held_instance, asked_there, asked_new, with_settled, other_asked, other_settled, stands_settled}
 use Rattle.wac_graph.proofs.asked.Asking.ask.Goals as goal
 

@@ -2,8 +2,7 @@ use Rattle.std.proofs.Common.{◌≡◌, ap, sym, subst, map}
 use Rattle.std.specs.List.{AllByRecursion}
 use Rattle.wac_collection.specs.Collection.{Collection}
 use Rattle.wac_graph.specs.Asked.{Entry}
-use Rattle.wac_graph.specs.Entries.{entry_view}
-use Rattle.wac_graph.specs.EntriesLeft.{IsHeldKind}
+use Rattle.wac_graph.specs.EntriesLeft.{entry_view, IsHeldKind}
 use Rattle.wac_graph.specs.Graph.{Graph}
 use Rattle.wac_graph.proofs.MergeLemmas.{all_index}
 use Rattle.wac_graph.proofs.graph.CompositionGraph.aggregated.Goals as goal

@@ -7,8 +7,8 @@ use Rattle.wac_merge.specs.Faults.{HasNoCircle, HasNoDisagreement}
 use Rattle.wac_merge.specs.declared.fault.MergeFault.{MergeFault}
 use Rattle.wac_merge.specs.Classes as merge
 use Rattle.wac_graph.specs.Asked.{Entry}
-use Rattle.wac_graph.specs.Entries.{asked_entries, entry_view, to_merge}
-use Rattle.wac_graph.specs.EntriesLeft.{IsHeldKind}
+use Rattle.wac_graph.specs.Entries.{asked_entries, to_merge}
+use Rattle.wac_graph.specs.EntriesLeft.{entry_view, IsHeldKind}
 use Rattle.wac_graph.specs.Graph.{Graph}
 use Rattle.wac_graph.proofs.AskedHeld.{held_entries}
 use Rattle.wac_graph.proofs.MergeLemmas.{is_fault, merge_held}

@@ -2,7 +2,8 @@ use Rattle.std.proofs.Common.{ℕ, List, Some, sym, ap, ◌∙◌}
 use Rattle.std.specs.Prelude.{slice_get}
 use Rattle.wac_graph.specs.declared.asked.AskedEntry.{AskedEntry}
 use Rattle.wac_graph.specs.Asked.{Entry}
-use Rattle.wac_graph.specs.Entries.{asked_entries, entry_view}
+use Rattle.wac_graph.specs.Entries.{asked_entries}
+use Rattle.wac_graph.specs.EntriesLeft.{entry_view}
 use Rattle.wac_graph.specs.Means.{node_number}
 use Rattle.wac_graph.proofs.MergeLemmas.{entry_at, explicit_refused, implicit_refused, index_there, mapped_within}
 use Rattle.wac_graph.proofs.graph.CompositionGraph.disagreement.Goals as goal
