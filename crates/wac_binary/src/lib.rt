@@ -17,8 +17,6 @@ mod put;
 mod put_types;
 mod section;
 pub mod sorts;
-#[cfg(test)]
-mod tests;
 pub mod types;
 
 pub use builder::ComponentBuilder;

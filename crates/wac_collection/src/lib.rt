@@ -9,8 +9,6 @@ mod interfaces;
 mod mentions;
 mod named;
 mod package;
-#[cfg(test)]
-mod tests;
 mod uses;
 
 pub use collection::{AddTypeError, Held, Types};

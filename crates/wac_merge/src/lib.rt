@@ -32,8 +32,6 @@ mod coder;
 mod compared;
 mod entry;
 mod fault;
-#[cfg(test)]
-mod finish_tests;
 mod fresh;
 mod grouped;
 mod items;
@@ -48,14 +46,10 @@ mod nodes;
 mod order;
 mod reach;
 mod renamer;
-#[cfg(test)]
-mod resting_tests;
 mod rests;
 mod scopes;
 mod slots;
 mod tasks;
-#[cfg(test)]
-mod tests;
 mod unions;
 mod writing;
 

@@ -39,8 +39,6 @@ mod kind;
 mod label;
 mod name;
 mod reading;
-#[cfg(test)]
-mod tests;
 mod text;
 mod tracks;
 

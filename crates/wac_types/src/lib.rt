@@ -3,8 +3,6 @@
 
 mod checker;
 pub mod laws;
-#[cfg(test)]
-mod tests;
 
 pub use checker::{SubtypeChecker, TypeFault};
 pub use wac_collection::{

@@ -264,98 +264,179 @@ fn exports(
     Ok(bench.exports(place, name))
 }
 
-#[test]
-fn graphs_are_encoded(rt: HostRuntime) -> Result<(), Fail> {
-    let rows = [
-        (
-            EXPORTED,
-            "0061736d0d00010004080061736d0d00010005040100000006060101000001610b0701000178010000",
-        ),
-        (
-            TWICE,
-            "0061736d0d00010004080061736d0d000100050702000000000000",
-        ),
-        (
-            NESTED,
-            "0061736d0d00010004080061736d0d000100050401000000060b0205000001690100010161",
-        ),
-        (UNSET, NOT_YET),
-        (CYCLE, CONTAINS_CYCLE),
-        (OWN_ARGUMENT, CONTAINS_CYCLE),
-        (RING, CONTAINS_CYCLE),
-        (CONFLICT, IMPORT_CONFLICT),
-        (CONFLICT_AND_CYCLE, CONTAINS_CYCLE),
-        (ARGUMENTS, NOT_YET),
-        (NAMES, NOT_YET),
-        (
-            REFUSALS,
-            "0061736d0d00010004080061736d0d0001000504010000000606010100000161",
-        ),
-    ];
-    for (calls, want) in rows {
-        let answer = encoded(&rt, calls, EncodeOptions::default())?;
-        assert_eq!(rt; answer.as_str(), want);
-    }
+// After the calls `encode` answers these bytes, or is refused with this text.
+fn assert_encoded(
+    rt: &(impl Abort + AllocGlobal),
+    calls: &[(Call<'_>, &str)],
+    want: &str,
+) -> Result<(), Fail> {
+    let answer = encoded(rt, calls, EncodeOptions::default())?;
+    assert_eq!(rt; answer.as_str(), want);
+    Ok(())
+}
+
+// After the calls the refusal of `encode` names this cause.
+fn assert_refused(
+    rt: &(impl Abort + AllocGlobal),
+    calls: &[(Call<'_>, &str)],
+    want: &str,
+) -> Result<(), Fail> {
+    let answer = refused(rt, calls)?;
+    assert_eq!(rt; answer.as_str(), want);
+    Ok(())
+}
+
+// After the calls the node at a place is this.
+fn assert_described(
+    rt: &(impl Abort + AllocGlobal),
+    calls: &[(Call<'_>, &str)],
+    place: usize,
+    want: &str,
+) -> Result<(), Fail> {
+    let answer = described(rt, calls, place)?;
+    assert_eq!(rt; answer.as_str(), want);
     Ok(())
 }
 
 #[test]
-fn refusals_name_their_causes(rt: HostRuntime) -> Result<(), Fail> {
-    let rows = [
-        (CYCLE, "0"),
-        (OWN_ARGUMENT, "0"),
-        (RING, "1"),
-        (CONFLICT, "0, 1, my:package, x"),
-        (CONFLICT_AND_CYCLE, "2"),
-        (IMPLICIT_MERGE, "x, 0, 1, Disagree"),
-        (EXPLICIT_MERGE, "a:b/c@0.2.1, 1, 0"),
-        (IMPORT_CIRCLE, "a:b/y@1.1.0"),
-        (UNSET, ""),
-    ];
-    for (calls, want) in rows {
-        let answer = refused(&rt, calls)?;
-        assert_eq!(rt; answer.as_str(), want);
-    }
-    Ok(())
+fn an_alias_is_exported(rt: HostRuntime) -> Result<(), Fail> {
+    assert_encoded(
+        &rt,
+        EXPORTED,
+        "0061736d0d00010004080061736d0d00010005040100000006060101000001610b0701000178010000",
+    )
+}
+
+#[test]
+fn a_package_is_instantiated_twice(rt: HostRuntime) -> Result<(), Fail> {
+    assert_encoded(
+        &rt,
+        TWICE,
+        "0061736d0d00010004080061736d0d000100050702000000000000",
+    )
+}
+
+#[test]
+fn an_export_of_an_exported_instance_is_reached(rt: HostRuntime) -> Result<(), Fail> {
+    assert_encoded(
+        &rt,
+        NESTED,
+        "0061736d0d00010004080061736d0d000100050401000000060b0205000001690100010161",
+    )
+}
+
+#[test]
+fn refused_calls_leave_the_graph(rt: HostRuntime) -> Result<(), Fail> {
+    assert_encoded(
+        &rt,
+        REFUSALS,
+        "0061736d0d00010004080061736d0d0001000504010000000606010100000161",
+    )
+}
+
+#[test]
+fn an_argument_is_not_set(rt: HostRuntime) -> Result<(), Fail> {
+    let calls = UNSET;
+    assert_encoded(&rt, calls, NOT_YET)?;
+    assert_refused(&rt, calls, "")
+}
+
+#[test]
+fn a_package_is_given_its_own_function(rt: HostRuntime) -> Result<(), Fail> {
+    let calls = CYCLE;
+    assert_encoded(&rt, calls, CONTAINS_CYCLE)?;
+    assert_refused(&rt, calls, "0")
+}
+
+#[test]
+fn an_instance_is_its_own_argument(rt: HostRuntime) -> Result<(), Fail> {
+    let calls = OWN_ARGUMENT;
+    assert_encoded(&rt, calls, CONTAINS_CYCLE)?;
+    assert_refused(&rt, calls, "0")
+}
+
+#[test]
+fn two_instances_are_each_others_arguments(rt: HostRuntime) -> Result<(), Fail> {
+    let calls = RING;
+    assert_encoded(&rt, calls, CONTAINS_CYCLE)?;
+    assert_refused(&rt, calls, "1")
+}
+
+#[test]
+fn an_unset_argument_has_the_name_of_an_import(rt: HostRuntime) -> Result<(), Fail> {
+    let calls = CONFLICT;
+    assert_encoded(&rt, calls, IMPORT_CONFLICT)?;
+    assert_refused(&rt, calls, "0, 1, my:package, x")
+}
+
+#[test]
+fn a_cycle_is_named_before_a_conflict(rt: HostRuntime) -> Result<(), Fail> {
+    let calls = CONFLICT_AND_CYCLE;
+    assert_encoded(&rt, calls, CONTAINS_CYCLE)?;
+    assert_refused(&rt, calls, "2")
+}
+
+#[test]
+fn functions_of_one_name_differ(rt: HostRuntime) -> Result<(), Fail> {
+    assert_refused(&rt, IMPLICIT_MERGE, "x, 0, 1, Disagree")
+}
+
+#[test]
+fn an_import_differs_from_what_a_package_asks_for(rt: HostRuntime) -> Result<(), Fail> {
+    assert_refused(&rt, EXPLICIT_MERGE, "a:b/c@0.2.1, 1, 0")
+}
+
+#[test]
+fn imports_use_each_other(rt: HostRuntime) -> Result<(), Fail> {
+    assert_refused(&rt, IMPORT_CIRCLE, "a:b/y@1.1.0")
+}
+
+#[test]
+fn arguments_are_checked(rt: HostRuntime) -> Result<(), Fail> {
+    assert_encoded(&rt, ARGUMENTS, NOT_YET)
+}
+
+#[test]
+fn names_are_checked(rt: HostRuntime) -> Result<(), Fail> {
+    assert_encoded(&rt, NAMES, NOT_YET)
 }
 
 #[test]
 fn options_that_are_not_served_yet(rt: HostRuntime) -> Result<(), Fail> {
+    let calls = EXPORTED;
     let plain = EncodeOptions::default();
     assert!(rt; plain.define_components && plain.validate && plain.processor.is_none());
     let imported = EncodeOptions {
         define_components: false,
         ..plain
     };
-    assert_eq!(rt; encoded(&rt, EXPORTED, imported)?.as_str(), NOT_YET);
+    assert_eq!(rt; encoded(&rt, calls, imported)?.as_str(), NOT_YET);
     let processor = Some(Processor {
         name: "wac_demo",
         version: "1.0.0",
     });
     let processed = EncodeOptions { processor, ..plain };
-    assert_eq!(rt; encoded(&rt, EXPORTED, processed)?.as_str(), NOT_YET);
+    assert_eq!(rt; encoded(&rt, calls, processed)?.as_str(), NOT_YET);
     Ok(())
 }
 
 #[test]
 fn ids_give_nodes_and_packages(rt: HostRuntime) -> Result<(), Fail> {
-    let rows = [
-        (
-            EXPORTED,
-            0,
-            "instantiation, instance, my:package1, no name, no name",
-        ),
-        (EXPORTED, 1, "alias, function, my:package1, no name, x"),
-        (NAMES, 0, "import, function, no package, x, x"),
-    ];
-    for (calls, place, want) in rows {
-        let answer = described(&rt, calls, place)?;
-        assert_eq!(rt; answer.as_str(), want);
-    }
-    assert!(rt; exports(&rt, EXPORTED, 1, "x")?);
-    assert!(rt; !exports(&rt, EXPORTED, 1, "a")?);
-    assert!(rt; imports(&rt, NAMES, 0, "x")?);
-    assert!(rt; imports(&rt, NAMES, 1, "unlocked-dep=<a:b>")?);
+    let calls = EXPORTED;
+    let instance = "instantiation, instance, my:package1, no name, no name";
+    assert_described(&rt, calls, 0, instance)?;
+    assert_described(&rt, calls, 1, "alias, function, my:package1, no name, x")?;
+    assert!(rt; exports(&rt, calls, 1, "x")?);
+    assert!(rt; !exports(&rt, calls, 1, "a")?);
+    Ok(())
+}
+
+#[test]
+fn ids_give_imports(rt: HostRuntime) -> Result<(), Fail> {
+    let calls = NAMES;
+    assert_described(&rt, calls, 0, "import, function, no package, x, x")?;
+    assert!(rt; imports(&rt, calls, 0, "x")?);
+    assert!(rt; imports(&rt, calls, 1, "unlocked-dep=<a:b>")?);
     Ok(())
 }
 

@@ -1,7 +1,8 @@
-use crate::{
+use super::assert_written;
+use std::test::Fail;
+use wac_binary::{
     BinaryFault, ComponentBuilder, Description, EntityType, InstanceType, ModuleType, Sort,
 };
-use std::test::Fail;
 
 // A call on something that is written.
 #[derive(Clone, Copy)]
@@ -84,18 +85,18 @@ fn a_refused_call_adds_nothing(rt: HostRuntime) -> Result<(), Fail> {
         Err(BinaryFault::OutOfMemory) => writers.component.finish()?,
         answer => answer?,
     };
-    assert!(rt;
-        bytes.as_slice()
-            == [
-                0x00, 0x61, 0x73, 0x6d, 0x0d, 0x00, 0x01, 0x00, // the preamble
-                4, 2, 1, 2, // a component
-                7, 9, 1, 0x42, 1, 4, 0, 1, 0x72, 3, 1, // an instance type
-                3, 12, 1, 0x50, 2, 1, 0x60, 0, 0, 3, 1, 0x65, 0, 0, // a core module type
-                10, 11, 2, 0, 1, 0x78, 1, 0, 0, 1, 0x79, 1, 0, // two imports
-                11, 7, 1, 0, 1, 0x7a, 1, 0, 0, // an export
-                0, 3, 1, 0x63, 7, // a custom section
-            ]
-            .as_slice()
-    );
-    Ok(())
+    assert_written(
+        &rt,
+        rt.alloc(),
+        bytes,
+        &[
+            "0061736d0d000100", // the preamble
+            "04020102", // a component
+            "0709014201040001720301", // an instance type
+            "030c015002016000000301650000", // a core module type
+            "0a0b0200017801000001790100", // two imports
+            "0b070100017a010000", // an export
+            "0003016307", // a custom section
+        ],
+    )
 }

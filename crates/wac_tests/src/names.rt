@@ -1,12 +1,12 @@
-use crate::{
-    ComponentName, ComponentNameKind, DependencyName, NameFault, Track, VersionRange,
-    are_semver_compatible, clash, compare_versions,
-};
 use semver::Version;
 use std::alloc::Global;
 use std::cmp::Ordering;
 use std::process::Abort;
 use std::test::Fail;
+use wac_names::{
+    ComponentName, ComponentNameKind, DependencyName, NameFault, Track, VersionRange,
+    are_semver_compatible, clash, compare_versions,
+};
 
 /// What a text is, without its pieces.
 #[derive(Clone, Copy, Debug, PartialEq, Eq)]

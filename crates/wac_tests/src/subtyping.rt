@@ -1,9 +1,9 @@
-use crate::*;
 use std::alloc::Global;
 use std::process::Abort;
 use std::test::Fail;
+use wac_types::*;
 
-mod subtyping;
+mod items;
 
 const BOOL: ValueType = ValueType::Primitive(PrimitiveType::Bool);
 

@@ -1,12 +1,12 @@
 ghost use Rattle.std.specs.Prelude.{◌≡◌, true, IfOk};
 
-use crate::{MergeFault, TypeAggregator};
 use std::alloc::Global;
 use std::process::Abort;
 use std::test::Fail;
+use wac_merge::{MergeFault, TypeAggregator};
 use wac_types::{
-    DefinedType, Enum, FuncType, Interface, InterfaceId, ItemKind, PrimitiveType, Type, Types,
-    ValueType,
+    DefinedType, Enum, FuncType, Interface, InterfaceId, ItemKind, PrimitiveType, Resource, Type,
+    Types, ValueType,
 };
 
 // A function without parameters that gives nothing.
@@ -58,6 +58,18 @@ fn with_use(
     Ok(types.add_interface(interface)?)
 }
 
+// A resource of a name, under this name in an interface.
+fn with_resource(
+    types: &mut Types,
+    alloc: Global,
+    id: &str,
+    name: &str,
+) -> Result<(InterfaceId, ItemKind), Fail> {
+    let resource = types.add_resource(Resource::new(alloc, name)?)?;
+    let item = ItemKind::TypeItem(Type::Resource(resource));
+    Ok((with_type(types, alloc, id, name, item)?, item))
+}
+
 // What `finish` answers where these are asked for.
 fn finished(
     alloc: Global,
@@ -101,6 +113,54 @@ fn assert_disagree(
     }
 }
 
+// The merge of these.
+fn merge(
+    alloc: Global,
+    rt: &impl Abort,
+    types: &Types,
+    asked: &[(&str, ItemKind)],
+) -> Result<TypeAggregator, Fail>
+    ensures { IfOk result (λ merged. merged.is_finished ≡ true) }
+{
+    match finished(alloc, rt, types, asked)? {
+        Ok(merged) => Ok(merged),
+        Err(_) => Err(Fail::new("these have no merge")),
+    }
+}
+
+// The names of the merged imports, in order.
+fn assert_imports(rt: &impl Abort, merged: &TypeAggregator, want: &[&str])
+    requires { merged.now.is_finished ≡ true }
+{
+    let imports = merged.imports();
+    assert_eq!(rt; imports.len(), want.len());
+    for i in 0..want.len() {
+        assert_eq!(rt; imports.name_at(i), want[i]);
+    }
+}
+
+// The names that an import, an instance, lists, in order.
+fn assert_lists(
+    rt: &impl Abort,
+    merged: &TypeAggregator,
+    import: &str,
+    want: &[&str],
+) -> Result<(), Fail>
+    requires { merged.now.is_finished ≡ true }
+{
+    let types = merged.types();
+    let Some(ItemKind::Instance(id)) = merged.imports().get(import) else {
+        return Err(Fail::new("no instance"));
+    };
+    assert!(rt; types.contains(Type::Interface(*id)));
+    let exports = &types[*id].exports;
+    assert_eq!(rt; exports.len(), want.len());
+    for i in 0..want.len() {
+        assert_eq!(rt; exports.name_at(i), want[i]);
+    }
+    Ok(())
+}
+
 #[test]
 fn functions_of_one_name_are_to_be_equal(rt: HostRuntime) -> Result<(), Fail> {
     let alloc = rt.alloc();
@@ -124,32 +184,72 @@ fn the_first_export_that_differs_is_named(rt: HostRuntime) -> Result<(), Fail> {
 }
 
 #[test]
-fn classes_are_named_by_the_greatest_version(rt: HostRuntime) -> Result<(), Fail> {
+fn versions_on_one_track_are_one_import(rt: HostRuntime) -> Result<(), Fail> {
     let alloc = rt.alloc();
     let mut types = Types::new(alloc);
     let a = plain(&mut types, alloc)?;
     let f = exporting(&mut types, alloc, "f", a)?;
     let g = exporting(&mut types, alloc, "g", a)?;
+    let asked = [("a:b/c@0.2.0", f), ("a:b/c@0.2.3", g), ("a:b/c@0.3.0", g)];
+    let merged = merge(alloc, &rt, &types, &asked)?;
+    assert_imports(&rt, &merged, &["a:b/c@0.2.3", "a:b/c@0.3.0"]);
+    assert_lists(&rt, &merged, "a:b/c@0.2.3", &["f", "g"])?;
+    assert_lists(&rt, &merged, "a:b/c@0.3.0", &["g"])?;
+    assert_eq!(rt; merged.canonical_import_name("a:b/c@0.2.0"), "a:b/c@0.2.3");
+    assert_eq!(rt; merged.canonical_import_name("a:b/c@0.2.1"), "a:b/c@0.2.1");
+    Ok(())
+}
+
+#[test]
+fn one_interface_under_two_names_is_two_imports(rt: HostRuntime) -> Result<(), Fail> {
+    let alloc = rt.alloc();
+    let mut types = Types::new(alloc);
+    let a = plain(&mut types, alloc)?;
+    let f = exporting(&mut types, alloc, "f", a)?;
+    let merged = merge(alloc, &rt, &types, &[("primary", f), ("secondary", f)])?;
+    assert_imports(&rt, &merged, &["primary", "secondary"]);
+    assert_lists(&rt, &merged, "secondary", &["f"])
+}
+
+#[test]
+fn what_is_no_instance_is_joined_by_its_name_alone(rt: HostRuntime) -> Result<(), Fail> {
+    let alloc = rt.alloc();
+    let mut types = Types::new(alloc);
+    let id = types.add_interface(Interface::new(alloc, None, &[])?)?;
+    let instance = ItemKind::Instance(id);
+    let item = ItemKind::TypeItem(Type::Interface(id));
     let asked = [
-        ("a:b/c@0.2.0", f),
-        ("a:b/c@0.2.3", g),
-        ("a:b/c@0.3.0", g),
-        ("primary", f),
-        ("secondary", f),
+        ("a:b/d@0.2.0", item),
+        ("a:b/d@0.2.9", instance),
+        ("a:b/d@0.2.0", item),
     ];
-    let Ok(merged) = finished(alloc, &rt, &types, &asked)? else {
-        return Err(Fail::new("another answer"));
-    };
-    for (name, want) in [
-        ("a:b/c@0.2.0", "a:b/c@0.2.3"),
-        ("a:b/c@0.2.3", "a:b/c@0.2.3"),
-        ("a:b/c@0.3.0", "a:b/c@0.3.0"),
-        ("primary", "primary"),
-        ("secondary", "secondary"),
-        ("a:b/c@0.2.1", "a:b/c@0.2.1"),
-    ] {
-        assert_eq!(rt; merged.canonical_import_name(name), want);
-    }
+    let merged = merge(alloc, &rt, &types, &asked)?;
+    assert_imports(&rt, &merged, &["a:b/d@0.2.9", "a:b/d@0.2.0"]);
+    Ok(())
+}
+
+#[test]
+fn resources_of_one_name_keep_their_interfaces(rt: HostRuntime) -> Result<(), Fail> {
+    let alloc = rt.alloc();
+    let mut types = Types::new(alloc);
+    let (a, of_a) = with_resource(&mut types, alloc, "n:p/a", "r")?;
+    let (b, of_b) = with_resource(&mut types, alloc, "n:p/b", "r")?;
+    let uses = [("r", a, None), ("s", b, Some("r"))];
+    let exports = [("r", of_a), ("s", of_b)];
+    let c = Interface::with_uses(alloc, Some("n:p/c"), &uses, &exports)?;
+    let c = types.add_interface(c)?;
+    let asked = [
+        ("n:p/a", ItemKind::Instance(a)),
+        ("n:p/b", ItemKind::Instance(b)),
+        ("n:p/c", ItemKind::Instance(c)),
+    ];
+    let merged = merge(alloc, &rt, &types, &asked)?;
+    assert_imports(&rt, &merged, &["n:p/a", "n:p/b", "n:p/c"]);
+    let of_a = merged.resource("n:p/a", "r");
+    assert!(rt; of_a.is_some());
+    assert!(rt; merged.resource("n:p/b", "r").is_some());
+    assert!(rt; merged.resource("n:p/b", "r") != of_a);
+    assert_eq!(rt; merged.resource("n:p/c", "r"), None);
     Ok(())
 }
 

@@ -1,8 +1,9 @@
-use crate::{
+use super::assert_written;
+use std::test::Fail;
+use wac_binary::{
     BinaryFault, ComponentBuilder, ComponentType, EntityType, GlobalType, InstanceType, MemoryType,
     ModuleType, TableType,
 };
-use std::test::Fail;
 use wac_types::{CoreRefType, CoreType};
 
 const MEMORY: MemoryType = MemoryType {
@@ -33,17 +34,16 @@ fn writes_a_module_type(rt: HostRuntime) -> Result<(), Fail> {
     let mut b = ComponentBuilder::new(alloc);
     let i = b.core_module_type(&m)?;
     assert_eq!(rt; i, 0);
-    let bytes = b.finish()?;
-    assert!(rt;
-        bytes.as_slice()
-            == [
-                0x00, 0x61, 0x73, 0x6d, 0x0d, 0x00, 0x01, 0x00, // the preamble
-                0x03, 0x14, 0x01, 0x50, 0x03, 0x01, 0x60, 0x00, 0x00, 0x00, 0x01, 0x6d, 0x01, 0x66,
-                0x00, 0x00, 0x03, 0x01, 0x65, 0x02, 0x00, 0x01,
-            ]
-            .as_slice()
-    );
-    Ok(())
+    assert_written(
+        &rt,
+        rt.alloc(),
+        b.finish()?,
+        &[
+            "0061736d0d000100", // the preamble
+            "03140150030160000000016d0166",
+            "0000030165020001",
+        ],
+    )
 }
 
 // The same module type in a component type and in an instance type: the core types have indexes of their own.
@@ -60,16 +60,15 @@ fn writes_module_types_inside_types(rt: HostRuntime) -> Result<(), Fail> {
     let mut b = ComponentBuilder::new(alloc);
     let _c = b.component_type(&c)?;
     let _t = b.instance_type(&t)?;
-    let bytes = b.finish()?;
-    assert!(rt;
-        bytes.as_slice()
-            == [
-                0x00, 0x61, 0x73, 0x6d, 0x0d, 0x00, 0x01, 0x00, // the preamble
-                7, 14, 2, 0x41, 2, 0, 0x50, 0, 0, 0x50, 0, 0x42, 1, 0, 0x50, 0, // two types
-            ]
-            .as_slice()
-    );
-    Ok(())
+    assert_written(
+        &rt,
+        rt.alloc(),
+        b.finish()?,
+        &[
+            "0061736d0d000100", // the preamble
+            "070e0241020050000050004201005000", // two types
+        ],
+    )
 }
 
 fn memories(m: &mut ModuleType) -> Result<(), BinaryFault> {
@@ -99,21 +98,20 @@ fn writes_memories(rt: HostRuntime) -> Result<(), Fail> {
     memories(&mut m)?;
     let mut b = ComponentBuilder::new(alloc);
     let _i = b.core_module_type(&m)?;
-    let bytes = b.finish()?;
-    assert!(rt;
-        bytes.as_slice()
-            == [
-                0x00, 0x61, 0x73, 0x6d, 0x0d, 0x00, 0x01, 0x00, // the preamble
-                3, 37, 1, 0x50, 5, // a module type of five declarations
-                3, 0, 2, 1, 1, 2, // a maximum
-                3, 0, 2, 3, 1, 2, // shared
-                3, 0, 2, 4, 1, // with 64 bits
-                3, 0, 2, 8, 1, 16, // a page size
-                3, 0, 2, 15, 1, 0x80, 0x80, 0x80, 0x80, 0x10, 0, // all of them
-            ]
-            .as_slice()
-    );
-    Ok(())
+    assert_written(
+        &rt,
+        rt.alloc(),
+        b.finish()?,
+        &[
+            "0061736d0d000100", // the preamble
+            "0325015005", // a module type of five declarations
+            "030002010102", // a maximum
+            "030002030102", // shared
+            "0300020401", // with 64 bits
+            "030002080110", // a page size
+            "0300020f01808080801000", // all of them
+        ],
+    )
 }
 
 fn tables_and_globals(m: &mut ModuleType) -> Result<(), BinaryFault> {
@@ -158,20 +156,19 @@ fn writes_tables_globals_and_tags(rt: HostRuntime) -> Result<(), Fail> {
     assert_eq!(rt; (f, g), (0, 1));
     let mut b = ComponentBuilder::new(alloc);
     let _i = b.core_module_type(&m)?;
-    let bytes = b.finish()?;
-    assert!(rt;
-        bytes.as_slice()
-            == [
-                0x00, 0x61, 0x73, 0x6d, 0x0d, 0x00, 0x01, 0x00, // the preamble
-                3, 57, 1, 0x50, 9, // a module type of nine declarations
-                3, 0, 1, 0x70, 0, 1, 3, 0, 1, 0x6f, 7, 1, 2, // tables
-                0, 0, 0, 3, 0x7f, 0, 0, 0, 0, 3, 0x7e, 1, // globals
-                0, 0, 0, 3, 0x7d, 2, 0, 0, 0, 3, 0x6f, 3, // shared globals
-                1, 0x60, 3, 0x7c, 0x7b, 0x70, 1, 0x7f, // a function type
-                3, 0, 4, 0, 0, // a tag
-                1, 0x60, 0, 0, // a function type
-            ]
-            .as_slice()
-    );
-    Ok(())
+    assert_written(
+        &rt,
+        rt.alloc(),
+        b.finish()?,
+        &[
+            "0061736d0d000100", // the preamble
+            "0339015009", // a module type of nine declarations
+            "0300017000010300016f070102", // tables
+            "000000037f00000000037e01", // globals
+            "000000037d02000000036f03", // shared globals
+            "0160037c7b70017f", // a function type
+            "0300040000", // a tag
+            "01600000", // a function type
+        ],
+    )
 }

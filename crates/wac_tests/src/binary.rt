@@ -3,11 +3,12 @@ mod modules;
 mod refused;
 mod types;
 
-use crate::{
+use std::alloc::Global;
+use std::process::Abort;
+use std::test::Fail;
+use wac_binary::{
     BinaryFault, ComponentBuilder, ComponentValType, Description, FuncType, InstanceType, Sort,
 };
-use std::alloc::Global;
-use std::test::Fail;
 use wac_types::PrimitiveType;
 
 const PREAMBLE: [u8; 8] = [0x00, 0x61, 0x73, 0x6d, 0x0d, 0x00, 0x01, 0x00];
@@ -23,20 +24,34 @@ fn two_packages(alloc: Global) -> Result<ComponentBuilder, BinaryFault> {
     Ok(b)
 }
 
+// These bytes are written, in hexadecimal.
+fn assert_written(
+    rt: &impl Abort,
+    alloc: Global,
+    bytes: Vec<u8>,
+    want: &[&str],
+) -> Result<(), Fail> {
+    let written = hex::encode(alloc, bytes)?;
+    let want = want.concat(alloc)?;
+    assert_eq!(rt; written.as_str(), want.as_str());
+    Ok(())
+}
+
+const TWO_PACKAGES: [&str; 6] = [
+    "0061736d0d000100", // the preamble
+    "04080061736d0d000100", // the first package
+    "0504010000000606010100000161", // its instance, and the function `a` of it
+    "04080061736d0d000100", // the second package
+    "050801000101016201", // its instance, with `b`
+    "00", // which is function 0
+];
+
 #[test]
 fn writes_two_packages(rt: HostRuntime) -> Result<(), Fail> {
-    let b = two_packages(rt.alloc())?;
-    let want = [
-        0x00, 0x61, 0x73, 0x6d, 0x0d, 0x00, 0x01, 0x00, 0x04, 0x08, 0x00, 0x61, 0x73, 0x6d, 0x0d,
-        0x00, 0x01, 0x00, 0x05, 0x04, 0x01, 0x00, 0x00, 0x00, 0x06, 0x06, 0x01, 0x01, 0x00, 0x00,
-        0x01, 0x61, 0x04, 0x08, 0x00, 0x61, 0x73, 0x6d, 0x0d, 0x00, 0x01, 0x00, 0x05, 0x08, 0x01,
-        0x00, 0x01, 0x01, 0x01, 0x62, 0x01, 0x00,
-    ];
-    let bytes = b.finish()?;
-    assert!(rt; bytes.as_slice() == want.as_slice());
-    let bytes = b.into_bytes()?;
-    assert!(rt; bytes.as_slice() == want.as_slice());
-    Ok(())
+    let alloc = rt.alloc();
+    let b = two_packages(alloc)?;
+    assert_written(&rt, alloc, b.finish()?, &TWO_PACKAGES)?;
+    assert_written(&rt, alloc, b.into_bytes()?, &TWO_PACKAGES)
 }
 
 // Two imports, a type, an import: three sections; then an export of the alias of the first import.
@@ -63,21 +78,20 @@ fn shares_sections(rt: HostRuntime) -> Result<(), Fail> {
     let last = b.export("e", Sort::Func, again)?;
     assert_eq!(rt; (t, u, x, z), (0, 1, 0, 2));
     assert_eq!(rt; (again, last), (3, 4));
-    let bytes = b.finish()?;
-    assert!(rt;
-        bytes.as_slice()
-            == [
-                0x00, 0x61, 0x73, 0x6d, 0x0d, 0x00, 0x01, 0x00, // the preamble
-                7, 5, 1, 0x40, 0, 1, 0, // a type
-                10, 11, 2, 0, 1, 0x78, 1, 0, 0, 1, 0x79, 1, 0, // two imports
-                7, 9, 1, 0x43, 1, 1, 0x70, 0xc0, 0, 0, 0x73, // a type
-                10, 6, 1, 0, 1, 0x7a, 1, 1, // an import
-                6, 5, 1, 1, 2, 0, 0, // an alias
-                11, 7, 1, 0, 1, 0x65, 1, 3, 0, // an export
-            ]
-            .as_slice()
-    );
-    Ok(())
+    assert_written(
+        &rt,
+        rt.alloc(),
+        b.finish()?,
+        &[
+            "0061736d0d000100", // the preamble
+            "07050140000100", // a type
+            "0a0b0200017801000001790100", // two imports
+            "07090143010170c0000073", // a type
+            "0a060100017a0101", // an import
+            "06050101020000", // an alias
+            "0b0701000165010300", // an export
+        ],
+    )
 }
 
 // An interface with the enum `t` of another, reached by an outer alias, and a function over it.
@@ -98,21 +112,20 @@ fn writes_an_instance_type(rt: HostRuntime) -> Result<(), Fail> {
     let mut b = ComponentBuilder::new(alloc);
     let i = b.instance_type(&t)?;
     assert_eq!(rt; i, 0);
-    let bytes = b.finish()?;
-    assert!(rt;
-        bytes.as_slice()
-            == [
-                0x00, 0x61, 0x73, 0x6d, 0x0d, 0x00, 0x01, 0x00, // the preamble
-                7, 35, 1, 0x42, 5, // an instance type of five declarations
-                2, 3, 2, 1, 1, // an outer alias
-                4, 0, 1, 0x74, 3, 0, 0, // an export of a type
-                1, 0x40, 1, 1, 0x78, 1, 1, 0, // a function type
-                4, 0, 1, 0x66, 1, 2, // an export of a function
-                2, 1, 0, 0, 1, 0x67, // an alias of an export
-            ]
-            .as_slice()
-    );
-    Ok(())
+    assert_written(
+        &rt,
+        rt.alloc(),
+        b.finish()?,
+        &[
+            "0061736d0d000100", // the preamble
+            "0723014205", // an instance type of five declarations
+            "0203020101", // an outer alias
+            "04000174030000", // an export of a type
+            "0140010178010100", // a function type
+            "040001660102", // an export of a function
+            "020100000167", // an alias of an export
+        ],
+    )
 }
 
 #[test]
@@ -139,19 +152,18 @@ fn writes_each_sort_and_description(rt: HostRuntime) -> Result<(), Fail> {
     ] {
         let _i = b.export("", s, 0)?;
     }
-    let bytes = b.finish()?;
-    assert!(rt;
-        bytes.as_slice()
-            == [
-                0x00, 0x61, 0x73, 0x6d, 0x0d, 0x00, 0x01, 0x00, // the preamble
-                10, 27, 6, 0, 0, 0, 0x11, 1, 0, 0, 1, 2, 0, 0, 3, 0, 3, 0, 0, 3, 1, 0, 0, 4, 4, 0, 0,
-                5, 5, // the imports
-                11, 32, 6, 0, 0, 0, 0x11, 0, 0, 0, 0, 1, 0, 0, 0, 0, 2, 0, 0, 0, 0, 3, 0, 0, 0, 0, 4,
-                0, 0, 0, 0, 5, 0, 0, // the exports
-            ]
-            .as_slice()
-    );
-    Ok(())
+    assert_written(
+        &rt,
+        rt.alloc(),
+        b.finish()?,
+        &[
+            "0061736d0d000100", // the preamble
+            "0a1b06000000110100000102000003000300000301000004040000",
+            "0505", // the imports
+            "0b2006000000110000000001000000000200000000030000000004",
+            "00000000050000", // the exports
+        ],
+    )
 }
 
 // Custom sections, each its own; the section that was open before one is closed.
@@ -163,19 +175,18 @@ fn writes_custom_sections(rt: HostRuntime) -> Result<(), Fail> {
     let _x = b.export("x", Sort::Func, 0)?;
     b.custom("b", &[1, 2])?;
     let _y = b.export("y", Sort::Func, 0)?;
-    let bytes = b.finish()?;
-    assert!(rt;
-        bytes.as_slice()
-            == [
-                0x00, 0x61, 0x73, 0x6d, 0x0d, 0x00, 0x01, 0x00, // the preamble
-                0, 2, 1, 0x61, // a custom section
-                11, 7, 1, 0, 1, 0x78, 1, 0, 0, // an export
-                0, 4, 1, 0x62, 1, 2, // a custom section
-                11, 7, 1, 0, 1, 0x79, 1, 0, 0, // an export
-            ]
-            .as_slice()
-    );
-    Ok(())
+    assert_written(
+        &rt,
+        rt.alloc(),
+        b.finish()?,
+        &[
+            "0061736d0d000100", // the preamble
+            "00020161", // a custom section
+            "0b0701000178010000", // an export
+            "000401620102", // a custom section
+            "0b0701000179010000", // an export
+        ],
+    )
 }
 
 // Both forms of an alias, of each sort; an index is answered in the space of its sort.
@@ -194,20 +205,19 @@ fn writes_aliases_of_each_sort(rt: HostRuntime) -> Result<(), Fail> {
         let j = b.alias_outer(s, 1, 2)?;
         assert_eq!(rt; (i, j), (0, 1));
     }
-    let bytes = b.finish()?;
-    assert!(rt;
-        bytes.as_slice()
-            == [
-                0x00, 0x61, 0x73, 0x6d, 0x0d, 0x00, 0x01, 0x00, // the preamble
-                6, 63, 12, // twelve aliases
-                0, 0x11, 0, 0xc8, 1, 1, 0x61, 0, 0x11, 2, 1, 2, // of core modules
-                1, 0, 0xc8, 1, 1, 0x61, 1, 2, 1, 2, // of functions
-                2, 0, 0xc8, 1, 1, 0x61, 2, 2, 1, 2, // of values
-                3, 0, 0xc8, 1, 1, 0x61, 3, 2, 1, 2, // of types
-                4, 0, 0xc8, 1, 1, 0x61, 4, 2, 1, 2, // of components
-                5, 0, 0xc8, 1, 1, 0x61, 5, 2, 1, 2, // of instances
-            ]
-            .as_slice()
-    );
-    Ok(())
+    assert_written(
+        &rt,
+        rt.alloc(),
+        b.finish()?,
+        &[
+            "0061736d0d000100", // the preamble
+            "063f0c", // twelve aliases
+            "001100c80101610011020102", // of core modules
+            "0100c801016101020102", // of functions
+            "0200c801016102020102", // of values
+            "0300c801016103020102", // of types
+            "0400c801016104020102", // of components
+            "0500c801016105020102", // of instances
+        ],
+    )
 }

@@ -1,7 +1,7 @@
 use super::{BOOL, func, instance, is_subtype};
-use crate::*;
 use std::alloc::Global;
 use std::test::Fail;
+use wac_types::*;
 
 // A core module that exports a memory with these limits.
 fn memory(

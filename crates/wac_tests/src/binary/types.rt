@@ -1,9 +1,10 @@
-use crate::{
+use super::assert_written;
+use std::alloc::Global;
+use std::test::Fail;
+use wac_binary::{
     BinaryFault, ComponentBuilder, ComponentType, ComponentValType, DefinedType, Description,
     FuncType, InstanceType, Sort,
 };
-use std::alloc::Global;
-use std::test::Fail;
 use wac_types::PrimitiveType;
 
 const U8: ComponentValType = ComponentValType::Primitive(PrimitiveType::U8);
@@ -31,17 +32,16 @@ fn writes_each_primitive_type(rt: HostRuntime) -> Result<(), Fail> {
     for p in PRIMITIVES {
         let _i = b.defined_type(&DefinedType::Primitive(p))?;
     }
-    let bytes = b.finish()?;
-    assert!(rt;
-        bytes.as_slice()
-            == [
-                0x00, 0x61, 0x73, 0x6d, 0x0d, 0x00, 0x01, 0x00, // the preamble
-                7, 15, 14, 0x7f, 0x7e, 0x7d, 0x7c, 0x7b, 0x7a, 0x79, 0x78, 0x77, 0x76, 0x75, 0x74,
-                0x73, 0x64,
-            ]
-            .as_slice()
-    );
-    Ok(())
+    assert_written(
+        &rt,
+        rt.alloc(),
+        b.finish()?,
+        &[
+            "0061736d0d000100", // the preamble
+            "070f0e7f7e7d7c7b7a797877767574",
+            "7364",
+        ],
+    )
 }
 
 // A type index in a value's place is a signed number, in a handle it is an unsigned one.
@@ -58,17 +58,16 @@ fn writes_indexes_as_signed_and_unsigned_numbers(rt: HostRuntime) -> Result<(), 
     ] {
         let _i = b.defined_type(&t)?;
     }
-    let bytes = b.finish()?;
-    assert!(rt;
-        bytes.as_slice()
-            == [
-                0x00, 0x61, 0x73, 0x6d, 0x0d, 0x00, 0x01, 0x00, // the preamble
-                7, 23, 6, 0x70, 0x3f, 0x70, 0xc0, 0x00, 0x69, 0x40, 0x68, 0x80, 0x01, // six types
-                0x70, 0xff, 0xff, 0xff, 0xff, 0x0f, 0x69, 0xff, 0xff, 0xff, 0xff, 0x0f,
-            ]
-            .as_slice()
-    );
-    Ok(())
+    assert_written(
+        &rt,
+        rt.alloc(),
+        b.finish()?,
+        &[
+            "0061736d0d000100", // the preamble
+            "071706703f70c0006940688001", // six types
+            "70ffffffff0f69ffffffff0f",
+        ],
+    )
 }
 
 #[test]
@@ -79,20 +78,19 @@ fn writes_types_with_names(rt: HostRuntime) -> Result<(), Fail> {
     let flags = b.defined_type(&DefinedType::Flags(&["a", "b"]))?;
     let cases = b.defined_type(&DefinedType::Enum(&["a", "é"]))?;
     assert_eq!(rt; (record, variant, flags, cases), (0, 1, 2, 3));
-    let bytes = b.finish()?;
-    assert!(rt;
-        bytes.as_slice()
-            == [
-                0x00, 0x61, 0x73, 0x6d, 0x0d, 0x00, 0x01, 0x00, // the preamble
-                7, 33, 4, // four types
-                0x72, 2, 1, 0x61, 0x7d, 1, 0x62, 0x7d, // a record
-                0x71, 2, 1, 0x61, 0, 0, 1, 0x62, 1, 0x7d, 0, // a variant
-                0x6e, 2, 1, 0x61, 1, 0x62, // flags
-                0x6d, 2, 1, 0x61, 2, 0xc3, 0xa9, // an enum, the second name two bytes long
-            ]
-            .as_slice()
-    );
-    Ok(())
+    assert_written(
+        &rt,
+        rt.alloc(),
+        b.finish()?,
+        &[
+            "0061736d0d000100", // the preamble
+            "072104", // four types
+            "720201617d01627d", // a record
+            "7102016100000162017d00", // a variant
+            "6e0201610162", // flags
+            "6d02016102c3a9", // an enum, the second name two bytes long
+        ],
+    )
 }
 
 #[test]
@@ -124,20 +122,19 @@ fn writes_types_without_names(rt: HostRuntime) -> Result<(), Fail> {
         let _i = b.defined_type(&t)?;
     }
     let _tuple = b.defined_type(&DefinedType::Tuple(&[U8, U8]))?;
-    let bytes = b.finish()?;
-    assert!(rt;
-        bytes.as_slice()
-            == [
-                0x00, 0x61, 0x73, 0x6d, 0x0d, 0x00, 0x01, 0x00, // the preamble
-                7, 38, 13, 0x70, 0x7d, 0x67, 0x7d, 0xc8, 0x01, 0x6b, 0x7d, // lists and an option
-                0x6a, 0, 0, 0x6a, 1, 0x7d, 0, 0x6a, 0, 1, 0x7d, // results
-                0x69, 1, 0x68, 2, // handles
-                0x66, 0, 0x66, 1, 0x7d, 0x65, 0, 0x65, 1, 0x7d, // streams and futures
-                0x6f, 2, 0x7d, 0x7d, // a tuple
-            ]
-            .as_slice()
-    );
-    Ok(())
+    assert_written(
+        &rt,
+        rt.alloc(),
+        b.finish()?,
+        &[
+            "0061736d0d000100", // the preamble
+            "07260d707d677dc8016b7d", // lists and an option
+            "6a00006a017d006a00017d", // results
+            "69016802", // handles
+            "660066017d650065017d", // streams and futures
+            "6f027d7d", // a tuple
+        ],
+    )
 }
 
 // The interface with the resource `r` and `f(x: own r)`.
@@ -155,17 +152,16 @@ fn writes_an_interface_with_a_resource(rt: HostRuntime) -> Result<(), Fail> {
     let _f = t.export("f", Description::Func(f))?;
     let mut b = ComponentBuilder::new(alloc);
     let _i = b.instance_type(&t)?;
-    let bytes = b.finish()?;
-    assert!(rt;
-        bytes.as_slice()
-            == [
-                0x00, 0x61, 0x73, 0x6d, 0x0d, 0x00, 0x01, 0x00, // the preamble
-                0x07, 0x1a, 0x01, 0x42, 0x04, 0x04, 0x00, 0x01, 0x72, 0x03, 0x01, 0x01, 0x69, 0x00,
-                0x01, 0x40, 0x01, 0x01, 0x78, 0x01, 0x01, 0x00, 0x04, 0x00, 0x01, 0x66, 0x01, 0x02,
-            ]
-            .as_slice()
-    );
-    Ok(())
+    assert_written(
+        &rt,
+        rt.alloc(),
+        b.finish()?,
+        &[
+            "0061736d0d000100", // the preamble
+            "071a014204040001720301016900",
+            "0140010178010100040001660102",
+        ],
+    )
 }
 
 // The enum `t` with the case `a`, exported.
@@ -192,20 +188,19 @@ fn writes_an_interface_that_uses_another(rt: HostRuntime) -> Result<(), Fail> {
     assert_eq!(rt; (j, used, outer, i), (0, 1, 0, 1));
     let mut b = ComponentBuilder::new(alloc);
     let _i = b.component_type(&c)?;
-    let bytes = b.finish()?;
-    assert!(rt;
-        bytes.as_slice()
-            == [
-                0x00, 0x61, 0x73, 0x6d, 0x0d, 0x00, 0x01, 0x00, // the preamble
-                0x07, 0x3b, 0x01, 0x41, 0x05, 0x01, 0x42, 0x02, 0x01, 0x6d, 0x01, 0x01, 0x61, 0x04,
-                0x00, 0x01, 0x74, 0x03, 0x00, 0x00, 0x03, 0x00, 0x05, 0x6e, 0x3a, 0x70, 0x2f, 0x6a,
-                0x05, 0x00, 0x02, 0x03, 0x00, 0x00, 0x01, 0x74, 0x01, 0x42, 0x02, 0x02, 0x03, 0x02,
-                0x01, 0x01, 0x04, 0x00, 0x01, 0x74, 0x03, 0x00, 0x00, 0x04, 0x00, 0x05, 0x6e, 0x3a,
-                0x70, 0x2f, 0x69, 0x05, 0x02,
-            ]
-            .as_slice()
-    );
-    Ok(())
+    assert_written(
+        &rt,
+        rt.alloc(),
+        b.finish()?,
+        &[
+            "0061736d0d000100", // the preamble
+            "073b014105014202016d01016104",
+            "0001740300000300056e3a702f6a",
+            "0500020300000174014202020302",
+            "0101040001740300000400056e3a",
+            "702f690502",
+        ],
+    )
 }
 
 // A component type with each declaration that it can have, inside an instance type and beside one.
@@ -232,18 +227,17 @@ fn writes_types_inside_types(rt: HostRuntime) -> Result<(), Fail> {
     let x = b.instance_type(&middle)?;
     let y = b.component_type(&outer)?;
     assert_eq!(rt; (x, y), (0, 1));
-    let bytes = b.finish()?;
-    assert!(rt;
-        bytes.as_slice()
-            == [
-                0x00, 0x61, 0x73, 0x6d, 0x0d, 0x00, 0x01, 0x00, // the preamble
-                7, 52, 2, 0x42, 2, // two types, the first an instance type of two declarations
-                1, 0x41, 4, 1, 0x70, 0x7d, 1, 0x43, 0, 0, 0, 3, 0, 1, 0x66, 1, 1, 2, 4, 2, 1, 0,
-                1, 0x42, 0, // an instance type without declarations
-                0x41, 1, // a component type of one declaration
-                1, 0x41, 4, 1, 0x70, 0x7d, 1, 0x43, 0, 0, 0, 3, 0, 1, 0x66, 1, 1, 2, 4, 2, 1, 0,
-            ]
-            .as_slice()
-    );
-    Ok(())
+    assert_written(
+        &rt,
+        rt.alloc(),
+        b.finish()?,
+        &[
+            "0061736d0d000100", // the preamble
+            "0734024202", // two types, the first an instance type of two declarations
+            "01410401707d01430000000300016601010204020100",
+            "014200", // an instance type without declarations
+            "4101", // a component type of one declaration
+            "01410401707d01430000000300016601010204020100",
+        ],
+    )
 }

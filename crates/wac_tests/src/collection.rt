@@ -1,8 +1,8 @@
-use crate::*;
 use semver::Version;
 use std::alloc::Global;
 use std::process::Abort;
 use std::test::Fail;
+use wac_collection::*;
 
 const BOOL: ValueType = ValueType::Primitive(PrimitiveType::Bool);
 

@@ -1,0 +1,15 @@
+//! Tests of the crates below `wac_graph`, through what they make public.
+//!
+//! They stand in one crate so that no library is proved once more for its tests.
+#![tactic(auto)]
+
+#[cfg(test)]
+mod binary;
+#[cfg(test)]
+mod collection;
+#[cfg(test)]
+mod merging;
+#[cfg(test)]
+mod names;
+#[cfg(test)]
+mod subtyping;
