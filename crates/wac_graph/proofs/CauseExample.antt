@@ -29,11 +29,11 @@ use Rattle.wac_collection.specs.declared.component.World.{World}
 use Rattle.wac_collection.specs.declared.component.«Type».TheVariants as ty
 use Rattle.wac_collection.proofs.Names.{same_name-true}
 use Rattle.wac_types.specs.Called.{Called}
-use Rattle.wac_merge.specs.Agreement.{Agree, compared, here, below}
-use Rattle.wac_merge.specs.Classes.{by_names, same_class}
-use Rattle.wac_merge.specs.Classes as merge
-use Rattle.wac_merge.specs.ClassOrder.{RestsOn, by_use, step, further}
-use Rattle.wac_merge.specs.Faults.{Disagrees, HasNoDisagreement, UseEachOther}
+use Rattle.wac_entries.specs.Agreement.{Agree, compared, here, below}
+use Rattle.wac_entries.specs.Classes.{by_names, same_class}
+use Rattle.wac_entries.specs.Classes as merge
+use Rattle.wac_agreement.specs.ClassOrder.{RestsOn, by_use, step, further}
+use Rattle.wac_agreement.specs.Faults.{Disagrees, HasNoDisagreement, UseEachOther}
 use Rattle.wac_graph.specs.declared.edges.Edge.{Edge}
 use Rattle.wac_graph.specs.declared.encode.EncodeOptions.{EncodeOptions}
 use Rattle.wac_graph.specs.Graph as graph

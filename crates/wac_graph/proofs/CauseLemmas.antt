@@ -15,7 +15,7 @@ use Rattle.wac_graph.specs.Sound.{IsSound}
 use Rattle.wac_graph.specs.Order.{IsAcyclic, IsLowestOnCycle}
 use Rattle.wac_graph.specs.Means.{node_number}
 use Rattle.wac_graph.specs.NotYet.{IsNotYet, AllWritable}
-use Rattle.wac_merge.specs.Faults.{OneFault, Fault, disagree, use_each_other}
+use Rattle.wac_agreement.specs.Faults.{OneFault, Fault, disagree, use_each_other}
 use Rattle.wac_graph.specs.Asked.{Entry}
 use Rattle.wac_graph.specs.Entries.{asked_entries, to_merge}
 use Rattle.wac_graph.specs.Cause.{IsFirstConflict, HasNoConflict, HasMerge, IsMergeConflict, IsImplicitMerge, IsExplicitMerge, IsImportCircle, Cause, cycle, conflict, implicit_merge, explicit_merge, import_circle, not_yet, Stands, cause_of}

@@ -9,12 +9,12 @@ use Rattle.wac_collection.specs.Name.{Name}
 use Rattle.wac_collection.specs.Collection.{Collection, holds_type, kind_type}
 use Rattle.wac_collection.specs.declared.component.ItemKind.{ItemKind}
 use Rattle.wac_merge.specs.Aggregate.{IsFault}
-use Rattle.wac_merge.specs.Bindings.{AreHeld}
-use Rattle.wac_merge.specs.Classes as merge
-use Rattle.wac_merge.specs.Classes.{by_names}
-use Rattle.wac_merge.specs.Faults.{Disagrees, HasFault, UseEachOther, disagree, fault_of, use_each_other}
-use Rattle.wac_merge.specs.declared.fault.MergeFault.{MergeFault}
-use Rattle.wac_merge.specs.declared.fault.MergeFault.TheVariants as fault
+use Rattle.wac_entries.specs.Bindings.{AreHeld}
+use Rattle.wac_entries.specs.Classes as merge
+use Rattle.wac_entries.specs.Classes.{by_names}
+use Rattle.wac_agreement.specs.Faults.{Disagrees, HasFault, UseEachOther, disagree, fault_of, use_each_other}
+use Rattle.wac_agreement.specs.declared.fault.MergeFault.{MergeFault}
+use Rattle.wac_agreement.specs.declared.fault.MergeFault.TheVariants as fault
 use Rattle.wac_graph.specs.declared.encode.EncodeOptions.{EncodeOptions}
 use Rattle.wac_graph.specs.declared.errors.EncodeError.TheVariants as error
 use Rattle.wac_graph.specs.declared.node.NodeId.{NodeId}

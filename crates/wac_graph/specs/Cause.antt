@@ -3,10 +3,10 @@ use Rattle.std.specs.Prelude.{ℕ, ◌≡◌, ◌≤◌, Option, Some, None, IsS
 use Rattle.wac_collection.specs.Name.{Name}
 use Rattle.wac_collection.specs.Package.{Key}
 use Rattle.wac_collection.specs.declared.component.ItemKind.{ItemKind}
-use Rattle.wac_merge.specs.Classes.{by_names}
-use Rattle.wac_merge.specs.Faults.{Disagrees, HasNoCircle, HasNoDisagreement, UseEachOther}
-use Rattle.wac_merge.specs.declared.fault.MergeFault.{MergeFault}
-use Rattle.wac_merge.specs.declared.fault.MergeFault.TheVariants as merge
+use Rattle.wac_entries.specs.Classes.{by_names}
+use Rattle.wac_agreement.specs.Faults.{Disagrees, HasNoCircle, HasNoDisagreement, UseEachOther}
+use Rattle.wac_agreement.specs.declared.fault.MergeFault.{MergeFault}
+use Rattle.wac_agreement.specs.declared.fault.MergeFault.TheVariants as merge
 use Rattle.wac_graph.specs.declared.encode.EncodeOptions.{EncodeOptions}
 use Rattle.wac_graph.specs.declared.errors.EncodeError.{EncodeError}
 use Rattle.wac_graph.specs.declared.errors.EncodeError.TheVariants as error

@@ -6,7 +6,7 @@ use Rattle.wac_collection.specs.Collection.{Collection, item_at}
 use Rattle.wac_collection.specs.declared.component.InterfaceId.{InterfaceId}
 use Rattle.wac_collection.specs.declared.component.ItemKind.{ItemKind}
 use Rattle.wac_collection.specs.declared.component.ItemKind.TheVariants as kind
-use Rattle.wac_merge.specs.Classes as merge
+use Rattle.wac_entries.specs.Classes as merge
 use Rattle.wac_graph.specs.Graph.{Graph}
 use Rattle.wac_graph.specs.Asked.{Entry, asked}
 

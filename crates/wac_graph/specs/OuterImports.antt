@@ -2,11 +2,11 @@
 use Rattle.std.specs.Prelude.{ℕ, ◌≡◌, List, length, Some, slice_get}
 use Rattle.wac_collection.specs.Name.{Name}
 use Rattle.wac_collection.specs.Tree.{Tree}
-use Rattle.wac_merge.specs.Binding.{root_bindings}
-use Rattle.wac_merge.specs.Classes.{Entry, by_names, class_names, canonical, IsClassOf}
-use Rattle.wac_merge.specs.ClassOrder.{IsWrittenOrder}
+use Rattle.wac_entries.specs.Binding.{root_bindings}
+use Rattle.wac_entries.specs.Classes.{Entry, by_names, class_names, canonical, IsClassOf}
+use Rattle.wac_agreement.specs.ClassOrder.{IsWrittenOrder}
 use Rattle.wac_merge.specs.Merge.{position_in}
-use Rattle.wac_merge.specs.Union.{merged}
+use Rattle.wac_agreement.specs.Union.{merged}
 use Rattle.wac_graph.specs.Graph.{Graph}
 use Rattle.wac_graph.specs.Entries.{asked_entries, to_merge}
 

@@ -2,8 +2,8 @@
 ghost use Rattle.std.specs.Prelude.{◌≡◌, map, IfErr, IfOk, OnOk, string_bytes};
 ghost use Rattle.std.specs.List.{AllByRecursion};
 ghost use Rattle.wac_merge.specs.Aggregate.{IsFault};
-ghost use Rattle.wac_merge.specs.Classes.{by_names};
-ghost use Rattle.wac_merge.specs.Faults.{Disagrees};
+ghost use Rattle.wac_entries.specs.Classes.{by_names};
+ghost use Rattle.wac_agreement.specs.Faults.{Disagrees};
 ghost use Rattle.wac_graph.specs.Cause.{HasMerge, HasNoConflict};
 ghost use Rattle.wac_graph.specs.Entries.{asked_entries, to_merge};
 ghost use Rattle.wac_graph.specs.EntriesLeft.{entry_view, IsHeldKind};

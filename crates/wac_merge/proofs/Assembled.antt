@@ -9,9 +9,9 @@ use Rattle.wac_collection.specs.declared.component.InterfaceId.{InterfaceId}
 use Rattle.wac_types.specs.Called.{by_binding}
 use Rattle.wac_types.specs.Subtype.{by_name}
 use Rattle.wac_types.specs.TreeLaws.{IsDeepEnough}
-use Rattle.wac_merge.specs.Bindings.{AreHeld, ClassBindings}
-use Rattle.wac_merge.specs.Classes.{Entry, by_names, class_names}
-use Rattle.wac_merge.specs.ClassOrder.{IsWrittenOrder}
+use Rattle.wac_entries.specs.Bindings.{AreHeld, ClassBindings}
+use Rattle.wac_entries.specs.Classes.{Entry, by_names, class_names}
+use Rattle.wac_agreement.specs.ClassOrder.{IsWrittenOrder}
 use Rattle.wac_merge.specs.MergedClasses.{AreAgreed, AreIds, AreImports, AreRoots}
 use Rattle.wac_merge.specs.Renaming.{IsExtended}
 use Rattle.wac_merge.specs.declared.fresh.Fresh.{Fresh}

@@ -17,29 +17,29 @@ use Rattle.wac_collection.specs.declared.component.ItemKind.{ItemKind}
 use Rattle.wac_collection.specs.declared.component.ItemKind.TheVariants as kind
 use Rattle.wac_collection.proofs.Names.{same_name-refl, same_name-true}
 use Rattle.wac_types.specs.Called.{Called, by_binding}
-use Rattle.wac_merge.specs.Agreement.{called_in_class, compared}
+use Rattle.wac_entries.specs.Agreement.{called_in_class, compared}
 use Rattle.wac_merge.specs.Became.{became, whole_in}
-use Rattle.wac_merge.specs.Binding.{root_bindings}
-use Rattle.wac_merge.specs.Bindings.{ClassBindings, path_in}
-use Rattle.wac_merge.specs.Classes.{Entry, by_names, class_names, is_instance, members, names_instance, same_class}
-use Rattle.wac_merge.specs.Faults.{HasNoDisagreement}
+use Rattle.wac_entries.specs.Binding.{root_bindings}
+use Rattle.wac_entries.specs.Bindings.{ClassBindings, path_in}
+use Rattle.wac_entries.specs.Classes.{Entry, by_names, class_names, is_instance, members, names_instance, same_class}
+use Rattle.wac_agreement.specs.Faults.{HasNoDisagreement}
 use Rattle.wac_merge.specs.Merge.{position_in}
 use Rattle.wac_merge.specs.MergedClasses.{IsClassKind, class_roots, with_root}
 use Rattle.wac_merge.specs.MergedKinds.{AreInstancesOf, AreMergedKinds, AreNoInstances, IsMergedKind, as_instance, as_other, as_resource}
-use Rattle.wac_merge.specs.Places.{resource_itself}
+use Rattle.wac_entries.specs.Places.{resource_itself}
 use Rattle.wac_merge.specs.Renaming.{Fits}
-use Rattle.wac_merge.specs.Union.{merged}
+use Rattle.wac_agreement.specs.Union.{merged}
 use Rattle.wac_merge.specs.Writing.{IsWrittenAs}
 use Rattle.wac_merge.specs.declared.fresh.Fresh.{Fresh}
 use Rattle.wac_merge.specs.declared.unions.Part.{Part}
 use Rattle.wac_merge.specs.declared.unions.Union.{Union}
 use Rattle.wac_merge.proofs.Assembled.{AreAssembled, AreDeep}
-use Rattle.wac_merge.proofs.Canonical.{class_name-asked}
-use Rattle.wac_merge.proofs.ClassFacts.{class-of_same}
-use Rattle.wac_merge.proofs.Comparing.{some_same}
+use Rattle.wac_entries.proofs.Canonical.{class_name-asked}
+use Rattle.wac_entries.proofs.ClassFacts.{class-of_same}
+use Rattle.wac_agreement.proofs.Comparing.{some_same}
 use Rattle.wac_merge.proofs.Fitting.{fits-at-root, fits-at-root-bare, fits-inside}
 use Rattle.wac_merge.proofs.FittingClasses.{bare-class, contains-at}
-use Rattle.wac_merge.proofs.Lists.{any-at, any-found, some-at}
+use Rattle.wac_entries.proofs.Lists.{any-at, any-found, some-at}
 use Rattle.wac_merge.proofs.MergedBindings.{merged-bindings}
 use Rattle.wac_merge.proofs.MergedBindingsClasses.{filter-at, filter-has, position-is}
 use Rattle.wac_merge.proofs.UnionTreesClasses.{members_agree}

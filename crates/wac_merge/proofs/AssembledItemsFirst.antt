@@ -2,9 +2,9 @@
 use Rattle.std.proofs.Common.{◌≡◌, ℕ, zero, suc, ◌<◌, Bool, true, false, cond, List, [], ◌∷◌, filter, slice_get, Some, refl, sym, ap, ◌∙◌, inl, inr, arith}
 use Rattle.std.proofs.lemmas.Bool.{false≢true, false_from_ne_true}
 use Rattle.wac_collection.specs.Name.{Name}
-use Rattle.wac_merge.specs.Classes.{AreClasses, Entry, by_names, canonical, class_names, members, names_instance, same_class}
-use Rattle.wac_merge.proofs.ClassFacts.{class-of_same, class-parts}
-use Rattle.wac_merge.proofs.Comparing.{no_some, some_same}
+use Rattle.wac_entries.specs.Classes.{AreClasses, Entry, by_names, canonical, class_names, members, names_instance, same_class}
+use Rattle.wac_entries.proofs.ClassFacts.{class-of_same, class-parts}
+use Rattle.wac_agreement.proofs.Comparing.{no_some, some_same}
 use Rattle.wac_merge.proofs.MergedBindingsClasses.{filter-at, newest-has}
 
 -- the first that passes stands first

@@ -16,22 +16,22 @@ use Rattle.wac_collection.specs.declared.component.«Type».TheVariants as ty
 use Rattle.wac_collection.specs.declared.component.ItemKind.{ItemKind}
 use Rattle.wac_collection.specs.declared.component.ItemKind.TheVariants as kind
 use Rattle.wac_merge.specs.Became.{became, whole_in}
-use Rattle.wac_merge.specs.Binding.{class_binds}
-use Rattle.wac_merge.specs.Bindings.{ClassBindings}
-use Rattle.wac_merge.specs.Classes.{Entry, by_names, canonical, class_names, is_instance, members, same_class}
-use Rattle.wac_merge.specs.Faults.{HasNoDisagreement}
+use Rattle.wac_entries.specs.Binding.{class_binds}
+use Rattle.wac_entries.specs.Bindings.{ClassBindings}
+use Rattle.wac_entries.specs.Classes.{Entry, by_names, canonical, class_names, is_instance, members, same_class}
+use Rattle.wac_agreement.specs.Faults.{HasNoDisagreement}
 use Rattle.wac_merge.specs.Merge.{is_on_track}
 use Rattle.wac_merge.specs.MergedClasses.{AreAgreed, IsClassKind, class_roots, with_root}
 use Rattle.wac_merge.specs.MergedKinds.{AreInstancesOf, AreMergedKinds, AreNoInstances, IsMergedKind, as_instance, as_other, as_resource}
-use Rattle.wac_merge.specs.Places.{resource_itself}
+use Rattle.wac_entries.specs.Places.{resource_itself}
 use Rattle.wac_merge.specs.Writing.{IsWrittenAs}
 use Rattle.wac_merge.specs.declared.fresh.Fresh.{Fresh}
 use Rattle.wac_merge.specs.declared.unions.Part.{Part}
 use Rattle.wac_merge.specs.declared.unions.Union.{Union}
 use Rattle.wac_merge.proofs.Assembled.{AreAssembled}
-use Rattle.wac_merge.proofs.Comparing.{some_same}
+use Rattle.wac_agreement.proofs.Comparing.{some_same}
 use Rattle.wac_merge.proofs.FittingSteps.{first-class}
-use Rattle.wac_merge.proofs.Lists.{some-at}
+use Rattle.wac_entries.proofs.Lists.{some-at}
 use Rattle.wac_merge.proofs.MergedBindingsAgreed.{members-agree, whole-no-instances}
 use Rattle.wac_merge.proofs.MergedBindingsClasses.{filter-has}
 use Rattle.wac_merge.proofs.UnionTreesParts.{at_contains, contains_at}

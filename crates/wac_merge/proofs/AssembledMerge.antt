@@ -12,10 +12,10 @@ use Rattle.wac_collection.specs.declared.component.InterfaceId.{InterfaceId}
 use Rattle.wac_collection.specs.declared.component.ItemKind.{ItemKind}
 use Rattle.wac_collection.specs.declared.component.ItemKind.TheVariants as kind
 use Rattle.wac_collection.specs.declared.component.«Type».TheVariants as ty
-use Rattle.wac_merge.specs.Agreement.{AllMembersAgree}
+use Rattle.wac_entries.specs.Agreement.{AllMembersAgree}
 use Rattle.wac_merge.specs.Became.{AreBoundParts, AreFresh}
-use Rattle.wac_merge.specs.Bindings.{AreBindings, AreHeld, ClassBindings}
-use Rattle.wac_merge.specs.Classes.{Entry, by_names, class_names, members, same_class}
+use Rattle.wac_entries.specs.Bindings.{AreBindings, AreHeld, ClassBindings}
+use Rattle.wac_entries.specs.Classes.{Entry, by_names, class_names, members, same_class}
 use Rattle.wac_merge.specs.Merge.{IsMerge}
 use Rattle.wac_merge.specs.MergedClasses.{AreAgreed, AreRoots, with_root}
 use Rattle.wac_merge.specs.Renaming.{CanRenameAll, IsExtended}
@@ -31,15 +31,15 @@ use Rattle.wac_merge.proofs.AssembledKinds.{merged-kinds, none-disagrees}
 use Rattle.wac_merge.proofs.AssembledLists.{count, listed, names}
 use Rattle.wac_merge.proofs.AssembledSubtypes.{subtypes}
 use Rattle.wac_merge.proofs.BecameEnds.{became-ends}
-use Rattle.wac_merge.proofs.ClassFacts.{class-refl}
+use Rattle.wac_entries.proofs.ClassFacts.{class-refl}
 use Rattle.wac_merge.proofs.ClassFolds.{mapped_at}
-use Rattle.wac_merge.proofs.Comparing.{no_some}
+use Rattle.wac_agreement.proofs.Comparing.{no_some}
 use Rattle.wac_merge.proofs.Extending.{same_interface}
-use Rattle.wac_merge.proofs.Lists.{some-at}
-use Rattle.wac_merge.proofs.Meeting.{get_map}
+use Rattle.wac_entries.proofs.Lists.{some-at}
+use Rattle.wac_agreement.proofs.Meeting.{get_map}
 use Rattle.wac_merge.proofs.MergedBindingsAgreed.{names-agree}
 use Rattle.wac_merge.proofs.MergedBindingsClasses.{filter-at}
-use Rattle.wac_merge.proofs.Opening.{below}
+use Rattle.wac_entries.proofs.Opening.{below}
 use Rattle.wac_merge.proofs.UnionLists.{all_from, all_push}
 use Rattle.wac_merge.proofs.WritingItems.{still-all-exported}
 

@@ -15,12 +15,12 @@ use Rattle.wac_collection.specs.declared.component.ResourceId.{ResourceId}
 use Rattle.wac_collection.specs.declared.component.«Type».TheVariants as ty
 use Rattle.wac_types.specs.Called.{by_binding}
 use Rattle.wac_types.specs.Subtype.{IsSubtype, kind_tree, type_tree}
-use Rattle.wac_merge.specs.Agreement.{AllMembersAgree, called_inside}
+use Rattle.wac_entries.specs.Agreement.{AllMembersAgree, called_inside}
 use Rattle.wac_merge.specs.Became.{became, whole_in}
-use Rattle.wac_merge.specs.Binding.{class_binds}
-use Rattle.wac_merge.specs.Bindings.{ClassBindings}
-use Rattle.wac_merge.specs.Classes.{Entry, by_names, canonical, class_names, is_instance, members, same_class}
-use Rattle.wac_merge.specs.Faults.{HasNoDisagreement}
+use Rattle.wac_entries.specs.Binding.{class_binds}
+use Rattle.wac_entries.specs.Bindings.{ClassBindings}
+use Rattle.wac_entries.specs.Classes.{Entry, by_names, canonical, class_names, is_instance, members, same_class}
+use Rattle.wac_agreement.specs.Faults.{HasNoDisagreement}
 use Rattle.wac_merge.specs.MergedClasses.{IsClassKind, with_root}
 use Rattle.wac_merge.specs.MergedKinds.{AreInstancesOf, AreNoInstances, IsMergedKind, as_instance, as_other, as_resource}
 use Rattle.wac_merge.specs.Renaming.{AreEnds}
@@ -32,10 +32,10 @@ use Rattle.wac_merge.specs.declared.unions.Union.{Union}
 use Rattle.wac_merge.proofs.Assembled.{AreAssembled, AreDeep}
 use Rattle.wac_merge.proofs.AssembledKinds.{merged-kinds, none-disagrees}
 use Rattle.wac_merge.proofs.BecameEnds.{became-ends, no-source}
-use Rattle.wac_merge.proofs.Comparing.{no_some, some_same}
+use Rattle.wac_agreement.proofs.Comparing.{no_some, some_same}
 use Rattle.wac_merge.proofs.FittingOwn.{no-value}
 use Rattle.wac_merge.proofs.FittingSteps.{first-class}
-use Rattle.wac_merge.proofs.Lists.{some-at}
+use Rattle.wac_entries.proofs.Lists.{some-at}
 use Rattle.wac_merge.proofs.MergedBindingsAgreed.{names-agree, whole-entry}
 use Rattle.wac_merge.proofs.MergedBindingsClasses.{filter-at, filter-has}
 use Rattle.wac_merge.proofs.MergedSubtypes.{AreSubtyped, merged_equal}

@@ -16,17 +16,17 @@ use Rattle.wac_merge.specs.declared.fresh.Fresh.{Fresh}
 use Rattle.wac_merge.specs.declared.unions.Part.{Part}
 use Rattle.wac_merge.specs.declared.unions.Union.{Union}
 use Rattle.wac_merge.specs.Became.{AreFresh, IsNew, became, became_in_class, became_outside, became_to, new_at, or_itself, own_in, own_of_part, whole_in}
-use Rattle.wac_merge.specs.Bindings.{AreBindings, ClassBindings, first_in, path_in}
-use Rattle.wac_merge.specs.Classes.{Entry, by_names, class_names}
+use Rattle.wac_entries.specs.Bindings.{AreBindings, ClassBindings, first_in, path_in}
+use Rattle.wac_entries.specs.Classes.{Entry, by_names, class_names}
 use Rattle.wac_merge.specs.MergedKinds.{AreNamedAlike}
 use Rattle.wac_merge.specs.Renaming.{AreEnds, IsExtended}
 use Rattle.wac_merge.specs.Unions.{AreUnions}
 use Rattle.wac_merge.proofs.BecameEndsNames.{IsPathOf, class-bound, held-name, interface-names}
-use Rattle.wac_merge.proofs.Comparing.{no_some}
+use Rattle.wac_agreement.proofs.Comparing.{no_some}
 use Rattle.wac_merge.proofs.FittingOwn.{end-no-source}
 use Rattle.wac_merge.proofs.FittingSteps.{around_part, first-class, first-path, within_part}
-use Rattle.wac_merge.proofs.Lists.{some-at}
-use Rattle.wac_merge.proofs.Walking.{resolved-held}
+use Rattle.wac_entries.proofs.Lists.{some-at}
+use Rattle.wac_entries.proofs.Walking.{resolved-held}
 
 pub no-source : (c : Collection) (n : ℕ) (r : ResourceId) → source_of (slice_get c.resources r.0) ≡ None → resolved_in n c r ≡ r
 no-source c zero r e = refl

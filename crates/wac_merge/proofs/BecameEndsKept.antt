@@ -10,11 +10,11 @@ use Rattle.wac_types.specs.TreeLaws.{IsKeptBy}
 use Rattle.wac_merge.specs.declared.fresh.Fresh.{Fresh}
 use Rattle.wac_merge.specs.declared.unions.Union.{Union}
 use Rattle.wac_merge.specs.Became.{AreFresh, IsNew}
-use Rattle.wac_merge.specs.Bindings.{ClassBindings}
+use Rattle.wac_entries.specs.Bindings.{ClassBindings}
 use Rattle.wac_merge.specs.Renaming.{AreEnds}
 use Rattle.wac_merge.proofs.BecameEnds.{no-source}
 use Rattle.wac_merge.proofs.FittingOwn.{itself-no-alias, no-value}
-use Rattle.wac_merge.proofs.Lists.{some-at}
+use Rattle.wac_entries.proofs.Lists.{some-at}
 
 module _ (m d : Collection) (wf : IsWellFormed m) (kept : IsKeptBy m d) where
   -- a held resource stands where it stood

@@ -20,9 +20,9 @@ use Rattle.wac_collection.specs.declared.component.ItemKind.TheVariants as kind
 use Rattle.wac_collection.proofs.Names.{same_name-true}
 use Rattle.wac_types.specs.Called.{resource_name}
 use Rattle.wac_types.specs.Subtype.{held_name, resource_names}
-use Rattle.wac_merge.specs.Binding.{class_binds, kind_binds}
-use Rattle.wac_merge.specs.Classes.{Entry, NameRules, members}
-use Rattle.wac_merge.proofs.Comparing.{no_some, some_same}
+use Rattle.wac_entries.specs.Binding.{class_binds, kind_binds}
+use Rattle.wac_entries.specs.Classes.{Entry, NameRules, members}
+use Rattle.wac_agreement.proofs.Comparing.{no_some, some_same}
 use Rattle.wac_merge.proofs.FittingClasses.{first-binding, instance-binds}
 use Rattle.wac_merge.proofs.FittingOwn.{IsOwn, own-found}
 

@@ -12,15 +12,15 @@ use Rattle.wac_types.specs.Called.{own_leaf}
 use Rattle.wac_collection.specs.declared.component.Interface.{Interface}
 use Rattle.wac_collection.specs.declared.component.ResourceId.{ResourceId}
 use Rattle.wac_collection.proofs.Names.{take_at}
-use Rattle.wac_merge.specs.CalledViews.{path_view}
-use Rattle.wac_merge.specs.Places.{find_resource, leaf_at, place_view}
-use Rattle.wac_merge.specs.Bindings.{ClassBindings}
+use Rattle.wac_entries.specs.CalledViews.{path_view}
+use Rattle.wac_entries.specs.Places.{find_resource, leaf_at, place_view}
+use Rattle.wac_entries.specs.Bindings.{ClassBindings}
 use Rattle.wac_merge.specs.Became.{AreBoundParts, became, became_in_class, became_to, new_at, or_itself, own_in, own_of_part}
 use Rattle.wac_merge.specs.Unions.{AreAround, IsPart}
-use Rattle.wac_merge.specs.declared.bound.Place.{Place as APlace}
+use Rattle.wac_entries.specs.declared.bound.Place.{Place as APlace}
 use Rattle.wac_merge.specs.declared.fresh.Fresh.{Fresh}
 use Rattle.wac_merge.specs.declared.unions.Part.{Part}
-use Rattle.wac_merge.proofs.Lists.{at-end, at-push, push-cases, some-at}
+use Rattle.wac_entries.proofs.Lists.{at-end, at-push, push-cases, some-at}
 
 -- what is new under a path of one name
 pub new-under : (f : Fresh) (k : ℕ) {A : Type 0} (path : List (String A)) (s : String A) → 1 ≤ length path → length path < 2 → s ≡ get_or path 0 s → own_in f k (string_bytes s) ≡ new_at f k (path_view path)

@@ -4,12 +4,12 @@ use Rattle.std.proofs.Math.ListN.{set}
 use Rattle.std.proofs.lemmas.Bool.{cases_Bool}
 use Rattle.std.proofs.lemmas.List.{append-nil}
 use Rattle.wac_collection.specs.Name.{Name}
-use Rattle.wac_merge.specs.Classes.{Entry, by_names, class_names, same_class}
-use Rattle.wac_merge.specs.Numbering.{IsNumbered, members_in}
-use Rattle.wac_merge.proofs.ClassFacts.{class-sym, class-trans, one-position}
-use Rattle.wac_merge.proofs.ClassPaths.{members-more}
-use Rattle.wac_merge.proofs.Comparing.{no_some, some_same}
-use Rattle.wac_merge.proofs.Lists.{set-cases}
+use Rattle.wac_entries.specs.Classes.{Entry, by_names, class_names, same_class}
+use Rattle.wac_entries.specs.Numbering.{IsNumbered, members_in}
+use Rattle.wac_entries.proofs.ClassFacts.{class-sym, class-trans, one-position}
+use Rattle.wac_entries.proofs.ClassPaths.{members-more}
+use Rattle.wac_agreement.proofs.Comparing.{no_some, some_same}
+use Rattle.wac_entries.proofs.Lists.{set-cases}
 
 -- what stands in a mapped list comes from the list
 pub mapped_at : {A B : Type 0} (f : A → B) (xs : List A) (i : ℕ) (y : B) → slice_get (map f xs) i ≡ Some y → (x : A) × (slice_get xs i ≡ Some x) × (f x ≡ y)

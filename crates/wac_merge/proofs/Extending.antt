@@ -23,7 +23,7 @@ use Rattle.wac_collection.specs.declared.component.«Type».TheVariants as ty
 use Rattle.wac_types.specs.Subtype.{held_name, resource_names}
 use Rattle.wac_types.specs.TreeLaws.{GrowthKeepsTrees, IsKeptBy}
 use Rattle.wac_merge.specs.Became.{AreFresh, IsNew, became}
-use Rattle.wac_merge.specs.Bindings.{ClassBindings}
+use Rattle.wac_entries.specs.Bindings.{ClassBindings}
 use Rattle.wac_merge.specs.Renaming.{AreEnds, AreRenamed, CanRename, CanRenameAll, IsExtended, IsRenamed, becomes}
 use Rattle.wac_merge.specs.Writing.{IsAliasOf}
 use Rattle.wac_merge.specs.declared.became.Became.{Became}
@@ -110,9 +110,6 @@ type_kept c m k (ty.Module w) h = kept_tested c.modules m.modules k.modules w.0 
 -- ---- a collection that begins with another
 pub extended_none : (c : Collection) → IsExtended c c
 extended_none c = record { kept = whole c; trees = ((λ t h. refl), (λ m t h. refl)) }
-
-pub extended_same : (c m : Collection) → m ≡ c → IsExtended c m
-extended_same c m e = subst (λ (x : Collection). IsExtended c x) (sym e) (extended_none c)
 
 pub extended_twice : (a b c : Collection) → IsExtended a b → IsExtended b c → IsExtended a c
 extended_twice a b c g h = record {

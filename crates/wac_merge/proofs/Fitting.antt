@@ -13,19 +13,19 @@ use Rattle.wac_merge.specs.declared.fresh.Fresh.{Fresh}
 use Rattle.wac_merge.specs.declared.unions.Part.{Part}
 use Rattle.wac_merge.specs.declared.unions.Union.{Union}
 use Rattle.wac_merge.specs.Became.{AreFresh, became, became_in_class, became_outside, became_to, new_at, or_itself, own_in, own_of_part}
-use Rattle.wac_merge.specs.Bindings.{AreBindings, ClassBindings, first_in, path_in}
-use Rattle.wac_merge.specs.Classes.{Entry, by_names, class_names, members}
+use Rattle.wac_entries.specs.Bindings.{AreBindings, ClassBindings, first_in, path_in}
+use Rattle.wac_entries.specs.Classes.{Entry, by_names, class_names, members}
 use Rattle.wac_merge.specs.Renaming.{Fits}
-use Rattle.wac_merge.specs.Union.{inside_member}
+use Rattle.wac_agreement.specs.Union.{inside_member}
 use Rattle.wac_merge.specs.Unions.{AreUnions}
 use Rattle.wac_merge.specs.Writing.{AreWritten}
 use Rattle.wac_merge.specs.MergedKinds.{AreInstancesOf, AreListedOnce}
-use Rattle.wac_merge.proofs.Comparing.{no_some}
+use Rattle.wac_agreement.proofs.Comparing.{no_some}
 use Rattle.wac_merge.proofs.FittingClasses.{IsOwnOf, instances-own}
-use Rattle.wac_merge.proofs.Lists.{some-at}
+use Rattle.wac_entries.proofs.Lists.{some-at}
 use Rattle.wac_merge.proofs.FittingParts.{IsWritten, listed-own, own-listed, part-owns}
 use Rattle.wac_merge.proofs.FittingSteps.{IsOther, enough, first-class, first-path, in-part-around, in-part-own, outside-other, part-other}
-use Rattle.wac_merge.proofs.Walking.{resolved-held}
+use Rattle.wac_entries.proofs.Walking.{resolved-held}
 
 -- what an interface binds itself, else what is bound around it
 abbrev own_leaf_at : Option Name → Option Leaf → Option Leaf

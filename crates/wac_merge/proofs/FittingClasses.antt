@@ -17,13 +17,13 @@ use Rattle.wac_merge.specs.declared.fresh.Fresh.{Fresh}
 use Rattle.wac_merge.specs.declared.unions.Part.{Part}
 use Rattle.wac_merge.specs.declared.unions.Union.{Union}
 use Rattle.wac_merge.specs.Became.{AreFresh, own_in}
-use Rattle.wac_merge.specs.Binding.{class_binds, first_binds, kind_binds}
-use Rattle.wac_merge.specs.Bindings.{ClassBindings}
-use Rattle.wac_merge.specs.Classes.{Entry, NameRules, by_names, is_instance, members, same_track}
+use Rattle.wac_entries.specs.Binding.{class_binds, first_binds, kind_binds}
+use Rattle.wac_entries.specs.Bindings.{ClassBindings}
+use Rattle.wac_entries.specs.Classes.{Entry, NameRules, by_names, is_instance, members, same_track}
 use Rattle.wac_merge.specs.MergedKinds.{AreInstancesOf, AreListedOnce}
-use Rattle.wac_merge.specs.Places.{resource_itself}
+use Rattle.wac_entries.specs.Places.{resource_itself}
 use Rattle.wac_merge.specs.Unions.{AreUnions, part}
-use Rattle.wac_merge.proofs.Comparing.{no_some, some_same}
+use Rattle.wac_agreement.proofs.Comparing.{no_some, some_same}
 use Rattle.wac_merge.proofs.FittingOwn.{zip-left}
 use Rattle.wac_merge.proofs.FittingParts.{part-owns}
 

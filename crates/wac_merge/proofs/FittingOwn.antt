@@ -14,8 +14,8 @@ use Rattle.wac_collection.specs.declared.component.UsedType.{UsedType}
 use Rattle.wac_collection.specs.declared.component.«Type».TheVariants as ty
 use Rattle.wac_collection.specs.declared.component.ItemKind.{ItemKind}
 use Rattle.wac_collection.specs.declared.component.ItemKind.TheVariants as kind
-use Rattle.wac_merge.specs.Places.{own_resource}
-use Rattle.wac_merge.proofs.Comparing.{no_some, some_same}
+use Rattle.wac_entries.specs.Places.{own_resource}
+use Rattle.wac_agreement.proofs.Comparing.{no_some, some_same}
 
 -- ---- the ends of aliases
 

@@ -23,12 +23,12 @@ use Rattle.wac_merge.specs.declared.unions.Export.{Export}
 use Rattle.wac_merge.specs.declared.unions.Part.{Part}
 use Rattle.wac_merge.specs.declared.unions.Union.{Union}
 use Rattle.wac_merge.specs.Became.{AreFresh, became, own_in}
-use Rattle.wac_merge.specs.Bindings.{ClassBindings}
+use Rattle.wac_entries.specs.Bindings.{ClassBindings}
 use Rattle.wac_merge.specs.MergedKinds.{AreListedOnce}
-use Rattle.wac_merge.specs.Places.{own_resource}
+use Rattle.wac_entries.specs.Places.{own_resource}
 use Rattle.wac_merge.specs.Unions.{AreUnions, IsExport, is_own_of, listed_under, part_lists}
 use Rattle.wac_merge.specs.Writing.{AreWritten, IsAliasOf, IsWrittenAs, IsWrittenExport, written_at}
-use Rattle.wac_merge.proofs.Comparing.{no_some, one_some, some_same}
+use Rattle.wac_agreement.proofs.Comparing.{no_some, one_some, some_same}
 use Rattle.wac_merge.proofs.FittingOwn.{IsOwn, itself-no-alias, own-found, own-named, own-resource, zip-left, zip-right}
 
 contained : {X : Type 0} (xs : List X) (x : X) → Contains xs x → (i : ℕ) × (slice_get xs i ≡ Some x)

@@ -9,12 +9,12 @@ use Rattle.wac_merge.specs.declared.fresh.Fresh.{Fresh}
 use Rattle.wac_merge.specs.declared.unions.Part.{Part}
 use Rattle.wac_merge.specs.declared.unions.Union.{Union}
 use Rattle.wac_merge.specs.Became.{AreFresh, became_in_class, became_outside, became_to, new_at, or_itself, own_in, own_of_part}
-use Rattle.wac_merge.specs.Binding.{binding_from, class_binds}
-use Rattle.wac_merge.specs.Bindings.{AreBindings, ClassBindings, first_in, path_in}
-use Rattle.wac_merge.specs.Classes.{Entry, NameRules, by_names, class_names}
-use Rattle.wac_merge.specs.Places.{find_resource}
+use Rattle.wac_entries.specs.Binding.{binding_from, class_binds}
+use Rattle.wac_entries.specs.Bindings.{AreBindings, ClassBindings, first_in, path_in}
+use Rattle.wac_entries.specs.Classes.{Entry, NameRules, by_names, class_names}
+use Rattle.wac_entries.specs.Places.{find_resource}
 use Rattle.wac_merge.specs.Unions.{AreAround, AreUnions}
-use Rattle.wac_merge.proofs.Comparing.{no_some, some_same}
+use Rattle.wac_agreement.proofs.Comparing.{no_some, some_same}
 
 -- ---- the class that binds a resource first
 

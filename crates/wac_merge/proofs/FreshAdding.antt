@@ -13,7 +13,7 @@ use Rattle.wac_types.specs.Subtype.{held_name}
 use Rattle.wac_collection.specs.declared.component.Resource.{Resource}
 use Rattle.wac_collection.specs.declared.component.ResourceId.{ResourceId}
 use Rattle.wac_collection.proofs.Names.{same_name-from, same_name-true}
-use Rattle.wac_merge.specs.Bindings.{ClassBindings, first_in}
+use Rattle.wac_entries.specs.Bindings.{ClassBindings, first_in}
 use Rattle.wac_merge.specs.Became.{AreFresh, IsNew}
 use Rattle.wac_merge.specs.FreshSteps.{AreAllOwn, AreOwn, AreWhole, IsOwn, IsWhole, StayWhole, own_under, whole_under}
 use Rattle.wac_merge.specs.Renaming.{IsExtended}
@@ -21,7 +21,7 @@ use Rattle.wac_merge.specs.declared.fresh.Fresh.{Fresh}
 use Rattle.wac_merge.specs.declared.unions.Export.{Export}
 use Rattle.wac_merge.specs.declared.unions.Union.{Union}
 use Rattle.wac_merge.proofs.Extending.{Keeps, kept_low, still_new}
-use Rattle.wac_merge.proofs.Lists.{at-end, at-push, push-cases, set-cases, some-at}
+use Rattle.wac_entries.proofs.Lists.{at-end, at-push, push-cases, set-cases, some-at}
 
 some-same : {A : Type 0} (x y : A) → Some x ≡ Some y → x ≡ y
 some-same x y e = cc

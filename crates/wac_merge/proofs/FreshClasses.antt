@@ -14,13 +14,13 @@ use Rattle.wac_collection.specs.declared.component.ItemKind.{ItemKind}
 use Rattle.wac_collection.specs.declared.component.ItemKind.TheVariants as kind
 use Rattle.wac_collection.specs.declared.component.«Type».TheVariants as ty
 use Rattle.wac_collection.proofs.Names.{take_at}
-use Rattle.wac_merge.specs.Binding.{kind_binds, first_binds, class_binds, binding_from}
-use Rattle.wac_merge.specs.Bindings.{AreBindings, ClassBindings, first_in}
-use Rattle.wac_merge.specs.Classes.{Entry, by_names, class_names, same_class, same_track}
+use Rattle.wac_entries.specs.Binding.{kind_binds, first_binds, class_binds, binding_from}
+use Rattle.wac_entries.specs.Bindings.{AreBindings, ClassBindings, first_in}
+use Rattle.wac_entries.specs.Classes.{Entry, by_names, class_names, same_class, same_track}
 use Rattle.wac_merge.specs.FreshSteps.{AreCounted, IsWhole, StayWhole}
-use Rattle.wac_merge.specs.Places.{resource_itself}
-use Rattle.wac_merge.specs.CalledViews.{path_view}
-use Rattle.wac_merge.proofs.Lists.{push-cases}
+use Rattle.wac_entries.specs.Places.{resource_itself}
+use Rattle.wac_entries.specs.CalledViews.{path_view}
+use Rattle.wac_entries.proofs.Lists.{push-cases}
 
 some-same : {A : Type 0} (x y : A) → Some x ≡ Some y → x ≡ y
 some-same x y e = cc

@@ -6,7 +6,7 @@ use Rattle.std.specs.declared.string.String.{String}
 use Rattle.std.specs.Map.{values_of}
 use Rattle.indexmap.specs.IndexMap.{set_value_at}
 use Rattle.wac_collection.specs.Name.{Name, same_name, find_name}
-use Rattle.wac_collection.specs.Named.{by_bytes, NoNameTwice}
+use Rattle.wac_collection.specs.Named.{by_bytes, NoNameTwice, names_of}
 use Rattle.wac_collection.specs.declared.component.ItemKind.{ItemKind}
 use Rattle.wac_collection.proofs.Names.{same_name-true, found_at, by_bytes-at}
 use Rattle.wac_merge.specs.GroupViews.{groups_of}
@@ -26,6 +26,11 @@ pub value_at : {A B : Type 0} (es : Entries A B) (i : ℕ) (k : String A) (v : L
 value_at [] i k v at = cc
 value_at (e ∷ es) zero k v at = ap (λ x. Some x.1) (some-same e (k, v) at)
 value_at (e ∷ es) (suc i) k v at = value_at es i k v at
+
+-- the names are those of the entries
+pub names_viewed : {A B : Type 0} (es : Entries A B) → names_of (groups_of es) ≡ names_of (by_bytes es)
+names_viewed [] = refl
+names_viewed (e ∷ es) = ap (λ ns. string_bytes e.0 ∷ ns) (names_viewed es)
 
 -- one more behind what is under a name
 pub put_at : {A B : Type 0} (es : Entries A B) (i : ℕ) (k : String A) (v w : Listing B) (n : Name) (l : ℕ × ItemKind) → NoNameTwice (by_bytes es) → slice_get es i ≡ Some (k, v) → same_name n (string_bytes k) ≡ true

@@ -12,21 +12,21 @@ use Rattle.wac_collection.specs.declared.component.ItemKind.TheVariants as kind
 use Rattle.wac_collection.specs.declared.component.«Type».TheVariants as ty
 use Rattle.wac_collection.proofs.Names.{take_at}
 use Rattle.wac_merge.specs.Merge.{import_entries}
-use Rattle.wac_merge.specs.Bindings.{ClassBindings}
+use Rattle.wac_entries.specs.Bindings.{ClassBindings}
 use Rattle.wac_merge.specs.Became.{became, whole_in}
-use Rattle.wac_merge.specs.Classes.{Entry, AreClasses, by_names, canonical, class_names, members, names_instance, same_class}
+use Rattle.wac_entries.specs.Classes.{Entry, AreClasses, by_names, canonical, class_names, members, names_instance, same_class}
 use Rattle.wac_merge.specs.MergedClasses.{AreImports, IsClassKind}
 use Rattle.wac_merge.specs.Renaming.{IsExtended}
 use Rattle.wac_merge.specs.Writing.{IsGiven, IsWrittenAs}
 use Rattle.wac_merge.specs.declared.fresh.Fresh.{Fresh}
 use Rattle.wac_merge.specs.declared.unions.Part.{Part}
-use Rattle.wac_merge.proofs.ClassFacts.{class-refl, class-sym, class-trans, one-position}
-use Rattle.wac_merge.proofs.ClassPaths.{newest-class}
-use Rattle.wac_merge.proofs.Comparing.{find_at, no_some, one_some}
+use Rattle.wac_entries.proofs.ClassFacts.{class-refl, class-sym, class-trans, one-position}
+use Rattle.wac_entries.proofs.ClassPaths.{newest-class}
+use Rattle.wac_agreement.proofs.Comparing.{find_at, no_some, one_some}
 use Rattle.wac_merge.proofs.Extending.{still_interface}
 use Rattle.wac_merge.proofs.FreshAdding.{some-of}
-use Rattle.wac_merge.proofs.Lists.{push-cases, some-at}
-use Rattle.wac_merge.proofs.Meeting.{get_map, mapped_length}
+use Rattle.wac_entries.proofs.Lists.{push-cases, some-at}
+use Rattle.wac_agreement.proofs.Meeting.{get_map, mapped_length}
 use Rattle.wac_merge.proofs.WritingItems.{still-written}
 
 -- what stands among the first i is one of them

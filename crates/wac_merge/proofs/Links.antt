@@ -3,10 +3,10 @@ use Rattle.std.proofs.Common.{◌≡◌, ℕ, true, ◌&&◌, List, slice_get, S
 use Rattle.std.proofs.lemmas.Bool.{and_from, and_parts}
 use Rattle.wac_collection.specs.Name.{Name, same_name}
 use Rattle.wac_collection.proofs.Names.{same_name-true, same_name-refl}
-use Rattle.wac_merge.specs.Classes.{Entry, NameRules, by_names, is_instance, names_instance, same_class, IsLink, one_name, one_track, IsLinked, link, chain, ClassLaws}
-use Rattle.wac_merge.proofs.Canonical.{canonical-alike}
-use Rattle.wac_merge.proofs.Lists.{any-at, any-found}
-use Rattle.wac_merge.proofs.ClassFacts.{class-parts, class-from, class-refl, class-of_same, class-sym, class-trans}
+use Rattle.wac_entries.specs.Classes.{Entry, NameRules, by_names, is_instance, names_instance, same_class, IsLink, one_name, one_track, IsLinked, link, chain, ClassLaws}
+use Rattle.wac_entries.proofs.Canonical.{canonical-alike}
+use Rattle.wac_entries.proofs.Lists.{any-at, any-found}
+use Rattle.wac_entries.proofs.ClassFacts.{class-parts, class-from, class-refl, class-of_same, class-sym, class-trans}
 
 module _ (rules : NameRules) (es : List Entry) where
   -- an instance's name names an instance

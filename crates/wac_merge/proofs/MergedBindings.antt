@@ -20,23 +20,23 @@ use Rattle.wac_merge.specs.declared.fresh.Fresh.{Fresh}
 use Rattle.wac_merge.specs.declared.unions.Part.{Part}
 use Rattle.wac_merge.specs.declared.unions.Union.{Union}
 use Rattle.wac_merge.specs.Became.{became, new_at, or_itself, own_in, whole_in}
-use Rattle.wac_merge.specs.Binding.{binding_class, class_binds, first_binds, kind_binds, root_bindings}
-use Rattle.wac_merge.specs.Bindings.{ClassBindings, first_in}
-use Rattle.wac_merge.specs.Classes.{Entry, by_names, canonical, class_names, is_instance, members, names_instance, same_class, same_track}
+use Rattle.wac_entries.specs.Binding.{binding_class, class_binds, first_binds, kind_binds, root_bindings}
+use Rattle.wac_entries.specs.Bindings.{ClassBindings, first_in}
+use Rattle.wac_entries.specs.Classes.{Entry, by_names, canonical, class_names, is_instance, members, names_instance, same_class, same_track}
 use Rattle.wac_merge.specs.Merge.{is_on_track, position_in}
 use Rattle.wac_merge.specs.MergedKinds.{AreInstancesOf, AreMergedKinds, AreNoInstances, IsMergedKind, as_instance, as_other, as_resource}
 use Rattle.wac_merge.specs.Renaming.{Fits}
-use Rattle.wac_merge.proofs.Canonical.{class_name-asked}
-use Rattle.wac_merge.proofs.ClassFacts.{class-from, class-of_same, class-parts, class-refl, class-sym, class-trans, one-position, same_track-from}
-use Rattle.wac_merge.proofs.Comparing.{no_some, one_some, some_same}
+use Rattle.wac_entries.proofs.Canonical.{class_name-asked}
+use Rattle.wac_entries.proofs.ClassFacts.{class-from, class-of_same, class-parts, class-refl, class-sym, class-trans, one-position, same_track-from}
+use Rattle.wac_agreement.proofs.Comparing.{no_some, one_some, some_same}
 use Rattle.wac_merge.proofs.Fitting.{AreMerged}
 use Rattle.wac_merge.proofs.FittingClasses.{IsTracked, bare-path, binds-tracked, contains-at, first-binding, instance-binds, instances-own, other-binds, whole-binds}
 use Rattle.wac_merge.proofs.FittingOwn.{itself-no-alias, zip-left}
 use Rattle.wac_merge.proofs.FittingParts.{IsWritten, listed-own, own-listed}
 use Rattle.wac_merge.proofs.FittingSteps.{bound, first-class}
-use Rattle.wac_merge.proofs.Lists.{any-at, any-found, some-at}
+use Rattle.wac_entries.proofs.Lists.{any-at, any-found, some-at}
 use Rattle.wac_merge.proofs.MergedBindingsClasses.{AreApart, alone-binds, at-class, class-at, filter-at, filter-has, newest-has, no-binding, only-binding, position-is}
-use Rattle.wac_merge.proofs.Walking.{resolved-held}
+use Rattle.wac_entries.proofs.Walking.{resolved-held}
 
 -- ---- the canonical name of a class
 

@@ -14,22 +14,22 @@ use Rattle.wac_collection.specs.declared.component.ItemKind.{ItemKind}
 use Rattle.wac_collection.specs.declared.component.ItemKind.TheVariants as kind
 use Rattle.wac_collection.proofs.Names.{element_at, same_name-false, same_name-true}
 use Rattle.wac_types.specs.Called.{Called, bound_at, by_binding, called_at, resource_name}
-use Rattle.wac_merge.specs.Agreement.{Agree, called_inside, called_outside, compared}
-use Rattle.wac_merge.specs.Binding.{class_binds, kind_binds}
-use Rattle.wac_merge.specs.Bindings.{AreHeld}
-use Rattle.wac_merge.specs.Classes.{Entry, by_names, is_instance, members, same_class}
-use Rattle.wac_merge.specs.Faults.{HasNoDisagreement}
+use Rattle.wac_entries.specs.Agreement.{Agree, called_inside, called_outside, compared}
+use Rattle.wac_entries.specs.Binding.{class_binds, kind_binds}
+use Rattle.wac_entries.specs.Bindings.{AreHeld}
+use Rattle.wac_entries.specs.Classes.{Entry, by_names, is_instance, members, same_class}
+use Rattle.wac_agreement.specs.Faults.{HasNoDisagreement}
 use Rattle.wac_merge.specs.MergedKinds.{AreNamedAlike, AreNoInstances}
-use Rattle.wac_merge.specs.Places.{resource_itself}
-use Rattle.wac_merge.proofs.Alike.{binds_alike}
+use Rattle.wac_entries.specs.Places.{resource_itself}
+use Rattle.wac_agreement.proofs.Alike.{binds_alike}
 use Rattle.wac_merge.proofs.BecameEnds.{no-source}
-use Rattle.wac_merge.proofs.ClassFacts.{class-sym, class-trans}
-use Rattle.wac_merge.proofs.Comparing.{agree_at, no_some, some_same}
+use Rattle.wac_entries.proofs.ClassFacts.{class-sym, class-trans}
+use Rattle.wac_agreement.proofs.Comparing.{agree_at, no_some, some_same}
 use Rattle.wac_merge.proofs.FittingClasses.{first-binding, instance-binds, whole-binds}
 use Rattle.wac_merge.proofs.FittingOwn.{no-value}
-use Rattle.wac_merge.proofs.Lists.{some-at}
+use Rattle.wac_entries.proofs.Lists.{some-at}
 use Rattle.wac_merge.proofs.MergedBindingsClasses.{filter-at}
-use Rattle.wac_merge.proofs.Opening.{below}
+use Rattle.wac_entries.proofs.Opening.{below}
 
 -- ---- what an instance is compared as is no other item
 

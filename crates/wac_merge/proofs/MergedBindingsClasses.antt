@@ -5,13 +5,13 @@ use Rattle.wac_collection.specs.Name.{Name, option_case}
 use Rattle.wac_collection.specs.Tree.{Place}
 use Rattle.wac_collection.specs.Collection.{Collection}
 use Rattle.wac_collection.specs.declared.component.ResourceId.{ResourceId}
-use Rattle.wac_merge.specs.Binding.{binding_from, class_binds, first_binds, kind_binds}
-use Rattle.wac_merge.specs.Classes.{Entry, NameRules, by_names, class_names, names_of_classes, newest, same_class}
+use Rattle.wac_entries.specs.Binding.{binding_from, class_binds, first_binds, kind_binds}
+use Rattle.wac_entries.specs.Classes.{Entry, NameRules, by_names, class_names, names_of_classes, newest, same_class}
 use Rattle.wac_merge.specs.Merge.{position_in}
-use Rattle.wac_merge.proofs.ClassFacts.{class-refl}
-use Rattle.wac_merge.proofs.Comparing.{no_some, some_same}
+use Rattle.wac_entries.proofs.ClassFacts.{class-refl}
+use Rattle.wac_agreement.proofs.Comparing.{no_some, some_same}
 use Rattle.wac_merge.proofs.FittingSteps.{bound}
-use Rattle.wac_merge.proofs.Places.{first-none}
+use Rattle.wac_entries.proofs.Places.{first-none}
 
 -- ---- filters
 

@@ -16,11 +16,11 @@ use Rattle.wac_collection.specs.declared.component.ItemKind.TheVariants as kind
 use Rattle.wac_collection.specs.declared.component.ValueType.{ValueType}
 use Rattle.wac_collection.specs.declared.component.ValueType.TheVariants as val
 use Rattle.wac_collection.specs.declared.component.«Type».TheVariants as ty
-use Rattle.wac_merge.specs.Classes.{Entry, NameRules, class_names, canonical}
-use Rattle.wac_merge.specs.Binding.{binding_class, root_bindings}
-use Rattle.wac_merge.specs.Union.{merged}
-use Rattle.wac_merge.specs.Agreement.{compared}
-use Rattle.wac_merge.specs.ClassOrder.{grouped}
+use Rattle.wac_entries.specs.Classes.{Entry, NameRules, class_names, canonical}
+use Rattle.wac_entries.specs.Binding.{binding_class, root_bindings}
+use Rattle.wac_agreement.specs.Union.{merged}
+use Rattle.wac_entries.specs.Agreement.{compared}
+use Rattle.wac_agreement.specs.ClassOrder.{grouped}
 
 -- names of one number are labels; of two, an interface and its version on one track
 abbrev simple_track : Name → Track

@@ -5,7 +5,7 @@ use Rattle.std.proofs.lemmas.Option.{slice_get_within}
 use Rattle.std.specs.List.{AllZip, Contains}
 use Rattle.std.specs.Option.{MatchOption}
 use Rattle.wac_collection.specs.Name.{Name, find_name, option_case}
-use Rattle.wac_collection.specs.Tree.{TypeTree, absent, instance, instance_item, resource, type_equal}
+use Rattle.wac_collection.specs.Tree.{absent, instance, instance_item, resource, type_equal}
 use Rattle.wac_collection.specs.Collection.{Collection, IsWellFormed, holds_type, interface_exports, item_at, item_of, kind_type}
 use Rattle.wac_collection.specs.Held.{Names, item_tree, items_under, unfolded}
 use Rattle.wac_collection.specs.Uses.{IsSound, is_named_right}
@@ -20,10 +20,10 @@ use Rattle.wac_types.specs.Compare.{listed_in}
 use Rattle.wac_types.specs.Subtype.{Sub, by_name, kind_tree, type_tree}
 use Rattle.wac_types.specs.TreeLaws.{IsDeepEnough}
 use Rattle.wac_types.proofs.Relation.{sub_refl}
-use Rattle.wac_merge.specs.Agreement.{Agree}
+use Rattle.wac_entries.specs.Agreement.{Agree}
 use Rattle.wac_merge.specs.Became.{AreFresh, became, own_in}
-use Rattle.wac_merge.specs.Bindings.{ClassBindings}
-use Rattle.wac_merge.specs.Places.{own_resource}
+use Rattle.wac_entries.specs.Bindings.{ClassBindings}
+use Rattle.wac_entries.specs.Places.{own_resource}
 use Rattle.wac_merge.specs.Renaming.{AreEnds, IsExtended}
 use Rattle.wac_merge.specs.Unions.{AreUnions, IsExport, IsInner, instances_in, is_own_of, listed_under, part, part_lists, united}
 use Rattle.wac_merge.specs.Writing.{AreWritten, IsWrittenAs, IsWrittenExport, written_at}
@@ -31,18 +31,16 @@ use Rattle.wac_merge.specs.declared.fresh.Fresh.{Fresh}
 use Rattle.wac_merge.specs.declared.unions.Export.{Export}
 use Rattle.wac_merge.specs.declared.unions.Part.{Part}
 use Rattle.wac_merge.specs.declared.unions.Union.{Union}
-use Rattle.wac_merge.proofs.Comparing.{agree_at, find_at, no_some, one_some}
-use Rattle.wac_merge.proofs.Lists.{some-at}
-use Rattle.wac_merge.proofs.MergedSubtypesKinds.{IsInstance, agree_equal, agree_instance, agree_itself, agree_under, instance_or_not, new_tree, own_tree, sound_named, type_no_instance, written_instance, written_tree}
+use Rattle.wac_agreement.proofs.Comparing.{agree_at, find_at, no_some, one_some}
+use Rattle.wac_entries.proofs.Lists.{some-at}
+use Rattle.wac_merge.proofs.MergedSubtypesKinds.{IsInstance, agree_equal, agree_instance, agree_under, instance_or_not, new_tree, own_tree, sound_named, type_no_instance, written_instance, written_tree}
+use Rattle.wac_agreement.proofs.Agreeing.{agree_itself}
 use Rattle.wac_merge.proofs.MergedSubtypesLists.{IsIn, all_in, all_not_not, any_in, contains_in, in_contains, instances_from, instances_to, listed_from, listed_one, listed_to, only_in, zip_found, zip_left, zip_missing, zip_one, zip_right}
 use Rattle.wac_merge.proofs.MergedSubtypesLists as lists
 use Rattle.wac_merge.proofs.MergedSubtypesTrees.{found_held, instance_of, interface_of, listed_none, listed_some, sub_to}
-use Rattle.wac_merge.proofs.Places.{exports_held}
+use Rattle.wac_entries.proofs.Places.{exports_held}
 use Rattle.wac_merge.proofs.MergedSubtypesNames.{KeepsNames, instance_keeps, same_by_name}
-
--- what a part lists, under what resources are called
-abbrev pub part_called : Collection → List Part → (ℕ → Names Called) → ℕ → TypeTree Called
-part_called c ps called p = instance (items_under (map (λ e. (e.0, item_tree (unfolded (by_binding c) c (called p)) false e.1)) (part_lists c ps p)))
+use Rattle.wac_merge.proofs.UnionTrees.{part_called}
 
 -- unions that were written into a collection, and what resources are called in their parts
 pub record AreSubtyped (c m : Collection) (roots : List (List InterfaceId)) (us : List Union) (ps : List Part) (bs : ClassBindings) (f : Fresh) (ids : List (Option Name)) (ws : List InterfaceId) (called : ℕ → Names Called) : Type 0 where

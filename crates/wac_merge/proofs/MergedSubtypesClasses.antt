@@ -17,27 +17,29 @@ use Rattle.wac_collection.specs.declared.component.«Type».TheVariants as ty
 use Rattle.wac_types.specs.Called.{Called, by_binding, called_at, itself, of_class, own_leaf, resource_name}
 use Rattle.wac_types.specs.Subtype.{IsSubtype, Sub, type_tree, kind_tree, resource_names}
 use Rattle.wac_types.proofs.Relation.{sub_refl}
-use Rattle.wac_merge.specs.Agreement.{Agree, called_in_class, called_inside, called_outside, compared}
-use Rattle.wac_merge.specs.Apart.{AllAgree}
+use Rattle.wac_entries.specs.Agreement.{Agree, called_in_class, called_inside, called_outside, compared}
+use Rattle.wac_agreement.specs.Apart.{AllAgree}
 use Rattle.wac_merge.specs.Became.{IsNew}
-use Rattle.wac_merge.specs.Binding.{binding_class, class_binds}
-use Rattle.wac_merge.specs.Bindings.{ClassBindings}
-use Rattle.wac_merge.specs.Classes.{AreClasses, Entry, NameRules, by_names, same_class}
-use Rattle.wac_merge.specs.Compared.{AreCompared}
-use Rattle.wac_merge.specs.Nodes.{Item, Node, tree_at}
-use Rattle.wac_merge.specs.Nodes as nodes
+use Rattle.wac_entries.specs.Binding.{binding_class, class_binds}
+use Rattle.wac_entries.specs.Bindings.{ClassBindings}
+use Rattle.wac_entries.specs.Classes.{AreClasses, Entry, NameRules, by_names, same_class}
+use Rattle.wac_agreement.specs.Compared.{AreCompared}
+use Rattle.wac_entries.specs.Nodes.{Item, Node, tree_at}
+use Rattle.wac_entries.specs.Nodes as nodes
 use Rattle.wac_merge.specs.declared.fresh.Fresh.{Fresh}
 use Rattle.wac_merge.specs.declared.unions.Part.{Part}
 use Rattle.wac_merge.specs.declared.unions.Union.{Union}
 use Rattle.wac_merge.specs.Unions.{part_lists}
-use Rattle.wac_merge.proofs.Alike.{compared_alike}
-use Rattle.wac_merge.proofs.ClassFacts.{class-sym, class-trans}
-use Rattle.wac_merge.proofs.Comparing.{agree_at}
-use Rattle.wac_merge.proofs.Lists.{some-at}
-use Rattle.wac_merge.proofs.MergedSubtypes.{AreSubtyped, merged_subtype, part_called}
-use Rattle.wac_merge.proofs.MergedSubtypesKinds.{IsInstance, agree_itself, new_tree, resource_tree}
+use Rattle.wac_agreement.proofs.Alike.{compared_alike}
+use Rattle.wac_entries.proofs.ClassFacts.{class-sym, class-trans}
+use Rattle.wac_agreement.proofs.Comparing.{agree_at}
+use Rattle.wac_entries.proofs.Lists.{some-at}
+use Rattle.wac_merge.proofs.MergedSubtypes.{AreSubtyped, merged_subtype}
+use Rattle.wac_merge.proofs.MergedSubtypesKinds.{IsInstance, new_tree, resource_tree}
+use Rattle.wac_agreement.proofs.Agreeing.{agree_itself}
 use Rattle.wac_merge.proofs.MergedSubtypesTrees.{sub_to}
 use Rattle.wac_merge.proofs.MergedSubtypesNames.{KeepsNames, called_name, name_there, same_by_name}
+use Rattle.wac_merge.proofs.UnionTrees.{part_called}
 
 -- ---- around and inside the members of a class resources keep their names
 
@@ -78,19 +80,7 @@ module _ (rules : NameRules) (c : Collection) (es : List Entry) where
       agree_at (instance_item (part_called c ps called p)) (instance_item (part_called c ps called q)) (compared rules c es class (kind.Instance x.interface)) (compared rules c es class (kind.Instance y.interface))
       (sym (part_compared ps called class p x it at item names)) (sym (part_compared ps called class q y jt there other also)) h
 
--- ---- members of a class agree
-
--- agreement goes both ways
-pub agree_turned : (t u : TypeTree Called) → Agree t u → Agree u t
-agree_turned (instance f) (instance g) h = λ n. turned (f n) (g n) (λ k. agree_turned (f n) (g n) k) (h n) where
-  turned : (a b : TypeTree Called) → (Agree a b → Agree b a) → (a ≡ absent) ⊎ ((b ≡ absent) ⊎ Agree a b) → (b ≡ absent) ⊎ ((a ≡ absent) ⊎ Agree b a)
-  turned a b turn (inl none) = inr (inl none)
-  turned a b turn (inr (inl none)) = inl none
-  turned a b turn (inr (inr k)) = inr (inr (turn k))
-agree_turned (instance f) u h = subst (λ z. Agree z (instance f)) h (agree_itself (instance f))
-agree_turned (instance_item t) (instance_item u) h = agree_turned t u h
-agree_turned (instance_item t) u h = subst (λ z. Agree z (instance_item t)) h (agree_itself (instance_item t))
-agree_turned t u h = subst (λ z. Agree z t) h (agree_itself t)
+-- ---- members of a class
 
 -- what a part of the union of a class is of: a member that is an instance
 pub record IsOfMember (c : Collection) (es : List Entry) (ps : List Part) (called : ℕ → Names Called) (class : Name) (p : ℕ) : Type 0 where
@@ -104,41 +94,6 @@ pub record IsOfMember (c : Collection) (es : List Entry) (ps : List Part) (calle
   pub there : slice_get es position ≡ Some entry
   pub is : entry.kind ≡ kind.Instance part.interface
   pub member : same_class by_names es class entry.name ≡ true
-
--- the later of two entries of one class agrees with the earlier, where all items of one class do
-module _ (ns : List Node) (c : Collection) (es : List Entry) (items : List Item) (numbers positions : List ℕ) (names : List (Name × ℕ)) (classes : AreClasses by_names es numbers positions names)
-    (counted : length items ≡ length es) (are : AreCompared ns c es items) (all : AllAgree ns items numbers) where
-  later_agrees : (i j : ℕ) (e f : Entry) → i < j → slice_get es i ≡ Some e → slice_get es j ≡ Some f → same_class by_names es e.name f.name ≡ true → Agree (compared by_names c es e.name e.kind) (compared by_names c es f.name f.kind)
-  later_agrees i j e f less at there one =
-      let low : i < length es = slice_get_within es i e at in
-      let below : j < length es = slice_get_within es j f there in
-      let x = some-at items i (omega (arith, low, counted)) in
-      let y = some-at items j (omega (arith, below, counted)) in
-      let k = some-at numbers i (omega (arith, low, classes.counted)) in
-      let l = some-at numbers j (omega (arith, below, classes.counted)) in
-      let same : k.0 ≡ l.0 = (classes.told_apart i j k.0 l.0 e f at there k.1 l.1).1 one in
-      agree_at (compared by_names c es e.name e.kind) (compared by_names c es f.name f.kind) (nodes.item_tree (tree_at ns) x.0) (nodes.item_tree (tree_at ns) y.0)
-      (sym (are i e x.0 at x.1).is) (sym (are j f y.0 there y.1).is) (all i j k.0 x.0 y.0 less (slice_get_within items j y.0 y.1) x.1 y.1 k.1 (l.1 ∙ ap Some (sym same)))
-
-  -- so any two members of a class agree
-  pub members_agree : (class : Name) (i j : ℕ) (e f : Entry) → slice_get es i ≡ Some e → slice_get es j ≡ Some f → same_class by_names es class e.name ≡ true → same_class by_names es class f.name ≡ true
-      → Agree (compared by_names c es class e.kind) (compared by_names c es class f.kind)
-  members_agree class i j e f at there first second = elim (cases_order i j) [
-    | inr (inl less) ↦ around (later_agrees i j e f less at there one)
-    | inr (inr more) ↦ around (agree_turned (compared by_names c es f.name f.kind) (compared by_names c es e.name e.kind) (later_agrees j i f e more there at (class-sym by_names es e.name f.name one)))
-    | inl same ↦
-        let equal : e ≡ f = some_same e f (sym at ∙ ap (slice_get es) same ∙ there) in
-        subst (λ (z : Entry). Agree (compared by_names c es class e.kind) (compared by_names c es class z.kind)) equal (agree_itself (compared by_names c es class e.kind))
-  ] where
-    one : same_class by_names es e.name f.name ≡ true
-    one = class-trans by_names es e.name class f.name (class-sym by_names es class e.name first) second
-
-    around : Agree (compared by_names c es e.name e.kind) (compared by_names c es f.name f.kind) → Agree (compared by_names c es class e.kind) (compared by_names c es class f.kind)
-    around h = agree_at (compared by_names c es class e.kind) (compared by_names c es class f.kind) (compared by_names c es e.name e.kind) (compared by_names c es f.name f.kind)
-        (compared_alike c es class e.name first e.kind) (compared_alike c es class f.name second f.kind) h
-
-    some_same : (a b : Entry) → Some a ≡ Some b → a ≡ b
-    some_same a b same = cc
 
 -- ---- members that are no instances
 

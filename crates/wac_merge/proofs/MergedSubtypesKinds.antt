@@ -22,14 +22,14 @@ use Rattle.wac_collection.specs.declared.component.«Type».TheVariants as ty
 use Rattle.wac_collection.specs.declared.component.UsedType.{UsedType}
 use Rattle.wac_types.specs.Called.{Called}
 use Rattle.wac_types.specs.Subtype.{held_name, kind_tree, resource_names, type_tree}
-use Rattle.wac_merge.specs.Agreement.{Agree}
+use Rattle.wac_entries.specs.Agreement.{Agree}
 use Rattle.wac_merge.specs.Became.{IsNew}
-use Rattle.wac_merge.specs.Places.{own_resource}
+use Rattle.wac_entries.specs.Places.{own_resource}
 use Rattle.wac_merge.specs.Renaming.{AreEnds, IsExtended}
 use Rattle.wac_merge.specs.Writing.{IsAliasOf, IsWrittenAs}
-use Rattle.wac_merge.proofs.Comparing.{agree_at, no_some, some_same}
+use Rattle.wac_agreement.proofs.Comparing.{agree_at, no_some, some_same}
 use Rattle.wac_merge.proofs.MergedSubtypesNames.{tested_low}
-use Rattle.wac_merge.proofs.SortedMaps.{found_are, items_are}
+use Rattle.wac_entries.proofs.SortedMaps.{found_are, items_are}
 
 -- ---- items that agree
 
@@ -44,11 +44,6 @@ instance_or_not (kind.Func x) = inr (λ h. h)
 instance_or_not (kind.Component w) = inr (λ h. h)
 instance_or_not (kind.Module w) = inr (λ h. h)
 instance_or_not (kind.Value v) = inr (λ h. h)
-
-pub agree_itself : (t : TypeTree Called) → Agree t t
-agree_itself (instance items) = λ n. inr (inr (agree_itself (items n)))
-agree_itself (instance_item t) = agree_itself t
-agree_itself _ = refl
 
 module _ (t s : AnyType → TypeTree Called) where
   item_stands : (r : AnyType → TypeTree Called) (k : ItemKind) → item_tree r false k ≡ absent → ⊥

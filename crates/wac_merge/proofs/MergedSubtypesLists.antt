@@ -9,13 +9,13 @@ use Rattle.wac_collection.specs.Collection.{Collection}
 use Rattle.wac_collection.specs.declared.component.InterfaceId.{InterfaceId}
 use Rattle.wac_collection.specs.declared.component.ItemKind.{ItemKind}
 use Rattle.wac_collection.specs.declared.component.ItemKind.TheVariants as kind
-use Rattle.wac_merge.specs.Bindings.{ClassBindings}
+use Rattle.wac_entries.specs.Bindings.{ClassBindings}
 use Rattle.wac_merge.specs.Unions.{instances_in, listed_under, part_lists}
 use Rattle.wac_merge.specs.Writing.{IsWrittenExport}
 use Rattle.wac_merge.specs.declared.fresh.Fresh.{Fresh}
 use Rattle.wac_merge.specs.declared.unions.Export.{Export}
 use Rattle.wac_merge.specs.declared.unions.Part.{Part}
-use Rattle.wac_merge.proofs.Comparing.{no_some, some_same}
+use Rattle.wac_agreement.proofs.Comparing.{no_some, some_same}
 
 -- it stands at some position
 abbrev pub IsIn : {A : Type 0} → List A → A → Type 0

@@ -14,8 +14,8 @@ use Rattle.wac_types.specs.Called.{Called, by_binding}
 use Rattle.wac_types.specs.Compare.{listed_in}
 use Rattle.wac_types.specs.Subtype.{Sub, by_name, kind_tree, resource_names, type_tree}
 use Rattle.wac_types.specs.TreeLaws.{IsDeepEnough}
-use Rattle.wac_merge.proofs.Comparing.{no_some, some_same}
-use Rattle.wac_merge.proofs.SortedMaps.{found_are, items_are}
+use Rattle.wac_agreement.proofs.Comparing.{no_some, some_same}
+use Rattle.wac_entries.proofs.SortedMaps.{found_are, items_are}
 
 pub sub_to : {L : Type 0} (a b u v : TypeTree L) → a ≡ u → b ≡ v → Sub u v → Sub a b
 sub_to a b u v e f s = subst (λ z. Sub a z) (sym f) (subst (λ z. Sub z v) (sym e) s)

@@ -11,8 +11,7 @@ use Rattle.wac_collection.specs.declared.component.Interface.{Interface}
 use Rattle.wac_collection.specs.declared.component.InterfaceId.{InterfaceId}
 use Rattle.wac_collection.specs.declared.component.ItemKind.{ItemKind}
 use Rattle.wac_collection.specs.declared.component.ItemKind.TheVariants as kind
-use Rattle.wac_merge.specs.Aggregate.{own_resource}
-use Rattle.wac_merge.specs.Merge.{Merged, bound_resource, import_entries, import_under, listed_resource}
+use Rattle.wac_merge.specs.Merge.{Merged, bound_resource, import_entries, import_under, listed_resource, own_resource}
 
 -- the import under a name is what is found under it
 pub import-found : (es : List (Name × ItemKind)) (n : Name) → import_under (import_entries es) n ≡ find_name es n
@@ -24,12 +23,7 @@ module _ (m : Merged) (id n : Name) where
   bound-none h = rw (h) refl
 
   pub bound-some : (k : ItemKind) → import_under m.imports id ≡ Some k → bound_resource m id n ≡ own_resource m.types id n k
-  bound-some (kind.Instance i) h = rw (h) refl
-  bound-some (kind.TypeItem t) h = rw (h) refl
-  bound-some (kind.Func f) h = rw (h) refl
-  bound-some (kind.Component w) h = rw (h) refl
-  bound-some (kind.Module w) h = rw (h) refl
-  bound-some (kind.Value v) h = rw (h) refl
+  bound-some k h = rw (h) refl
 
   module _ (es : List (Name × ItemKind)) (listed : import_entries es ≡ m.imports) where
     found : import_under m.imports id ≡ find_name es id

@@ -18,10 +18,10 @@ use Rattle.wac_collection.specs.declared.component.FuncTypeId.{FuncTypeId}
 use Rattle.wac_collection.specs.declared.component.ValueType.{ValueType}
 use Rattle.wac_collection.proofs.Names.{none_before, none_behind, take_at}
 use Rattle.wac_types.specs.TreeLaws.{GrowthKeepsTrees}
-use Rattle.wac_merge.specs.Coding.{AreHeldValues}
+use Rattle.wac_entries.specs.Coding.{AreHeldValues}
 use Rattle.wac_merge.specs.RenamingSteps.{IsDefinedBehind, IsFuncBehind}
-use Rattle.wac_merge.proofs.CodingGrowth.{zip_push}
-use Rattle.wac_merge.proofs.CodingOpenings.{labels_take, values_take}
+use Rattle.wac_entries.proofs.CodingGrowth.{zip_push}
+use Rattle.wac_entries.proofs.CodingOpenings.{labels_take, values_take}
 use Rattle.wac_merge.proofs.Extending.{extended_defined, extended_func}
 
 pub parts_further : (R : ValueType → ValueType → Type 0) (vs : List ValueType) (i : ℕ) (d : ValueType) (ws us : List ValueType) (w : ValueType) → i < length vs → us ≡ ws ++ w ∷ [] → AllZip R (take i vs) ws → R (get_or vs i d) w → AllZip R (take (i + 1) vs) us

@@ -9,15 +9,15 @@ use Rattle.wac_collection.specs.Collection.{Collection, IsWellFormed, kind_type,
 use Rattle.wac_collection.specs.declared.component.ItemKind.{ItemKind}
 use Rattle.wac_collection.proofs.Names.{same_name-true, same_name-from}
 use Rattle.wac_types.proofs.Unfolding.{before_held}
-use Rattle.wac_merge.specs.Scopes.{opened, opened_by}
-use Rattle.wac_merge.specs.Opening.{total, count_in}
-use Rattle.wac_merge.specs.declared.scopes.Opener.{Opener}
-use Rattle.wac_merge.specs.declared.scopes.Opener.TheVariants as opener
+use Rattle.wac_entries.specs.Scopes.{opened, opened_by}
+use Rattle.wac_entries.specs.Opening.{total, count_in}
+use Rattle.wac_entries.specs.declared.scopes.Opener.{Opener}
+use Rattle.wac_entries.specs.declared.scopes.Opener.TheVariants as opener
 use Rattle.wac_merge.specs.declared.unions.Part.{Part}
 use Rattle.wac_merge.specs.Merge.{with_names, names_behind}
 use Rattle.wac_merge.specs.Unions.{part_lists, listed_under}
 use Rattle.wac_merge.specs.UnionSteps.{with_listed, with_all_listed, grouped, IsHeldPart, IsHeldListing, IsHeldGroup, listed_weight, parts_weight, kind_weight, group_weight, groups_weight}
-use Rattle.wac_merge.proofs.Opening.{lists}
+use Rattle.wac_entries.proofs.Opening.{lists}
 use Rattle.wac_merge.proofs.UnionLists.{all_push}
 
 abbrev Groups : Type 0

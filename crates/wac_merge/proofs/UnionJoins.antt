@@ -17,7 +17,7 @@ use Rattle.wac_merge.specs.declared.unions.Union.{Union}
 use Rattle.wac_merge.specs.Merge.{names_behind}
 use Rattle.wac_merge.specs.Unions.{part, part_lists, listed_under, united, IsExport, AreUnions}
 use Rattle.wac_merge.specs.UnionSteps.{grouped, IsHeldPart, IsHeldListing, IsHeldGroup, inside_part, IsUnited, Extends, KeepsParts, AreSeated, ArePlaced, AreRoots, AreExports, AreJoined, IsExportOf, AreOpen, IsJoined, group_weight, groups_weight}
-use Rattle.wac_merge.proofs.Lists.{some-at}
+use Rattle.wac_entries.proofs.Lists.{some-at}
 use Rattle.wac_merge.proofs.UnionLists.{some-same, extends_refl, zip_all, zip_known, zip_push}
 use Rattle.wac_merge.proofs.UnionGroups.{under, under_grouped, names_grouped, each_grouped, weight_grouped}
 use Rattle.wac_merge.proofs.UnionPlaces.{held_still, parts_still, listed_still, export_still, keeps_from, members_held, push_extends, united_held, inner_seated, inner_placed, roots_placed, set_kept, set_seated, set_placed, set_same}
@@ -99,7 +99,8 @@ module _ (c : Collection) where
       by true same rest = subst (λ (m : Name). IsExport c us ps u m g.1 e.1) (sym (same refl)) z.0.1
       by false same rest = rest
 
-  names_zip : (us : List Union) (ps : List Part) (u : ℕ) (gs : List (Name × List (ℕ × ItemKind))) (es : List (Name × Export)) → AllZip (IsExportOf c us ps u) gs es → map (λ e. e.0) es ≡ names_of gs
+  -- the exports have the names that are listed
+  pub names_zip : (us : List Union) (ps : List Part) (u : ℕ) (gs : List (Name × List (ℕ × ItemKind))) (es : List (Name × Export)) → AllZip (IsExportOf c us ps u) gs es → map (λ e. e.0) es ≡ names_of gs
   names_zip us ps u [] [] z = refl
   names_zip us ps u [] (e ∷ es) z = absurd z
   names_zip us ps u (g ∷ gs) [] z = absurd z

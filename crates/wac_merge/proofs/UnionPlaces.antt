@@ -13,13 +13,13 @@ use Rattle.wac_collection.specs.declared.component.InterfaceId.{InterfaceId}
 use Rattle.wac_collection.specs.declared.component.ItemKind.{ItemKind}
 use Rattle.wac_collection.specs.declared.component.ItemKind.TheVariants as kind
 use Rattle.wac_collection.specs.declared.component.«Type».TheVariants as ty
-use Rattle.wac_merge.specs.Places.{own_resource}
+use Rattle.wac_entries.specs.Places.{own_resource}
 use Rattle.wac_merge.specs.declared.unions.Part.{Part}
 use Rattle.wac_merge.specs.declared.unions.Export.{Export}
 use Rattle.wac_merge.specs.declared.unions.Union.{Union}
 use Rattle.wac_merge.specs.Unions.{part, part_lists, listed_under, instances_in, united, is_own_of, AreParts, IsInner, IsExport}
 use Rattle.wac_merge.specs.UnionSteps.{IsHeldPart, IsHeldListing, numbered, IsPushed, inside_part, root_part, IsUnited, Extends, KeepsParts, AreSeated, ArePlaced, AreRoots}
-use Rattle.wac_merge.proofs.Lists.{at-push, at-end, push-cases, set-cases}
+use Rattle.wac_entries.proofs.Lists.{at-push, at-end, push-cases, set-cases}
 use Rattle.wac_merge.proofs.UnionLists.{some-same, contains_at, at_contains, append_left, append_right, append_cases, all_from, all_at, numbered_at, at_numbered, get_map, map_cases, map_push, zip_all, numbered_zip}
 
 -- ---- parts that stay

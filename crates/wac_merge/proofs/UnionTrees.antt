@@ -12,11 +12,11 @@ use Rattle.wac_collection.specs.declared.component.Interface.{Interface}
 use Rattle.wac_collection.specs.declared.component.InterfaceId.{InterfaceId}
 use Rattle.wac_collection.specs.declared.component.«Type».TheVariants as ty
 use Rattle.wac_types.specs.Called.{Called, by_binding}
-use Rattle.wac_merge.specs.Agreement.{Agree}
-use Rattle.wac_merge.specs.Bindings.{ClassBindings}
+use Rattle.wac_entries.specs.Agreement.{Agree}
+use Rattle.wac_entries.specs.Bindings.{ClassBindings}
 use Rattle.wac_merge.specs.Became.{became}
 use Rattle.wac_merge.specs.Renaming.{Fits}
-use Rattle.wac_merge.specs.Union.{union_all}
+use Rattle.wac_agreement.specs.Union.{union_all}
 use Rattle.wac_merge.specs.Unions.{part_lists}
 use Rattle.wac_merge.specs.Writing.{IsWrittenExport}
 use Rattle.wac_merge.specs.declared.fresh.Fresh.{Fresh}

@@ -18,9 +18,9 @@ use Rattle.wac_collection.specs.declared.component.UsedType.{UsedType}
 use Rattle.wac_collection.specs.declared.component.«Type».TheVariants as ty
 use Rattle.wac_collection.specs.declared.component.ItemKind.{ItemKind}
 use Rattle.wac_collection.specs.declared.component.ItemKind.TheVariants as kind
-use Rattle.wac_merge.specs.Bindings.{ClassBindings, first_in, path_in}
+use Rattle.wac_entries.specs.Bindings.{ClassBindings, first_in, path_in}
 use Rattle.wac_merge.specs.Became.{AreFresh, IsNew, became, became_in_class, became_outside, became_to, new_at, or_itself, own_in, own_of_part}
-use Rattle.wac_merge.specs.Places.{own_resource, resource_itself}
+use Rattle.wac_entries.specs.Places.{own_resource, resource_itself}
 use Rattle.wac_merge.specs.Renaming.{IsExtended}
 use Rattle.wac_merge.specs.Unions.{is_own_of}
 use Rattle.wac_merge.specs.declared.fresh.Fresh.{Fresh}

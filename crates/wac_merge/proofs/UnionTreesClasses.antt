@@ -13,20 +13,20 @@ use Rattle.wac_collection.specs.declared.component.«Type».TheVariants as ty
 use Rattle.wac_collection.specs.declared.component.ItemKind.{ItemKind}
 use Rattle.wac_collection.specs.declared.component.ItemKind.TheVariants as kind
 use Rattle.wac_types.specs.Called.{Called, by_binding}
-use Rattle.wac_merge.specs.Agreement.{Agree, called_inside, compared}
-use Rattle.wac_merge.specs.Bindings.{ClassBindings}
+use Rattle.wac_entries.specs.Agreement.{Agree, called_inside, compared}
+use Rattle.wac_entries.specs.Bindings.{ClassBindings}
 use Rattle.wac_merge.specs.Became.{became}
-use Rattle.wac_merge.specs.Classes.{Entry, by_names, members, same_class}
-use Rattle.wac_merge.specs.Faults.{HasNoDisagreement}
+use Rattle.wac_entries.specs.Classes.{Entry, by_names, members, same_class}
+use Rattle.wac_agreement.specs.Faults.{HasNoDisagreement}
 use Rattle.wac_merge.specs.Renaming.{Fits}
-use Rattle.wac_merge.specs.Union.{inside_member, member_tree, merged, union_all}
+use Rattle.wac_agreement.specs.Union.{inside_member, member_tree, merged, union_all}
 use Rattle.wac_merge.specs.Unions.{part, part_lists}
 use Rattle.wac_merge.specs.declared.fresh.Fresh.{Fresh}
 use Rattle.wac_merge.specs.declared.unions.Part.{Part}
 use Rattle.wac_merge.specs.declared.unions.Union.{Union}
-use Rattle.wac_merge.proofs.Alike.{compared_alike}
-use Rattle.wac_merge.proofs.ClassFacts.{class-sym, class-trans}
-use Rattle.wac_merge.proofs.RestKinds.{at-filter}
+use Rattle.wac_agreement.proofs.Alike.{compared_alike}
+use Rattle.wac_entries.proofs.ClassFacts.{class-sym, class-trans}
+use Rattle.wac_agreement.proofs.RestKinds.{at-filter}
 use Rattle.wac_merge.proofs.UnionTrees.{part_called, part_tree, union_tree}
 use Rattle.wac_merge.proofs.UnionTreesHeld.{interface_there, placed_interface, placed_items}
 use Rattle.wac_merge.proofs.UnionTreesKinds.{MustAgree}

@@ -15,9 +15,9 @@ use Rattle.wac_collection.specs.declared.component.«Type».TheVariants as ty
 use Rattle.wac_collection.specs.declared.component.ItemKind.{ItemKind}
 use Rattle.wac_collection.specs.declared.component.ItemKind.TheVariants as kind
 use Rattle.wac_types.specs.Called.{Called}
-use Rattle.wac_merge.specs.Agreement.{Agree}
+use Rattle.wac_entries.specs.Agreement.{Agree}
 use Rattle.wac_merge.specs.Renaming.{Fits, IsExtended}
-use Rattle.wac_merge.specs.Union.{union}
+use Rattle.wac_agreement.specs.Union.{union}
 use Rattle.wac_merge.specs.Writing.{IsAliasOf, IsWrittenAs}
 use Rattle.wac_merge.proofs.UnionTreesNames.{is_fresh, union_type}
 

@@ -13,13 +13,13 @@ use Rattle.wac_collection.specs.declared.component.«Type».TheVariants as ty
 use Rattle.wac_collection.specs.declared.component.ItemKind.TheVariants as kind
 use Rattle.wac_types.specs.Called.{Called, by_binding}
 use Rattle.wac_types.specs.TreeLaws.{IsDeepEnough}
-use Rattle.wac_merge.specs.Agreement.{called_inside}
-use Rattle.wac_merge.specs.Bindings.{ClassBindings}
+use Rattle.wac_entries.specs.Agreement.{called_inside}
+use Rattle.wac_entries.specs.Bindings.{ClassBindings}
 use Rattle.wac_merge.specs.Became.{AreFresh, became}
-use Rattle.wac_merge.specs.Classes.{Entry, by_names, class_names, members, names_instance}
-use Rattle.wac_merge.specs.Faults.{HasNoDisagreement}
+use Rattle.wac_entries.specs.Classes.{Entry, by_names, class_names, members, names_instance}
+use Rattle.wac_agreement.specs.Faults.{HasNoDisagreement}
 use Rattle.wac_merge.specs.Renaming.{Fits, IsExtended}
-use Rattle.wac_merge.specs.Union.{inside_member, merged}
+use Rattle.wac_agreement.specs.Union.{inside_member, merged}
 use Rattle.wac_merge.specs.Unions.{AreUnions, part}
 use Rattle.wac_merge.specs.Writing.{AreWritten}
 use Rattle.wac_merge.specs.declared.fresh.Fresh.{Fresh}

@@ -9,7 +9,7 @@ use Rattle.wac_collection.specs.Collection.{Collection}
 use Rattle.wac_collection.specs.Held.{items_under}
 use Rattle.wac_collection.specs.declared.component.ItemKind.{ItemKind}
 use Rattle.wac_collection.proofs.Names.{same_name-true}
-use Rattle.wac_merge.specs.Union.{union, union_all}
+use Rattle.wac_agreement.specs.Union.{union, union_all}
 use Rattle.wac_merge.specs.Unions.{part_lists, listed_under}
 use Rattle.wac_merge.specs.declared.unions.Part.{Part}
 

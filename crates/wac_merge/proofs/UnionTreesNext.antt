@@ -18,17 +18,17 @@ use Rattle.wac_collection.specs.declared.component.ItemKind.{ItemKind}
 use Rattle.wac_collection.specs.declared.component.ItemKind.TheVariants as kind
 use Rattle.wac_types.specs.Called.{Called, by_binding}
 use Rattle.wac_types.specs.TreeLaws.{IsDeepEnough}
-use Rattle.wac_merge.specs.Bindings.{ClassBindings}
+use Rattle.wac_entries.specs.Bindings.{ClassBindings}
 use Rattle.wac_merge.specs.Became.{AreFresh, became, own_in}
 use Rattle.wac_merge.specs.Renaming.{Fits, IsExtended}
-use Rattle.wac_merge.specs.Union.{union_all}
+use Rattle.wac_agreement.specs.Union.{union_all}
 use Rattle.wac_merge.specs.Unions.{AreUnions, IsExport, IsInner, instances_in, is_own_of, listed_under, part, part_lists, united}
 use Rattle.wac_merge.specs.Writing.{AreWritten, IsAliasOf, IsWrittenAs, IsWrittenExport, written_at}
 use Rattle.wac_merge.specs.declared.fresh.Fresh.{Fresh}
 use Rattle.wac_merge.specs.declared.unions.Export.{Export}
 use Rattle.wac_merge.specs.declared.unions.Part.{Part}
 use Rattle.wac_merge.specs.declared.unions.Union.{Union}
-use Rattle.wac_merge.proofs.Lists.{any-found}
+use Rattle.wac_entries.proofs.Lists.{any-found}
 use Rattle.wac_merge.proofs.UnionTreesBecame.{became_end, became_own, own_listing}
 use Rattle.wac_merge.proofs.UnionTreesHeld.{interface_there, listed_held, placed_at}
 use Rattle.wac_merge.proofs.UnionTreesKinds.{MustAgree, instances_agree, is_instance_item, is_type, stale_item, types_agree, union_item, written_instance, written_same}

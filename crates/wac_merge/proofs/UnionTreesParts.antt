@@ -16,8 +16,8 @@ use Rattle.wac_collection.specs.declared.component.ItemKind.{ItemKind}
 use Rattle.wac_collection.specs.declared.component.ItemKind.TheVariants as kind
 use Rattle.wac_types.specs.Called.{Called, by_binding}
 use Rattle.wac_types.specs.TreeLaws.{IsDeepEnough}
-use Rattle.wac_merge.specs.Agreement.{Agree}
-use Rattle.wac_merge.specs.Union.{union, union_all}
+use Rattle.wac_entries.specs.Agreement.{Agree}
+use Rattle.wac_agreement.specs.Union.{union, union_all}
 use Rattle.wac_merge.specs.Unions.{instances_in, listed_under, part, part_lists}
 use Rattle.wac_merge.specs.declared.unions.Part.{Part}
 use Rattle.wac_merge.proofs.UnionTreesHeld.{called_interface, called_under, placed_at, placed_interface}

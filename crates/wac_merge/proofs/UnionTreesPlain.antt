@@ -15,22 +15,22 @@ use Rattle.wac_collection.specs.declared.component.«Type».TheVariants as ty
 use Rattle.wac_collection.specs.declared.component.ItemKind.{ItemKind}
 use Rattle.wac_collection.specs.declared.component.ItemKind.TheVariants as kind
 use Rattle.wac_types.specs.Called.{Called}
-use Rattle.wac_merge.specs.Agreement.{compared}
-use Rattle.wac_merge.specs.Binding.{binding_class, class_binds, first_binds, kind_binds, root_bindings}
-use Rattle.wac_merge.specs.Bindings.{AreBindings, AreHeld, ClassBindings, first_in, path_in}
+use Rattle.wac_entries.specs.Agreement.{compared}
+use Rattle.wac_entries.specs.Binding.{binding_class, class_binds, first_binds, kind_binds, root_bindings}
+use Rattle.wac_entries.specs.Bindings.{AreBindings, AreHeld, ClassBindings, first_in, path_in}
 use Rattle.wac_merge.specs.Became.{AreFresh, became, new_at, or_itself, whole_in}
-use Rattle.wac_merge.specs.Classes.{Entry, by_names, class_names, members, same_class, same_track}
-use Rattle.wac_merge.specs.Faults.{HasNoDisagreement}
+use Rattle.wac_entries.specs.Classes.{Entry, by_names, class_names, members, same_class, same_track}
+use Rattle.wac_agreement.specs.Faults.{HasNoDisagreement}
 use Rattle.wac_merge.specs.Merge.{position_in}
-use Rattle.wac_merge.specs.Places.{find_resource}
+use Rattle.wac_entries.specs.Places.{find_resource}
 use Rattle.wac_merge.specs.Renaming.{Fits, IsExtended}
-use Rattle.wac_merge.specs.Union.{member_tree, merged, union, union_all}
+use Rattle.wac_agreement.specs.Union.{member_tree, merged, union, union_all}
 use Rattle.wac_merge.specs.Writing.{IsAliasOf, IsWrittenAs}
 use Rattle.wac_merge.specs.declared.fresh.Fresh.{Fresh}
 use Rattle.wac_merge.specs.declared.unions.Part.{Part}
 use Rattle.wac_merge.specs.declared.unions.Union.{Union}
-use Rattle.wac_merge.proofs.Lists.{any-at}
-use Rattle.wac_merge.proofs.RestKinds.{at-filter}
+use Rattle.wac_entries.proofs.Lists.{any-at}
+use Rattle.wac_agreement.proofs.RestKinds.{at-filter}
 use Rattle.wac_merge.proofs.UnionTreesBecame.{became_end_outside}
 use Rattle.wac_merge.proofs.UnionTreesClasses.{members_agree}
 use Rattle.wac_merge.proofs.UnionTreesKinds.{MustAgree, is_instance_item, is_type, union_item, written_same}

@@ -14,7 +14,7 @@ use Rattle.wac_collection.specs.declared.component.«Type».TheVariants as ty
 use Rattle.wac_collection.specs.declared.component.ItemKind.{ItemKind}
 use Rattle.wac_collection.specs.declared.component.ItemKind.TheVariants as kind
 use Rattle.wac_collection.proofs.Names.{same_name-true, same_name-refl}
-use Rattle.wac_merge.specs.Bindings.{ClassBindings}
+use Rattle.wac_entries.specs.Bindings.{ClassBindings}
 use Rattle.wac_merge.specs.Became.{AreFresh, became, own_in}
 use Rattle.wac_merge.specs.Writing.{IsAliasOf, IsWrittenAs, IsWrittenExport, written_at}
 use Rattle.wac_merge.specs.declared.fresh.Fresh.{Fresh}

@@ -8,14 +8,14 @@ use Rattle.wac_collection.specs.declared.component.InterfaceId.{InterfaceId}
 use Rattle.wac_collection.specs.declared.component.ItemKind.{ItemKind}
 use Rattle.wac_collection.specs.declared.component.ItemKind.TheVariants as kind
 use Rattle.wac_collection.specs.declared.component.«Type».TheVariants as ty
-use Rattle.wac_merge.specs.declared.scopes.Opener.TheVariants as opener
+use Rattle.wac_entries.specs.declared.scopes.Opener.TheVariants as opener
 use Rattle.wac_merge.specs.declared.unions.Part.{Part}
 use Rattle.wac_merge.specs.declared.unions.Union.{Union}
-use Rattle.wac_merge.specs.Scopes.{opened}
-use Rattle.wac_merge.specs.Opening.{total, count_in}
+use Rattle.wac_entries.specs.Scopes.{opened}
+use Rattle.wac_entries.specs.Opening.{total, count_in}
 use Rattle.wac_merge.specs.Unions.{part_lists, instances_in, united}
 use Rattle.wac_merge.specs.UnionSteps.{IsHeldPart, IsHeldListing, numbered, inside_part, IsUnited, Extends, AreSeated, listed_weight, parts_weight, kind_weight, group_weight, left_over}
-use Rattle.wac_merge.proofs.Opening.{count-inner}
+use Rattle.wac_entries.proofs.Opening.{count-inner}
 use Rattle.wac_merge.proofs.UnionLists.{some-same, append_left, append_right, get_map}
 use Rattle.wac_merge.proofs.UnionPlaces.{part_still, members_held, after_push}
 

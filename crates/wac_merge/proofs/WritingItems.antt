@@ -20,7 +20,7 @@ use Rattle.wac_collection.specs.declared.component.ItemKind.TheVariants as kind
 use Rattle.wac_collection.specs.declared.component.«Type».TheVariants as ty
 use Rattle.wac_collection.proofs.Names.{same_name-refl}
 use Rattle.wac_merge.specs.Became.{IsNew, became, own_in}
-use Rattle.wac_merge.specs.Bindings.{ClassBindings}
+use Rattle.wac_entries.specs.Bindings.{ClassBindings}
 use Rattle.wac_merge.specs.Renaming.{IsExtended}
 use Rattle.wac_merge.specs.Writing.{IsAliasOf, IsWrittenAs, IsWrittenExport, written_at}
 use Rattle.wac_merge.specs.WritingSteps.{AreWrittenItems, HasWritten, IsFoundIn, IsWrittenItem}
@@ -29,8 +29,8 @@ use Rattle.wac_merge.specs.declared.fresh.Fresh.{Fresh}
 use Rattle.wac_merge.specs.declared.unions.Export.{Export}
 use Rattle.wac_merge.specs.declared.unions.Part.{Part}
 use Rattle.wac_merge.proofs.Extending.{still_alias, still_holds, still_renamed}
-use Rattle.wac_merge.proofs.Lists.{at-end}
-use Rattle.wac_merge.proofs.Telling.{both}
+use Rattle.wac_entries.proofs.Lists.{at-end}
+use Rattle.wac_entries.proofs.Telling.{both}
 
 -- ---- aliases
 

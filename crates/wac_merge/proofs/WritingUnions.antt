@@ -30,8 +30,8 @@ use Rattle.wac_merge.specs.declared.unions.Part.{Part}
 use Rattle.wac_merge.specs.declared.unions.Union.{Union}
 use Rattle.wac_merge.proofs.Extending.{still_can_all, still_fresh, still_interface, kept_item}
 use Rattle.wac_merge.proofs.FreshAdding.{some-of}
-use Rattle.wac_merge.proofs.Lists.{at-end, at-push, push-cases, some-at}
-use Rattle.wac_merge.proofs.Places.{exports_held, held_at}
+use Rattle.wac_entries.proofs.Lists.{at-end, at-push, push-cases, some-at}
+use Rattle.wac_entries.proofs.Places.{exports_held, held_at}
 use Rattle.wac_merge.proofs.WritingItems.{still-all-exported}
 
 some-same : {A : Type 0} (x y : A) → Some x ≡ Some y → x ≡ y

@@ -8,8 +8,8 @@ use Rattle.wac_collection.specs.Held.{resolved}
 use Rattle.wac_types.specs.Called.{own_leaf, resource_name}
 use Rattle.wac_types.specs.Subtype.{resource_names}
 use Rattle.wac_collection.specs.declared.component.ResourceId.{ResourceId}
-use Rattle.wac_merge.specs.Bindings.{ClassBindings, path_in, first_in}
-use Rattle.wac_merge.specs.Places.{find_resource}
+use Rattle.wac_entries.specs.Bindings.{ClassBindings, path_in, first_in}
+use Rattle.wac_entries.specs.Places.{find_resource}
 use Rattle.wac_collection.specs.Tree.{Leaf}
 use Rattle.wac_merge.specs.declared.unions.Part.{Part}
 use Rattle.wac_merge.specs.declared.unions.Export.{Export}

@@ -5,7 +5,7 @@ use Rattle.wac_collection.specs.Tree.{Place}
 use Rattle.wac_collection.specs.Collection.{Collection}
 use Rattle.wac_types.specs.Called.{resource_name}
 use Rattle.wac_collection.specs.declared.component.ResourceId.{ResourceId}
-use Rattle.wac_merge.specs.Bindings.{ClassBindings, first_in}
+use Rattle.wac_entries.specs.Bindings.{ClassBindings, first_in}
 use Rattle.wac_merge.specs.Became.{IsNew}
 use Rattle.wac_merge.specs.declared.unions.Export.{Export}
 use Rattle.wac_merge.specs.declared.unions.Union.{Union}

@@ -1,5 +1,5 @@
 -- What a finished merge holds.
-use Rattle.std.specs.Prelude.{ℕ, suc, ◌≡◌, ◌==◌, Bool, true, false, if◌then◌else◌, List, [], ◌∷◌, ◌++◌, map, length, Option, Some, None, slice_get}
+use Rattle.std.specs.Prelude.{ℕ, suc, ◌≡◌, ◌==◌, Bool, false, if◌then◌else◌, List, [], ◌∷◌, ◌++◌, map, length, Option, Some, None, slice_get}
 use Rattle.std.specs.List.{AllByRecursion, list_any}
 use Rattle.wac_collection.specs.Name.{Name, same_name, find_name, option_case}
 use Rattle.wac_collection.specs.Tree.{imported, position}
@@ -12,10 +12,10 @@ use Rattle.wac_collection.specs.declared.component.ItemKind.{ItemKind}
 use Rattle.wac_collection.specs.declared.component.ItemKind.TheVariants as kind
 use Rattle.wac_collection.specs.declared.component.«Type».TheVariants as ty
 use Rattle.wac_types.specs.Subtype.{IsSubtype}
-use Rattle.wac_merge.specs.Classes.{Entry, NameRules, same_track, members, class_names, canonical}
-use Rattle.wac_merge.specs.Binding.{root_bindings}
-use Rattle.wac_merge.specs.Union.{merged}
-use Rattle.wac_merge.specs.ClassOrder.{IsWrittenOrder}
+use Rattle.wac_entries.specs.Classes.{Entry, NameRules, same_track, members, class_names, canonical}
+use Rattle.wac_entries.specs.Binding.{root_bindings}
+use Rattle.wac_agreement.specs.Union.{merged}
+use Rattle.wac_agreement.specs.ClassOrder.{IsWrittenOrder}
 
 -- the merged imports, in the order in which they are written, and the collection of their types
 pub record Merged : Type 0 where
@@ -55,12 +55,25 @@ abbrev pub is_on_track : NameRules → Collection → Name → ItemKind → Bool
 is_on_track rules c class (kind.Instance i) = option_case (item_at c.interfaces i.0) false (λ it. option_case it.id false (λ id. same_track (rules.track id) (rules.track class)))
 is_on_track rules c class _ = false
 
--- an interface that has the canonical name as its id where a member's id is on the class's track
-abbrev pub IsIdentified : NameRules → Collection → List Entry → Name → Collection → InterfaceId → Type 0
-IsIdentified rules c es class m i = list_any (λ e. is_on_track rules c class e.kind) (members rules es class) ≡ true
-    → (it : Interface) × (item_at m.interfaces i.0 ≡ Some it) × (it.id ≡ Some (canonical rules es class))
+-- the id of an instance's interface
+abbrev pub instance_id : Collection → ItemKind → Option Name
+instance_id c (kind.Instance i) = option_case (item_at c.interfaces i.0) None (λ it. it.id)
+instance_id c k = None
 
--- an instance exports what its members export, in order of first appearance
+-- the id that the first of entries has
+abbrev pub first_entry_id : Collection → List Entry → Option Name
+first_entry_id c [] = None
+first_entry_id c (e ∷ es) = instance_id c e.kind
+
+-- the id of a class: its canonical name where a member's id is on its track, else the id that its first member has
+abbrev pub class_id : NameRules → Collection → List Entry → Name → Option Name
+class_id rules c es class = if list_any (λ e. is_on_track rules c class e.kind) (members rules es class) then Some (canonical rules es class) else first_entry_id c (members rules es class)
+
+-- an interface that has the id of a class
+abbrev pub IsIdentified : NameRules → Collection → List Entry → Name → Collection → InterfaceId → Type 0
+IsIdentified rules c es class m i = (it : Interface) × (item_at m.interfaces i.0 ≡ Some it) × (it.id ≡ class_id rules c es class)
+
+-- an instance exports what its members export, in order of first appearance, and has the id of its class
 abbrev pub IsListed : NameRules → Collection → List Entry → Name → Collection → ItemKind → Type 0
 IsListed rules c es class m (kind.Instance i) = (map (λ x. x.0) (interface_exports m i) ≡ names_behind [] (export_lists c (members rules es class))) × IsIdentified rules c es class m i
 IsListed rules c es class m k = Unit {0}
@@ -90,11 +103,12 @@ abbrev pub listed_resource : Collection → ItemKind → Option ResourceId
 listed_resource m (kind.TypeItem (ty.Resource q)) = if is_alias m q then None else Some q
 listed_resource m k = None
 
--- the resource that the import of an id binds under a name: its own of that name, where it is an instance whose interface has that id
+-- the resource that an item binds under a name: its own of that name, where it is an instance whose interface has this id
+abbrev pub own_resource : Collection → Name → Name → ItemKind → Option ResourceId
+own_resource c id n (kind.Instance i) = option_case (item_at c.interfaces i.0) None (λ it. option_case it.id None (λ text.
+    if same_name id text then option_case (find_name it.exports n) None (listed_resource c) else None))
+own_resource c id n k = None
+
+-- the resource that the import of an id binds under a name
 abbrev pub bound_resource : Merged → Name → Name → Option ResourceId
-bound_resource m id n = option_case (import_under m.imports id) None of_kind
-  where
-    of_kind : ItemKind → Option ResourceId
-    of_kind (kind.Instance i) = option_case (item_at m.types.interfaces i.0) None (λ it. option_case it.id None (λ text.
-        if same_name id text then option_case (find_name it.exports n) None (listed_resource m.types) else None))
-    of_kind _ = None
+bound_resource m id n = option_case (import_under m.imports id) None (own_resource m.types id n)

@@ -8,12 +8,13 @@ use Rattle.wac_collection.specs.declared.component.InterfaceId.{InterfaceId}
 use Rattle.wac_collection.specs.declared.component.ItemKind.{ItemKind}
 use Rattle.wac_collection.specs.declared.component.ItemKind.TheVariants as kind
 use Rattle.wac_collection.specs.declared.component.«Type».TheVariants as ty
-use Rattle.wac_merge.specs.Agreement.{Agree, compared}
-use Rattle.wac_merge.specs.Bindings.{ClassBindings}
-use Rattle.wac_merge.specs.Classes.{Entry, by_names, same_class, class_names, members, names_instance, canonical}
+use Rattle.wac_entries.specs.Agreement.{Agree, compared}
+use Rattle.wac_entries.specs.Bindings.{ClassBindings}
+use Rattle.wac_entries.specs.Classes.{Entry, by_names, same_class, class_names, members, names_instance, canonical}
 use Rattle.wac_merge.specs.Became.{became, whole_in}
 use Rattle.wac_merge.specs.Merge.{is_on_track}
-use Rattle.wac_merge.specs.Writing.{IsWrittenAs}
+use Rattle.wac_merge.specs.Unions.{AreUnions}
+use Rattle.wac_merge.specs.Writing.{AreWritten, IsWrittenAs}
 use Rattle.wac_merge.specs.declared.unions.Part.{Part}
 use Rattle.wac_merge.specs.declared.unions.Union.{Union}
 use Rattle.wac_merge.specs.declared.fresh.Fresh.{Fresh}
@@ -37,6 +38,12 @@ class_roots es class = fold with_root [] (map (λ e. e.kind) (members by_names e
 pub record AreRoots (es : List Entry) (roots : List (List InterfaceId)) : Type 0 where
   pub counted : length roots ≡ length (class_names by_names es)
   pub each : (k : ℕ) (class : Name) (is : List InterfaceId) → slice_get (class_names by_names es) k ≡ Some class → slice_get roots k ≡ Some is → is ≡ class_roots es class
+
+-- the unions are those of the interfaces of each class
+pub record AreClassUnions (c : Collection) (es : List Entry) (us : List Union) (ps : List Part) : Type 0 where
+  pub roots : List (List InterfaceId)
+  pub rooted : AreRoots es roots
+  pub unions : AreUnions c roots us ps
 
 -- the id of the interface of the first part of a union
 abbrev pub first_id : Collection → List Part → List ℕ → Option Name
@@ -75,6 +82,14 @@ pub record AreImports (c m : Collection) (es : List Entry) (ps : List Part) (bs 
   -- a class whose name no instance has is what its first member became
   pub firsts : (p k : ℕ) (class : Name) (x e : Entry) (more : List Entry) → slice_get order p ≡ Some k → slice_get (class_names by_names es) k ≡ Some class → slice_get imports p ≡ Some x
       → names_instance es class ≡ false → members by_names es class ≡ e ∷ more → IsClassKind c m ps bs f ws k e x.kind
+
+-- the unions were written, each under its id, and behind them the imports are what the classes became
+pub record AreWrittenImports (c m : Collection) (es : List Entry) (us : List Union) (ps : List Part) (bs : ClassBindings) (f : Fresh) (order : List ℕ) (imports : List Entry) : Type 0 where
+  pub ids : List (Option Name)
+  pub ws : List InterfaceId
+  pub identified : AreIds c es us ps ids
+  pub written : AreWritten c m us ps bs f ids ws
+  pub imported : AreImports c m es ps bs f ws order imports
 
 -- for each class, whether a member is an instance whose interface has an id on its track
 abbrev pub AreOnTrack : Collection → List Entry → List Bool → Type 0

@@ -13,11 +13,11 @@ use Rattle.wac_collection.specs.declared.component.ItemKind.TheVariants as kind
 use Rattle.wac_types.specs.Called.{resource_name}
 use Rattle.wac_merge.specs.declared.fresh.Fresh.{Fresh}
 use Rattle.wac_merge.specs.declared.unions.Part.{Part}
-use Rattle.wac_merge.specs.Binding.{class_binds}
+use Rattle.wac_entries.specs.Binding.{class_binds}
 use Rattle.wac_merge.specs.Became.{whole_in}
-use Rattle.wac_merge.specs.Classes.{Entry, by_names, canonical, class_names, is_instance, members}
+use Rattle.wac_entries.specs.Classes.{Entry, by_names, canonical, class_names, is_instance, members}
 use Rattle.wac_merge.specs.Merge.{is_on_track}
-use Rattle.wac_merge.specs.Places.{resource_itself}
+use Rattle.wac_entries.specs.Places.{resource_itself}
 
 -- the interface of no part lists a name twice
 abbrev pub AreListedOnce : Collection → List Part → Type 0

@@ -16,13 +16,13 @@ use Rattle.wac_collection.specs.declared.component.ValueType.{ValueType}
 use Rattle.wac_collection.specs.declared.component.ValueType.TheVariants as val
 use Rattle.wac_collection.specs.declared.component.Variant.{Variant}
 use Rattle.wac_collection.specs.declared.component.«Type».TheVariants as ty
-use Rattle.wac_merge.specs.Coding.{HasTask}
+use Rattle.wac_entries.specs.Coding.{HasTask}
 use Rattle.wac_merge.specs.Renaming.{AreRenamed, IsExtended, IsRenamed, becomes, defined_in, func_in}
-use Rattle.wac_merge.specs.Tasks.{task_id, parts_of, openings, IsHeldTask}
+use Rattle.wac_entries.specs.Tasks.{task_id, parts_of, openings, IsHeldTask}
 use Rattle.wac_merge.specs.declared.renamer.Renamed.{Renamed}
 use Rattle.wac_merge.specs.declared.renamer.Renaming.{Renaming}
-use Rattle.wac_merge.specs.declared.tasks.Task.{Task}
-use Rattle.wac_merge.specs.declared.tasks.Task.TheVariants.{Open, Close}
+use Rattle.wac_entries.specs.declared.tasks.Task.{Task}
+use Rattle.wac_entries.specs.declared.tasks.Task.TheVariants.{Open, Close}
 
 -- a value type became one of the second collection
 abbrev pub IsRenamedValue : Collection → Collection → (ResourceId → ResourceId) → ValueType → ValueType → Type 0

@@ -6,8 +6,8 @@ use Rattle.wac_collection.specs.Name.{Name, same_name, find_name}
 use Rattle.wac_collection.specs.Collection.{Collection, HasInterface, kind_type, holds_type}
 use Rattle.wac_collection.specs.declared.component.InterfaceId.{InterfaceId}
 use Rattle.wac_collection.specs.declared.component.ItemKind.{ItemKind}
-use Rattle.wac_merge.specs.Scopes.{opened, opened_by}
-use Rattle.wac_merge.specs.Opening.{total, count_in}
+use Rattle.wac_entries.specs.Scopes.{opened, opened_by}
+use Rattle.wac_entries.specs.Opening.{total, count_in}
 use Rattle.wac_merge.specs.declared.unions.Part.{Part}
 use Rattle.wac_merge.specs.declared.unions.Export.{Export}
 use Rattle.wac_merge.specs.declared.unions.Union.{Union}

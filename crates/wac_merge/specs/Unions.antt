@@ -9,7 +9,7 @@ use Rattle.wac_collection.specs.declared.component.ItemKind.{ItemKind}
 use Rattle.wac_collection.specs.declared.component.ItemKind.TheVariants as kind
 use Rattle.wac_collection.specs.declared.component.«Type».TheVariants as ty
 use Rattle.wac_merge.specs.Merge.{names_behind}
-use Rattle.wac_merge.specs.Places.{own_resource}
+use Rattle.wac_entries.specs.Places.{own_resource}
 use Rattle.wac_merge.specs.declared.unions.Part.{Part}
 use Rattle.wac_merge.specs.declared.unions.Export.{Export}
 use Rattle.wac_merge.specs.declared.unions.Union.{Union}

@@ -10,7 +10,7 @@ use Rattle.wac_collection.specs.declared.component.InterfaceId.{InterfaceId}
 use Rattle.wac_collection.specs.declared.component.ItemKind.{ItemKind}
 use Rattle.wac_collection.specs.declared.component.ItemKind.TheVariants as kind
 use Rattle.wac_collection.specs.declared.component.«Type».TheVariants as ty
-use Rattle.wac_merge.specs.Bindings.{ClassBindings}
+use Rattle.wac_entries.specs.Bindings.{ClassBindings}
 use Rattle.wac_merge.specs.Became.{own_in, became}
 use Rattle.wac_merge.specs.Renaming.{IsRenamed}
 use Rattle.wac_merge.specs.declared.unions.Part.{Part}

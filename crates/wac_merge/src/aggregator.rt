@@ -3,26 +3,26 @@ ghost use Rattle.std.specs.Prelude.{Contains, ℕ, ◌≡◌, ◌<◌, ◌∷◌
 ghost use Rattle.std.specs.Result.{IsErrAnd};
 ghost use Rattle.wac_collection.specs.Collection.{holds_type, kind_type};
 ghost use Rattle.wac_collection.specs.Name.{Name as AName};
-ghost use Rattle.wac_merge.specs.Aggregate.{IsFault, own_resource, unmerged};
-ghost use Rattle.wac_merge.specs.Agreement.{AllMembersAgree};
-ghost use Rattle.wac_merge.specs.Bindings.{AreBindings, AreHeld};
-ghost use Rattle.wac_merge.specs.ClassOrder.{IsWrittenOrder};
-ghost use Rattle.wac_merge.specs.Classes.{AreClasses, by_names, canonical, class_names, imported_as};
-ghost use Rattle.wac_merge.specs.Faults.{Fault as AFault, HasFault, HasNoCircle, HasNoDisagreement, fault_of, use_each_other};
-ghost use Rattle.wac_merge.specs.Merge.{IsMerge, bound_resource, import_entries, listed_resource};
+ghost use Rattle.wac_merge.specs.Aggregate.{IsFault, unmerged};
+ghost use Rattle.wac_entries.specs.Agreement.{AllMembersAgree};
+ghost use Rattle.wac_entries.specs.Bindings.{AreBindings, AreHeld};
+ghost use Rattle.wac_agreement.specs.ClassOrder.{IsWrittenOrder};
+ghost use Rattle.wac_entries.specs.Classes.{AreClasses, by_names, canonical, class_names, imported_as};
+ghost use Rattle.wac_agreement.specs.Faults.{Fault as AFault, HasFault, HasNoCircle, HasNoDisagreement, fault_of, use_each_other};
+ghost use Rattle.wac_merge.specs.Merge.{IsMerge, bound_resource, import_entries, listed_resource, own_resource};
 
-use crate::bindings::Bindings;
-use crate::circles::lowest_on_circle;
-use crate::classes::Classes;
-use crate::compared::{entry_items, first_pair};
-use crate::entry::Entry;
-use crate::fault::MergeFault;
 use crate::merged::Merged;
-use crate::nodes::Nodes;
-use crate::order::written_order;
-use crate::rests::rests;
 use std::alloc::{AllocError, Global};
 use std::marker::Model;
+use wac_agreement::circles::lowest_on_circle;
+use wac_agreement::compared::{entry_items, first_pair};
+use wac_agreement::fault::MergeFault;
+use wac_agreement::order::written_order;
+use wac_agreement::rests::rests;
+use wac_entries::bindings::Bindings;
+use wac_entries::classes::Classes;
+use wac_entries::entry::Entry;
+use wac_entries::nodes::Nodes;
 use wac_types::{ItemKind, Named, ResourceId, Type, Types};
 
 /// The classes of entries, and their merge.
@@ -44,7 +44,7 @@ impl Model for TypeAggregator {
     ghost use Rattle.std.specs.Prelude.{is_some, IfSome};
     ghost use Rattle.wac_collection.specs.Name.{option_case};
     ghost use Rattle.wac_merge.specs.Aggregate.{Aggregate, nothing};
-    ghost use Rattle.wac_merge.specs.Classes.{AreClasses, by_names};
+    ghost use Rattle.wac_entries.specs.Classes.{AreClasses, by_names};
 
     ghost Value = { Aggregate };
 

@@ -6,12 +6,12 @@ ghost use Rattle.wac_merge.specs.Became.{AreBoundParts, became, became_in_class,
 ghost use Rattle.wac_merge.specs.Unions.{AreAround, IsPart};
 ghost use Rattle.wac_merge.specs.declared.unions.Part.{Part as APart};
 
-use crate::bindings::Bindings;
-use crate::bound::Bound;
 use crate::fresh::Fresh;
-use crate::scopes::Opener;
 use crate::unions::Part;
 use std::alloc::{AllocError, Global};
+use wac_entries::bindings::Bindings;
+use wac_entries::bound::Bound;
+use wac_entries::scopes::Opener;
 use wac_types::{ResourceId, Types};
 
 /// What the interface of each part binds.

@@ -3,21 +3,21 @@ ghost use Rattle.std.specs.Prelude.{◌≡◌, ℕ, [], true, length, Some, IfOk
 ghost use Rattle.wac_collection.specs.Collection.{Collection, holds_type, kind_type};
 ghost use Rattle.wac_collection.specs.declared.component.ResourceId.{ResourceId as AnId};
 ghost use Rattle.wac_merge.specs.Became.{AreFresh, IsNew, new_at, own_in, whole_in};
-ghost use Rattle.wac_merge.specs.Bindings.{AreBindings, AreHeld, first_in};
-ghost use Rattle.wac_merge.specs.CalledViews.{path_view};
-ghost use Rattle.wac_merge.specs.Classes.{AreClasses, by_names};
+ghost use Rattle.wac_entries.specs.Bindings.{AreBindings, AreHeld, first_in};
+ghost use Rattle.wac_entries.specs.CalledViews.{path_view};
+ghost use Rattle.wac_entries.specs.Classes.{AreClasses, by_names};
 ghost use Rattle.wac_merge.specs.FreshSteps.{AreAllOwn, AreCounted, AreOwn, AreWhole, IsWhole, StayWhole};
-ghost use Rattle.wac_merge.specs.Places.{resource_itself};
+ghost use Rattle.wac_entries.specs.Places.{resource_itself};
 ghost use Rattle.wac_merge.specs.Renaming.{IsExtended};
 
-use crate::bindings::Bindings;
-use crate::bound::resource_itself;
-use crate::classes::Classes;
-use crate::entry::Entry;
 use crate::unions::{Export, Union, Unions};
 use std::alloc::{AllocError, Global};
+use wac_entries::bindings::Bindings;
+use wac_entries::bound::resource_itself;
+use wac_entries::classes::Classes;
+use wac_entries::entry::Entry;
 use wac_types::laws::growth_keeps_trees;
-use wac_types::{AddTypeError, ItemKind, Named, Resource, ResourceId, Types};
+use wac_types::{AddTypeError, ItemKind, Named, Resource, ResourceId, ShapeError, Types};
 
 /// Adds a resource under a name.
 fn add(alloc: Global, merged: &mut Types, name: &str) -> Result<ResourceId, AllocError>
@@ -51,7 +51,8 @@ fn add_own(
             let resource = add(alloc, merged, name)?;
             match own.insert(alloc, name, resource) {
                 Ok(()) => {}
-                Err(_) => return Err(AllocError),
+                Err(ShapeError::OutOfMemory) => return Err(AllocError),
+                Err(ShapeError::NameTwice) => unreachable!(),
             }
         }
     }

@@ -55,6 +55,13 @@ impl Grouped {
         Ok(grouped)
     }
 
+    /// The law of what is grouped: no name stands twice.
+    pub(crate) fn law(&self)
+        ensures { NoNameTwice self.now }
+    {
+        let _ = &self.entries;
+    }
+
     /// How many names there are.
     pub(crate) fn len(&self) -> usize
         ensures { result ≡ length self.now }

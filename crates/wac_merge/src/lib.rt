@@ -19,39 +19,14 @@
 #![tactic(auto)]
 
 mod aggregator;
-mod agreement;
-mod apart;
 mod became;
-mod bindings;
-mod bound;
-mod called;
-mod calls;
-mod circles;
-mod classes;
-mod coder;
-mod compared;
-mod entry;
-mod fault;
 mod fresh;
 mod grouped;
-mod items;
 pub mod laws;
-mod listing;
-mod listings;
-mod memo;
 mod merged;
-mod modules;
-mod naming;
-mod nodes;
-mod order;
-mod reach;
 mod renamer;
-mod rests;
-mod scopes;
-mod slots;
-mod tasks;
 mod unions;
 mod writing;
 
 pub use aggregator::TypeAggregator;
-pub use fault::MergeFault;
+pub use wac_agreement::fault::MergeFault;

@@ -4,12 +4,13 @@ ghost use Rattle.std.specs.Option.{option_map};
 ghost use Rattle.wac_collection.specs.Collection.{HasInterface, holds_type, kind_type};
 ghost use Rattle.wac_collection.specs.Name.{Name as AName};
 ghost use Rattle.wac_collection.specs.declared.component.InterfaceId.{InterfaceId as AnId};
-ghost use Rattle.wac_merge.specs.Agreement.{AllMembersAgree};
-ghost use Rattle.wac_merge.specs.Bindings.{AreBindings, AreHeld};
-ghost use Rattle.wac_merge.specs.ClassOrder.{IsWrittenOrder};
-ghost use Rattle.wac_merge.specs.Classes.{AreClasses, Entry as AnEntry, by_names, class_names, same_class};
+ghost use Rattle.wac_entries.specs.Agreement.{AllMembersAgree};
+ghost use Rattle.wac_merge.specs.Became.{AreFresh};
+ghost use Rattle.wac_entries.specs.Bindings.{AreBindings, AreHeld};
+ghost use Rattle.wac_agreement.specs.ClassOrder.{IsWrittenOrder};
+ghost use Rattle.wac_entries.specs.Classes.{AreClasses, Entry as AnEntry, by_names, class_names, same_class};
 ghost use Rattle.wac_merge.specs.Merge.{IsMerge, import_entries, is_on_track};
-ghost use Rattle.wac_merge.specs.MergedClasses.{AreIds, AreImports, AreOnTrack, AreRoots, IsClassKind, IsUnionId, first_id, with_root};
+ghost use Rattle.wac_merge.specs.MergedClasses.{AreClassUnions, AreIds, AreImports, AreOnTrack, AreRoots, AreWrittenImports, IsClassKind, IsUnionId, first_id, with_root};
 ghost use Rattle.wac_merge.specs.MergedKinds.{AreListedOnce};
 ghost use Rattle.wac_merge.specs.Renaming.{CanRenameAll, IsExtended};
 ghost use Rattle.wac_merge.specs.Unions.{AreUnions};
@@ -20,15 +21,15 @@ ghost use Rattle.wac_names.specs.Reading.{read_track};
 ghost use Rattle.wac_names.specs.Views.{track_view};
 
 use crate::became::{Became, part_bounds};
-use crate::bindings::{Bindings, class_tracks};
-use crate::classes::Classes;
-use crate::entry::Entry;
 use crate::fresh::Fresh;
 use crate::renamer::{Renamed, Renaming};
 use crate::unions::{Part, Unions};
 use crate::writing::{write_kind, write_unions};
 use std::alloc::{AllocError, Global};
 use std::marker::Model;
+use wac_entries::bindings::{Bindings, class_tracks};
+use wac_entries::classes::Classes;
+use wac_entries::entry::Entry;
 use wac_names::Track;
 use wac_types::laws::trees_are_whole;
 use wac_types::{InterfaceId, ItemKind, Named, ShapeError, Type, Types};
@@ -270,6 +271,55 @@ fn listed_once(types: &Types, parts: &[Part])
     }
 }
 
+/// The unions of the interfaces of each class.
+fn class_unions(
+    alloc: Global,
+    types: &Types,
+    entries: &[Entry],
+    classes: &Classes,
+) -> Result<Unions, AllocError>
+    requires held { AreHeld types.now entries.now }
+    requires classes { AreClasses by_names entries.now classes.now.numbers.items classes.now.positions.items classes.now.names }
+    ensures unions { IfOk result (λ u. AreClassUnions types.now entries.now u.unions.items u.parts.items) }
+    ensures listed { IfOk result (λ u. AreListedOnce types.now u.parts.items) }
+{
+    let roots = class_roots(alloc, entries, classes)?;
+    let unions = Unions::new(alloc, types, roots.as_slice())?;
+    listed_once(types, unions.parts.as_slice());
+    Ok(unions)
+}
+
+/// The imports in an order of their classes, behind the unions, which are written first.
+fn write_imports<'a>(
+    alloc: Global,
+    merged: &mut Types,
+    types: &'a Types,
+    entries: &[Entry],
+    classes: &Classes,
+    unions: &Unions,
+    became: &'a Became<'a>,
+    order: &[usize],
+) -> Result<Named<ItemKind>, AllocError>
+    requires held { AreHeld types.now entries.now }
+    requires classes { AreClasses by_names entries.now classes.now.numbers.items classes.now.positions.items classes.now.names }
+    requires unions { AreClassUnions types.now entries.now unions.now.unions.items unions.now.parts.items }
+    requires parts { became.now.parts.now ≡ unions.now.parts.items }
+    requires fresh { AreFresh types.now unions.now.unions.items became.now.bindings.now became.now.fresh.now merged.old }
+    requires known { CanRenameAll merged.old types.now became.now }
+    requires each { (k : ℕ) → Contains order.now k → k < length (class_names by_names entries.now) }
+    requires once { (i j k : ℕ) → slice_get order.now i ≡ Some k → slice_get order.now j ≡ Some k → i ≡ j }
+    ensures extended { IsExtended merged.old merged.new }
+    ensures imports { IfOk result (λ is. AreWrittenImports types.now merged.new entries.now unions.now.unions.items unions.now.parts.items became.now.bindings.now became.now.fresh.now order.now (import_entries is)) }
+{
+    merged.law();
+    let ids = union_ids(alloc, types, entries, classes, unions)?;
+    let written = write_unions(alloc, merged, types, unions, became, ids.as_slice())?;
+    let written = written.as_slice();
+    class_imports(
+        alloc, merged, types, entries, classes, became, written, order,
+    )
+}
+
 /// The merged imports, in the order in which they are written, and the collection of their types.
 #[derive(Drop)]
 pub(crate) struct Merged {
@@ -309,11 +359,8 @@ impl Merged {
         types.law();
         types.uses_law();
         trees_are_whole(types);
-        let roots = class_roots(alloc, entries, classes)?;
-        let unions = Unions::new(alloc, types, roots.as_slice())?;
-        listed_once(types, unions.parts.as_slice());
+        let unions = class_unions(alloc, types, entries, classes)?;
         let bound = part_bounds(alloc, types, unions.parts.as_slice())?;
-        let ids = union_ids(alloc, types, entries, classes, &unions)?;
         let mut merged = types.clone()?;
         let fresh = Fresh::new(
             alloc,
@@ -331,17 +378,14 @@ impl Merged {
             fresh: &fresh,
         };
         merged.law();
-        let written = write_unions(alloc, &mut merged, types, &unions, &became, ids.as_slice())?;
-        let written = written.as_slice();
-        merged.law();
-        let imports = class_imports(
+        let imports = write_imports(
             alloc,
             &mut merged,
             types,
             entries,
             classes,
+            &unions,
             &became,
-            written,
             order,
         )?;
         merged.law();

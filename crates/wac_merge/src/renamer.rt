@@ -11,17 +11,17 @@ ghost use Rattle.wac_collection.specs.declared.collection.AddTypeError.TheVarian
 ghost use Rattle.wac_collection.specs.declared.component.ValueType.TheVariants as val;
 ghost use Rattle.wac_collection.specs.declared.component.«Type».TheVariants as ty;
 ghost use Rattle.wac_merge.specs.Became.{AreBoundParts};
-ghost use Rattle.wac_merge.specs.Coding.{AreHeldValues};
+ghost use Rattle.wac_entries.specs.Coding.{AreHeldValues};
 ghost use Rattle.wac_merge.specs.Renaming.{AreRenamed, CanRename, IsExtended, IsRenamed, becomes, defined_in, func_in};
 ghost use Rattle.wac_merge.specs.RenamingSteps.{AreReady, CasesGoTogether, Did, FieldsGoTogether, GoTogether, HasDefinedToo, HasFuncToo, HaveOneShape, IsDefinedBehind, IsDone, IsFuncBehind, IsMore, IsReady, IsRenamedIn, MayBeDone};
-ghost use Rattle.wac_merge.specs.Tasks.{IsHeldTask, IsOpening, parts_of};
+ghost use Rattle.wac_entries.specs.Tasks.{IsHeldTask, IsOpening, parts_of};
 ghost use Rattle.wac_merge.specs.Unions.{AreAround, IsPart};
 ghost use Rattle.wac_merge.specs.declared.renamer.Renaming.{Renaming as ARenaming};
 
 use crate::became::Became;
-use crate::tasks::{Task, open_fields, open_optional, open_parts, open_value};
 use std::alloc::{AllocError, Global};
 use std::collections::HashMap;
+use wac_entries::tasks::{Task, open_fields, open_optional, open_parts, open_value};
 use wac_types::laws::{growth_keeps_trees, trees_are_whole};
 use wac_types::{
     AddTypeError, DefinedType, DefinedTypeId, Enum, Flags, FuncType, FuncTypeId, Labels, Named,

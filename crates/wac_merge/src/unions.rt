@@ -5,10 +5,10 @@ ghost use Rattle.wac_collection.specs.Collection.{HasInterface, IsWellFormed};
 ghost use Rattle.wac_merge.specs.UnionSteps.{AreOpen, AreSeated, inside_part, IsHeldGroup, IsHeldListing, IsJoined, IsPushed, IsUnited, root_part};
 ghost use Rattle.wac_merge.specs.Unions.{AreUnions, instances_in, is_own_of, IsExport, united};
 
-use crate::bound::own_resource;
 use crate::grouped::Grouped;
 use std::alloc::{AllocError, Global};
-use wac_types::{InterfaceId, ItemKind, Named, Type, Types};
+use wac_entries::bound::own_resource;
+use wac_types::{InterfaceId, ItemKind, Named, ShapeError, Type, Types};
 
 /// An interface in a union.
 #[derive(Clone, Copy)]
@@ -219,13 +219,15 @@ impl Unions {
         requires held { AllByRecursion (IsHeldGroup types.now self.old.parts.items) grouped.now }
         ensures { IfOk result (λ es. AreOpen types.now self.old.unions.items self.old.parts.items position grouped.now self.new.unions.items self.new.parts.items es) }
     {
+        grouped.law();
         let mut exports = Named::new(alloc);
         for index in 0..grouped.len() {
             let (name, listed) = grouped.entry_at(index);
             let export = self.export(alloc, types, position, name, listed)?;
             match exports.insert(alloc, name, export) {
                 Ok(()) => {}
-                Err(_) => return Err(AllocError),
+                Err(ShapeError::OutOfMemory) => return Err(AllocError),
+                Err(ShapeError::NameTwice) => unreachable!(),
             }
         }
         Ok(exports)

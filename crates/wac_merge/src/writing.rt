@@ -20,7 +20,8 @@ use crate::unions::{Export, Unions};
 use std::alloc::{AllocError, Global};
 use wac_types::laws::growth_keeps_trees;
 use wac_types::{
-    AddTypeError, Interface, InterfaceId, ItemKind, Named, Resource, ResourceId, Text, Type, Types,
+    AddTypeError, Interface, InterfaceId, ItemKind, Named, Resource, ResourceId, ShapeError, Text,
+    Type, Types,
 };
 
 /// Adds an alias of a resource, under a name.
@@ -211,7 +212,8 @@ fn write_exports<'a>(
         )?;
         match items.insert(alloc, name, item) {
             Ok(()) => {}
-            Err(_) => return Err(AllocError),
+            Err(ShapeError::OutOfMemory) => return Err(AllocError),
+            Err(ShapeError::NameTwice) => unreachable!(),
         }
     }
     Ok(items)

@@ -4,9 +4,9 @@ use Rattle.wac_collection.specs.Name.{Name}
 use Rattle.wac_collection.specs.Collection.{Collection, holds_type, kind_type}
 use Rattle.wac_collection.specs.declared.component.ItemKind.{ItemKind}
 use Rattle.wac_merge.specs.Aggregate.{Aggregate, unmerged}
-use Rattle.wac_merge.specs.Bindings.{AreHeld}
-use Rattle.wac_merge.specs.Classes.{Entry}
-use Rattle.wac_merge.proofs.Lists.{push-cases}
+use Rattle.wac_entries.specs.Bindings.{AreHeld}
+use Rattle.wac_entries.specs.Classes.{Entry}
+use Rattle.wac_entries.proofs.Lists.{push-cases}
 
 pub held-push : (c : Collection) (es : List Entry) (a : Aggregate) (n : Name) (k : ItemKind) → AreHeld c es → holds_type c (kind_type k) ≡ true
     → a ≡ unmerged (es ++ record { name = n; kind = k } ∷ []) → AreHeld c a.entries

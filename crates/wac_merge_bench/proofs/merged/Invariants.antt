@@ -1,4 +1,4 @@
-use Rattle.wac_merge.specs.Bindings.{AreHeld}
+use Rattle.wac_entries.specs.Bindings.{AreHeld}
 use Rattle.wac_merge_bench.proofs.merged.Given as goal
 
 abbrev pub invariant-loop-import : goal.invariant-loop-import

@@ -2,17 +2,17 @@ use Rattle.std.proofs.Common.{ℕ, List, map, refl, sym, subst, string_bytes, in
 use Rattle.std.specs.BTreeSet.{BTreeSet}
 use Rattle.std.specs.Option.{MatchOption}
 use Rattle.std.proofs.lemmas.Option.{slice_get_within}
-use Rattle.wac_merge.specs.Circles.{AreWithin, IsLowestOnCircle}
-use Rattle.wac_merge.specs.Circles as circles
-use Rattle.wac_merge.specs.Classes.{by_names, class_names, canonical}
-use Rattle.wac_merge.specs.ClassOrder.{IsFirstOnCircle}
-use Rattle.wac_merge.specs.Compared.{AreCompared}
-use Rattle.wac_merge.specs.Faults.{Disagrees, HasNoCircle, HasNoDisagreement, disagree, use_each_other}
-use Rattle.wac_merge.specs.NodeViews.{item_view}
-use Rattle.wac_merge.specs.declared.compared.Disagreement.{Disagreement}
-use Rattle.wac_merge.specs.declared.nodes.Item.{Item}
+use Rattle.wac_agreement.specs.Circles.{AreWithin, IsLowestOnCircle}
+use Rattle.wac_agreement.specs.Circles as circles
+use Rattle.wac_entries.specs.Classes.{by_names, class_names, canonical}
+use Rattle.wac_agreement.specs.ClassOrder.{IsFirstOnCircle}
+use Rattle.wac_agreement.specs.Compared.{AreCompared}
+use Rattle.wac_agreement.specs.Faults.{Disagrees, HasNoCircle, HasNoDisagreement, disagree, use_each_other}
+use Rattle.wac_entries.specs.NodeViews.{item_view}
+use Rattle.wac_agreement.specs.declared.compared.Disagreement.{Disagreement}
+use Rattle.wac_entries.specs.declared.nodes.Item.{Item}
 use Rattle.wac_merge.proofs.FaultLemmas.{circle_class, none_of, pair_of}
-use Rattle.wac_merge.proofs.RestCircles.{are_within, first_of}
+use Rattle.wac_agreement.proofs.RestCircles.{are_within, first_of}
 use Rattle.wac_merge.proofs.aggregator.check.Goals as goal
 
 pub first_pair-requires-clause-items : goal.first_pair-requires-clause-items

@@ -3,10 +3,10 @@ use Rattle.std.proofs.lemmas.List.{take_all}
 use Rattle.std.proofs.lemmas.Option.{slice_get_read}
 use Rattle.wac_collection.specs.declared.component.ItemKind.{ItemKind}
 use Rattle.wac_collection.specs.declared.component.ResourceId.{ResourceId}
-use Rattle.wac_merge.specs.Bindings.{first_in}
-use Rattle.wac_merge.specs.Classes.{Entry}
+use Rattle.wac_entries.specs.Bindings.{first_in}
+use Rattle.wac_entries.specs.Classes.{Entry}
 use Rattle.wac_merge.specs.FreshSteps.{IsWhole}
-use Rattle.wac_merge.specs.Places.{resource_itself}
+use Rattle.wac_entries.specs.Places.{resource_itself}
 use Rattle.wac_merge.proofs.Extending.{extended_none, extended_twice}
 use Rattle.wac_merge.proofs.FreshAdding.{whole-none}
 use Rattle.wac_merge.proofs.FreshClasses.{first-counted, first-whole, seen-more}

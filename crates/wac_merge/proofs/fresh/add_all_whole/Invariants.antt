@@ -1,9 +1,9 @@
 use Rattle.std.proofs.Common.{◌≡◌, ℕ, [], length, slice_get, take, Some}
 use Rattle.wac_collection.specs.declared.component.ResourceId.{ResourceId}
-use Rattle.wac_merge.specs.Bindings.{first_in}
-use Rattle.wac_merge.specs.Classes.{Entry, by_names, class_names}
+use Rattle.wac_entries.specs.Bindings.{first_in}
+use Rattle.wac_entries.specs.Classes.{Entry, by_names, class_names}
 use Rattle.wac_merge.specs.FreshSteps.{AreWhole, IsWhole}
-use Rattle.wac_merge.specs.Places.{resource_itself}
+use Rattle.wac_entries.specs.Places.{resource_itself}
 use Rattle.wac_merge.specs.Renaming.{IsExtended}
 use Rattle.wac_merge.proofs.fresh.add_all_whole.Given as goal
 

@@ -1,4 +1,4 @@
-use Rattle.std.proofs.Common.{List, [], take, sym, subst, arith, add-one}
+use Rattle.std.proofs.Common.{◌≡◌, List, [], Some, None, Err, take, sym, ap, ◌∙◌, subst, arith, add-one}
 use Rattle.std.proofs.lemmas.List.{take_all}
 use Rattle.wac_collection.specs.Name.{Name}
 use Rattle.wac_collection.specs.declared.component.ResourceId.{ResourceId}
@@ -18,8 +18,15 @@ loop-i-init c =
 pub returns-in_err-resource-clause-extended : goal.returns-in_err-resource-clause-extended
 returns-in_err-resource-clause-extended c = extended_twice c.args.merged.now c.loop-i.merged c.add.new.merged c.loop-i.invariant.extended c.add.ensures.extended
 
-pub returns-in-Err-clause-extended : goal.returns-in-Err-clause-extended
-returns-in-Err-clause-extended c = extended_twice c.args.merged.now c.loop-i.merged c.add.new.merged c.loop-i.invariant.extended c.add.ensures.extended
+pub returns-in-Err-OutOfMemory-clause-extended : goal.returns-in-Err-OutOfMemory-clause-extended
+returns-in-Err-OutOfMemory-clause-extended c = extended_twice c.args.merged.now c.loop-i.merged c.add.new.merged c.loop-i.invariant.extended c.add.ensures.extended
+
+pub unreachable-requires : goal.unreachable-requires
+unreachable-requires c =
+    let n : Name = c.entry_at.result.0.now in
+    let there = (c.loop-i.invariant.own.listed n).0 (c.insert.ensures.name_twice.0 (c.in-Err-NameTwice.is ∙ ap Err c.in-Err-NameTwice.field-0-is)) in
+    let some : Some there.0 ≡ None = sym there.1 ∙ none_before c.args.exports.now c.loop-i.i n c.entry_at.result.1.now c.law.ensures c.entry_at.ensures in
+    cc
 
 pub loop-i-preserved : goal.loop-i-preserved
 loop-i-preserved c =

@@ -6,8 +6,8 @@ use Rattle.wac_collection.specs.Name.{Name, option_case}
 use Rattle.wac_collection.specs.declared.component.ResourceId.{ResourceId}
 use Rattle.wac_types.specs.Called.{resource_name}
 use Rattle.wac_merge.specs.Became.{IsNew}
-use Rattle.wac_merge.specs.Bindings.{first_in}
-use Rattle.wac_merge.specs.CalledViews.{path_view}
+use Rattle.wac_entries.specs.Bindings.{first_in}
+use Rattle.wac_entries.specs.CalledViews.{path_view}
 use Rattle.wac_merge.specs.FreshSteps.{IsWhole}
 use Rattle.wac_merge.proofs.FreshAdding.{stays-some, whole-here, whole-put, whole-stays}
 use Rattle.wac_merge.proofs.FreshClasses.{first-same, is-path, no-path}

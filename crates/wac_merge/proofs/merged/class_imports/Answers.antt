@@ -4,11 +4,11 @@ use Rattle.wac_collection.specs.Collection.{Collection}
 use Rattle.wac_collection.specs.Name.{Name, find_name}
 use Rattle.wac_collection.specs.declared.component.ItemKind.{ItemKind}
 use Rattle.wac_merge.specs.Merge.{import_entries}
-use Rattle.wac_merge.specs.Classes.{Entry}
+use Rattle.wac_entries.specs.Classes.{Entry}
 use Rattle.wac_merge.specs.MergedClasses.{AreImports, IsClassKind}
 use Rattle.wac_merge.specs.Writing.{IsGiven}
 use Rattle.wac_merge.proofs.AssembledItemsFirst.{first-member}
-use Rattle.wac_merge.proofs.Comparing.{some_same}
+use Rattle.wac_agreement.proofs.Comparing.{some_same}
 use Rattle.wac_merge.proofs.Extending.{extended_twice, still_can_all}
 use Rattle.wac_merge.proofs.FittingClasses.{contains-at}
 use Rattle.wac_merge.proofs.ImportKinds.{namesake, still-given, imports-more, imported-once}

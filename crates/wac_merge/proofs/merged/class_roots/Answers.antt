@@ -7,11 +7,11 @@ use Rattle.std.proofs.lemmas.Option.{slice_get_read, slice_get_within, slice_get
 use Rattle.wac_collection.specs.Name.{Name}
 use Rattle.wac_collection.specs.declared.component.InterfaceId.{InterfaceId}
 use Rattle.wac_collection.specs.declared.component.ItemKind.{ItemKind}
-use Rattle.wac_merge.specs.Classes.{Entry, by_names, class_names}
+use Rattle.wac_entries.specs.Classes.{Entry, by_names, class_names}
 use Rattle.wac_merge.specs.MergedClasses.{with_root}
 use Rattle.wac_merge.proofs.ClassFolds.{HaveFolded, folded-more, mapped_at}
-use Rattle.wac_merge.proofs.Lists.{some-at}
-use Rattle.wac_merge.proofs.Meeting.{get_map, mapped_length}
+use Rattle.wac_entries.proofs.Lists.{some-at}
+use Rattle.wac_agreement.proofs.Meeting.{get_map, mapped_length}
 use Rattle.wac_merge.proofs.merged.class_roots.Goals as goal
 
 abbrev roots_of : Name → List Entry → List InterfaceId

@@ -1,7 +1,7 @@
 use Rattle.std.proofs.Common.{◌≡◌, Vec, [], fold, length, map, take}
 use Rattle.std.specs.Global.{Global}
 use Rattle.wac_collection.specs.declared.component.InterfaceId.{InterfaceId}
-use Rattle.wac_merge.specs.Classes.{by_names, class_names}
+use Rattle.wac_entries.specs.Classes.{by_names, class_names}
 use Rattle.wac_merge.specs.MergedClasses.{with_root}
 use Rattle.wac_merge.proofs.ClassFolds.{HaveFolded}
 use Rattle.wac_merge.proofs.merged.class_roots.Given as goal

@@ -6,7 +6,7 @@ use Rattle.wac_collection.specs.declared.component.Interface.{Interface}
 use Rattle.wac_merge.specs.MergedClasses.{first_id}
 use Rattle.wac_merge.specs.declared.unions.Part.{Part}
 use Rattle.wac_merge.specs.declared.unions.Union.{Union}
-use Rattle.wac_merge.proofs.Comparing.{no_some, one_some, some_same}
+use Rattle.wac_agreement.proofs.Comparing.{no_some, one_some, some_same}
 use Rattle.wac_merge.proofs.UnionLists.{contains_at}
 use Rattle.wac_merge.proofs.merged.first_id.Goals as goal
 

@@ -3,9 +3,9 @@ use Rattle.wac_names.specs.Reading.{read_track}
 use Rattle.wac_names.specs.Track.{HasTrack}
 use Rattle.wac_names.specs.Views.{track_view}
 use Rattle.wac_collection.specs.Name.{Name, option_case}
-use Rattle.wac_merge.specs.Classes.{by_names, same_track}
+use Rattle.wac_entries.specs.Classes.{by_names, same_track}
 use Rattle.wac_merge.specs.Merge.{is_on_track}
-use Rattle.wac_merge.proofs.ClassPaths.{track-test}
+use Rattle.wac_entries.proofs.ClassPaths.{track-test}
 use Rattle.wac_merge.proofs.merged.is_on_track.Goals as goal
 
 twice : (b : Bool) → not (not b) ≡ b

@@ -4,8 +4,8 @@ use Rattle.wac_collection.specs.Collection.{item_at}
 use Rattle.wac_collection.specs.Named.{NoNameTwice}
 use Rattle.wac_collection.specs.declared.component.Interface.{Interface}
 use Rattle.wac_merge.specs.declared.unions.Part.{Part}
-use Rattle.wac_merge.proofs.Comparing.{some_same}
-use Rattle.wac_merge.proofs.Stepping.{less_cases}
+use Rattle.wac_agreement.proofs.Comparing.{some_same}
+use Rattle.wac_agreement.proofs.Stepping.{less_cases}
 use Rattle.wac_merge.proofs.merged.listed_once.Goals as goal
 
 pub index-requires : goal.index-requires

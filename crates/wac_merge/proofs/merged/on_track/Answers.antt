@@ -7,11 +7,11 @@ use Rattle.std.proofs.lemmas.Option.{slice_get_read, slice_get_within, slice_get
 use Rattle.wac_names.specs.declared.tracks.Track.{Track}
 use Rattle.wac_collection.specs.Name.{Name}
 use Rattle.wac_collection.specs.Collection.{holds_type, kind_type}
-use Rattle.wac_merge.specs.Classes.{Entry, by_names, class_names}
+use Rattle.wac_entries.specs.Classes.{Entry, by_names, class_names}
 use Rattle.wac_merge.specs.Merge.{is_on_track}
 use Rattle.wac_merge.proofs.ClassFolds.{HaveFolded, folded-more}
-use Rattle.wac_merge.proofs.Comparing.{no_some, some_same}
-use Rattle.wac_merge.proofs.Lists.{some-at}
+use Rattle.wac_agreement.proofs.Comparing.{no_some, some_same}
+use Rattle.wac_entries.proofs.Lists.{some-at}
 use Rattle.wac_merge.proofs.merged.on_track.Goals as goal
 
 or-false : (b : Bool) → (b || false) ≡ b

@@ -1,6 +1,6 @@
 use Rattle.std.proofs.Common.{◌≡◌, Bool, length, take}
 use Rattle.std.specs.List.{list_any}
-use Rattle.wac_merge.specs.Classes.{by_names, class_names}
+use Rattle.wac_entries.specs.Classes.{by_names, class_names}
 use Rattle.wac_merge.specs.Merge.{is_on_track}
 use Rattle.wac_merge.proofs.ClassFolds.{HaveFolded}
 use Rattle.wac_merge.proofs.merged.on_track.Given as goal

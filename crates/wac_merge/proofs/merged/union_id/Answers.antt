@@ -2,9 +2,9 @@ use Rattle.std.proofs.Common.{◌≡◌, ℕ, zero, suc, ◌<◌, Bool, true, fa
 use Rattle.std.specs.Option.{unwrap_or}
 use Rattle.std.proofs.lemmas.Option.{slice_get_read, slice_get_within, slice_get-get_or}
 use Rattle.wac_collection.specs.Name.{Name}
-use Rattle.wac_merge.specs.Classes.{Entry, AreClasses, by_names, canonical, class_names}
-use Rattle.wac_merge.proofs.Comparing.{some_same}
-use Rattle.wac_merge.proofs.Lists.{some-at}
+use Rattle.wac_entries.specs.Classes.{Entry, AreClasses, by_names, canonical, class_names}
+use Rattle.wac_agreement.proofs.Comparing.{some_same}
+use Rattle.wac_entries.proofs.Lists.{some-at}
 use Rattle.wac_merge.proofs.merged.union_id.Goals as goal
 
 true-false : true ≡ false → ⊥

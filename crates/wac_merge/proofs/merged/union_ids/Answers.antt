@@ -5,8 +5,8 @@ use Rattle.std.specs.declared.string.String.{String}
 use Rattle.std.proofs.lemmas.List.{length-append, map-append}
 use Rattle.wac_collection.specs.Name.{Name}
 use Rattle.wac_merge.specs.MergedClasses.{IsUnionId}
-use Rattle.wac_merge.proofs.Lists.{push-cases}
-use Rattle.wac_merge.proofs.Meeting.{mapped_length}
+use Rattle.wac_entries.proofs.Lists.{push-cases}
+use Rattle.wac_agreement.proofs.Meeting.{mapped_length}
 use Rattle.wac_merge.proofs.merged.union_ids.Goals as goal
 
 pub loop-position-preserved : goal.loop-position-preserved

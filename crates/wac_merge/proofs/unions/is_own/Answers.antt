@@ -8,7 +8,7 @@ use Rattle.wac_collection.proofs.Names.{element_at}
 use Rattle.wac_merge.specs.declared.unions.Part.{Part}
 use Rattle.wac_merge.specs.Unions.{is_own_of}
 use Rattle.wac_merge.specs.UnionSteps.{IsHeldListing}
-use Rattle.wac_merge.proofs.Lists.{any-at}
+use Rattle.wac_entries.proofs.Lists.{any-at}
 use Rattle.wac_merge.proofs.UnionLists.{all_at}
 use Rattle.wac_merge.proofs.UnionPlaces.{own_is, any_next}
 use Rattle.wac_merge.proofs.unions.is_own.Goals as goal

@@ -1,15 +1,18 @@
-use Rattle.std.proofs.Common.{◌≡◌, ◌<◌, List, [], take, length, slice_get, refl, sym, subst, arith, add-one}
+use Rattle.std.proofs.Common.{◌≡◌, ◌<◌, List, [], Err, take, length, slice_get, refl, sym, ap, ◌∙◌, subst, arith, add-one}
 use Rattle.std.proofs.lemmas.List.{take_all}
 use Rattle.std.proofs.lemmas.Option.{slice_get_read}
-use Rattle.wac_collection.specs.Name.{Name}
+use Rattle.wac_collection.specs.Name.{Name, find_name}
+use Rattle.wac_collection.specs.Named.{names_of}
 use Rattle.wac_collection.specs.declared.component.ItemKind.{ItemKind}
-use Rattle.wac_collection.proofs.Names.{find_name-at, take_at}
+use Rattle.wac_collection.proofs.Names.{find_name-at, none_before, take_at}
+use Rattle.wac_collection.proofs.Under.{not_some}
 use Rattle.wac_merge.specs.WritingSteps.{AreWrittenItems}
 use Rattle.wac_merge.specs.declared.renamer.Renaming.{Renaming}
 use Rattle.wac_merge.specs.declared.unions.Export.{Export}
 use Rattle.wac_merge.specs.declared.unions.Union.{Union}
-use Rattle.wac_merge.proofs.Comparing.{one_some}
+use Rattle.wac_agreement.proofs.Comparing.{one_some}
 use Rattle.wac_merge.proofs.Extending.{extended_none, extended_twice}
+use Rattle.wac_merge.proofs.SameNames.{none_alike, push_alike}
 use Rattle.wac_merge.proofs.WritingItems.{items-more, items-none}
 use Rattle.wac_merge.proofs.WritingUnions.{renamed-alike, still-can}
 use Rattle.wac_merge.proofs.writing.write_exports.Goals as goal
@@ -24,6 +27,7 @@ loop-i-init c =
       extended = extended_none m;
       right = λ s p q r. c.new-renamed.ensures.right m s;
       written = subst (λ (ks : List (Name × ItemKind)). AreWrittenItems t m b count c.args.written.now c.args.union [] ks) (sym c.new-items.ensures) (items-none t m b count c.args.written.now c.args.union);
+      names = ap names_of c.new-items.ensures;
     }
 
 pub write_export-requires-clause-writing : goal.write_export-requires-clause-writing
@@ -42,8 +46,17 @@ write_export-requires-clause-export c =
 pub returns-in_err-item-clause-extended : goal.returns-in_err-item-clause-extended
 returns-in_err-item-clause-extended c = extended_twice c.args.merged.now c.loop-i.merged c.write_export.new.merged c.loop-i.invariant.extended c.write_export.ensures.extended
 
-pub returns-in-Err-clause-extended : goal.returns-in-Err-clause-extended
-returns-in-Err-clause-extended c = extended_twice c.args.merged.now c.loop-i.merged c.write_export.new.merged c.loop-i.invariant.extended c.write_export.ensures.extended
+pub returns-in-Err-OutOfMemory-clause-extended : goal.returns-in-Err-OutOfMemory-clause-extended
+returns-in-Err-OutOfMemory-clause-extended c = extended_twice c.args.merged.now c.loop-i.merged c.write_export.new.merged c.loop-i.invariant.extended c.write_export.ensures.extended
+
+pub unreachable-requires : goal.unreachable-requires
+unreachable-requires c =
+    let es : List (Name × Export) = c.index.result.now.exports in
+    let i = c.loop-i.i in
+    let items : List (Name × ItemKind) = c.loop-i.items in
+    let n : Name = c.entry_at.result.0.now in
+    not_some (find_name items n) (none_alike (take i es) items n (sym c.loop-i.invariant.names) (none_before es i n c.entry_at.result.1.now c.law-2.ensures c.entry_at.ensures))
+    (c.insert.ensures.name_twice.0 (c.in-Err-NameTwice.is ∙ ap Err c.in-Err-NameTwice.field-0-is))
 
 pub loop-i-preserved : goal.loop-i-preserved
 loop-i-preserved c =
@@ -63,6 +76,7 @@ loop-i-preserved c =
       right = λ s p q r. renamed-alike more c.write_export.new.renamed renaming s (sym p) (sym q) (sym r) c.in_ok-item.ensures.right;
       written = rw (add-one, take_at es i (n, e) c.entry_at.ensures, c.in-Ok.ensures.inserted)
           (items-more t now more b count c.args.written.now c.args.union (take i es) c.loop-i.items n e c.in_ok-item.item c.write_export.ensures.extended v.written c.in_ok-item.ensures.written);
+      names = rw (add-one, take_at es i (n, e) c.entry_at.ensures, c.in-Ok.ensures.inserted) (push_alike c.loop-i.items (take i es) n c.in_ok-item.item e v.names);
     }
 
 pub returns-clause-written : goal.returns-clause-written

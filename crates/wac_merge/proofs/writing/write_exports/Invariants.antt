@@ -1,4 +1,4 @@
-use Rattle.std.proofs.Common.{length, take}
+use Rattle.std.proofs.Common.{◌≡◌, map, length, take}
 use Rattle.wac_merge.specs.Renaming.{IsExtended}
 use Rattle.wac_merge.specs.WritingSteps.{AreRenamedIn, AreWrittenItems}
 use Rattle.wac_merge.proofs.writing.write_exports.Given as goal
@@ -8,4 +8,5 @@ invariant-loop-i l = record {
   extended : IsExtended l.initial.merged l.merged;
   right : AreRenamedIn l.types l.merged l.became l.part l.renamed;
   written : AreWrittenItems l.types l.merged l.became (length l.unions.unions.items) l.written l.union (take l.i l.exports) l.items;
+  names : map (λ e. e.0) l.items ≡ map (λ e. e.0) (take l.i l.exports);
 }

@@ -1,7 +1,7 @@
 use Rattle.std.proofs.Common.{◌<◌, length, arith}
 use Rattle.wac_merge.proofs.Extending.{extended_twice}
-use Rattle.wac_merge.proofs.Lists.{some-at}
-use Rattle.wac_merge.proofs.Walking.{if-ok}
+use Rattle.wac_entries.proofs.Lists.{some-at}
+use Rattle.wac_entries.proofs.Walking.{if-ok}
 use Rattle.wac_merge.proofs.WritingUnions.{union-written}
 use Rattle.wac_merge.proofs.writing.write_union.Goals as goal
 

@@ -11,7 +11,7 @@ use Rattle.wac_merge.specs.WritingSteps.{CanWrite, IsWrittenUnion}
 use Rattle.wac_merge.specs.declared.unions.Part.{Part}
 use Rattle.wac_merge.specs.declared.unions.Union.{Union}
 use Rattle.wac_merge.proofs.Extending.{extended_none, extended_twice, still_can_all, still_fresh}
-use Rattle.wac_merge.proofs.Lists.{some-at}
+use Rattle.wac_entries.proofs.Lists.{some-at}
 use Rattle.wac_merge.proofs.WritingUnions.{AreAllWritten, are-written, at-empty, held-more, length-mapped, union-held, union-more}
 use Rattle.wac_merge.proofs.writing.write_unions.Goals as goal
 

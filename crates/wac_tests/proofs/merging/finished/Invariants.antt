@@ -1,4 +1,4 @@
-use Rattle.wac_merge.specs.Bindings.{AreHeld}
+use Rattle.wac_entries.specs.Bindings.{AreHeld}
 use Rattle.wac_tests.proofs.merging.finished.Given as goal
 
 abbrev pub invariant-loop-i : goal.invariant-loop-i

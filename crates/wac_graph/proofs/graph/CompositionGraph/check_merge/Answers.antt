@@ -2,10 +2,10 @@ use Rattle.std.proofs.Common.{◌≡◌, List, map, ap, sym, ◌∙◌, subst}
 use Rattle.std.specs.List.{AllByRecursion}
 use Rattle.wac_collection.specs.Collection.{Collection, IsWellFormed}
 use Rattle.wac_merge.specs.Aggregate.{IsFault}
-use Rattle.wac_merge.specs.Bindings.{AreHeld}
-use Rattle.wac_merge.specs.Faults.{HasNoCircle, HasNoDisagreement}
-use Rattle.wac_merge.specs.declared.fault.MergeFault.{MergeFault}
-use Rattle.wac_merge.specs.Classes as merge
+use Rattle.wac_entries.specs.Bindings.{AreHeld}
+use Rattle.wac_agreement.specs.Faults.{HasNoCircle, HasNoDisagreement}
+use Rattle.wac_agreement.specs.declared.fault.MergeFault.{MergeFault}
+use Rattle.wac_entries.specs.Classes as merge
 use Rattle.wac_graph.specs.Asked.{Entry}
 use Rattle.wac_graph.specs.Entries.{asked_entries, to_merge}
 use Rattle.wac_graph.specs.EntriesLeft.{entry_view, IsHeldKind}

@@ -1,5 +1,5 @@
 use Rattle.std.proofs.Common.{sym, ap, ◌∙◌}
-use Rattle.wac_merge.specs.Aggregate.{own_resource}
+use Rattle.wac_merge.specs.Merge.{own_resource}
 use Rattle.wac_merge.proofs.OwnResources.{bound-nowhere, bound-there}
 use Rattle.wac_merge.proofs.aggregator.TypeAggregator.resource.Goals as goal
 

@@ -1,8 +1,8 @@
 use Rattle.std.proofs.Common.{◌≡◌, Some, get_or, sym, ap, ◌∙◌, subst}
 use Rattle.std.proofs.lemmas.Option.{slice_get-get_or}
 use Rattle.wac_merge.specs.Became.{became, new_at, or_itself}
-use Rattle.wac_merge.specs.CalledViews.{path_view}
-use Rattle.wac_merge.specs.Places.{find_resource, place_view}
+use Rattle.wac_entries.specs.CalledViews.{path_view}
+use Rattle.wac_entries.specs.Places.{find_resource, place_view}
 use Rattle.wac_merge.specs.Unions.{IsPart}
 use Rattle.wac_merge.proofs.BecameWalks.{around-bound, around-on, around-past, around-start, itself-or, no-part}
 use Rattle.wac_merge.proofs.became.Became.resource.Goals as goal

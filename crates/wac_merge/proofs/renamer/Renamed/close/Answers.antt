@@ -1,5 +1,5 @@
 use Rattle.wac_merge.specs.Renaming.{becomes}
-use Rattle.wac_merge.proofs.CodingTasks.{defined_values_hold}
+use Rattle.wac_entries.proofs.CodingTasks.{defined_values_hold}
 use Rattle.wac_merge.proofs.Extending.{still_all_renamed}
 use Rattle.wac_merge.proofs.RenamingMemo.{defined_closed, defined_put}
 use Rattle.wac_merge.proofs.RenamingTrees.{shape_held}

@@ -1,5 +1,5 @@
 use Rattle.wac_merge.specs.RenamingSteps.{IsUnderWay}
-use Rattle.wac_merge.specs.Tasks.{tasks_weight}
+use Rattle.wac_entries.specs.Tasks.{tasks_weight}
 use Rattle.wac_merge.proofs.renamer.Renamed.finish.Given as goal
 
 abbrev pub invariant-loop-task : goal.invariant-loop-task

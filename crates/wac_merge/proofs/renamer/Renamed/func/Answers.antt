@@ -2,12 +2,12 @@ use Rattle.std.proofs.Common.{◌≡◌, List, refl, true, sym, ◌∙◌, subst
 use Rattle.std.specs.List.{AllByRecursion}
 use Rattle.wac_collection.specs.Collection.{func_values, holds_value, seconds}
 use Rattle.wac_collection.specs.declared.component.FuncType.{FuncType}
-use Rattle.wac_merge.specs.declared.tasks.Task.{Task}
-use Rattle.wac_merge.specs.Tasks.{IsHeldTask, IsOpening}
+use Rattle.wac_entries.specs.declared.tasks.Task.{Task}
+use Rattle.wac_entries.specs.Tasks.{IsHeldTask, IsOpening}
 use Rattle.wac_merge.specs.Renaming.{becomes}
 use Rattle.wac_merge.specs.RenamingSteps.{IsDone, IsReady}
-use Rattle.wac_merge.proofs.CodingOpenings.{first_of, openings_two, rest_of}
-use Rattle.wac_merge.proofs.CodingTasks.{all_openings, func_held, func_values_hold}
+use Rattle.wac_entries.proofs.CodingOpenings.{first_of, openings_two, rest_of}
+use Rattle.wac_entries.proofs.CodingTasks.{all_openings, func_held, func_values_hold}
 use Rattle.wac_merge.proofs.Extending.{extended_none, extended_twice, still_all_renamed, still_can}
 use Rattle.wac_merge.proofs.RenamingMemo.{func_closed, func_right}
 use Rattle.wac_merge.proofs.RenamingTasks.{ready_values}

@@ -1,13 +1,15 @@
-use Rattle.std.proofs.Common.{◌++◌, ◌∷◌, [], ℕ, List, take, sym, subst, add-one}
+use Rattle.std.proofs.Common.{◌++◌, ◌∷◌, [], ℕ, List, Err, take, sym, ap, ◌∙◌, subst, add-one}
 use Rattle.std.proofs.lemmas.Option.{slice_get_within}
-use Rattle.wac_collection.specs.Name.{Name}
+use Rattle.wac_collection.specs.Name.{Name, find_name}
 use Rattle.wac_collection.specs.declared.component.ItemKind.{ItemKind}
-use Rattle.wac_collection.proofs.Names.{take_at}
+use Rattle.wac_collection.proofs.Names.{none_before, take_at}
+use Rattle.wac_collection.proofs.Under.{not_some}
 use Rattle.wac_merge.specs.declared.unions.Export.{Export}
 use Rattle.wac_merge.specs.UnionSteps.{AreOpen, IsHeldGroup}
-use Rattle.wac_merge.proofs.Lists.{some-at}
+use Rattle.wac_entries.proofs.Lists.{some-at}
+use Rattle.wac_merge.proofs.SameNames.{none_alike}
 use Rattle.wac_merge.proofs.UnionLists.{all_at, all_take}
-use Rattle.wac_merge.proofs.UnionJoins.{listing_still, open_next}
+use Rattle.wac_merge.proofs.UnionJoins.{listing_still, names_zip, open_next}
 use Rattle.wac_merge.proofs.unions.Unions.exports.Goals as goal
 
 pub export-requires-clause-within : goal.export-requires-clause-within
@@ -21,6 +23,16 @@ export-requires-clause-held c =
     let ps = c.args.self.now.parts.items in
     let g : Name × List (ℕ × ItemKind) = (c.entry_at.result.0.now, c.entry_at.result.1.now) in
     listing_still t ps c.loop-index.self.parts.items c.loop-index.invariant.parts g.1 (all_at (IsHeldGroup t ps) c.args.grouped.now c.loop-index.index g c.requires.held c.entry_at.ensures).1
+
+pub unreachable-requires : goal.unreachable-requires
+unreachable-requires c =
+    let gs = c.args.grouped.now in
+    let i = c.loop-index.index in
+    let es = c.loop-index.exports in
+    let n : Name = c.entry_at.result.0.now in
+    let names = names_zip c.args.types.now c.loop-index.self.unions.items c.loop-index.self.parts.items c.args.position (take i gs) es c.loop-index.invariant.exports in
+    not_some (find_name es n) (none_alike (take i gs) es n (sym names) (none_before gs i n c.entry_at.result.1.now c.law.ensures c.entry_at.ensures))
+    (c.insert.ensures.name_twice.0 (c.in-Err-NameTwice.is ∙ ap Err c.in-Err-NameTwice.field-0-is))
 
 pub loop-index-preserved : goal.loop-index-preserved
 loop-index-preserved c =

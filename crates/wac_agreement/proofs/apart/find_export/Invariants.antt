@@ -1,0 +1,14 @@
+use Rattle.std.proofs.Common.{◌-◌, ◌≤◌, length}
+use Rattle.wac_entries.specs.NodeViews.{listed}
+use Rattle.wac_agreement.specs.Shapes.{AreBefore, AreBehind}
+use Rattle.wac_agreement.proofs.apart.find_export.Given as goal
+
+abbrev pub invariant-loop-low : goal.invariant-loop-low
+invariant-loop-low l = record {
+  within : l.high ≤ length l.exports;
+  before : AreBefore (listed l.exports) l.name l.low;
+  behind : AreBehind (listed l.exports) l.name l.high;
+}
+
+abbrev pub decreases-loop-low : goal.decreases-loop-low
+decreases-loop-low l = l.high - l.low

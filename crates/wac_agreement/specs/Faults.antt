@@ -1,0 +1,53 @@
+-- Why entries have no merge.
+use Rattle.std.specs.Prelude.{ℕ, ◌≡◌, List, Option, Some, None, slice_get, string_bytes}
+use Rattle.wac_collection.specs.Name.{Name}
+use Rattle.wac_collection.specs.Collection.{Collection}
+use Rattle.wac_entries.specs.Classes.{Entry, NameRules, by_names, class_names, canonical}
+use Rattle.wac_entries.specs.Agreement.{compared, IsDisagreement, IsFirstDisagreement, LeadsApart, joined}
+use Rattle.wac_agreement.specs.ClassOrder.{IsOnCircle, IsFirstOnCircle}
+use Rattle.wac_agreement.specs.declared.fault.MergeFault.{MergeFault}
+use Rattle.wac_agreement.specs.declared.fault.MergeFault.TheVariants as merge
+
+-- no entry disagrees with an earlier one of its class
+abbrev pub HasNoDisagreement : NameRules → Collection → List Entry → Type 0
+HasNoDisagreement rules c es = (i j : ℕ) → IsDisagreement rules c es i j → ⊥
+
+-- the earliest entry that disagrees, the earliest that it disagrees with, and the names of the exports that lead to where they do
+pub record Disagrees (rules : NameRules) (c : Collection) (es : List Entry) (first second : ℕ) (export : Name) : Type 0 where
+  pub is_first : IsFirstDisagreement rules c es first second
+  pub names : List Name
+  pub leads : LeadsApart c (compared rules c es is_first.disagree.earlier.name is_first.disagree.earlier.kind) (compared rules c es is_first.disagree.earlier.name is_first.disagree.later.kind)
+      is_first.disagree.later.kind names
+  pub path : export ≡ joined names
+
+-- no class rests on itself through others
+abbrev pub HasNoCircle : NameRules → Collection → List Entry → Type 0
+HasNoCircle rules c es = (a : ℕ) → IsOnCircle rules c es a → ⊥
+
+-- of the classes that rest on themselves through others the one that is asked first has this canonical name
+pub record UseEachOther (rules : NameRules) (c : Collection) (es : List Entry) (import : Name) : Type 0 where
+  pub number : ℕ
+  pub class : Name
+  pub is_first : IsFirstOnCircle rules c es number
+  pub numbered : slice_get (class_names rules es) number ≡ Some class
+  pub named : import ≡ canonical rules es class
+
+-- what a refusal can name
+pub data Fault : Type 0 where
+  disagree : ℕ → ℕ → Name → Fault
+  use_each_other : Name → Fault
+
+-- the fault stands, and none that comes before it
+abbrev pub HasFault : NameRules → Collection → List Entry → Fault → Type 0
+HasFault rules c es (disagree first second export) = Disagrees rules c es first second export
+HasFault rules c es (use_each_other import) = HasNoDisagreement rules c es × UseEachOther rules c es import
+
+-- the fault that a refusal names; want of memory names none
+abbrev pub fault_of : MergeFault → Option Fault
+fault_of (merge.Disagree first second export) = Some (disagree first second (string_bytes export))
+fault_of (merge.UseEachOther import) = Some (use_each_other (string_bytes import))
+fault_of merge.OutOfMemory = None
+
+-- entries have one fault at most
+abbrev pub OneFault : Type 0
+OneFault = (c : Collection) (es : List Entry) (a b : Fault) → HasFault by_names c es a → HasFault by_names c es b → a ≡ b

@@ -1,0 +1,12 @@
+pub mod Union
+pub mod ClassOrder
+pub mod Slots
+pub mod Apart
+pub mod Shapes
+pub mod Reach
+pub mod ReachSteps
+pub mod Circles
+pub mod Compared
+pub mod Faults
+pub mod Resting
+pub mod Order

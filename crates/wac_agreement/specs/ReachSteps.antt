@@ -1,0 +1,41 @@
+-- How the classes that a type reaches are found. Private functions alone cite this.
+use Rattle.std.specs.Prelude.{ℕ, ◌≡◌, ◌<◌, true, ◌⊎◌, List, [], Option, Some, None, length, fold}
+use Rattle.std.specs.List.{list_any}
+use Rattle.std.specs.Ordering.{nat_cmp}
+use Rattle.std.specs.BTreeMap.{is_at}
+use Rattle.std.specs.BTreeSet.{insert_key}
+use Rattle.wac_types.specs.Called.{Called, of_class}
+use Rattle.wac_entries.specs.Nodes.{Node, of_resource, of_own, of_borrow, of_component, mentions, tree_at}
+use Rattle.wac_agreement.specs.Reach.{Reaches, IsOfClass}
+
+-- the nodes that a node mentions, anywhere but in a component
+abbrev pub parts : Node → List ℕ
+parts (of_component imports exports) = []
+parts n = mentions n
+
+-- the class that binds a resource
+abbrev pub class_of : Called → Option ℕ
+class_of (of_class k path name) = Some k
+class_of _ = None
+
+-- the class of the resource that a node names itself
+abbrev pub node_class : Node → Option ℕ
+node_class (of_resource r) = class_of r
+node_class (of_own r) = class_of r
+node_class (of_borrow r) = class_of r
+node_class _ = None
+
+-- numbers in order, and more of them
+abbrev pub with_all : List ℕ → List ℕ → List ℕ
+with_all = fold (insert_key nat_cmp)
+
+-- a number is among these
+abbrev pub Has : List ℕ → ℕ → Type 0
+Has ks q = list_any (is_at (nat_cmp q)) ks ≡ true
+
+-- What the node of a number reaches are the classes that were found, and what the nodes reach that are still to be looked at.
+pub record AreReached (ns : List Node) (number : ℕ) (classes pending : List ℕ) : Type 0 where
+  pub within : (i : ℕ) → Has pending i → i < length ns
+  pub found : (b : ℕ) → Has classes b → Reaches (IsOfClass b) (tree_at ns number)
+  pub onward : (b i : ℕ) → Has pending i → Reaches (IsOfClass b) (tree_at ns i) → Reaches (IsOfClass b) (tree_at ns number)
+  pub whole : (b : ℕ) → Reaches (IsOfClass b) (tree_at ns number) → Has classes b ⊎ ((i : ℕ) × Has pending i × Reaches (IsOfClass b) (tree_at ns i))

@@ -1,0 +1,56 @@
+-- On which classes one entry lets its class rest. Private functions alone cite this.
+use Rattle.std.specs.Prelude.{ℕ, ◌≡◌, ◌≢◌, ◌<◌, ◌⊎◌, List, [], ◌∷◌, Option, Some, None, slice_get}
+use Rattle.std.specs.Option.{option_map}
+use Rattle.wac_collection.specs.Name.{Name, find_name, option_case}
+use Rattle.wac_collection.specs.Collection.{Collection, item_at}
+use Rattle.wac_collection.specs.Held.{resolved}
+use Rattle.wac_collection.specs.declared.component.InterfaceId.{InterfaceId}
+use Rattle.wac_collection.specs.declared.component.ResourceId.{ResourceId}
+use Rattle.wac_collection.specs.declared.component.UsedType.{UsedType}
+use Rattle.wac_collection.specs.declared.component.ItemKind.{ItemKind}
+use Rattle.wac_collection.specs.declared.component.ItemKind.TheVariants as kind
+use Rattle.wac_collection.specs.declared.component.«Type».TheVariants as ty
+use Rattle.wac_entries.specs.Bindings.{ClassBindings, first_in}
+use Rattle.wac_entries.specs.Classes.{Entry}
+use Rattle.wac_entries.specs.Nodes.{Node, Item, and_optional, tree_at, type_of}
+use Rattle.wac_agreement.specs.Reach.{Reaches, IsOfClass}
+use Rattle.wac_agreement.specs.ReachSteps.{Has}
+
+-- the class under the id of an interface
+abbrev pub interface_class : Collection → List (Name × ℕ) → InterfaceId → Option ℕ
+interface_class c names i = option_case (item_at c.interfaces i.0) None (λ it. option_case it.id None (λ id. find_name names id))
+
+-- the classes under the ids of the interfaces from which types are used
+abbrev pub used_classes : Collection → List (Name × ℕ) → List (Name × UsedType) → List ℕ
+used_classes c names [] = []
+used_classes c names (u ∷ us) = and_optional (interface_class c names u.1.interface) (used_classes c names us)
+
+-- those from which an interface uses types
+abbrev pub classes_used : Collection → List (Name × ℕ) → InterfaceId → List ℕ
+classes_used c names i = option_case (item_at c.interfaces i.0) [] (λ it. used_classes c names it.uses)
+
+-- the first class that binds the end of a resource
+abbrev pub first_class : Collection → ClassBindings → ResourceId → Option ℕ
+first_class c bs q = option_map (λ p. p.0) (first_in bs (resolved c q))
+
+-- the item of an entry leads to the class of this number, its own or another
+abbrev pub ItemLeads : List Node → Collection → List (Name × ℕ) → ClassBindings → ItemKind → Item → ℕ → Type 0
+ItemLeads ns c names bs (kind.TypeItem (ty.Resource q)) x b = first_class c bs q ≡ Some b
+ItemLeads ns c names bs (kind.Instance i) x b = Reaches (IsOfClass b) (tree_at ns (type_of x)) ⊎ Has (classes_used c names i) b
+ItemLeads ns c names bs k x b = Reaches (IsOfClass b) (tree_at ns (type_of x))
+
+-- one of the first n entries is of class a, and its item leads to class b, another
+pub record EntryLeads (ns : List Node) (c : Collection) (es : List Entry) (xs : List Item) (numbers : List ℕ) (names : List (Name × ℕ)) (bs : ClassBindings) (n a b : ℕ) : Type 0 where
+  pub at : ℕ
+  pub entry : Entry
+  pub item : Item
+  pub below : at < n
+  pub is_entry : slice_get es at ≡ Some entry
+  pub is_item : slice_get xs at ≡ Some item
+  pub is_class : slice_get numbers at ≡ Some a
+  pub other : a ≢ b
+  pub leads : ItemLeads ns c names bs entry.kind item b
+
+-- a set gains what of these is another than its own number
+abbrev pub Gains : ℕ → List ℕ → List ℕ → List ℕ → Type 0
+Gains own more old new = (b : ℕ) → (Has new b → Has old b ⊎ ((own ≢ b) × Has more b)) × (Has old b → Has new b) × ((own ≢ b) → Has more b → Has new b)

@@ -1,0 +1,166 @@
+//! Entries as items of a table, and the first two that do not agree.
+ghost use Rattle.std.specs.Prelude.{◌≡◌, ◌<◌, true, length, map, Some, None, IfOk, slice_get, string_bytes};
+ghost use Rattle.std.specs.Option.{IfNone, MatchOption};
+ghost use Rattle.wac_collection.specs.Collection.{holds_type, kind_type};
+ghost use Rattle.wac_collection.specs.Name.{Name};
+ghost use Rattle.wac_entries.specs.Agreement.{AllMembersAgree, joined};
+ghost use Rattle.wac_entries.specs.Bindings.{AreBindings, AreHeld};
+ghost use Rattle.wac_entries.specs.Classes.{AreClasses, by_names, class_names};
+ghost use Rattle.wac_entries.specs.Coding.{IsGrown};
+ghost use Rattle.wac_agreement.specs.Compared.{AreCompared, IsItemOf};
+ghost use Rattle.wac_entries.specs.CallsView.{AreNamed};
+ghost use Rattle.wac_agreement.specs.Faults.{Disagrees, HasNoDisagreement};
+ghost use Rattle.wac_entries.specs.NodeViews.{item_view};
+
+use crate::agreement::first_disagreement;
+use crate::apart::path_apart;
+use std::alloc::{AllocError, Global};
+use wac_entries::bindings::Bindings;
+use wac_entries::calls::Calls;
+use wac_entries::classes::Classes;
+use wac_entries::coder::Source;
+use wac_entries::entry::Entry;
+use wac_entries::listing::scope_instance;
+use wac_entries::listings::{listed_item, listings};
+use wac_entries::memo::Memo;
+use wac_entries::naming::bound_in;
+use wac_entries::nodes::{Item, Nodes};
+use wac_entries::scopes::{Opener, Scopes};
+use wac_types::{ItemKind, Types};
+
+/// What the item of an entry is compared as, from around its scopes.
+fn source_item(nodes: &mut Nodes, source: &Source) -> Result<Item, AllocError>
+    requires held { holds_type source.now.types.now (kind_type source.now.calls.now.kind) ≡ true }
+    requires named { AreNamed source.now.types.now source.now.calls.now }
+    requires outermost { source.now.calls.now.scope ≡ None }
+    ensures grown { IsGrown nodes.old nodes.new }
+    ensures item { IfOk result (λ x. (name : Name) → slice_get (class_names by_names source.now.calls.now.entries.now) source.now.calls.now.class ≡ Some name
+        → IsItemOf nodes.new source.now.types.now source.now.calls.now.entries.now name source.now.calls.now.kind (item_view x)) }
+{
+    let kind = source.calls.kind;
+    let listings = listings(nodes, source)?;
+    if let ItemKind::Instance(id) = kind {
+        let calls = source.calls.at(0);
+        let inside = source.with(&calls);
+        let items = listings[0].as_slice();
+        let number = scope_instance(nodes, &inside, Opener::Interface(id), items)?;
+        return Ok(Item::Instance(number));
+    }
+    let mut memo = Memo::new(source.alloc);
+    listed_item(&mut memo, nodes, source, kind, 0, listings.as_slice())
+}
+
+/// What an entry of a class is compared as.
+fn entry_item(
+    alloc: Global,
+    nodes: &mut Nodes,
+    types: &Types,
+    entries: &[Entry],
+    bindings: &Bindings,
+    class: usize,
+    kind: ItemKind,
+) -> Result<Item, AllocError>
+    requires held { holds_type types.now (kind_type kind) ≡ true }
+    requires bindings { AreBindings types.now entries.now bindings.now }
+    requires class { class < length (class_names by_names entries.now) }
+    ensures grown { IsGrown nodes.old nodes.new }
+    ensures item { IfOk result (λ x. (name : Name) → slice_get (class_names by_names entries.now) class ≡ Some name → IsItemOf nodes.new types.now entries.now name kind (item_view x)) }
+{
+    let scopes = Scopes::new(alloc, types, kind)?;
+    let bound = bound_in(alloc, types, &scopes)?;
+    let calls = Calls {
+        entries,
+        bindings,
+        class,
+        kind,
+        scopes: &scopes,
+        bound: bound.as_slice(),
+        scope: None,
+    };
+    let source = Source {
+        alloc,
+        types,
+        calls: &calls,
+    };
+    source_item(nodes, &source)
+}
+
+/// What the entries are compared as, in order.
+pub fn entry_items(
+    alloc: Global,
+    nodes: &mut Nodes,
+    types: &Types,
+    entries: &[Entry],
+    classes: &Classes,
+    bindings: &Bindings,
+) -> Result<Vec<Item>, AllocError>
+    requires held { AreHeld types.now entries.now }
+    requires classes { AreClasses by_names entries.now classes.now.numbers.items classes.now.positions.items classes.now.names }
+    requires bindings { AreBindings types.now entries.now bindings.now }
+    ensures grown { IsGrown nodes.old nodes.new }
+    ensures counted { IfOk result (λ xs. length xs.items ≡ length entries.now) }
+    ensures items { IfOk result (λ xs. AreCompared nodes.new types.now entries.now (map item_view xs.items)) }
+{
+    let numbers = classes.numbers();
+    let mut items = Vec::new(alloc);
+    for i in 0..entries.len() {
+        let kind = entries[i].kind();
+        items.push(entry_item(alloc, nodes, types, entries, bindings, numbers[i], kind)?)?;
+    }
+    Ok(items)
+}
+
+/// Two entries of one class that do not agree.
+#[derive(Drop)]
+pub struct Disagreement {
+    /// The position of the earlier.
+    pub first: usize,
+    /// The position of the later.
+    pub second: usize,
+    /// The names of the exports that lead to where they do not, joined by `/`.
+    pub export: String,
+}
+
+/// Names joined by `/`.
+fn join(alloc: Global, names: &[String]) -> Result<String, AllocError>
+    ensures { IfOk result (λ text. string_bytes text ≡ joined (map string_bytes names.now)) }
+{
+    let mut text = String::new(alloc);
+    for i in 0..names.len() {
+        if i > 0 {
+            text.push('/')?;
+        }
+        text.push_str(names[i].as_str())?;
+    }
+    Ok(text)
+}
+
+/// The first entry that disagrees with an earlier one of its class, and the first that it disagrees with.
+pub fn first_pair(
+    alloc: Global,
+    nodes: &Nodes,
+    types: &Types,
+    entries: &[Entry],
+    classes: &Classes,
+    items: &[Item],
+) -> Result<Option<Disagreement>, AllocError>
+    requires held { AreHeld types.now entries.now }
+    requires classes { AreClasses by_names entries.now classes.now.numbers.items classes.now.positions.items classes.now.names }
+    requires counted { length items.now ≡ length entries.now }
+    requires items { AreCompared nodes.now types.now entries.now (map item_view items.now) }
+    ensures first { IfOk result (λ o. MatchOption o (HasNoDisagreement by_names types.now entries.now) (λ d. Disagrees by_names types.now entries.now d.first d.second (string_bytes d.export))) }
+    ensures agreed { IfOk result (λ o. IfNone o (AllMembersAgree by_names types.now entries.now)) }
+{
+    types.law();
+    let Some((first, second)) = first_disagreement(alloc, nodes, items, classes.numbers())? else {
+        return Ok(None);
+    };
+    let kind = entries[second].kind();
+    let names = path_apart(alloc, types, nodes, items[first], items[second], kind)?;
+    let export = join(alloc, names.as_slice())?;
+    Ok(Some(Disagreement {
+        first,
+        second,
+        export,
+    }))
+}

@@ -1,0 +1,169 @@
+//! The order in which classes are written: instances, type items, the rest, each directly after those that it rests on.
+//!
+//! A class whose turn has come waits in a list of steps, below those that it rests on, so that no chain of classes is too
+//! long. Each is opened once and placed once.
+ghost use Rattle.std.specs.Prelude.{◌≡◌, ◌<◌, ◌↔◌, ◌++◌, ℕ, [], length, map, slice_get, slice_index, Contains, IfOk, OnOk, Some};
+ghost use Rattle.wac_agreement.specs.Circles.{AreBelow, AreWithin, HasNoCircle, Leads};
+ghost use Rattle.wac_entries.specs.Classes.{AreClasses, by_names, class_names};
+ghost use Rattle.wac_agreement.specs.ClassOrder.{Arranges, IsWrittenOrder, RestsOn, Selects, grouped};
+ghost use Rattle.wac_agreement.specs.Faults as faults;
+ghost use Rattle.wac_agreement.specs.Order.{AreAll, AreRanks, IsOnce, openings};
+ghost use Rattle.wac_agreement.specs.ReachSteps.{Has, with_all};
+
+use crate::reach::put;
+use std::alloc::{AllocError, Global};
+use std::collections::BTreeSet;
+use wac_entries::classes::Classes;
+use wac_entries::entry::Entry;
+use wac_types::{ItemKind, Types};
+
+/// What is to be done with a class.
+#[derive(Clone, Copy)]
+enum Step {
+    /// Those that it rests on are to be placed first, where its turn hasn't come yet.
+    Open(usize),
+    /// Those are placed, and it is to be.
+    Place(usize),
+}
+
+/// The numbers of the classes, instances first, then type items, then the rest, each by first appearance.
+fn grouped(alloc: Global, entries: &[Entry], classes: &Classes) -> Result<Vec<usize>, AllocError>
+    requires classes { AreClasses by_names entries.now classes.now.numbers.items classes.now.positions.items classes.now.names }
+    ensures { IfOk result (λ v. v.items ≡ grouped by_names entries.now) }
+{
+    let numbers = classes.numbers();
+    let mut begun = 0;
+    let mut instances = Vec::new(alloc);
+    let mut type_items = Vec::new(alloc);
+    let mut others = Vec::new(alloc);
+    for i in 0..entries.len() {
+        // Numbers go by first appearance, so the entry that has the next number is the first of its class.
+        if numbers[i] != begun {
+            continue;
+        }
+        match entries[i].kind() {
+            ItemKind::Instance(_) => instances.push(begun)?,
+            ItemKind::TypeItem(_) => type_items.push(begun)?,
+            _ => others.push(begun)?,
+        }
+        begun += 1;
+    }
+    instances.extend_from_slice(type_items.as_slice())?;
+    instances.extend_from_slice(others.as_slice())?;
+    Ok(instances)
+}
+
+/// The position of each class among all of them.
+fn ranks(alloc: Global, all: &[usize], count: usize) -> Result<Vec<usize>, AllocError>
+    requires below { AreBelow count all.now }
+    requires once { IsOnce all.now }
+    ensures counted { IfOk result (λ v. length v.items ≡ count) }
+    ensures ranks { IfOk result (λ v. AreRanks all.now v.items) }
+{
+    let mut ranks = vec![in alloc; 0; count]?;
+    for i in 0..all.len() {
+        ranks[all[i]] = i;
+    }
+    Ok(ranks)
+}
+
+/// The positions of some classes, in order.
+fn positions(
+    alloc: Global,
+    ranks: &[usize],
+    numbers: &BTreeSet<usize>,
+) -> Result<BTreeSet<usize>, AllocError>
+    requires { AreBelow (length ranks.now) numbers.now.keys }
+    ensures { IfOk result (λ s. s.keys ≡ with_all [] (map (slice_index ranks.now) numbers.now.keys)) }
+{
+    let mut positions = BTreeSet::new(alloc);
+    for number in numbers.iter() {
+        put(&mut positions, ranks[*number])?;
+    }
+    Ok(positions)
+}
+
+/// What of all the classes is among some, in order.
+fn selected(
+    alloc: Global,
+    all: &[usize],
+    ranks: &[usize],
+    numbers: &BTreeSet<usize>,
+) -> Result<Vec<usize>, AllocError>
+    requires below { AreBelow (length ranks.now) numbers.now.keys }
+    requires all { AreAll (length ranks.now) all.now }
+    requires ranks { AreRanks all.now ranks.now }
+    ensures { IfOk result (λ v. Selects (λ b. Has numbers.now.keys b) all.now v.items) }
+{
+    let positions = positions(alloc, ranks, numbers)?;
+    let mut selected = Vec::new(alloc);
+    for position in positions.iter() {
+        selected.push(all[*position])?;
+    }
+    Ok(selected)
+}
+
+/// Classes are to be opened, the first of them first.
+fn open_all(steps: &mut Vec<Step>, numbers: &[usize]) -> Result<(), AllocError>
+    ensures { OnOk result (steps.new.items ≡ steps.old.items ++ openings numbers.now) }
+{
+    let mut i = numbers.len();
+    while i > 0 {
+        i -= 1;
+        steps.push(Step::Open(numbers[i]))?;
+    }
+    Ok(())
+}
+
+/// All the classes in their order, but each directly after those that it rests on, where these are not there yet.
+fn arranged(
+    alloc: Global,
+    all: &[usize],
+    rests: &[BTreeSet<usize>],
+) -> Result<Vec<usize>, AllocError>
+    requires all { AreAll (length rests.now) all.now }
+    requires once { IsOnce all.now }
+    requires within { AreWithin rests.now }
+    requires ordered { HasNoCircle rests.now }
+    ensures { IfOk result (λ o. Arranges (Leads rests.now) all.now [] all.now o.items) }
+{
+    let ranks = ranks(alloc, all, rests.len())?;
+    let mut opened = vec![in alloc; false; rests.len()]?;
+    let mut order = Vec::new(alloc);
+    let mut steps = Vec::new(alloc);
+    open_all(&mut steps, all)?;
+    while let Some(step) = steps.pop() {
+        match step {
+            Step::Open(n) => {
+                if !opened[n] {
+                    opened[n] = true;
+                    steps.push(Step::Place(n))?;
+                    let under = selected(alloc, all, ranks.as_slice(), &rests[n])?;
+                    open_all(&mut steps, under.as_slice())?;
+                }
+            }
+            Step::Place(n) => order.push(n)?,
+        }
+    }
+    Ok(order)
+}
+
+/// The numbers of the classes in written order: each directly after those that it rests on, where these are not there yet.
+pub fn written_order(
+    alloc: Global,
+    types: &Types,
+    entries: &[Entry],
+    classes: &Classes,
+    rests: &[BTreeSet<usize>],
+) -> Result<Vec<usize>, AllocError>
+    requires classes { AreClasses by_names entries.now classes.now.numbers.items classes.now.positions.items classes.now.names }
+    requires counted { length rests.now ≡ length (class_names by_names entries.now) }
+    requires rests { (a b : ℕ) → (Leads rests.now a b ↔ RestsOn by_names types.now entries.now a b) }
+    requires ordered { faults.HasNoCircle by_names types.now entries.now }
+    ensures written { IfOk result (λ o. IsWrittenOrder by_names types.now entries.now o.items) }
+    ensures each { IfOk result (λ o. (k : ℕ) → (Contains o.items k ↔ k < length (class_names by_names entries.now))) }
+    ensures once { IfOk result (λ o. (i j k : ℕ) → slice_get o.items i ≡ Some k → slice_get o.items j ≡ Some k → i ≡ j) }
+{
+    let all = grouped(alloc, entries, classes)?;
+    arranged(alloc, all.as_slice(), rests)
+}

@@ -1,0 +1,171 @@
+//! On which classes a class rests: those whose interfaces its members use, and those whose resources they mean.
+ghost use Rattle.std.specs.Prelude.{ℕ, ◌≡◌, ◌<◌, ◌↔◌, ◌⊎◌, true, length, map, Some, IfOk, OnOk};
+ghost use Rattle.wac_collection.specs.Collection.{holds_type, holds_all, kind_type, used_types};
+ghost use Rattle.wac_collection.specs.declared.component.ItemKind.TheVariants as kind_of;
+ghost use Rattle.wac_entries.specs.Bindings.{AreBindings, AreHeld};
+ghost use Rattle.wac_agreement.specs.Circles.{Leads};
+ghost use Rattle.wac_entries.specs.Classes.{AreClasses, by_names, class_names};
+ghost use Rattle.wac_agreement.specs.ClassOrder.{RestsOn};
+ghost use Rattle.wac_agreement.specs.Compared.{AreCompared};
+ghost use Rattle.wac_agreement.specs.Faults.{HasNoDisagreement};
+ghost use Rattle.wac_entries.specs.Nodes.{tree_at, type_of as type_in};
+ghost use Rattle.wac_entries.specs.NodeViews.{item_view};
+ghost use Rattle.wac_agreement.specs.Reach.{IsOfClass, Reaches};
+ghost use Rattle.wac_agreement.specs.ReachSteps.{Has, with_all};
+ghost use Rattle.wac_agreement.specs.Resting.{Gains, ItemLeads, classes_used, first_class, interface_class, used_classes};
+
+use crate::reach::{classes_reached, put, put_optional, type_of};
+use std::alloc::{AllocError, Global};
+use std::collections::BTreeSet;
+use wac_entries::bindings::Bindings;
+use wac_entries::classes::Classes;
+use wac_entries::entry::Entry;
+use wac_entries::nodes::{Item, Nodes};
+use wac_types::{InterfaceId, ItemKind, Named, ResourceId, Type, Types, UsedType};
+
+/// The class under the id of an interface.
+fn interface_class(types: &Types, classes: &Classes, id: InterfaceId) -> Option<usize>
+    requires { holds_type types.now (kind_type (kind_of.Instance id)) ≡ true }
+    ensures { result ≡ interface_class types.now classes.now.names id }
+{
+    match &types[id].id {
+        Some(text) => classes.number(text.as_str()),
+        None => None,
+    }
+}
+
+/// Puts the classes under the ids of the interfaces from which types are used.
+fn put_used(
+    numbers: &mut BTreeSet<usize>,
+    types: &Types,
+    classes: &Classes,
+    uses: &Named<UsedType>,
+) -> Result<(), AllocError>
+    requires { holds_all types.now (used_types uses.now) ≡ true }
+    ensures { OnOk result (numbers.new.keys ≡ with_all numbers.old.keys (used_classes types.now classes.now.names uses.now)) }
+{
+    for i in 0..uses.len() {
+        let used = uses.value_at(i);
+        put_optional(numbers, interface_class(types, classes, used.interface))?;
+    }
+    Ok(())
+}
+
+/// The classes to which an instance leads: those whose resources it means, and those from which it uses types.
+fn instance_leads(
+    alloc: Global,
+    nodes: &Nodes,
+    types: &Types,
+    classes: &Classes,
+    id: InterfaceId,
+    item: Item,
+) -> Result<BTreeSet<usize>, AllocError>
+    requires held { holds_type types.now (kind_type (kind_of.Instance id)) ≡ true }
+    requires there { type_in (item_view item) < length nodes.now }
+    ensures { IfOk result (λ s. (b : ℕ) → (Has s.keys b ↔ (Reaches (IsOfClass b) (tree_at nodes.now (type_in (item_view item))) ⊎ Has (classes_used types.now classes.now.names id) b))) }
+{
+    types.law();
+    let mut numbers = classes_reached(alloc, nodes, type_of(item))?;
+    put_used(&mut numbers, types, classes, &types[id].uses)?;
+    Ok(numbers)
+}
+
+/// The first class that binds the end of a resource.
+fn first_class(types: &Types, bindings: &Bindings, id: ResourceId) -> Option<usize>
+    ensures { result ≡ first_class types.now bindings.now id }
+{
+    let (class, _) = bindings.first(types.resolve_resource(id))?;
+    Some(class)
+}
+
+/// The class to which a resource leads: the first that binds it.
+fn resource_leads(
+    alloc: Global,
+    types: &Types,
+    bindings: &Bindings,
+    id: ResourceId,
+) -> Result<BTreeSet<usize>, AllocError>
+    ensures { IfOk result (λ s. (b : ℕ) → (Has s.keys b ↔ (first_class types.now bindings.now id ≡ Some b))) }
+{
+    let mut numbers = BTreeSet::new(alloc);
+    put_optional(&mut numbers, first_class(types, bindings, id))?;
+    Ok(numbers)
+}
+
+/// The classes to which an item leads.
+fn item_leads(
+    alloc: Global,
+    nodes: &Nodes,
+    types: &Types,
+    classes: &Classes,
+    bindings: &Bindings,
+    kind: ItemKind,
+    item: Item,
+) -> Result<BTreeSet<usize>, AllocError>
+    requires held { holds_type types.now (kind_type kind) ≡ true }
+    requires there { type_in (item_view item) < length nodes.now }
+    ensures { IfOk result (λ s. (b : ℕ) → (Has s.keys b ↔ ItemLeads nodes.now types.now classes.now.names bindings.now kind (item_view item) b)) }
+{
+    match kind {
+        ItemKind::Instance(id) => instance_leads(alloc, nodes, types, classes, id, item),
+        ItemKind::TypeItem(Type::Resource(id)) => resource_leads(alloc, types, bindings, id),
+        _ => classes_reached(alloc, nodes, type_of(item)),
+    }
+}
+
+/// Puts what of these is another than a number among others.
+fn put_others(
+    others: &mut BTreeSet<usize>,
+    own: usize,
+    more: &BTreeSet<usize>,
+) -> Result<(), AllocError>
+    ensures { OnOk result (Gains own more.now.keys others.old.keys others.new.keys) }
+{
+    for b in more.iter() {
+        if *b != own {
+            put(others, *b)?;
+        }
+    }
+    Ok(())
+}
+
+/// Empty sets, as many as there are classes.
+fn empty_sets(alloc: Global, count: usize) -> Result<Vec<BTreeSet<usize>>, AllocError>
+    ensures counted { IfOk result (λ v. length v.items ≡ count) }
+    ensures empty { IfOk result (λ v. (a b : ℕ) → Leads v.items a b → ⊥) }
+{
+    let mut sets = Vec::new(alloc);
+    for _ in 0..count {
+        sets.push(BTreeSet::new(alloc))?;
+    }
+    Ok(sets)
+}
+
+/// For each class those that it rests on.
+pub fn rests(
+    alloc: Global,
+    nodes: &Nodes,
+    types: &Types,
+    entries: &[Entry],
+    classes: &Classes,
+    bindings: &Bindings,
+    items: &[Item],
+) -> Result<Vec<BTreeSet<usize>>, AllocError>
+    requires held { AreHeld types.now entries.now }
+    requires classes { AreClasses by_names entries.now classes.now.numbers.items classes.now.positions.items classes.now.names }
+    requires bindings { AreBindings types.now entries.now bindings.now }
+    requires counted { length items.now ≡ length entries.now }
+    requires items { AreCompared nodes.now types.now entries.now (map item_view items.now) }
+    requires agree { HasNoDisagreement by_names types.now entries.now }
+    ensures counted { IfOk result (λ v. length v.items ≡ length (class_names by_names entries.now)) }
+    ensures rests { IfOk result (λ v. (a b : ℕ) → (Leads v.items a b ↔ RestsOn by_names types.now entries.now a b)) }
+{
+    let numbers = classes.numbers();
+    let mut rests = empty_sets(alloc, classes.positions().len())?;
+    for i in 0..entries.len() {
+        let kind = entries[i].kind();
+        let leads = item_leads(alloc, nodes, types, classes, bindings, kind, items[i])?;
+        put_others(&mut rests[numbers[i]], numbers[i], &leads)?;
+    }
+    Ok(rests)
+}

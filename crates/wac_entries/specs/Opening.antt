@@ -1,0 +1,55 @@
+-- Scopes while they are found. Private functions alone cite this.
+use Rattle.std.specs.Prelude.{ℕ, zero, suc, ◌+◌, ◌≡◌, ◌<◌, true, List, [], ◌∷◌, ◌++◌, length, map, Option, Some, None, slice_get, slice_set}
+use Rattle.wac_collection.specs.Collection.{Collection, holds_type}
+use Rattle.wac_types.specs.Questions.{type_rank}
+use Rattle.wac_entries.specs.declared.scopes.Opener.{Opener}
+use Rattle.wac_entries.specs.declared.scopes.Scope.{Scope}
+use Rattle.wac_entries.specs.Scopes.{opener_type, listed_in, opened, IsBelow, ComesFrom}
+
+-- a scope in another that is not yet opened
+abbrev pub inside : Option ℕ → Opener → Scope
+inside parent o = record { opener = o; parent = parent; first = 0 }
+
+-- the scopes after what the one at a position lists was put behind them
+abbrev pub with_opened : Collection → List Scope → ℕ → Scope → List Scope
+with_opened c ss n s = slice_set ss n (record { opener = s.opener; parent = s.parent; first = length ss }) ++ map (inside (Some n)) (opened (listed_in c s.opener))
+
+-- what the scope at a position lists was put behind the others
+abbrev pub Opens : Collection → List Scope → ℕ → List Scope → Type 0
+Opens c ss n more = (s : Scope) → slice_get ss n ≡ Some s → more ≡ with_opened c ss n s
+
+-- the scope at a position is of a type that is held
+abbrev pub IsHeldAt : Collection → List Scope → ℕ → Type 0
+IsHeldAt c ss n = (s : Scope) → slice_get ss n ≡ Some s → holds_type c (opener_type s.opener) ≡ true
+
+-- the scopes of an item of which the first n are opened
+pub record AreOpened (c : Collection) (roots : List Opener) (n : ℕ) (ss : List Scope) : Type 0 where
+  pub rooted : (j : ℕ) (o : Opener) → slice_get roots j ≡ Some o → (s : Scope) × (slice_get ss j ≡ Some s) × (s.opener ≡ o) × (s.parent ≡ None)
+  pub nested : (i j : ℕ) (s : Scope) (o : Opener) → i < n → slice_get ss i ≡ Some s → slice_get (opened (listed_in c s.opener)) j ≡ Some o
+      → (t : Scope) × (slice_get ss (s.first + j) ≡ Some t) × (t.opener ≡ o) × (t.parent ≡ Some i)
+  pub later : (i : ℕ) (s : Scope) → i < n → slice_get ss i ≡ Some s → i < s.first
+  pub around : (i : ℕ) (s : Scope) → slice_get ss i ≡ Some s → IsBelow i s.parent
+  pub held : (i : ℕ) → IsHeldAt c ss i
+  pub known : (i : ℕ) (s : Scope) → slice_get ss i ≡ Some s → ComesFrom c roots ss i s.opener s.parent
+  -- only opened scopes have others in them
+  pub parents : (i : ℕ) (s : Scope) → slice_get ss i ≡ Some s → IsBelow n s.parent
+
+-- a sum over scopes' openers
+abbrev pub total : (Opener → ℕ) → List Opener → ℕ
+total f [] = 0
+total f (o ∷ os) = f o + total f os
+
+-- how many scopes there are in one, with itself, so many deep
+abbrev pub count_to : ℕ → Collection → Opener → ℕ
+count_to zero c o = 0
+count_to (suc k) c o = suc (total (λ p. count_to k c p) (opened (listed_in c o)))
+
+-- how many there are; none is deeper than items were added before its own
+unfoldable pub count_in : Collection → Opener → ℕ
+count_in c o = count_to (type_rank c (opener_type o)) c o
+
+-- how many there are in the scopes from a position on
+unfoldable pub left_from : Collection → List Scope → ℕ → ℕ
+left_from c [] n = 0
+left_from c (s ∷ ss) zero = count_in c s.opener + left_from c ss zero
+left_from c (s ∷ ss) (suc n) = left_from c ss n

@@ -1,0 +1,202 @@
+//! What the classes of asked entries bind.
+ghost use Rattle.std.specs.Prelude.{◌≡◌, ℕ, List, [], true, Some, length, slice_get, IfOk, OnOk};
+ghost use Rattle.std.specs.Option.{option_map};
+ghost use Rattle.wac_names.specs.Reading.{read_track};
+ghost use Rattle.wac_names.specs.Views.{track_view};
+ghost use Rattle.wac_collection.specs.Collection.{holds_type, kind_type};
+ghost use Rattle.wac_collection.specs.Name.{Name};
+ghost use Rattle.wac_collection.specs.Tree.{Leaf};
+ghost use Rattle.wac_collection.specs.declared.component.ItemKind.TheVariants as kind_of;
+ghost use Rattle.wac_collection.specs.declared.component.ResourceId.{ResourceId as AnId};
+ghost use Rattle.wac_entries.specs.Bindings.{AreBindings, AreHeld, HaveBound, HaveTracks, first_from, first_in, member_leaves, numbered, path_in};
+ghost use Rattle.wac_entries.specs.CalledViews.{path_view};
+ghost use Rattle.wac_entries.specs.Classes.{by_names, class_names, AreClasses};
+ghost use Rattle.wac_entries.specs.Places.{Adds, find_resource};
+
+use crate::bound::{Bound, resource_itself};
+use crate::called::Side;
+use crate::classes::Classes;
+use crate::entry::Entry;
+use indexmap::IndexMap;
+use std::alloc::{AllocError, Global};
+use std::marker::Model;
+use wac_names::Track;
+use wac_types::{InterfaceId, ItemKind, ResourceId, Types};
+
+/// The track of each class.
+pub fn class_tracks<'a>(
+    alloc: Global,
+    entries: &'a [Entry],
+    classes: &Classes,
+) -> Result<Vec<Track<'a>>, AllocError>
+    requires { AreClasses by_names entries.now classes.now.numbers.items classes.now.positions.items classes.now.names }
+    ensures counted { IfOk result (λ tracks. length tracks.items ≡ length (class_names by_names entries.now)) }
+    ensures tracks { IfOk result (λ tracks. HaveTracks entries.now tracks.items) }
+{
+    let positions = classes.positions();
+    let mut tracks = Vec::new(alloc);
+    for k in 0..positions.len() {
+        tracks.push(Track::new(alloc, entries[positions[k]].name())?)?;
+    }
+    Ok(tracks)
+}
+
+/// Puts what a class on a track binds by a member that is an instance.
+fn put_instance(
+    alloc: Global,
+    types: &Types,
+    track: &Track<'_>,
+    id: InterfaceId,
+    bound: &mut Bound,
+) -> Result<(), AllocError>
+    requires { holds_type types.now (kind_type (kind_of.Instance id)) ≡ true }
+    ensures { OnOk result ((class : Name) → track_view track.now ≡ read_track class → Adds bound.old (member_leaves types.now class (kind_of.Instance id)) bound.new) }
+{
+    types.law();
+    let it = &types[id];
+    let Some(text) = &it.id else {
+        return Ok(());
+    };
+    if Track::new(alloc, text.as_str())? != *track {
+        return Ok(());
+    }
+    bound.put_own(alloc, types, &it.uses, Side::Imported, None, &it.exports)
+}
+
+/// Puts what a class on a track binds by a member.
+fn put_member(
+    alloc: Global,
+    types: &Types,
+    track: &Track<'_>,
+    kind: ItemKind,
+    bound: &mut Bound,
+) -> Result<(), AllocError>
+    requires { holds_type types.now (kind_type kind) ≡ true }
+    ensures { OnOk result ((class : Name) → track_view track.now ≡ read_track class → Adds bound.old (member_leaves types.now class kind) bound.new) }
+{
+    if let ItemKind::Instance(id) = kind {
+        return put_instance(alloc, types, track, id, bound);
+    }
+    match resource_itself(types, kind) {
+        Some(resource) => bound.put(alloc, resource, Side::Imported, &[]),
+        None => Ok(()),
+    }
+}
+
+/// Maps in which nothing is bound, as many as there are classes.
+fn unbound(alloc: Global, count: usize) -> Result<Vec<Bound>, AllocError>
+    ensures counted { IfOk result (λ classes. length classes.items ≡ count) }
+    ensures empty { IfOk result (λ classes. (k : ℕ) (m : List (AnId × Leaf)) → slice_get classes.items k ≡ Some m → m ≡ []) }
+{
+    let mut classes = Vec::new(alloc);
+    for _ in 0..count {
+        classes.push(Bound::new(alloc))?;
+    }
+    Ok(classes)
+}
+
+/// What each class binds.
+fn class_bindings(
+    alloc: Global,
+    types: &Types,
+    entries: &[Entry],
+    classes: &Classes,
+) -> Result<Vec<Bound>, AllocError>
+    requires held { AreHeld types.now entries.now }
+    requires classes { AreClasses by_names entries.now classes.now.numbers.items classes.now.positions.items classes.now.names }
+    ensures counted { IfOk result (λ classes. length classes.items ≡ length (class_names by_names entries.now)) }
+    ensures bound { IfOk result (λ classes. HaveBound types.now entries.now entries.now classes.items) }
+{
+    let tracks = class_tracks(alloc, entries, classes)?;
+    let numbers = classes.numbers();
+    let mut bound = unbound(alloc, tracks.len())?;
+    for i in 0..entries.len() {
+        let number = numbers[i];
+        let kind = entries[i].kind();
+        put_member(alloc, types, &tracks[number], kind, &mut bound[number])?;
+    }
+    Ok(bound)
+}
+
+/// Puts the number of a class for each resource that it binds and that has none.
+fn put_numbers(
+    firsts: &mut IndexMap<ResourceId, usize>,
+    bound: &Bound,
+    number: usize,
+) -> Result<(), AllocError>
+    ensures { OnOk result (Adds firsts.old.entries (numbered number bound.now) firsts.new.entries) }
+{
+    for i in 0..bound.len() {
+        let resource = bound.resource_at(i);
+        if !firsts.contains_key(&resource) {
+            firsts.insert(resource, number)?;
+        }
+    }
+    Ok(())
+}
+
+/// The number of the first class that binds each resource.
+fn first_classes(
+    alloc: Global,
+    classes: &[Bound],
+) -> Result<IndexMap<ResourceId, usize>, AllocError>
+    ensures { IfOk result (λ firsts. (r : AnId) → find_resource firsts.entries r ≡ first_from 0 classes.now r) }
+{
+    let mut firsts = IndexMap::new(alloc);
+    for k in 0..classes.len() {
+        put_numbers(&mut firsts, &classes[k], k)?;
+    }
+    Ok(firsts)
+}
+
+/// What the classes of asked entries bind.
+#[derive(Drop)]
+pub struct Bindings {
+    /// What each class binds.
+    classes: Vec<Bound>,
+    /// The number of the first class that binds each resource.
+    firsts: IndexMap<ResourceId, usize>,
+}
+
+impl Model for Bindings {
+    ghost use Rattle.wac_entries.specs.Bindings.{ClassBindings};
+
+    ghost Value = { ClassBindings };
+
+    ghost view = { λ b. record { classes = b.classes.items; firsts = b.firsts.entries } };
+}
+
+impl Bindings {
+    /// What the classes of these entries bind.
+    pub fn new(
+        alloc: Global,
+        types: &Types,
+        entries: &[Entry],
+        classes: &Classes,
+    ) -> Result<Bindings, AllocError>
+        requires held { AreHeld types.now entries.now }
+        requires classes { AreClasses by_names entries.now classes.now.numbers.items classes.now.positions.items classes.now.names }
+        ensures { IfOk result (λ b. AreBindings types.now entries.now b) }
+    {
+        let classes = class_bindings(alloc, types, entries, classes)?;
+        let firsts = first_classes(alloc, classes.as_slice())?;
+        Ok(Bindings { classes, firsts })
+    }
+
+    /// The path under which a class binds a resource.
+    pub fn path(&self, class: usize, resource: ResourceId) -> Option<&[String]>
+        ensures { option_map (λ p. path_view p.now) result ≡ path_in self.now class resource }
+    {
+        let place = self.classes.get(class)?.place(resource)?;
+        Some(place.path.as_slice())
+    }
+
+    /// The first class that binds a resource, and the path there.
+    pub fn first(&self, resource: ResourceId) -> Option<(usize, &[String])>
+        ensures { option_map (λ p. (p.0, path_view p.1.now)) result ≡ first_in self.now resource }
+    {
+        let class = *self.firsts.get(&resource)?;
+        let path = self.path(class, resource)?;
+        Some((class, path))
+    }
+}

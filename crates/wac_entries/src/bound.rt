@@ -1,0 +1,245 @@
+//! What one scope binds: for each resource, where.
+ghost use Rattle.std.specs.Prelude.{◌≡◌, ◌<◌, [], true, Some, length, slice_get, IfOk, OnOk};
+ghost use Rattle.std.specs.Option.{option_copied, option_map};
+ghost use Rattle.wac_collection.specs.Bound.{first_bound};
+ghost use Rattle.wac_collection.specs.Collection.{holds_all, holds_type, kind_type, kind_types};
+ghost use Rattle.wac_collection.specs.declared.component.ResourceId.{ResourceId as AnId};
+ghost use Rattle.wac_entries.specs.CalledViews.{path_view, side_view};
+ghost use Rattle.wac_entries.specs.Places.{Adds, bound_by_instance, find_resource, given_path, leaf_at, only, own_at, own_resource, place_view, resource_itself, under};
+ghost use Rattle.wac_entries.specs.Scopes.{binds, opener_type};
+
+use crate::called::Side;
+use crate::scopes::Opener;
+use indexmap::IndexMap;
+use std::alloc::{AllocError, Global};
+use std::marker::Model;
+use wac_types::{InterfaceId, ItemKind, Named, ResourceId, Type, Types, UsedType};
+
+/// Where a resource is bound: on a side, under a path of names.
+#[derive(Drop)]
+pub struct Place {
+    /// The side.
+    pub side: Side,
+    /// The names, from the outermost on.
+    pub path: Vec<String>,
+}
+
+/// The path of these names, in memory of its own.
+fn owned_path(alloc: Global, names: &[&str]) -> Result<Vec<String>, AllocError>
+    ensures { IfOk result (λ path. path_view path.items ≡ given_path names.now) }
+{
+    let mut path = Vec::new(alloc);
+    for i in 0..names.len() {
+        path.push(String::from_str(alloc, names[i])?)?;
+    }
+    Ok(path)
+}
+
+/// The resource that a type item is, where it is no alias.
+pub fn resource_itself(types: &Types, kind: ItemKind) -> Option<ResourceId>
+    requires { holds_type types.now (kind_type kind) ≡ true }
+    ensures { result ≡ resource_itself types.now kind }
+{
+    let ItemKind::TypeItem(Type::Resource(id)) = kind else {
+        return None;
+    };
+    if types[id].alias.is_some() {
+        return None;
+    }
+    Some(id)
+}
+
+/// The resource that an item lists as its own.
+pub fn own_resource(
+    types: &Types,
+    uses: &Named<UsedType>,
+    name: &str,
+    kind: ItemKind,
+) -> Option<ResourceId>
+    requires { holds_type types.now (kind_type kind) ≡ true }
+    ensures { result ≡ own_resource types.now uses.now (name.now, kind) }
+{
+    let id = resource_itself(types, kind)?;
+    if uses.get(name).is_some() {
+        return None;
+    }
+    Some(id)
+}
+
+/// What a scope itself binds: for each resource, where.
+#[derive(Drop)]
+pub struct Bound {
+    places: IndexMap<ResourceId, Place>,
+}
+
+impl Model for Bound {
+    ghost use Rattle.std.specs.Prelude.{List};
+    ghost use Rattle.wac_collection.specs.Tree.{Leaf};
+    ghost use Rattle.wac_collection.specs.declared.component.ResourceId.{ResourceId};
+    ghost use Rattle.wac_entries.specs.Places.{leaves};
+
+    ghost Value = { List (ResourceId × Leaf) };
+
+    ghost view = { λ b. leaves b.places.entries };
+}
+
+impl Bound {
+    /// Nothing is bound.
+    pub fn new(alloc: Global) -> Bound
+        ensures { result ≡ [] }
+    {
+        Bound {
+            places: IndexMap::new(alloc),
+        }
+    }
+
+    /// What a scope binds.
+    pub fn of(alloc: Global, types: &Types, opener: Opener) -> Result<Bound, AllocError>
+        requires { holds_type types.now (opener_type opener) ≡ true }
+        ensures { IfOk result (λ b. (r : AnId) → find_resource b r ≡ binds types.now opener r) }
+    {
+        types.law();
+        let mut bound = Bound::new(alloc);
+        match opener {
+            Opener::Interface(id) => {
+                let it = &types[id];
+                bound.put_own(alloc, types, &it.uses, Side::Exported, None, &it.exports)?;
+            }
+            Opener::Imports(id) => {
+                let world = &types[id];
+                bound.put_listed(alloc, types, &world.uses, Side::Imported, &world.imports)?;
+            }
+            Opener::Exports(id) => {
+                let world = &types[id];
+                bound.put_listed(alloc, types, &world.uses, Side::Imported, &world.imports)?;
+                bound.put_listed(alloc, types, &world.uses, Side::Exported, &world.exports)?;
+            }
+        }
+        Ok(bound)
+    }
+
+    /// Where a resource is bound.
+    pub fn place(&self, resource: ResourceId) -> Option<&Place>
+        ensures { option_map (λ p. place_view p.now) result ≡ find_resource self.now resource }
+    {
+        self.places.get(&resource)
+    }
+
+    /// How many resources are bound.
+    pub fn len(&self) -> usize
+        ensures { result ≡ length self.now }
+    {
+        self.places.len()
+    }
+
+    /// The resource at a position, in the order in which they were put.
+    pub fn resource_at(&self, index: usize) -> ResourceId
+        requires { index < length self.now }
+        ensures { option_map (λ e. e.0) (slice_get self.now index) ≡ Some result }
+    {
+        let (resource, _) = self.places.get_index(index).unwrap();
+        *resource
+    }
+
+    /// Puts the place of a resource where none is known.
+    pub fn put(
+        &mut self,
+        alloc: Global,
+        resource: ResourceId,
+        side: Side,
+        path: &[&str],
+    ) -> Result<(), AllocError>
+        ensures { OnOk result (Adds self.old (only resource (leaf_at (side_view side) (given_path path.now))) self.new) }
+    {
+        if self.places.contains_key(&resource) {
+            return Ok(());
+        }
+        let path = owned_path(alloc, path)?;
+        match self.places.insert(resource, Place { side, path }) {
+            Ok(_) => Ok(()),
+            Err(_) => Err(AllocError),
+        }
+    }
+
+    /// Puts the place of a resource under a name, and an outer name where there is one.
+    fn put_under(
+        &mut self,
+        alloc: Global,
+        resource: ResourceId,
+        side: Side,
+        outer: Option<&str>,
+        name: &str,
+    ) -> Result<(), AllocError>
+        ensures { OnOk result (Adds self.old (only resource (leaf_at (side_view side) (under (option_copied outer.entry) name.now))) self.new) }
+    {
+        match outer {
+            Some(outer) => self.put(alloc, resource, side, &[outer, name]),
+            None => self.put(alloc, resource, side, &[name]),
+        }
+    }
+
+    /// Puts the own resources of listed items.
+    pub fn put_own(
+        &mut self,
+        alloc: Global,
+        types: &Types,
+        uses: &Named<UsedType>,
+        side: Side,
+        outer: Option<&str>,
+        listed: &Named<ItemKind>,
+    ) -> Result<(), AllocError>
+        requires { holds_all types.now (kind_types listed.now) ≡ true }
+        ensures { OnOk result (Adds self.old (own_at types.now uses.now (side_view side) (option_copied outer.entry) listed.now) self.new) }
+    {
+        for i in 0..listed.len() {
+            let name = listed.name_at(i);
+            if let Some(resource) = own_resource(types, uses, name, *listed.value_at(i)) {
+                self.put_under(alloc, resource, side, outer, name)?;
+            }
+        }
+        Ok(())
+    }
+
+    /// Puts the own resources of an instance that is listed under the id of its interface.
+    fn put_instance(
+        &mut self,
+        alloc: Global,
+        types: &Types,
+        side: Side,
+        name: &str,
+        kind: ItemKind,
+    ) -> Result<(), AllocError>
+        requires { holds_type types.now (kind_type kind) ≡ true }
+        ensures { OnOk result (Adds self.old (bound_by_instance types.now (side_view side) (name.now, kind)) self.new) }
+    {
+        let ItemKind::Instance(id) = kind else {
+            return Ok(());
+        };
+        types.law();
+        let it = &types[id];
+        match &it.id {
+            Some(text) if text.as_str() == name => {
+                self.put_own(alloc, types, &it.uses, side, Some(name), &it.exports)
+            }
+            _ => Ok(()),
+        }
+    }
+
+    /// Puts what the imports or the exports of a world bind: instances first, then type items.
+    fn put_listed(
+        &mut self,
+        alloc: Global,
+        types: &Types,
+        uses: &Named<UsedType>,
+        side: Side,
+        listed: &Named<ItemKind>,
+    ) -> Result<(), AllocError>
+        requires { holds_all types.now (kind_types listed.now) ≡ true }
+        ensures { OnOk result (Adds self.old (first_bound types.now uses.now (side_view side) listed.now) self.new) }
+    {
+        for i in 0..listed.len() {
+            self.put_instance(alloc, types, side, listed.name_at(i), *listed.value_at(i))?;
+        }
+        self.put_own(alloc, types, uses, side, None, listed)
+    }
+}

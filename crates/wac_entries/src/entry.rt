@@ -1,0 +1,54 @@
+//! An import that is asked for.
+ghost use Rattle.std.specs.Prelude.{◌≡◌, IfOk};
+ghost use Rattle.wac_entries.specs.Classes.{is_instance};
+
+use std::alloc::{AllocError, Global};
+use std::marker::Model;
+use wac_types::ItemKind;
+
+/// An import that is asked for: an item under a name.
+#[derive(Drop)]
+pub struct Entry {
+    name: String,
+    kind: ItemKind,
+}
+
+impl Model for Entry {
+    ghost use Rattle.std.specs.Prelude.{string_bytes};
+    ghost use Rattle.wac_entries.specs.Classes as classes;
+
+    ghost Value = { classes.Entry };
+
+    ghost view = { λ e. record { name = string_bytes e.name; kind = e.kind } };
+}
+
+impl Entry {
+    /// An item under a name.
+    pub fn new(alloc: Global, name: &str, kind: ItemKind) -> Result<Entry, AllocError>
+        ensures { IfOk result (λ e. e ≡ record { name = name.now; kind = kind }) }
+    {
+        let name = String::from_str(alloc, name)?;
+        Ok(Entry { name, kind })
+    }
+
+    /// The name.
+    pub fn name(&self) -> &str
+        ensures { result.now ≡ self.now.name }
+    {
+        self.name.as_str()
+    }
+
+    /// The item.
+    pub fn kind(&self) -> ItemKind
+        ensures { result ≡ self.now.kind }
+    {
+        self.kind
+    }
+
+    /// Whether it is an instance.
+    pub fn is_instance(&self) -> bool
+        ensures { result ≡ is_instance self.now.kind }
+    {
+        matches!(self.kind, ItemKind::Instance(_))
+    }
+}

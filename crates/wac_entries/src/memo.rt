@@ -1,0 +1,63 @@
+//! The numbers that the types of a scope have in a table.
+ghost use Rattle.std.specs.Prelude.{◌≡◌, None, OnOk};
+ghost use Rattle.wac_entries.specs.Coding.{defined_number, func_number, HasDefinedToo, HasFuncToo};
+
+use std::alloc::{AllocError, Global};
+use std::collections::HashMap;
+use wac_types::{DefinedTypeId, FuncTypeId};
+
+/// The numbers of the types of a scope: of those that have one so far.
+#[derive(Drop)]
+pub struct Memo {
+    /// Those of definitions.
+    defined: HashMap<DefinedTypeId, usize>,
+    /// Those of function types.
+    funcs: HashMap<FuncTypeId, usize>,
+}
+
+impl Memo {
+    /// No number.
+    pub fn new(alloc: Global) -> Memo
+        ensures defined { (id : DefinedTypeId) → defined_number result id ≡ None }
+        ensures funcs { (id : FuncTypeId) → func_number result id ≡ None }
+    {
+        Memo {
+            defined: HashMap::new(alloc),
+            funcs: HashMap::new(alloc),
+        }
+    }
+
+    /// The number of a definition.
+    pub fn defined(&self, id: DefinedTypeId) -> Option<usize>
+        ensures { result ≡ defined_number self.now id }
+    {
+        self.defined.get(&id).copied()
+    }
+
+    /// The number of a function type.
+    pub fn func(&self, id: FuncTypeId) -> Option<usize>
+        ensures { result ≡ func_number self.now id }
+    {
+        self.funcs.get(&id).copied()
+    }
+
+    /// Gives a definition a number.
+    pub fn put_defined(&mut self, id: DefinedTypeId, number: usize) -> Result<(), AllocError>
+        ensures { OnOk result (HasDefinedToo self.old id number self.new) }
+    {
+        match self.defined.insert(id, number) {
+            Ok(_) => Ok(()),
+            Err(_) => Err(AllocError),
+        }
+    }
+
+    /// Gives a function type a number.
+    pub fn put_func(&mut self, id: FuncTypeId, number: usize) -> Result<(), AllocError>
+        ensures { OnOk result (HasFuncToo self.old id number self.new) }
+    {
+        match self.funcs.insert(id, number) {
+            Ok(_) => Ok(()),
+            Err(_) => Err(AllocError),
+        }
+    }
+}

@@ -1,0 +1,142 @@
+//! What resources are called in the scopes of an item.
+ghost use Rattle.std.specs.Prelude.{ℕ, List, ◌≡◌, ◌+◌, ◌<◌, ◌^◌, length, Some, IfOk, slice_get, string_bytes};
+ghost use Rattle.wac_types.specs.Called.{resource_name};
+ghost use Rattle.wac_collection.specs.Collection.{HasResource};
+ghost use Rattle.wac_collection.specs.Held.{resolved};
+ghost use Rattle.wac_collection.specs.Name.{Name};
+ghost use Rattle.wac_entries.specs.Agreement.{called_in_class};
+ghost use Rattle.wac_entries.specs.Bindings.{AreBindings, first_in, path_in};
+ghost use Rattle.wac_entries.specs.CalledViews.{called_view, path_view};
+ghost use Rattle.wac_entries.specs.Classes.{by_names, class_names, is_instance};
+ghost use Rattle.wac_entries.specs.Classes as classes;
+ghost use Rattle.wac_entries.specs.Opening.{IsHeldAt};
+ghost use Rattle.wac_entries.specs.Scopes.{AreScopes, called_in, called_in_root, opened_by};
+ghost use Rattle.wac_entries.specs.Walking.{AreBound, past};
+
+use crate::bindings::Bindings;
+use crate::bound::Bound;
+use crate::called::{Called, Side};
+use crate::scopes::Scopes;
+use std::alloc::{AllocError, Global};
+use wac_types::{ItemKind, ResourceId, Types};
+
+/// What each of the scopes of an item binds.
+pub fn bound_in(alloc: Global, types: &Types, scopes: &Scopes) -> Result<Vec<Bound>, AllocError>
+    requires { (i : ℕ) → IsHeldAt types.now scopes.now i }
+    ensures { IfOk result (λ bound. AreBound types.now scopes.now bound.items) }
+{
+    let mut bound = Vec::new(alloc);
+    for position in 0..scopes.len() {
+        bound.push(Bound::of(alloc, types, scopes.scope(position).opener)?)?;
+    }
+    Ok(bound)
+}
+
+/// A resource's own name, in memory of its own.
+fn own_name(alloc: Global, types: &Types, resource: ResourceId) -> Result<String, AllocError>
+    requires { HasResource types.now resource }
+    ensures { IfOk result (λ name. string_bytes name ≡ resource_name types.now resource) }
+{
+    String::from_str(alloc, types[resource].name.as_str())
+}
+
+/// A path, in memory of its own.
+fn copied(alloc: Global, path: &[String]) -> Result<Vec<String>, AllocError>
+    ensures { IfOk result (λ copy. path_view copy.items ≡ path_view path.now) }
+{
+    let mut copy = Vec::new(alloc);
+    for i in 0..path.len() {
+        copy.push(String::from_str(alloc, path[i].as_str())?)?;
+    }
+    Ok(copy)
+}
+
+/// What a resource is called past the outermost scope, which is so many scopes out.
+fn past_scopes(
+    alloc: Global,
+    types: &Types,
+    bindings: &Bindings,
+    class: usize,
+    kind: ItemKind,
+    out: usize,
+    resource: ResourceId,
+) -> Result<Called, AllocError>
+    requires held { HasResource types.now resource }
+    requires near { out + 1 < 2 ^ 64 }
+    ensures { IfOk result (λ x. called_view x ≡ past types.now resource (is_instance kind) out (path_in bindings.now class resource) (first_in bindings.now resource)) }
+{
+    let name = own_name(alloc, types, resource)?;
+    if let Some(path) = bindings.path(class, resource) {
+        let path = copied(alloc, path)?;
+        return Ok(match kind {
+            ItemKind::Instance(_) => Called::Bound(out, Side::Exported, path, name),
+            _ => Called::Bound(out + 1, Side::Imported, path, name),
+        });
+    }
+    match bindings.first(resource) {
+        Some((number, path)) => Ok(Called::OfClass(number, copied(alloc, path)?, name)),
+        None => Ok(Called::Itself(resource, name)),
+    }
+}
+
+/// What a resource is called in a scope.
+pub fn called(
+    alloc: Global,
+    types: &Types,
+    scopes: &Scopes,
+    bound: &[Bound],
+    bindings: &Bindings,
+    class: usize,
+    kind: ItemKind,
+    scope: usize,
+    resource: ResourceId,
+) -> Result<Called, AllocError>
+    requires scopes { AreScopes types.now (opened_by kind) scopes.now }
+    requires bound { AreBound types.now scopes.now bound.now }
+    requires within { scope < length scopes.now }
+    requires held { HasResource types.now resource }
+    ensures { IfOk result (λ x. (es : List classes.Entry) (name : Name) → AreBindings types.now es bindings.now → slice_get (class_names by_names es) class ≡ Some name
+        → called_in types.now (called_in_root by_names types.now es name kind) scopes.now scope (resolved types.now resource) ≡ Some (called_view x)) }
+{
+    types.law();
+    let resource = types.resolve_resource(resource);
+    let mut position = scope;
+    let mut out = 0;
+    'outward: loop {
+        if let Some(place) = bound[position].place(resource) {
+            let path = copied(alloc, place.path.as_slice())?;
+            let name = own_name(alloc, types, resource)?;
+            return Ok(Called::Bound(out, place.side, path, name));
+        }
+        let Some(parent) = scopes.scope(position).parent else {
+            return past_scopes(alloc, types, bindings, class, kind, out, resource);
+        };
+        position = parent;
+        out += 1;
+    }
+}
+
+/// What a resource is called around the scopes of an item.
+pub fn called_outside(
+    alloc: Global,
+    types: &Types,
+    bindings: &Bindings,
+    class: usize,
+    resource: ResourceId,
+) -> Result<Called, AllocError>
+    requires held { HasResource types.now resource }
+    ensures { IfOk result (λ x. (es : List classes.Entry) (name : Name) → AreBindings types.now es bindings.now → slice_get (class_names by_names es) class ≡ Some name
+        → called_in_class by_names types.now es name (resolved types.now resource) ≡ Some (called_view x)) }
+{
+    types.law();
+    let resource = types.resolve_resource(resource);
+    let name = own_name(alloc, types, resource)?;
+    if let Some(path) = bindings.path(class, resource) {
+        let path = copied(alloc, path)?;
+        return Ok(Called::Bound(0, Side::Imported, path, name));
+    }
+    match bindings.first(resource) {
+        Some((number, path)) => Ok(Called::OfClass(number, copied(alloc, path)?, name)),
+        None => Ok(Called::Itself(resource, name)),
+    }
+}

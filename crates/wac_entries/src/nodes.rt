@@ -1,0 +1,150 @@
+//! Types as nodes of a table, each once.
+ghost use Rattle.std.specs.Prelude.{◌≡◌, ◌<◌, ℕ, [], length, Some, slice_get, OnOk, OnErr, IfOk};
+ghost use Rattle.std.specs.List.{AllByRecursion};
+ghost use Rattle.wac_entries.specs.Nodes.{mentions, tree_at, Added, IsSorted, IsTable};
+ghost use Rattle.wac_entries.specs.NodeViews.{node_view};
+
+use crate::called::Called;
+use indexmap::IndexSet;
+use std::alloc::{AllocError, Global};
+use std::marker::Model;
+use wac_types::{CoreRefType, CoreType, PrimitiveType};
+
+/// What an instance or a component lists under a name: its sort, and the number of its type.
+#[derive(Clone, Copy, PartialEq, Eq, Hash)]
+pub enum Item {
+    /// A type.
+    Type(usize),
+    /// A function.
+    Func(usize),
+    /// An instance.
+    Instance(usize),
+    /// A component.
+    Component(usize),
+    /// A core module.
+    Module(usize),
+    /// A value.
+    Value(usize),
+}
+
+/// What a core module imports or exports.
+#[derive(PartialEq, Eq, Hash, Drop)]
+pub enum Core {
+    /// A function: its parameters and its results.
+    Func(Vec<CoreType>, Vec<CoreType>),
+    /// A table: its element type, whether it has indexes of 64 bits, whether it is shared, its least and greatest size.
+    Table(CoreRefType, bool, bool, u64, Option<u64>),
+    /// A memory: whether it has addresses of 64 bits, whether it is shared, its least and greatest size, and the logarithm of its page size.
+    Memory(bool, bool, u64, Option<u64>, Option<u32>),
+    /// A global: its type, whether it is mutable, whether it is shared.
+    Global(CoreType, bool, bool),
+    /// A tag: its parameters and its results.
+    Tag(Vec<CoreType>, Vec<CoreType>),
+}
+
+/// A type that mentions other types by their numbers in a table.
+#[derive(PartialEq, Eq, Hash, Drop)]
+pub enum Node {
+    /// A resource.
+    Resource(Called),
+    /// A primitive.
+    Primitive(PrimitiveType),
+    /// A handle to a resource that is owned.
+    Own(Called),
+    /// A handle to a resource that is lent.
+    Borrow(Called),
+    /// Fields under names.
+    Record(Vec<(String, usize)>),
+    /// Cases under names.
+    Variant(Vec<(String, Option<usize>)>),
+    /// A list of any length.
+    List(usize),
+    /// A list of this length.
+    FixedSizeList(usize, u32),
+    /// Values one after another.
+    Tuple(Vec<usize>),
+    /// Flags under names.
+    Flags(Vec<String>),
+    /// One of these names.
+    Enum(Vec<String>),
+    /// A value or none.
+    Option(usize),
+    /// A value or an error.
+    Result(Option<usize>, Option<usize>),
+    /// A stream.
+    Stream(Option<usize>),
+    /// A future.
+    Future(Option<usize>),
+    /// A function: whether it is asynchronous, its parameters, its result.
+    Func(bool, Vec<(String, usize)>, Option<usize>),
+    /// An instance: its exports, sorted by name.
+    Instance(Vec<(String, Item)>),
+    /// A component: its imports and its exports, each sorted by name.
+    Component(Vec<(String, Item)>, Vec<(String, Item)>),
+    /// A core module: its imports by module and name, and its exports, each sorted by name.
+    Module(Vec<(String, Vec<(String, Core)>)>, Vec<(String, Core)>),
+}
+
+/// Nodes, each once, which mention lower ones.
+#[derive(Drop)]
+pub struct Nodes {
+    nodes: IndexSet<Node>,
+}
+
+impl Model for Nodes {
+    ghost use Rattle.std.specs.Prelude.{List, map};
+    ghost use Rattle.wac_entries.specs.Nodes as table;
+    ghost use Rattle.wac_entries.specs.NodeViews.{node_view};
+
+    ghost Value = { List table.Node };
+
+    ghost view = { λ t. map node_view t.nodes.keys };
+
+    ghost invariant = { λ t. table.IsTable (map node_view t.nodes.keys) };
+}
+
+impl Nodes {
+    /// No node.
+    pub fn new(alloc: Global) -> Nodes
+        ensures { result ≡ [] }
+    {
+        Nodes {
+            nodes: IndexSet::new(alloc),
+        }
+    }
+
+    /// The law of all tables: nodes of equal trees are one.
+    pub fn law(&self)
+        ensures { (i j : ℕ) → i < length self.now → j < length self.now → tree_at self.now i ≡ tree_at self.now j → i ≡ j }
+    {
+        let _ = &self.nodes;
+    }
+
+    /// The law of all tables: each node is sorted, mentions lower ones, and stands once.
+    pub fn table_law(&self)
+        ensures { IsTable self.now }
+    {
+        let _ = &self.nodes;
+    }
+
+    /// The node of a number.
+    pub fn node(&self, number: usize) -> &Node
+        requires { number < length self.now }
+        ensures { slice_get self.now number ≡ Some (node_view result.now) }
+    {
+        self.nodes.get_index(number).unwrap()
+    }
+
+    /// The number of a node, which is put behind the others where it is not there. Where memory runs out nothing has changed.
+    pub fn add(&mut self, node: Node) -> Result<usize, AllocError>
+        requires lower { AllByRecursion (λ m. m < length self.old) (mentions (node_view node)) }
+        requires sorted { IsSorted (node_view node) }
+        ensures added { OnOk result (IfOk result (λ i. Added self.old (node_view node) self.new i)) }
+        ensures refused { OnErr result (self.new ≡ self.old) }
+    {
+        let Ok((index, _)) = self.nodes.insert_full(node) else {
+            return Err(AllocError);
+        };
+        Ok(index)
+    }
+}

@@ -1,0 +1,139 @@
+//! The scopes of an item: instance types, and the two sides of component types.
+ghost use Rattle.std.specs.Prelude.{◌≡◌, ◌∷◌, [], ◌++◌, ◌<◌, length, map, true, Some, IfOk, OnOk, slice_get};
+ghost use Rattle.wac_collection.specs.Collection.{kind_type, holds_type};
+ghost use Rattle.wac_entries.specs.Scopes.{AreScopes, opened, opened_by};
+ghost use Rattle.wac_entries.specs.Opening.{IsHeldAt, Opens, inside};
+
+use std::alloc::{AllocError, Global};
+use std::marker::Model;
+use wac_types::{InterfaceId, ItemKind, Named, Type, Types, WorldId};
+
+/// What a scope is of.
+#[derive(Clone, Copy, PartialEq, Eq)]
+pub enum Opener {
+    /// An interface, as an instance type.
+    Interface(InterfaceId),
+    /// The imports of a world, as a component type.
+    Imports(WorldId),
+    /// Its exports.
+    Exports(WorldId),
+}
+
+/// A scope of an item.
+#[derive(Clone, Copy)]
+pub struct Scope {
+    /// What it is of.
+    pub opener: Opener,
+    /// The position of the scope around it.
+    pub parent: Option<usize>,
+    /// The position of the first scope in it. The others follow.
+    pub first: usize,
+}
+
+/// Puts a scope behind the others.
+fn push(scopes: &mut Vec<Scope>, opener: Opener, parent: Option<usize>) -> Result<(), AllocError>
+    ensures { OnOk result (scopes.new.items ≡ scopes.old.items ++ inside parent opener ∷ []) }
+{
+    scopes.push(Scope {
+        opener,
+        parent,
+        first: 0,
+    })?;
+    Ok(())
+}
+
+/// Puts the scopes that an item opens behind the others.
+fn push_item(
+    scopes: &mut Vec<Scope>,
+    kind: ItemKind,
+    parent: Option<usize>,
+) -> Result<(), AllocError>
+    ensures { OnOk result (scopes.new.items ≡ scopes.old.items ++ map (inside parent) (opened_by kind)) }
+{
+    match kind.ty() {
+        Type::Interface(id) => push(scopes, Opener::Interface(id), parent),
+        Type::World(id) => {
+            push(scopes, Opener::Imports(id), parent)?;
+            push(scopes, Opener::Exports(id), parent)
+        }
+        _ => Ok(()),
+    }
+}
+
+/// Puts the scopes that listed items open behind the others.
+fn push_listed(
+    scopes: &mut Vec<Scope>,
+    listed: &Named<ItemKind>,
+    parent: usize,
+) -> Result<(), AllocError>
+    ensures { OnOk result (scopes.new.items ≡ scopes.old.items ++ map (inside (Some parent)) (opened listed.now)) }
+{
+    for index in 0..listed.len() {
+        push_item(scopes, *listed.value_at(index), Some(parent))?;
+    }
+    Ok(())
+}
+
+/// Puts the scopes in the one at a position behind the others.
+fn open(scopes: &mut Vec<Scope>, types: &Types, position: usize) -> Result<(), AllocError>
+    requires within { position < length scopes.old.items }
+    requires held { IsHeldAt types.now scopes.old.items position }
+    ensures { OnOk result (Opens types.now scopes.old.items position scopes.new.items) }
+{
+    let scope = scopes[position];
+    let first = scopes.len();
+    scopes[position] = Scope { first, ..scope };
+    match scope.opener {
+        Opener::Interface(id) => push_listed(scopes, &types[id].exports, position),
+        Opener::Imports(id) => push_listed(scopes, &types[id].imports, position),
+        Opener::Exports(id) => push_listed(scopes, &types[id].exports, position),
+    }
+}
+
+/// The scopes of an item.
+#[derive(Drop)]
+pub struct Scopes {
+    scopes: Vec<Scope>,
+}
+
+impl Model for Scopes {
+    ghost use Rattle.std.specs.Prelude.{List};
+    ghost use Rattle.wac_entries.specs.declared.scopes.Scope as declared;
+
+    ghost Value = { List declared.Scope };
+
+    ghost view = { λ s. s.scopes.items };
+}
+
+impl Scopes {
+    /// The scopes of an item of a collection, without recursion, however deep it is.
+    pub fn new(alloc: Global, types: &Types, kind: ItemKind) -> Result<Scopes, AllocError>
+        requires { holds_type types.now (kind_type kind) ≡ true }
+        ensures { IfOk result (λ ss. AreScopes types.now (opened_by kind) ss) }
+    {
+        types.law();
+        let mut scopes = Vec::new(alloc);
+        push_item(&mut scopes, kind, None)?;
+        let mut position = 0;
+        while position < scopes.len() {
+            open(&mut scopes, types, position)?;
+            position += 1;
+        }
+        Ok(Scopes { scopes })
+    }
+
+    /// How many there are.
+    pub fn len(&self) -> usize
+        ensures { result ≡ length self.now }
+    {
+        self.scopes.len()
+    }
+
+    /// The scope at a position.
+    pub fn scope(&self, position: usize) -> Scope
+        requires { position < length self.now }
+        ensures { slice_get self.now position ≡ Some result }
+    {
+        self.scopes[position]
+    }
+}

@@ -1,6 +1,0 @@
-use Rattle.wac_merge.specs.Walking.{AreBound}
-use Rattle.std.proofs.Common.{take}
-use Rattle.wac_merge.proofs.naming.bound_in.Given as goal
-
-abbrev pub invariant-loop-position : goal.invariant-loop-position
-invariant-loop-position l = AreBound l.types (take l.position l.scopes) l.bound.items

@@ -1,8 +1,0 @@
-use Rattle.wac_merge.specs.Walking.{IsOut}
-use Rattle.wac_merge.proofs.naming.called.Given as goal
-
-abbrev pub invariant-outward : goal.invariant-outward
-invariant-outward l = IsOut l.types l.scopes l.scope l.out l.position l.resource
-
-abbrev pub decreases-outward : goal.decreases-outward
-decreases-outward l = l.position

@@ -1,7 +1,0 @@
-use Rattle.std.proofs.Common.{◌≡◌, ◌++◌, map, take, Some}
-use Rattle.wac_merge.specs.Scopes.{opened}
-use Rattle.wac_merge.specs.Opening.{inside}
-use Rattle.wac_merge.proofs.scopes.push_listed.Given as goal
-
-abbrev pub invariant-loop-index : goal.invariant-loop-index
-invariant-loop-index l = l.scopes.items ≡ l.initial.scopes.items ++ map (inside (Some l.parent)) (opened (take l.index l.listed))
