@@ -12,6 +12,7 @@ use crate::component::{
     Resource, ResourceId, Type, ValueType, World, WorldId,
 };
 use crate::core_types::ModuleType;
+use crate::shared::{Shared, hold};
 use std::alloc::{AllocError, Global};
 use std::marker::Model;
 use std::ops::Index;
@@ -41,7 +42,7 @@ pub enum AddTypeError {
 }
 
 /// An item, and how many items were there before it.
-#[derive(Clone, Drop)]
+#[derive(Drop)]
 pub struct Held<T> {
     /// The item.
     pub item: T,
@@ -53,16 +54,16 @@ pub struct Held<T> {
 #[derive(Drop)]
 pub struct Types {
     alloc: Global,
-    resources: Vec<Held<Resource>>,
+    resources: Vec<Shared<Resource>>,
     /// For each resource the one at the end of its aliases.
     resource_ends: Vec<ResourceId>,
-    funcs: Vec<Held<FuncType>>,
-    defined: Vec<Held<DefinedType>>,
+    funcs: Vec<Shared<FuncType>>,
+    defined: Vec<Shared<DefinedType>>,
     /// For each definition the value type at the end of its aliases.
     value_ends: Vec<ValueType>,
-    interfaces: Vec<Held<Interface>>,
-    worlds: Vec<Held<World>>,
-    modules: Vec<Held<ModuleType>>,
+    interfaces: Vec<Shared<Interface>>,
+    worlds: Vec<Shared<World>>,
+    modules: Vec<Shared<ModuleType>>,
 }
 
 impl Model for Types {
@@ -207,13 +208,10 @@ impl Types {
             Some(alias) => self.resource_end(alias.source),
             None => id,
         };
-        let held = Held {
-            item: resource,
-            before,
-        };
-        if self.resource_ends.reserve(1).is_err() || self.resources.push(held).is_err() {
+        if self.resource_ends.reserve(1).is_err() {
             return Err(AddTypeError::OutOfMemory);
         }
+        hold(self.alloc, &mut self.resources, resource, before)?;
         self.resource_ends.push(end).unwrap();
         Ok(id)
     }
@@ -229,10 +227,8 @@ impl Types {
         }
         let id = self.funcs.len();
         let before = self.count();
-        match self.funcs.push(Held { item: func, before }) {
-            Ok(()) => Ok(FuncTypeId(id)),
-            Err(_) => Err(AddTypeError::OutOfMemory),
-        }
+        hold(self.alloc, &mut self.funcs, func, before)?;
+        Ok(FuncTypeId(id))
     }
 
     /// Adds a defined type. Answers `NotHeld` where it mentions an id that isn't held, and `OutOfMemory` where memory ran out; then nothing has changed.
@@ -250,13 +246,10 @@ impl Types {
             DefinedType::Alias(target) => self.value_end(*target),
             _ => ValueType::Defined(id),
         };
-        let held = Held {
-            item: defined,
-            before,
-        };
-        if self.value_ends.reserve(1).is_err() || self.defined.push(held).is_err() {
+        if self.value_ends.reserve(1).is_err() {
             return Err(AddTypeError::OutOfMemory);
         }
+        hold(self.alloc, &mut self.defined, defined, before)?;
         self.value_ends.push(end).unwrap();
         Ok(id)
     }
@@ -272,13 +265,8 @@ impl Types {
         }
         let id = self.interfaces.len();
         let before = self.count();
-        match self.interfaces.push(Held {
-            item: interface,
-            before,
-        }) {
-            Ok(()) => Ok(InterfaceId(id)),
-            Err(_) => Err(AddTypeError::OutOfMemory),
-        }
+        hold(self.alloc, &mut self.interfaces, interface, before)?;
+        Ok(InterfaceId(id))
     }
 
     /// Adds a world. Answers the lowest error that stands against it, and `OutOfMemory` where memory ran out; then nothing has changed.
@@ -292,13 +280,8 @@ impl Types {
         }
         let id = self.worlds.len();
         let before = self.count();
-        match self.worlds.push(Held {
-            item: world,
-            before,
-        }) {
-            Ok(()) => Ok(WorldId(id)),
-            Err(_) => Err(AddTypeError::OutOfMemory),
-        }
+        hold(self.alloc, &mut self.worlds, world, before)?;
+        Ok(WorldId(id))
     }
 
     /// Adds the type of a core module. Answers `OutOfMemory` where memory ran out; then nothing has changed.
@@ -309,13 +292,8 @@ impl Types {
     {
         let id = self.modules.len();
         let before = self.count();
-        match self.modules.push(Held {
-            item: module_type,
-            before,
-        }) {
-            Ok(()) => Ok(ModuleTypeId(id)),
-            Err(_) => Err(AddTypeError::OutOfMemory),
-        }
+        hold(self.alloc, &mut self.modules, module_type, before)?;
+        Ok(ModuleTypeId(id))
     }
 
     // The resource at the end of the aliases; the resource itself where it isn't held.
@@ -349,7 +327,7 @@ impl Types {
     }
 
     // The interfaces, as they are held.
-    pub(crate) fn all_interfaces(&self) -> &[Held<Interface>]
+    pub(crate) fn all_interfaces(&self) -> &[Shared<Interface>]
         ensures { result.now ≡ self.now.interfaces }
     {
         self.interfaces.as_slice()
@@ -360,7 +338,7 @@ impl Types {
         ensures { option_copied result ≡ item_at self.now.resources id.0 }
     {
         match self.resources.get(id.0) {
-            Some(held) => Some(&held.item),
+            Some(held) => Some(held.item()),
             None => None,
         }
     }
@@ -370,7 +348,7 @@ impl Types {
         ensures { option_copied result ≡ item_at self.now.defined id.0 }
     {
         match self.defined.get(id.0) {
-            Some(held) => Some(&held.item),
+            Some(held) => Some(held.item()),
             None => None,
         }
     }
@@ -379,7 +357,7 @@ impl Types {
         ensures { option_copied result ≡ item_at self.now.interfaces id.0 }
     {
         match self.interfaces.get(id.0) {
-            Some(held) => Some(&held.item),
+            Some(held) => Some(held.item()),
             None => None,
         }
     }
@@ -395,7 +373,7 @@ impl Index<FuncTypeId> for Types {
     ghost index_gives = { λ c id func. item_at c.funcs id.0 ≡ Some func };
 
     fn index(&self, id: FuncTypeId) -> &FuncType {
-        &self.funcs[id.0].item
+        self.funcs[id.0].item()
     }
 }
 
@@ -409,7 +387,7 @@ impl Index<InterfaceId> for Types {
     ghost index_gives = { λ c id interface. item_at c.interfaces id.0 ≡ Some interface };
 
     fn index(&self, id: InterfaceId) -> &Interface {
-        &self.interfaces[id.0].item
+        self.interfaces[id.0].item()
     }
 }
 
@@ -423,7 +401,7 @@ impl Index<WorldId> for Types {
     ghost index_gives = { λ c id world. item_at c.worlds id.0 ≡ Some world };
 
     fn index(&self, id: WorldId) -> &World {
-        &self.worlds[id.0].item
+        self.worlds[id.0].item()
     }
 }
 
@@ -437,7 +415,7 @@ impl Index<ResourceId> for Types {
     ghost index_gives = { λ c id item. item_at c.resources id.0 ≡ Some item };
 
     fn index(&self, id: ResourceId) -> &Resource {
-        &self.resources[id.0].item
+        self.resources[id.0].item()
     }
 }
 
@@ -451,7 +429,7 @@ impl Index<DefinedTypeId> for Types {
     ghost index_gives = { λ c id item. item_at c.defined id.0 ≡ Some item };
 
     fn index(&self, id: DefinedTypeId) -> &DefinedType {
-        &self.defined[id.0].item
+        self.defined[id.0].item()
     }
 }
 
@@ -465,6 +443,6 @@ impl Index<ModuleTypeId> for Types {
     ghost index_gives = { λ c id item. item_at c.modules id.0 ≡ Some item };
 
     fn index(&self, id: ModuleTypeId) -> &ModuleType {
-        &self.modules[id.0].item
+        self.modules[id.0].item()
     }
 }

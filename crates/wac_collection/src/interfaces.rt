@@ -2,14 +2,15 @@
 ghost use Rattle.std.specs.Prelude.{◌≡◌};
 ghost use Rattle.wac_collection.specs.Interfaces.{numbered};
 
-use crate::collection::{Held, Types};
+use crate::collection::Types;
 use crate::component::{Interface, InterfaceId};
+use crate::shared::Shared;
 use std::marker::Model;
 
 /// The interfaces of a collection that are still to come, each with its id.
 #[derive(Drop)]
 pub struct Interfaces<'a> {
-    held: &'a [Held<Interface>],
+    held: &'a [Shared<Interface>],
     position: usize,
 }
 
@@ -37,7 +38,7 @@ impl<'a> Iterator for Interfaces<'a> {
         let held = self.held.get(self.position)?;
         let id = InterfaceId(self.position);
         self.position += 1;
-        Some((id, &held.item))
+        Some((id, held.item()))
     }
 }
 

@@ -9,6 +9,7 @@ mod interfaces;
 mod mentions;
 mod named;
 mod package;
+mod shared;
 mod uses;
 
 pub use collection::{AddTypeError, Held, Types};

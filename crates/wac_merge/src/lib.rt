@@ -14,8 +14,8 @@
 //! # Memory and time
 //!
 //! Each entry keeps its name. The classes take one more copy of each name, and keep a text for each class. Numbering
-//! reads each entry's name a few times, and with it the greatest name that its class has so far. A finished merge keeps a
-//! copy of the entries' collection, with what is merged behind it. To make the copy takes time in the collection's size.
+//! reads each entry's name a few times, and with it the greatest name that its class has so far. A finished merge shares the
+//! items of the entries' collection, with what is merged behind them: a pointer and a count for each item.
 #![tactic(auto)]
 
 mod aggregator;

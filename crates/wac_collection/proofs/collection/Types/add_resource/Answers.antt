@@ -6,8 +6,8 @@ use Rattle.wac_collection.proofs.collection.Types.add_resource.Goals.{in-Some, i
 pub invariant_of-self-2 : goal.invariant_of-self-2
 invariant_of-self-2 c =
     resource_kept _ _ c.args.resource _ _ _ _ _ c.match-resource.end c.self.invariant c.self.view_is c.count-before.ensures (sym c.contains_alias.ensures ∙ c.if-not-contains_alias.false)
-    (rw c.if-is_err-2.ensures.negation at c.push.ensures.items)
-    (rw c.unwrap.ensures at c.push-2.ensures.items ∙ ap (λ xs. xs ++ c.match-resource.end ∷ []) c.reserve.ensures.items)
+    c.in_ok-hold.ensures.held
+    (rw c.unwrap.ensures at c.push.ensures.items ∙ ap (λ xs. xs ++ c.match-resource.end ∷ []) c.reserve.ensures.items)
     (elim c.match-resource.branch [
       | in-Some w ↦ w.end-is ∙ w.resource_end-end.ensures ∙ sym (ap (new_end c.args.self.now (length c.args.self.now.resources)) w.in-Some.is)
       | in-None w ↦ w.end-is ∙ at (c.len.ensures ∙ c.self.inside.resources.ok.0 ∙ ap (λ x. length x.resources) c.self.view_is) ∙ sym (ap (new_end c.args.self.now (length c.args.self.now.resources)) w.in-None.is)
