@@ -1,5 +1,5 @@
 -- Why `encode` is refused.
-use Rattle.std.specs.Prelude.{ℕ, ◌≡◌, ◌≤◌, Option, Some, None, IsSomeAnd, slice_get, string_bytes}
+use Rattle.std.specs.Prelude.{ℕ, ◌≡◌, ◌≤◌, [], Option, Some, None, IsSomeAnd, slice_get, string_bytes}
 use Rattle.wac_collection.specs.Name.{Name}
 use Rattle.wac_collection.specs.Package.{Key}
 use Rattle.wac_collection.specs.declared.component.ItemKind.{ItemKind}
@@ -106,10 +106,10 @@ Stands g o (explicit_merge import node other) = IsAcyclic g.edges × HasNoConfli
 Stands g o (import_circle import) = IsAcyclic g.edges × HasNoConflict g × IsImportCircle g import
 Stands g o not_yet = IsAcyclic g.edges × HasNoConflict g × HasMerge g × IsNotYet g o
 
--- the cause that a disagreement is where imports are asked for implicitly
+-- the cause that a fault is where imports are asked for implicitly; one that is no disagreement names an entry twice, which never stands
 abbrev pub implicit_cause : Name → NodeId → NodeId → MergeFault → Option Cause
 implicit_cause import first second (merge.Disagree p q export) = Some (implicit_merge import first second p q (string_bytes export))
-implicit_cause import first second fault = None
+implicit_cause import first second fault = Some (implicit_merge import first second 0 0 [])
 
 -- the cause that a refusal names; sizes and memory name none
 abbrev pub cause_of : EncodeError → Option Cause

@@ -88,7 +88,7 @@ impl TypeAggregator {
     /// Merges the entries, which all are of the collection.
     ///
     /// Answers one import for each class, under its canonical name, in the order in which they are written, with the
-    /// collection of their types: a copy of the entries' collection, and behind it what is merged. Each import is a subtype
+    /// collection of their types: the items of the entries' collection, and behind them what is merged. Each import is a subtype
     /// of each entry of its class.
     ///
     /// Answers `Disagree` exactly where two entries of one class do not agree, with the first that does not and the first
@@ -116,7 +116,8 @@ impl TypeAggregator {
         })
     }
 
-    /// The merged imports: the canonical name of each class with its merged item, in the order in which they are written.
+    /// The merged imports of a finished aggregator: the canonical name of each class with its merged item, in the order in
+    /// which they are written.
     pub fn imports(&self) -> &Named<ItemKind>
         requires { self.now.is_finished ≡ true }
         ensures { import_entries result.now ≡ self.now.merge.imports }
@@ -127,7 +128,8 @@ impl TypeAggregator {
         &finished.merged.imports
     }
 
-    /// The collection of the merged imports. Each id of the entries' collection means in it what it meant.
+    /// The collection of the merged imports of a finished aggregator. Each id of the entries' collection means in it what it
+    /// meant.
     pub fn types(&self) -> &Types
         requires { self.now.is_finished ≡ true }
         ensures { result.now ≡ self.now.merge.types }
@@ -138,7 +140,8 @@ impl TypeAggregator {
         &finished.merged.types
     }
 
-    /// The resource of a name that the import of an interface's id binds: its own of that name; none where there is none.
+    /// Of a finished aggregator, the resource of a name that the import of an interface's id binds: its own of that name; none
+    /// where there is none.
     pub fn resource(&self, id: &str, name: &str) -> Option<ResourceId>
         requires { self.now.is_finished ≡ true }
         ensures { result ≡ bound_resource self.now.merge id.now name.now }
@@ -147,7 +150,7 @@ impl TypeAggregator {
         own_resource(self.types(), *kind, id, name)
     }
 
-    /// The canonical name of the class that has a name, and the name itself where no entry has it.
+    /// Of a finished aggregator, the canonical name of the class that has a name, and the name itself where no entry has it.
     pub fn canonical_import_name<'a>(&'a self, name: &'a str) -> &'a str
         requires { self.now.is_finished ≡ true }
         ensures { result.now ≡ imported_as by_names self.now.entries name.now }
