@@ -154,6 +154,21 @@ fn a_type_is_used_of_a_named_interface_that_has_it(rt: HostRuntime) -> Result<()
     Ok(())
 }
 
+// Each is used under its own name: the first has the type but no id, the second an id and a type of another name.
+#[test]
+fn a_type_is_not_used_without_an_id_or_that_type(rt: HostRuntime) -> Result<(), Fail> {
+    let alloc = rt.alloc();
+    let mut types = Types::new(alloc);
+    let t = enumeration(&mut types, alloc)?;
+    let first = exporter(&mut types, alloc, None, "t", Type::Value(t))?;
+    let unnamed = Err(AddTypeError::UsedInterfaceUnnamed);
+    assert!(rt; user(&mut types, alloc, ("t", first, None), t, unnamed)?);
+    let j = exporter(&mut types, alloc, Some("n:p/j"), "u", Type::Value(t))?;
+    let missing = Err(AddTypeError::UsedTypeMissing);
+    assert!(rt; user(&mut types, alloc, ("t", j, None), t, missing)?);
+    Ok(())
+}
+
 #[test]
 fn a_used_type_is_the_one_listed(rt: HostRuntime) -> Result<(), Fail> {
     let alloc = rt.alloc();
@@ -265,5 +280,35 @@ fn a_clone_grows_on_its_own(rt: HostRuntime) -> Result<(), Fail> {
     let g = func(&mut copy, alloc, &[], Some(cases), false)?;
     assert!(rt; copy.contains(g.ty()));
     assert!(rt; !types.contains(g.ty()));
+    Ok(())
+}
+
+#[test]
+fn faults_of_an_adder_display_their_names(rt: HostRuntime) -> Result<(), Fail> {
+    let names = [
+        (AddTypeError::NotHeld, "NotHeld"),
+        (AddTypeError::UsedInterfaceUnnamed, "UsedInterfaceUnnamed"),
+        (AddTypeError::UsedTypeMissing, "UsedTypeMissing"),
+        (AddTypeError::UsedTypeDiffers, "UsedTypeDiffers"),
+        (AddTypeError::ResourceMisnamed, "ResourceMisnamed"),
+        (AddTypeError::OutOfMemory, "OutOfMemory"),
+    ];
+    for (fault, want) in names {
+        let text = format!(in rt.alloc(); "{fault}")?;
+        assert_eq!(rt; text.as_str(), want);
+    }
+    Ok(())
+}
+
+#[test]
+fn faults_of_a_shape_display_their_names(rt: HostRuntime) -> Result<(), Fail> {
+    let names = [
+        (ShapeError::NameTwice, "NameTwice"),
+        (ShapeError::OutOfMemory, "OutOfMemory"),
+    ];
+    for (fault, want) in names {
+        let text = format!(in rt.alloc(); "{fault}")?;
+        assert_eq!(rt; text.as_str(), want);
+    }
     Ok(())
 }

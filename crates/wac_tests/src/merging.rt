@@ -22,18 +22,18 @@ fn telling(types: &mut Types, alloc: Global) -> Result<ItemKind, Fail> {
     Ok(ItemKind::Func(types.add_func_type(func)?))
 }
 
-// An instance that exports one function.
+// An instance that exports one item.
 fn exporting(
     types: &mut Types,
     alloc: Global,
     name: &str,
-    func: ItemKind,
+    item: ItemKind,
 ) -> Result<ItemKind, Fail> {
-    let interface = Interface::new(alloc, None, &[(name, func)])?;
+    let interface = Interface::new(alloc, None, &[(name, item)])?;
     Ok(ItemKind::Instance(types.add_interface(interface)?))
 }
 
-// An interface with an enum under a name.
+// An interface of this id with an item under a name.
 fn with_type(
     types: &mut Types,
     alloc: Global,
@@ -183,6 +183,21 @@ fn the_first_export_that_differs_is_named(rt: HostRuntime) -> Result<(), Fail> {
     assert_disagree(alloc, &rt, &types, &asked, (1, 2, "g"))
 }
 
+// Two instances that export `i`, an instance that exports `f`; the second `f` is another function.
+#[test]
+fn the_names_that_lead_to_what_differs_are_joined(rt: HostRuntime) -> Result<(), Fail> {
+    let alloc = rt.alloc();
+    let mut types = Types::new(alloc);
+    let a = plain(&mut types, alloc)?;
+    let b = telling(&mut types, alloc)?;
+    let f = exporting(&mut types, alloc, "f", a)?;
+    let g = exporting(&mut types, alloc, "f", b)?;
+    let first = exporting(&mut types, alloc, "i", f)?;
+    let second = exporting(&mut types, alloc, "i", g)?;
+    let asked = [("x", first), ("x", second)];
+    assert_disagree(alloc, &rt, &types, &asked, (0, 1, "i/f"))
+}
+
 #[test]
 fn versions_on_one_track_are_one_import(rt: HostRuntime) -> Result<(), Fail> {
     let alloc = rt.alloc();
@@ -278,4 +293,26 @@ fn imports_that_use_each_other_are_refused(rt: HostRuntime) -> Result<(), Fail> 
         }
         _ => Err(Fail::new("another answer")),
     }
+}
+
+#[test]
+fn faults_of_a_merge_display_their_names(rt: HostRuntime) -> Result<(), Fail> {
+    let alloc = rt.alloc();
+    let export = String::from_str(alloc, "i/f")?;
+    let import = String::from_str(alloc, "x")?;
+    let disagree = MergeFault::Disagree {
+        first: 0,
+        second: 1,
+        export,
+    };
+    let names = [
+        (disagree, "Disagree"),
+        (MergeFault::UseEachOther { import }, "UseEachOther"),
+        (MergeFault::OutOfMemory, "OutOfMemory"),
+    ];
+    for (fault, want) in names.iter() {
+        let text = format!(in alloc; "{fault}")?;
+        assert_eq!(rt; text.as_str(), *want);
+    }
+    Ok(())
 }

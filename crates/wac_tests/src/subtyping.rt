@@ -29,13 +29,15 @@ fn instance(
     Ok(ItemKind::Instance(types.add_interface(interface)?))
 }
 
-// Whether one item is a subtype of another; both are to be held.
+// Whether one item is a subtype of another; both are to be held, and there is to be memory.
 fn is_subtype(rt: &impl Abort, a: ItemKind, at: &Types, b: ItemKind, bt: &Types) -> bool {
     let first = at.contains(a.ty());
     let second = bt.contains(b.ty());
     assert!(rt; first);
     assert!(rt; second);
-    SubtypeChecker::new().is_subtype(a, at, b, bt).is_ok()
+    let answer = SubtypeChecker::new().is_subtype(a, at, b, bt);
+    assert!(rt; answer != Err(TypeFault::OutOfMemory));
+    answer.is_ok()
 }
 
 #[test]
@@ -99,6 +101,19 @@ fn function_types_are_compared_part_by_part(rt: HostRuntime) -> Result<(), Fail>
     ];
     for (params, returned, is_async, want) in rows {
         assert_eq!(rt; matches(&rt, rt.alloc(), params, returned, is_async)?, want);
+    }
+    Ok(())
+}
+
+#[test]
+fn faults_of_types_display_their_names(rt: HostRuntime) -> Result<(), Fail> {
+    let names = [
+        (TypeFault::Mismatch, "Mismatch"),
+        (TypeFault::OutOfMemory, "OutOfMemory"),
+    ];
+    for (fault, want) in names {
+        let text = format!(in rt.alloc(); "{fault}")?;
+        assert_eq!(rt; text.as_str(), want);
     }
     Ok(())
 }

@@ -7,7 +7,9 @@ use std::test::Fail;
 use wac_graph::types::{
     DefinedType, Enum, FuncType, Interface, ItemKind, PrimitiveType, Type, ValueType,
 };
-use wac_graph::{CompositionGraph, EncodeError, EncodeOptions, NodeId, NodeKind, PackageId};
+use wac_graph::{
+    CompositionGraph, EncodeError, EncodeOptions, MergeFault, NodeId, NodeKind, PackageId,
+};
 
 // What a package imports or exports.
 #[derive(Clone, Copy)]
@@ -16,10 +18,14 @@ pub enum Item {
     Plain,
     // A function with a parameter.
     Other,
+    // A function without parameters that gives a bool.
+    Telling,
     // An instance that exports the function `a`.
     Instance,
-    // An instance that exports another function `a`.
-    OtherInstance,
+    // An instance that exports a function of this name, without parameters and result.
+    Exporting(&'static str),
+    // An instance that exports a function of this name, without parameters, that gives a bool.
+    ExportingTelling(&'static str),
     // An instance without exports.
     Empty,
     // An instance of an interface of this name, which uses the type of this name of the interface of that name.
@@ -64,15 +70,25 @@ fn other_function(alloc: Global, graph: &mut CompositionGraph) -> Result<ItemKin
     Ok(ItemKind::Func(graph.add_func_type(function)?))
 }
 
-fn instance(alloc: Global, graph: &mut CompositionGraph) -> Result<ItemKind, Fail> {
-    let a = function(alloc, graph)?;
-    let interface = Interface::new(alloc, None, &[("a", a)])?;
+fn telling_function(alloc: Global, graph: &mut CompositionGraph) -> Result<ItemKind, Fail> {
+    let result = Some(ValueType::Primitive(PrimitiveType::Bool));
+    let function = FuncType::new(alloc, &[], result, false)?;
+    Ok(ItemKind::Func(graph.add_func_type(function)?))
+}
+
+fn exporting(alloc: Global, graph: &mut CompositionGraph, name: &str) -> Result<ItemKind, Fail> {
+    let item = function(alloc, graph)?;
+    let interface = Interface::new(alloc, None, &[(name, item)])?;
     Ok(ItemKind::Instance(graph.add_interface(interface)?))
 }
 
-fn other_instance(alloc: Global, graph: &mut CompositionGraph) -> Result<ItemKind, Fail> {
-    let a = other_function(alloc, graph)?;
-    let interface = Interface::new(alloc, None, &[("a", a)])?;
+fn exporting_telling(
+    alloc: Global,
+    graph: &mut CompositionGraph,
+    name: &str,
+) -> Result<ItemKind, Fail> {
+    let item = telling_function(alloc, graph)?;
+    let interface = Interface::new(alloc, None, &[(name, item)])?;
     Ok(ItemKind::Instance(graph.add_interface(interface)?))
 }
 
@@ -109,8 +125,10 @@ impl Bench {
         match item {
             Item::Plain => Ok(function(self.alloc, &mut self.graph)?),
             Item::Other => other_function(self.alloc, &mut self.graph),
-            Item::Instance => instance(self.alloc, &mut self.graph),
-            Item::OtherInstance => other_instance(self.alloc, &mut self.graph),
+            Item::Telling => telling_function(self.alloc, &mut self.graph),
+            Item::Instance => exporting(self.alloc, &mut self.graph, "a"),
+            Item::Exporting(name) => exporting(self.alloc, &mut self.graph, name),
+            Item::ExportingTelling(name) => exporting_telling(self.alloc, &mut self.graph, name),
             Item::Empty => empty_instance(self.alloc, &mut self.graph),
             Item::Using(id, name, used) => {
                 using_instance(self.alloc, &mut self.graph, id, name, used)
@@ -249,27 +267,26 @@ impl Bench {
         Ok(())
     }
 
-    // The bytes in hexadecimal, or the error's text; asked once more where memory was refused.
-    pub fn encoded(&self, options: EncodeOptions<'_>) -> Result<String, Fail> {
-        let answer = match self.graph.encode(options) {
+    // What `encode` answers; asked once more where memory was refused.
+    fn encode(&self, options: EncodeOptions<'_>) -> Result<Vec<u8>, EncodeError> {
+        match self.graph.encode(options) {
             Err(EncodeError::OutOfMemory) => self.graph.encode(options),
             answer => answer,
-        };
-        match answer {
+        }
+    }
+
+    // The bytes in hexadecimal, or the error's text.
+    pub fn encoded(&self, options: EncodeOptions<'_>) -> Result<String, Fail> {
+        match self.encode(options) {
             Ok(bytes) => Ok(hex::encode(self.alloc, &bytes)?),
             Err(error) => shown(self.alloc, error),
         }
     }
 
     // What the refusal names: the node of a cycle, or the import, the instantiation, its package and the name, or an import
-    // that cannot be merged and the nodes that ask for it, or one of a circle; asked once more where memory was refused.
+    // that cannot be merged, the nodes that ask for it and the export that differs, or one of a circle.
     pub fn refused(&self) -> Result<String, Fail> {
-        let options = EncodeOptions::default();
-        let answer = match self.graph.encode(options) {
-            Err(EncodeError::OutOfMemory) => self.graph.encode(options),
-            answer => answer,
-        };
-        match answer {
+        match self.encode(EncodeOptions::default()) {
             Err(EncodeError::GraphContainsCycle { node }) => shown(self.alloc, node),
             Err(
                 EncodeError::ImplicitImportConflict {
@@ -284,9 +301,9 @@ impl Bench {
                     import,
                     first,
                     second,
-                    source,
+                    source: MergeFault::Disagree { export, .. },
                 },
-            ) => Ok(format!(in self.alloc; "{import}, {first}, {second}, {source}")?),
+            ) => Ok(format!(in self.alloc; "{import}, {first}, {second}, Disagree `{export}`")?),
             Err(
                 EncodeError::ExplicitImportMergeConflict {
                     import,

@@ -1,5 +1,7 @@
 use super::bench::Call::{Alias, Export, Import, Instantiate, Register, Set};
-use super::bench::Item::{Empty, Instance, Other, OtherInstance, Plain, Using};
+use super::bench::Item::{
+    Empty, Exporting, ExportingTelling, Instance, Other, Plain, Telling, Using,
+};
 use super::bench::{Bench, Call};
 use std::process::Abort;
 use std::test::Fail;
@@ -90,19 +92,42 @@ const CONFLICT_AND_CYCLE: &[(Call<'static>, &str)] = &[
 // Two packages that import functions of one name which differ.
 const IMPLICIT_MERGE: &[(Call<'static>, &str)] = &[
     (Register("my:package", &[("x", Plain)], &[]), ""),
-    (Register("my:other", &[("x", Other)], &[]), ""),
+    (Register("my:other", &[("x", Telling)], &[]), ""),
     (Instantiate(0), "0"),
     (Instantiate(1), "1"),
+];
+
+// Three packages that import versions of one interface, of which the last two have functions of one name which differ.
+const EXPORT_MERGE: &[(Call<'static>, &str)] = &[
+    (
+        Register("my:package1", &[("a:b/c@0.2.0", Exporting("f"))], &[]),
+        "",
+    ),
+    (
+        Register("my:package2", &[("a:b/c@0.2.1", Exporting("g"))], &[]),
+        "",
+    ),
+    (
+        Register(
+            "my:package3",
+            &[("a:b/c@0.2.2", ExportingTelling("g"))],
+            &[],
+        ),
+        "",
+    ),
+    (Instantiate(0), "0"),
+    (Instantiate(1), "1"),
+    (Instantiate(2), "2"),
 ];
 
 // An import of a later version of what a package imports, with another function.
 const EXPLICIT_MERGE: &[(Call<'static>, &str)] = &[
     (
-        Register("my:package", &[("a:b/c@0.2.0", Instance)], &[]),
+        Register("my:package", &[("a:b/c@0.2.0", Exporting("f"))], &[]),
         "",
     ),
     (Instantiate(0), "0"),
-    (Import("a:b/c@0.2.1", OtherInstance), "1"),
+    (Import("a:b/c@0.2.1", ExportingTelling("f")), "1"),
 ];
 
 // Two packages, of which the first imports an interface that uses one of the second's, in another version, and the second
@@ -378,7 +403,12 @@ fn a_cycle_is_named_before_a_conflict(rt: HostRuntime) -> Result<(), Fail> {
 
 #[test]
 fn functions_of_one_name_differ(rt: HostRuntime) -> Result<(), Fail> {
-    assert_refused(&rt, IMPLICIT_MERGE, "x, 0, 1, Disagree")
+    assert_refused(&rt, IMPLICIT_MERGE, "x, 0, 1, Disagree ``")
+}
+
+#[test]
+fn exports_of_one_name_differ(rt: HostRuntime) -> Result<(), Fail> {
+    assert_refused(&rt, EXPORT_MERGE, "a:b/c@0.2.2, 1, 2, Disagree `g`")
 }
 
 #[test]
