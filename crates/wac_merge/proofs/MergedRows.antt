@@ -1,10 +1,12 @@
 -- Worked examples of merging, each decided by computing.
-use Rattle.std.specs.Prelude.{ℕ, ◌≡◌, Bool, false, nat_lt, List, [], ◌∷◌, Option, Some, None, refl}
+use Rattle.std.specs.Prelude.{ℕ, zero, suc, ◌≡◌, ◌≢◌, Bool, true, false, if◌then◌else◌, nat_lt, List, [], ◌∷◌, Option, Some, None, refl, slice_get}
+use Rattle.std.specs.List.{AllByRecursion}
+use Rattle.std.proofs.Common.{subst, arith}
 use Rattle.wac_names.specs.Track.{Track, whole, major}
-use Rattle.wac_collection.specs.Name.{Name}
-use Rattle.wac_collection.specs.Tree.{Tree, imported, exported, position, named, own, absent, fresh, function, function_item, type_equal, resource, items_in, type_in}
+use Rattle.wac_collection.specs.Name.{Name, same_name}
+use Rattle.wac_collection.specs.Tree.{Tree, TypeTree, imported, exported, position, named, own, absent, fresh, function, function_item, type_equal, resource, instance, instance_item, items_in, type_in}
 use Rattle.wac_collection.specs.Held.{part_at}
-use Rattle.wac_collection.specs.Bound.{held_tree}
+use Rattle.wac_collection.specs.Bound.{held_tree, held_item}
 use Rattle.wac_collection.specs.Collection.{Collection}
 use Rattle.wac_collection.specs.declared.collection.Held.{Held}
 use Rattle.wac_collection.specs.declared.component.Resource.{Resource}
@@ -16,11 +18,13 @@ use Rattle.wac_collection.specs.declared.component.ItemKind.TheVariants as kind
 use Rattle.wac_collection.specs.declared.component.ValueType.{ValueType}
 use Rattle.wac_collection.specs.declared.component.ValueType.TheVariants as val
 use Rattle.wac_collection.specs.declared.component.«Type».TheVariants as ty
-use Rattle.wac_entries.specs.Classes.{Entry, NameRules, class_names, canonical}
+use Rattle.wac_types.specs.Subtype.{Sub, same, instances, instance_items, IsSubtype, type_tree}
+use Rattle.wac_entries.specs.Classes.{Entry, NameRules, class_names, canonical, members}
 use Rattle.wac_entries.specs.Binding.{binding_class, root_bindings}
-use Rattle.wac_agreement.specs.Union.{merged}
+use Rattle.wac_agreement.specs.Union.{union, merged}
 use Rattle.wac_entries.specs.Agreement.{compared}
-use Rattle.wac_agreement.specs.ClassOrder.{grouped}
+use Rattle.wac_agreement.specs.ClassOrder.{grouped, RestsOn, by_use, by_resource, IsWrittenOrder, done, new, leaves, none}
+use Rattle.wac_merge.specs.Merge.{Merged, IsMerge, IsListed, class_id, position_in, bound_resource}
 
 -- names of one number are labels; of two, an interface and its version on one track
 abbrev simple_track : Name → Track
@@ -188,3 +192,197 @@ item_before = record { name = r; kind = of_resource 0 } ∷ record { name = 1 �
 pub item_is_fresh : merged simple one_interface item_before (root_bindings simple one_interface item_before (λ k. k)) 0 r ≡ fresh
 unfolding held_tree
 item_is_fresh = refl
+
+-- one name for a resource that an interface asked before binds, and for one that nothing else binds: the import is a new resource
+abbrev bound_and_new : List Entry
+bound_and_new = record { name = 1 ∷ 0 ∷ []; kind = of_interface 0 } ∷ record { name = r; kind = of_resource 0 } ∷ record { name = r; kind = of_resource 1 } ∷ []
+
+pub new_in_one_is_new : merged simple two_resources bound_and_new (root_bindings simple two_resources bound_and_new (λ k. k)) 1 r ≡ fresh
+unfolding held_tree
+new_in_one_is_new = refl
+
+-- so it is when the new one is asked first
+abbrev new_and_bound : List Entry
+new_and_bound = record { name = 1 ∷ 0 ∷ []; kind = of_interface 0 } ∷ record { name = r; kind = of_resource 1 } ∷ record { name = r; kind = of_resource 0 } ∷ []
+
+pub new_first_is_new : merged simple two_resources new_and_bound (root_bindings simple two_resources new_and_bound (λ k. k)) 1 r ≡ fresh
+unfolding held_tree
+new_first_is_new = refl
+
+-- both are bound by the interface of their names' track: equal to its resource
+abbrev both_bound : List Entry
+both_bound = record { name = 1 ∷ 0 ∷ []; kind = of_interface 0 } ∷ record { name = 1 ∷ 3 ∷ []; kind = of_interface 1 } ∷ record { name = r; kind = of_resource 0 } ∷ record { name = r; kind = of_resource 1 } ∷ []
+
+pub both_are_equal : merged simple two_resources both_bound (root_bindings simple two_resources both_bound (λ k. k)) 1 r
+    ≡ type_equal (resource (record { out = 0; side = imported; path = position 0 ∷ named r ∷ [] }))
+unfolding held_tree
+both_are_equal = refl
+
+-- the id of an import: the canonical name on the track of a member's id, else the id of the first member, if it has one
+pub id_on_track : class_id simple two_versions two_asked (1 ∷ 0 ∷ []) ≡ Some (1 ∷ 3 ∷ [])
+id_on_track = refl
+
+pub id_under_label : class_id simple one_interface two_labels (5 ∷ []) ≡ Some (1 ∷ 0 ∷ [])
+id_under_label = refl
+
+pub no_id : class_id simple without_ids one_label (5 ∷ []) ≡ None
+no_id = refl
+
+-- of a finished merge: the import of an id binds its own resources under their names, and nothing else
+abbrev finished : Merged
+finished = record {
+  types = record {
+    resources = resource_called r ∷ record { item = record { name = r; alias = Some (record { owner = None; source = record { 0 = 0 } }) }; before = 1 } ∷ [];
+    funcs = own_parameter 0 ∷ [];
+    defined = [];
+    interfaces = interface_of (Some (1 ∷ 3 ∷ [])) [] ((r, of_resource 0) ∷ (f, of_function 0) ∷ (g, of_resource 1) ∷ []) ∷ [];
+    worlds = [];
+    modules = [];
+  };
+  imports = record { name = 1 ∷ 3 ∷ []; kind = of_interface 0 } ∷ record { name = 5 ∷ []; kind = of_interface 0 } ∷ [];
+}
+
+pub own_is_bound : bound_resource finished (1 ∷ 3 ∷ []) r ≡ Some (record { 0 = 0 })
+own_is_bound = refl
+
+pub alias_is_not_bound : bound_resource finished (1 ∷ 3 ∷ []) g ≡ None
+alias_is_not_bound = refl
+
+pub function_is_not_bound : bound_resource finished (1 ∷ 3 ∷ []) f ≡ None
+function_is_not_bound = refl
+
+pub other_id_binds_nothing : bound_resource finished (1 ∷ 0 ∷ []) r ≡ None
+other_id_binds_nothing = refl
+
+pub label_binds_nothing : bound_resource finished (5 ∷ []) r ≡ None
+label_binds_nothing = refl
+
+-- a whole merge: the two versions are one import, of an interface with both functions
+abbrev two_finished : Merged
+two_finished = record {
+  types = record two_versions { interfaces = interface_of (Some (1 ∷ 3 ∷ [])) [] ((f, of_function 0) ∷ (g, of_function 0) ∷ []) ∷ [] };
+  imports = record { name = 1 ∷ 3 ∷ []; kind = of_interface 0 } ∷ [];
+}
+
+same_some : {A : Type 0} (x y : A) → Some x ≡ Some y → x ≡ y
+same_some x y h = cc
+
+no_some : {A : Type 0} (a : A) → None ≡ Some a → ⊥
+no_some a h = cc
+
+-- what holds of the only element of a list holds of each
+of_one : {A : Type 0} (P : ℕ → A → Type 0) (x : A) → P 0 x → (p : ℕ) (y : A) → slice_get (x ∷ []) p ≡ Some y → P p y
+of_one P x h zero y there = subst (P 0) (same_some x y there) h
+of_one P x h (suc p) y there = absurd (no_some y there)
+
+-- so of the import and its class
+of_import : (P : ℕ → ℕ → Name → Entry → Type 0) → P 0 0 (1 ∷ 0 ∷ []) (record { name = 1 ∷ 3 ∷ []; kind = of_interface 0 })
+    → (p k : ℕ) (class : Name) (e : Entry) → slice_get (0 ∷ []) p ≡ Some k → slice_get (class_names simple two_asked) k ≡ Some class → slice_get two_finished.imports p ≡ Some e
+    → P p k class e
+of_import P h p k class e is_class is_name is_import =
+    of_one (λ p k. (class : Name) (e : Entry) → slice_get (class_names simple two_asked) k ≡ Some class → slice_get two_finished.imports p ≡ Some e → P p k class e) 0
+    (λ class e is_name is_import.
+    of_one (λ k class. k ≡ 0 → P 0 0 class e) (1 ∷ 0 ∷ [])
+    (λ _. of_one (λ p e. p ≡ 0 → P 0 0 (1 ∷ 0 ∷ []) e) (record { name = 1 ∷ 3 ∷ []; kind = of_interface 0 }) (λ _. h) 0 e is_import refl)
+    0 class is_name refl)
+    p k is_class class e is_name is_import
+
+-- no class rests on itself
+rests_apart : (a b : ℕ) → RestsOn simple two_versions two_asked a b → a ≢ b
+rests_apart a b (by_use _ _ class name_of name id e i it used u other is_class is_other member is there listed is_used has_id one) = other
+rests_apart a b (by_resource _ _ class e other is_class member h) = other
+
+two_written : IsWrittenOrder simple two_versions two_asked (0 ∷ [])
+two_written = new [] [] [] (0 ∷ []) 0 [] (λ h. omega (arith, h.1)) (leaves 0 [] [] (λ r. rests_apart 0 0 r refl) none) (done []) (done (0 ∷ []))
+
+-- an item of both listings is the union of the two
+joined : (b d : Bool) → (if b then no_function else if d then no_function else absent) ≡ union (if b then no_function else absent) (if d then no_function else absent)
+joined true true = refl
+joined true false = refl
+joined false d = refl
+
+-- and a subtype of each of the two
+abbrev no_function_by_name : TypeTree Name
+no_function_by_name = function_item (function false [] (part_at []) absent)
+
+fits_first : (b d : Bool) → (if b then no_function_by_name else absent) ≢ absent
+    → Sub (if b then no_function_by_name else if d then no_function_by_name else absent) (if b then no_function_by_name else absent)
+fits_first true d there = same no_function_by_name tt
+fits_first false d there = absurd (there refl)
+
+fits_second : (b d : Bool) → (if d then no_function_by_name else absent) ≢ absent
+    → Sub (if b then no_function_by_name else if d then no_function_by_name else absent) (if d then no_function_by_name else absent)
+fits_second true true there = same no_function_by_name tt
+fits_second false true there = same no_function_by_name tt
+fits_second b false there = absurd (there refl)
+
+two_items : held_item two_finished.types (root_bindings simple two_finished.types two_finished.imports (λ i. i)) imported (position 0 ∷ []) (of_interface 0)
+    ≡ merged simple two_versions two_asked (root_bindings simple two_versions two_asked (position_in (0 ∷ []))) 0 (1 ∷ 0 ∷ [])
+unfolding held_tree
+two_items = λ d. instance_item (instance (λ n. joined (same_name n f) (same_name n g) d))
+
+two_subtypes : AllByRecursion (λ member. IsSubtype two_finished.types (of_interface 0) two_versions member.kind) (members simple two_asked (1 ∷ 0 ∷ []))
+unfolding type_tree
+two_subtypes =
+    let first = instance_items _ _ (instances _ _ (λ n. fits_first (same_name n f) (same_name n g))) in
+    let second = instance_items _ _ (instances _ _ (λ n. fits_second (same_name n f) (same_name n g))) in
+    (first, (second, tt))
+
+pub two_are_merged : IsMerge simple two_versions two_asked two_finished
+two_are_merged = record {
+  order = 0 ∷ [];
+  written = two_written;
+  count = refl;
+  names = of_import (λ p k class e. e.name ≡ canonical simple two_asked class) refl;
+  items = of_import (λ p k class e. held_item two_finished.types (root_bindings simple two_finished.types two_finished.imports (λ i. i)) imported (position p ∷ []) e.kind
+      ≡ merged simple two_versions two_asked (root_bindings simple two_versions two_asked (position_in (0 ∷ []))) p class) two_items;
+  listed = of_import (λ p k class e. IsListed simple two_versions two_asked class two_finished.types e.kind) (refl, (_, refl, refl));
+  subtypes = of_import (λ p k class e. AllByRecursion (λ member. IsSubtype two_finished.types e.kind two_versions member.kind) (members simple two_asked class)) two_subtypes;
+}
+
+-- two interfaces with a resource `r` each, and one that uses them as `r` and `s`: three imports, and each mention means its own
+abbrev s : Name
+s = 115 ∷ []
+
+abbrev alias_of : ℕ → Held Resource
+alias_of n = record { item = record { name = r; alias = Some (record { owner = Some (record { 0 = n }); source = record { 0 = n } }) }; before = 4 }
+
+abbrev used_from : ℕ → UsedType
+used_from n = record { interface = record { 0 = n }; name = Some r }
+
+abbrev used_resources : Collection
+used_resources = record {
+  resources = resource_called r ∷ resource_called r ∷ alias_of 0 ∷ alias_of 1 ∷ [];
+  funcs = record { item = record { params = (120 ∷ [], val.Own (record { 0 = 2 })) ∷ (121 ∷ [], val.Own (record { 0 = 3 })) ∷ []; result = None; is_async = false }; before = 6 } ∷ [];
+  defined = [];
+  interfaces = interface_of (Some (1 ∷ 0 ∷ [])) [] ((r, of_resource 0) ∷ []) ∷ interface_of (Some (2 ∷ 0 ∷ [])) [] ((r, of_resource 1) ∷ [])
+      ∷ record { item = record { id = Some (3 ∷ 0 ∷ []); uses = (r, used_from 0) ∷ (s, used_from 1) ∷ []; exports = (r, of_resource 2) ∷ (s, of_resource 3) ∷ (f, of_function 0) ∷ [] }; before = 7 } ∷ [];
+  worlds = [];
+  modules = [];
+}
+
+abbrev three_interfaces : List Entry
+three_interfaces = record { name = 1 ∷ 0 ∷ []; kind = of_interface 0 } ∷ record { name = 2 ∷ 0 ∷ []; kind = of_interface 1 } ∷ record { name = 3 ∷ 0 ∷ []; kind = of_interface 2 } ∷ []
+
+pub three_classes : class_names simple three_interfaces ≡ (1 ∷ 0 ∷ []) ∷ (2 ∷ 0 ∷ []) ∷ (3 ∷ 0 ∷ []) ∷ []
+three_classes = refl
+
+pub first_binds_its_own : binding_class simple used_resources three_interfaces (record { 0 = 0 }) ≡ Some (0, named r ∷ [])
+first_binds_its_own = refl
+
+pub second_binds_its_own : binding_class simple used_resources three_interfaces (record { 0 = 1 }) ≡ Some (1, named r ∷ [])
+second_binds_its_own = refl
+
+abbrev using : Tree
+using = merged simple used_resources three_interfaces (root_bindings simple used_resources three_interfaces (λ k. k)) 2 (3 ∷ 0 ∷ [])
+
+pub function_means_both : items_in (type_in using) f ≡ function_item (function false ((120 ∷ []) ∷ (121 ∷ []) ∷ []) (part_at
+    (own (record { out = 1; side = imported; path = position 0 ∷ named r ∷ [] })
+    ∷ own (record { out = 1; side = imported; path = position 1 ∷ named r ∷ [] })
+    ∷ [])) absent)
+unfolding held_tree
+function_means_both = refl
+
+pub listed_is_the_second : items_in (type_in using) s ≡ type_equal (resource (record { out = 1; side = imported; path = position 1 ∷ named r ∷ [] }))
+unfolding held_tree
+listed_is_the_second = refl
