@@ -11,3 +11,4 @@ pub mod Packages
 pub mod AsGiven
 pub mod Under
 pub mod Clones
+pub mod Rows

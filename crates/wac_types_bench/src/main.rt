@@ -1,6 +1,7 @@
-//! Times how long items of two collections take to compare: tuples doubled so many deep, a chain of lists, aliases and
-//! options, and interfaces of functions over records. Without an argument it compares a few and prints no time. With a
-//! number it compares each at that count, twice and four times it, and prints by which power of the count the time grows.
+//! Times how long items of two collections take to add and to compare: tuples doubled so many deep, a chain of lists,
+//! aliases and options, a tuple of aliases of each other, and interfaces of functions over records. Without an argument it
+//! compares a few and prints no time. With a number it takes each at that count, twice and four times it, and prints by
+//! which powers of the count the times grow.
 #![tactic(auto)]
 
 use anyhow::Result;
@@ -26,12 +27,14 @@ const HALF_TENTH: f64 = 1.0717734625362931;
 enum Sort {
     Tuples,
     Chain,
+    Aliases,
     Functions,
 }
 
-/// How long the rounds of a comparison took.
+/// How long the items took to add, and the rounds of their comparison.
 #[derive(Clone, Copy)]
 struct Times {
+    added: Duration,
     least: Duration,
     middle: Duration,
 }
@@ -62,6 +65,19 @@ fn chain(types: &mut Types, count: u64) -> Result<ItemKind> {
         value = ValueType::Defined(types.add_defined_type(next)?);
     }
     Ok(ItemKind::Value(value))
+}
+
+/// Adds aliases, each of the one before, and a tuple of them all.
+fn aliases(alloc: Global, types: &mut Types, count: u64) -> Result<ItemKind> {
+    let mut value = primitive(PrimitiveType::Bool);
+    let mut listed = Vec::new(alloc);
+    for _ in 0..count {
+        value = ValueType::Defined(types.add_defined_type(DefinedType::Alias(value))?);
+        listed.push(value)?;
+    }
+    let tuple = DefinedType::Tuple(Sequence::new(alloc, listed.as_slice())?);
+    let tuple = types.add_defined_type(tuple)?;
+    Ok(ItemKind::Value(ValueType::Defined(tuple)))
 }
 
 /// Adds a list, an option, and a record with fields of them.
@@ -105,6 +121,7 @@ fn item(alloc: Global, types: &mut Types, sort: Sort, count: u64) -> Result<Item
     match sort {
         Sort::Tuples => tuples(alloc, types, count),
         Sort::Chain => chain(types, count),
+        Sort::Aliases => aliases(alloc, types, count),
         Sort::Functions => functions(alloc, types, count),
     }
 }
@@ -117,12 +134,14 @@ fn is_subtype(a: ItemKind, at: &Types, b: ItemKind, bt: &Types) -> bool {
     SubtypeChecker::new().is_subtype(a, at, b, bt).is_ok()
 }
 
-/// Adds items of so many parts to two collections, and prints how long they take to compare.
+/// Adds items of so many parts to two collections, and prints how long they take to add and to compare.
 fn measure(rt: &HostRuntime, what: &str, sort: Sort, count: u64) -> Result<Times> {
     let mut first = Types::new(rt.alloc());
     let mut second = Types::new(rt.alloc());
+    let start = Instant::now(rt)?;
     let a = item(rt.alloc(), &mut first, sort, count)?;
     let b = item(rt.alloc(), &mut second, sort, count)?;
+    let added = start.elapsed(rt)?;
     let mut rounds = Vec::new(rt.alloc());
     let mut answer = true;
     for _ in 0..ROUNDS {
@@ -132,12 +151,16 @@ fn measure(rt: &HostRuntime, what: &str, sort: Sort, count: u64) -> Result<Times
     }
     rounds.sort()?;
     let times = Times {
+        added,
         least: rounds.first().copied().unwrap_or(Duration::ZERO),
         middle: rounds.get(ROUNDS / 2).copied().unwrap_or(Duration::ZERO),
     };
+    let added = times.added.as_micros();
     let least = times.least.as_micros();
     let middle = times.middle.as_micros();
-    println!(rt; "{what} {count}: {answer}, least {least} us, middle {middle} us")?;
+    println!(rt;
+        "{what} {count}: {answer}, added in {added} us, least {least} us, middle {middle} us"
+    )?;
     Ok(times)
 }
 
@@ -154,16 +177,28 @@ fn power_in_tenths(first: Duration, last: Duration) -> u32 {
     100
 }
 
-/// Measures at a count, twice and four times it, and prints how the time grows.
+/// Measures at a count, twice and four times it, and prints how the times grow.
 fn measure_growth(rt: &HostRuntime, what: &str, sort: Sort, count: u32) -> Result<()> {
     let count = u64::from(count);
     let first = measure(rt, what, sort, count)?;
     let _ = measure(rt, what, sort, 2 * count)?;
     let last = measure(rt, what, sort, 4 * count)?;
-    let tenths = power_in_tenths(first.least, last.least);
+    print_power(rt, what, "adding", first.added, last.added)?;
+    print_power(rt, what, "comparing", first.least, last.least)
+}
+
+/// Prints by which power of the count a time grows.
+fn print_power(
+    rt: &HostRuntime,
+    what: &str,
+    step: &str,
+    first: Duration,
+    last: Duration,
+) -> Result<()> {
+    let tenths = power_in_tenths(first, last);
     let whole = tenths / 10;
     let rest = tenths % 10;
-    println!(rt; "{what}: the time grows by the power {whole}.{rest} of the count")?;
+    println!(rt; "{what}: the time of {step} grows by the power {whole}.{rest} of the count")?;
     Ok(())
 }
 
@@ -178,7 +213,8 @@ fn main(rt: HostRuntime) -> Result<()> {
         let a = tuples(rt.alloc(), &mut first, 60)?;
         let b = chain(&mut first, 100_000)?;
         let c = chain(&mut second, 100_000)?;
-        let same = is_subtype(a, &first, a, &first);
+        let d = tuples(rt.alloc(), &mut second, 60)?;
+        let same = is_subtype(a, &first, d, &second);
         let other = is_subtype(a, &first, b, &first);
         let long = is_subtype(b, &first, c, &second);
         println!(rt;
@@ -189,6 +225,7 @@ fn main(rt: HostRuntime) -> Result<()> {
     measure(&rt, "tuples", Sort::Tuples, 60)?;
     measure_growth(&rt, "tuples", Sort::Tuples, count)?;
     measure_growth(&rt, "chain", Sort::Chain, count)?;
+    measure_growth(&rt, "aliases", Sort::Aliases, count)?;
     measure_growth(&rt, "functions", Sort::Functions, count)?;
     Ok(())
 }
