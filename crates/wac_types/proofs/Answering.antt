@@ -1,5 +1,5 @@
 -- What the answers for two value types rest on.
-use Rattle.std.proofs.Common.{ℕ, zero, suc, Bool, true, List, [], ◌∷◌, ◌≡◌, ◌+◌, length, refl, ap, sym, ◌∙◌, subst, Option, Some, None, arith, nat_lt}
+use Rattle.std.proofs.Common.{ℕ, zero, suc, Bool, true, List, [], ◌∷◌, ◌≡◌, ◌+◌, length, refl, ap, sym, ◌∙◌, subst, Option, Some, None, ◌⊎◌, inl, inr, arith, nat_lt}
 use Rattle.wac_collection.specs.Name.{Name, option_case}
 use Rattle.wac_types.specs.declared.checker.Question.{Question}
 use Rattle.wac_collection.specs.declared.collection.Held.{Held}
@@ -11,13 +11,14 @@ use Rattle.wac_collection.specs.declared.component.DefinedType.TheVariants as de
 use Rattle.wac_collection.specs.declared.component.ValueType.{ValueType}
 use Rattle.wac_collection.specs.declared.component.ValueType.TheVariants as val
 use Rattle.wac_collection.specs.declared.component.«Type».TheVariants as ty
-use Rattle.wac_collection.specs.Collection.{Collection, IsWellFormed, defined_mentions, holds_type, item_at}
+use Rattle.wac_collection.specs.Collection.{Collection, size, IsWellFormed, IsValueBefore, defined_mentions, holds_type, item_at}
 use Rattle.wac_collection.specs.Tree.{TypeTree, absent, primitive, own, borrow, resource}
 use Rattle.wac_collection.specs.Held.{resolved, defined_tree}
+use Rattle.wac_collection.specs.Aliases.{target_of, value_resolved_in, value_resolved}
 use Rattle.wac_types.specs.Subtype.{resource_names, type_tree}
 use Rattle.wac_types.specs.Compare.{value_in, defined_in, aliased, alias_in}
 use Rattle.wac_types.specs.Questions.{in_order, type_rank, Settles, Asks, Refutes}
-use Rattle.wac_types.proofs.Unfolding.{Opens, opens_defined, held_at_rank, primitive_in}
+use Rattle.wac_types.proofs.Unfolding.{Opens, opens_defined, held_at_rank, before_rank, value_more, primitive_in}
 use Rattle.wac_types.proofs.Asking.{settles_more, settles_iff, settles_opened}
 use Rattle.wac_types.proofs.Sorts.{are_there, name_of_resource}
 
@@ -36,24 +37,61 @@ alias_opens c wf (val.Defined d) a e = opens_defined c wf d (def.Alias a) (by (i
     by None h = cc
     by (Some x) h = ap Some (aliased_is x a h)
 
-module _ (t : Bool) (x y : Collection) (o k : List Question) where
-  pub alias_left : IsWellFormed x → (v w a : ValueType) → holds_type y (ty.Value w) ≡ true → alias_in x v ≡ Some a → Asks t x y (ty.Value a ∷ []) (ty.Value w ∷ []) o k (value_in x a ≡ value_in y w)
-      → Settles (in_order t x y) (type_rank x (ty.Value v) + type_rank y (ty.Value w)) o k (value_in x v ≡ value_in y w)
-  alias_left wf v w a hw e asks =
-      let oa = alias_opens x wf v a e in
-      let n = type_rank y (ty.Value w) in
-      let s = asks.settles oa.before n oa.held (held_at_rank y (ty.Value w) hw, tt) in
+module _ (c : Collection) (wf : IsWellFormed c) where
+  end_by : (k n : ℕ) (v : ValueType) (o : Option ValueType) → target_of c v ≡ o → IsValueBefore c n v
+      → ((u : ValueType) → IsValueBefore c n u → IsValueBefore c n (value_resolved_in k c u) × (value_in c u ≡ value_in c (value_resolved_in k c u)))
+      → (let e = option_case o v (λ u. value_resolved_in k c u) in IsValueBefore c n e × (value_in c v ≡ value_in c e))
+  end_by k n v None e b rest = (b, refl)
+  end_by k n v (Some u) e b rest =
+      let oa = alias_opens c wf v u e in
       let r = oa.rank in
-      settles_more _ _ _ o k (omega (arith, r)) (settles_iff _ _ o k (λ h. oa.is ∙ h) (λ h. sym oa.is ∙ h) s)
+      let below = before_rank c n (ty.Value v) b in
+      let s = rest u (value_more c oa.before n u (omega (arith, r, below)) oa.held.0) in
+      (s.0, oa.is ∙ s.1)
 
-  pub alias_right : IsWellFormed y → (v w a : ValueType) → holds_type x (ty.Value v) ≡ true → alias_in y w ≡ Some a → Asks t x y (ty.Value v ∷ []) (ty.Value a ∷ []) o k (value_in x v ≡ value_in y a)
+  -- the end of a chain of aliases was added no later, and has the same tree
+  end_in : (k n : ℕ) (v : ValueType) → IsValueBefore c n v → IsValueBefore c n (value_resolved_in k c v) × (value_in c v ≡ value_in c (value_resolved_in k c v))
+  end_in zero n v b = (b, refl)
+  end_in (suc k) n v b = end_by k n v _ refl b (λ u h. end_in k n u h)
+
+  pub end_keeps : (v a : ValueType) → a ≡ value_resolved c v → holds_type c (ty.Value v) ≡ true → IsValueBefore c (type_rank c (ty.Value v)) a × (value_in c v ≡ value_in c a)
+  end_keeps v a e h =
+      let P : ValueType → Type 0 = λ u. IsValueBefore c (type_rank c (ty.Value v)) u × (value_in c v ≡ value_in c u) in
+      subst P (sym e) (end_in (size c) (type_rank c (ty.Value v)) v (held_at_rank c (ty.Value v) h))
+
+  opens_by : (k : ℕ) (v : ValueType) (o : Option ValueType) → target_of c v ≡ o → (let e = option_case o v (λ u. value_resolved_in k c u) in (e ≡ v → ⊥) → Opens c (ty.Value v) (ty.Value e ∷ []) (value_in c e))
+  opens_by k v None e n = absurd (n refl)
+  opens_by k v (Some u) e n =
+      let oa = alias_opens c wf v u e in
+      let s = end_in k oa.before u oa.held.0 in
+      record { before = oa.before; rank = oa.rank; held = (s.0, tt); is = oa.is ∙ s.1 }
+
+  opens_in : (k : ℕ) (v : ValueType) → (value_resolved_in k c v ≡ v → ⊥) → Opens c (ty.Value v) (ty.Value (value_resolved_in k c v) ∷ []) (value_in c (value_resolved_in k c v))
+  opens_in zero v n = absurd (n refl)
+  opens_in (suc k) v n = opens_by k v _ refl n
+
+  -- what is not its own end has the tree of its end
+  pub end_opens : (v a : ValueType) → a ≡ value_resolved c v → (a ≡ v → ⊥) → Opens c (ty.Value v) (ty.Value a ∷ []) (value_in c a)
+  end_opens v a e n =
+      let P : ValueType → Type 0 = λ u. (u ≡ v → ⊥) → Opens c (ty.Value v) (ty.Value u ∷ []) (value_in c u) in
+      subst P (sym e) (opens_in (size c) v) n
+
+module _ (t : Bool) (x y : Collection) (o k : List Question) where
+  pub ends_settle : IsWellFormed x → IsWellFormed y → (v w a b : ValueType) → holds_type x (ty.Value v) ≡ true → holds_type y (ty.Value w) ≡ true → a ≡ value_resolved x v → b ≡ value_resolved y w → (a ≡ v → ⊥) ⊎ (b ≡ w → ⊥)
+      → Asks t x y (ty.Value a ∷ []) (ty.Value b ∷ []) o k (value_in x a ≡ value_in y b)
       → Settles (in_order t x y) (type_rank x (ty.Value v) + type_rank y (ty.Value w)) o k (value_in x v ≡ value_in y w)
-  alias_right wf v w a hv e asks =
-      let ob = alias_opens y wf w a e in
-      let m = type_rank x (ty.Value v) in
-      let s = asks.settles m ob.before (held_at_rank x (ty.Value v) hv, tt) ob.held in
+  ends_settle wx wy v w a b hv hw ea eb (inl n) asks =
+      let oa = end_opens x wx v a ea n in
+      let kb = end_keeps y wy w b eb hw in
+      let s = asks.settles oa.before (type_rank y (ty.Value w)) oa.held (kb.0, tt) in
+      let r = oa.rank in
+      settles_more _ _ _ o k (omega (arith, r)) (settles_iff _ _ o k (λ h. oa.is ∙ h ∙ sym kb.1) (λ h. sym oa.is ∙ h ∙ kb.1) s)
+  ends_settle wx wy v w a b hv hw ea eb (inr n) asks =
+      let ka = end_keeps x wx v a ea hv in
+      let ob = end_opens y wy w b eb n in
+      let s = asks.settles (type_rank x (ty.Value v)) ob.before (ka.0, tt) ob.held in
       let r = ob.rank in
-      settles_more _ _ _ o k (omega (arith, r)) (settles_iff _ _ o k (λ h. h ∙ sym ob.is) (λ h. h ∙ ob.is) s)
+      settles_more _ _ _ o k (omega (arith, r)) (settles_iff _ _ o k (λ h. ka.1 ∙ h ∙ sym ob.is) (λ h. sym ka.1 ∙ h ∙ ob.is) s)
 
   pub plain_defined : IsWellFormed x → IsWellFormed y → (v w : ValueType) (d e : DefinedTypeId) (D E : DefinedType) → v ≡ val.Defined d → w ≡ val.Defined e → item_at x.defined d.0 ≡ Some D → item_at y.defined e.0 ≡ Some E
       → Asks t x y (defined_mentions D) (defined_mentions E) o k (defined_in x D ≡ defined_in y E)
@@ -66,11 +104,8 @@ module _ (t : Bool) (x y : Collection) (o k : List Question) where
       subst P (sym p) (subst Q (sym q) (settles_opened t x y _ _ _ _ _ _ o k oa ob (λ h. oa.is ∙ h ∙ sym ob.is) (λ h. sym oa.is ∙ h ∙ ob.is) asks))
 
 module _ (x y : Collection) where
-  pub alias_left_differs : IsWellFormed x → (v w a : ValueType) → alias_in x v ≡ Some a → (value_in x a ≡ value_in y w → ⊥) → value_in x v ≡ value_in y w → ⊥
-  alias_left_differs wf v w a e n h = n (sym (alias_opens x wf v a e).is ∙ h)
-
-  pub alias_right_differs : IsWellFormed y → (v w a : ValueType) → alias_in y w ≡ Some a → (value_in x v ≡ value_in y a → ⊥) → value_in x v ≡ value_in y w → ⊥
-  alias_right_differs wf v w a e n h = n (h ∙ (alias_opens y wf w a e).is)
+  pub ends_differ : IsWellFormed x → IsWellFormed y → (v w a b : ValueType) → holds_type x (ty.Value v) ≡ true → holds_type y (ty.Value w) ≡ true → a ≡ value_resolved x v → b ≡ value_resolved y w → (value_in x a ≡ value_in y b → ⊥) → value_in x v ≡ value_in y w → ⊥
+  ends_differ wx wy v w a b hv hw ea eb n h = n (sym (end_keeps x wx v a ea hv).1 ∙ h ∙ (end_keeps y wy w b eb hw).1)
 
   pub defined_differ : IsWellFormed x → IsWellFormed y → (v w : ValueType) (d e : DefinedTypeId) (D E : DefinedType) → v ≡ val.Defined d → w ≡ val.Defined e → item_at x.defined d.0 ≡ Some D → item_at y.defined e.0 ≡ Some E
       → Refutes x y (defined_mentions D) (defined_mentions E) (defined_in x D ≡ defined_in y E) → value_in x v ≡ value_in y w → ⊥

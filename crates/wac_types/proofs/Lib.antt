@@ -17,3 +17,4 @@ pub mod Kept
 pub mod CoreTypes
 pub mod CoreItems
 pub mod Subtyping
+pub mod Rows

@@ -1,5 +1,5 @@
 //! Subtyping between items of two collections.
-ghost use Rattle.std.specs.Prelude.{◌≡◌, ◌≢◌, ◌≤◌, ◌+◌, ◌↔◌, [], ◌∷◌, map, not, true, None, Err, IfOk, IsTrue};
+ghost use Rattle.std.specs.Prelude.{◌≡◌, ◌≢◌, ◌≤◌, ◌+◌, ◌↔◌, [], ◌∷◌, length, slice_get, map, not, true, None, Err, EachIndex, IfSome, IfOk, IsTrue};
 ghost use Rattle.std.specs.Option.{option_copied};
 ghost use Rattle.wac_collection.specs.Name.{find_name};
 ghost use Rattle.wac_collection.specs.Collection.{kind_type, kind_types, value_types, and_maybe, seconds, case_values, func_mentions, defined_mentions, world_mentions, holds_type};
@@ -29,6 +29,9 @@ pub enum TypeFault {
 
 /// How many parameters or fields a type may have that is looked into wherever it is mentioned.
 const FEW_PARTS: usize = 8;
+
+/// How many bytes the name of each of them may have.
+const SHORT_NAME: usize = 32;
 
 /// Compares items of two collections.
 #[derive(Clone, Copy, Debug)]
@@ -191,11 +194,27 @@ fn is_same_flat(sides: Sides, v: ValueType, w: ValueType) -> bool
     }
 }
 
-// Whether there are few fields, which are known at sight to be the same.
+// Whether there are few parts, all under short names.
+fn has_small_parts(parts: &Named<ValueType>) -> bool
+    ensures few { IsTrue result → length parts.now ≤ 8 }
+    ensures short { IsTrue result → EachIndex parts.now (λ i. IfSome (slice_get parts.now i) (λ e. length e.0 ≤ 32)) }
+{
+    if parts.len() > FEW_PARTS {
+        return false;
+    }
+    for i in 0..parts.len() {
+        if parts.name_at(i).len() > SHORT_NAME {
+            return false;
+        }
+    }
+    true
+}
+
+// Whether there are few fields under short names, which are known at sight to be the same.
 fn have_same_fields(sides: Sides, vs: &Named<ValueType>, ws: &Named<ValueType>) -> bool
     ensures { IsTrue result → map (entry_in sides.entry.first.now) vs.now ≡ map (entry_in sides.entry.second.now) ws.now }
 {
-    if vs.len() != ws.len() || vs.len() > FEW_PARTS {
+    if vs.len() != ws.len() || !has_small_parts(vs) {
         return false;
     }
     for i in 0..vs.len() {
@@ -382,7 +401,7 @@ fn ask_func(
     ask_named(asked, sides, &f.params, &g.params)
 }
 
-// Asks whether one function type is the other. Those of few parameters are looked into at once.
+// Asks whether one function type is the other. Those of few parameters under short names are looked into at once.
 fn ask_func_type(
     asked: &mut IndexSet<Question>,
     sides: Sides,
@@ -399,7 +418,7 @@ fn ask_func_type(
     }
     let f = &sides.first[i];
     let g = &sides.second[j];
-    if f.params.len() > FEW_PARTS {
+    if !has_small_parts(&f.params) {
         return ask_type(asked, sides, Type::Func(i), Type::Func(j));
     }
     ask_func(asked, sides, f, g)
@@ -549,20 +568,7 @@ fn ask_worlds(
     ask_items(asked, sides, &w.exports, &v.exports)
 }
 
-// What a value type is another name for, where it is an alias.
-fn alias_of(types: &Types, v: ValueType) -> Option<ValueType>
-    requires { holds_type types.now (ty.Value v) ≡ true }
-    ensures { result ≡ alias_in types.now v }
-{
-    if let ValueType::Defined(id) = v {
-        if let DefinedType::Alias(source) = &types[id] {
-            return Some(*source);
-        }
-    }
-    None
-}
-
-// Asks what the answer for two value types rests on.
+// Asks what the answer for two value types rests on: for aliases, on the types at their ends.
 fn answer_value(
     asked: &mut IndexSet<Question>,
     sides: Sides,
@@ -576,11 +582,10 @@ fn answer_value(
 {
     sides.first.law();
     sides.second.law();
-    if let Some(source) = alias_of(sides.first, v) {
-        return ask_value(asked, sides, source, w);
-    }
-    if let Some(source) = alias_of(sides.second, w) {
-        return ask_value(asked, sides, v, source);
+    let first = sides.first.resolve_value_type(v);
+    let second = sides.second.resolve_value_type(w);
+    if first != v || second != w {
+        return ask_value(asked, sides, first, second);
     }
     answer_plain(asked, sides, v, w)
 }
