@@ -168,7 +168,7 @@ impl Labels {
         self.names.len()
     }
 
-    /// The name at a position.
+    /// The name at a position, which is one of the list.
     pub fn name_at(&self, index: usize) -> &str
         requires { index < length self.now }
         ensures { slice_get self.now index ≡ Some result.now }
@@ -245,7 +245,7 @@ impl<V> Named<V> {
         self.entries.len()
     }
 
-    /// The name at a position.
+    /// The name at a position, which is one of the list.
     pub fn name_at(&self, index: usize) -> &str
         requires { index < length self.now }
         ensures { option_map (λ e. e.0) (slice_get self.now index) ≡ Some result.now }
@@ -254,7 +254,7 @@ impl<V> Named<V> {
         entry.0.as_str()
     }
 
-    /// The name and the value at a position.
+    /// The name and the value at a position, which is one of the list.
     pub fn entry_at(&self, index: usize) -> (&str, &V)
         requires { index < length self.now }
         ensures { slice_get self.now index ≡ Some (result.0.now, result.1.now) }
@@ -263,7 +263,7 @@ impl<V> Named<V> {
         (name.as_str(), value)
     }
 
-    /// The value at a position.
+    /// The value at a position, which is one of the list.
     pub fn value_at(&self, index: usize) -> &V
         requires { index < length self.now }
         ensures { option_map (λ e. e.1) (slice_get self.now index) ≡ Some result.now }

@@ -22,7 +22,8 @@ use Rattle.wac_collection.specs.Tree.{Side, imported, exported, Place, Leaf, nam
 use Rattle.wac_collection.specs.Held.{Naming, Names, Unfolding, items_under, item_tree, of_held, step, unfolded_to, unfolded, source_of, resolved, resolved_in}
 use Rattle.wac_collection.specs.Bound.{Bindings, by_place, held_tree, lists_own, own_name, is_alias, bound_by, bound_in_order, first_bound, lists_type, binds_here, is_here}
 use Rattle.wac_types.specs.Subtype.{by_name, resource_names, held_name, type_tree}
-use Rattle.wac_types.specs.TreeLaws.{IsKeptBy, KeepsTrees, GrowthKeepsTrees}
+use Rattle.wac_types.specs.Called.{Called, bound_at, or_around, by_binding, resource_name, one_out}
+use Rattle.wac_types.specs.TreeLaws.{IsKeptBy, KeepsTrees, GrowthKeepsTrees, KeepsCalledTrees, GrowthKeepsCalledTrees}
 use Rattle.wac_types.proofs.Unfolding.{all_map, all_left, all_right, type_before, before_more, values_all, func_same, defined_same, item_same}
 use Rattle.wac_types.proofs.Sorts.{resolved_there}
 
@@ -334,6 +335,36 @@ module _ (c d : Collection) (wf : IsWellFormed c) (g : IsKeptBy c d) (grown : le
     (λ m t h. sym (unfolded_kept c d wf g grown (by_place c) (by_place d) places_agree le m m (same_agree m) t h)),
   )
 
+  -- names by what binds a resource
+  called_kept : (n : ℕ) (r : ResourceId) (o p : Option Leaf) (m l : Names Called) → IsBefore c n (ty.Resource r) → o ≡ p → Agree c m l → or_around c o m r ≡ or_around d p l r
+  unfolding Agree
+  called_kept n r o p m l b same ag =
+      let h = source_before n (slice_get c.resources r.0) b in
+      let name : resource_name c r ≡ resource_name d r = ap (λ o. option_case (item_of o) [] (λ it. it.name)) h.1 ∙ sym (ap (λ o. option_case (item_of o) [] (λ it. it.name)) (g.resources r.0 h.0 h.1)) in
+      let out = ag n r b in
+      (λ i. first_some (option_case (same i) None (λ x. Some (bound_at x (name i)))) (option_case (out i) None (λ x. Some (one_out x))))
+
+  bindings_agree : NamingsAgree c (by_binding c) (by_binding d)
+  unfolding Agree
+  bindings_agree = record {
+    in_instance = λ n i b m l ag k r h.
+        let own = own_kept n i.uses i.exports r (all_right (IsBefore c n) (used_types i.uses) (kind_types i.exports) b) in
+        called_kept k r _ _ m l h (λ z. option_case (own z) None (λ x. Some (record { out = 0; side = exported; path = named x ∷ [] }))) ag;
+    in_imports = λ n w b m l ag k r h. called_kept k r _ _ m l h (first_kept n w.uses imported w.imports r (imports_of n w b)) ag;
+    in_exports = λ n w b m l ag k r h.
+        let x = first_kept n w.uses imported w.imports r (imports_of n w b) in
+        let y = first_kept n w.uses exported w.exports r (exports_of n w b) in
+        called_kept k r _ _ m l h (λ z. first_some (x z) (y z)) ag;
+    is_fresh = λ n m l ag s e b. refl;
+  }
+
+  called_agree : (m : Names Called) → Agree c m m
+  unfolding Agree
+  called_agree m n r b = refl
+
+  called_trees_kept : size c ≤ size d → KeepsCalledTrees c d
+  called_trees_kept le m t h = sym (unfolded_kept c d wf g grown (by_binding c) (by_binding d) bindings_agree le m m (called_agree m) t h)
+
 get_grown : {A : Type 0} (xs : List A) (y : A) (i : ℕ) (x : A) → slice_get xs i ≡ Some x → slice_get (xs ++ y ∷ []) i ≡ Some x
 get_grown [] y i x h = cc
 get_grown (z ∷ xs) y zero x h = h
@@ -371,4 +402,32 @@ growth_keeps c wf = record {
       let y : Held ModuleType = record { item = x; before = size c } in
       let l = longer c.modules y in
       trees_kept c (with_module c x) wf (record { resources = stays c.resources; funcs = stays c.funcs; defined = stays c.defined; interfaces = stays c.interfaces; worlds = stays c.worlds; modules = get_grown c.modules _ }) (omega arith) (omega (arith, l));
+}
+
+pub growth_keeps_called : (c : Collection) → IsWellFormed c → GrowthKeepsCalledTrees c
+growth_keeps_called c wf = record {
+  resource = λ x.
+      let y : Held Resource = record { item = x; before = size c } in
+      let l = longer c.resources y in
+      called_trees_kept c (with_resource c x) wf (record { resources = get_grown c.resources _; funcs = stays c.funcs; defined = stays c.defined; interfaces = stays c.interfaces; worlds = stays c.worlds; modules = stays c.modules }) (longer c.resources _) (omega (arith, l));
+  func = λ x.
+      let y : Held FuncType = record { item = x; before = size c } in
+      let l = longer c.funcs y in
+      called_trees_kept c (with_func c x) wf (record { resources = stays c.resources; funcs = get_grown c.funcs _; defined = stays c.defined; interfaces = stays c.interfaces; worlds = stays c.worlds; modules = stays c.modules }) (omega arith) (omega (arith, l));
+  defined = λ x.
+      let y : Held DefinedType = record { item = x; before = size c } in
+      let l = longer c.defined y in
+      called_trees_kept c (with_defined c x) wf (record { resources = stays c.resources; funcs = stays c.funcs; defined = get_grown c.defined _; interfaces = stays c.interfaces; worlds = stays c.worlds; modules = stays c.modules }) (omega arith) (omega (arith, l));
+  interface = λ x.
+      let y : Held Interface = record { item = x; before = size c } in
+      let l = longer c.interfaces y in
+      called_trees_kept c (with_interface c x) wf (record { resources = stays c.resources; funcs = stays c.funcs; defined = stays c.defined; interfaces = get_grown c.interfaces _; worlds = stays c.worlds; modules = stays c.modules }) (omega arith) (omega (arith, l));
+  world = λ x.
+      let y : Held World = record { item = x; before = size c } in
+      let l = longer c.worlds y in
+      called_trees_kept c (with_world c x) wf (record { resources = stays c.resources; funcs = stays c.funcs; defined = stays c.defined; interfaces = stays c.interfaces; worlds = get_grown c.worlds _; modules = stays c.modules }) (omega arith) (omega (arith, l));
+  module_type = λ x.
+      let y : Held ModuleType = record { item = x; before = size c } in
+      let l = longer c.modules y in
+      called_trees_kept c (with_module c x) wf (record { resources = stays c.resources; funcs = stays c.funcs; defined = stays c.defined; interfaces = stays c.interfaces; worlds = stays c.worlds; modules = get_grown c.modules _ }) (omega arith) (omega (arith, l));
 }

@@ -5,6 +5,7 @@ use Rattle.wac_collection.specs.Held.{Naming, Names, unfolded, unfolded_to}
 use Rattle.wac_collection.specs.Bound.{Bindings, held_tree}
 use Rattle.wac_types.specs.Subtype.{type_tree}
 use Rattle.wac_types.specs.Compare.{alias_in}
+use Rattle.wac_types.specs.Called.{Called, by_binding}
 use Rattle.wac_collection.specs.declared.collection.Held.{Held}
 use Rattle.wac_collection.specs.declared.component.Resource.{Resource}
 use Rattle.wac_collection.specs.declared.component.FuncType.{FuncType}
@@ -45,3 +46,16 @@ pub record GrowthKeepsTrees (c : Collection) : Type 0 where
   pub interface : (x : Interface) → KeepsTrees c (with_interface c x)
   pub world : (x : World) → KeepsTrees c (with_world c x)
   pub module_type : (x : ModuleType) → KeepsTrees c (with_module c x)
+
+-- and its tree by what binds resources
+abbrev pub KeepsCalledTrees : Collection → Collection → Type 0
+KeepsCalledTrees c d = (m : Names Called) (t : AnyType) → holds_type c t ≡ true → unfolded (by_binding d) d m t ≡ unfolded (by_binding c) c m t
+
+-- so it is whatever is added
+pub record GrowthKeepsCalledTrees (c : Collection) : Type 0 where
+  pub resource : (x : Resource) → KeepsCalledTrees c (with_resource c x)
+  pub func : (x : FuncType) → KeepsCalledTrees c (with_func c x)
+  pub defined : (x : DefinedType) → KeepsCalledTrees c (with_defined c x)
+  pub interface : (x : Interface) → KeepsCalledTrees c (with_interface c x)
+  pub world : (x : World) → KeepsCalledTrees c (with_world c x)
+  pub module_type : (x : ModuleType) → KeepsCalledTrees c (with_module c x)

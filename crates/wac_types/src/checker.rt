@@ -65,7 +65,7 @@ impl SubtypeChecker {
         SubtypeChecker {}
     }
 
-    /// Whether an item of one collection is a subtype of an item of another. Answers `Mismatch` where it isn't, and `OutOfMemory` where memory ran out before that was known. Each pair of types is compared once; only small ones are compared wherever they are mentioned.
+    /// Whether an item of one collection is a subtype of an item of another; each is to be held. Answers `Mismatch` where it isn't, and `OutOfMemory` where memory ran out before that was known. Each pair of types is compared once; only small ones are compared wherever they are mentioned.
     pub fn is_subtype(
         &self,
         a: ItemKind,

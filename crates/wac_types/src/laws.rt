@@ -3,7 +3,7 @@ ghost use Rattle.std.specs.Prelude.{◌≡◌};
 ghost use Rattle.wac_collection.specs.Bound.{by_place};
 ghost use Rattle.wac_types.specs.Called.{by_binding};
 ghost use Rattle.wac_types.specs.Subtype.{IsSubtype, by_name};
-ghost use Rattle.wac_types.specs.TreeLaws.{IsDeepEnough, AliasesAgree, GrowthKeepsTrees};
+ghost use Rattle.wac_types.specs.TreeLaws.{IsDeepEnough, AliasesAgree, GrowthKeepsTrees, GrowthKeepsCalledTrees};
 
 use wac_collection::{ItemKind, Types};
 
@@ -51,6 +51,13 @@ pub fn aliases_have_the_same_tree(types: &Types)
 /// Each type that a collection holds keeps its trees when something is added.
 pub fn growth_keeps_trees(types: &Types)
     ensures { GrowthKeepsTrees types.now }
+{
+    types.law();
+}
+
+/// Each type that a collection holds keeps its tree by what binds resources when something is added.
+pub fn growth_keeps_called_trees(types: &Types)
+    ensures { GrowthKeepsCalledTrees types.now }
 {
     types.law();
 }
