@@ -283,6 +283,16 @@ impl Bench {
         }
     }
 
+    // The export in which two imports differ.
+    fn differing(&self, fault: MergeFault) -> Result<String, Fail> {
+        match fault {
+            MergeFault::Disagree { export, .. } => {
+                Ok(format!(in self.alloc; "Disagree `{export}`")?)
+            }
+            _ => Ok(String::new(self.alloc)),
+        }
+    }
+
     // What the refusal names: the node of a cycle, or the import, the instantiation, its package and the name, or an import
     // that cannot be merged, the nodes that ask for it and the export that differs, or one of a circle.
     pub fn refused(&self) -> Result<String, Fail> {
@@ -301,9 +311,12 @@ impl Bench {
                     import,
                     first,
                     second,
-                    source: MergeFault::Disagree { export, .. },
+                    source,
                 },
-            ) => Ok(format!(in self.alloc; "{import}, {first}, {second}, Disagree `{export}`")?),
+            ) => {
+                let differs = self.differing(source)?;
+                Ok(format!(in self.alloc; "{import}, {first}, {second}, {differs}")?)
+            }
             Err(
                 EncodeError::ExplicitImportMergeConflict {
                     import,
