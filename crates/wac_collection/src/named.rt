@@ -1,5 +1,5 @@
 //! Texts, and values under names in order.
-ghost use Rattle.std.specs.Prelude.{◌≡◌, ◌<◌, ◌++◌, ◌∷◌, ◌↔◌, ℕ, List, [], length, slice_get, Some, None, Err, IfOk, OnOk, OnErr, IsSome, string_bytes};
+ghost use Rattle.std.specs.Prelude.{◌≡◌, ◌<◌, ◌++◌, ◌∷◌, ◌↔◌, ℕ, List, [], length, slice_get, Some, None, Err, IfOk, OnOk, OnErr, IsOk, IsSome, string_bytes};
 ghost use Rattle.std.specs.Option.{option_map, option_copied};
 ghost use Rattle.wac_collection.specs.Name.{find_name};
 ghost use Rattle.wac_collection.specs.Named.{named_at, named_pairs, labelled, given_names, find_under, inserted_under, NoNameTwice};
@@ -214,6 +214,15 @@ impl<V> Named<V> {
         Named {
             entries: IndexMap::new(alloc),
         }
+    }
+
+    /// Nothing under any name, with room for so many values. Answers `AllocError` where memory ran out, which it does not where the room is for none.
+    pub fn with_capacity(alloc: Global, count: usize) -> Result<Named<V>, AllocError>
+        ensures empty { IfOk result (λ n. n ≡ []) }
+        ensures none { count ≡ 0 → IsOk result }
+    {
+        let entries = IndexMap::with_capacity(alloc, count)?;
+        Ok(Named { entries })
     }
 
     /// The law of all values under names: no name stands twice.

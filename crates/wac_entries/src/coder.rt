@@ -79,7 +79,7 @@ pub fn add(nodes: &mut Nodes, node: Node) -> Result<usize, AllocError>
 fn names(alloc: Global, labels: &Labels) -> Result<Vec<String>, AllocError>
     ensures { IfOk result (λ v. map string_bytes v.items ≡ labels.now) }
 {
-    let mut names = Vec::new(alloc);
+    let mut names = Vec::with_capacity(alloc, labels.len())?;
     for i in 0..labels.len() {
         let name = String::from_str(alloc, labels.name_at(i))?;
         names.push(name)?;
@@ -153,7 +153,7 @@ impl Memo {
         ensures grown { IsGrown nodes.old nodes.new }
         ensures numbers { IfOk result (λ ns. AreParts nodes.new (values_of (source_tree source.now)) values.now ns.items) }
     {
-        let mut numbers = Vec::new(source.alloc);
+        let mut numbers = Vec::with_capacity(source.alloc, values.len())?;
         for i in 0..values.len() {
             let number = self.part(nodes, source, values[i])?;
             numbers.push(number)?;
@@ -175,7 +175,7 @@ impl Memo {
         ensures grown { IsGrown nodes.old nodes.new }
         ensures numbers { IfOk result (λ es. AreFields nodes.new (values_of (source_tree source.now)) fields.now es.items) }
     {
-        let mut numbers = Vec::new(source.alloc);
+        let mut numbers = Vec::with_capacity(source.alloc, fields.len())?;
         for i in 0..fields.len() {
             let number = self.part(nodes, source, *fields.value_at(i))?;
             let name = String::from_str(source.alloc, fields.name_at(i))?;
@@ -198,7 +198,7 @@ impl Memo {
         ensures grown { IsGrown nodes.old nodes.new }
         ensures numbers { IfOk result (λ es. AreCases nodes.new (values_of (source_tree source.now)) cases.now es.items) }
     {
-        let mut numbers = Vec::new(source.alloc);
+        let mut numbers = Vec::with_capacity(source.alloc, cases.len())?;
         for i in 0..cases.len() {
             let number = self.optional(nodes, source, *cases.value_at(i))?;
             let name = String::from_str(source.alloc, cases.name_at(i))?;

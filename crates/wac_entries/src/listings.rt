@@ -102,8 +102,8 @@ fn listed_items(
     ensures grown { IsGrown nodes.old nodes.new }
     ensures items { IfOk result (λ xs. AreItems nodes.new (source_tree source.now) kinds.now xs.items) }
 {
-    let mut memo = Memo::new(source.alloc);
-    let mut items = Vec::new(source.alloc);
+    let mut memo = Memo::with_capacity(source.alloc, kinds.len())?;
+    let mut items = Vec::with_capacity(source.alloc, kinds.len())?;
     let mut next = first;
     for i in 0..kinds.len() {
         let kind = *kinds.value_at(i);

@@ -1,5 +1,5 @@
 //! The numbers that the types of a scope have in a table.
-ghost use Rattle.std.specs.Prelude.{◌≡◌, None, OnOk};
+ghost use Rattle.std.specs.Prelude.{◌≡◌, None, IfOk, OnOk};
 ghost use Rattle.wac_entries.specs.Coding.{defined_number, func_number, HasDefinedToo, HasFuncToo};
 
 use std::alloc::{AllocError, Global};
@@ -25,6 +25,16 @@ impl Memo {
             defined: HashMap::new(alloc),
             funcs: HashMap::new(alloc),
         }
+    }
+
+    /// No number, with room for those of so many function types and twice as many definitions.
+    pub fn with_capacity(alloc: Global, count: usize) -> Result<Memo, AllocError>
+        ensures defined { IfOk result (λ m. (id : DefinedTypeId) → defined_number m id ≡ None) }
+        ensures funcs { IfOk result (λ m. (id : FuncTypeId) → func_number m id ≡ None) }
+    {
+        let defined = HashMap::with_capacity(alloc, count.saturating_mul(2))?;
+        let funcs = HashMap::with_capacity(alloc, count)?;
+        Ok(Memo { defined, funcs })
     }
 
     /// The number of a definition.

@@ -239,7 +239,7 @@ impl Renamed {
         ensures { IfOk result (λ es. FieldsGoTogether (IsRenamedIn renaming.now merged.now) fields.now es) }
     {
         fields.law();
-        let mut renamed = Named::new(renaming.alloc);
+        let mut renamed = Named::with_capacity(renaming.alloc, fields.len())?;
         for i in 0..fields.len() {
             let (name, value) = fields.entry_at(i);
             let value = self.part(merged, renaming, *value);
@@ -262,7 +262,7 @@ impl Renamed {
         ensures { IfOk result (λ es. CasesGoTogether (IsRenamedIn renaming.now merged.now) cases.now es) }
     {
         cases.law();
-        let mut renamed = Named::new(renaming.alloc);
+        let mut renamed = Named::with_capacity(renaming.alloc, cases.len())?;
         for i in 0..cases.len() {
             let (name, value) = cases.entry_at(i);
             let value = self.optional(merged, renaming, *value);

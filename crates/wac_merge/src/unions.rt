@@ -220,7 +220,7 @@ impl Unions {
         ensures { IfOk result (λ es. AreOpen types.now self.old.unions.items self.old.parts.items position grouped.now self.new.unions.items self.new.parts.items es) }
     {
         grouped.law();
-        let mut exports = Named::new(alloc);
+        let mut exports = Named::with_capacity(alloc, grouped.len())?;
         for index in 0..grouped.len() {
             let (name, listed) = grouped.entry_at(index);
             let export = self.export(alloc, types, position, name, listed)?;

@@ -188,7 +188,7 @@ fn write_exports<'a>(
     merged.law();
     let exports = &unions.unions[union].exports;
     exports.law();
-    let mut items = Named::new(alloc);
+    let mut items = Named::with_capacity(alloc, exports.len())?;
     let mut renamed = Renamed::new(alloc);
     let mut part = None;
     for i in 0..exports.len() {

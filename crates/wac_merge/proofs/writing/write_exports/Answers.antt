@@ -26,8 +26,8 @@ loop-i-init c =
     record {
       extended = extended_none m;
       right = λ s p q r. c.new-renamed.ensures.right m s;
-      written = subst (λ (ks : List (Name × ItemKind)). AreWrittenItems t m b count c.args.written.now c.args.union [] ks) (sym c.new-items.ensures) (items-none t m b count c.args.written.now c.args.union);
-      names = ap names_of c.new-items.ensures;
+      written = subst (λ (ks : List (Name × ItemKind)). AreWrittenItems t m b count c.args.written.now c.args.union [] ks) (sym c.in_ok-items.ensures.empty) (items-none t m b count c.args.written.now c.args.union);
+      names = ap names_of c.in_ok-items.ensures.empty;
     }
 
 pub write_export-requires-clause-writing : goal.write_export-requires-clause-writing
