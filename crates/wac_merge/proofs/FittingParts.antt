@@ -92,7 +92,7 @@ module _ (m : Collection) where
   alias-is-alias n q a x = with-alias (record { owner = None; source = q }) n (slice_get m.resources a.0) x.is
 
   -- a resource that was written from what a part lists is an alias
-  written-alias : (c : Collection) (g : ResourceId → ResourceId) (inner : Option InterfaceId) (n : Name) (k : ItemKind) (a : ResourceId) → IsWrittenAs c m g inner n k (kind.TypeItem (ty.Resource a)) → is_alias m a ≡ true
+  pub written-alias : (c : Collection) (g : ResourceId → ResourceId) (inner : Option InterfaceId) (n : Name) (k : ItemKind) (a : ResourceId) → IsWrittenAs c m g inner n k (kind.TypeItem (ty.Resource a)) → is_alias m a ≡ true
   written-alias c g inner n (kind.TypeItem (ty.Resource q)) a x = alias-is-alias n (g (resolved c q)) a x
   written-alias c g inner n (kind.TypeItem (ty.Func q)) a x = absurd x
   written-alias c g inner n (kind.TypeItem (ty.Value q)) a x = absurd x

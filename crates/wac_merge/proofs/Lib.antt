@@ -58,4 +58,5 @@ pub mod AssembledItemsFirst
 pub mod AssembledItems
 pub mod AssembledSubtypes
 pub mod AssembledMerge
+pub mod AssembledBound
 pub mod OwnResources

@@ -76,7 +76,7 @@ module _ (c m : Collection) (es : List Entry) (roots : List (List InterfaceId)) 
   -- ---- the imports are of different classes
 
   -- the class of an import
-  record IsImport (p : ℕ) (e : Entry) : Type 0 where
+  pub record IsImport (p : ℕ) (e : Entry) : Type 0 where
     pub number : ℕ
     pub class : Name
     pub ordered : slice_get order p ≡ Some number
@@ -84,7 +84,7 @@ module _ (c m : Collection) (es : List Entry) (roots : List (List InterfaceId)) 
     pub name : e.name ≡ canonical by_names es class
     pub is : IsMergedKind es roots f m ws number class e.kind
 
-  import-at : (p : ℕ) (e : Entry) → slice_get imports p ≡ Some e → IsImport p e
+  pub import-at : (p : ℕ) (e : Entry) → slice_get imports p ≡ Some e → IsImport p e
   import-at p e at =
       let within = slice_get_within imports p e at in
       let count = are.count in
@@ -92,7 +92,7 @@ module _ (c m : Collection) (es : List Entry) (roots : List (List InterfaceId)) 
       let class = some-at (class_names by_names es) k.0 (are.classes p k.0 k.1) in
       record { number = k.0; class = class.0; ordered = k.1; at = class.1; name = are.names p k.0 class.0 e k.1 class.1 at; is = are.kinds p k.0 class.0 e k.1 class.1 at }
 
-  one-import : (p q : ℕ) (a b : Entry) (i : IsImport p a) (j : IsImport q b) → same_class by_names es a.name b.name ≡ true → p ≡ q
+  pub one-import : (p q : ℕ) (a b : Entry) (i : IsImport p a) (j : IsImport q b) → same_class by_names es a.name b.name ≡ true → p ≡ q
   one-import p q a b i j one =
       let first : same_class by_names es i.class a.name ≡ true = ap (same_class by_names es i.class) i.name ∙ canonical-class es i.class in
       let last : same_class by_names es b.name j.class ≡ true = class-sym by_names es j.class b.name (ap (same_class by_names es j.class) j.name ∙ canonical-class es j.class) in
@@ -178,13 +178,13 @@ module _ (c m : Collection) (es : List Entry) (roots : List (List InterfaceId)) 
     pub at : slice_get imports position ≡ Some entry
     pub binds : kind_binds by_names m entry.name entry.kind resource ≡ Some path
 
-  no-instance : (class : Name) (xs : List Entry) (s : ResourceId) (path : List Place) → AreNoInstances xs → first_binds by_names c class xs s ≡ Some path → path ≡ []
+  pub no-instance : (class : Name) (xs : List Entry) (s : ResourceId) (path : List Place) → AreNoInstances xs → first_binds by_names c class xs s ≡ Some path → path ≡ []
   no-instance class xs s path none binds =
       let w = first-binding by_names c class xs s path binds in
       bare-path c class (w.1).kind s path (none w.1 (contains-at xs w.0 w.1 w.2)) w.3
 
   -- a member that binds is on the track
-  on-track : (class : Name) (is : List InterfaceId) (s : ResourceId) (path : List Place) → AreInstancesOf (members by_names es class) is → class_binds by_names c es class s ≡ Some path
+  pub on-track : (class : Name) (is : List InterfaceId) (s : ResourceId) (path : List Place) → AreInstancesOf (members by_names es class) is → class_binds by_names c es class s ≡ Some path
       → list_any (λ e. is_on_track by_names c class e.kind) (members by_names es class) ≡ true
   on-track class is s path instances binds =
       let w = first-binding by_names c class (members by_names es class) s path binds in

@@ -20,7 +20,7 @@ use Rattle.wac_collection.specs.declared.component.ValueType.TheVariants as val
 use Rattle.wac_collection.specs.declared.component.«Type».TheVariants as ty
 use Rattle.wac_types.specs.Subtype.{Sub, same, instances, instance_items, IsSubtype, type_tree}
 use Rattle.wac_entries.specs.Classes.{Entry, NameRules, class_names, canonical, members}
-use Rattle.wac_entries.specs.Binding.{binding_class, root_bindings}
+use Rattle.wac_entries.specs.Binding.{binding_class, class_binds, root_bindings}
 use Rattle.wac_agreement.specs.Union.{union, merged}
 use Rattle.wac_entries.specs.Agreement.{compared}
 use Rattle.wac_agreement.specs.ClassOrder.{grouped, RestsOn, by_use, by_resource, IsWrittenOrder, done, new, leaves, none}
@@ -244,6 +244,16 @@ finished = record {
 
 pub own_is_bound : bound_resource finished (1 ∷ 3 ∷ []) r ≡ Some (record { 0 = 0 })
 own_is_bound = refl
+
+-- what both versions bind under one name is answered as one
+pub first_binds_own : class_binds simple two_resources both_bound (1 ∷ 0 ∷ []) (record { 0 = 0 }) ≡ Some (named r ∷ [])
+first_binds_own = refl
+
+pub other_binds_own : class_binds simple two_resources both_bound (1 ∷ 0 ∷ []) (record { 0 = 1 }) ≡ Some (named r ∷ [])
+other_binds_own = refl
+
+pub both_are_answered : bound_resource finished (canonical simple both_bound (1 ∷ 0 ∷ [])) r ≡ Some (record { 0 = 0 })
+both_are_answered = refl
 
 pub alias_is_not_bound : bound_resource finished (1 ∷ 3 ∷ []) g ≡ None
 alias_is_not_bound = refl

@@ -9,7 +9,7 @@ ghost use Rattle.wac_entries.specs.Bindings.{AreBindings, AreHeld};
 ghost use Rattle.wac_agreement.specs.ClassOrder.{IsWrittenOrder};
 ghost use Rattle.wac_entries.specs.Classes.{AreClasses, by_names, canonical, class_names, imported_as};
 ghost use Rattle.wac_agreement.specs.Faults.{Fault as AFault, HasFault, HasNoCircle, HasNoDisagreement, fault_of, use_each_other};
-ghost use Rattle.wac_merge.specs.Merge.{IsMerge, bound_resource, import_entries, listed_resource, own_resource};
+ghost use Rattle.wac_merge.specs.Merge.{AreBound, IsMerge, bound_resource, import_entries, listed_resource, own_resource};
 
 use crate::merged::Merged;
 use std::alloc::{AllocError, Global};
@@ -98,6 +98,7 @@ impl TypeAggregator {
         requires { AreHeld types.now self.entries }
         ensures finished { IfOk result (λ a. (a.entries ≡ self.entries) × (a.is_finished ≡ true)) }
         ensures merged { IfOk result (λ a. IsMerge by_names types.now self.entries a.merge) }
+        ensures bound { IfOk result (λ a. AreBound by_names types.now self.entries a.merge) }
         ensures agree { OnOk result (HasNoDisagreement by_names types.now self.entries) }
         ensures ordered { OnOk result (HasNoCircle by_names types.now self.entries) }
         ensures fault { IfErr result (λ e. IfSome (fault_of e) (HasFault by_names types.now self.entries)) }
@@ -141,7 +142,8 @@ impl TypeAggregator {
     }
 
     /// Of a finished aggregator, the resource of a name that the import of an interface's id binds: its own of that name; none
-    /// where there is none.
+    /// where there is none. Of a class's import it answers one under each name under which the class of entries binds a
+    /// resource, and none where no entry of the class lists an own resource of that name.
     pub fn resource(&self, id: &str, name: &str) -> Option<ResourceId>
         requires { self.now.is_finished ≡ true }
         ensures { result ≡ bound_resource self.now.merge id.now name.now }

@@ -9,7 +9,7 @@ ghost use Rattle.wac_merge.specs.Became.{AreFresh};
 ghost use Rattle.wac_entries.specs.Bindings.{AreBindings, AreHeld};
 ghost use Rattle.wac_agreement.specs.ClassOrder.{IsWrittenOrder};
 ghost use Rattle.wac_entries.specs.Classes.{AreClasses, Entry as AnEntry, by_names, class_names, same_class};
-ghost use Rattle.wac_merge.specs.Merge.{IsMerge, import_entries, is_on_track};
+ghost use Rattle.wac_merge.specs.Merge.{AreBound, IsMerge, import_entries, is_on_track};
 ghost use Rattle.wac_merge.specs.MergedClasses.{AreClassUnions, AreIds, AreImports, AreOnTrack, AreRoots, AreWrittenImports, IsClassKind, IsUnionId, first_id, with_root};
 ghost use Rattle.wac_merge.specs.MergedKinds.{AreListedOnce};
 ghost use Rattle.wac_merge.specs.Renaming.{CanRenameAll, IsExtended};
@@ -354,7 +354,8 @@ impl Merged {
         requires written { IsWrittenOrder by_names types.now entries.now order.now }
         requires each { (k : ℕ) → (Contains order.now k ↔ k < length (class_names by_names entries.now)) }
         requires once { (i j k : ℕ) → slice_get order.now i ≡ Some k → slice_get order.now j ≡ Some k → i ≡ j }
-        ensures { IfOk result (λ m. IsMerge by_names types.now entries.now m) }
+        ensures merged { IfOk result (λ m. IsMerge by_names types.now entries.now m) }
+        ensures bound { IfOk result (λ m. AreBound by_names types.now entries.now m) }
     {
         types.law();
         types.uses_law();

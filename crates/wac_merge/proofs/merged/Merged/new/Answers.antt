@@ -3,6 +3,8 @@ use Rattle.wac_merge.specs.Became.{AreBoundParts}
 use Rattle.wac_merge.specs.Merge.{import_entries}
 use Rattle.wac_merge.specs.Renaming.{IsExtended}
 use Rattle.wac_merge.specs.Unions.{AreUnions}
+use Rattle.wac_merge.proofs.Assembled.{AreAssembled, AreDeep}
+use Rattle.wac_merge.proofs.AssembledBound.{bound-is}
 use Rattle.wac_merge.proofs.AssembledMerge.{agreed-pairs, can-rename-all, merge-is}
 use Rattle.wac_merge.proofs.Extending.{extended_twice, still_fresh}
 use Rattle.wac_merge.proofs.merged.Merged.new.Goals as goal
@@ -35,8 +37,8 @@ returns c =
     let w = c.in_ok-imports.ensures.imports in
     let begins : IsExtended t started = rw (sym c.in_ok-merged.ensures.cases) c.new.ensures.extended in
     let after = c.write_imports.ensures.extended in
-    merge-is t m es u.roots us ps bs f w.ids w.ws c.args.order.now (import_entries c.in_ok-imports.imports)
-    (record {
+    let all : AreAssembled t m es u.roots us ps bs f w.ids w.ws c.args.order.now (import_entries c.in_ok-imports.imports) =
+    record {
       merged = record {
         source = c.law.ensures;
         target = c.law-3.ensures;
@@ -57,12 +59,15 @@ returns c =
       ordered = c.requires.written;
       each = c.requires.each;
       once = c.requires.once;
-    })
-    (record {
+    } in
+    let deep : AreDeep t m = record {
       placed = c.trees_are_whole.ensures.placed;
       merged_placed = c.trees_are_whole-2.ensures.placed;
       bound = c.trees_are_whole.ensures.bound;
       named = c.trees_are_whole.ensures.named;
       merged_named = c.trees_are_whole-2.ensures.named;
-    })
-    c.requires.agreed
+    } in
+    record {
+      merged = merge-is t m es u.roots us ps bs f w.ids w.ws c.args.order.now (import_entries c.in_ok-imports.imports) all deep c.requires.agreed;
+      bound = bound-is t m es u.roots us ps bs f w.ids w.ws c.args.order.now (import_entries c.in_ok-imports.imports) all;
+    }
