@@ -3,21 +3,21 @@ use Rattle.std.proofs.Common.{◌≡◌, ℕ, ◌<◌, Bool, true, false, if◌t
 use Rattle.std.proofs.Math.Path.{fun_ext}
 use Rattle.std.proofs.lemmas.List.{map-append}
 use Rattle.std.specs.declared.string.String.{String}
-use Rattle.wac_collection.proofs.Names.{take_at}
+use Rattle.wac_shapes.proofs.Names.{take_at}
 use Rattle.wac_agreement.proofs.Comparing.{no_some}
 use Rattle.std.proofs.lemmas.Bool.{cases_Bool, false≢true, false_from_ne_true}
 use Rattle.wac_names.specs.Reading.{read_track}
-use Rattle.wac_collection.specs.Name.{Name, option_case, first_some}
+use Rattle.wac_shapes.specs.Name.{Name, option_case, first_some}
 use Rattle.wac_collection.specs.Tree.{imported, exported, absent, named, instance, instance_item}
 use Rattle.wac_collection.specs.Bound.{own_name}
 use Rattle.wac_types.specs.Called.{Called, called_at, own_leaf, by_binding}
 use Rattle.wac_collection.specs.Collection.{Collection, item_at}
 use Rattle.wac_collection.specs.Held.{Names, unfolded, item_tree, items_under}
-use Rattle.wac_collection.specs.declared.component.Interface.{Interface}
-use Rattle.wac_collection.specs.declared.component.ResourceId.{ResourceId}
-use Rattle.wac_collection.specs.declared.component.ItemKind.{ItemKind}
-use Rattle.wac_collection.specs.declared.component.ItemKind.TheVariants as kind
-use Rattle.wac_collection.specs.declared.component.«Type».TheVariants as ty
+use Rattle.wac_shapes.specs.declared.component.Interface.{Interface}
+use Rattle.wac_shapes.specs.declared.component.ResourceId.{ResourceId}
+use Rattle.wac_shapes.specs.declared.component.ItemKind.{ItemKind}
+use Rattle.wac_shapes.specs.declared.component.ItemKind.TheVariants as kind
+use Rattle.wac_shapes.specs.declared.component.«Type».TheVariants as ty
 use Rattle.wac_entries.specs.Agreement.{called_outside, called_in_class, called_inside, compared, joined}
 use Rattle.wac_entries.specs.Binding.{kind_binds, first_binds, class_binds}
 use Rattle.wac_entries.specs.Classes.{Entry, by_names, same_class, same_track, members}

@@ -3,14 +3,14 @@ use Rattle.std.proofs.Common.{◌≡◌, ℕ, zero, suc, ◌+◌, ◌<◌, if◌
 use Rattle.std.specs.Prelude.{slice_get, IsTrue, IsSome, IfOk, Result, Ok, Err, string_bytes}
 use Rattle.std.specs.List.{AllByRecursion}
 use Rattle.std.specs.Option.{MatchOption, option_map}
-use Rattle.wac_collection.specs.Name.{Name, same_name, find_name, option_case}
+use Rattle.wac_shapes.specs.Name.{Name, same_name, find_name, option_case}
 use Rattle.wac_collection.specs.Tree.{TypeTree, absent, instance, instance_item}
 use Rattle.wac_types.specs.Called.{Called}
 use Rattle.wac_collection.specs.Collection.{Collection, interface_exports}
-use Rattle.wac_collection.specs.declared.component.ItemKind.{ItemKind}
-use Rattle.wac_collection.specs.declared.component.ItemKind.TheVariants as kind
-use Rattle.wac_collection.specs.declared.component.InterfaceId.{InterfaceId}
-use Rattle.wac_collection.proofs.Names.{take_at, same_name-from, same_name-refl, same_name-true}
+use Rattle.wac_shapes.specs.declared.component.ItemKind.{ItemKind}
+use Rattle.wac_shapes.specs.declared.component.ItemKind.TheVariants as kind
+use Rattle.wac_shapes.specs.declared.component.InterfaceId.{InterfaceId}
+use Rattle.wac_shapes.proofs.Names.{take_at, same_name-from, same_name-refl, same_name-true}
 use Rattle.std.proofs.lemmas.Bool.{cases_Bool}
 use Rattle.wac_entries.specs.Agreement.{LeadsApart, here, below, AgreesAt}
 use Rattle.wac_entries.specs.Nodes.{Node, Item, type_of, item_tree, listed_tree, tree_at, IsTable}

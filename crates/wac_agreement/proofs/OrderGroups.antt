@@ -3,12 +3,12 @@ use Rattle.std.proofs.Common.{◌≡◌, ℕ, zero, suc, ◌+◌, ◌<◌, ◌�
 use Rattle.std.proofs.lemmas.Bool.{cases_Bool, false≢true}
 use Rattle.std.proofs.lemmas.List.{take_all}
 use Rattle.std.proofs.lemmas.Option.{slice_get_within}
-use Rattle.wac_collection.specs.Name.{Name, same_name}
-use Rattle.wac_collection.specs.declared.component.InterfaceId.{InterfaceId}
-use Rattle.wac_collection.specs.declared.component.ItemKind.{ItemKind}
-use Rattle.wac_collection.specs.declared.component.ItemKind.TheVariants as kind
-use Rattle.wac_collection.specs.declared.component.«Type».{«Type» as AnyType}
-use Rattle.wac_collection.proofs.Names.{same_name-true, same_name-refl, take_at}
+use Rattle.wac_shapes.specs.Name.{Name, same_name}
+use Rattle.wac_shapes.specs.declared.component.InterfaceId.{InterfaceId}
+use Rattle.wac_shapes.specs.declared.component.ItemKind.{ItemKind}
+use Rattle.wac_shapes.specs.declared.component.ItemKind.TheVariants as kind
+use Rattle.wac_shapes.specs.declared.component.«Type».{«Type» as AnyType}
+use Rattle.wac_shapes.proofs.Names.{same_name-true, same_name-refl, take_at}
 use Rattle.wac_entries.specs.Classes.{Entry, IsClassOf, by_names, class_names, names_of_classes, same_class}
 use Rattle.wac_agreement.specs.ClassOrder.{group_of, group_under, in_group}
 use Rattle.wac_entries.specs.Numbering.{class_names_to}

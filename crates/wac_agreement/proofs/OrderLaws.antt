@@ -4,10 +4,10 @@ use Rattle.std.specs.Prelude.{◌↔◌}
 use Rattle.std.specs.BTreeSet.{BTreeSet}
 use Rattle.std.proofs.lemmas.Bool.{eqb-true, eq-eqb}
 use Rattle.std.proofs.lemmas.Option.{get_or_from_slice_get, slice_get_read, slice_get_within}
-use Rattle.wac_collection.specs.Name.{Name, same_name}
+use Rattle.wac_shapes.specs.Name.{Name, same_name}
 use Rattle.wac_collection.specs.Collection.{Collection}
-use Rattle.wac_collection.specs.declared.component.ItemKind.{ItemKind}
-use Rattle.wac_collection.specs.declared.component.ItemKind.TheVariants as kind
+use Rattle.wac_shapes.specs.declared.component.ItemKind.{ItemKind}
+use Rattle.wac_shapes.specs.declared.component.ItemKind.TheVariants as kind
 use Rattle.wac_agreement.specs.Circles.{Leads}
 use Rattle.wac_entries.specs.Classes.{Entry, NameRules, by_names, class_names}
 use Rattle.wac_agreement.specs.ClassOrder.{Arranges, done, there, new, Selects, none, takes, leaves, RestsThrough, step, further, RestsOn, IsWrittenOrder, group_of, group_under, in_group, grouped}

@@ -4,7 +4,7 @@ use Rattle.std.proofs.Math.ListN.{length-set, length-replicate}
 use Rattle.std.specs.Prelude.{◌↔◌, slice_index, slice_index_or, slice_set}
 use Rattle.std.specs.BTreeSet.{BTreeSet}
 use Rattle.std.proofs.lemmas.Option.{get_or_from_slice_get, slice_get-get_or, slice_get_read}
-use Rattle.wac_collection.proofs.Names.{take_at}
+use Rattle.wac_shapes.proofs.Names.{take_at}
 use Rattle.wac_agreement.specs.declared.order.Step.{Step}
 use Rattle.wac_agreement.specs.declared.order.Step.TheVariants.{Open, Place}
 use Rattle.wac_agreement.specs.ClassOrder.{Arranges, done, there, new, Selects, RestsThrough, step, further}

@@ -6,8 +6,8 @@ use Rattle.std.specs.Ordering.{nat_cmp}
 use Rattle.std.specs.Cmp.Lexicographic.{slice_cmp}
 use Rattle.std.specs.declared.cmp.Ordering.TheVariants.{Less, Equal}
 use Rattle.std.proofs.lemmas.Cmp.{tied_itself, nat_list_cmp_total}
-use Rattle.wac_collection.proofs.Names.{same_name-true, same_name-refl}
-use Rattle.wac_collection.specs.Name.{Name, same_name, option_case}
+use Rattle.wac_shapes.proofs.Names.{same_name-true, same_name-refl}
+use Rattle.wac_shapes.specs.Name.{Name, same_name, option_case}
 use Rattle.wac_collection.specs.Tree.{TypeTree, absent, resource, own, borrow, record_of, variant_of, list_of, fixed_list_of, tuple_of, option_of, result_of, stream_of, future_of, function, instance, type_equal, function_item, instance_item, component_item, module_item, value_item}
 use Rattle.wac_types.specs.Called.{Called, of_class, bound_at, itself}
 use Rattle.wac_collection.specs.Held.{part_at}

@@ -2,18 +2,18 @@
 use Rattle.std.proofs.Common.{◌≡◌, true, false, if◌then◌else◌, List, [], ◌∷◌, map, Option, Some, None, refl, ap, ◌∙◌, inl, inr, ◌⊎◌}
 use Rattle.wac_names.specs.Track.{Track}
 use Rattle.wac_names.specs.Reading.{read_track}
-use Rattle.wac_collection.specs.Name.{Name, option_case, first_some}
+use Rattle.wac_shapes.specs.Name.{Name, option_case, first_some}
 use Rattle.wac_collection.specs.Tree.{imported, exported, Place, named, TypeTree, absent, instance, instance_item}
 use Rattle.wac_collection.specs.Collection.{Collection, item_at}
 use Rattle.wac_collection.specs.Held.{Names, unfolded, item_tree, items_under}
 use Rattle.wac_collection.specs.Bound.{own_name}
 use Rattle.wac_types.specs.Called.{Called, called_at, own_leaf, by_binding}
-use Rattle.wac_collection.specs.declared.component.ResourceId.{ResourceId}
-use Rattle.wac_collection.specs.declared.component.InterfaceId.{InterfaceId}
-use Rattle.wac_collection.specs.declared.component.Interface.{Interface}
-use Rattle.wac_collection.specs.declared.component.ItemKind.{ItemKind}
-use Rattle.wac_collection.specs.declared.component.ItemKind.TheVariants as kind
-use Rattle.wac_collection.specs.declared.component.«Type».TheVariants as ty
+use Rattle.wac_shapes.specs.declared.component.ResourceId.{ResourceId}
+use Rattle.wac_shapes.specs.declared.component.InterfaceId.{InterfaceId}
+use Rattle.wac_shapes.specs.declared.component.Interface.{Interface}
+use Rattle.wac_shapes.specs.declared.component.ItemKind.{ItemKind}
+use Rattle.wac_shapes.specs.declared.component.ItemKind.TheVariants as kind
+use Rattle.wac_shapes.specs.declared.component.«Type».TheVariants as ty
 use Rattle.wac_entries.specs.Classes.{Entry, by_names, same_class, same_track, members}
 use Rattle.wac_entries.specs.Binding.{kind_binds, first_binds, class_binds}
 use Rattle.wac_entries.specs.Agreement.{called_outside, compared}

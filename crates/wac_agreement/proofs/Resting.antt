@@ -3,27 +3,27 @@ use Rattle.std.proofs.Common.{◌≡◌, ◌≢◌, ℕ, zero, suc, Bool, true, 
 use Rattle.std.proofs.lemmas.Bool.{eqb-true}
 use Rattle.std.specs.Prelude.{◌↔◌, slice_get}
 use Rattle.std.specs.List.{AllByRecursion}
-use Rattle.wac_collection.specs.Name.{Name, same_name, option_case, first_some}
+use Rattle.wac_shapes.specs.Name.{Name, same_name, option_case, first_some}
 use Rattle.wac_collection.specs.Tree.{Side, imported, exported, Place, position, named, Leaf, further_out, TypeTree, absent, resource, primitive, own, borrow, record_of, variant_of, list_of, fixed_list_of, tuple_of, flags_of, enum_of, option_of, result_of, stream_of, future_of, function, instance, component, fresh, type_equal, function_item, instance_item, component_item, module_item, value_item}
 use Rattle.wac_collection.specs.Collection.{Collection, size, item_at}
 use Rattle.wac_collection.specs.Held.{Names, Unfolding, resolved, part_at, items_under, option_tree, defined_tree, func_tree, item_tree, module_tree, of_held, interface_tree, world_tree, value_tree, unfolded_to, unfolded}
 use Rattle.wac_collection.specs.Bound.{by_place, held_tree, held_item, binds_here, is_here, same_side, same_path, own_name, inside_interface, bound_by, bound_in_order, first_bound, bound_by_imports, bound_in_world, lists_own, lists_type, is_alias}
 use Rattle.wac_types.specs.Called.{Called, bound_at, of_class, itself, one_out, called_at, resource_name, by_binding, or_around, own_leaf}
 use Rattle.wac_collection.specs.declared.collection.Held.{Held}
-use Rattle.wac_collection.specs.declared.component.ResourceId.{ResourceId}
-use Rattle.wac_collection.specs.declared.component.UsedType.{UsedType}
-use Rattle.wac_collection.specs.declared.component.InterfaceId.{InterfaceId}
-use Rattle.wac_collection.specs.declared.component.Interface.{Interface}
-use Rattle.wac_collection.specs.declared.component.World.{World}
-use Rattle.wac_collection.specs.declared.component.FuncType.{FuncType}
-use Rattle.wac_collection.specs.declared.component.DefinedType.{DefinedType}
-use Rattle.wac_collection.specs.declared.component.DefinedType.TheVariants as def
-use Rattle.wac_collection.specs.declared.component.ValueType.{ValueType}
-use Rattle.wac_collection.specs.declared.component.ValueType.TheVariants as val
-use Rattle.wac_collection.specs.declared.component.«Type».{«Type» as AnyType}
-use Rattle.wac_collection.specs.declared.component.«Type».TheVariants as ty
-use Rattle.wac_collection.specs.declared.component.ItemKind.{ItemKind}
-use Rattle.wac_collection.specs.declared.component.ItemKind.TheVariants as kind
+use Rattle.wac_shapes.specs.declared.component.ResourceId.{ResourceId}
+use Rattle.wac_shapes.specs.declared.component.UsedType.{UsedType}
+use Rattle.wac_shapes.specs.declared.component.InterfaceId.{InterfaceId}
+use Rattle.wac_shapes.specs.declared.component.Interface.{Interface}
+use Rattle.wac_shapes.specs.declared.component.World.{World}
+use Rattle.wac_shapes.specs.declared.component.FuncType.{FuncType}
+use Rattle.wac_shapes.specs.declared.component.DefinedType.{DefinedType}
+use Rattle.wac_shapes.specs.declared.component.DefinedType.TheVariants as def
+use Rattle.wac_shapes.specs.declared.component.ValueType.{ValueType}
+use Rattle.wac_shapes.specs.declared.component.ValueType.TheVariants as val
+use Rattle.wac_shapes.specs.declared.component.«Type».{«Type» as AnyType}
+use Rattle.wac_shapes.specs.declared.component.«Type».TheVariants as ty
+use Rattle.wac_shapes.specs.declared.component.ItemKind.{ItemKind}
+use Rattle.wac_shapes.specs.declared.component.ItemKind.TheVariants as kind
 use Rattle.wac_entries.specs.Classes.{Entry, NameRules, same_track, members}
 use Rattle.wac_entries.specs.Binding.{kind_binds, first_binds, class_binds, binding_class, root_bindings}
 use Rattle.wac_agreement.specs.Union.{inside_member, member_tree}

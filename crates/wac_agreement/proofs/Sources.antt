@@ -4,19 +4,20 @@ use Rattle.std.specs.Prelude.{slice_get, Vec}
 use Rattle.std.proofs.Math.Path.{fun_ext}
 use Rattle.std.proofs.lemmas.List.{map-append}
 use Rattle.std.proofs.lemmas.Option.{slice_get_within}
-use Rattle.wac_collection.specs.Name.{Name, option_case}
+use Rattle.wac_shapes.specs.Name.{Name, option_case}
 use Rattle.wac_collection.specs.Tree.{TypeTree, absent, type_equal, function_item, instance, instance_item, component_item, module_item, value_item}
 use Rattle.wac_types.specs.Called.{Called, by_binding}
-use Rattle.wac_collection.specs.Collection.{Collection, item_at, item_of, holds_type, kind_type, interface_exports}
+use Rattle.wac_collection.specs.Collection.{Collection, item_at, item_of, holds_type, interface_exports}
+use Rattle.wac_shapes.specs.Kinds.{kind_type}
 use Rattle.wac_collection.specs.Held as held
 use Rattle.wac_collection.specs.Held.{Names, unfolded}
-use Rattle.wac_collection.specs.declared.component.Interface.{Interface}
-use Rattle.wac_collection.specs.declared.component.InterfaceId.{InterfaceId}
-use Rattle.wac_collection.specs.declared.component.DefinedTypeId.{DefinedTypeId}
-use Rattle.wac_collection.specs.declared.component.FuncTypeId.{FuncTypeId}
-use Rattle.wac_collection.specs.declared.component.«Type».{«Type» as AnyType}
-use Rattle.wac_collection.specs.declared.component.ItemKind.{ItemKind}
-use Rattle.wac_collection.specs.declared.component.ItemKind.TheVariants as kind
+use Rattle.wac_shapes.specs.declared.component.Interface.{Interface}
+use Rattle.wac_shapes.specs.declared.component.InterfaceId.{InterfaceId}
+use Rattle.wac_shapes.specs.declared.component.DefinedTypeId.{DefinedTypeId}
+use Rattle.wac_shapes.specs.declared.component.FuncTypeId.{FuncTypeId}
+use Rattle.wac_shapes.specs.declared.component.«Type».{«Type» as AnyType}
+use Rattle.wac_shapes.specs.declared.component.ItemKind.{ItemKind}
+use Rattle.wac_shapes.specs.declared.component.ItemKind.TheVariants as kind
 use Rattle.wac_entries.specs.declared.calls.Calls.{Calls}
 use Rattle.wac_entries.specs.declared.memo.Memo.{Memo}
 use Rattle.wac_entries.specs.declared.nodes.Item.{Item as AnItem}

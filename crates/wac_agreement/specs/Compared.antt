@@ -1,8 +1,8 @@
 -- Entries as items of a table. Private functions alone cite this.
 use Rattle.std.specs.Prelude.{ℕ, ◌≡◌, ◌<◌, length, List, Some, slice_get}
-use Rattle.wac_collection.specs.Name.{Name}
+use Rattle.wac_shapes.specs.Name.{Name}
 use Rattle.wac_collection.specs.Collection.{Collection}
-use Rattle.wac_collection.specs.declared.component.ItemKind.{ItemKind}
+use Rattle.wac_shapes.specs.declared.component.ItemKind.{ItemKind}
 use Rattle.wac_entries.specs.Classes.{Entry, by_names}
 use Rattle.wac_entries.specs.Agreement.{compared}
 use Rattle.wac_entries.specs.Nodes.{Node, Item, type_of, item_tree, tree_at}

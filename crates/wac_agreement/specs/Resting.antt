@@ -1,15 +1,15 @@
 -- On which classes one entry lets its class rest. Private functions alone cite this.
 use Rattle.std.specs.Prelude.{ℕ, ◌≡◌, ◌≢◌, ◌<◌, ◌⊎◌, List, [], ◌∷◌, Option, Some, None, slice_get}
 use Rattle.std.specs.Option.{option_map}
-use Rattle.wac_collection.specs.Name.{Name, find_name, option_case}
+use Rattle.wac_shapes.specs.Name.{Name, find_name, option_case}
 use Rattle.wac_collection.specs.Collection.{Collection, item_at}
 use Rattle.wac_collection.specs.Held.{resolved}
-use Rattle.wac_collection.specs.declared.component.InterfaceId.{InterfaceId}
-use Rattle.wac_collection.specs.declared.component.ResourceId.{ResourceId}
-use Rattle.wac_collection.specs.declared.component.UsedType.{UsedType}
-use Rattle.wac_collection.specs.declared.component.ItemKind.{ItemKind}
-use Rattle.wac_collection.specs.declared.component.ItemKind.TheVariants as kind
-use Rattle.wac_collection.specs.declared.component.«Type».TheVariants as ty
+use Rattle.wac_shapes.specs.declared.component.InterfaceId.{InterfaceId}
+use Rattle.wac_shapes.specs.declared.component.ResourceId.{ResourceId}
+use Rattle.wac_shapes.specs.declared.component.UsedType.{UsedType}
+use Rattle.wac_shapes.specs.declared.component.ItemKind.{ItemKind}
+use Rattle.wac_shapes.specs.declared.component.ItemKind.TheVariants as kind
+use Rattle.wac_shapes.specs.declared.component.«Type».TheVariants as ty
 use Rattle.wac_entries.specs.Bindings.{ClassBindings, first_in}
 use Rattle.wac_entries.specs.Classes.{Entry}
 use Rattle.wac_entries.specs.Nodes.{Node, Item, and_optional, tree_at, type_of}

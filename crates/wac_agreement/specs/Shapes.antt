@@ -5,13 +5,13 @@ use Rattle.std.specs.Ordering.{nat_cmp}
 use Rattle.std.specs.declared.cmp.Ordering.{Ordering}
 use Rattle.std.specs.declared.cmp.Ordering.TheVariants.{Less}
 use Rattle.std.specs.Cmp.Lexicographic.{slice_cmp}
-use Rattle.wac_collection.specs.Name.{Name, find_name}
+use Rattle.wac_shapes.specs.Name.{Name, find_name}
 use Rattle.wac_collection.specs.Tree.{TypeTree, absent, instance, instance_item}
 use Rattle.wac_types.specs.Called.{Called}
 use Rattle.wac_collection.specs.Collection.{Collection, HasInterface, interface_exports}
-use Rattle.wac_collection.specs.declared.component.ItemKind.{ItemKind}
-use Rattle.wac_collection.specs.declared.component.ItemKind.TheVariants as kind
-use Rattle.wac_collection.specs.declared.component.InterfaceId.{InterfaceId}
+use Rattle.wac_shapes.specs.declared.component.ItemKind.{ItemKind}
+use Rattle.wac_shapes.specs.declared.component.ItemKind.TheVariants as kind
+use Rattle.wac_shapes.specs.declared.component.InterfaceId.{InterfaceId}
 use Rattle.wac_entries.specs.Nodes.{Node, Item, item_tree, tree_at}
 use Rattle.wac_entries.specs.Agreement.{AreInstances}
 use Rattle.wac_agreement.specs.Slots.{exports_of}

@@ -1,7 +1,8 @@
 //! On which classes a class rests: those whose interfaces its members use, and those whose resources they mean.
 ghost use Rattle.std.specs.Prelude.{ℕ, ◌≡◌, ◌<◌, ◌↔◌, ◌⊎◌, true, length, map, Some, IfOk, OnOk};
-ghost use Rattle.wac_collection.specs.Collection.{holds_type, holds_all, kind_type, used_types};
-ghost use Rattle.wac_collection.specs.declared.component.ItemKind.TheVariants as kind_of;
+ghost use Rattle.wac_collection.specs.Collection.{holds_type, holds_all, used_types};
+ghost use Rattle.wac_shapes.specs.Kinds.{kind_type};
+ghost use Rattle.wac_shapes.specs.declared.component.ItemKind.TheVariants as kind_of;
 ghost use Rattle.wac_entries.specs.Bindings.{AreBindings, AreHeld};
 ghost use Rattle.wac_agreement.specs.Circles.{Leads};
 ghost use Rattle.wac_entries.specs.Classes.{AreClasses, by_names, class_names};

@@ -4,12 +4,12 @@ ghost use Rattle.std.specs.Prelude.{◌≡◌, List, ℕ, ◌<◌, ◌++◌, ◌
 ghost use Rattle.wac_binary.specs.Items.{Item, TypeDef, core_type, type_item, Decl, Decls, decls, core_type_decl, type_decl, ModuleDecl, module_func};
 ghost use Rattle.wac_binary.specs.Bytes.{bytes_of};
 ghost use Rattle.wac_binary.specs.Customs.{of_sort, names_bytes, producers_bytes};
-ghost use Rattle.wac_collection.specs.Name.{Name};
+ghost use Rattle.wac_shapes.specs.Name.{Name};
 ghost use Rattle.wac_binary.specs.Indexes.{space, core_types, sort_added, indexes, declared, function_types};
 ghost use Rattle.wac_binary.specs.Unfold.{Scope, empty, type_at, bound_at, tree_of, after, with_decl, module_tree, no_module, module_after, func_at};
 ghost use Rattle.wac_binary.specs.Growth.{Grows, AllGrow, Reach, Reaches};
-ghost use Rattle.wac_collection.specs.Core.{CoreItem};
-ghost use Rattle.wac_collection.specs.declared.core_types.CoreType.{CoreType as OfCoreType};
+ghost use Rattle.wac_shapes.specs.Core.{CoreItem};
+ghost use Rattle.wac_shapes.specs.declared.core_types.CoreType.{CoreType as OfCoreType};
 ghost use Rattle.wac_binary.specs.Meaning.{meaning, read, things, stands_for, thing_added};
 ghost use Rattle.wac_binary.specs.declared.sorts.Sort.{Sort as OfSort};
 ghost use Rattle.wac_binary.specs.declared.sorts.Sort.TheVariants as s;

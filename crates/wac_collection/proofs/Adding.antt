@@ -1,14 +1,14 @@
 -- A collection keeps its laws as items are added against which nothing stands.
 use Rattle.std.proofs.Common.{ℕ, Bool, true, false, List, [], ◌∷◌, ◌++◌, ◌≡◌, refl, ap, sym, ◌∙◌, subst, Option, Some, None, slice_get, inl, inr}
-use Rattle.wac_collection.specs.Name.{first_some}
+use Rattle.wac_shapes.specs.Name.{first_some}
 use Rattle.wac_collection.specs.declared.collection.Held.{Held}
 use Rattle.wac_collection.specs.declared.collection.AddTypeError.{AddTypeError}
-use Rattle.wac_collection.specs.declared.component.Resource.{Resource}
-use Rattle.wac_collection.specs.declared.component.FuncType.{FuncType}
-use Rattle.wac_collection.specs.declared.component.DefinedType.{DefinedType}
-use Rattle.wac_collection.specs.declared.component.Interface.{Interface}
-use Rattle.wac_collection.specs.declared.component.World.{World}
-use Rattle.wac_collection.specs.declared.core_types.ModuleType.{ModuleType}
+use Rattle.wac_shapes.specs.declared.component.Resource.{Resource}
+use Rattle.wac_shapes.specs.declared.component.FuncType.{FuncType}
+use Rattle.wac_shapes.specs.declared.component.DefinedType.{DefinedType}
+use Rattle.wac_shapes.specs.declared.component.Interface.{Interface}
+use Rattle.wac_shapes.specs.declared.component.World.{World}
+use Rattle.wac_shapes.specs.declared.core_types.ModuleType.{ModuleType}
 use Rattle.wac_collection.specs.Collection.{Collection, size, Each, resource_mentions, func_mentions, defined_mentions, interface_mentions, world_mentions, holds_all, with_resource, with_func, with_defined, with_interface, with_world, with_module}
 use Rattle.wac_collection.specs.Uses.{interface_fault, world_fault, unless}
 use Rattle.wac_collection.specs.Lawful.{IsLawful}

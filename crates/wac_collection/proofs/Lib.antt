@@ -1,6 +1,4 @@
-pub mod Names
 pub mod Growth
-pub mod Loops
 pub mod Mentioned
 pub mod Chains
 pub mod Ends
@@ -8,7 +6,4 @@ pub mod Steady
 pub mod Adding
 pub mod Ids
 pub mod Packages
-pub mod AsGiven
-pub mod Under
-pub mod Clones
 pub mod Rows

@@ -1,7 +1,7 @@
 -- What a list of mentions says of its parts.
 use Rattle.std.proofs.Common.{Bool, true, false, ◌&&◌, List, [], ◌∷◌, ◌++◌, ◌≡◌, refl, ap, ◌∙◌, Option, Some, None}
 use Rattle.std.specs.List.{list_all}
-use Rattle.wac_collection.specs.declared.component.ValueType.{ValueType}
+use Rattle.wac_shapes.specs.declared.component.ValueType.{ValueType}
 use Rattle.wac_collection.specs.Collection.{Collection, holds_value, holds_all, value_types, and_maybe}
 
 and_true : (p q : Bool) → (p && q) ≡ ((p && true) && q)

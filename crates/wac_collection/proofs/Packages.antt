@@ -1,14 +1,14 @@
 -- What stands against the interface of a package's instances.
 use Rattle.std.proofs.Common.{Bool, true, List, [], ◌++◌, ◌≡◌, refl, ap, sym, ◌∙◌, subst, Option, Some, None, Err, slice_get}
-use Rattle.wac_collection.specs.Name.{Name, option_case, first_some}
+use Rattle.wac_shapes.specs.Name.{Name, option_case, first_some}
 use Rattle.wac_collection.specs.declared.collection.Held.{Held}
 use Rattle.wac_collection.specs.declared.collection.AddTypeError.{AddTypeError}
 use Rattle.wac_collection.specs.declared.collection.AddTypeError.TheVariants as fault
-use Rattle.wac_collection.specs.declared.component.UsedType.{UsedType}
-use Rattle.wac_collection.specs.declared.component.Interface.{Interface}
-use Rattle.wac_collection.specs.declared.component.World.{World}
-use Rattle.wac_collection.specs.declared.component.WorldId.{WorldId}
-use Rattle.wac_collection.specs.declared.component.ItemKind.{ItemKind}
+use Rattle.wac_shapes.specs.declared.component.UsedType.{UsedType}
+use Rattle.wac_shapes.specs.declared.component.Interface.{Interface}
+use Rattle.wac_shapes.specs.declared.component.World.{World}
+use Rattle.wac_shapes.specs.declared.component.WorldId.{WorldId}
+use Rattle.wac_shapes.specs.declared.component.ItemKind.{ItemKind}
 use Rattle.wac_collection.specs.Collection.{Collection, IsWellFormed, IsBefore, holds_all, kind_types, used_types, item_of, item_at}
 use Rattle.wac_collection.specs.Uses.{AnswersBy, named_right, unless, mention_fault, uses_fault, interface_fault}
 use Rattle.wac_collection.specs.Package.{package_fault}

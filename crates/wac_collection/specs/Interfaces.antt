@@ -1,8 +1,8 @@
 -- The interfaces of a collection, each under its id.
 use Rattle.std.specs.Prelude.{ℕ, suc, List, [], ◌∷◌}
 use Rattle.wac_collection.specs.declared.collection.Held.{Held}
-use Rattle.wac_collection.specs.declared.component.Interface.{Interface}
-use Rattle.wac_collection.specs.declared.component.InterfaceId.{InterfaceId}
+use Rattle.wac_shapes.specs.declared.component.Interface.{Interface}
+use Rattle.wac_shapes.specs.declared.component.InterfaceId.{InterfaceId}
 
 -- each with the id of its position, counted on from i
 abbrev pub numbered : ℕ → List (Held Interface) → List (InterfaceId × Interface)

@@ -1,6 +1,3 @@
-pub mod Name
-pub mod Named
-pub mod Core
 pub mod Tree
 pub mod Collection
 pub mod Held
@@ -10,6 +7,5 @@ pub mod Uses
 pub mod Lawful
 pub mod Ends
 pub mod Interfaces
-pub mod Words
 pub mod Package
 pub mod KeyLaws

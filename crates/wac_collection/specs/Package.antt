@@ -7,16 +7,16 @@ use Rattle.std.specs.Option.{option_eq, option_cmp}
 use Rattle.std.specs.Hash as fed
 use Rattle.semver.specs.Identifiers.{parts_text}
 use Rattle.semver.specs.Order.{pre_cmp, build_cmp}
-use Rattle.wac_collection.specs.Name.{Name, option_case}
+use Rattle.wac_shapes.specs.Name.{Name, option_case}
 use Rattle.wac_collection.specs.Collection.{Collection, holds_type, with_interface, world_exports, interface_exports}
 use Rattle.wac_collection.specs.Uses.{named_right, unless}
 use Rattle.wac_collection.specs.declared.collection.AddTypeError.{AddTypeError}
 use Rattle.wac_collection.specs.declared.collection.AddTypeError.TheVariants.{ResourceMisnamed}
-use Rattle.wac_collection.specs.declared.component.Interface.{Interface}
-use Rattle.wac_collection.specs.declared.component.InterfaceId.{InterfaceId}
-use Rattle.wac_collection.specs.declared.component.WorldId.{WorldId}
-use Rattle.wac_collection.specs.declared.component.ItemKind.{ItemKind}
-use Rattle.wac_collection.specs.declared.component.«Type».TheVariants as ty
+use Rattle.wac_shapes.specs.declared.component.Interface.{Interface}
+use Rattle.wac_shapes.specs.declared.component.InterfaceId.{InterfaceId}
+use Rattle.wac_shapes.specs.declared.component.WorldId.{WorldId}
+use Rattle.wac_shapes.specs.declared.component.ItemKind.{ItemKind}
+use Rattle.wac_shapes.specs.declared.component.«Type».TheVariants as ty
 
 -- major, minor, patch, pre-release, build metadata
 abbrev pub VersionParts : Type 0

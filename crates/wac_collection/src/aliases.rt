@@ -5,7 +5,7 @@ ghost use Rattle.wac_collection.specs.Held.{resolved};
 ghost use Rattle.wac_collection.specs.Aliases.{target_of, value_resolved, handle_resolved, type_resolved};
 
 use crate::collection::Types;
-use crate::component::{ResourceId, Type, ValueType};
+use wac_shapes::{ResourceId, Type, ValueType};
 
 impl Types {
     /// The resource at the end of the aliases; the resource itself where it is none.

@@ -4,19 +4,18 @@ ghost use Rattle.std.specs.Option.{option_copied};
 ghost use Rattle.wac_collection.specs.Collection.{IsWellFormed, empty, size, func_mentions, resource_mentions, defined_mentions, holds_value, holds_type, with_resource, with_func, with_defined, with_interface, with_world, with_module, item_at};
 ghost use Rattle.wac_collection.specs.Held.{resolved};
 ghost use Rattle.wac_collection.specs.Aliases.{value_resolved};
-ghost use Rattle.wac_collection.specs.declared.component.ValueType.TheVariants as val;
+ghost use Rattle.wac_shapes.specs.declared.component.ValueType.TheVariants as val;
 ghost use Rattle.wac_collection.specs.Uses.{AnswersBy, mention_fault, interface_fault, world_fault, IsSound};
 
-use crate::component::{
-    DefinedType, DefinedTypeId, FuncType, FuncTypeId, Interface, InterfaceId, ModuleTypeId,
-    Resource, ResourceId, Type, ValueType, World, WorldId,
-};
-use crate::core_types::ModuleType;
 use crate::shared::{Shared, hold};
 use std::alloc::{AllocError, Global};
 use std::marker::Model;
 use std::ops::Index;
 use thiserror::Error;
+use wac_shapes::{
+    DefinedType, DefinedTypeId, FuncType, FuncTypeId, Interface, InterfaceId, ModuleType,
+    ModuleTypeId, Resource, ResourceId, Type, ValueType, World, WorldId,
+};
 
 /// Why an item is not added: the first that stands.
 #[derive(Clone, Copy, Debug, PartialEq, Eq, Error)]

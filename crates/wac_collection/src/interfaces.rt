@@ -3,9 +3,9 @@ ghost use Rattle.std.specs.Prelude.{◌≡◌};
 ghost use Rattle.wac_collection.specs.Interfaces.{numbered};
 
 use crate::collection::Types;
-use crate::component::{Interface, InterfaceId};
 use crate::shared::Shared;
 use std::marker::Model;
+use wac_shapes::{Interface, InterfaceId};
 
 /// The interfaces of a collection that are still to come, each with its id.
 #[derive(Drop)]
@@ -17,8 +17,8 @@ pub struct Interfaces<'a> {
 impl<'a> Model for Interfaces<'a> {
     ghost use Rattle.std.specs.Prelude.{List, drop};
     ghost use Rattle.wac_collection.specs.Interfaces.{numbered};
-    ghost use Rattle.wac_collection.specs.declared.component.InterfaceId.{InterfaceId};
-    ghost use Rattle.wac_collection.specs.declared.component.Interface.{Interface};
+    ghost use Rattle.wac_shapes.specs.declared.component.InterfaceId.{InterfaceId};
+    ghost use Rattle.wac_shapes.specs.declared.component.Interface.{Interface};
 
     ghost Value = { List (InterfaceId × Interface) };
 

@@ -1,24 +1,20 @@
-//! The collection of types: the shapes of component types, what a collection of them holds, and packages.
+//! The collection of types: what a collection of shapes holds, and packages. The shapes are those of `wac_shapes`.
 #![tactic(auto)]
 
 mod aliases;
 mod collection;
-mod component;
-mod core_types;
 mod interfaces;
 mod mentions;
-mod named;
 mod package;
 mod shared;
 mod uses;
 
 pub use collection::{AddTypeError, Held, Types};
-pub use component::{
-    DefinedType, DefinedTypeId, Enum, Flags, FuncType, FuncTypeId, Interface, InterfaceId,
-    ItemKind, ModuleTypeId, PrimitiveType, Record, Resource, ResourceAlias, ResourceId, Type,
-    UsedType, ValueType, Variant, World, WorldId,
-};
-pub use core_types::{CoreExtern, CoreFuncType, CoreRefType, CoreType, ModuleType};
 pub use interfaces::Interfaces;
-pub use named::{Labels, Named, Sequence, ShapeError, Text};
 pub use package::{Package, PackageKey};
+pub use wac_shapes::{
+    CoreExtern, CoreFuncType, CoreRefType, CoreType, DefinedType, DefinedTypeId, Enum, Flags,
+    FuncType, FuncTypeId, Interface, InterfaceId, ItemKind, Labels, ModuleType, ModuleTypeId,
+    Named, PrimitiveType, Record, Resource, ResourceAlias, ResourceId, Sequence, ShapeError, Text,
+    Type, UsedType, ValueType, Variant, World, WorldId,
+};

@@ -3,10 +3,9 @@ ghost use Rattle.std.specs.Prelude.{◌≡◌, []};
 ghost use Rattle.wac_collection.specs.Collection.{seconds, and_maybe, case_values, value_types, used_types, kind_types, resource_mentions, func_mentions, defined_mentions, interface_mentions, world_mentions, holds_all};
 
 use crate::collection::Types;
-use crate::component::{
-    DefinedType, FuncType, Interface, ItemKind, Resource, Type, UsedType, ValueType, World,
+use wac_shapes::{
+    DefinedType, FuncType, Interface, ItemKind, Named, Resource, Type, UsedType, ValueType, World,
 };
-use crate::named::Named;
 
 impl Types {
     pub(crate) fn contains_alias(&self, resource: &Resource) -> bool

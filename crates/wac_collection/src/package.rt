@@ -9,17 +9,16 @@ ghost use Rattle.wac_collection.specs.Collection.{holds_type};
 ghost use Rattle.wac_collection.specs.Uses.{AnswersBy, same_item};
 ghost use Rattle.wac_collection.specs.Package.{with_instance_of, package_fault, same_key, key_cmp, key_writes, key_text, HoldsPackage};
 ghost use Rattle.wac_collection.specs.KeyLaws.{same_key_equiv, key_total, key_ties, key_po, same_key_writes};
-ghost use Rattle.wac_collection.specs.declared.component.«Type».TheVariants.{World as world_type};
+ghost use Rattle.wac_shapes.specs.declared.component.«Type».TheVariants.{World as world_type};
 
 use crate::collection::{AddTypeError, Types};
-use crate::component::{Interface, InterfaceId, ItemKind, Type, WorldId};
-use crate::named::Named;
 use semver::Version;
 use std::alloc::AllocError;
 use std::cmp::Ordering;
 use std::fmt;
 use std::hash::{Hash, Hasher};
 use std::marker::Model;
+use wac_shapes::{Interface, InterfaceId, ItemKind, Named, Type, WorldId};
 
 /// A package: a component's bytes under a name, with the world that they are said to be of.
 #[derive(Drop)]

@@ -1,11 +1,10 @@
 //! What an interface or a world uses of other interfaces, and what stands against adding it.
 ghost use Rattle.std.specs.Prelude.{◌≡◌};
-ghost use Rattle.wac_collection.specs.Name.{same_name};
+ghost use Rattle.wac_shapes.specs.Name.{same_name};
 ghost use Rattle.wac_collection.specs.Uses.{used_item, is_used_by_id, is_there, same_type, same_type_item, is_listed_as_used, is_named_right, used_by_id, are_there, listed_as_used, named_right, uses_fault, interface_fault, world_fault};
 
 use crate::collection::{AddTypeError, Types};
-use crate::component::{Interface, ItemKind, Resource, Type, UsedType, World};
-use crate::named::Named;
+use wac_shapes::{Interface, ItemKind, Named, Resource, Type, UsedType, World};
 
 // Whether two types have the same sort and the same id.
 fn same_type(a: Type, b: Type) -> bool

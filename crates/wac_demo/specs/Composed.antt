@@ -1,13 +1,13 @@
 -- What the compositions are.
 use Rattle.std.specs.Prelude.{◌≡◌, ℕ, List, [], Some, None, IsSomeAnd, true, false, codes, ◌⊎◌}
 use Rattle.std.specs.FinSet as set
-use Rattle.wac_collection.specs.Name.{Name}
+use Rattle.wac_shapes.specs.Name.{Name}
 use Rattle.wac_collection.specs.Collection.{Collection, item_at, world_imports, world_exports}
 use Rattle.wac_collection.specs.Package.{PackageParts}
-use Rattle.wac_collection.specs.declared.component.Interface.{Interface}
-use Rattle.wac_collection.specs.declared.component.ItemKind.{ItemKind}
-use Rattle.wac_collection.specs.declared.component.ItemKind.TheVariants as kind
-use Rattle.wac_collection.specs.declared.component.World.{World}
+use Rattle.wac_shapes.specs.declared.component.Interface.{Interface}
+use Rattle.wac_shapes.specs.declared.component.ItemKind.{ItemKind}
+use Rattle.wac_shapes.specs.declared.component.ItemKind.TheVariants as kind
+use Rattle.wac_shapes.specs.declared.component.World.{World}
 use Rattle.wac_binary.specs.Items.{Item}
 use Rattle.wac_binary.specs.Bytes.{preamble, bytes_of}
 use Rattle.wac_graph.specs.declared.edges.Edge.{Edge}

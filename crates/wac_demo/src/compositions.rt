@@ -1,7 +1,7 @@
 //! The compositions that the program prints.
 
 ghost use Rattle.std.specs.Prelude.{◌≡◌, IfOk, IsSome};
-ghost use Rattle.wac_collection.specs.Named.{named_pairs};
+ghost use Rattle.wac_shapes.specs.Named.{named_pairs};
 ghost use Rattle.wac_graph.specs.Graph.{package_at};
 ghost use Rattle.wac_graph.specs.Steps.{IsEmpty};
 ghost use Rattle.wac_demo.specs.Composed.{Compose, IsReadme, IsPlainFunction, IsEmptyPackage, Stays};

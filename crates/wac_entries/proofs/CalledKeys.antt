@@ -3,10 +3,10 @@ use Rattle.std.proofs.Common.{◌≡◌, true, nat_eq, [], refl, ap, eq-eqb}
 use Rattle.std.proofs.lemmas.Bool.{eqb-true}
 use Rattle.std.specs.Cmp.Lexicographic.{pointwise}
 use Rattle.std.specs.Prelude.{string_bytes}
-use Rattle.wac_collection.specs.Name.{Name}
+use Rattle.wac_shapes.specs.Name.{Name}
 use Rattle.wac_collection.specs.Tree.{imported, Place, position, named, Leaf}
 use Rattle.wac_types.specs.Called as spec
-use Rattle.wac_collection.specs.declared.component.ResourceId.{ResourceId}
+use Rattle.wac_shapes.specs.declared.component.ResourceId.{ResourceId}
 use Rattle.wac_entries.specs.contracts.called.CalledPartialEq.TheImpl as CalledEq
 use Rattle.wac_entries.specs.contracts.called.SidePartialEq.TheImpl as SideEq
 use Rattle.wac_entries.specs.declared.called.Side.{Side as ASide}

@@ -14,15 +14,15 @@ use Rattle.wac_names.specs.contracts.tracks.TrackPartialEq as equal
 use Rattle.wac_names.specs.declared.tracks.Track.{Track}
 use Rattle.wac_names.proofs.SameTrack.{same-track}
 use Rattle.wac_names.proofs.TrackFacts.{had-track}
-use Rattle.wac_collection.specs.Name.{Name, option_case, first_some}
+use Rattle.wac_shapes.specs.Name.{Name, option_case, first_some}
 use Rattle.wac_collection.specs.Tree.{imported, Place, named, Leaf}
 use Rattle.wac_collection.specs.Collection.{Collection, item_at}
 use Rattle.wac_collection.specs.Bound.{own_name}
-use Rattle.wac_collection.specs.declared.component.Interface.{Interface}
-use Rattle.wac_collection.specs.declared.component.InterfaceId.{InterfaceId}
-use Rattle.wac_collection.specs.declared.component.ResourceId.{ResourceId}
-use Rattle.wac_collection.specs.declared.component.ItemKind.TheVariants as kind
-use Rattle.wac_collection.proofs.Names.{take_at}
+use Rattle.wac_shapes.specs.declared.component.Interface.{Interface}
+use Rattle.wac_shapes.specs.declared.component.InterfaceId.{InterfaceId}
+use Rattle.wac_shapes.specs.declared.component.ResourceId.{ResourceId}
+use Rattle.wac_shapes.specs.declared.component.ItemKind.TheVariants as kind
+use Rattle.wac_shapes.proofs.Names.{take_at}
 use Rattle.wac_entries.specs.Binding.{kind_binds, first_binds, class_binds, binding_from}
 use Rattle.wac_entries.specs.Bindings.{AreBindings, ClassBindings, HaveBound, HaveTracks, first_from, first_in, member_leaves, numbered, path_in}
 use Rattle.wac_entries.specs.Classes.{Entry, AreClasses, by_names, canonical, class_names, newest, same_class, same_track}

@@ -4,11 +4,11 @@ use Rattle.std.specs.Prelude.{slice_get, string_bytes}
 use Rattle.std.specs.List.{AllByRecursion, AllZip}
 use Rattle.std.specs.declared.string.String.{String}
 use Rattle.std.specs.declared.alloc.AllocError.{AllocError}
-use Rattle.wac_collection.specs.Name.{Name, option_case}
+use Rattle.wac_shapes.specs.Name.{Name, option_case}
 use Rattle.wac_collection.specs.Tree.{TypeTree, absent}
 use Rattle.wac_types.specs.Called.{Called}
-use Rattle.wac_collection.specs.declared.component.«Type».{«Type» as AnyType}
-use Rattle.wac_collection.specs.declared.component.ValueType.{ValueType}
+use Rattle.wac_shapes.specs.declared.component.«Type».{«Type» as AnyType}
+use Rattle.wac_shapes.specs.declared.component.ValueType.{ValueType}
 use Rattle.wac_entries.specs.declared.memo.Memo.{Memo}
 use Rattle.wac_entries.specs.Nodes.{Node, mentions, node_tree, tree_to, tree_at, IsTable, Added}
 use Rattle.wac_entries.specs.Coding.{IsGrown, HasTree, IsRight, HasOption, AreParts, AreFields, AreCases}

@@ -8,15 +8,15 @@ use Rattle.std.specs.BTreeMap.{insert_entry}
 use Rattle.std.specs.Map.{keys_of}
 use Rattle.std.specs.Option.{option_map}
 use Rattle.std.specs.declared.alloc.AllocError.{AllocError}
-use Rattle.wac_collection.specs.Name.{Name, same_name}
+use Rattle.wac_shapes.specs.Name.{Name, same_name}
 use Rattle.wac_collection.specs.Tree.{TypeTree, absent, instance, component}
 use Rattle.wac_types.specs.Called.{Called}
 use Rattle.wac_collection.specs.Collection.{Collection}
 use Rattle.wac_collection.specs.Held.{Names, items_under}
 use Rattle.wac_collection.specs.Held as held
-use Rattle.wac_collection.specs.declared.component.«Type».{«Type» as AnyType}
-use Rattle.wac_collection.specs.declared.component.ItemKind.{ItemKind}
-use Rattle.wac_collection.proofs.Loops.{drop_at}
+use Rattle.wac_shapes.specs.declared.component.«Type».{«Type» as AnyType}
+use Rattle.wac_shapes.specs.declared.component.ItemKind.{ItemKind}
+use Rattle.wac_shapes.proofs.Loops.{drop_at}
 use Rattle.wac_entries.specs.declared.nodes.Item.{Item as AnItem}
 use Rattle.wac_entries.specs.declared.scopes.Opener.{Opener}
 use Rattle.wac_entries.specs.Nodes.{Node, Item, of_instance, of_component, type_of, types_of, item_tree, tree_at}

@@ -3,11 +3,11 @@ use Rattle.std.proofs.Common.{Global, ◌≡◌, ℕ, ◌+◌, ◌<◌, List, []
 use Rattle.std.specs.Prelude.{slice_get, string_bytes}
 use Rattle.std.specs.Option.{option_map}
 use Rattle.std.specs.declared.string.String.{String}
-use Rattle.wac_collection.specs.Name.{Name}
+use Rattle.wac_shapes.specs.Name.{Name}
 use Rattle.wac_collection.specs.Tree.{TypeTree}
 use Rattle.wac_types.specs.Called.{Called}
-use Rattle.wac_collection.specs.declared.component.ValueType.{ValueType}
-use Rattle.wac_collection.proofs.Loops.{take_more}
+use Rattle.wac_shapes.specs.declared.component.ValueType.{ValueType}
+use Rattle.wac_shapes.proofs.Loops.{take_more}
 use Rattle.wac_entries.specs.Nodes.{Node}
 use Rattle.wac_entries.specs.Coding.{IsGrown, HasTree, HasOption, AreParts, AreFields, AreCases}
 use Rattle.wac_entries.proofs.CodingGrowth.{zip_push, parts_grown, fields_grown, cases_grown}

@@ -6,11 +6,11 @@ use Rattle.std.specs.HashMap.{get}
 use Rattle.std.specs.declared.alloc.AllocError.{AllocError}
 use Rattle.wac_collection.specs.Tree.{TypeTree}
 use Rattle.wac_types.specs.Called.{Called}
-use Rattle.wac_collection.specs.declared.component.DefinedTypeId.{DefinedTypeId}
-use Rattle.wac_collection.specs.declared.component.FuncTypeId.{FuncTypeId}
-use Rattle.wac_collection.specs.declared.component.ValueType.TheVariants as val
-use Rattle.wac_collection.specs.declared.component.«Type».{«Type» as AnyType}
-use Rattle.wac_collection.specs.declared.component.«Type».TheVariants as ty
+use Rattle.wac_shapes.specs.declared.component.DefinedTypeId.{DefinedTypeId}
+use Rattle.wac_shapes.specs.declared.component.FuncTypeId.{FuncTypeId}
+use Rattle.wac_shapes.specs.declared.component.ValueType.TheVariants as val
+use Rattle.wac_shapes.specs.declared.component.«Type».{«Type» as AnyType}
+use Rattle.wac_shapes.specs.declared.component.«Type».TheVariants as ty
 use Rattle.wac_entries.specs.declared.memo.Memo.{Memo}
 use Rattle.wac_entries.specs.Nodes.{Node}
 use Rattle.wac_entries.specs.Coding.{HasTree, defined_number, func_number, HasDefinedToo, HasFuncToo, IsRight, IsMore}

@@ -15,16 +15,16 @@ use Rattle.std.specs.Option.{option_map}
 use Rattle.std.specs.declared.string.String.{String}
 use Rattle.std.specs.declared.alloc.AllocError.{AllocError}
 use Rattle.std.proofs.lemmas.Bool.{eqb-true}
-use Rattle.wac_collection.proofs.Loops.{entry_at, drop_at}
-use Rattle.wac_collection.specs.Name.{Name, same_name, find_name, option_case}
-use Rattle.wac_collection.specs.Named.{NoNameTwice}
-use Rattle.wac_collection.specs.Core.{CoreItem, no_item}
+use Rattle.wac_shapes.proofs.Loops.{entry_at, drop_at}
+use Rattle.wac_shapes.specs.Name.{Name, same_name, find_name, option_case}
+use Rattle.wac_shapes.specs.Named.{NoNameTwice}
+use Rattle.wac_shapes.specs.Core.{CoreItem, no_item}
 use Rattle.wac_collection.specs.Tree.{module_of}
 use Rattle.wac_collection.specs.Held.{core_item, core_imports, module_tree}
 use Rattle.wac_collection.specs.Held as held
-use Rattle.wac_collection.specs.declared.core_types.CoreExtern.{CoreExtern}
-use Rattle.wac_collection.specs.declared.core_types.CoreExtern.TheVariants as ext
-use Rattle.wac_collection.specs.declared.core_types.ModuleType.{ModuleType}
+use Rattle.wac_shapes.specs.declared.core_types.CoreExtern.{CoreExtern}
+use Rattle.wac_shapes.specs.declared.core_types.CoreExtern.TheVariants as ext
+use Rattle.wac_shapes.specs.declared.core_types.ModuleType.{ModuleType}
 use Rattle.wac_entries.specs.declared.nodes.Core.{Core}
 use Rattle.wac_entries.specs.declared.nodes.Core.TheVariants as core
 use Rattle.wac_entries.specs.Nodes.{Node, of_module, core_under, core_under_both, Sorted, AreCoreItems}

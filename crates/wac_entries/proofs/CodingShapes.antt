@@ -2,13 +2,13 @@
 use Rattle.std.proofs.Common.{Global, ◌≡◌, ℕ, suc, Bool, ◌<◌, List, [], ◌∷◌, length, map, Option, Some, None, refl, ap, sym, subst}
 use Rattle.std.specs.List.{AllByRecursion}
 use Rattle.std.specs.declared.string.String.{String}
-use Rattle.wac_collection.specs.Name.{Name}
+use Rattle.wac_shapes.specs.Name.{Name}
 use Rattle.wac_collection.specs.Tree.{TypeTree, record_of, variant_of, list_of, fixed_list_of, tuple_of, flags_of, enum_of, option_of, result_of, stream_of, future_of, function}
 use Rattle.wac_types.specs.Called.{Called}
 use Rattle.wac_collection.specs.Held.{part_at, option_tree, defined_tree}
-use Rattle.wac_collection.specs.declared.component.DefinedType.{DefinedType}
+use Rattle.wac_shapes.specs.declared.component.DefinedType.{DefinedType}
 use Rattle.wac_entries.specs.declared.nodes.Node.{Node as ANode}
-use Rattle.wac_collection.specs.declared.component.ValueType.{ValueType}
+use Rattle.wac_shapes.specs.declared.component.ValueType.{ValueType}
 use Rattle.wac_entries.specs.Nodes.{Node, of_record, of_variant, of_list, of_fixed_list, of_tuple, of_flags, of_enum, of_option, of_result, of_stream, of_future, of_function, and_optional, optionals, seconds, optional_tree, tree_at}
 use Rattle.wac_entries.specs.NodeViews.{named, node_view}
 use Rattle.wac_entries.specs.Coding.{HasTree, HasOption, AreParts, AreFields, AreCases, Fits}

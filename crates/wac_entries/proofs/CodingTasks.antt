@@ -2,19 +2,19 @@
 use Rattle.std.proofs.Common.{◌≡◌, ℕ, zero, suc, ◌+◌, ◌<◌, ◌≤◌, List, [], ◌∷◌, ◌++◌, length, Option, Some, None, Result, Ok, Err, OnOk, true, nat_lt, ◌⊎◌, inl, inr, refl, ap, sym, ◌∙◌, subst, append_assoc, arith}
 use Rattle.std.specs.Prelude.{slice_get, IsSome}
 use Rattle.std.specs.List.{AllByRecursion}
-use Rattle.wac_collection.specs.Name.{option_case}
+use Rattle.wac_shapes.specs.Name.{option_case}
 use Rattle.std.specs.declared.alloc.AllocError.{AllocError}
 use Rattle.wac_collection.specs.Tree.{TypeTree}
 use Rattle.wac_types.specs.Called.{Called}
 use Rattle.wac_collection.specs.Collection.{Collection, item_at, item_of, defined_values, defined_mentions, func_values, func_mentions, holds_value, value_types, AddedBefore, AreBefore, IsPartBelow, IsValueBefore, IsWellFormed}
 use Rattle.wac_collection.specs.declared.collection.Held.{Held}
-use Rattle.wac_collection.specs.declared.component.FuncType.{FuncType}
-use Rattle.wac_collection.specs.declared.component.FuncTypeId.{FuncTypeId}
-use Rattle.wac_collection.specs.declared.component.DefinedType.{DefinedType}
-use Rattle.wac_collection.specs.declared.component.DefinedTypeId.{DefinedTypeId}
-use Rattle.wac_collection.specs.declared.component.ValueType.{ValueType}
-use Rattle.wac_collection.specs.declared.component.ValueType.TheVariants as val
-use Rattle.wac_collection.specs.declared.component.«Type».{«Type» as AnyType}
+use Rattle.wac_shapes.specs.declared.component.FuncType.{FuncType}
+use Rattle.wac_shapes.specs.declared.component.FuncTypeId.{FuncTypeId}
+use Rattle.wac_shapes.specs.declared.component.DefinedType.{DefinedType}
+use Rattle.wac_shapes.specs.declared.component.DefinedTypeId.{DefinedTypeId}
+use Rattle.wac_shapes.specs.declared.component.ValueType.{ValueType}
+use Rattle.wac_shapes.specs.declared.component.ValueType.TheVariants as val
+use Rattle.wac_shapes.specs.declared.component.«Type».{«Type» as AnyType}
 use Rattle.wac_entries.specs.declared.memo.Memo.{Memo}
 use Rattle.wac_entries.specs.declared.tasks.Task.{Task}
 use Rattle.wac_entries.specs.declared.tasks.Task.TheVariants.{Open, Close}

@@ -3,8 +3,8 @@ use Rattle.wac_entries.proofs.SortedMaps.{one_map, items_are, found_are, first_u
 use Rattle.std.proofs.Common.{◌≡◌, ℕ, zero, suc, ◌<◌, ◌≤◌, List, [], ◌∷◌, ◌++◌, length, map, Option, Some, None, refl, ap, sym, ◌∙◌, arith}
 use Rattle.std.specs.Prelude.{slice_get, ◌≢◌}
 use Rattle.std.specs.List.{AllByRecursion}
-use Rattle.wac_collection.specs.Name.{Name, option_case}
-use Rattle.wac_collection.specs.Core.{CoreItem, no_item}
+use Rattle.wac_shapes.specs.Name.{Name, option_case}
+use Rattle.wac_shapes.specs.Core.{CoreItem, no_item}
 use Rattle.wac_collection.specs.Tree.{TypeTree, absent}
 use Rattle.wac_types.specs.Called.{Called}
 use Rattle.wac_collection.specs.Held.{part_at}

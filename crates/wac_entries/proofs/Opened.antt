@@ -3,22 +3,23 @@ use Rattle.std.specs.Global.{Global}
 use Rattle.std.proofs.Common.{◌≡◌, ◌≢◌, ℕ, suc, ◌+◌, ◌<◌, ◌≤◌, true, false, List, [], ◌∷◌, map, length, Vec, Option, Some, None, slice_get, get_or, refl, sym, ap, ◌∙◌, subst, arith}
 use Rattle.std.proofs.Math.Path.{fun_ext}
 use Rattle.std.proofs.lemmas.Option.{slice_get_read, slice_get_within}
-use Rattle.wac_collection.specs.Name.{Name, option_case}
+use Rattle.wac_shapes.specs.Name.{Name, option_case}
 use Rattle.wac_collection.specs.Tree.{TypeTree, instance, component}
-use Rattle.wac_collection.specs.Collection.{Collection, IsWellFormed, size, item_of, holds_type, holds_all, kind_type, kind_types, world_imports, world_exports}
+use Rattle.wac_collection.specs.Collection.{Collection, IsWellFormed, size, item_of, holds_type, holds_all, kind_types, world_imports, world_exports}
+use Rattle.wac_shapes.specs.Kinds.{kind_type}
 use Rattle.wac_collection.specs.Held.{Names, of_held, interface_tree, world_tree, unfolded, items_under, item_tree}
 use Rattle.wac_collection.specs.Bound.{bound_by_imports, bound_in_world}
 use Rattle.wac_types.specs.Called.{Called, or_around, own_leaf, by_binding}
 use Rattle.wac_types.specs.TreeLaws.{IsDeepEnough}
 use Rattle.wac_collection.specs.declared.collection.Held.{Held}
-use Rattle.wac_collection.specs.declared.component.Interface.{Interface}
-use Rattle.wac_collection.specs.declared.component.InterfaceId.{InterfaceId}
-use Rattle.wac_collection.specs.declared.component.World.{World}
-use Rattle.wac_collection.specs.declared.component.WorldId.{WorldId}
-use Rattle.wac_collection.specs.declared.component.ResourceId.{ResourceId}
-use Rattle.wac_collection.specs.declared.component.«Type».TheVariants as ty
-use Rattle.wac_collection.specs.declared.component.ItemKind.{ItemKind}
-use Rattle.wac_collection.specs.declared.component.ItemKind.TheVariants as kind
+use Rattle.wac_shapes.specs.declared.component.Interface.{Interface}
+use Rattle.wac_shapes.specs.declared.component.InterfaceId.{InterfaceId}
+use Rattle.wac_shapes.specs.declared.component.World.{World}
+use Rattle.wac_shapes.specs.declared.component.WorldId.{WorldId}
+use Rattle.wac_shapes.specs.declared.component.ResourceId.{ResourceId}
+use Rattle.wac_shapes.specs.declared.component.«Type».TheVariants as ty
+use Rattle.wac_shapes.specs.declared.component.ItemKind.{ItemKind}
+use Rattle.wac_shapes.specs.declared.component.ItemKind.TheVariants as kind
 use Rattle.wac_collection.proofs.Growth.{all_within}
 use Rattle.wac_entries.specs.declared.calls.Calls.{Calls}
 use Rattle.wac_entries.specs.declared.coder.Source.{Source}

@@ -5,14 +5,15 @@ use Rattle.std.proofs.Math.ListN.{set}
 use Rattle.std.proofs.lemmas.Option.{slice_get_within}
 use Rattle.std.specs.List.{AllByRecursion}
 use Rattle.std.specs.Option.{option_map}
-use Rattle.wac_collection.specs.Name.{Name}
+use Rattle.wac_shapes.specs.Name.{Name}
 use Rattle.wac_collection.specs.Tree.{TypeTree, type_equal, function_item, instance_item, component_item, module_item, value_item}
 use Rattle.wac_types.specs.Called.{Called}
-use Rattle.wac_collection.specs.Collection.{Collection, kind_type, kind_types, holds_type, holds_all}
-use Rattle.wac_collection.specs.declared.component.ItemKind.{ItemKind}
-use Rattle.wac_collection.specs.declared.component.«Type».{«Type» as AnyType}
+use Rattle.wac_collection.specs.Collection.{Collection, kind_types, holds_type, holds_all}
+use Rattle.wac_shapes.specs.Kinds.{kind_type}
+use Rattle.wac_shapes.specs.declared.component.ItemKind.{ItemKind}
+use Rattle.wac_shapes.specs.declared.component.«Type».{«Type» as AnyType}
 use Rattle.wac_collection.proofs.Growth.{all_from}
-use Rattle.wac_collection.proofs.Names.{take_at}
+use Rattle.wac_shapes.proofs.Names.{take_at}
 use Rattle.wac_entries.specs.declared.calls.Calls.{Calls}
 use Rattle.wac_entries.specs.declared.nodes.Item.{Item}
 use Rattle.wac_entries.specs.declared.scopes.Opener.{Opener}

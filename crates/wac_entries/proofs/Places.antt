@@ -9,23 +9,24 @@ use Rattle.std.specs.declared.string.String.{String}
 use Rattle.std.proofs.lemmas.List.{map-append}
 use Rattle.std.proofs.lemmas.Bool.{cases_Bool, eqb-true, false≢true}
 use Rattle.std.proofs.lemmas.List.Elements.{filter-append}
-use Rattle.wac_collection.specs.Name.{Name, same_name, find_name, option_case, first_some}
+use Rattle.wac_shapes.specs.Name.{Name, same_name, find_name, option_case, first_some}
 use Rattle.wac_collection.specs.Tree.{Side, named, Leaf}
-use Rattle.wac_collection.specs.Collection.{Collection, IsBefore, IsWellFormed, holds_all, holds_type, item_at, kind_type, kind_types, used_types}
+use Rattle.wac_collection.specs.Collection.{Collection, IsBefore, IsWellFormed, holds_all, holds_type, item_at, kind_types, used_types}
+use Rattle.wac_shapes.specs.Kinds.{kind_type}
 use Rattle.wac_collection.specs.Held.{Names}
 use Rattle.wac_collection.specs.Bound.{is_alias, lists_own, own_name, bound_by, bound_in_order, lists_type, first_bound}
 use Rattle.wac_collection.specs.declared.collection.Held.{Held}
-use Rattle.wac_collection.specs.declared.component.ResourceId.{ResourceId}
-use Rattle.wac_collection.specs.declared.component.Interface.{Interface}
-use Rattle.wac_collection.specs.declared.component.InterfaceId.{InterfaceId}
-use Rattle.wac_collection.specs.declared.component.WorldId.{WorldId}
-use Rattle.wac_collection.specs.declared.component.World.{World}
-use Rattle.wac_collection.specs.declared.component.UsedType.{UsedType}
-use Rattle.wac_collection.specs.declared.component.«Type».TheVariants as ty
-use Rattle.wac_collection.specs.declared.component.ItemKind.{ItemKind}
-use Rattle.wac_collection.specs.declared.component.ItemKind.TheVariants as kind
+use Rattle.wac_shapes.specs.declared.component.ResourceId.{ResourceId}
+use Rattle.wac_shapes.specs.declared.component.Interface.{Interface}
+use Rattle.wac_shapes.specs.declared.component.InterfaceId.{InterfaceId}
+use Rattle.wac_shapes.specs.declared.component.WorldId.{WorldId}
+use Rattle.wac_shapes.specs.declared.component.World.{World}
+use Rattle.wac_shapes.specs.declared.component.UsedType.{UsedType}
+use Rattle.wac_shapes.specs.declared.component.«Type».TheVariants as ty
+use Rattle.wac_shapes.specs.declared.component.ItemKind.{ItemKind}
+use Rattle.wac_shapes.specs.declared.component.ItemKind.TheVariants as kind
 use Rattle.wac_collection.proofs.Growth.{all_within}
-use Rattle.wac_collection.proofs.Names.{take_at}
+use Rattle.wac_shapes.proofs.Names.{take_at}
 use Rattle.wac_entries.proofs.Telling.{both}
 use Rattle.wac_entries.specs.CalledViews.{path_view}
 use Rattle.wac_entries.specs.Places.{Adds, bound_by_instance, find_resource, given_path, leaf_at, only, own_at, own_resource, under}

@@ -1,11 +1,11 @@
 -- What resources are called in a scope, from what they are called in the one around it.
 use Rattle.std.proofs.Common.{◌≡◌, ℕ, zero, suc, ◌+◌, ◌<◌, List, Option, Some, None, slice_get, refl, ap, ◌∙◌, subst, arith}
-use Rattle.wac_collection.specs.Name.{option_case, first_some}
+use Rattle.wac_shapes.specs.Name.{option_case, first_some}
 use Rattle.wac_collection.specs.Tree.{Leaf}
 use Rattle.wac_collection.specs.Collection.{Collection}
 use Rattle.wac_collection.specs.Held.{Names}
 use Rattle.wac_types.specs.Called.{Called, called_at, one_out, or_around}
-use Rattle.wac_collection.specs.declared.component.ResourceId.{ResourceId}
+use Rattle.wac_shapes.specs.declared.component.ResourceId.{ResourceId}
 use Rattle.wac_entries.specs.declared.scopes.Opener.{Opener}
 use Rattle.wac_entries.specs.declared.scopes.Scope.{Scope}
 use Rattle.wac_entries.specs.Scopes.{listed_in, binds, opened, IsBelow, AreScopes, called_to, called_in}

@@ -3,18 +3,18 @@ use Rattle.std.proofs.Common.{◌≡◌, ℕ, zero, suc, ◌+◌, ◌<◌, Bool,
 use Rattle.std.proofs.lemmas.Option.{slice_get_read, slice_get_within}
 use Rattle.std.proofs.lemmas.List.{length-append}
 use Rattle.std.specs.Option.{option_map}
-use Rattle.wac_collection.specs.Name.{Name, option_case, first_some}
+use Rattle.wac_shapes.specs.Name.{Name, option_case, first_some}
 use Rattle.wac_collection.specs.Tree.{Side, Place, Leaf, imported, exported}
 use Rattle.wac_collection.specs.Collection.{Collection, IsWellFormed, IsSourceBelow, holds_type, item_at, item_of}
 use Rattle.wac_collection.specs.Held.{Names, resolved, resolved_in, source_of}
 use Rattle.wac_types.specs.Called.{Called, bound_at, of_class, itself, one_out, resource_name, called_at, own_leaf, or_around}
 use Rattle.wac_collection.specs.declared.collection.Held.{Held}
-use Rattle.wac_collection.specs.declared.component.Resource.{Resource}
-use Rattle.wac_collection.specs.declared.component.ResourceAlias.{ResourceAlias}
-use Rattle.wac_collection.specs.declared.component.ResourceId.{ResourceId}
-use Rattle.wac_collection.specs.declared.component.Interface.{Interface}
-use Rattle.wac_collection.specs.declared.component.ItemKind.{ItemKind}
-use Rattle.wac_collection.specs.declared.component.ItemKind.TheVariants as kind
+use Rattle.wac_shapes.specs.declared.component.Resource.{Resource}
+use Rattle.wac_shapes.specs.declared.component.ResourceAlias.{ResourceAlias}
+use Rattle.wac_shapes.specs.declared.component.ResourceId.{ResourceId}
+use Rattle.wac_shapes.specs.declared.component.Interface.{Interface}
+use Rattle.wac_shapes.specs.declared.component.ItemKind.{ItemKind}
+use Rattle.wac_shapes.specs.declared.component.ItemKind.TheVariants as kind
 use Rattle.wac_entries.specs.declared.scopes.Opener.{Opener}
 use Rattle.wac_entries.specs.declared.scopes.Opener.TheVariants as opener
 use Rattle.wac_entries.specs.declared.scopes.Scope.{Scope}
@@ -24,7 +24,7 @@ use Rattle.wac_entries.specs.Agreement.{called_outside, called_in_class, called_
 use Rattle.wac_entries.specs.Scopes.{opener_type, opened_by, binds, IsBelow, ComesFrom, AreScopes, called_in, called_in_root}
 use Rattle.wac_entries.specs.Places.{find_resource, leaf_at}
 use Rattle.wac_entries.specs.Walking.{AreBound, out_by, IsOut, past}
-use Rattle.wac_collection.proofs.Names.{take_at}
+use Rattle.wac_shapes.proofs.Names.{take_at}
 use Rattle.wac_entries.proofs.Lists.{push-cases}
 use Rattle.wac_entries.proofs.Opening.{there}
 use Rattle.wac_entries.proofs.ScopeLaws.{called-at-root, called-inside}

@@ -4,12 +4,13 @@ use Rattle.std.specs.Option.{option_map}
 use Rattle.wac_names.specs.Reading.{read_track}
 use Rattle.wac_names.specs.Views.{track_view}
 use Rattle.wac_names.specs.declared.tracks.Track.{Track}
-use Rattle.wac_collection.specs.Name.{Name, option_case}
+use Rattle.wac_shapes.specs.Name.{Name, option_case}
 use Rattle.wac_collection.specs.Tree.{imported, Place, Leaf}
-use Rattle.wac_collection.specs.Collection.{Collection, holds_type, kind_type}
+use Rattle.wac_collection.specs.Collection.{Collection, holds_type}
+use Rattle.wac_shapes.specs.Kinds.{kind_type}
 use Rattle.wac_collection.specs.Held.{Names}
-use Rattle.wac_collection.specs.declared.component.ResourceId.{ResourceId}
-use Rattle.wac_collection.specs.declared.component.ItemKind.{ItemKind}
+use Rattle.wac_shapes.specs.declared.component.ResourceId.{ResourceId}
+use Rattle.wac_shapes.specs.declared.component.ItemKind.{ItemKind}
 use Rattle.wac_entries.specs.Classes.{Entry, by_names, class_names}
 use Rattle.wac_entries.specs.Binding.{kind_binds, first_binds, class_binds, binding_class}
 use Rattle.wac_entries.specs.Numbering.{members_in}

@@ -6,9 +6,9 @@ use Rattle.std.specs.declared.cmp.Ordering.{Ordering}
 use Rattle.std.specs.declared.cmp.Ordering.TheVariants.{Greater}
 use Rattle.wac_names.specs.Track.{Track, whole, major, minor, patch, version_cmp}
 use Rattle.wac_names.specs.Reading.{read_track, read_version}
-use Rattle.wac_collection.specs.Name.{Name, same_name, find_name}
-use Rattle.wac_collection.specs.declared.component.ItemKind.{ItemKind}
-use Rattle.wac_collection.specs.declared.component.ItemKind.TheVariants as kind
+use Rattle.wac_shapes.specs.Name.{Name, same_name, find_name}
+use Rattle.wac_shapes.specs.declared.component.ItemKind.{ItemKind}
+use Rattle.wac_shapes.specs.declared.component.ItemKind.TheVariants as kind
 
 -- an import that is asked for
 pub record Entry : Type 0 where

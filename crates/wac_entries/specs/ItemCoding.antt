@@ -1,12 +1,12 @@
 -- What a scope lists, as nodes of a table. Private functions alone cite this.
 use Rattle.std.specs.Prelude.{◌≡◌, ◌<◌, false, List, map, length}
 use Rattle.std.specs.List.{AllByRecursion, AllZip}
-use Rattle.wac_collection.specs.Name.{Name}
+use Rattle.wac_shapes.specs.Name.{Name}
 use Rattle.wac_collection.specs.Tree.{TypeTree, component}
 use Rattle.wac_types.specs.Called.{Called}
 use Rattle.wac_collection.specs.Held as held
-use Rattle.wac_collection.specs.declared.component.«Type».{«Type» as AnyType}
-use Rattle.wac_collection.specs.declared.component.ItemKind.{ItemKind}
+use Rattle.wac_shapes.specs.declared.component.«Type».{«Type» as AnyType}
+use Rattle.wac_shapes.specs.declared.component.ItemKind.{ItemKind}
 use Rattle.wac_entries.specs.declared.nodes.Item.{Item as AnItem}
 use Rattle.wac_entries.specs.NodeViews.{item_view}
 use Rattle.wac_entries.specs.Nodes.{Node, Item, type_of, types_of, item_tree, listed_tree, tree_at, Sorted}

@@ -1,10 +1,10 @@
 -- Core items in the order of their names. Private functions alone cite this.
 use Rattle.std.specs.Prelude.{◌≡◌, ◌≢◌, List, []}
 use Rattle.std.specs.List.{AllByRecursion}
-use Rattle.wac_collection.specs.Name.{Name}
-use Rattle.wac_collection.specs.Core.{CoreItem}
+use Rattle.wac_shapes.specs.Name.{Name}
+use Rattle.wac_shapes.specs.Core.{CoreItem}
 use Rattle.wac_collection.specs.Held as held
-use Rattle.wac_collection.specs.declared.core_types.CoreExtern.{CoreExtern}
+use Rattle.wac_shapes.specs.declared.core_types.CoreExtern.{CoreExtern}
 use Rattle.wac_entries.specs.Nodes.{core_under, core_under_both, Sorted, AreCoreItems}
 
 -- the same core items, sorted

@@ -1,16 +1,16 @@
 -- What the places of resources stand for, and what one more item binds. Private functions alone cite this.
 use Rattle.std.specs.Prelude.{ℕ, ◌≡◌, ◌==◌, if◌then◌else◌, is_some, List, [], ◌∷◌, map, Option, Some, None}
 use Rattle.std.specs.Borrow.{Bor}
-use Rattle.wac_collection.specs.Name.{Name, find_name, option_case, first_some}
+use Rattle.wac_shapes.specs.Name.{Name, find_name, option_case, first_some}
 use Rattle.wac_collection.specs.Tree.{Side, Place, named, Leaf}
 use Rattle.wac_collection.specs.Collection.{Collection}
 use Rattle.wac_collection.specs.Held.{Names}
 use Rattle.wac_collection.specs.Bound.{is_alias, own_name, bound_by}
-use Rattle.wac_collection.specs.declared.component.ResourceId.{ResourceId}
-use Rattle.wac_collection.specs.declared.component.UsedType.{UsedType}
-use Rattle.wac_collection.specs.declared.component.«Type».TheVariants as ty
-use Rattle.wac_collection.specs.declared.component.ItemKind.{ItemKind}
-use Rattle.wac_collection.specs.declared.component.ItemKind.TheVariants as kind
+use Rattle.wac_shapes.specs.declared.component.ResourceId.{ResourceId}
+use Rattle.wac_shapes.specs.declared.component.UsedType.{UsedType}
+use Rattle.wac_shapes.specs.declared.component.«Type».TheVariants as ty
+use Rattle.wac_shapes.specs.declared.component.ItemKind.{ItemKind}
+use Rattle.wac_shapes.specs.declared.component.ItemKind.TheVariants as kind
 use Rattle.wac_entries.specs.declared.bound.Place.{Place as APlace}
 use Rattle.wac_entries.specs.CalledViews.{side_view, path_view}
 

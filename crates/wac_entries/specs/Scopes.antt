@@ -1,15 +1,15 @@
 -- The scopes of an item, and what resources are called in each. Private functions alone cite this.
 use Rattle.std.specs.Prelude.{ℕ, zero, suc, ◌+◌, ◌≡◌, ◌<◌, true, false, List, [], ◌∷◌, ◌++◌, map, Option, Some, None, slice_get}
-use Rattle.wac_collection.specs.Name.{Name, option_case}
+use Rattle.wac_shapes.specs.Name.{Name, option_case}
 use Rattle.wac_collection.specs.Tree.{Leaf, TypeTree, instance}
 use Rattle.wac_collection.specs.Collection.{Collection, item_at, holds_type, interface_exports, world_imports, world_exports}
 use Rattle.wac_collection.specs.Held.{Names, unfolded, item_tree, items_under}
 use Rattle.wac_collection.specs.Bound.{bound_by_imports, bound_in_world}
 use Rattle.wac_types.specs.Called.{Called, or_around, own_leaf, by_binding}
-use Rattle.wac_collection.specs.declared.component.«Type».{«Type» as AnyType}
-use Rattle.wac_collection.specs.declared.component.«Type».TheVariants as ty
-use Rattle.wac_collection.specs.declared.component.ItemKind.{ItemKind}
-use Rattle.wac_collection.specs.declared.component.ItemKind.TheVariants as kind
+use Rattle.wac_shapes.specs.declared.component.«Type».{«Type» as AnyType}
+use Rattle.wac_shapes.specs.declared.component.«Type».TheVariants as ty
+use Rattle.wac_shapes.specs.declared.component.ItemKind.{ItemKind}
+use Rattle.wac_shapes.specs.declared.component.ItemKind.TheVariants as kind
 use Rattle.wac_entries.specs.declared.scopes.Opener.{Opener}
 use Rattle.wac_entries.specs.declared.scopes.Opener.TheVariants as opener
 use Rattle.wac_entries.specs.declared.scopes.Scope.{Scope}

@@ -5,7 +5,7 @@ use Rattle.wac_collection.specs.Tree.{imported, exported, Place, Leaf}
 use Rattle.wac_collection.specs.Collection.{Collection}
 use Rattle.wac_collection.specs.Held.{Names}
 use Rattle.wac_types.specs.Called.{Called, bound_at, of_class, itself, resource_name}
-use Rattle.wac_collection.specs.declared.component.ResourceId.{ResourceId}
+use Rattle.wac_shapes.specs.declared.component.ResourceId.{ResourceId}
 use Rattle.wac_entries.specs.declared.scopes.Opener.{Opener}
 use Rattle.wac_entries.specs.declared.scopes.Scope.{Scope}
 use Rattle.wac_entries.specs.Scopes.{binds, called_in}

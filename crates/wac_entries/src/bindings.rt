@@ -3,11 +3,12 @@ ghost use Rattle.std.specs.Prelude.{◌≡◌, ℕ, List, [], true, Some, length
 ghost use Rattle.std.specs.Option.{option_map};
 ghost use Rattle.wac_names.specs.Reading.{read_track};
 ghost use Rattle.wac_names.specs.Views.{track_view};
-ghost use Rattle.wac_collection.specs.Collection.{holds_type, kind_type};
-ghost use Rattle.wac_collection.specs.Name.{Name};
+ghost use Rattle.wac_collection.specs.Collection.{holds_type};
+ghost use Rattle.wac_shapes.specs.Kinds.{kind_type};
+ghost use Rattle.wac_shapes.specs.Name.{Name};
 ghost use Rattle.wac_collection.specs.Tree.{Leaf};
-ghost use Rattle.wac_collection.specs.declared.component.ItemKind.TheVariants as kind_of;
-ghost use Rattle.wac_collection.specs.declared.component.ResourceId.{ResourceId as AnId};
+ghost use Rattle.wac_shapes.specs.declared.component.ItemKind.TheVariants as kind_of;
+ghost use Rattle.wac_shapes.specs.declared.component.ResourceId.{ResourceId as AnId};
 ghost use Rattle.wac_entries.specs.Bindings.{AreBindings, AreHeld, HaveBound, HaveTracks, first_from, first_in, member_leaves, numbered, path_in};
 ghost use Rattle.wac_entries.specs.CalledViews.{path_view};
 ghost use Rattle.wac_entries.specs.Classes.{by_names, class_names, AreClasses};

@@ -2,8 +2,9 @@
 ghost use Rattle.std.specs.Prelude.{◌≡◌, ◌<◌, [], true, Some, length, slice_get, IfOk, OnOk};
 ghost use Rattle.std.specs.Option.{option_copied, option_map};
 ghost use Rattle.wac_collection.specs.Bound.{first_bound};
-ghost use Rattle.wac_collection.specs.Collection.{holds_all, holds_type, kind_type, kind_types};
-ghost use Rattle.wac_collection.specs.declared.component.ResourceId.{ResourceId as AnId};
+ghost use Rattle.wac_collection.specs.Collection.{holds_all, holds_type, kind_types};
+ghost use Rattle.wac_shapes.specs.Kinds.{kind_type};
+ghost use Rattle.wac_shapes.specs.declared.component.ResourceId.{ResourceId as AnId};
 ghost use Rattle.wac_entries.specs.CalledViews.{path_view, side_view};
 ghost use Rattle.wac_entries.specs.Places.{Adds, bound_by_instance, find_resource, given_path, leaf_at, only, own_at, own_resource, place_view, resource_itself, under};
 ghost use Rattle.wac_entries.specs.Scopes.{binds, opener_type};
@@ -75,7 +76,7 @@ pub struct Bound {
 impl Model for Bound {
     ghost use Rattle.std.specs.Prelude.{List};
     ghost use Rattle.wac_collection.specs.Tree.{Leaf};
-    ghost use Rattle.wac_collection.specs.declared.component.ResourceId.{ResourceId};
+    ghost use Rattle.wac_shapes.specs.declared.component.ResourceId.{ResourceId};
     ghost use Rattle.wac_entries.specs.Places.{leaves};
 
     ghost Value = { List (ResourceId × Leaf) };

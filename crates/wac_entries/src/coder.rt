@@ -6,9 +6,9 @@ ghost use Rattle.std.specs.Prelude.{◌≡◌, ◌<◌, [], length, map, true, I
 ghost use Rattle.std.specs.List.{AllByRecursion};
 ghost use Rattle.wac_collection.specs.Collection.{and_maybe, HasDefined, HasFunc, holds_value, defined_values, case_values, seconds};
 ghost use Rattle.wac_collection.specs.Held.{defined_tree};
-ghost use Rattle.wac_collection.specs.declared.component.DefinedType.TheVariants as def;
-ghost use Rattle.wac_collection.specs.declared.component.ValueType.TheVariants as val;
-ghost use Rattle.wac_collection.specs.declared.component.«Type».TheVariants as ty;
+ghost use Rattle.wac_shapes.specs.declared.component.DefinedType.TheVariants as def;
+ghost use Rattle.wac_shapes.specs.declared.component.ValueType.TheVariants as val;
+ghost use Rattle.wac_shapes.specs.declared.component.«Type».TheVariants as ty;
 ghost use Rattle.wac_entries.specs.Nodes.{mentions, node_tree, tree_at, IsSorted};
 ghost use Rattle.wac_entries.specs.NodeViews.{node_view};
 ghost use Rattle.wac_entries.specs.Tasks.{parts_of, IsHeldTask, IsOpening};

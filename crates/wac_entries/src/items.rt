@@ -1,6 +1,7 @@
 //! What a scope lists, as nodes of a table.
 ghost use Rattle.std.specs.Prelude.{◌≡◌, [], true, IfOk, OnOk};
-ghost use Rattle.wac_collection.specs.Collection.{holds_type, kind_type};
+ghost use Rattle.wac_collection.specs.Collection.{holds_type};
+ghost use Rattle.wac_shapes.specs.Kinds.{kind_type};
 ghost use Rattle.wac_entries.specs.Scopes.{opened_by, opened_by_type};
 ghost use Rattle.wac_entries.specs.NodeViews.{item_view};
 ghost use Rattle.wac_entries.specs.CallsView.{AreNamed};

@@ -2,9 +2,10 @@
 ghost use Rattle.std.specs.Prelude.{◌≡◌, ◌≢◌, ◌+◌, ◌<◌, true, List, [], length, Some, IfOk, OnOk, slice_get};
 ghost use Rattle.wac_types.specs.Called.{Called};
 ghost use Rattle.wac_collection.specs.Tree.{TypeTree};
-ghost use Rattle.wac_collection.specs.declared.component.«Type».{«Type» as AnyType};
+ghost use Rattle.wac_shapes.specs.declared.component.«Type».{«Type» as AnyType};
 ghost use Rattle.wac_entries.specs.Nodes.{Node};
-ghost use Rattle.wac_collection.specs.Collection.{holds_all, holds_type, kind_type, kind_types};
+ghost use Rattle.wac_collection.specs.Collection.{holds_all, holds_type, kind_types};
+ghost use Rattle.wac_shapes.specs.Kinds.{kind_type};
 ghost use Rattle.wac_entries.specs.NodeViews.{item_view};
 ghost use Rattle.wac_entries.specs.CallsView.{AreNamed, names_in};
 ghost use Rattle.wac_entries.specs.Coding.{source_tree, tree_in, HasTree, IsGrown, IsRight};

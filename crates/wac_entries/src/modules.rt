@@ -4,7 +4,7 @@ ghost use Rattle.std.specs.BTreeMap.{insert_entry, IsOrdered};
 ghost use Rattle.std.specs.String.{string_cmp};
 ghost use Rattle.wac_collection.specs.Collection.{HasModule};
 ghost use Rattle.wac_collection.specs.Held.{core_item};
-ghost use Rattle.wac_collection.specs.declared.component.«Type».TheVariants as ty;
+ghost use Rattle.wac_shapes.specs.declared.component.«Type».TheVariants as ty;
 ghost use Rattle.wac_entries.specs.NodeViews.{core_view, core_items, core_modules};
 ghost use Rattle.wac_entries.specs.Coding.{source_tree, IsGrown, HasTree};
 ghost use Rattle.wac_entries.specs.ModuleCoding.{AreCores, AreImports};

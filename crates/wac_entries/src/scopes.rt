@@ -1,6 +1,7 @@
 //! The scopes of an item: instance types, and the two sides of component types.
 ghost use Rattle.std.specs.Prelude.{◌≡◌, ◌∷◌, [], ◌++◌, ◌<◌, length, map, true, Some, IfOk, OnOk, slice_get};
-ghost use Rattle.wac_collection.specs.Collection.{kind_type, holds_type};
+ghost use Rattle.wac_collection.specs.Collection.{holds_type};
+ghost use Rattle.wac_shapes.specs.Kinds.{kind_type};
 ghost use Rattle.wac_entries.specs.Scopes.{AreScopes, opened, opened_by};
 ghost use Rattle.wac_entries.specs.Opening.{IsHeldAt, Opens, inside};
 

@@ -6,16 +6,17 @@ use Rattle.std.proofs.lemmas.Bool.Decides.{nat_tests}
 use Rattle.std.specs.FinSet as set
 use Rattle.std.specs.Option.{option_map}
 use Rattle.slab.specs.Slab.{Slab, get, Updates}
-use Rattle.wac_collection.specs.Name.{Name, same_name, option_case}
-use Rattle.wac_collection.specs.Named.{named_at}
-use Rattle.wac_collection.specs.Collection.{item_at, holds_type, kind_type, IsWellFormed}
+use Rattle.wac_shapes.specs.Name.{Name, same_name, option_case}
+use Rattle.wac_shapes.specs.Named.{named_at}
+use Rattle.wac_collection.specs.Collection.{item_at, holds_type, IsWellFormed}
+use Rattle.wac_shapes.specs.Kinds.{kind_type}
 use Rattle.wac_graph.proofs.HeldLemmas.{exports_held}
 use Rattle.wac_graph.proofs.InvariantLemmas.{invariant_alias}
-use Rattle.wac_collection.specs.Words.{kind_text}
-use Rattle.wac_collection.specs.declared.component.Interface.{Interface}
-use Rattle.wac_collection.specs.declared.component.InterfaceId.{InterfaceId}
-use Rattle.wac_collection.specs.declared.component.ItemKind.{ItemKind}
-use Rattle.wac_collection.specs.declared.component.ItemKind.TheVariants as item
+use Rattle.wac_shapes.specs.Words.{kind_text}
+use Rattle.wac_shapes.specs.declared.component.Interface.{Interface}
+use Rattle.wac_shapes.specs.declared.component.InterfaceId.{InterfaceId}
+use Rattle.wac_shapes.specs.declared.component.ItemKind.{ItemKind}
+use Rattle.wac_shapes.specs.declared.component.ItemKind.TheVariants as item
 use Rattle.wac_graph.specs.declared.node.Node.{Node}
 use Rattle.wac_graph.specs.declared.node.NodeId.{NodeId}
 use Rattle.wac_graph.specs.declared.errors.AliasError.{AliasError}

@@ -8,13 +8,14 @@ use Rattle.std.specs.BTreeSet as positions
 use Rattle.std.specs.BTreeSet.{BTreeSet}
 use Rattle.std.proofs.lemmas.Bool.Decides.{nat_tests}
 use Rattle.slab.specs.Slab.{Slab, get}
-use Rattle.wac_collection.specs.Name.{Name, option_case}
-use Rattle.wac_collection.specs.Named.{named_at}
-use Rattle.wac_collection.specs.Collection.{item_at, holds_type, kind_type, world_imports, IsWellFormed}
+use Rattle.wac_shapes.specs.Name.{Name, option_case}
+use Rattle.wac_shapes.specs.Named.{named_at}
+use Rattle.wac_collection.specs.Collection.{item_at, holds_type, world_imports, IsWellFormed}
+use Rattle.wac_shapes.specs.Kinds.{kind_type}
 use Rattle.wac_collection.specs.Package.{PackageParts}
 use Rattle.wac_types.specs.Subtype.{IsSubtype}
-use Rattle.wac_collection.specs.declared.component.World.{World}
-use Rattle.wac_collection.specs.declared.component.ItemKind.{ItemKind}
+use Rattle.wac_shapes.specs.declared.component.World.{World}
+use Rattle.wac_shapes.specs.declared.component.ItemKind.{ItemKind}
 use Rattle.wac_types.specs.declared.checker.TypeFault.TheVariants.{Mismatch}
 use Rattle.wac_graph.specs.declared.node.Node.{Node}
 use Rattle.wac_graph.specs.declared.node.NodeId.{NodeId}

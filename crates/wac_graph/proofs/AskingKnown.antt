@@ -5,13 +5,13 @@ use Rattle.std.specs.HashSet.{HashSet, contains}
 use Rattle.std.specs.Str.{bytes_eq}
 use Rattle.std.specs.declared.alloc.AllocError.{AllocError}
 use Rattle.std.proofs.lemmas.List.{map-append}
-use Rattle.wac_collection.specs.Name.{Name, same_name, option_case}
+use Rattle.wac_shapes.specs.Name.{Name, same_name, option_case}
 use Rattle.wac_collection.specs.Collection.{Collection, item_at}
-use Rattle.wac_collection.specs.declared.component.Interface.{Interface}
-use Rattle.wac_collection.specs.declared.component.InterfaceId.{InterfaceId}
-use Rattle.wac_collection.specs.declared.component.ItemKind.{ItemKind}
-use Rattle.wac_collection.specs.declared.component.ItemKind.TheVariants as kind
-use Rattle.wac_collection.proofs.Names.{same_name-bytes_eq}
+use Rattle.wac_shapes.specs.declared.component.Interface.{Interface}
+use Rattle.wac_shapes.specs.declared.component.InterfaceId.{InterfaceId}
+use Rattle.wac_shapes.specs.declared.component.ItemKind.{ItemKind}
+use Rattle.wac_shapes.specs.declared.component.ItemKind.TheVariants as kind
+use Rattle.wac_shapes.proofs.Names.{same_name-bytes_eq}
 use Rattle.wac_graph.specs.declared.asked.AskedEntry.{AskedEntry}
 use Rattle.wac_graph.specs.declared.asked.Asking.{Asking}
 use Rattle.wac_graph.specs.declared.asked.Task.{Task}

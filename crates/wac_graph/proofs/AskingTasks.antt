@@ -5,12 +5,13 @@ use Rattle.std.specs.List.{AllByRecursion, flat_map}
 use Rattle.std.specs.declared.alloc.AllocError.{AllocError}
 use Rattle.std.proofs.lemmas.Bool.Decides.{nat_tests}
 use Rattle.std.proofs.lemmas.List.{map-append}
-use Rattle.wac_collection.specs.Name.{Name}
-use Rattle.wac_collection.specs.Collection.{Collection, IsWellFormed, HasInterface, holds_type, kind_type}
-use Rattle.wac_collection.specs.declared.component.InterfaceId.{InterfaceId}
-use Rattle.wac_collection.specs.declared.component.ItemKind.{ItemKind}
-use Rattle.wac_collection.specs.declared.component.ItemKind.TheVariants as kind
-use Rattle.wac_collection.specs.declared.component.UsedType.{UsedType}
+use Rattle.wac_shapes.specs.Name.{Name}
+use Rattle.wac_collection.specs.Collection.{Collection, IsWellFormed, HasInterface, holds_type}
+use Rattle.wac_shapes.specs.Kinds.{kind_type}
+use Rattle.wac_shapes.specs.declared.component.InterfaceId.{InterfaceId}
+use Rattle.wac_shapes.specs.declared.component.ItemKind.{ItemKind}
+use Rattle.wac_shapes.specs.declared.component.ItemKind.TheVariants as kind
+use Rattle.wac_shapes.specs.declared.component.UsedType.{UsedType}
 use Rattle.wac_graph.specs.declared.asked.Task.{Task}
 use Rattle.wac_graph.specs.declared.asked.Task.TheVariants.{Open, Close}
 use Rattle.wac_graph.specs.Asked.{Entry}

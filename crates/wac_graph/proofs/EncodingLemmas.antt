@@ -7,10 +7,10 @@ use Rattle.std.specs.BTreeSet as positions
 use Rattle.std.specs.BTreeSet.{BTreeSet}
 use Rattle.std.specs.Ordering.{nat_cmp}
 use Rattle.slab.specs.Slab.{get, ContainsKey}
-use Rattle.wac_collection.specs.Name.{option_case}
+use Rattle.wac_shapes.specs.Name.{option_case}
 use Rattle.wac_collection.specs.Collection.{item_at}
 use Rattle.wac_collection.specs.Package.{PackageParts}
-use Rattle.wac_collection.specs.declared.component.World.{World}
+use Rattle.wac_shapes.specs.declared.component.World.{World}
 use Rattle.wac_graph.specs.declared.node.Node.{Node}
 use Rattle.wac_graph.specs.declared.node.NodeId.{NodeId}
 use Rattle.wac_graph.specs.declared.node.NodeKind.{NodeKind}

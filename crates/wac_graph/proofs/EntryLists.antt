@@ -3,11 +3,11 @@ use Rattle.std.proofs.Common.{◌≡◌, ℕ, Bool, true, false, not, cond, ◌&
 use Rattle.std.specs.Prelude.{filter}
 use Rattle.std.specs.List.{AllByRecursion}
 use Rattle.std.proofs.lemmas.Bool.{eqb-true}
-use Rattle.wac_collection.specs.Name.{Name, same_name}
+use Rattle.wac_shapes.specs.Name.{Name, same_name}
 use Rattle.wac_collection.specs.Collection.{Collection}
-use Rattle.wac_collection.specs.declared.component.ItemKind.{ItemKind}
-use Rattle.wac_collection.specs.declared.component.ItemKind.TheVariants as kind
-use Rattle.wac_collection.proofs.Names.{same_name-true}
+use Rattle.wac_shapes.specs.declared.component.ItemKind.{ItemKind}
+use Rattle.wac_shapes.specs.declared.component.ItemKind.TheVariants as kind
+use Rattle.wac_shapes.proofs.Names.{same_name-true}
 use Rattle.wac_graph.specs.Asked.{Entry}
 use Rattle.wac_graph.specs.Entries.{same_instance, asks_again, once, used_by}
 use Rattle.wac_graph.specs.EntriesLeft.{by_node, has, HasAll, added, AreApart, AreSettled, StandsFor}

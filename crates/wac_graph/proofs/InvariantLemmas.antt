@@ -9,10 +9,11 @@ use Rattle.std.specs.HashMap.{HashMap}
 use Rattle.std.specs.declared.hash.FoldHasher.{FoldHasher}
 use Rattle.std.specs.declared.hash.BuildHasherDefault.{BuildHasherDefault}
 use Rattle.slab.specs.Slab.{Slab, get, Updates}
-use Rattle.wac_collection.specs.Name.{Name, find_name}
-use Rattle.wac_collection.specs.Collection.{Collection, holds_type, kind_type}
+use Rattle.wac_shapes.specs.Name.{Name, find_name}
+use Rattle.wac_collection.specs.Collection.{Collection, holds_type}
+use Rattle.wac_shapes.specs.Kinds.{kind_type}
 use Rattle.wac_collection.specs.Package.{PackageParts, Key, same_key, HoldsPackage}
-use Rattle.wac_collection.specs.declared.component.ItemKind.{ItemKind}
+use Rattle.wac_shapes.specs.declared.component.ItemKind.{ItemKind}
 use Rattle.wac_graph.specs.declared.edges.Edge.{Edge}
 use Rattle.wac_graph.specs.declared.edges.Label.TheVariants as label
 use Rattle.wac_graph.specs.declared.node.Node.{Node}

@@ -6,7 +6,7 @@ use Rattle.std.specs.FinSet as set
 use Rattle.std.specs.Prelude.{slice_get, slice_set}
 use Rattle.std.proofs.lemmas.Bool.Decides.{nat_tests}
 use Rattle.std.proofs.lemmas.List.{append-nil, length-set, get_or-set_same, get_or-set_other}
-use Rattle.wac_collection.specs.Name.{Name, option_case}
+use Rattle.wac_shapes.specs.Name.{Name, option_case}
 use Rattle.wac_binary.specs.Items.{Item, export_item}
 use Rattle.wac_binary.specs.Meaning.{Thing}
 use Rattle.wac_graph.specs.declared.edges.Edge.{Edge}

@@ -5,9 +5,10 @@ use Rattle.std.specs.Prelude.{slice_get, string_bytes}
 use Rattle.std.specs.List.{AllByRecursion}
 use Rattle.std.specs.Option.{MatchOption}
 use Rattle.std.specs.declared.string.String.{String}
-use Rattle.wac_collection.specs.Name.{Name}
-use Rattle.wac_collection.specs.Collection.{Collection, holds_type, kind_type}
-use Rattle.wac_collection.specs.declared.component.ItemKind.{ItemKind}
+use Rattle.wac_shapes.specs.Name.{Name}
+use Rattle.wac_collection.specs.Collection.{Collection, holds_type}
+use Rattle.wac_shapes.specs.Kinds.{kind_type}
+use Rattle.wac_shapes.specs.declared.component.ItemKind.{ItemKind}
 use Rattle.wac_merge.specs.Aggregate.{IsFault}
 use Rattle.wac_entries.specs.Bindings.{AreHeld}
 use Rattle.wac_entries.specs.Classes as merge

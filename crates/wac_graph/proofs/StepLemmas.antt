@@ -8,8 +8,8 @@ use Rattle.std.specs.declared.hash.BuildHasherDefault.{BuildHasherDefault}
 use Rattle.slab.specs.Slab.{Slab, get, Updates}
 use Rattle.wac_collection.specs.Package.{PackageParts, Key, same_key}
 use Rattle.wac_collection.specs.KeyLaws.{same_key-true}
-use Rattle.wac_collection.specs.declared.component.ItemKind.TheVariants.{Instance}
-use Rattle.wac_collection.specs.declared.component.InterfaceId.{InterfaceId}
+use Rattle.wac_shapes.specs.declared.component.ItemKind.TheVariants.{Instance}
+use Rattle.wac_shapes.specs.declared.component.InterfaceId.{InterfaceId}
 use Rattle.wac_graph.specs.declared.node.Node.{Node}
 use Rattle.wac_graph.specs.declared.packages.PackageId.{PackageId}
 use Rattle.wac_graph.specs.declared.packages.Slot.{Slot}

@@ -5,7 +5,7 @@ use Rattle.std.specs.Prelude.{slice_get}
 use Rattle.std.specs.FinSet as set
 use Rattle.std.proofs.lemmas.List.{append-nil}
 use Rattle.std.proofs.lemmas.List.Elements.{filter-append}
-use Rattle.wac_collection.specs.Name.{option_case}
+use Rattle.wac_shapes.specs.Name.{option_case}
 use Rattle.wac_binary.specs.Meaning.{Thing, nothing, instance_at, projection}
 use Rattle.wac_graph.specs.declared.edges.Edge.{Edge}
 use Rattle.wac_graph.specs.Edge.{alias_edge}

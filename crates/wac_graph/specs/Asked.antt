@@ -3,8 +3,8 @@ use Rattle.std.specs.Prelude.{ℕ, suc, Bool, false, ◌&&◌, ◌==◌, if◌th
 use Rattle.std.specs.List.{flat_map, list_any}
 use Rattle.std.specs.FinMap as finite
 use Rattle.std.specs.FinSet as set
-use Rattle.wac_collection.specs.Name.{Name}
-use Rattle.wac_collection.specs.declared.component.ItemKind.{ItemKind}
+use Rattle.wac_shapes.specs.Name.{Name}
+use Rattle.wac_shapes.specs.declared.component.ItemKind.{ItemKind}
 use Rattle.wac_graph.specs.declared.edges.Label.{Label}
 use Rattle.wac_graph.specs.declared.edges.Label.TheVariants.{Argument}
 use Rattle.wac_graph.specs.declared.edges.Edge.{Edge}

@@ -1,8 +1,8 @@
 -- Why `encode` is refused.
 use Rattle.std.specs.Prelude.{ℕ, ◌≡◌, ◌≤◌, [], Option, Some, None, IsSomeAnd, slice_get, string_bytes}
-use Rattle.wac_collection.specs.Name.{Name}
+use Rattle.wac_shapes.specs.Name.{Name}
 use Rattle.wac_collection.specs.Package.{Key}
-use Rattle.wac_collection.specs.declared.component.ItemKind.{ItemKind}
+use Rattle.wac_shapes.specs.declared.component.ItemKind.{ItemKind}
 use Rattle.wac_entries.specs.Classes.{by_names}
 use Rattle.wac_agreement.specs.Faults.{Disagrees, HasNoCircle, HasNoDisagreement, UseEachOther}
 use Rattle.wac_agreement.specs.declared.fault.MergeFault.{MergeFault}

@@ -1,8 +1,8 @@
 -- What a node adds to the items that are written so far: the components by package, and the index of each node.
 use Rattle.std.specs.Prelude.{ℕ, suc, ◌≡◌, false, List, [], ◌∷◌, ◌++◌, Some, IfSome, slice_get, slice_set, slice_index_or, ◌⊎◌}
 use Rattle.std.specs.List.{list_any}
-use Rattle.wac_collection.specs.Name.{Name}
-use Rattle.wac_collection.specs.declared.component.ItemKind.{ItemKind}
+use Rattle.wac_shapes.specs.Name.{Name}
+use Rattle.wac_shapes.specs.declared.component.ItemKind.{ItemKind}
 use Rattle.wac_binary.specs.declared.sorts.Sort.{Sort}
 use Rattle.wac_binary.specs.declared.sorts.Sort.TheVariants as sort
 use Rattle.wac_binary.specs.Items.{Item, nested, instantiate, alias_item, export_alias}

@@ -5,14 +5,15 @@ use Rattle.std.specs.HashSet.{HashSet, contains_by}
 use Rattle.std.specs.List.{AllByRecursion, flat_map}
 use Rattle.std.specs.Str.{bytes_eq}
 use Rattle.std.specs.FinMap as finite
-use Rattle.wac_collection.specs.Name.{Name, option_case}
-use Rattle.wac_collection.specs.Collection.{Collection, HasInterface, item_at, holds_type, kind_type}
+use Rattle.wac_shapes.specs.Name.{Name, option_case}
+use Rattle.wac_collection.specs.Collection.{Collection, HasInterface, item_at, holds_type}
+use Rattle.wac_shapes.specs.Kinds.{kind_type}
 use Rattle.wac_collection.specs.declared.collection.Held.{Held}
-use Rattle.wac_collection.specs.declared.component.Interface.{Interface}
-use Rattle.wac_collection.specs.declared.component.InterfaceId.{InterfaceId}
-use Rattle.wac_collection.specs.declared.component.ItemKind.{ItemKind}
-use Rattle.wac_collection.specs.declared.component.ItemKind.TheVariants as kind
-use Rattle.wac_collection.specs.declared.component.UsedType.{UsedType}
+use Rattle.wac_shapes.specs.declared.component.Interface.{Interface}
+use Rattle.wac_shapes.specs.declared.component.InterfaceId.{InterfaceId}
+use Rattle.wac_shapes.specs.declared.component.ItemKind.{ItemKind}
+use Rattle.wac_shapes.specs.declared.component.ItemKind.TheVariants as kind
+use Rattle.wac_shapes.specs.declared.component.UsedType.{UsedType}
 use Rattle.wac_graph.specs.declared.asked.AskedEntry.{AskedEntry}
 use Rattle.wac_graph.specs.declared.asked.Asking.{Asking}
 use Rattle.wac_graph.specs.declared.asked.Task.{Task}

@@ -2,8 +2,8 @@
 use Rattle.std.specs.Prelude.{ℕ, List, ◌++◌, map, Option, Some, None}
 use Rattle.std.specs.List.{flat_map}
 use Rattle.std.specs.FinMap as finite
-use Rattle.wac_collection.specs.Name.{Name}
-use Rattle.wac_collection.specs.declared.component.ItemKind.{ItemKind}
+use Rattle.wac_shapes.specs.Name.{Name}
+use Rattle.wac_shapes.specs.declared.component.ItemKind.{ItemKind}
 use Rattle.wac_graph.specs.declared.node.NodeId.{NodeId}
 use Rattle.wac_graph.specs.Graph.{Graph, node_at}
 use Rattle.wac_graph.specs.Asked.{Entry, asked_by, imported_by}

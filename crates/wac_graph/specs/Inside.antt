@@ -8,7 +8,7 @@ use Rattle.std.specs.FinMap as finite
 use Rattle.std.specs.FinSet as set
 use Rattle.std.specs.BTreeSet as positions
 use Rattle.slab.specs.Slab.{entries_from, get}
-use Rattle.wac_collection.specs.Name.{Name, find_name}
+use Rattle.wac_shapes.specs.Name.{Name, find_name}
 use Rattle.wac_collection.specs.Package.{PackageParts, Key, same_key}
 use Rattle.wac_graph.specs.declared.node.Node.{Node}
 use Rattle.wac_graph.specs.declared.node.NodeId.{NodeId}

@@ -1,7 +1,7 @@
 -- What is not written yet.
 use Rattle.std.specs.Prelude.{ℕ, ◌≡◌, ◌<◌, false, Some, IsSome, length, ◌⊎◌}
 use Rattle.wac_graph.specs.declared.encode.EncodeOptions.{EncodeOptions}
-use Rattle.wac_collection.specs.Name.{Name}
+use Rattle.wac_shapes.specs.Name.{Name}
 use Rattle.wac_graph.specs.Graph as graph
 use Rattle.wac_graph.specs.Graph.{Graph, GraphNode, node_at, imports_of, IsSatisfied, IsUnsatisfied}
 use Rattle.wac_graph.specs.Means.{node_number}

@@ -1,6 +1,6 @@
 -- The imports of what a graph composes: the classes of what it asks for, in written order, each with its merged item.
 use Rattle.std.specs.Prelude.{ℕ, ◌≡◌, List, length, Some, slice_get}
-use Rattle.wac_collection.specs.Name.{Name}
+use Rattle.wac_shapes.specs.Name.{Name}
 use Rattle.wac_collection.specs.Tree.{Tree}
 use Rattle.wac_entries.specs.Binding.{root_bindings}
 use Rattle.wac_entries.specs.Classes.{Entry, by_names, class_names, canonical, IsClassOf}

@@ -1,7 +1,7 @@
 -- How causes are found; cited by private functions alone, nothing public rests on it.
 use Rattle.std.specs.Prelude.{ℕ, ◌≡◌, ◌≤◌, Bool, false, List, Some, slice_get, ◌⊎◌}
-use Rattle.wac_collection.specs.Name.{Name, find_name}
-use Rattle.wac_collection.specs.declared.component.ItemKind.{ItemKind}
+use Rattle.wac_shapes.specs.Name.{Name, find_name}
+use Rattle.wac_shapes.specs.declared.component.ItemKind.{ItemKind}
 use Rattle.wac_graph.specs.declared.encode.EncodeOptions.{EncodeOptions}
 use Rattle.wac_graph.specs.declared.errors.EncodeError.{EncodeError}
 use Rattle.wac_graph.specs.declared.errors.EncodeError.TheVariants.{OutOfMemory}

@@ -1,10 +1,11 @@
 -- What is true of every graph that a caller can have.
 use Rattle.std.specs.Prelude.{ℕ, ◌≡◌, true, Some, IsSome, slice_get}
 use Rattle.std.specs.FinSet as set
-use Rattle.wac_collection.specs.Name.{Name}
+use Rattle.wac_shapes.specs.Name.{Name}
 use Rattle.wac_collection.specs.Package.{PackageParts, HoldsPackage}
-use Rattle.wac_collection.specs.Collection.{holds_type, kind_type}
-use Rattle.wac_collection.specs.declared.component.ItemKind.TheVariants.{Instance}
+use Rattle.wac_collection.specs.Collection.{holds_type}
+use Rattle.wac_shapes.specs.Kinds.{kind_type}
+use Rattle.wac_shapes.specs.declared.component.ItemKind.TheVariants.{Instance}
 use Rattle.wac_graph.specs.declared.edges.Edge.{Edge}
 use Rattle.wac_graph.specs.declared.node.NodeId.{NodeId}
 use Rattle.wac_graph.specs.declared.packages.PackageId.{PackageId}

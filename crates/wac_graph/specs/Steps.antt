@@ -4,14 +4,14 @@ use Rattle.std.specs.FinMap as map
 use Rattle.std.specs.FinSet as set
 use Rattle.std.specs.declared.alloc.AllocError.{AllocError}
 use Rattle.wac_names.specs.Faults.{HasFault}
-use Rattle.wac_collection.specs.Name.{Name}
-use Rattle.wac_collection.specs.Named.{named_at}
+use Rattle.wac_shapes.specs.Name.{Name}
+use Rattle.wac_shapes.specs.Named.{named_at}
 use Rattle.wac_collection.specs.Collection.{Collection, empty}
 use Rattle.wac_collection.specs.Package.{PackageParts}
 use Rattle.wac_types.specs.Subtype.{IsSubtype}
-use Rattle.wac_collection.specs.Words.{kind_text}
-use Rattle.wac_collection.specs.declared.component.ItemKind.{ItemKind}
-use Rattle.wac_collection.specs.declared.component.ItemKind.TheVariants.{Instance}
+use Rattle.wac_shapes.specs.Words.{kind_text}
+use Rattle.wac_shapes.specs.declared.component.ItemKind.{ItemKind}
+use Rattle.wac_shapes.specs.declared.component.ItemKind.TheVariants.{Instance}
 use Rattle.wac_types.specs.declared.checker.TypeFault.TheVariants.{Mismatch}
 use Rattle.wac_collection.specs.declared.collection.AddTypeError.{AddTypeError}
 use Rattle.wac_graph.specs.declared.errors.RegisterPackageError.{RegisterPackageError}

@@ -3,7 +3,8 @@ ghost use Rattle.std.specs.Prelude.{◌≡◌, ◌≢◌, true, false, IsSome, O
 ghost use Rattle.std.specs.FinSet as set;
 ghost use Rattle.std.specs.Option.{option_map};
 ghost use Rattle.slab.specs.Slab.{get};
-ghost use Rattle.wac_collection.specs.Collection.{holds_type, kind_type};
+ghost use Rattle.wac_collection.specs.Collection.{holds_type};
+ghost use Rattle.wac_shapes.specs.Kinds.{kind_type};
 ghost use Rattle.wac_graph.specs.Arguments.{IsInstantiation, HasImport, Fits};
 ghost use Rattle.wac_graph.specs.Edge.{argument_edge as labelled};
 ghost use Rattle.wac_graph.specs.Graph.{node_at, IsArgumentOf};

@@ -4,7 +4,7 @@
 //! long. What an instance uses is asked for before it, so one that is asked for already needs no walk.
 ghost use Rattle.std.specs.Prelude.{ℕ, ◌≡◌, ◌++◌, List, [], map, IfOk, OnOk};
 ghost use Rattle.wac_collection.specs.Collection.{HasInterface};
-ghost use Rattle.wac_collection.specs.declared.component.ItemKind.TheVariants.{Instance};
+ghost use Rattle.wac_shapes.specs.declared.component.ItemKind.TheVariants.{Instance};
 ghost use Rattle.wac_graph.specs.declared.asked.Task.{Task as ATask};
 ghost use Rattle.wac_graph.specs.declared.asked.Task.TheVariants.{Open, Close};
 ghost use Rattle.wac_graph.specs.Entries.{used_by, with_used, asked_entries};

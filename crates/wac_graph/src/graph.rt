@@ -3,11 +3,12 @@ ghost use Rattle.std.specs.Prelude.{◌≡◌, ◌≢◌, ◌↔◌, ◌⊎◌, 
 ghost use Rattle.std.specs.Option.{option_map, option_and_then, option_copied};
 ghost use Rattle.slab.specs.Slab.{ContainsKey, get, with_value};
 ghost use Rattle.semver.specs.Identifiers.{parts_of};
-ghost use Rattle.wac_collection.specs.Collection.{holds_type, kind_type, item_at, resource_mentions, func_mentions, defined_mentions, with_resource, with_func, with_defined, with_interface, with_world, with_module};
+ghost use Rattle.wac_collection.specs.Collection.{holds_type, item_at, resource_mentions, func_mentions, defined_mentions, with_resource, with_func, with_defined, with_interface, with_world, with_module};
+ghost use Rattle.wac_shapes.specs.Kinds.{kind_type};
 ghost use Rattle.wac_collection.specs.Package.{HoldsPackage, with_instance_of, package_fault};
 ghost use Rattle.wac_collection.specs.Uses.{AnswersBy, mention_fault, interface_fault, world_fault};
-ghost use Rattle.wac_collection.specs.Named.{named_at};
-ghost use Rattle.wac_collection.specs.declared.component.«Type».TheVariants.{World as world_type};
+ghost use Rattle.wac_shapes.specs.Named.{named_at};
+ghost use Rattle.wac_shapes.specs.declared.component.«Type».TheVariants.{World as world_type};
 ghost use Rattle.wac_graph.specs.Graph.{node_at, package_at, export_at, package_in, import_name, IsRegistered};
 ghost use Rattle.wac_graph.specs.Steps.{IsEmpty, Adds, Registers, Imports, Instantiates, Aliases, SetsArgument, Exports};
 

@@ -29,8 +29,8 @@ pub struct Imports<'a> {
 
 impl<'a> Model for Imports<'a> {
     ghost use Rattle.std.specs.Prelude.{List, Option};
-    ghost use Rattle.wac_collection.specs.Name.{Name};
-    ghost use Rattle.wac_collection.specs.declared.component.ItemKind.{ItemKind};
+    ghost use Rattle.wac_shapes.specs.Name.{Name};
+    ghost use Rattle.wac_shapes.specs.declared.component.ItemKind.{ItemKind};
     ghost use Rattle.wac_graph.specs.declared.node.NodeId.{NodeId};
     ghost use Rattle.wac_graph.specs.ImportsLeft.{left};
 

@@ -1,11 +1,11 @@
 -- What is known once all of a merge is made.
 use Rattle.std.proofs.Common.{◌≡◌, ℕ, ◌<◌, ◌↔◌, List, Option, Some, length, slice_get}
 use Rattle.std.specs.Prelude.{Contains}
-use Rattle.wac_collection.specs.Name.{Name}
+use Rattle.wac_shapes.specs.Name.{Name}
 use Rattle.wac_collection.specs.Collection.{Collection}
 use Rattle.wac_collection.specs.Bound.{by_place}
 use Rattle.wac_collection.specs.Uses.{IsSound}
-use Rattle.wac_collection.specs.declared.component.InterfaceId.{InterfaceId}
+use Rattle.wac_shapes.specs.declared.component.InterfaceId.{InterfaceId}
 use Rattle.wac_types.specs.Called.{by_binding}
 use Rattle.wac_types.specs.Subtype.{by_name}
 use Rattle.wac_types.specs.TreeLaws.{IsDeepEnough}

@@ -4,18 +4,19 @@ use Rattle.std.proofs.lemmas.Bool.{and_from, and_parts, false≢true, false_from
 use Rattle.std.proofs.lemmas.Option.{slice_get_within}
 use Rattle.std.specs.List.{Contains}
 use Rattle.std.specs.Option.{MatchOption}
-use Rattle.wac_collection.specs.Name.{Name, same_name, option_case}
+use Rattle.wac_shapes.specs.Name.{Name, same_name, option_case}
 use Rattle.wac_collection.specs.Tree.{TypeTree, absent, imported, instance, position, resource, type_equal}
-use Rattle.wac_collection.specs.Collection.{Collection, HasInterface, holds_type, item_at, kind_type}
+use Rattle.wac_collection.specs.Collection.{Collection, HasInterface, holds_type, item_at}
+use Rattle.wac_shapes.specs.Kinds.{kind_type}
 use Rattle.wac_collection.specs.Held.{resolved, unfolded}
 use Rattle.wac_collection.specs.Bound.{Bindings, held_item, held_tree}
-use Rattle.wac_collection.specs.declared.component.Interface.{Interface}
-use Rattle.wac_collection.specs.declared.component.InterfaceId.{InterfaceId}
-use Rattle.wac_collection.specs.declared.component.ResourceId.{ResourceId}
-use Rattle.wac_collection.specs.declared.component.«Type».TheVariants as ty
-use Rattle.wac_collection.specs.declared.component.ItemKind.{ItemKind}
-use Rattle.wac_collection.specs.declared.component.ItemKind.TheVariants as kind
-use Rattle.wac_collection.proofs.Names.{same_name-refl, same_name-true}
+use Rattle.wac_shapes.specs.declared.component.Interface.{Interface}
+use Rattle.wac_shapes.specs.declared.component.InterfaceId.{InterfaceId}
+use Rattle.wac_shapes.specs.declared.component.ResourceId.{ResourceId}
+use Rattle.wac_shapes.specs.declared.component.«Type».TheVariants as ty
+use Rattle.wac_shapes.specs.declared.component.ItemKind.{ItemKind}
+use Rattle.wac_shapes.specs.declared.component.ItemKind.TheVariants as kind
+use Rattle.wac_shapes.proofs.Names.{same_name-refl, same_name-true}
 use Rattle.wac_types.specs.Called.{Called, by_binding}
 use Rattle.wac_entries.specs.Agreement.{called_in_class, compared}
 use Rattle.wac_merge.specs.Became.{became, whole_in}

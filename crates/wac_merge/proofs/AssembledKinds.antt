@@ -4,17 +4,17 @@ use Rattle.std.specs.List.{list_any}
 use Rattle.std.proofs.lemmas.Bool.{cases_Bool, false≢true}
 use Rattle.std.proofs.lemmas.List.{append_assoc, append-nil}
 use Rattle.std.proofs.lemmas.Option.{MatchOption-at_none, MatchOption-at_some, slice_get_within}
-use Rattle.wac_collection.specs.Name.{Name, option_case}
+use Rattle.wac_shapes.specs.Name.{Name, option_case}
 use Rattle.wac_collection.specs.Collection.{Collection, item_of}
 use Rattle.wac_collection.specs.Held.{source_of}
 use Rattle.wac_collection.specs.declared.collection.Held.{Held}
-use Rattle.wac_collection.specs.declared.component.InterfaceId.{InterfaceId}
-use Rattle.wac_collection.specs.declared.component.Resource.{Resource}
-use Rattle.wac_collection.specs.declared.component.ResourceAlias.{ResourceAlias}
-use Rattle.wac_collection.specs.declared.component.ResourceId.{ResourceId}
-use Rattle.wac_collection.specs.declared.component.«Type».TheVariants as ty
-use Rattle.wac_collection.specs.declared.component.ItemKind.{ItemKind}
-use Rattle.wac_collection.specs.declared.component.ItemKind.TheVariants as kind
+use Rattle.wac_shapes.specs.declared.component.InterfaceId.{InterfaceId}
+use Rattle.wac_shapes.specs.declared.component.Resource.{Resource}
+use Rattle.wac_shapes.specs.declared.component.ResourceAlias.{ResourceAlias}
+use Rattle.wac_shapes.specs.declared.component.ResourceId.{ResourceId}
+use Rattle.wac_shapes.specs.declared.component.«Type».TheVariants as ty
+use Rattle.wac_shapes.specs.declared.component.ItemKind.{ItemKind}
+use Rattle.wac_shapes.specs.declared.component.ItemKind.TheVariants as kind
 use Rattle.wac_merge.specs.Became.{became, whole_in}
 use Rattle.wac_entries.specs.Binding.{class_binds}
 use Rattle.wac_entries.specs.Bindings.{ClassBindings}

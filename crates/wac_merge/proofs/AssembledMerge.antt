@@ -3,15 +3,16 @@ use Rattle.std.proofs.Common.{◌≡◌, ℕ, ◌<◌, true, List, Vec, [], ◌�
 use Rattle.std.specs.Global.{Global}
 use Rattle.std.specs.List.{AllByRecursion}
 use Rattle.std.proofs.lemmas.Option.{slice_get_within}
-use Rattle.wac_collection.specs.Name.{Name}
-use Rattle.wac_collection.specs.Collection.{Collection, HasInterface, IsWellFormed, holds_type, item_at, item_of, kind_type}
+use Rattle.wac_shapes.specs.Name.{Name}
+use Rattle.wac_collection.specs.Collection.{Collection, HasInterface, IsWellFormed, holds_type, item_at, item_of}
+use Rattle.wac_shapes.specs.Kinds.{kind_type}
 use Rattle.wac_collection.specs.Uses.{IsSound}
 use Rattle.wac_collection.specs.declared.collection.Held.{Held}
-use Rattle.wac_collection.specs.declared.component.Interface.{Interface}
-use Rattle.wac_collection.specs.declared.component.InterfaceId.{InterfaceId}
-use Rattle.wac_collection.specs.declared.component.ItemKind.{ItemKind}
-use Rattle.wac_collection.specs.declared.component.ItemKind.TheVariants as kind
-use Rattle.wac_collection.specs.declared.component.«Type».TheVariants as ty
+use Rattle.wac_shapes.specs.declared.component.Interface.{Interface}
+use Rattle.wac_shapes.specs.declared.component.InterfaceId.{InterfaceId}
+use Rattle.wac_shapes.specs.declared.component.ItemKind.{ItemKind}
+use Rattle.wac_shapes.specs.declared.component.ItemKind.TheVariants as kind
+use Rattle.wac_shapes.specs.declared.component.«Type».TheVariants as ty
 use Rattle.wac_entries.specs.Agreement.{AllMembersAgree}
 use Rattle.wac_merge.specs.Became.{AreBoundParts, AreFresh}
 use Rattle.wac_entries.specs.Bindings.{AreBindings, AreHeld, ClassBindings}

@@ -2,7 +2,7 @@
 use Rattle.std.proofs.Common.{◌≡◌, ℕ, zero, suc, ◌<◌, Bool, true, false, not, cond, ◌&&◌, ◌||◌, ◌==◌, List, [], ◌∷◌, length, slice_get, Option, Some, None, is_some, refl, sym, ap, ◌∙◌, subst, inl, inr, ◌⊎◌, arith}
 use Rattle.std.specs.List.{list_all}
 use Rattle.std.proofs.lemmas.Bool.{and_parts, false≢true}
-use Rattle.wac_collection.specs.Name.{Name, same_name, find_name, option_case, first_some}
+use Rattle.wac_shapes.specs.Name.{Name, same_name, find_name, option_case, first_some}
 use Rattle.wac_collection.specs.Tree.{Place, named}
 use Rattle.wac_collection.specs.Collection.{Collection, HasResource, interface_mentions, item_at, item_of}
 use Rattle.wac_collection.specs.Bound.{is_alias, own_name}
@@ -10,14 +10,14 @@ use Rattle.wac_collection.specs.Uses.{IsSound, has_name, interface_fault, is_nam
 use Rattle.wac_collection.specs.declared.collection.AddTypeError.{AddTypeError}
 use Rattle.wac_collection.specs.declared.collection.AddTypeError.TheVariants as fault
 use Rattle.wac_collection.specs.declared.collection.Held.{Held}
-use Rattle.wac_collection.specs.declared.component.Interface.{Interface}
-use Rattle.wac_collection.specs.declared.component.Resource.{Resource}
-use Rattle.wac_collection.specs.declared.component.ResourceId.{ResourceId}
-use Rattle.wac_collection.specs.declared.component.UsedType.{UsedType}
-use Rattle.wac_collection.specs.declared.component.«Type».TheVariants as ty
-use Rattle.wac_collection.specs.declared.component.ItemKind.{ItemKind}
-use Rattle.wac_collection.specs.declared.component.ItemKind.TheVariants as kind
-use Rattle.wac_collection.proofs.Names.{same_name-true}
+use Rattle.wac_shapes.specs.declared.component.Interface.{Interface}
+use Rattle.wac_shapes.specs.declared.component.Resource.{Resource}
+use Rattle.wac_shapes.specs.declared.component.ResourceId.{ResourceId}
+use Rattle.wac_shapes.specs.declared.component.UsedType.{UsedType}
+use Rattle.wac_shapes.specs.declared.component.«Type».TheVariants as ty
+use Rattle.wac_shapes.specs.declared.component.ItemKind.{ItemKind}
+use Rattle.wac_shapes.specs.declared.component.ItemKind.TheVariants as kind
+use Rattle.wac_shapes.proofs.Names.{same_name-true}
 use Rattle.wac_types.specs.Called.{resource_name}
 use Rattle.wac_types.specs.Subtype.{held_name, resource_names}
 use Rattle.wac_entries.specs.Binding.{class_binds, kind_binds}

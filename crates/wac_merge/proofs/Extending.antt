@@ -1,25 +1,25 @@
 -- What a collection has stays in one that begins with it.
 use Rattle.std.proofs.Common.{◌≡◌, ℕ, zero, suc, ◌<◌, List, [], ◌∷◌, ◌++◌, length, Option, Some, None, true, nat_lt, refl, ap, sym, ◌∙◌, subst, arith}
 use Rattle.std.specs.Prelude.{slice_get}
-use Rattle.wac_collection.specs.Name.{Name, option_case}
+use Rattle.wac_shapes.specs.Name.{Name, option_case}
 use Rattle.wac_collection.specs.Collection.{Collection, HasResource, HasFunc, HasDefined, HasInterface, HasWorld, HasModule, IsSourceBelow, IsWellFormed, holds_type, holds_value, interface_exports, item_at, item_of, size, with_resource, with_func, with_defined, with_interface}
 use Rattle.wac_collection.specs.Held.{resolved, resolved_in, source_of}
 use Rattle.wac_collection.specs.declared.collection.Held.{Held}
-use Rattle.wac_collection.specs.declared.component.Resource.{Resource}
-use Rattle.wac_collection.specs.declared.component.ResourceId.{ResourceId}
-use Rattle.wac_collection.specs.declared.component.ResourceAlias.{ResourceAlias}
-use Rattle.wac_collection.specs.declared.component.FuncType.{FuncType}
-use Rattle.wac_collection.specs.declared.component.FuncTypeId.{FuncTypeId}
-use Rattle.wac_collection.specs.declared.component.DefinedType.{DefinedType}
-use Rattle.wac_collection.specs.declared.component.DefinedTypeId.{DefinedTypeId}
-use Rattle.wac_collection.specs.declared.component.Interface.{Interface}
-use Rattle.wac_collection.specs.declared.component.InterfaceId.{InterfaceId}
-use Rattle.wac_collection.specs.declared.component.ValueType.{ValueType}
-use Rattle.wac_collection.specs.declared.component.ValueType.TheVariants as val
-use Rattle.wac_collection.specs.declared.component.WorldId.{WorldId}
-use Rattle.wac_collection.specs.declared.component.ModuleTypeId.{ModuleTypeId}
-use Rattle.wac_collection.specs.declared.component.«Type».{«Type» as AnyType}
-use Rattle.wac_collection.specs.declared.component.«Type».TheVariants as ty
+use Rattle.wac_shapes.specs.declared.component.Resource.{Resource}
+use Rattle.wac_shapes.specs.declared.component.ResourceId.{ResourceId}
+use Rattle.wac_shapes.specs.declared.component.ResourceAlias.{ResourceAlias}
+use Rattle.wac_shapes.specs.declared.component.FuncType.{FuncType}
+use Rattle.wac_shapes.specs.declared.component.FuncTypeId.{FuncTypeId}
+use Rattle.wac_shapes.specs.declared.component.DefinedType.{DefinedType}
+use Rattle.wac_shapes.specs.declared.component.DefinedTypeId.{DefinedTypeId}
+use Rattle.wac_shapes.specs.declared.component.Interface.{Interface}
+use Rattle.wac_shapes.specs.declared.component.InterfaceId.{InterfaceId}
+use Rattle.wac_shapes.specs.declared.component.ValueType.{ValueType}
+use Rattle.wac_shapes.specs.declared.component.ValueType.TheVariants as val
+use Rattle.wac_shapes.specs.declared.component.WorldId.{WorldId}
+use Rattle.wac_shapes.specs.declared.component.ModuleTypeId.{ModuleTypeId}
+use Rattle.wac_shapes.specs.declared.component.«Type».{«Type» as AnyType}
+use Rattle.wac_shapes.specs.declared.component.«Type».TheVariants as ty
 use Rattle.wac_types.specs.Subtype.{held_name, resource_names}
 use Rattle.wac_types.specs.TreeLaws.{GrowthKeepsTrees, IsKeptBy}
 use Rattle.wac_merge.specs.Became.{AreFresh, IsNew, became}

@@ -5,14 +5,14 @@ use Rattle.std.proofs.Math.ListN.{set}
 use Rattle.std.proofs.lemmas.Bool.{cases_Bool, eq-eqb, eqb-true, false≢true}
 use Rattle.std.proofs.lemmas.List.{length-append}
 use Rattle.std.proofs.lemmas.Option.{slice_get_within}
-use Rattle.wac_collection.specs.Name.{Name, same_name, find_name, option_case, first_some}
+use Rattle.wac_shapes.specs.Name.{Name, same_name, find_name, option_case, first_some}
 use Rattle.wac_collection.specs.Collection.{Collection, IsWellFormed, size, with_resource}
 use Rattle.wac_collection.specs.Held.{resolved_in, source_of}
 use Rattle.wac_types.specs.Called.{resource_name}
 use Rattle.wac_types.specs.Subtype.{held_name}
-use Rattle.wac_collection.specs.declared.component.Resource.{Resource}
-use Rattle.wac_collection.specs.declared.component.ResourceId.{ResourceId}
-use Rattle.wac_collection.proofs.Names.{same_name-from, same_name-true}
+use Rattle.wac_shapes.specs.declared.component.Resource.{Resource}
+use Rattle.wac_shapes.specs.declared.component.ResourceId.{ResourceId}
+use Rattle.wac_shapes.proofs.Names.{same_name-from, same_name-true}
 use Rattle.wac_entries.specs.Bindings.{ClassBindings, first_in}
 use Rattle.wac_merge.specs.Became.{AreFresh, IsNew}
 use Rattle.wac_merge.specs.FreshSteps.{AreAllOwn, AreOwn, AreWhole, IsOwn, IsWhole, StayWhole, own_under, whole_under}

@@ -4,16 +4,16 @@ use Rattle.std.specs.Prelude.{slice_get}
 use Rattle.std.specs.declared.string.String.{String}
 use Rattle.std.proofs.lemmas.Bool.{eqb-true}
 use Rattle.std.proofs.lemmas.Option.{slice_get_within}
-use Rattle.wac_collection.specs.Name.{Name, option_case, first_some}
+use Rattle.wac_shapes.specs.Name.{Name, option_case, first_some}
 use Rattle.wac_collection.specs.Tree.{Place, named}
 use Rattle.wac_collection.specs.Collection.{Collection, item_at}
 use Rattle.wac_collection.specs.Bound.{is_alias, own_name}
-use Rattle.wac_collection.specs.declared.component.Interface.{Interface}
-use Rattle.wac_collection.specs.declared.component.ResourceId.{ResourceId}
-use Rattle.wac_collection.specs.declared.component.ItemKind.{ItemKind}
-use Rattle.wac_collection.specs.declared.component.ItemKind.TheVariants as kind
-use Rattle.wac_collection.specs.declared.component.«Type».TheVariants as ty
-use Rattle.wac_collection.proofs.Names.{take_at}
+use Rattle.wac_shapes.specs.declared.component.Interface.{Interface}
+use Rattle.wac_shapes.specs.declared.component.ResourceId.{ResourceId}
+use Rattle.wac_shapes.specs.declared.component.ItemKind.{ItemKind}
+use Rattle.wac_shapes.specs.declared.component.ItemKind.TheVariants as kind
+use Rattle.wac_shapes.specs.declared.component.«Type».TheVariants as ty
+use Rattle.wac_shapes.proofs.Names.{take_at}
 use Rattle.wac_entries.specs.Binding.{kind_binds, first_binds, class_binds, binding_from}
 use Rattle.wac_entries.specs.Bindings.{AreBindings, ClassBindings, first_in}
 use Rattle.wac_entries.specs.Classes.{Entry, by_names, class_names, same_class, same_track}

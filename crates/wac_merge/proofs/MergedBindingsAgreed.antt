@@ -1,18 +1,19 @@
 -- Entries that agree: their kinds, and the names of the resources that they are.
 use Rattle.std.proofs.Common.{◌≡◌, ℕ, Bool, true, false, cond, List, [], ◌∷◌, length, map, slice_get, Option, Some, None, refl, sym, ap, ◌∙◌, subst, inl, inr, arith}
 use Rattle.std.proofs.lemmas.Bool.{cases_Bool, cases_lt, false≢true}
-use Rattle.wac_collection.specs.Name.{Name, same_name, option_case, first_some}
+use Rattle.wac_shapes.specs.Name.{Name, same_name, option_case, first_some}
 use Rattle.wac_collection.specs.Tree.{TypeTree, Leaf, Place, absent, imported, named, resource, type_equal, instance, instance_item}
-use Rattle.wac_collection.specs.Collection.{Collection, holds_type, item_of, kind_type}
+use Rattle.wac_collection.specs.Collection.{Collection, holds_type, item_of}
+use Rattle.wac_shapes.specs.Kinds.{kind_type}
 use Rattle.wac_collection.specs.Held.{items_under, item_tree, resolved, source_of, unfolded}
 use Rattle.wac_collection.specs.Bound.{is_alias}
 use Rattle.wac_collection.specs.declared.collection.Held.{Held}
-use Rattle.wac_collection.specs.declared.component.Interface.{Interface}
-use Rattle.wac_collection.specs.declared.component.ResourceId.{ResourceId}
-use Rattle.wac_collection.specs.declared.component.«Type».TheVariants as ty
-use Rattle.wac_collection.specs.declared.component.ItemKind.{ItemKind}
-use Rattle.wac_collection.specs.declared.component.ItemKind.TheVariants as kind
-use Rattle.wac_collection.proofs.Names.{element_at, same_name-false, same_name-true}
+use Rattle.wac_shapes.specs.declared.component.Interface.{Interface}
+use Rattle.wac_shapes.specs.declared.component.ResourceId.{ResourceId}
+use Rattle.wac_shapes.specs.declared.component.«Type».TheVariants as ty
+use Rattle.wac_shapes.specs.declared.component.ItemKind.{ItemKind}
+use Rattle.wac_shapes.specs.declared.component.ItemKind.TheVariants as kind
+use Rattle.wac_shapes.proofs.Names.{element_at, same_name-false, same_name-true}
 use Rattle.wac_types.specs.Called.{Called, bound_at, by_binding, called_at, resource_name}
 use Rattle.wac_entries.specs.Agreement.{Agree, called_inside, called_outside, compared}
 use Rattle.wac_entries.specs.Binding.{class_binds, kind_binds}

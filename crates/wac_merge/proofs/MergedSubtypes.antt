@@ -4,17 +4,18 @@ use Rattle.std.proofs.Math.Path.{fun_ext}
 use Rattle.std.proofs.lemmas.Option.{slice_get_within}
 use Rattle.std.specs.List.{AllZip, Contains}
 use Rattle.std.specs.Option.{MatchOption}
-use Rattle.wac_collection.specs.Name.{Name, find_name, option_case}
+use Rattle.wac_shapes.specs.Name.{Name, find_name, option_case}
 use Rattle.wac_collection.specs.Tree.{absent, instance, instance_item, resource, type_equal}
-use Rattle.wac_collection.specs.Collection.{Collection, IsWellFormed, holds_type, interface_exports, item_at, item_of, kind_type}
+use Rattle.wac_collection.specs.Collection.{Collection, IsWellFormed, holds_type, interface_exports, item_at, item_of}
+use Rattle.wac_shapes.specs.Kinds.{kind_type}
 use Rattle.wac_collection.specs.Held.{Names, item_tree, items_under, unfolded}
 use Rattle.wac_collection.specs.Uses.{IsSound, is_named_right}
-use Rattle.wac_collection.specs.declared.component.Interface.{Interface}
-use Rattle.wac_collection.specs.declared.component.InterfaceId.{InterfaceId}
-use Rattle.wac_collection.specs.declared.component.ItemKind.{ItemKind}
-use Rattle.wac_collection.specs.declared.component.ItemKind.TheVariants as kind
-use Rattle.wac_collection.specs.declared.component.ResourceId.{ResourceId}
-use Rattle.wac_collection.specs.declared.component.«Type».TheVariants as ty
+use Rattle.wac_shapes.specs.declared.component.Interface.{Interface}
+use Rattle.wac_shapes.specs.declared.component.InterfaceId.{InterfaceId}
+use Rattle.wac_shapes.specs.declared.component.ItemKind.{ItemKind}
+use Rattle.wac_shapes.specs.declared.component.ItemKind.TheVariants as kind
+use Rattle.wac_shapes.specs.declared.component.ResourceId.{ResourceId}
+use Rattle.wac_shapes.specs.declared.component.«Type».TheVariants as ty
 use Rattle.wac_types.specs.Called.{Called, by_binding}
 use Rattle.wac_types.specs.Compare.{listed_in}
 use Rattle.wac_types.specs.Subtype.{Sub, by_name, kind_tree, type_tree}

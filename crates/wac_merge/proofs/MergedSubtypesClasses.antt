@@ -4,16 +4,17 @@ use Rattle.std.proofs.lemmas.Bool.{cases_order}
 use Rattle.std.proofs.lemmas.Option.{slice_get_within}
 use Rattle.std.specs.List.{Contains}
 use Rattle.std.specs.Option.{option_map}
-use Rattle.wac_collection.specs.Name.{Name, first_some, option_case}
+use Rattle.wac_shapes.specs.Name.{Name, first_some, option_case}
 use Rattle.wac_collection.specs.Tree.{Leaf, Place, TypeTree, absent, exported, imported, instance, instance_item}
-use Rattle.wac_collection.specs.Collection.{Collection, HasResource, IsWellFormed, holds_type, interface_exports, item_at, kind_type}
+use Rattle.wac_collection.specs.Collection.{Collection, HasResource, IsWellFormed, holds_type, interface_exports, item_at}
+use Rattle.wac_shapes.specs.Kinds.{kind_type}
 use Rattle.wac_collection.specs.Held.{Names, item_tree, items_under, resolved, unfolded}
-use Rattle.wac_collection.specs.declared.component.Interface.{Interface}
-use Rattle.wac_collection.specs.declared.component.InterfaceId.{InterfaceId}
-use Rattle.wac_collection.specs.declared.component.ItemKind.{ItemKind}
-use Rattle.wac_collection.specs.declared.component.ItemKind.TheVariants as kind
-use Rattle.wac_collection.specs.declared.component.ResourceId.{ResourceId}
-use Rattle.wac_collection.specs.declared.component.«Type».TheVariants as ty
+use Rattle.wac_shapes.specs.declared.component.Interface.{Interface}
+use Rattle.wac_shapes.specs.declared.component.InterfaceId.{InterfaceId}
+use Rattle.wac_shapes.specs.declared.component.ItemKind.{ItemKind}
+use Rattle.wac_shapes.specs.declared.component.ItemKind.TheVariants as kind
+use Rattle.wac_shapes.specs.declared.component.ResourceId.{ResourceId}
+use Rattle.wac_shapes.specs.declared.component.«Type».TheVariants as ty
 use Rattle.wac_types.specs.Called.{Called, by_binding, called_at, itself, of_class, own_leaf, resource_name}
 use Rattle.wac_types.specs.Subtype.{IsSubtype, Sub, type_tree, kind_tree, resource_names}
 use Rattle.wac_types.proofs.Relation.{sub_refl}

@@ -1,25 +1,26 @@
 -- Items that agree by binding, and what they became, by name.
 use Rattle.std.proofs.Common.{◌≡◌, ℕ, zero, suc, ◌<◌, ◌≤◌, Bool, true, false, ◌||◌, if◌then◌else◌, List, ◌⊎◌, inl, inr, length, map, Option, Some, None, slice_get, is_some, refl, sym, ap, ◌∙◌, arith}
 use Rattle.std.proofs.lemmas.Bool.{false≢true}
-use Rattle.wac_collection.proofs.Names.{same_name-true}
-use Rattle.wac_collection.specs.Name.{Name, find_name, first_some, option_case, same_name}
+use Rattle.wac_shapes.proofs.Names.{same_name-true}
+use Rattle.wac_shapes.specs.Name.{Name, find_name, first_some, option_case, same_name}
 use Rattle.wac_collection.specs.Tree.{TypeTree, absent, instance, instance_item, component_item, function_item, module_item, resource, type_equal, value_item}
-use Rattle.wac_collection.specs.Collection.{Collection, HasResource, IsSourceBelow, IsWellFormed, holds_type, interface_mentions, item_at, item_of, kind_type}
+use Rattle.wac_collection.specs.Collection.{Collection, HasResource, IsSourceBelow, IsWellFormed, holds_type, interface_mentions, item_at, item_of}
+use Rattle.wac_shapes.specs.Kinds.{kind_type}
 use Rattle.wac_collection.specs.Held.{item_tree, items_under, resolved, resolved_in, source_of}
 use Rattle.wac_collection.specs.Uses.{IsSound, has_name, is_named_right, mention_fault, named_right, unless, uses_fault}
 use Rattle.wac_collection.specs.declared.collection.AddTypeError.{AddTypeError}
 use Rattle.wac_collection.specs.declared.collection.AddTypeError.TheVariants as fault
 use Rattle.wac_collection.specs.declared.collection.Held.{Held}
-use Rattle.wac_collection.specs.declared.component.Interface.{Interface}
-use Rattle.wac_collection.specs.declared.component.InterfaceId.{InterfaceId}
-use Rattle.wac_collection.specs.declared.component.ItemKind.{ItemKind}
-use Rattle.wac_collection.specs.declared.component.ItemKind.TheVariants as kind
-use Rattle.wac_collection.specs.declared.component.Resource.{Resource}
-use Rattle.wac_collection.specs.declared.component.ResourceAlias.{ResourceAlias}
-use Rattle.wac_collection.specs.declared.component.ResourceId.{ResourceId}
-use Rattle.wac_collection.specs.declared.component.«Type».{«Type» as AnyType}
-use Rattle.wac_collection.specs.declared.component.«Type».TheVariants as ty
-use Rattle.wac_collection.specs.declared.component.UsedType.{UsedType}
+use Rattle.wac_shapes.specs.declared.component.Interface.{Interface}
+use Rattle.wac_shapes.specs.declared.component.InterfaceId.{InterfaceId}
+use Rattle.wac_shapes.specs.declared.component.ItemKind.{ItemKind}
+use Rattle.wac_shapes.specs.declared.component.ItemKind.TheVariants as kind
+use Rattle.wac_shapes.specs.declared.component.Resource.{Resource}
+use Rattle.wac_shapes.specs.declared.component.ResourceAlias.{ResourceAlias}
+use Rattle.wac_shapes.specs.declared.component.ResourceId.{ResourceId}
+use Rattle.wac_shapes.specs.declared.component.«Type».{«Type» as AnyType}
+use Rattle.wac_shapes.specs.declared.component.«Type».TheVariants as ty
+use Rattle.wac_shapes.specs.declared.component.UsedType.{UsedType}
 use Rattle.wac_types.specs.Called.{Called}
 use Rattle.wac_types.specs.Subtype.{held_name, kind_tree, resource_names, type_tree}
 use Rattle.wac_entries.specs.Agreement.{Agree}

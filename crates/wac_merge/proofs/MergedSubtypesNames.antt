@@ -3,25 +3,26 @@ use Rattle.std.proofs.Common.{◌≡◌, ℕ, zero, suc, ◌<◌, true, false, i
 use Rattle.std.proofs.Math.Path.{fun_ext}
 use Rattle.std.specs.List.{AllByRecursion}
 use Rattle.std.specs.Option.{option_map}
-use Rattle.wac_collection.specs.Name.{Name, same_name, option_case, first_some}
+use Rattle.wac_shapes.specs.Name.{Name, same_name, option_case, first_some}
 use Rattle.wac_collection.specs.Tree.{Leaf, TypeTree, absent, resource, primitive, own, borrow, record_of, variant_of, list_of, fixed_list_of, tuple_of, flags_of, enum_of, option_of, result_of, stream_of, future_of, function, instance, component, module_of, fresh, type_equal, function_item, instance_item, component_item, module_item, value_item}
-use Rattle.wac_collection.specs.Collection.{Collection, HasResource, IsBefore, IsWellFormed, and_maybe, case_values, defined_values, func_values, holds_type, item_of, kind_type, kind_types, seconds, size, used_types}
+use Rattle.wac_collection.specs.Collection.{Collection, HasResource, IsBefore, IsWellFormed, and_maybe, case_values, defined_values, func_values, holds_type, item_of, kind_types, seconds, size, used_types}
+use Rattle.wac_shapes.specs.Kinds.{kind_type}
 use Rattle.wac_collection.specs.Bound.{bound_by_imports, bound_in_world}
 use Rattle.wac_collection.specs.Held.{Names, Unfolding, defined_tree, func_tree, interface_tree, item_tree, items_under, module_tree, of_held, option_tree, part_at, resolved, step, unfolded, unfolded_to, world_tree}
 use Rattle.wac_collection.specs.declared.collection.Held.{Held}
-use Rattle.wac_collection.specs.declared.component.DefinedType.{DefinedType}
-use Rattle.wac_collection.specs.declared.component.DefinedType.TheVariants as def
-use Rattle.wac_collection.specs.declared.component.FuncType.{FuncType}
-use Rattle.wac_collection.specs.declared.component.Interface.{Interface}
-use Rattle.wac_collection.specs.declared.component.ItemKind.{ItemKind}
-use Rattle.wac_collection.specs.declared.component.ItemKind.TheVariants as kind
-use Rattle.wac_collection.specs.declared.component.Resource.{Resource}
-use Rattle.wac_collection.specs.declared.component.ResourceId.{ResourceId}
-use Rattle.wac_collection.specs.declared.component.«Type».{«Type» as AnyType}
-use Rattle.wac_collection.specs.declared.component.«Type».TheVariants as ty
-use Rattle.wac_collection.specs.declared.component.ValueType.{ValueType}
-use Rattle.wac_collection.specs.declared.component.ValueType.TheVariants as val
-use Rattle.wac_collection.specs.declared.component.World.{World}
+use Rattle.wac_shapes.specs.declared.component.DefinedType.{DefinedType}
+use Rattle.wac_shapes.specs.declared.component.DefinedType.TheVariants as def
+use Rattle.wac_shapes.specs.declared.component.FuncType.{FuncType}
+use Rattle.wac_shapes.specs.declared.component.Interface.{Interface}
+use Rattle.wac_shapes.specs.declared.component.ItemKind.{ItemKind}
+use Rattle.wac_shapes.specs.declared.component.ItemKind.TheVariants as kind
+use Rattle.wac_shapes.specs.declared.component.Resource.{Resource}
+use Rattle.wac_shapes.specs.declared.component.ResourceId.{ResourceId}
+use Rattle.wac_shapes.specs.declared.component.«Type».{«Type» as AnyType}
+use Rattle.wac_shapes.specs.declared.component.«Type».TheVariants as ty
+use Rattle.wac_shapes.specs.declared.component.ValueType.{ValueType}
+use Rattle.wac_shapes.specs.declared.component.ValueType.TheVariants as val
+use Rattle.wac_shapes.specs.declared.component.World.{World}
 use Rattle.wac_types.specs.Called.{Called, bound_at, by_binding, called_at, itself, of_class, one_out, own_leaf, resource_name}
 use Rattle.wac_types.specs.Subtype.{by_name, held_name, kind_tree, resource_names, type_tree}
 use Rattle.wac_types.proofs.Unfolding.{all_left, all_map, all_right, before_held, values_all}

@@ -4,13 +4,13 @@ use Rattle.std.proofs.lemmas.Bool.{cases_Bool}
 use Rattle.std.specs.Borrow.{Bor}
 use Rattle.std.specs.Str.{bytes_eq}
 use Rattle.std.specs.Option.{option_copied}
-use Rattle.wac_collection.specs.Name.{Name, same_name, find_name, option_case}
+use Rattle.wac_shapes.specs.Name.{Name, same_name, find_name, option_case}
 use Rattle.wac_collection.specs.Collection.{Collection, item_at}
-use Rattle.wac_collection.proofs.Names.{ne-false, ne-true, same_name-from, same_name-true}
-use Rattle.wac_collection.specs.declared.component.Interface.{Interface}
-use Rattle.wac_collection.specs.declared.component.InterfaceId.{InterfaceId}
-use Rattle.wac_collection.specs.declared.component.ItemKind.{ItemKind}
-use Rattle.wac_collection.specs.declared.component.ItemKind.TheVariants as kind
+use Rattle.wac_shapes.proofs.Names.{ne-false, ne-true, same_name-from, same_name-true}
+use Rattle.wac_shapes.specs.declared.component.Interface.{Interface}
+use Rattle.wac_shapes.specs.declared.component.InterfaceId.{InterfaceId}
+use Rattle.wac_shapes.specs.declared.component.ItemKind.{ItemKind}
+use Rattle.wac_shapes.specs.declared.component.ItemKind.TheVariants as kind
 use Rattle.wac_merge.specs.Merge.{Merged, bound_resource, import_entries, import_under, listed_resource, own_resource}
 
 -- the import under a name is what is found under it

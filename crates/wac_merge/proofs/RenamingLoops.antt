@@ -4,19 +4,19 @@ use Rattle.std.proofs.lemmas.List.{map-append}
 use Rattle.std.specs.Prelude.{slice_get}
 use Rattle.std.specs.List.{AllZip}
 use Rattle.std.specs.Borrow.{Bor}
-use Rattle.wac_collection.specs.Name.{Name, find_name, same_name}
-use Rattle.wac_collection.specs.Named.{NoNameTwice, given_names}
+use Rattle.wac_shapes.specs.Name.{Name, find_name, same_name}
+use Rattle.wac_shapes.specs.Named.{NoNameTwice, given_names}
 use Rattle.wac_collection.specs.Collection.{Collection, holds_all, item_at, size, value_types, with_defined, with_func}
 use Rattle.wac_collection.specs.Uses.{AnswersBy, mention_fault, unless}
 use Rattle.wac_collection.specs.declared.collection.AddTypeError.{AddTypeError}
 use Rattle.wac_collection.specs.declared.collection.AddTypeError.TheVariants as fault
 use Rattle.wac_collection.specs.declared.collection.Held.{Held}
-use Rattle.wac_collection.specs.declared.component.DefinedType.{DefinedType}
-use Rattle.wac_collection.specs.declared.component.DefinedTypeId.{DefinedTypeId}
-use Rattle.wac_collection.specs.declared.component.FuncType.{FuncType}
-use Rattle.wac_collection.specs.declared.component.FuncTypeId.{FuncTypeId}
-use Rattle.wac_collection.specs.declared.component.ValueType.{ValueType}
-use Rattle.wac_collection.proofs.Names.{none_before, none_behind, take_at}
+use Rattle.wac_shapes.specs.declared.component.DefinedType.{DefinedType}
+use Rattle.wac_shapes.specs.declared.component.DefinedTypeId.{DefinedTypeId}
+use Rattle.wac_shapes.specs.declared.component.FuncType.{FuncType}
+use Rattle.wac_shapes.specs.declared.component.FuncTypeId.{FuncTypeId}
+use Rattle.wac_shapes.specs.declared.component.ValueType.{ValueType}
+use Rattle.wac_shapes.proofs.Names.{none_before, none_behind, take_at}
 use Rattle.wac_types.specs.TreeLaws.{GrowthKeepsTrees}
 use Rattle.wac_entries.specs.Coding.{AreHeldValues}
 use Rattle.wac_merge.specs.RenamingSteps.{IsDefinedBehind, IsFuncBehind}

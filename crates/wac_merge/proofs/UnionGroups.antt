@@ -3,11 +3,12 @@ use Rattle.std.proofs.Common.{◌≡◌, ◌≢◌, ℕ, ◌+◌, Bool, true, fa
 use Rattle.std.specs.List.{AllByRecursion, list_any}
 use Rattle.std.proofs.lemmas.Bool.{cases_Bool}
 use Rattle.std.proofs.lemmas.List.{append-nil}
-use Rattle.wac_collection.specs.Name.{Name, same_name, find_name, option_case}
-use Rattle.wac_collection.specs.Named.{NoNameTwice, names_of}
-use Rattle.wac_collection.specs.Collection.{Collection, IsWellFormed, kind_type, kind_types, interface_exports, IsBefore}
-use Rattle.wac_collection.specs.declared.component.ItemKind.{ItemKind}
-use Rattle.wac_collection.proofs.Names.{same_name-true, same_name-from}
+use Rattle.wac_shapes.specs.Name.{Name, same_name, find_name, option_case}
+use Rattle.wac_shapes.specs.Named.{NoNameTwice, names_of}
+use Rattle.wac_collection.specs.Collection.{Collection, IsWellFormed, kind_types, interface_exports, IsBefore}
+use Rattle.wac_shapes.specs.Kinds.{kind_type}
+use Rattle.wac_shapes.specs.declared.component.ItemKind.{ItemKind}
+use Rattle.wac_shapes.proofs.Names.{same_name-true, same_name-from}
 use Rattle.wac_types.proofs.Unfolding.{before_held}
 use Rattle.wac_entries.specs.Scopes.{opened, opened_by}
 use Rattle.wac_entries.specs.Opening.{total, count_in}

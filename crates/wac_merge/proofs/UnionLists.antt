@@ -3,7 +3,7 @@ use Rattle.std.proofs.Common.{◌≡◌, ℕ, zero, suc, ◌+◌, List, [], ◌�
 use Rattle.std.specs.List.{AllByRecursion, AllZip, Contains}
 use Rattle.std.proofs.lemmas.Option.{slice_get_within, slice_get-get_or, get_or_from_slice_get}
 use Rattle.std.proofs.lemmas.List.{length-append}
-use Rattle.wac_collection.proofs.Names.{take_at}
+use Rattle.wac_shapes.proofs.Names.{take_at}
 use Rattle.wac_merge.specs.UnionSteps.{numbered, Extends}
 
 pub some-same : {A : Type 0} (x y : A) → Some x ≡ Some y → x ≡ y

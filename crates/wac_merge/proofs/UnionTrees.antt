@@ -3,14 +3,14 @@ use Rattle.std.proofs.Common.{◌≡◌, ℕ, zero, suc, ◌+◌, ◌<◌, ◌�
 use Rattle.std.proofs.Math.Path.{fun_ext}
 use Rattle.std.proofs.lemmas.Option.{slice_get_within}
 use Rattle.std.specs.List.{AllZip, Contains}
-use Rattle.wac_collection.specs.Name.{Name}
+use Rattle.wac_shapes.specs.Name.{Name}
 use Rattle.wac_collection.specs.Tree.{TypeTree, Tree, absent, exported, instance, named}
 use Rattle.wac_collection.specs.Collection.{Collection, item_at}
 use Rattle.wac_collection.specs.Held.{Names, item_tree, items_under, unfolded}
 use Rattle.wac_collection.specs.Bound.{Bindings, held_item, held_tree, inside_interface}
-use Rattle.wac_collection.specs.declared.component.Interface.{Interface}
-use Rattle.wac_collection.specs.declared.component.InterfaceId.{InterfaceId}
-use Rattle.wac_collection.specs.declared.component.«Type».TheVariants as ty
+use Rattle.wac_shapes.specs.declared.component.Interface.{Interface}
+use Rattle.wac_shapes.specs.declared.component.InterfaceId.{InterfaceId}
+use Rattle.wac_shapes.specs.declared.component.«Type».TheVariants as ty
 use Rattle.wac_types.specs.Called.{Called, by_binding}
 use Rattle.wac_entries.specs.Agreement.{Agree}
 use Rattle.wac_entries.specs.Bindings.{ClassBindings}

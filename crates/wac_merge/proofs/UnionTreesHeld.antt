@@ -1,16 +1,17 @@
 -- Trees of interfaces: by what is listed under each name.
 use Rattle.std.proofs.Common.{◌≡◌, ℕ, zero, suc, ◌<◌, nat_lt, true, false, List, [], ◌∷◌, map, length, Option, Some, None, slice_get, refl, sym, ap, ◌∙◌, subst, arith}
 use Rattle.std.proofs.Math.Path.{fun_ext}
-use Rattle.wac_collection.specs.Name.{Name, find_name, option_case}
+use Rattle.wac_shapes.specs.Name.{Name, find_name, option_case}
 use Rattle.wac_collection.specs.Tree.{TypeTree, Tree, absent, exported, instance, named}
-use Rattle.wac_collection.specs.Collection.{Collection, AreBefore, HasInterface, IsBefore, IsWellFormed, holds_type, interface_mentions, item_at, item_of, kind_type, kind_types, size, used_types}
+use Rattle.wac_collection.specs.Collection.{Collection, AreBefore, HasInterface, IsBefore, IsWellFormed, holds_type, interface_mentions, item_at, item_of, kind_types, size, used_types}
+use Rattle.wac_shapes.specs.Kinds.{kind_type}
 use Rattle.wac_collection.specs.Held.{Names, item_tree, items_under, of_held, unfolded}
 use Rattle.wac_collection.specs.Bound.{Bindings, by_place, held_item, held_tree, inside_interface}
 use Rattle.wac_collection.specs.declared.collection.Held.{Held}
-use Rattle.wac_collection.specs.declared.component.Interface.{Interface}
-use Rattle.wac_collection.specs.declared.component.InterfaceId.{InterfaceId}
-use Rattle.wac_collection.specs.declared.component.ItemKind.{ItemKind}
-use Rattle.wac_collection.specs.declared.component.«Type».TheVariants as ty
+use Rattle.wac_shapes.specs.declared.component.Interface.{Interface}
+use Rattle.wac_shapes.specs.declared.component.InterfaceId.{InterfaceId}
+use Rattle.wac_shapes.specs.declared.component.ItemKind.{ItemKind}
+use Rattle.wac_shapes.specs.declared.component.«Type».TheVariants as ty
 use Rattle.wac_types.specs.Called.{Called, by_binding}
 use Rattle.wac_types.specs.TreeLaws.{IsDeepEnough}
 use Rattle.wac_types.proofs.Unfolding.{all_right, before_held}

@@ -4,18 +4,19 @@ use Rattle.std.proofs.Math.Path.{fun_ext}
 use Rattle.std.proofs.lemmas.Bool.{false≢true}
 use Rattle.std.specs.List.{AllByRecursion, AllZip, Contains, list_any}
 use Rattle.std.specs.Option.{MatchOption}
-use Rattle.wac_collection.specs.Name.{Name, find_name, option_case}
+use Rattle.wac_shapes.specs.Name.{Name, find_name, option_case}
 use Rattle.wac_collection.specs.Tree.{TypeTree, Tree, absent, exported, fresh, instance, instance_item, named, type_equal}
-use Rattle.wac_collection.specs.Collection.{Collection, HasResource, IsWellFormed, holds_type, item_at, kind_type}
+use Rattle.wac_collection.specs.Collection.{Collection, HasResource, IsWellFormed, holds_type, item_at}
+use Rattle.wac_shapes.specs.Kinds.{kind_type}
 use Rattle.wac_collection.specs.Held.{Names, item_tree, resolved, unfolded}
 use Rattle.wac_collection.specs.Bound.{Bindings, binds_here, by_place, held_item, held_tree, inside_interface, is_here}
 use Rattle.wac_collection.specs.Uses.{IsSound}
-use Rattle.wac_collection.specs.declared.component.Interface.{Interface}
-use Rattle.wac_collection.specs.declared.component.InterfaceId.{InterfaceId}
-use Rattle.wac_collection.specs.declared.component.ResourceId.{ResourceId}
-use Rattle.wac_collection.specs.declared.component.«Type».TheVariants as ty
-use Rattle.wac_collection.specs.declared.component.ItemKind.{ItemKind}
-use Rattle.wac_collection.specs.declared.component.ItemKind.TheVariants as kind
+use Rattle.wac_shapes.specs.declared.component.Interface.{Interface}
+use Rattle.wac_shapes.specs.declared.component.InterfaceId.{InterfaceId}
+use Rattle.wac_shapes.specs.declared.component.ResourceId.{ResourceId}
+use Rattle.wac_shapes.specs.declared.component.«Type».TheVariants as ty
+use Rattle.wac_shapes.specs.declared.component.ItemKind.{ItemKind}
+use Rattle.wac_shapes.specs.declared.component.ItemKind.TheVariants as kind
 use Rattle.wac_types.specs.Called.{Called, by_binding}
 use Rattle.wac_types.specs.TreeLaws.{IsDeepEnough}
 use Rattle.wac_entries.specs.Bindings.{ClassBindings}

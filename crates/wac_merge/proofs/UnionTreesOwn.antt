@@ -2,21 +2,21 @@
 use Rattle.std.proofs.Common.{◌≡◌, ℕ, zero, suc, ◌<◌, ◌≤◌, nat_eq, Bool, true, false, not, cond, ◌&&◌, ◌||◌, ◌==◌, List, [], ◌∷◌, Option, Some, None, is_some, is_none, slice_get, refl, sym, ap, ◌∙◌, subst, inl, inr, arith, length}
 use Rattle.std.proofs.lemmas.Bool.{cases_Bool, and_parts, eqb-true, false≢true}
 use Rattle.std.specs.List.{AllZip, list_all}
-use Rattle.wac_collection.specs.Name.{Name, same_name, find_name, option_case}
+use Rattle.wac_shapes.specs.Name.{Name, same_name, find_name, option_case}
 use Rattle.wac_collection.specs.Collection.{Collection, HasResource, IsSourceBelow, IsWellFormed, item_at, item_of}
 use Rattle.wac_collection.specs.Held.{resolved, resolved_in, source_of}
 use Rattle.wac_collection.specs.Bound.{is_alias, lists_own, own_name}
 use Rattle.wac_collection.specs.Uses.{has_name, is_named_right, named_right}
 use Rattle.wac_collection.specs.declared.collection.Held.{Held}
-use Rattle.wac_collection.specs.declared.component.Resource.{Resource}
-use Rattle.wac_collection.specs.declared.component.ResourceAlias.{ResourceAlias}
-use Rattle.wac_collection.specs.declared.component.ResourceId.{ResourceId}
-use Rattle.wac_collection.specs.declared.component.UsedType.{UsedType}
-use Rattle.wac_collection.specs.declared.component.«Type».TheVariants as ty
-use Rattle.wac_collection.specs.declared.component.ItemKind.{ItemKind}
-use Rattle.wac_collection.specs.declared.component.ItemKind.TheVariants as kind
+use Rattle.wac_shapes.specs.declared.component.Resource.{Resource}
+use Rattle.wac_shapes.specs.declared.component.ResourceAlias.{ResourceAlias}
+use Rattle.wac_shapes.specs.declared.component.ResourceId.{ResourceId}
+use Rattle.wac_shapes.specs.declared.component.UsedType.{UsedType}
+use Rattle.wac_shapes.specs.declared.component.«Type».TheVariants as ty
+use Rattle.wac_shapes.specs.declared.component.ItemKind.{ItemKind}
+use Rattle.wac_shapes.specs.declared.component.ItemKind.TheVariants as kind
 use Rattle.wac_collection.proofs.Chains.{resource_ends}
-use Rattle.wac_collection.proofs.Names.{same_name-true}
+use Rattle.wac_shapes.proofs.Names.{same_name-true}
 
 -- ---- lists under names
 

@@ -3,17 +3,18 @@ use Rattle.std.proofs.Common.{◌≡◌, ℕ, zero, suc, ◌<◌, nat_lt, Bool, 
 use Rattle.std.proofs.lemmas.Bool.{and_parts, eq-eqb, eqb-true, false≢true}
 use Rattle.std.specs.List.{AllByRecursion}
 use Rattle.wac_names.specs.Reading.{read_track}
-use Rattle.wac_collection.specs.Name.{Name, first_some, option_case}
+use Rattle.wac_shapes.specs.Name.{Name, first_some, option_case}
 use Rattle.wac_collection.specs.Tree.{TypeTree, Tree, Leaf, Place, absent, fresh, imported, instance_item, named, position, type_equal}
-use Rattle.wac_collection.specs.Collection.{Collection, HasResource, IsWellFormed, holds_type, item_at, kind_type}
+use Rattle.wac_collection.specs.Collection.{Collection, HasResource, IsWellFormed, holds_type, item_at}
+use Rattle.wac_shapes.specs.Kinds.{kind_type}
 use Rattle.wac_collection.specs.Held.{item_tree, resolved}
 use Rattle.wac_collection.specs.Bound.{Bindings, binds_here, held_item, held_tree, is_alias, is_here, own_name, same_path}
-use Rattle.wac_collection.specs.declared.component.Interface.{Interface}
-use Rattle.wac_collection.specs.declared.component.InterfaceId.{InterfaceId}
-use Rattle.wac_collection.specs.declared.component.ResourceId.{ResourceId}
-use Rattle.wac_collection.specs.declared.component.«Type».TheVariants as ty
-use Rattle.wac_collection.specs.declared.component.ItemKind.{ItemKind}
-use Rattle.wac_collection.specs.declared.component.ItemKind.TheVariants as kind
+use Rattle.wac_shapes.specs.declared.component.Interface.{Interface}
+use Rattle.wac_shapes.specs.declared.component.InterfaceId.{InterfaceId}
+use Rattle.wac_shapes.specs.declared.component.ResourceId.{ResourceId}
+use Rattle.wac_shapes.specs.declared.component.«Type».TheVariants as ty
+use Rattle.wac_shapes.specs.declared.component.ItemKind.{ItemKind}
+use Rattle.wac_shapes.specs.declared.component.ItemKind.TheVariants as kind
 use Rattle.wac_types.specs.Called.{Called}
 use Rattle.wac_entries.specs.Agreement.{compared}
 use Rattle.wac_entries.specs.Binding.{binding_class, class_binds, first_binds, kind_binds, root_bindings}

@@ -2,18 +2,18 @@
 use Rattle.std.proofs.Common.{◌≡◌, ℕ, suc, Bool, true, false, not, cond, ◌&&◌, ◌==◌, List, [], ◌∷◌, Option, Some, None, is_some, slice_get, refl, sym, ap, ◌∙◌, subst, arith}
 use Rattle.std.proofs.lemmas.Bool.{false≢true, and_from, and_left, eq-eqb}
 use Rattle.std.specs.List.{AllZip}
-use Rattle.wac_collection.specs.Name.{Name, same_name, find_name, option_case}
+use Rattle.wac_shapes.specs.Name.{Name, same_name, find_name, option_case}
 use Rattle.wac_collection.specs.Tree.{Leaf, exported, further_out, named}
 use Rattle.wac_collection.specs.Collection.{Collection, IsWellFormed}
 use Rattle.wac_collection.specs.Bound.{Bindings, inside_interface, is_alias, is_here, lists_own, own_name, same_path, same_side}
 use Rattle.wac_collection.specs.Held.{resolved}
-use Rattle.wac_collection.specs.declared.component.Interface.{Interface}
-use Rattle.wac_collection.specs.declared.component.InterfaceId.{InterfaceId}
-use Rattle.wac_collection.specs.declared.component.ResourceId.{ResourceId}
-use Rattle.wac_collection.specs.declared.component.«Type».TheVariants as ty
-use Rattle.wac_collection.specs.declared.component.ItemKind.{ItemKind}
-use Rattle.wac_collection.specs.declared.component.ItemKind.TheVariants as kind
-use Rattle.wac_collection.proofs.Names.{same_name-true, same_name-refl}
+use Rattle.wac_shapes.specs.declared.component.Interface.{Interface}
+use Rattle.wac_shapes.specs.declared.component.InterfaceId.{InterfaceId}
+use Rattle.wac_shapes.specs.declared.component.ResourceId.{ResourceId}
+use Rattle.wac_shapes.specs.declared.component.«Type».TheVariants as ty
+use Rattle.wac_shapes.specs.declared.component.ItemKind.{ItemKind}
+use Rattle.wac_shapes.specs.declared.component.ItemKind.TheVariants as kind
+use Rattle.wac_shapes.proofs.Names.{same_name-true, same_name-refl}
 use Rattle.wac_entries.specs.Bindings.{ClassBindings}
 use Rattle.wac_merge.specs.Became.{AreFresh, became, own_in}
 use Rattle.wac_merge.specs.Writing.{IsAliasOf, IsWrittenAs, IsWrittenExport, written_at}

@@ -4,21 +4,22 @@ use Rattle.std.specs.Prelude.{slice_get}
 use Rattle.std.specs.List.{AllZip, list_all}
 use Rattle.std.proofs.lemmas.Bool.{and_from, false≢true, or_cases, or_left, or_right}
 use Rattle.std.proofs.lemmas.Option.{slice_get_within}
-use Rattle.wac_collection.specs.Name.{Name, option_case, same_name}
-use Rattle.wac_collection.specs.Collection.{Collection, HasResource, holds_all, holds_type, item_of, kind_type, kind_types, resource_mentions, size, with_resource}
+use Rattle.wac_shapes.specs.Name.{Name, option_case, same_name}
+use Rattle.wac_collection.specs.Collection.{Collection, HasResource, holds_all, holds_type, item_of, kind_types, resource_mentions, size, with_resource}
+use Rattle.wac_shapes.specs.Kinds.{kind_type}
 use Rattle.wac_collection.specs.Held.{resolved, source_of}
 use Rattle.wac_collection.specs.Bound.{is_alias}
 use Rattle.wac_collection.specs.Uses.{has_name, is_named_right, mention_fault, unless}
 use Rattle.wac_types.specs.Subtype.{held_name}
 use Rattle.wac_collection.specs.declared.collection.AddTypeError.TheVariants as fault
 use Rattle.wac_collection.specs.declared.collection.Held.{Held}
-use Rattle.wac_collection.specs.declared.component.InterfaceId.{InterfaceId}
-use Rattle.wac_collection.specs.declared.component.Resource.{Resource}
-use Rattle.wac_collection.specs.declared.component.ResourceId.{ResourceId}
-use Rattle.wac_collection.specs.declared.component.ItemKind.{ItemKind}
-use Rattle.wac_collection.specs.declared.component.ItemKind.TheVariants as kind
-use Rattle.wac_collection.specs.declared.component.«Type».TheVariants as ty
-use Rattle.wac_collection.proofs.Names.{same_name-refl}
+use Rattle.wac_shapes.specs.declared.component.InterfaceId.{InterfaceId}
+use Rattle.wac_shapes.specs.declared.component.Resource.{Resource}
+use Rattle.wac_shapes.specs.declared.component.ResourceId.{ResourceId}
+use Rattle.wac_shapes.specs.declared.component.ItemKind.{ItemKind}
+use Rattle.wac_shapes.specs.declared.component.ItemKind.TheVariants as kind
+use Rattle.wac_shapes.specs.declared.component.«Type».TheVariants as ty
+use Rattle.wac_shapes.proofs.Names.{same_name-refl}
 use Rattle.wac_merge.specs.Became.{IsNew, became, own_in}
 use Rattle.wac_entries.specs.Bindings.{ClassBindings}
 use Rattle.wac_merge.specs.Renaming.{IsExtended}

@@ -5,18 +5,19 @@ use Rattle.std.specs.List.{AllZip, list_all}
 use Rattle.std.specs.Option.{MatchOption}
 use Rattle.std.proofs.lemmas.List.{get_or-reverse, length-reverse}
 use Rattle.std.proofs.lemmas.Option.{get_or_from_slice_get, slice_get-get_or, slice_get_within}
-use Rattle.wac_collection.specs.Name.{Name, find_name, first_some, option_case}
-use Rattle.wac_collection.specs.Collection.{Collection, HasInterface, IsWellFormed, holds_all, holds_type, interface_exports, item_at, item_of, kind_type, kind_types, size, with_interface}
+use Rattle.wac_shapes.specs.Name.{Name, find_name, first_some, option_case}
+use Rattle.wac_collection.specs.Collection.{Collection, HasInterface, IsWellFormed, holds_all, holds_type, interface_exports, item_at, item_of, kind_types, size, with_interface}
+use Rattle.wac_shapes.specs.Kinds.{kind_type}
 use Rattle.wac_collection.specs.Uses.{interface_fault, is_named_right, unless}
 use Rattle.wac_collection.specs.declared.collection.AddTypeError.TheVariants as fault
 use Rattle.wac_collection.specs.declared.collection.Held.{Held}
-use Rattle.wac_collection.specs.declared.component.Interface.{Interface}
-use Rattle.wac_collection.specs.declared.component.InterfaceId.{InterfaceId}
-use Rattle.wac_collection.specs.declared.component.ItemKind.{ItemKind}
-use Rattle.wac_collection.specs.declared.component.ItemKind.TheVariants as kind
-use Rattle.wac_collection.specs.declared.component.ValueType.TheVariants as val
-use Rattle.wac_collection.specs.declared.component.«Type».TheVariants as ty
-use Rattle.wac_collection.proofs.Names.{find_position}
+use Rattle.wac_shapes.specs.declared.component.Interface.{Interface}
+use Rattle.wac_shapes.specs.declared.component.InterfaceId.{InterfaceId}
+use Rattle.wac_shapes.specs.declared.component.ItemKind.{ItemKind}
+use Rattle.wac_shapes.specs.declared.component.ItemKind.TheVariants as kind
+use Rattle.wac_shapes.specs.declared.component.ValueType.TheVariants as val
+use Rattle.wac_shapes.specs.declared.component.«Type».TheVariants as ty
+use Rattle.wac_shapes.proofs.Names.{find_position}
 use Rattle.wac_merge.specs.Became.{IsNew, became, own_in}
 use Rattle.wac_merge.specs.Renaming.{AreRenamed, CanRename, CanRenameAll, IsExtended, IsRenamed}
 use Rattle.wac_merge.specs.Unions.{AreUnions, IsExport, IsInner, IsPart, listed_under, part_lists, united}

@@ -1,8 +1,8 @@
 -- The view of what is grouped by name.
 use Rattle.std.specs.Prelude.{List, map, Vec}
 use Rattle.std.specs.declared.string.String.{String}
-use Rattle.wac_collection.specs.Name.{Name}
-use Rattle.wac_collection.specs.Named.{by_bytes}
+use Rattle.wac_shapes.specs.Name.{Name}
+use Rattle.wac_shapes.specs.Named.{by_bytes}
 
 -- lists under names, each name as its bytes
 abbrev pub groups_of : {A B V : Type 0} → List (String A × Vec V B) → List (Name × List V)

@@ -1,16 +1,16 @@
 -- What a finished merge holds.
 use Rattle.std.specs.Prelude.{ℕ, suc, ◌≡◌, ◌==◌, Bool, false, if◌then◌else◌, List, [], ◌∷◌, ◌++◌, map, length, Option, Some, None, IsSome, slice_get, Contains}
 use Rattle.std.specs.List.{AllByRecursion, list_any}
-use Rattle.wac_collection.specs.Name.{Name, same_name, find_name, option_case}
+use Rattle.wac_shapes.specs.Name.{Name, same_name, find_name, option_case}
 use Rattle.wac_collection.specs.Tree.{imported, position, named}
 use Rattle.wac_collection.specs.Collection.{Collection, item_at, interface_exports}
 use Rattle.wac_collection.specs.Bound.{held_item, is_alias, own_name}
-use Rattle.wac_collection.specs.declared.component.Interface.{Interface}
-use Rattle.wac_collection.specs.declared.component.InterfaceId.{InterfaceId}
-use Rattle.wac_collection.specs.declared.component.ResourceId.{ResourceId}
-use Rattle.wac_collection.specs.declared.component.ItemKind.{ItemKind}
-use Rattle.wac_collection.specs.declared.component.ItemKind.TheVariants as kind
-use Rattle.wac_collection.specs.declared.component.«Type».TheVariants as ty
+use Rattle.wac_shapes.specs.declared.component.Interface.{Interface}
+use Rattle.wac_shapes.specs.declared.component.InterfaceId.{InterfaceId}
+use Rattle.wac_shapes.specs.declared.component.ResourceId.{ResourceId}
+use Rattle.wac_shapes.specs.declared.component.ItemKind.{ItemKind}
+use Rattle.wac_shapes.specs.declared.component.ItemKind.TheVariants as kind
+use Rattle.wac_shapes.specs.declared.component.«Type».TheVariants as ty
 use Rattle.wac_types.specs.Subtype.{IsSubtype}
 use Rattle.wac_entries.specs.Classes.{Entry, NameRules, same_track, members, class_names, canonical}
 use Rattle.wac_entries.specs.Binding.{class_binds, root_bindings}

@@ -2,10 +2,11 @@
 use Rattle.std.specs.Prelude.{ℕ, zero, suc, ◌+◌, ◌≡◌, ◌≢◌, ◌<◌, ◌≤◌, true, if◌then◌else◌, List, [], ◌∷◌, ◌++◌, map, length, Some, None, slice_get, Contains}
 use Rattle.std.specs.List.{AllByRecursion, AllZip}
 use Rattle.std.specs.Option.{MatchOption}
-use Rattle.wac_collection.specs.Name.{Name, same_name, find_name}
-use Rattle.wac_collection.specs.Collection.{Collection, HasInterface, kind_type, holds_type}
-use Rattle.wac_collection.specs.declared.component.InterfaceId.{InterfaceId}
-use Rattle.wac_collection.specs.declared.component.ItemKind.{ItemKind}
+use Rattle.wac_shapes.specs.Name.{Name, same_name, find_name}
+use Rattle.wac_collection.specs.Collection.{Collection, HasInterface, holds_type}
+use Rattle.wac_shapes.specs.Kinds.{kind_type}
+use Rattle.wac_shapes.specs.declared.component.InterfaceId.{InterfaceId}
+use Rattle.wac_shapes.specs.declared.component.ItemKind.{ItemKind}
 use Rattle.wac_entries.specs.Scopes.{opened, opened_by}
 use Rattle.wac_entries.specs.Opening.{total, count_in}
 use Rattle.wac_merge.specs.declared.unions.Part.{Part}

@@ -1,12 +1,13 @@
 -- Unions, as they are written one by one. Private functions alone cite this.
 use Rattle.std.specs.Prelude.{ℕ, ◌+◌, ◌<◌, ◌≤◌, ◌≡◌, true, List, [], length, Option, Some, None, slice_get}
 use Rattle.std.specs.List.{AllZip, list_all}
-use Rattle.wac_collection.specs.Name.{Name, find_name}
-use Rattle.wac_collection.specs.Collection.{Collection, HasInterface, holds_all, holds_type, item_at, kind_type, kind_types}
+use Rattle.wac_shapes.specs.Name.{Name, find_name}
+use Rattle.wac_collection.specs.Collection.{Collection, HasInterface, holds_all, holds_type, item_at, kind_types}
+use Rattle.wac_shapes.specs.Kinds.{kind_type}
 use Rattle.wac_collection.specs.Uses.{is_named_right}
-use Rattle.wac_collection.specs.declared.component.Interface.{Interface}
-use Rattle.wac_collection.specs.declared.component.InterfaceId.{InterfaceId}
-use Rattle.wac_collection.specs.declared.component.ItemKind.{ItemKind}
+use Rattle.wac_shapes.specs.declared.component.Interface.{Interface}
+use Rattle.wac_shapes.specs.declared.component.InterfaceId.{InterfaceId}
+use Rattle.wac_shapes.specs.declared.component.ItemKind.{ItemKind}
 use Rattle.wac_merge.specs.Became.{AreFresh}
 use Rattle.wac_merge.specs.Renaming.{AreRenamed, CanRenameAll}
 use Rattle.wac_merge.specs.Unions.{AreUnions}

@@ -1,8 +1,9 @@
 //! The collector of imports that are asked for.
 ghost use Rattle.std.specs.Prelude.{Contains, ℕ, ◌≡◌, ◌<◌, ◌∷◌, ◌++◌, ◌⊎◌, ◌↔◌, [], length, slice_get, IfOk, IfErr, IfSome, OnOk, Some, true};
 ghost use Rattle.std.specs.Result.{IsErrAnd};
-ghost use Rattle.wac_collection.specs.Collection.{holds_type, kind_type};
-ghost use Rattle.wac_collection.specs.Name.{Name as AName};
+ghost use Rattle.wac_collection.specs.Collection.{holds_type};
+ghost use Rattle.wac_shapes.specs.Kinds.{kind_type};
+ghost use Rattle.wac_shapes.specs.Name.{Name as AName};
 ghost use Rattle.wac_merge.specs.Aggregate.{IsFault, unmerged};
 ghost use Rattle.wac_entries.specs.Agreement.{AllMembersAgree};
 ghost use Rattle.wac_entries.specs.Bindings.{AreBindings, AreHeld};
@@ -42,7 +43,7 @@ pub struct TypeAggregator {
 
 impl Model for TypeAggregator {
     ghost use Rattle.std.specs.Prelude.{is_some, IfSome};
-    ghost use Rattle.wac_collection.specs.Name.{option_case};
+    ghost use Rattle.wac_shapes.specs.Name.{option_case};
     ghost use Rattle.wac_merge.specs.Aggregate.{Aggregate, nothing};
     ghost use Rattle.wac_entries.specs.Classes.{AreClasses, by_names};
 

@@ -1,7 +1,8 @@
 //! The new resources of a merged collection.
 ghost use Rattle.std.specs.Prelude.{◌≡◌, ℕ, [], true, length, Some, IfOk, OnOk};
-ghost use Rattle.wac_collection.specs.Collection.{Collection, holds_type, kind_type};
-ghost use Rattle.wac_collection.specs.declared.component.ResourceId.{ResourceId as AnId};
+ghost use Rattle.wac_collection.specs.Collection.{Collection, holds_type};
+ghost use Rattle.wac_shapes.specs.Kinds.{kind_type};
+ghost use Rattle.wac_shapes.specs.declared.component.ResourceId.{ResourceId as AnId};
 ghost use Rattle.wac_merge.specs.Became.{AreFresh, IsNew, new_at, own_in, whole_in};
 ghost use Rattle.wac_entries.specs.Bindings.{AreBindings, AreHeld, first_in};
 ghost use Rattle.wac_entries.specs.CalledViews.{path_view};

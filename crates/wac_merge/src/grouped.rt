@@ -1,7 +1,7 @@
 //! What interfaces list, by name.
 ghost use Rattle.std.specs.Prelude.{◌≡◌, ◌<◌, [], length, Some, IfOk, OnOk, slice_get};
 ghost use Rattle.std.specs.List.{AllByRecursion};
-ghost use Rattle.wac_collection.specs.Named.{NoNameTwice};
+ghost use Rattle.wac_shapes.specs.Named.{NoNameTwice};
 ghost use Rattle.wac_merge.specs.UnionSteps.{grouped, IsHeldPart, with_all_listed, with_listed};
 ghost use Rattle.wac_merge.specs.Unions.{part_lists};
 
@@ -19,9 +19,9 @@ pub(crate) struct Grouped {
 
 impl Model for Grouped {
     ghost use Rattle.std.specs.Prelude.{List, ℕ};
-    ghost use Rattle.wac_collection.specs.Name.{Name};
-    ghost use Rattle.wac_collection.specs.Named.{by_bytes, NoNameTwice};
-    ghost use Rattle.wac_collection.specs.declared.component.ItemKind.{ItemKind};
+    ghost use Rattle.wac_shapes.specs.Name.{Name};
+    ghost use Rattle.wac_shapes.specs.Named.{by_bytes, NoNameTwice};
+    ghost use Rattle.wac_shapes.specs.declared.component.ItemKind.{ItemKind};
     ghost use Rattle.wac_merge.specs.GroupViews.{groups_of};
 
     ghost Value = { List (Name × List (ℕ × ItemKind)) };

@@ -1,9 +1,10 @@
 //! The merged imports of entries that have a merge, and the collection of their types.
 ghost use Rattle.std.specs.Prelude.{Contains, List, Some, length, map, slice_get, string_bytes, true, ℕ, ◌<◌, ◌≡◌, ◌↔◌, [], IfOk, OnOk};
 ghost use Rattle.std.specs.Option.{option_map};
-ghost use Rattle.wac_collection.specs.Collection.{HasInterface, holds_type, kind_type};
-ghost use Rattle.wac_collection.specs.Name.{Name as AName};
-ghost use Rattle.wac_collection.specs.declared.component.InterfaceId.{InterfaceId as AnId};
+ghost use Rattle.wac_collection.specs.Collection.{HasInterface, holds_type};
+ghost use Rattle.wac_shapes.specs.Kinds.{kind_type};
+ghost use Rattle.wac_shapes.specs.Name.{Name as AName};
+ghost use Rattle.wac_shapes.specs.declared.component.InterfaceId.{InterfaceId as AnId};
 ghost use Rattle.wac_entries.specs.Agreement.{AllMembersAgree};
 ghost use Rattle.wac_merge.specs.Became.{AreFresh};
 ghost use Rattle.wac_entries.specs.Bindings.{AreBindings, AreHeld};

@@ -6,10 +6,10 @@ ghost use Rattle.std.specs.Prelude.{◌≡◌, ◌++◌, ◌∷◌, [], true, No
 ghost use Rattle.std.specs.List.{AllByRecursion, AllZip};
 ghost use Rattle.wac_collection.specs.Collection.{Collection, HasDefined, HasFunc, and_maybe, case_values, defined_values, func_values, holds_value, seconds};
 ghost use Rattle.wac_collection.specs.Held.{resolved};
-ghost use Rattle.wac_collection.specs.Name.{find_name};
+ghost use Rattle.wac_shapes.specs.Name.{find_name};
 ghost use Rattle.wac_collection.specs.declared.collection.AddTypeError.TheVariants.{OutOfMemory};
-ghost use Rattle.wac_collection.specs.declared.component.ValueType.TheVariants as val;
-ghost use Rattle.wac_collection.specs.declared.component.«Type».TheVariants as ty;
+ghost use Rattle.wac_shapes.specs.declared.component.ValueType.TheVariants as val;
+ghost use Rattle.wac_shapes.specs.declared.component.«Type».TheVariants as ty;
 ghost use Rattle.wac_merge.specs.Became.{AreBoundParts};
 ghost use Rattle.wac_entries.specs.Coding.{AreHeldValues};
 ghost use Rattle.wac_merge.specs.Renaming.{AreRenamed, CanRename, IsExtended, IsRenamed, becomes, defined_in, func_in};

@@ -2,10 +2,11 @@
 ghost use Rattle.std.specs.Prelude.{◌+◌, ◌≡◌, List, [], length, map, string_bytes, true, Some, IfOk, OnOk, slice_get};
 ghost use Rattle.std.specs.List.{list_all};
 ghost use Rattle.std.specs.Option.{option_map};
-ghost use Rattle.wac_collection.specs.Collection.{Collection, HasResource, holds_all, holds_type, item_at, kind_type, kind_types};
+ghost use Rattle.wac_collection.specs.Collection.{Collection, HasResource, holds_all, holds_type, item_at, kind_types};
+ghost use Rattle.wac_shapes.specs.Kinds.{kind_type};
 ghost use Rattle.wac_collection.specs.Uses.{is_named_right};
-ghost use Rattle.wac_collection.specs.declared.component.InterfaceId.{InterfaceId as AnId};
-ghost use Rattle.wac_collection.specs.declared.component.ItemKind.TheVariants as kind_of;
+ghost use Rattle.wac_shapes.specs.declared.component.InterfaceId.{InterfaceId as AnId};
+ghost use Rattle.wac_shapes.specs.declared.component.ItemKind.TheVariants as kind_of;
 ghost use Rattle.wac_merge.specs.Became.{AreFresh};
 ghost use Rattle.wac_merge.specs.Renaming.{AreRenamed, CanRename, CanRenameAll, IsExtended, becomes};
 ghost use Rattle.wac_merge.specs.Unions.{AreUnions};

@@ -1,8 +1,9 @@
 -- What is asked for is held, also with one more entry.
 use Rattle.std.proofs.Common.{◌≡◌, true, false, List, [], ◌∷◌, ◌++◌, slice_get, inl, inr, ap, sym, ◌∙◌}
-use Rattle.wac_collection.specs.Name.{Name}
-use Rattle.wac_collection.specs.Collection.{Collection, holds_type, kind_type}
-use Rattle.wac_collection.specs.declared.component.ItemKind.{ItemKind}
+use Rattle.wac_shapes.specs.Name.{Name}
+use Rattle.wac_collection.specs.Collection.{Collection, holds_type}
+use Rattle.wac_shapes.specs.Kinds.{kind_type}
+use Rattle.wac_shapes.specs.declared.component.ItemKind.{ItemKind}
 use Rattle.wac_merge.specs.Aggregate.{Aggregate, unmerged}
 use Rattle.wac_entries.specs.Bindings.{AreHeld}
 use Rattle.wac_entries.specs.Classes.{Entry}

@@ -3,13 +3,14 @@ use Rattle.std.proofs.Common.{ℕ, zero, suc, Bool, List, [], ◌∷◌, map, �
 use Rattle.std.specs.Result.{IsErrAnd}
 use Rattle.std.specs.Option.{option_map}
 use Rattle.std.specs.List.{AllByRecursion}
-use Rattle.wac_collection.specs.Name.{Name}
+use Rattle.wac_shapes.specs.Name.{Name}
 use Rattle.wac_types.specs.declared.checker.Question.{Question}
-use Rattle.wac_collection.specs.declared.component.ValueType.{ValueType}
-use Rattle.wac_collection.specs.declared.component.«Type».{«Type» as AnyType}
-use Rattle.wac_collection.specs.declared.component.«Type».TheVariants as ty
-use Rattle.wac_collection.specs.declared.component.ItemKind.{ItemKind}
-use Rattle.wac_collection.specs.Collection.{Collection, seconds, and_maybe, case_values, value_types, kind_type, kind_types}
+use Rattle.wac_shapes.specs.declared.component.ValueType.{ValueType}
+use Rattle.wac_shapes.specs.declared.component.«Type».{«Type» as AnyType}
+use Rattle.wac_shapes.specs.declared.component.«Type».TheVariants as ty
+use Rattle.wac_shapes.specs.declared.component.ItemKind.{ItemKind}
+use Rattle.wac_collection.specs.Collection.{Collection, seconds, and_maybe, case_values, value_types, kind_types}
+use Rattle.wac_shapes.specs.Kinds.{kind_type}
 use Rattle.wac_types.specs.Compare.{entry_in, case_in}
 use Rattle.wac_types.proofs.Below.{AgreeBelow}
 use Rattle.wac_types.specs.Questions.{Asks}

@@ -1,13 +1,13 @@
 -- What holds of lists so far, as a loop over them goes on.
 use Rattle.std.proofs.Common.{ℕ, ◌<◌, ◌≡◌, ◌≢◌, List, Some, slice_get}
-use Rattle.wac_collection.specs.Name.{Name}
-use Rattle.wac_collection.specs.Core.{no_item}
+use Rattle.wac_shapes.specs.Name.{Name}
+use Rattle.wac_shapes.specs.Core.{no_item}
 use Rattle.wac_collection.specs.Collection.{Collection}
 use Rattle.wac_collection.specs.Held.{core_item, core_under, core_imports}
 use Rattle.wac_types.specs.Subtype.{Sub, IsCoreSubtype, kind_tree}
 use Rattle.wac_types.specs.Compare.{listed_in}
-use Rattle.wac_collection.specs.declared.core_types.CoreExtern.{CoreExtern}
-use Rattle.wac_collection.specs.declared.component.ItemKind.{ItemKind}
+use Rattle.wac_shapes.specs.declared.core_types.CoreExtern.{CoreExtern}
+use Rattle.wac_shapes.specs.declared.component.ItemKind.{ItemKind}
 
 -- two lists agree so far
 abbrev pub AgreeBelow : {A : Type 0} → ℕ → List A → List A → Type 0

@@ -2,8 +2,9 @@
 use Rattle.std.proofs.Common.{ℕ, zero, suc, Bool, true, false, List, [], ◌∷◌, ◌++◌, ◌≡◌, ◌<◌, ◌≤◌, ◌+◌, length, drop, refl, ap, sym, ◌∙◌, subst, Some, arith, slice_get, length-append}
 use Rattle.std.specs.List.{AllByRecursion}
 use Rattle.wac_types.specs.declared.checker.Question.{Question}
-use Rattle.wac_collection.specs.declared.component.ItemKind.{ItemKind}
-use Rattle.wac_collection.specs.Collection.{Collection, kind_type, holds_type}
+use Rattle.wac_shapes.specs.declared.component.ItemKind.{ItemKind}
+use Rattle.wac_collection.specs.Collection.{Collection, holds_type}
+use Rattle.wac_shapes.specs.Kinds.{kind_type}
 use Rattle.wac_types.specs.Subtype.{Sub, IsSubtype, type_tree, kind_tree}
 use Rattle.wac_types.specs.Questions.{in_order, first_of_pair, second_of_pair, type_rank, rank, IsHeldQuestion, IsYes, IsAskedBelow, IsYesBelow, Settles, Asks}
 use Rattle.wac_types.proofs.Unfolding.{all_map, all_left, all_right, all_both, held_at_rank}

@@ -1,17 +1,17 @@
 -- What is offered of core items, name by name.
 use Rattle.std.proofs.Common.{ℕ, Bool, true, false, IsTrue, List, [], ◌∷◌, ◌≡◌, ◌≢◌, ◌↔◌, ◌+◌, ◌≤◌, length, refl, ap, sym, ◌∙◌, subst, Option, Some, None, arith, slice_get, below_more}
-use Rattle.wac_collection.specs.Name.{Name, find_name, option_case}
-use Rattle.wac_collection.specs.Named.{NoNameTwice}
-use Rattle.wac_collection.specs.Core.{CoreItem, no_item}
-use Rattle.wac_collection.specs.declared.core_types.CoreExtern.{CoreExtern}
-use Rattle.wac_collection.specs.declared.core_types.CoreExtern.TheVariants as core
-use Rattle.wac_collection.specs.declared.core_types.ModuleType.{ModuleType}
+use Rattle.wac_shapes.specs.Name.{Name, find_name, option_case}
+use Rattle.wac_shapes.specs.Named.{NoNameTwice}
+use Rattle.wac_shapes.specs.Core.{CoreItem, no_item}
+use Rattle.wac_shapes.specs.declared.core_types.CoreExtern.{CoreExtern}
+use Rattle.wac_shapes.specs.declared.core_types.CoreExtern.TheVariants as core
+use Rattle.wac_shapes.specs.declared.core_types.ModuleType.{ModuleType}
 use Rattle.wac_collection.specs.Tree.{TypeTree, module_of}
 use Rattle.wac_collection.specs.Held.{core_item, core_under, core_imports, module_tree}
 use Rattle.wac_types.specs.Subtype.{Sub, IsCoreSubtype}
 use Rattle.wac_types.specs.Compare.{OffersCore, OffersModules}
 use Rattle.wac_types.proofs.Below.{OffersCoreBelow, OffersModulesBelow}
-use Rattle.wac_collection.proofs.Names.{find_name-at, find_position, same_name-refl}
+use Rattle.wac_shapes.proofs.Names.{find_name-at, find_position, same_name-refl}
 use Rattle.wac_types.proofs.Agreeing.{same_some}
 
 core_there : (e : CoreExtern) → core_item e ≢ no_item

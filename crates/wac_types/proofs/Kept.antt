@@ -1,23 +1,24 @@
 -- A collection that grows keeps the trees of what it held.
 use Rattle.std.proofs.Common.{ℕ, zero, suc, Bool, true, false, not, cond, List, [], ◌∷◌, ◌++◌, map, filter, ◌≡◌, ◌<◌, ◌≤◌, ◌+◌, ◌&&◌, ◌==◌, is_some, is_none, length, refl, ap, sym, ◌∙◌, Option, Some, None, arith, nat_lt, slice_get, length-append}
 use Rattle.std.specs.List.{AllByRecursion}
-use Rattle.wac_collection.specs.Name.{Name, same_name, find_name, option_case, first_some}
+use Rattle.wac_shapes.specs.Name.{Name, same_name, find_name, option_case, first_some}
 use Rattle.wac_collection.specs.declared.collection.Held.{Held}
-use Rattle.wac_collection.specs.declared.component.Resource.{Resource}
-use Rattle.wac_collection.specs.declared.component.ResourceAlias.{ResourceAlias}
-use Rattle.wac_collection.specs.declared.component.ResourceId.{ResourceId}
-use Rattle.wac_collection.specs.declared.component.UsedType.{UsedType}
-use Rattle.wac_collection.specs.declared.component.FuncType.{FuncType}
-use Rattle.wac_collection.specs.declared.component.DefinedType.{DefinedType}
-use Rattle.wac_collection.specs.declared.component.Interface.{Interface}
-use Rattle.wac_collection.specs.declared.component.World.{World}
-use Rattle.wac_collection.specs.declared.core_types.ModuleType.{ModuleType}
-use Rattle.wac_collection.specs.declared.component.ValueType.TheVariants as val
-use Rattle.wac_collection.specs.declared.component.«Type».{«Type» as AnyType}
-use Rattle.wac_collection.specs.declared.component.«Type».TheVariants as ty
-use Rattle.wac_collection.specs.declared.component.ItemKind.{ItemKind}
-use Rattle.wac_collection.specs.declared.component.ItemKind.TheVariants as kind
-use Rattle.wac_collection.specs.Collection.{Collection, size, func_values, defined_values, interface_mentions, world_mentions, used_types, kind_type, kind_types, alias_types, IsWellFormed, IsBefore, AreBefore, AddedBefore, holds_type, item_of, with_resource, with_func, with_defined, with_interface, with_world, with_module}
+use Rattle.wac_shapes.specs.declared.component.Resource.{Resource}
+use Rattle.wac_shapes.specs.declared.component.ResourceAlias.{ResourceAlias}
+use Rattle.wac_shapes.specs.declared.component.ResourceId.{ResourceId}
+use Rattle.wac_shapes.specs.declared.component.UsedType.{UsedType}
+use Rattle.wac_shapes.specs.declared.component.FuncType.{FuncType}
+use Rattle.wac_shapes.specs.declared.component.DefinedType.{DefinedType}
+use Rattle.wac_shapes.specs.declared.component.Interface.{Interface}
+use Rattle.wac_shapes.specs.declared.component.World.{World}
+use Rattle.wac_shapes.specs.declared.core_types.ModuleType.{ModuleType}
+use Rattle.wac_shapes.specs.declared.component.ValueType.TheVariants as val
+use Rattle.wac_shapes.specs.declared.component.«Type».{«Type» as AnyType}
+use Rattle.wac_shapes.specs.declared.component.«Type».TheVariants as ty
+use Rattle.wac_shapes.specs.declared.component.ItemKind.{ItemKind}
+use Rattle.wac_shapes.specs.declared.component.ItemKind.TheVariants as kind
+use Rattle.wac_collection.specs.Collection.{Collection, size, func_values, defined_values, interface_mentions, world_mentions, used_types, kind_types, alias_types, IsWellFormed, IsBefore, AreBefore, AddedBefore, holds_type, item_of, with_resource, with_func, with_defined, with_interface, with_world, with_module}
+use Rattle.wac_shapes.specs.Kinds.{kind_type}
 use Rattle.wac_collection.specs.Tree.{Side, imported, exported, Place, Leaf, named, further_out, TypeTree, absent, own, borrow, resource, instance, component}
 use Rattle.wac_collection.specs.Held.{Naming, Names, Unfolding, items_under, item_tree, of_held, step, unfolded_to, unfolded, source_of, resolved, resolved_in}
 use Rattle.wac_collection.specs.Bound.{Bindings, by_place, held_tree, lists_own, own_name, is_alias, bound_by, bound_in_order, first_bound, lists_type, binds_here, is_here}

@@ -1,7 +1,7 @@
 -- Subtyping is reflexive and transitive.
 use Rattle.std.proofs.Common.{ℕ, ◌≡◌, ◌≢◌, refl, sym, ◌∙◌, subst, Option, Some, None, arith}
-use Rattle.wac_collection.specs.Name.{Name}
-use Rattle.wac_collection.specs.Core.{CoreItem, no_item, core_function, core_table, core_memory, core_global, core_tag}
+use Rattle.wac_shapes.specs.Name.{Name}
+use Rattle.wac_shapes.specs.Core.{CoreItem, no_item, core_function, core_table, core_memory, core_global, core_tag}
 use Rattle.wac_collection.specs.Tree.{TypeTree, absent, instance, component, module_of, type_equal, instance_item, component_item, module_item}
 use Rattle.wac_types.specs.Subtype.{Sub, IsPlain, IsCoreSubtype, IsMaximumWithin}
 use Rattle.wac_types.proofs.Values.{plain_sub}

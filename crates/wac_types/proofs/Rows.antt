@@ -1,26 +1,26 @@
 -- Worked examples of subtyping, each decided by computing.
 use Rattle.std.specs.Prelude.{ℕ, ◌≡◌, ◌≢◌, Bool, true, false, if◌then◌else◌, List, [], ◌∷◌, Option, Some, None, refl}
 use Rattle.std.proofs.Common.{arith}
-use Rattle.wac_collection.specs.Name.{Name, same_name, option_case}
-use Rattle.wac_collection.specs.Core.{CoreItem, no_item, core_memory}
+use Rattle.wac_shapes.specs.Name.{Name, same_name, option_case}
+use Rattle.wac_shapes.specs.Core.{CoreItem, no_item, core_memory}
 use Rattle.wac_collection.specs.Tree.{TypeTree, absent, primitive, own, function, function_item}
 use Rattle.wac_collection.specs.Held.{part_at, core_item}
 use Rattle.wac_collection.specs.Collection.{Collection}
 use Rattle.wac_collection.specs.declared.collection.Held.{Held}
-use Rattle.wac_collection.specs.declared.component.PrimitiveType.TheVariants as prim
-use Rattle.wac_collection.specs.declared.component.Resource.{Resource}
-use Rattle.wac_collection.specs.declared.component.ResourceAlias.{ResourceAlias}
-use Rattle.wac_collection.specs.declared.component.FuncType.{FuncType}
-use Rattle.wac_collection.specs.declared.component.DefinedType.{DefinedType}
-use Rattle.wac_collection.specs.declared.component.DefinedType.TheVariants as def
-use Rattle.wac_collection.specs.declared.component.Interface.{Interface}
-use Rattle.wac_collection.specs.declared.component.ItemKind.{ItemKind}
-use Rattle.wac_collection.specs.declared.component.ItemKind.TheVariants as kind
-use Rattle.wac_collection.specs.declared.component.ValueType.TheVariants as val
-use Rattle.wac_collection.specs.declared.component.«Type».TheVariants as ty
-use Rattle.wac_collection.specs.declared.core_types.ModuleType.{ModuleType}
-use Rattle.wac_collection.specs.declared.core_types.CoreExtern.{CoreExtern}
-use Rattle.wac_collection.specs.declared.core_types.CoreExtern.TheVariants as core
+use Rattle.wac_shapes.specs.declared.component.PrimitiveType.TheVariants as prim
+use Rattle.wac_shapes.specs.declared.component.Resource.{Resource}
+use Rattle.wac_shapes.specs.declared.component.ResourceAlias.{ResourceAlias}
+use Rattle.wac_shapes.specs.declared.component.FuncType.{FuncType}
+use Rattle.wac_shapes.specs.declared.component.DefinedType.{DefinedType}
+use Rattle.wac_shapes.specs.declared.component.DefinedType.TheVariants as def
+use Rattle.wac_shapes.specs.declared.component.Interface.{Interface}
+use Rattle.wac_shapes.specs.declared.component.ItemKind.{ItemKind}
+use Rattle.wac_shapes.specs.declared.component.ItemKind.TheVariants as kind
+use Rattle.wac_shapes.specs.declared.component.ValueType.TheVariants as val
+use Rattle.wac_shapes.specs.declared.component.«Type».TheVariants as ty
+use Rattle.wac_shapes.specs.declared.core_types.ModuleType.{ModuleType}
+use Rattle.wac_shapes.specs.declared.core_types.CoreExtern.{CoreExtern}
+use Rattle.wac_shapes.specs.declared.core_types.CoreExtern.TheVariants as core
 use Rattle.wac_types.specs.Subtype.{Sub, IsCoreSubtype, type_tree}
 use Rattle.wac_types.proofs.Values.{plain_sub}
 use Rattle.wac_types.proofs.Relation.{sub_refl}

@@ -2,29 +2,30 @@
 use Rattle.std.proofs.Common.{ℕ, suc, not, Bool, true, false, cond, List, [], ◌∷◌, ◌≡◌, ◌≢◌, ◌≤◌, ◌+◌, length, refl, ap, sym, ◌∙◌, subst, Option, Some, None, arith, slice_get, inl, inr, below_more}
 use Rattle.std.proofs.lemmas.Bool.{cases_Bool}
 use Rattle.std.specs.List.{AllByRecursion}
-use Rattle.wac_collection.specs.Name.{Name, same_name, find_name}
-use Rattle.wac_collection.specs.Named.{NoNameTwice}
+use Rattle.wac_shapes.specs.Name.{Name, same_name, find_name}
+use Rattle.wac_shapes.specs.Named.{NoNameTwice}
 use Rattle.wac_types.specs.declared.checker.Question.{Question}
 use Rattle.wac_collection.specs.declared.collection.Held.{Held}
-use Rattle.wac_collection.specs.declared.component.World.{World}
-use Rattle.wac_collection.specs.declared.component.FuncType.{FuncType}
-use Rattle.wac_collection.specs.declared.component.FuncTypeId.{FuncTypeId}
-use Rattle.wac_collection.specs.declared.component.InterfaceId.{InterfaceId}
-use Rattle.wac_collection.specs.declared.component.WorldId.{WorldId}
-use Rattle.wac_collection.specs.declared.component.ModuleTypeId.{ModuleTypeId}
-use Rattle.wac_collection.specs.declared.component.ValueType.{ValueType}
-use Rattle.wac_collection.specs.declared.component.«Type».{«Type» as AnyType}
-use Rattle.wac_collection.specs.declared.component.«Type».TheVariants as ty
-use Rattle.wac_collection.specs.declared.component.ItemKind.{ItemKind}
-use Rattle.wac_collection.specs.declared.component.ItemKind.TheVariants as kind
-use Rattle.wac_collection.specs.Collection.{Collection, size, kind_type, kind_types, used_types, world_mentions, IsBefore, AreBefore}
+use Rattle.wac_shapes.specs.declared.component.World.{World}
+use Rattle.wac_shapes.specs.declared.component.FuncType.{FuncType}
+use Rattle.wac_shapes.specs.declared.component.FuncTypeId.{FuncTypeId}
+use Rattle.wac_shapes.specs.declared.component.InterfaceId.{InterfaceId}
+use Rattle.wac_shapes.specs.declared.component.WorldId.{WorldId}
+use Rattle.wac_shapes.specs.declared.component.ModuleTypeId.{ModuleTypeId}
+use Rattle.wac_shapes.specs.declared.component.ValueType.{ValueType}
+use Rattle.wac_shapes.specs.declared.component.«Type».{«Type» as AnyType}
+use Rattle.wac_shapes.specs.declared.component.«Type».TheVariants as ty
+use Rattle.wac_shapes.specs.declared.component.ItemKind.{ItemKind}
+use Rattle.wac_shapes.specs.declared.component.ItemKind.TheVariants as kind
+use Rattle.wac_collection.specs.Collection.{Collection, size, kind_types, used_types, world_mentions, IsBefore, AreBefore}
+use Rattle.wac_shapes.specs.Kinds.{kind_type}
 use Rattle.wac_collection.specs.Tree.{TypeTree, absent, instance, component, type_equal, function_item, instance_item, component_item, module_item, value_item}
 use Rattle.wac_collection.specs.Held.{of_held, func_tree, unfolded_to}
 use Rattle.wac_types.specs.Subtype.{Sub, IsPlain, by_name, resource_names, type_tree, kind_tree}
 use Rattle.wac_types.specs.Compare.{value_in, listed_in, world_in, Offers}
 use Rattle.wac_types.proofs.Below.{OffersBelow}
 use Rattle.wac_types.specs.Questions.{Settles, Asks}
-use Rattle.wac_collection.proofs.Names.{find_name-at, find_position}
+use Rattle.wac_shapes.proofs.Names.{find_name-at, find_position}
 use Rattle.wac_types.proofs.Unfolding.{all_left, all_right}
 use Rattle.wac_types.proofs.Values.{plain_sub, plain_same, asks_now, asks_iff, asks_of, asks_then}
 use Rattle.wac_types.proofs.Agreeing.{kind_among, same_some}

@@ -6,12 +6,12 @@ use Rattle.std.proofs.lemmas.Map.Made.{length-le_from_is_member}
 use Rattle.indexmap.proofs.CallerLemmas.{Contains-list_any}
 use Rattle.wac_types.specs.contracts.checker.QuestionPartialEq.TheImpl as QuestionEq
 use Rattle.wac_types.specs.declared.checker.Question.{Question}
-use Rattle.wac_collection.specs.declared.component.PrimitiveType.{PrimitiveType}
-use Rattle.wac_collection.specs.declared.component.PrimitiveType.TheVariants as prim
-use Rattle.wac_collection.specs.declared.component.ValueType.{ValueType}
-use Rattle.wac_collection.specs.declared.component.ValueType.TheVariants as val
-use Rattle.wac_collection.specs.declared.component.«Type».{«Type» as AnyType}
-use Rattle.wac_collection.specs.declared.component.«Type».TheVariants as ty
+use Rattle.wac_shapes.specs.declared.component.PrimitiveType.{PrimitiveType}
+use Rattle.wac_shapes.specs.declared.component.PrimitiveType.TheVariants as prim
+use Rattle.wac_shapes.specs.declared.component.ValueType.{ValueType}
+use Rattle.wac_shapes.specs.declared.component.ValueType.TheVariants as val
+use Rattle.wac_shapes.specs.declared.component.«Type».{«Type» as AnyType}
+use Rattle.wac_shapes.specs.declared.component.«Type».TheVariants as ty
 use Rattle.wac_collection.specs.Collection.{Collection, holds_type}
 use Rattle.wac_types.specs.Questions.{first_of_pair, second_of_pair, IsHeldQuestion}
 use Rattle.wac_types.proofs.Asking.{all_at}

@@ -1,12 +1,12 @@
 -- What resources are called where it counts what binds each: something inside an item, or an import that is known by the number of its class.
 use Rattle.std.specs.Prelude.{ℕ, false, List, [], ◌∷◌, Option, Some, None}
-use Rattle.wac_collection.specs.Name.{Name, option_case, first_some}
+use Rattle.wac_shapes.specs.Name.{Name, option_case, first_some}
 use Rattle.wac_collection.specs.Tree.{exported, Place, named, Leaf, further_out}
 use Rattle.wac_collection.specs.Collection.{Collection, item_at}
 use Rattle.wac_collection.specs.Held.{Naming, Names}
 use Rattle.wac_collection.specs.Bound.{own_name, bound_by_imports, bound_in_world}
-use Rattle.wac_collection.specs.declared.component.ResourceId.{ResourceId}
-use Rattle.wac_collection.specs.declared.component.Interface.{Interface}
+use Rattle.wac_shapes.specs.declared.component.ResourceId.{ResourceId}
+use Rattle.wac_shapes.specs.declared.component.Interface.{Interface}
 
 -- what a resource is called, with its own name
 pub data Called : Type 0 where

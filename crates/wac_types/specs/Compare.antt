@@ -1,21 +1,21 @@
 -- What the steps of a comparison answer: types part by part, listed items name by name.
 use Rattle.std.specs.Prelude.{ℕ, suc, ◌≢◌, List, map, Option, Some, None}
-use Rattle.wac_collection.specs.Name.{Name, option_case}
-use Rattle.wac_collection.specs.Core.{CoreItem, no_item, core_table, core_memory}
+use Rattle.wac_shapes.specs.Name.{Name, option_case}
+use Rattle.wac_shapes.specs.Core.{CoreItem, no_item, core_table, core_memory}
 use Rattle.wac_collection.specs.Tree.{TypeTree, absent, component}
 use Rattle.wac_collection.specs.Collection.{Collection, item_at}
 use Rattle.wac_collection.specs.Held.{option_tree, func_tree, defined_tree, items_under, core_under, core_imports}
 use Rattle.wac_types.specs.Subtype.{Sub, IsCoreSubtype, type_tree, kind_tree}
 use Rattle.wac_collection.specs.declared.collection.Held.{Held}
-use Rattle.wac_collection.specs.declared.core_types.CoreExtern.{CoreExtern}
-use Rattle.wac_collection.specs.declared.component.FuncType.{FuncType}
-use Rattle.wac_collection.specs.declared.component.DefinedType.{DefinedType}
-use Rattle.wac_collection.specs.declared.component.DefinedType.TheVariants as def
-use Rattle.wac_collection.specs.declared.component.World.{World}
-use Rattle.wac_collection.specs.declared.component.ValueType.{ValueType}
-use Rattle.wac_collection.specs.declared.component.ValueType.TheVariants as val
-use Rattle.wac_collection.specs.declared.component.«Type».TheVariants as ty
-use Rattle.wac_collection.specs.declared.component.ItemKind.{ItemKind}
+use Rattle.wac_shapes.specs.declared.core_types.CoreExtern.{CoreExtern}
+use Rattle.wac_shapes.specs.declared.component.FuncType.{FuncType}
+use Rattle.wac_shapes.specs.declared.component.DefinedType.{DefinedType}
+use Rattle.wac_shapes.specs.declared.component.DefinedType.TheVariants as def
+use Rattle.wac_shapes.specs.declared.component.World.{World}
+use Rattle.wac_shapes.specs.declared.component.ValueType.{ValueType}
+use Rattle.wac_shapes.specs.declared.component.ValueType.TheVariants as val
+use Rattle.wac_shapes.specs.declared.component.«Type».TheVariants as ty
+use Rattle.wac_shapes.specs.declared.component.ItemKind.{ItemKind}
 
 -- the trees of the parts of an item
 abbrev pub value_in : Collection → ValueType → TypeTree Name

@@ -1,14 +1,14 @@
 -- Subtyping, of types without ids, by its rules.
 use Rattle.std.specs.Prelude.{ℕ, ◌≡◌, ◌≢◌, ◌≤◌, false, Option, Some, None, slice_get}
-use Rattle.wac_collection.specs.Name.{Name}
-use Rattle.wac_collection.specs.Core.{CoreItem, no_item, core_table, core_memory}
+use Rattle.wac_shapes.specs.Name.{Name}
+use Rattle.wac_shapes.specs.Core.{CoreItem, no_item, core_table, core_memory}
 use Rattle.wac_collection.specs.Tree.{TypeTree, absent, instance, component, module_of, type_equal, instance_item, component_item, module_item}
 use Rattle.wac_collection.specs.Collection.{Collection}
 use Rattle.wac_collection.specs.Held.{Naming, Names, unfolded, item_tree}
 use Rattle.wac_collection.specs.declared.collection.Held.{Held}
-use Rattle.wac_collection.specs.declared.component.Resource.{Resource}
-use Rattle.wac_collection.specs.declared.component.«Type».{«Type» as AnyType}
-use Rattle.wac_collection.specs.declared.component.ItemKind.{ItemKind}
+use Rattle.wac_shapes.specs.declared.component.Resource.{Resource}
+use Rattle.wac_shapes.specs.declared.component.«Type».{«Type» as AnyType}
+use Rattle.wac_shapes.specs.declared.component.ItemKind.{ItemKind}
 
 -- a greatest size of the first that the second allows
 abbrev pub IsMaximumWithin : Option ℕ → Option ℕ → Type 0

@@ -7,15 +7,15 @@ use Rattle.wac_types.specs.Subtype.{type_tree}
 use Rattle.wac_types.specs.Compare.{alias_in}
 use Rattle.wac_types.specs.Called.{Called, by_binding}
 use Rattle.wac_collection.specs.declared.collection.Held.{Held}
-use Rattle.wac_collection.specs.declared.component.Resource.{Resource}
-use Rattle.wac_collection.specs.declared.component.FuncType.{FuncType}
-use Rattle.wac_collection.specs.declared.component.DefinedType.{DefinedType}
-use Rattle.wac_collection.specs.declared.component.Interface.{Interface}
-use Rattle.wac_collection.specs.declared.component.World.{World}
-use Rattle.wac_collection.specs.declared.core_types.ModuleType.{ModuleType}
-use Rattle.wac_collection.specs.declared.component.ValueType.{ValueType}
-use Rattle.wac_collection.specs.declared.component.«Type».{«Type» as AnyType}
-use Rattle.wac_collection.specs.declared.component.«Type».TheVariants as ty
+use Rattle.wac_shapes.specs.declared.component.Resource.{Resource}
+use Rattle.wac_shapes.specs.declared.component.FuncType.{FuncType}
+use Rattle.wac_shapes.specs.declared.component.DefinedType.{DefinedType}
+use Rattle.wac_shapes.specs.declared.component.Interface.{Interface}
+use Rattle.wac_shapes.specs.declared.component.World.{World}
+use Rattle.wac_shapes.specs.declared.core_types.ModuleType.{ModuleType}
+use Rattle.wac_shapes.specs.declared.component.ValueType.{ValueType}
+use Rattle.wac_shapes.specs.declared.component.«Type».{«Type» as AnyType}
+use Rattle.wac_shapes.specs.declared.component.«Type».TheVariants as ty
 
 -- an unfolding deeper than there are items is no other one
 abbrev pub IsDeepEnough : {L : Type 0} → Naming L → Collection → Type 0

@@ -1,13 +1,14 @@
 //! Subtyping between items of two collections.
 ghost use Rattle.std.specs.Prelude.{◌≡◌, ◌≢◌, ◌≤◌, ◌+◌, ◌↔◌, [], ◌∷◌, length, slice_get, map, not, true, None, Err, EachIndex, IfSome, IfOk, IsTrue};
 ghost use Rattle.std.specs.Option.{option_copied};
-ghost use Rattle.wac_collection.specs.Name.{find_name};
-ghost use Rattle.wac_collection.specs.Collection.{kind_type, kind_types, value_types, and_maybe, seconds, case_values, func_mentions, defined_mentions, world_mentions, holds_type};
+ghost use Rattle.wac_shapes.specs.Name.{find_name};
+ghost use Rattle.wac_collection.specs.Collection.{kind_types, value_types, and_maybe, seconds, case_values, func_mentions, defined_mentions, world_mentions, holds_type};
+ghost use Rattle.wac_shapes.specs.Kinds.{kind_type};
 ghost use Rattle.wac_collection.specs.Held.{core_item, resolved};
 ghost use Rattle.wac_types.specs.Subtype.{Sub, IsSubtype, IsCoreSubtype, IsMaximumWithin, type_tree, kind_tree, resource_names};
 ghost use Rattle.wac_types.specs.Compare.{definition_in, value_in, optional_in, func_in, defined_in, world_in, entry_in, case_in, aliased, alias_in, IsTableSubtype, IsMemorySubtype, Offers, OffersCore, OffersModules};
 ghost use Rattle.wac_types.specs.Questions.{in_order, type_rank, Settles, Asks, Refutes, Puts};
-ghost use Rattle.wac_collection.specs.declared.component.«Type».TheVariants as ty;
+ghost use Rattle.wac_shapes.specs.declared.component.«Type».TheVariants as ty;
 
 use indexmap::IndexSet;
 use thiserror::Error;

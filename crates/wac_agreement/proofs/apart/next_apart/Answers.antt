@@ -1,5 +1,5 @@
 use Rattle.std.proofs.Common.{◌≡◌, sym, ap, []}
-use Rattle.wac_collection.specs.Name.{option_case}
+use Rattle.wac_shapes.specs.Name.{option_case}
 use Rattle.wac_collection.specs.Collection.{interface_exports}
 use Rattle.wac_entries.specs.NodeViews.{item_view, listed}
 use Rattle.wac_agreement.proofs.Comparing.{open_sorted}

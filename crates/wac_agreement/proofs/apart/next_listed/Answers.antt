@@ -1,8 +1,8 @@
 use Rattle.std.proofs.Common.{◌≡◌, sym, subst, Some, take}
 use Rattle.std.specs.Prelude.{slice_get}
-use Rattle.wac_collection.specs.Name.{Name}
-use Rattle.wac_collection.specs.declared.component.ItemKind.{ItemKind}
-use Rattle.wac_collection.proofs.Loops.{entry_at}
+use Rattle.wac_shapes.specs.Name.{Name}
+use Rattle.wac_shapes.specs.declared.component.ItemKind.{ItemKind}
+use Rattle.wac_shapes.proofs.Loops.{entry_at}
 use Rattle.wac_entries.specs.NodeViews.{item_view, listed}
 use Rattle.wac_agreement.specs.Shapes.{AgreeUnder, AreApartUnder, IsNextListed}
 use Rattle.wac_agreement.proofs.Leading.{all_before, split_at, match_some, match_none, entry_there}

@@ -1,6 +1,6 @@
 use Rattle.std.proofs.Common.{◌∙◌, sym, ap, subst, List, [], ◌∷◌, ◌++◌, map, string_bytes, arith}
 use Rattle.std.proofs.lemmas.List.{append-nil}
-use Rattle.wac_collection.specs.Name.{Name}
+use Rattle.wac_shapes.specs.Name.{Name}
 use Rattle.wac_entries.specs.Nodes.{item_tree, tree_at}
 use Rattle.wac_entries.specs.NodeViews.{item_view}
 use Rattle.wac_entries.specs.Agreement.{LeadsApart}

@@ -1,5 +1,5 @@
 use Rattle.std.proofs.Common.{◌<◌, List, ◌++◌, length, map, string_bytes}
-use Rattle.wac_collection.specs.Name.{Name}
+use Rattle.wac_shapes.specs.Name.{Name}
 use Rattle.wac_entries.specs.Nodes.{item_tree, tree_at, type_of}
 use Rattle.wac_entries.specs.NodeViews.{item_view}
 use Rattle.wac_entries.specs.Agreement.{LeadsApart}

@@ -8,7 +8,7 @@ use Rattle.wac_entries.specs.NodeViews.{item_view}
 use Rattle.wac_entries.specs.Nodes.{item_tree, tree_at}
 use Rattle.wac_agreement.specs.Shapes.{IsOfKind}
 use Rattle.wac_entries.specs.declared.nodes.Item.TheVariants as item
-use Rattle.wac_collection.specs.declared.component.ItemKind.{ItemKind}
+use Rattle.wac_shapes.specs.declared.component.ItemKind.{ItemKind}
 use Rattle.wac_agreement.proofs.Leading.{match_some, match_none}
 use Rattle.wac_agreement.proofs.Meeting.{mapped_length}
 use Rattle.wac_agreement.proofs.Agreeing.{members_agree}

@@ -5,8 +5,9 @@ use Rattle.std.proofs.Math.ListN.{length-set}
 use Rattle.std.proofs.lemmas.List.{length-map}
 use Rattle.std.proofs.lemmas.Option.{slice_get-get_or, slice_get_read, slice_get_within}
 use Rattle.wac_types.proofs.Agreeing.{get_map}
-use Rattle.wac_collection.specs.Collection.{holds_type, kind_type}
-use Rattle.wac_collection.specs.declared.component.ItemKind.{ItemKind}
+use Rattle.wac_collection.specs.Collection.{holds_type}
+use Rattle.wac_shapes.specs.Kinds.{kind_type}
+use Rattle.wac_shapes.specs.declared.component.ItemKind.{ItemKind}
 use Rattle.wac_entries.specs.declared.nodes.Item.{Item}
 use Rattle.wac_entries.specs.declared.nodes.Item.TheVariants as item
 use Rattle.wac_agreement.specs.Circles.{Leads}

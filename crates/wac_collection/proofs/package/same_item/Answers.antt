@@ -1,11 +1,11 @@
 use Rattle.std.proofs.Common.{◌≡◌, ◌∙◌, refl, rules}
-use Rattle.wac_collection.specs.contracts.component.ValueTypePartialEq.TheImpl as ValueEq
-use Rattle.wac_collection.specs.contracts.component.TypePartialEq.TheImpl as TypeEq
-use Rattle.wac_collection.specs.contracts.component.ItemKindPartialEq.TheImpl as KindEq
-use Rattle.wac_collection.specs.declared.component.ValueType.{ValueType}
-use Rattle.wac_collection.specs.declared.component.«Type».{«Type» as AnyType}
-use Rattle.wac_collection.specs.declared.component.ItemKind.{ItemKind}
-use Rattle.wac_collection.specs.declared.component.ItemKind.TheVariants as kind
+use Rattle.wac_shapes.specs.contracts.component.ValueTypePartialEq.TheImpl as ValueEq
+use Rattle.wac_shapes.specs.contracts.component.TypePartialEq.TheImpl as TypeEq
+use Rattle.wac_shapes.specs.contracts.component.ItemKindPartialEq.TheImpl as KindEq
+use Rattle.wac_shapes.specs.declared.component.ValueType.{ValueType}
+use Rattle.wac_shapes.specs.declared.component.«Type».{«Type» as AnyType}
+use Rattle.wac_shapes.specs.declared.component.ItemKind.{ItemKind}
+use Rattle.wac_shapes.specs.declared.component.ItemKind.TheVariants as kind
 use Rattle.wac_collection.specs.Uses.{same_value, same_type, same_item}
 use Rattle.wac_collection.proofs.package.same_item.Goals as goal
 

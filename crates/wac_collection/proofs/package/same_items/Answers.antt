@@ -1,7 +1,7 @@
 use Rattle.std.proofs.Common.{◌≡◌, Some, sym, ◌∙◌, arith, refl, below_more}
 use Rattle.wac_collection.proofs.Ids.{same_item-true}
-use Rattle.wac_collection.proofs.Names.{ne-false}
-use Rattle.wac_collection.proofs.Loops.{same_lists, entry_at}
+use Rattle.wac_shapes.proofs.Names.{ne-false}
+use Rattle.wac_shapes.proofs.Loops.{same_lists, entry_at}
 use Rattle.wac_collection.proofs.package.same_items.Goals as goal
 
 pub loop-i-preserved : goal.loop-i-preserved

@@ -1,6 +1,6 @@
 use Rattle.std.proofs.Common.{◌∙◌, ap}
-use Rattle.wac_collection.specs.Name.{same_name}
-use Rattle.wac_collection.proofs.Names.{same_name-bytes_eq}
+use Rattle.wac_shapes.specs.Name.{same_name}
+use Rattle.wac_shapes.proofs.Names.{same_name-bytes_eq}
 use Rattle.wac_collection.proofs.uses.is_named.Goals as goal
 
 pub returns : goal.returns

@@ -1,5 +1,5 @@
 use Rattle.std.proofs.Common.{◌≡◌, take}
-use Rattle.wac_collection.specs.declared.component.ResourceId.{ResourceId}
+use Rattle.wac_shapes.specs.declared.component.ResourceId.{ResourceId}
 use Rattle.wac_entries.specs.Bindings.{first_from}
 use Rattle.wac_entries.specs.Places.{find_resource}
 use Rattle.wac_entries.proofs.bindings.first_classes.Given as goal

@@ -1,6 +1,6 @@
 use Rattle.std.proofs.Common.{◌≡◌, ℕ, List, [], length, slice_get, Some}
 use Rattle.wac_collection.specs.Tree.{Leaf}
-use Rattle.wac_collection.specs.declared.component.ResourceId.{ResourceId}
+use Rattle.wac_shapes.specs.declared.component.ResourceId.{ResourceId}
 use Rattle.wac_entries.proofs.bindings.unbound.Given as goal
 
 abbrev pub invariant-loop : goal.invariant-loop

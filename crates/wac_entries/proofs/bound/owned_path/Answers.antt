@@ -1,5 +1,5 @@
 use Rattle.std.proofs.Common.{add-one}
-use Rattle.wac_collection.proofs.Names.{element_at}
+use Rattle.wac_shapes.proofs.Names.{element_at}
 use Rattle.wac_entries.proofs.Places.{path-more}
 use Rattle.wac_entries.proofs.bound.owned_path.Goals as goal
 

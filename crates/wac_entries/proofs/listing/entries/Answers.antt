@@ -1,5 +1,5 @@
 use Rattle.std.proofs.Common.{◌≡◌, ℕ, ◌-◌, ◌<◌, length, map, drop, false, rules, subst, arith}
-use Rattle.wac_collection.specs.Name.{Name}
+use Rattle.wac_shapes.specs.Name.{Name}
 use Rattle.wac_collection.specs.Tree.{TypeTree, absent}
 use Rattle.wac_types.specs.Called.{Called}
 use Rattle.wac_collection.specs.Held.{items_under, item_tree}

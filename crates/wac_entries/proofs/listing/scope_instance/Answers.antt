@@ -1,6 +1,6 @@
 use Rattle.std.proofs.Common.{[], ap, sym, ◌∙◌}
 use Rattle.wac_collection.specs.Tree.{instance}
-use Rattle.wac_collection.specs.Name.{option_case}
+use Rattle.wac_shapes.specs.Name.{option_case}
 use Rattle.wac_entries.specs.declared.scopes.Opener.{Opener}
 use Rattle.wac_entries.specs.declared.scopes.Opener.TheVariants as opener
 use Rattle.wac_entries.specs.Scopes.{scope_tree}

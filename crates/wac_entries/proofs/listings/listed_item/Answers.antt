@@ -1,7 +1,8 @@
 use Rattle.std.proofs.Common.{rules, ◌≡◌, ◌<◌, ◌+◌, true, length, sym, ap, ◌∙◌, subst, arith}
-use Rattle.wac_collection.specs.Collection.{holds_type, kind_type, world_imports, world_exports}
-use Rattle.wac_collection.specs.declared.component.«Type».{«Type» as AnyType}
-use Rattle.wac_collection.specs.declared.component.«Type».TheVariants as ty
+use Rattle.wac_collection.specs.Collection.{holds_type, world_imports, world_exports}
+use Rattle.wac_shapes.specs.Kinds.{kind_type}
+use Rattle.wac_shapes.specs.declared.component.«Type».{«Type» as AnyType}
+use Rattle.wac_shapes.specs.declared.component.«Type».TheVariants as ty
 use Rattle.wac_entries.specs.declared.calls.Calls.{Calls}
 use Rattle.wac_entries.specs.declared.coder.Source.{Source}
 use Rattle.wac_entries.specs.declared.scopes.Opener.TheVariants as opener

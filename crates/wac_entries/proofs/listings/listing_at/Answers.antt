@@ -1,5 +1,5 @@
 use Rattle.std.proofs.Common.{◌≡◌, true, length, slice_get, [], Some, sym, ap, ◌∙◌, subst}
-use Rattle.wac_collection.specs.Name.{option_case}
+use Rattle.wac_shapes.specs.Name.{option_case}
 use Rattle.wac_collection.specs.Collection.{holds_type}
 use Rattle.wac_entries.specs.declared.calls.Calls.{Calls}
 use Rattle.wac_entries.specs.declared.coder.Source.{Source}

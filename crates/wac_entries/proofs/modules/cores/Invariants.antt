@@ -1,7 +1,7 @@
 use Rattle.std.proofs.Common.{◌≡◌, ◌≤◌, length, drop}
-use Rattle.wac_collection.specs.Name.{Name}
+use Rattle.wac_shapes.specs.Name.{Name}
 use Rattle.wac_collection.specs.Held as held
-use Rattle.wac_collection.specs.Core.{no_item}
+use Rattle.wac_shapes.specs.Core.{no_item}
 use Rattle.wac_entries.specs.NodeViews.{core_view}
 use Rattle.wac_entries.proofs.CodingModules.{look}
 use Rattle.wac_entries.proofs.modules.cores.Given as goal

@@ -1,5 +1,5 @@
 use Rattle.std.proofs.Common.{◌≡◌, ℕ, ◌-◌, ◌<◌, ◌≤◌, length, drop, subst, arith}
-use Rattle.wac_collection.specs.Name.{Name}
+use Rattle.wac_shapes.specs.Name.{Name}
 use Rattle.wac_collection.specs.Held.{core_imports}
 use Rattle.wac_entries.proofs.CodingModules.{name_too, look, nothing_under, cores_under, cores_full, full_insert, imports_next, imports_skip, imports_listed}
 use Rattle.wac_entries.proofs.modules.imports.Goals as goal

@@ -1,6 +1,6 @@
 use Rattle.std.proofs.Common.{◌≡◌, ◌≤◌, length, drop}
 use Rattle.std.specs.List.{AllByRecursion}
-use Rattle.wac_collection.specs.Name.{Name}
+use Rattle.wac_shapes.specs.Name.{Name}
 use Rattle.wac_collection.specs.Held.{core_imports}
 use Rattle.wac_entries.proofs.CodingModules.{look, nothing_under, cores_under, IsFull}
 use Rattle.wac_entries.proofs.modules.imports.Given as goal

@@ -1,6 +1,6 @@
 use Rattle.std.proofs.Common.{◌≡◌, ◌<◌, length, Some, None, sym, ap, ◌∙◌, subst, arith}
 use Rattle.wac_types.specs.Called.{bound_at}
-use Rattle.wac_collection.specs.declared.component.ResourceId.{ResourceId}
+use Rattle.wac_shapes.specs.declared.component.ResourceId.{ResourceId}
 use Rattle.wac_entries.specs.CalledViews.{side_view, path_view}
 use Rattle.wac_entries.specs.Classes.{by_names, is_instance}
 use Rattle.wac_entries.specs.Scopes.{binds, called_in, called_in_root}

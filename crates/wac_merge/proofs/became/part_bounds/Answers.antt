@@ -2,7 +2,7 @@ use Rattle.std.proofs.Common.{◌≡◌, suc, ◌+◌, ◌<◌, List, [], ◌∷
 use Rattle.std.proofs.lemmas.List.{length-append}
 use Rattle.std.proofs.lemmas.Option.{slice_get-get_or}
 use Rattle.wac_collection.specs.Tree.{Leaf}
-use Rattle.wac_collection.specs.declared.component.ResourceId.{ResourceId}
+use Rattle.wac_shapes.specs.declared.component.ResourceId.{ResourceId}
 use Rattle.wac_merge.specs.Became.{AreBoundParts}
 use Rattle.wac_merge.proofs.BecameWalks.{bounds-more, no-part}
 use Rattle.wac_merge.proofs.became.part_bounds.Goals as goal

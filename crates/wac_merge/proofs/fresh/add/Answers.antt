@@ -1,7 +1,7 @@
 use Rattle.std.proofs.Common.{◌≡◌, None, sym, subst, ap}
 use Rattle.wac_collection.specs.Collection.{Collection}
-use Rattle.wac_collection.specs.Name.{Name}
-use Rattle.wac_collection.specs.declared.component.Resource.{Resource}
+use Rattle.wac_shapes.specs.Name.{Name}
+use Rattle.wac_shapes.specs.declared.component.Resource.{Resource}
 use Rattle.wac_merge.specs.Became.{IsNew}
 use Rattle.wac_merge.specs.Renaming.{IsExtended}
 use Rattle.wac_merge.proofs.Extending.{extended_resource}

@@ -1,9 +1,9 @@
 use Rattle.std.proofs.Common.{◌≡◌, List, [], ◌∷◌, ◌++◌, take, length, Some, slice_get, refl, sym, subst, arith, add-one}
 use Rattle.std.proofs.lemmas.List.{take_all}
 use Rattle.std.proofs.lemmas.Option.{slice_get_read}
-use Rattle.wac_collection.specs.Name.{Name}
-use Rattle.wac_collection.specs.declared.component.ResourceId.{ResourceId}
-use Rattle.wac_collection.proofs.Names.{take_at}
+use Rattle.wac_shapes.specs.Name.{Name}
+use Rattle.wac_shapes.specs.declared.component.ResourceId.{ResourceId}
+use Rattle.wac_shapes.proofs.Names.{take_at}
 use Rattle.wac_merge.specs.FreshSteps.{AreAllOwn, AreOwn}
 use Rattle.wac_merge.specs.declared.unions.Union.{Union}
 use Rattle.wac_merge.proofs.Extending.{extended_none, extended_twice}

@@ -1,5 +1,5 @@
 use Rattle.std.proofs.Common.{◌≡◌, ℕ, [], length, slice_get, take, Some}
-use Rattle.wac_collection.specs.declared.component.ResourceId.{ResourceId}
+use Rattle.wac_shapes.specs.declared.component.ResourceId.{ResourceId}
 use Rattle.wac_entries.specs.Bindings.{first_in}
 use Rattle.wac_entries.specs.Classes.{Entry, by_names, class_names}
 use Rattle.wac_merge.specs.FreshSteps.{AreWhole, IsWhole}

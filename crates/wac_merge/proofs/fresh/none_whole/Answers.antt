@@ -1,6 +1,6 @@
 use Rattle.std.proofs.Common.{◌≡◌, ◌+◌, List, [], ◌∷◌, ◌++◌, length, Option, None, ap, ◌∙◌, subst, arith}
 use Rattle.std.proofs.lemmas.List.{length-append}
-use Rattle.wac_collection.specs.declared.component.ResourceId.{ResourceId}
+use Rattle.wac_shapes.specs.declared.component.ResourceId.{ResourceId}
 use Rattle.wac_merge.specs.FreshSteps.{IsWhole}
 use Rattle.wac_merge.proofs.FreshAdding.{none-begun, none-push}
 use Rattle.wac_merge.proofs.fresh.none_whole.Goals as goal

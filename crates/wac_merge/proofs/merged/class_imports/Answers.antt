@@ -1,8 +1,8 @@
 use Rattle.std.proofs.Common.{◌≡◌, ℕ, suc, ◌<◌, List, [], ◌∷◌, ◌++◌, Some, IsSome, Err, take, slice_get, get_or, length, refl, sym, ap, ◌∙◌, subst, arith, add-one}
 use Rattle.std.proofs.lemmas.Option.{slice_get_read, slice_get_within, slice_get-get_or}
 use Rattle.wac_collection.specs.Collection.{Collection}
-use Rattle.wac_collection.specs.Name.{Name, find_name}
-use Rattle.wac_collection.specs.declared.component.ItemKind.{ItemKind}
+use Rattle.wac_shapes.specs.Name.{Name, find_name}
+use Rattle.wac_shapes.specs.declared.component.ItemKind.{ItemKind}
 use Rattle.wac_merge.specs.Merge.{import_entries}
 use Rattle.wac_entries.specs.Classes.{Entry}
 use Rattle.wac_merge.specs.MergedClasses.{AreImports, IsClassKind}

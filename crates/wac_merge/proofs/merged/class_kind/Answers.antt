@@ -1,12 +1,12 @@
 use Rattle.std.proofs.Common.{◌≡◌, Option, None, Result, Ok, Err, slice_get, sym, ◌∙◌, subst}
 use Rattle.std.specs.Prelude.{IfOk}
 use Rattle.std.specs.Option.{MatchOption}
-use Rattle.wac_collection.specs.Name.{Name}
-use Rattle.wac_collection.specs.declared.component.InterfaceId.{InterfaceId}
-use Rattle.wac_collection.specs.declared.component.ItemKind.{ItemKind}
-use Rattle.wac_collection.specs.declared.component.ItemKind.TheVariants as kind
-use Rattle.wac_collection.specs.declared.component.ResourceId.{ResourceId}
-use Rattle.wac_collection.specs.declared.component.«Type».TheVariants as ty
+use Rattle.wac_shapes.specs.Name.{Name}
+use Rattle.wac_shapes.specs.declared.component.InterfaceId.{InterfaceId}
+use Rattle.wac_shapes.specs.declared.component.ItemKind.{ItemKind}
+use Rattle.wac_shapes.specs.declared.component.ItemKind.TheVariants as kind
+use Rattle.wac_shapes.specs.declared.component.ResourceId.{ResourceId}
+use Rattle.wac_shapes.specs.declared.component.«Type».TheVariants as ty
 use Rattle.wac_merge.specs.Became.{became, whole_in}
 use Rattle.wac_merge.specs.Writing.{IsGiven, IsWrittenAs}
 use Rattle.wac_merge.proofs.merged.class_kind.Goals as goal

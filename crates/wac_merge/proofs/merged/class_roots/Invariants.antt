@@ -1,6 +1,6 @@
 use Rattle.std.proofs.Common.{◌≡◌, Vec, [], fold, length, map, take}
 use Rattle.std.specs.Global.{Global}
-use Rattle.wac_collection.specs.declared.component.InterfaceId.{InterfaceId}
+use Rattle.wac_shapes.specs.declared.component.InterfaceId.{InterfaceId}
 use Rattle.wac_entries.specs.Classes.{by_names, class_names}
 use Rattle.wac_merge.specs.MergedClasses.{with_root}
 use Rattle.wac_merge.proofs.ClassFolds.{HaveFolded}

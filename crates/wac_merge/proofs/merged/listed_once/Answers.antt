@@ -1,8 +1,8 @@
 use Rattle.std.proofs.Common.{◌≡◌, Some, slice_get, sym, ap, ◌∙◌, subst, inl, inr, arith}
 use Rattle.std.proofs.lemmas.Option.{slice_get_within, slice_get-get_or}
 use Rattle.wac_collection.specs.Collection.{item_at}
-use Rattle.wac_collection.specs.Named.{NoNameTwice}
-use Rattle.wac_collection.specs.declared.component.Interface.{Interface}
+use Rattle.wac_shapes.specs.Named.{NoNameTwice}
+use Rattle.wac_shapes.specs.declared.component.Interface.{Interface}
 use Rattle.wac_merge.specs.declared.unions.Part.{Part}
 use Rattle.wac_agreement.proofs.Comparing.{some_same}
 use Rattle.wac_agreement.proofs.Stepping.{less_cases}

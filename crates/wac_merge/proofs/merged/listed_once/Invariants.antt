@@ -1,7 +1,7 @@
 use Rattle.std.proofs.Common.{◌≡◌, ℕ, ◌<◌, slice_get, Some}
 use Rattle.wac_collection.specs.Collection.{item_at}
-use Rattle.wac_collection.specs.Named.{NoNameTwice}
-use Rattle.wac_collection.specs.declared.component.Interface.{Interface}
+use Rattle.wac_shapes.specs.Named.{NoNameTwice}
+use Rattle.wac_shapes.specs.declared.component.Interface.{Interface}
 use Rattle.wac_merge.specs.declared.unions.Part.{Part}
 use Rattle.wac_merge.proofs.merged.listed_once.Given as goal
 

@@ -1,6 +1,6 @@
 use Rattle.std.proofs.Common.{◌≡◌, ℕ, Option, Some, length, map, slice_get, string_bytes}
 use Rattle.std.specs.Option.{option_map}
-use Rattle.wac_collection.specs.Name.{Name}
+use Rattle.wac_shapes.specs.Name.{Name}
 use Rattle.wac_merge.specs.MergedClasses.{IsUnionId}
 use Rattle.wac_merge.specs.declared.unions.Union.{Union}
 use Rattle.wac_merge.proofs.merged.union_ids.Given as goal

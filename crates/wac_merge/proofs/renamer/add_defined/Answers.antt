@@ -1,5 +1,5 @@
 use Rattle.wac_collection.specs.Collection.{defined_values}
-use Rattle.wac_collection.specs.declared.component.DefinedTypeId.{DefinedTypeId}
+use Rattle.wac_shapes.specs.declared.component.DefinedTypeId.{DefinedTypeId}
 use Rattle.wac_merge.proofs.RenamingLoops.{defined_behind, memory_alone}
 use Rattle.wac_merge.proofs.renamer.add_defined.Goals as goal
 

@@ -1,5 +1,5 @@
 use Rattle.wac_collection.specs.Collection.{func_values}
-use Rattle.wac_collection.specs.declared.component.FuncTypeId.{FuncTypeId}
+use Rattle.wac_shapes.specs.declared.component.FuncTypeId.{FuncTypeId}
 use Rattle.wac_merge.proofs.RenamingLoops.{func_behind, memory_alone}
 use Rattle.wac_merge.proofs.renamer.add_func.Goals as goal
 

@@ -1,5 +1,5 @@
 use Rattle.std.proofs.Common.{◌≡◌, take}
-use Rattle.wac_collection.specs.Named.{given_names}
+use Rattle.wac_shapes.specs.Named.{given_names}
 use Rattle.wac_merge.proofs.renamer.copied.Given as goal
 
 abbrev pub invariant-loop-i : goal.invariant-loop-i

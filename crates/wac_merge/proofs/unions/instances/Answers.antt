@@ -1,8 +1,8 @@
 use Rattle.std.proofs.Common.{◌∙◌, ap, ℕ, get_or}
-use Rattle.wac_collection.specs.declared.component.ItemKind.{ItemKind}
-use Rattle.wac_collection.specs.declared.component.ItemKind.TheVariants as kind
-use Rattle.wac_collection.specs.declared.component.«Type».TheVariants as ty
-use Rattle.wac_collection.proofs.Names.{element_at}
+use Rattle.wac_shapes.specs.declared.component.ItemKind.{ItemKind}
+use Rattle.wac_shapes.specs.declared.component.ItemKind.TheVariants as kind
+use Rattle.wac_shapes.specs.declared.component.«Type».TheVariants as ty
+use Rattle.wac_shapes.proofs.Names.{element_at}
 use Rattle.wac_merge.proofs.UnionPlaces.{instance_next, no_instance_next}
 use Rattle.wac_merge.proofs.unions.instances.Goals as goal
 use Rattle.wac_merge.proofs.unions.instances.Goals.{in-Instance+in_ok-push, in_default}

@@ -1,7 +1,7 @@
 use Rattle.std.proofs.Common.{List, sym, subst, ap, ◌∙◌, Some}
 use Rattle.wac_collection.specs.Collection.{Collection}
-use Rattle.wac_collection.specs.Name.{Name}
-use Rattle.wac_collection.specs.declared.component.UsedType.{UsedType}
+use Rattle.wac_shapes.specs.Name.{Name}
+use Rattle.wac_shapes.specs.declared.component.UsedType.{UsedType}
 use Rattle.wac_merge.specs.Renaming.{IsExtended}
 use Rattle.wac_merge.proofs.Extending.{extended_interface}
 use Rattle.wac_merge.proofs.WritingUnions.{interface-added}

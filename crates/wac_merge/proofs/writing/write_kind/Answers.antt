@@ -1,6 +1,7 @@
 use Rattle.std.proofs.Common.{sym, ap, ◌∙◌}
-use Rattle.wac_collection.specs.Collection.{holds_type, kind_type}
-use Rattle.wac_collection.specs.declared.component.«Type».TheVariants as ty
+use Rattle.wac_collection.specs.Collection.{holds_type}
+use Rattle.wac_shapes.specs.Kinds.{kind_type}
+use Rattle.wac_shapes.specs.declared.component.«Type».TheVariants as ty
 use Rattle.wac_merge.proofs.Extending.{still_holds}
 use Rattle.wac_merge.proofs.writing.write_kind.Goals as goal
 

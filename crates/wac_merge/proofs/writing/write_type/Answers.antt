@@ -1,6 +1,6 @@
 use Rattle.std.proofs.Common.{sym, ap, ◌∙◌}
 use Rattle.wac_collection.specs.Collection.{holds_type}
-use Rattle.wac_collection.specs.declared.component.«Type».TheVariants as ty
+use Rattle.wac_shapes.specs.declared.component.«Type».TheVariants as ty
 use Rattle.wac_merge.proofs.Extending.{still_all_renamed, still_holds}
 use Rattle.wac_merge.proofs.writing.write_type.Goals as goal
 

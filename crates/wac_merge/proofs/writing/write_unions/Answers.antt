@@ -3,8 +3,8 @@ use Rattle.std.specs.Option.{option_map}
 use Rattle.std.proofs.lemmas.List.{length-append}
 use Rattle.std.proofs.lemmas.Option.{slice_get-map, slice_get_read}
 use Rattle.wac_collection.specs.Collection.{HasInterface}
-use Rattle.wac_collection.specs.Name.{Name}
-use Rattle.wac_collection.specs.declared.component.InterfaceId.{InterfaceId}
+use Rattle.wac_shapes.specs.Name.{Name}
+use Rattle.wac_shapes.specs.declared.component.InterfaceId.{InterfaceId}
 use Rattle.wac_merge.specs.Unions.{AreUnions}
 use Rattle.wac_merge.specs.Writing.{AreWritten}
 use Rattle.wac_merge.specs.WritingSteps.{CanWrite, IsWrittenUnion}

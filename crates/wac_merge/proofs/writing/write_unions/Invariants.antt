@@ -1,7 +1,7 @@
 use Rattle.std.proofs.Common.{◌≡◌, ℕ, length, map, slice_get, string_bytes, Some}
 use Rattle.std.specs.Option.{option_map}
 use Rattle.wac_collection.specs.Collection.{HasInterface}
-use Rattle.wac_collection.specs.declared.component.InterfaceId.{InterfaceId}
+use Rattle.wac_shapes.specs.declared.component.InterfaceId.{InterfaceId}
 use Rattle.wac_merge.specs.Renaming.{IsExtended}
 use Rattle.wac_merge.proofs.WritingUnions.{AreAllWritten}
 use Rattle.wac_merge.proofs.writing.write_unions.Given as goal

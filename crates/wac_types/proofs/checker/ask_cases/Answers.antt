@@ -3,7 +3,7 @@ use Rattle.wac_collection.specs.Collection.{IsBefore, value_types, case_values}
 use Rattle.wac_collection.specs.Tree.{absent}
 use Rattle.wac_types.specs.Subtype.{type_tree}
 use Rattle.wac_types.specs.Compare.{optional_in, case_in}
-use Rattle.wac_collection.proofs.Names.{ne-true, ne-false}
+use Rattle.wac_shapes.proofs.Names.{ne-true, ne-false}
 use Rattle.wac_types.proofs.Values.{asks_of}
 use Rattle.wac_types.proofs.Agreeing.{get_map, entry_at, handed_on, agree_none, agree_more, agree_maps, under_name, under_apart, case_names_differ, lengths_differ, case_among, differ_at}
 use Rattle.wac_types.proofs.checker.ask_cases.Goals as goal

@@ -2,7 +2,7 @@ use Rattle.std.proofs.Common.{arith, map, ap}
 use Rattle.std.specs.Option.{option_map}
 use Rattle.wac_collection.specs.Collection.{IsBefore, value_types, seconds}
 use Rattle.wac_types.specs.Compare.{value_in, entry_in}
-use Rattle.wac_collection.proofs.Names.{ne-true, ne-false}
+use Rattle.wac_shapes.proofs.Names.{ne-true, ne-false}
 use Rattle.wac_types.proofs.Values.{asks_of}
 use Rattle.wac_types.proofs.Agreeing.{get_map, handed_on, agree_none, agree_more, agree_maps, under_name, under_apart, entry_names_differ, second_among, differ_at}
 use Rattle.wac_types.proofs.checker.ask_named.Goals as goal

@@ -1,7 +1,7 @@
 use Rattle.std.proofs.Common.{◌≡◌, ◌≤◌, length, Option, Some, None, arith, ap, below_more}
 use Rattle.std.specs.Option.{IfSome, option_map}
-use Rattle.wac_collection.specs.Name.{Name}
-use Rattle.wac_collection.specs.declared.component.ValueType.{ValueType}
+use Rattle.wac_shapes.specs.Name.{Name}
+use Rattle.wac_shapes.specs.declared.component.ValueType.{ValueType}
 use Rattle.wac_types.proofs.checker.has_small_parts.Goals as goal
 
 -- what has a short name

@@ -1,8 +1,8 @@
 use Rattle.std.proofs.Common.{arith, ◌≡◌, ◌∙◌, ap, sym, Some, below_more}
-use Rattle.wac_collection.specs.Name.{Name}
+use Rattle.wac_shapes.specs.Name.{Name}
 use Rattle.wac_collection.specs.Tree.{TypeTree}
 use Rattle.wac_types.specs.Compare.{value_in, entry_in}
-use Rattle.wac_collection.proofs.Names.{ne-false}
+use Rattle.wac_shapes.proofs.Names.{ne-false}
 use Rattle.wac_types.proofs.Agreeing.{get_map, maps_agree}
 use Rattle.wac_types.proofs.checker.have_same_fields.Goals as goal
 

@@ -1,6 +1,6 @@
 use Rattle.std.proofs.Common.{◌∙◌, sym, rules}
 use denote.Enum.Bare.{same_true}
-use Rattle.wac_collection.specs.contracts.component.PrimitiveType.{the_type}
+use Rattle.wac_shapes.specs.contracts.component.PrimitiveType.{the_type}
 use Rattle.wac_types.proofs.Values.{primitives_along}
 use Rattle.wac_types.proofs.checker.is_same_primitive.Goals as goal
 

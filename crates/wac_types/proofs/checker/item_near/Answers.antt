@@ -1,7 +1,7 @@
 use Rattle.std.proofs.Common.{ap, sym, ◌∙◌}
 use Rattle.semver.specs.OrderLaws.{same_text}
-use Rattle.wac_collection.specs.Name.{find_name}
-use Rattle.wac_collection.proofs.Names.{find_name-at}
+use Rattle.wac_shapes.specs.Name.{find_name}
+use Rattle.wac_shapes.proofs.Names.{find_name-at}
 use Rattle.wac_types.proofs.Agreeing.{entry_at}
 use Rattle.wac_types.proofs.checker.item_near.Goals as goal
 

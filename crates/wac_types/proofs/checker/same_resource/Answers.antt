@@ -1,5 +1,5 @@
 use Rattle.std.proofs.Common.{◌<◌, sym, length, subst}
-use Rattle.wac_collection.specs.declared.component.ResourceId.{ResourceId}
+use Rattle.wac_shapes.specs.declared.component.ResourceId.{ResourceId}
 use Rattle.wac_types.proofs.CoreTypes.{called_same}
 use Rattle.wac_types.proofs.Sorts.{resolved_less, resource_called}
 use Rattle.wac_types.proofs.checker.same_resource.Goals as goal

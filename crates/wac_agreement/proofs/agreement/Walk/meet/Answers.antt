@@ -1,6 +1,6 @@
 use Rattle.std.proofs.Common.{◌∙◌, sym, refl}
 use Rattle.std.proofs.lemmas.Bool.{false≢true}
-use Rattle.wac_collection.proofs.Under.{on_ok}
+use Rattle.wac_shapes.proofs.Under.{on_ok}
 use Rattle.wac_agreement.specs.Slots.{spot_view}
 use Rattle.wac_entries.specs.NodeViews.{item_view}
 use Rattle.wac_agreement.specs.Apart.{fitting, apart}

@@ -1,5 +1,5 @@
 use Rattle.std.proofs.Common.{ℕ, None, ◌≡◌, ◌∙◌, sym, ap, ◌++◌, ◌∷◌, [], length}
-use Rattle.wac_collection.specs.declared.component.ValueType.TheVariants as val
+use Rattle.wac_shapes.specs.declared.component.ValueType.TheVariants as val
 use Rattle.wac_collection.specs.Aliases.{aliased}
 use Rattle.wac_collection.proofs.Ends.{defined_kept, new_value_end, no_alias}
 use Rattle.wac_collection.proofs.collection.Types.add_defined_type.Goals as goal

@@ -1,6 +1,6 @@
 use Rattle.std.proofs.Common.{◌∙◌, sym, ap, arith, add-one, []}
 use Rattle.wac_collection.specs.Collection.{holds_all, value_types, case_values, and_maybe}
-use Rattle.wac_collection.proofs.Loops.{entry_of, stops, goes, ends}
+use Rattle.wac_shapes.proofs.Loops.{entry_of, stops, goes, ends}
 use Rattle.wac_collection.proofs.Mentioned.{maybe_first}
 use Rattle.wac_collection.proofs.collection.Types.contains_cases.Goals as goal
 

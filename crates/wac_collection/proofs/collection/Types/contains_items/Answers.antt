@@ -1,6 +1,7 @@
 use Rattle.std.proofs.Common.{◌∙◌, sym, ap, refl, arith, add-one}
-use Rattle.wac_collection.specs.Collection.{holds_all, kind_types, holds_type, kind_type}
-use Rattle.wac_collection.proofs.Loops.{entry_of, stops, goes, ends}
+use Rattle.wac_collection.specs.Collection.{holds_all, kind_types, holds_type}
+use Rattle.wac_shapes.specs.Kinds.{kind_type}
+use Rattle.wac_shapes.proofs.Loops.{entry_of, stops, goes, ends}
 use Rattle.wac_collection.proofs.collection.Types.contains_items.Goals as goal
 
 pub returns-then-not-contains : goal.returns-then-not-contains

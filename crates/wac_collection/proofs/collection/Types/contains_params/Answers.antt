@@ -1,6 +1,6 @@
 use Rattle.std.proofs.Common.{◌∙◌, sym, ap, refl, arith, add-one}
 use Rattle.wac_collection.specs.Collection.{holds_all, value_types, seconds, holds_value}
-use Rattle.wac_collection.proofs.Loops.{entry_of, stops, goes, ends}
+use Rattle.wac_shapes.proofs.Loops.{entry_of, stops, goes, ends}
 use Rattle.wac_collection.proofs.collection.Types.contains_params.Goals as goal
 
 pub returns-then-not-contains_value : goal.returns-then-not-contains_value

@@ -1,7 +1,7 @@
 use Rattle.std.proofs.Common.{◌∙◌, sym, refl, length, arith, add-one, Bool, true, false, ◌≡◌, ◌<◌, ◌+◌, ℕ, List, get_or, drop}
 use Rattle.wac_collection.specs.Collection.{Collection, holds_all, value_types, holds_value}
-use Rattle.wac_collection.specs.declared.component.ValueType.{ValueType}
-use Rattle.wac_collection.proofs.Loops.{drop_index, stops, goes, ends}
+use Rattle.wac_shapes.specs.declared.component.ValueType.{ValueType}
+use Rattle.wac_shapes.proofs.Loops.{drop_index, stops, goes, ends}
 use Rattle.wac_collection.proofs.collection.Types.contains_values.Goals as goal
 
 value_stops : (c : Collection) (vs : List ValueType) (i : ℕ) (d : ValueType) (b : Bool) → i < length vs → holds_all c (value_types (drop i vs)) ≡ holds_all c (value_types vs) → b ≡ holds_value c (get_or vs i d) → b ≡ false → false ≡ holds_all c (value_types vs)

@@ -1,7 +1,7 @@
 use Rattle.std.proofs.Common.{◌∙◌, sym, refl, arith, add-one}
 use Rattle.std.specs.List.{list_all}
 use Rattle.wac_collection.specs.Uses.{is_listed_as_used}
-use Rattle.wac_collection.proofs.Loops.{entry_at, drop_at, stops, goes, ends}
+use Rattle.wac_shapes.proofs.Loops.{entry_at, drop_at, stops, goes, ends}
 use Rattle.wac_collection.proofs.collection.Types.listed_as_used.Goals as goal
 
 pub returns-then-not-is_listed_as_used : goal.returns-then-not-is_listed_as_used

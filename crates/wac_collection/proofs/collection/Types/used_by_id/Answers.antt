@@ -1,7 +1,7 @@
 use Rattle.std.proofs.Common.{◌∙◌, sym, ap, refl, arith, add-one}
 use Rattle.std.specs.List.{list_all}
 use Rattle.wac_collection.specs.Uses.{is_used_by_id}
-use Rattle.wac_collection.proofs.Loops.{entry_of, stops, goes, ends}
+use Rattle.wac_shapes.proofs.Loops.{entry_of, stops, goes, ends}
 use Rattle.wac_collection.proofs.collection.Types.used_by_id.Goals as goal
 
 pub returns-then-not-is_used_by_id : goal.returns-then-not-is_used_by_id

@@ -1,5 +1,5 @@
 use Rattle.std.proofs.Common.{refl, None}
-use Rattle.wac_collection.specs.declared.component.InterfaceId.{InterfaceId}
+use Rattle.wac_shapes.specs.declared.component.InterfaceId.{InterfaceId}
 use Rattle.wac_collection.specs.contracts.package.«Package».{the_row}
 use Rattle.wac_collection.proofs.Packages.{package_refused}
 use Rattle.wac_collection.proofs.package.Package.new.Goals as goal

@@ -1,9 +1,9 @@
 use Rattle.std.proofs.Common.{◌≡◌, List, length, subst, arith, add-one}
 use Rattle.std.proofs.lemmas.List.{take_all}
-use Rattle.wac_collection.specs.Name.{Name}
-use Rattle.wac_collection.specs.declared.component.ItemKind.{ItemKind}
-use Rattle.wac_collection.proofs.Loops.{entry_at}
-use Rattle.wac_collection.proofs.Under.{on_ok}
+use Rattle.wac_shapes.specs.Name.{Name}
+use Rattle.wac_shapes.specs.declared.component.ItemKind.{ItemKind}
+use Rattle.wac_shapes.proofs.Loops.{entry_at}
+use Rattle.wac_shapes.proofs.Under.{on_ok}
 use Rattle.wac_entries.specs.CalledViews.{side_view}
 use Rattle.wac_entries.specs.Places.{Adds}
 use Rattle.wac_entries.proofs.Places.{all-listed, held_at, instances, instances-step}

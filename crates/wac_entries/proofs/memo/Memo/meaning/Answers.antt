@@ -1,6 +1,6 @@
 use Rattle.std.proofs.Common.{List, map, string_bytes, sym, subst}
-use Rattle.wac_collection.specs.declared.component.DefinedType.{DefinedType}
-use Rattle.wac_collection.specs.declared.component.ValueType.{ValueType}
+use Rattle.wac_shapes.specs.declared.component.DefinedType.{DefinedType}
+use Rattle.wac_shapes.specs.declared.component.ValueType.{ValueType}
 use Rattle.wac_entries.specs.Nodes.{Node}
 use Rattle.wac_entries.specs.Coding.{source_tree, values_of, IsGrown, AreParts}
 use Rattle.wac_entries.proofs.CodingGrowth.{grown_none}

@@ -1,5 +1,5 @@
-use Rattle.wac_collection.specs.declared.component.PrimitiveType.TheVariants as primitive
-use Rattle.wac_collection.specs.declared.component.ValueType.TheVariants as val
+use Rattle.wac_shapes.specs.declared.component.PrimitiveType.TheVariants as primitive
+use Rattle.wac_shapes.specs.declared.component.ValueType.TheVariants as val
 use Rattle.wac_entries.specs.Coding.{source_tree, values_of}
 use Rattle.wac_entries.proofs.CodingGrowth.{grown_twice, right_grown}
 use Rattle.wac_entries.proofs.CodingLoops.{parts_more}

@@ -1,5 +1,5 @@
 use Rattle.std.proofs.Common.{ap, sym, ◌∙◌}
-use Rattle.wac_collection.specs.declared.component.«Type».{«Type» as AnyType}
+use Rattle.wac_shapes.specs.declared.component.«Type».{«Type» as AnyType}
 use Rattle.wac_entries.specs.CalledViews.{called_view}
 use Rattle.wac_entries.specs.CallsView.{names_in}
 use Rattle.wac_entries.specs.Coding.{source_tree, IsRight}

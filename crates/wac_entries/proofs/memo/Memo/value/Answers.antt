@@ -1,6 +1,6 @@
 use Rattle.std.proofs.Common.{sym, ◌∙◌, subst}
-use Rattle.wac_collection.specs.declared.component.ValueType.{ValueType}
-use Rattle.wac_collection.specs.declared.component.«Type».TheVariants as ty
+use Rattle.wac_shapes.specs.declared.component.ValueType.{ValueType}
+use Rattle.wac_shapes.specs.declared.component.«Type».TheVariants as ty
 use Rattle.wac_entries.specs.Coding.{source_tree, HasTree, IsRight}
 use Rattle.wac_entries.proofs.CodingGrowth.{on_ok, right_grown}
 use Rattle.wac_entries.proofs.memo.Memo.value.Goals as goal

@@ -1,7 +1,7 @@
 use Rattle.std.proofs.Common.{◌≡◌, ◌<◌, ◌-◌, List, [], ◌++◌, map, take, ap, sym, ◌∙◌, subst}
 use Rattle.std.specs.List.{AllByRecursion}
-use Rattle.wac_collection.specs.Name.{option_case}
-use Rattle.wac_collection.specs.declared.component.ItemKind.TheVariants.{Instance}
+use Rattle.wac_shapes.specs.Name.{option_case}
+use Rattle.wac_shapes.specs.declared.component.ItemKind.TheVariants.{Instance}
 use Rattle.wac_graph.specs.declared.asked.Task.{Task}
 use Rattle.wac_graph.specs.Entries.{used_by}
 use Rattle.wac_graph.specs.EntriesLeft.{by_node, entries_of, uses_of, openings, IsHeldTask, IsUnderWay, tasks_weight}

@@ -1,5 +1,5 @@
 use Rattle.std.proofs.Common.{◌++◌, map}
-use Rattle.wac_collection.specs.declared.component.ItemKind.TheVariants.{Instance}
+use Rattle.wac_shapes.specs.declared.component.ItemKind.TheVariants.{Instance}
 use Rattle.wac_graph.specs.Entries.{used_by}
 use Rattle.wac_graph.specs.EntriesLeft.{by_node, entries_of, IsRight, IsUnderWay, tasks_weight}
 use Rattle.wac_graph.proofs.asked.Asking.ask_used.Given as goal

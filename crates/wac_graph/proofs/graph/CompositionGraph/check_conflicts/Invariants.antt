@@ -1,5 +1,5 @@
 use Rattle.std.proofs.Common.{ℕ, ◌<◌}
-use Rattle.wac_collection.specs.Name.{Name}
+use Rattle.wac_shapes.specs.Name.{Name}
 use Rattle.wac_graph.specs.declared.node.NodeId.{NodeId}
 use Rattle.wac_graph.specs.Cause.{IsConflict}
 use Rattle.wac_graph.specs.Means.{node_number}

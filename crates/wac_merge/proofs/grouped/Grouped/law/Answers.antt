@@ -1,5 +1,5 @@
 use Rattle.std.proofs.Common.{sym, subst}
-use Rattle.wac_collection.specs.Named.{by_bytes, NoNameTwice}
+use Rattle.wac_shapes.specs.Named.{by_bytes, NoNameTwice}
 use Rattle.wac_merge.specs.GroupViews.{groups_of}
 use Rattle.wac_merge.proofs.GroupViews.{names_viewed}
 use Rattle.wac_merge.proofs.SameNames.{once_alike}

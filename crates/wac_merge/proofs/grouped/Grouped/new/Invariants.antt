@@ -1,6 +1,6 @@
 use Rattle.std.proofs.Common.{◌≡◌, [], take}
 use Rattle.std.specs.List.{AllByRecursion}
-use Rattle.wac_collection.specs.Named.{NoNameTwice}
+use Rattle.wac_shapes.specs.Named.{NoNameTwice}
 use Rattle.wac_merge.specs.Unions.{part_lists}
 use Rattle.wac_merge.specs.UnionSteps.{grouped}
 use Rattle.wac_merge.proofs.grouped.Grouped.new.Given as goal

@@ -1,11 +1,11 @@
 use Rattle.std.proofs.Common.{ℕ, string_bytes, ◌≡◌, ◌∙◌, sym, ap, refl, ◌++◌, ◌∷◌, [], None, true}
 use Rattle.std.specs.String.{string_eq}
 use Rattle.std.specs.Str.{bytes_eq}
-use Rattle.wac_collection.specs.declared.component.ItemKind.{ItemKind}
-use Rattle.wac_collection.specs.Name.{find_name, same_name}
-use Rattle.wac_collection.specs.Named.{by_bytes}
-use Rattle.wac_collection.proofs.Names.{same_name-bytes_eq, key_passes, found-by_bytes, inserts}
-use Rattle.wac_collection.proofs.Under.{now_is, none_mapped, once_same, names_set}
+use Rattle.wac_shapes.specs.declared.component.ItemKind.{ItemKind}
+use Rattle.wac_shapes.specs.Name.{find_name, same_name}
+use Rattle.wac_shapes.specs.Named.{by_bytes}
+use Rattle.wac_shapes.proofs.Names.{same_name-bytes_eq, key_passes, found-by_bytes, inserts}
+use Rattle.wac_shapes.proofs.Under.{now_is, none_mapped, once_same, names_set}
 use Rattle.wac_merge.specs.UnionSteps.{with_listed}
 use Rattle.wac_merge.proofs.GroupViews.{value_at, put_at, put_new}
 use Rattle.wac_merge.proofs.grouped.Grouped.put.Goals as goal

@@ -1,7 +1,7 @@
 use Rattle.std.proofs.Common.{◌∙◌, take, ap, sym, add-one}
-use Rattle.wac_collection.specs.Name.{Name}
-use Rattle.wac_collection.specs.declared.component.ItemKind.{ItemKind}
-use Rattle.wac_collection.proofs.Names.{take_at}
+use Rattle.wac_shapes.specs.Name.{Name}
+use Rattle.wac_shapes.specs.declared.component.ItemKind.{ItemKind}
+use Rattle.wac_shapes.proofs.Names.{take_at}
 use Rattle.wac_merge.specs.UnionSteps.{with_listed}
 use Rattle.wac_merge.proofs.UnionGroups.{all_listed_push}
 use Rattle.wac_merge.proofs.grouped.Grouped.put_all.Goals as goal

@@ -1,6 +1,6 @@
 use Rattle.std.proofs.Common.{List, sym, ◌∙◌, subst}
 use Rattle.std.specs.List.{AllZip}
-use Rattle.wac_collection.specs.declared.component.ValueType.{ValueType}
+use Rattle.wac_shapes.specs.declared.component.ValueType.{ValueType}
 use Rattle.wac_merge.specs.RenamingSteps.{IsRenamedIn, aliases, enums, fixed_lists, flags, futures, lists, options, records, results, streams, tuples, variants}
 use Rattle.wac_merge.proofs.renamer.Renamed.definition.Goals as goal
 use Rattle.wac_merge.proofs.renamer.Renamed.definition.Goals.{in-Tuple+in_ok-parts-in-Tuple+in_ok-renamed-in-Tuple, in-List, in-FixedSizeList, in-Option, in-Result, in-Variant+in_ok-cases-in-Variant, in-Record+in_ok-fields-in-Record, in-Flags+in_ok-copied-in-Flags, in-Enum+in_ok-copied-in-Enum, in-Alias, in-Stream, in-Future}

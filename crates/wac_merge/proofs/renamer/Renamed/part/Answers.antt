@@ -1,7 +1,7 @@
 use Rattle.std.proofs.Common.{sym, ◌∙◌, subst, ◌≡◌, true}
 use Rattle.wac_collection.specs.Collection.{holds_value}
-use Rattle.wac_collection.specs.declared.component.ValueType.{ValueType}
-use Rattle.wac_collection.specs.declared.component.ValueType.TheVariants as val
+use Rattle.wac_shapes.specs.declared.component.ValueType.{ValueType}
+use Rattle.wac_shapes.specs.declared.component.ValueType.TheVariants as val
 use Rattle.wac_merge.specs.Renaming.{becomes}
 use Rattle.wac_merge.specs.RenamingSteps.{IsRenamedIn}
 use Rattle.wac_merge.proofs.RenamingTrees.{borrow_renamed, own_renamed, primitive_renamed, tested_low}

@@ -1,5 +1,5 @@
-use Rattle.wac_collection.specs.declared.component.PrimitiveType.TheVariants as primitive
-use Rattle.wac_collection.specs.declared.component.ValueType.TheVariants as val
+use Rattle.wac_shapes.specs.declared.component.PrimitiveType.TheVariants as primitive
+use Rattle.wac_shapes.specs.declared.component.ValueType.TheVariants as val
 use Rattle.wac_merge.specs.RenamingSteps.{IsRenamedIn}
 use Rattle.wac_merge.proofs.RenamingLoops.{parts_further}
 use Rattle.wac_merge.proofs.renamer.Renamed.parts.Goals as goal

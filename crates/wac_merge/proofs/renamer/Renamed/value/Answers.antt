@@ -1,6 +1,6 @@
 use Rattle.std.proofs.Common.{sym, ◌∙◌, subst}
-use Rattle.wac_collection.specs.declared.component.ValueType.{ValueType}
-use Rattle.wac_collection.specs.declared.component.ValueType.TheVariants as val
+use Rattle.wac_shapes.specs.declared.component.ValueType.{ValueType}
+use Rattle.wac_shapes.specs.declared.component.ValueType.TheVariants as val
 use Rattle.wac_merge.specs.RenamingSteps.{IsRenamedIn}
 use Rattle.wac_merge.proofs.Extending.{extended_none, still_can}
 use Rattle.wac_merge.proofs.renamer.Renamed.value.Goals as goal

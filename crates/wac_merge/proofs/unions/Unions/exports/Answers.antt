@@ -1,9 +1,9 @@
 use Rattle.std.proofs.Common.{◌++◌, ◌∷◌, [], ℕ, List, Err, take, sym, ap, ◌∙◌, subst, add-one}
 use Rattle.std.proofs.lemmas.Option.{slice_get_within}
-use Rattle.wac_collection.specs.Name.{Name, find_name}
-use Rattle.wac_collection.specs.declared.component.ItemKind.{ItemKind}
-use Rattle.wac_collection.proofs.Names.{none_before, take_at}
-use Rattle.wac_collection.proofs.Under.{not_some}
+use Rattle.wac_shapes.specs.Name.{Name, find_name}
+use Rattle.wac_shapes.specs.declared.component.ItemKind.{ItemKind}
+use Rattle.wac_shapes.proofs.Names.{none_before, take_at}
+use Rattle.wac_shapes.proofs.Under.{not_some}
 use Rattle.wac_merge.specs.declared.unions.Export.{Export}
 use Rattle.wac_merge.specs.UnionSteps.{AreOpen, IsHeldGroup}
 use Rattle.wac_entries.proofs.Lists.{some-at}

@@ -4,8 +4,8 @@ use Rattle.std.specs.List.{AllByRecursion}
 use Rattle.std.proofs.lemmas.List.{take_all}
 use Rattle.std.proofs.lemmas.Option.{slice_get_read}
 use Rattle.wac_collection.specs.Collection.{HasInterface}
-use Rattle.wac_collection.specs.declared.component.InterfaceId.{InterfaceId}
-use Rattle.wac_collection.proofs.Names.{take_at}
+use Rattle.wac_shapes.specs.declared.component.InterfaceId.{InterfaceId}
+use Rattle.wac_shapes.proofs.Names.{take_at}
 use Rattle.wac_merge.specs.UnionSteps.{root_part, IsPushed, AreRoots}
 use Rattle.wac_merge.proofs.UnionLists.{all_at, map_push}
 use Rattle.wac_merge.proofs.UnionPlaces.{roots_next}

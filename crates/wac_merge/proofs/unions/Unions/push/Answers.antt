@@ -1,6 +1,6 @@
 use Rattle.std.proofs.Common.{◌≡◌, ◌∙◌, ◌++◌, ◌∷◌, [], ap, length, take, arith}
 use Rattle.std.proofs.lemmas.List.{take_all}
-use Rattle.wac_collection.proofs.Names.{element_at}
+use Rattle.wac_shapes.proofs.Names.{element_at}
 use Rattle.wac_merge.specs.declared.unions.Union.{Union}
 use Rattle.wac_merge.specs.UnionSteps.{numbered}
 use Rattle.wac_merge.proofs.UnionLists.{both_next}

@@ -1,6 +1,6 @@
 use Rattle.std.proofs.Common.{◌≡◌, ◌∙◌, List, length, map, subst, take, arith}
 use Rattle.std.proofs.lemmas.List.{take_all}
-use Rattle.wac_collection.proofs.Under.{on_ok}
+use Rattle.wac_shapes.proofs.Under.{on_ok}
 use Rattle.wac_merge.specs.declared.unions.Part.{Part}
 use Rattle.wac_merge.specs.UnionSteps.{root_part, IsPushed}
 use Rattle.wac_merge.proofs.unions.Unions.push_root.Goals as goal

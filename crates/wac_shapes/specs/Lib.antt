@@ -1,0 +1,5 @@
+pub mod Name
+pub mod Named
+pub mod Core
+pub mod Kinds
+pub mod Words

@@ -1,0 +1,55 @@
+-- Entries under names, in order.
+use Rattle.std.specs.Prelude.{ℕ, suc, ◌≡◌, if◌then◌else◌, List, [], ◌∷◌, ◌++◌, map, string_bytes, Option, Some, None}
+use Rattle.std.specs.List.{AllZip}
+use Rattle.std.specs.Borrow.{Bor}
+use Rattle.std.specs.declared.string.String.{String}
+use Rattle.wac_shapes.specs.Name.{Name, same_name, find_name, option_case}
+use Rattle.std.specs.Option.{option_copied}
+use Rattle.wac_shapes.specs.declared.component.InterfaceId.{InterfaceId}
+use Rattle.wac_shapes.specs.declared.component.UsedType.{UsedType}
+
+-- the entries, each name as its bytes
+abbrev pub by_bytes : {A V : Type 0} → List (String A × V) → List (Name × V)
+by_bytes es = map (λ e. (string_bytes e.0, e.1)) es
+
+-- the entries that pairs with borrowed names stand for
+abbrev pub named_pairs : {V : Type 0} → List (Bor (List ℕ) × V) → List (Name × V)
+named_pairs es = map (λ e. (e.0.now, e.1)) es
+
+-- what stands under a name, and its position, counted on from i; the first, where the name stands twice
+abbrev pub named_at : {V : Type 0} → ℕ → Name → List (Name × V) → Option (ℕ × V)
+named_at i n [] = None
+named_at i n (e ∷ rest) = if same_name n e.0 then Some (i, e.1) else named_at (suc i) n rest
+
+-- no name stands twice
+abbrev pub NoNameTwice : {V : Type 0} → List (Name × V) → Type 0
+NoNameTwice [] = Unit {0}
+NoNameTwice (e ∷ rest) = (find_name rest e.0 ≡ None) × NoNameTwice rest
+
+-- the names alone
+abbrev pub names_of : {V : Type 0} → List (Name × V) → List Name
+names_of es = map (λ e. e.0) es
+
+-- the same names in the same order, with values that are clones by C
+abbrev pub AreNamedClones : {V : Type 0} → (V → V → Type 0) → List (Name × V) → List (Name × V) → Type 0
+AreNamedClones C es fs = AllZip (λ e f. (f.0 ≡ e.0) × C e.1 f.1) es fs
+
+-- names alone, as entries, and as given
+abbrev pub labelled : List Name → List (Name × Unit {0})
+labelled names = map (λ n. (n, tt)) names
+
+abbrev pub given_names : List (Bor (List ℕ)) → List Name
+given_names names = map (λ n. n.now) names
+
+-- the used types that triples stand for: the name that a type is used under, its interface, and its name there where that is another
+abbrev pub used_pairs : List (Bor (List ℕ) × InterfaceId × Option (Bor (List ℕ))) → List (Name × UsedType)
+used_pairs es = map (λ e. (e.0.now, record { interface = e.1; name = option_copied e.2 })) es
+
+-- what stands under two names
+abbrev pub find_under : {V : Type 0} → List (Name × List (Name × V)) → Name → Name → Option V
+find_under es m n = option_case (find_name es m) None (λ inner. find_name inner n)
+
+-- with a value under two names, behind the others under the first
+abbrev pub inserted_under : {V : Type 0} → List (Name × List (Name × V)) → Name → Name → V → List (Name × List (Name × V))
+inserted_under [] m n v = (m, (n, v) ∷ []) ∷ []
+inserted_under (e ∷ rest) m n v = if same_name m e.0 then (e.0, e.1 ++ (n, v) ∷ []) ∷ rest else e ∷ inserted_under rest m n v

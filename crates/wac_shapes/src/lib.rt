@@ -1,0 +1,14 @@
+//! The shapes of component types and of core types, and the ids by which they mention each other.
+#![tactic(auto)]
+
+mod component;
+mod core_types;
+mod named;
+
+pub use component::{
+    DefinedType, DefinedTypeId, Enum, Flags, FuncType, FuncTypeId, Interface, InterfaceId,
+    ItemKind, ModuleTypeId, PrimitiveType, Record, Resource, ResourceAlias, ResourceId, Type,
+    UsedType, ValueType, Variant, World, WorldId,
+};
+pub use core_types::{CoreExtern, CoreFuncType, CoreRefType, CoreType, ModuleType};
+pub use named::{Labels, Named, Sequence, ShapeError, Text};

@@ -1,0 +1,362 @@
+//! Texts, and values under names in order.
+ghost use Rattle.std.specs.Prelude.{◌≡◌, ◌<◌, ◌++◌, ◌∷◌, ◌↔◌, ℕ, List, [], length, slice_get, Some, None, Err, IfOk, OnOk, OnErr, IsOk, IsSome, string_bytes};
+ghost use Rattle.std.specs.Option.{option_map, option_copied};
+ghost use Rattle.wac_shapes.specs.Name.{find_name};
+ghost use Rattle.wac_shapes.specs.Named.{named_at, named_pairs, labelled, given_names, find_under, inserted_under, NoNameTwice};
+
+use indexmap::IndexMap;
+use std::alloc::{AllocError, Global};
+use std::marker::Model;
+use thiserror::Error;
+
+/// Why a shape is not built.
+#[derive(Clone, Copy, Debug, PartialEq, Eq, Error)]
+pub enum ShapeError {
+    /// A name is given twice.
+    #[error("NameTwice")]
+    NameTwice,
+    /// Memory ran out.
+    #[error("OutOfMemory")]
+    OutOfMemory,
+}
+
+/// A text.
+#[derive(Debug, Drop)]
+pub struct Text {
+    text: String,
+}
+
+impl Model for Text {
+    ghost use Rattle.std.specs.Prelude.{List, ℕ, string_bytes};
+
+    ghost Value = { List ℕ };
+
+    ghost view = { λ t. string_bytes t.text };
+}
+
+/// The clone is the same text, in memory of its own. Answers `AllocError` where memory ran out.
+impl Clone for Text {
+    ghost is_clone = { λ a b. b ≡ a };
+
+    fn clone(&self) -> Result<Text, AllocError> {
+        Ok(Text {
+            text: self.text.clone()?,
+        })
+    }
+}
+
+impl Text {
+    /// The text, in memory of its own.
+    pub fn new(alloc: Global, text: &str) -> Result<Text, AllocError>
+        ensures { IfOk result (λ t. t ≡ text.now) }
+    {
+        let text = String::from_str(alloc, text)?;
+        Ok(Text { text })
+    }
+
+    /// The text.
+    pub fn as_str(&self) -> &str
+        ensures { result.now ≡ self.now }
+    {
+        self.text.as_str()
+    }
+}
+
+/// Values in order.
+#[derive(Debug, Drop)]
+pub struct Sequence<T> {
+    items: Vec<T>,
+}
+
+impl<T> Model for Sequence<T> {
+    ghost use Rattle.std.specs.Prelude.{List};
+
+    ghost Value = { List T };
+
+    ghost view = { λ s. s.items.items };
+}
+
+/// The clone has clones of the values, in the same order. Answers `AllocError` where memory ran out.
+impl<T: Clone> Clone for Sequence<T> {
+    ghost use Rattle.std.specs.List.{AllZip};
+
+    ghost is_clone = { λ a b. AllZip T.is_clone a b };
+
+    fn clone(&self) -> Result<Sequence<T>, AllocError> {
+        Ok(Sequence {
+            items: self.items.clone()?,
+        })
+    }
+}
+
+impl<T> Sequence<T> {
+    /// The values.
+    pub fn as_slice(&self) -> &[T]
+        ensures { result.now ≡ self.now }
+    {
+        self.items.as_slice()
+    }
+}
+
+impl<T: Copy> Sequence<T> {
+    /// The values, in memory of their own.
+    pub fn new(alloc: Global, values: &[T]) -> Result<Sequence<T>, AllocError>
+        ensures { IfOk result (λ s. s ≡ values.now) }
+    {
+        let mut items = Vec::new(alloc);
+        items.extend_from_slice(values)?;
+        Ok(Sequence { items })
+    }
+}
+
+/// Names in order. None stands twice.
+#[derive(Drop)]
+pub struct Labels {
+    names: Named<()>,
+}
+
+impl Model for Labels {
+    ghost use Rattle.std.specs.Prelude.{List};
+    ghost use Rattle.wac_shapes.specs.Name.{Name};
+    ghost use Rattle.wac_shapes.specs.Named.{names_of};
+
+    ghost Value = { List Name };
+
+    ghost view = { λ l. names_of l.names };
+}
+
+/// The clone has the same names in the same order. Answers `AllocError` where memory ran out.
+impl Clone for Labels {
+    ghost is_clone = { λ a b. b ≡ a };
+
+    fn clone(&self) -> Result<Labels, AllocError> {
+        Ok(Labels {
+            names: self.names.clone()?,
+        })
+    }
+}
+
+impl Labels {
+    /// The names, in the order given. Answers `NameTwice` where a name is given twice, and `OutOfMemory` where memory ran out.
+    pub fn new(alloc: Global, names: &[&str]) -> Result<Labels, ShapeError>
+        ensures built { IfOk result (λ l. l ≡ given_names names.now) }
+        ensures names { OnOk result (NoNameTwice (labelled (given_names names.now))) }
+        ensures name_twice { result ≡ Err ShapeError.NameTwice → NoNameTwice (labelled (given_names names.now)) → ⊥ }
+    {
+        let mut labels = Named::new(alloc);
+        for i in 0..names.len() {
+            match labels.insert(alloc, names[i], ()) {
+                Ok(()) => {}
+                Err(fault) => return Err(fault),
+            }
+        }
+        labels.law();
+        Ok(Labels { names: labels })
+    }
+
+    /// The law of all names in order: none stands twice.
+    pub fn law(&self)
+        ensures { NoNameTwice (labelled self.now) }
+    {
+        self.names.law();
+    }
+
+    /// How many there are.
+    pub fn len(&self) -> usize
+        ensures { result ≡ length self.now }
+    {
+        self.names.len()
+    }
+
+    /// The name at a position, which is one of the list.
+    pub fn name_at(&self, index: usize) -> &str
+        requires { index < length self.now }
+        ensures { slice_get self.now index ≡ Some result.now }
+    {
+        self.names.name_at(index)
+    }
+}
+
+/// Values under names, in order. No name stands twice.
+#[derive(Drop)]
+pub struct Named<V> {
+    entries: IndexMap<String, V>,
+}
+
+impl<V> Model for Named<V> {
+    ghost use Rattle.std.specs.Prelude.{List, ℕ};
+    ghost use Rattle.wac_shapes.specs.Named.{by_bytes, NoNameTwice};
+
+    ghost Value = { List (List ℕ × V) };
+
+    ghost view = { λ n. by_bytes n.entries.entries };
+
+    ghost invariant = { λ n. NoNameTwice (by_bytes n.entries.entries) };
+}
+
+/// The clone has the same names in the same order, and under them clones of the values. Answers `AllocError` where memory ran out.
+impl<V: Clone> Clone for Named<V> {
+    ghost use Rattle.wac_shapes.specs.Named.{AreNamedClones};
+
+    ghost is_clone = { λ a b. AreNamedClones V.is_clone a b };
+
+    fn clone(&self) -> Result<Named<V>, AllocError> {
+        let entries = self.entries.clone()?;
+        Ok(Named { entries })
+    }
+}
+
+impl<V> Named<V> {
+    /// Nothing under any name.
+    pub fn new(alloc: Global) -> Named<V>
+        ensures { result ≡ [] }
+    {
+        Named {
+            entries: IndexMap::new(alloc),
+        }
+    }
+
+    /// Nothing under any name, with room for so many values. Answers `AllocError` where memory ran out, which it does not where the room is for none.
+    pub fn with_capacity(alloc: Global, count: usize) -> Result<Named<V>, AllocError>
+        ensures empty { IfOk result (λ n. n ≡ []) }
+        ensures none { count ≡ 0 → IsOk result }
+    {
+        let entries = IndexMap::with_capacity(alloc, count)?;
+        Ok(Named { entries })
+    }
+
+    /// The law of all values under names: no name stands twice.
+    pub fn law(&self)
+        ensures { NoNameTwice self.now }
+    {
+        let _ = &self.entries;
+    }
+
+    /// The value under a name.
+    pub fn get(&self, name: &str) -> Option<&V>
+        ensures { option_copied result ≡ find_name self.now name.now }
+    {
+        self.entries.get(name)
+    }
+
+    /// The position of a name, and the value under it.
+    pub fn get_full(&self, name: &str) -> Option<(usize, &V)>
+        ensures { option_map (λ p. (p.0, p.1.now)) result ≡ named_at 0 name.now self.now }
+    {
+        let (index, _, value) = self.entries.get_full(name)?;
+        Some((index, value))
+    }
+
+    /// How many there are.
+    pub fn len(&self) -> usize
+        ensures { result ≡ length self.now }
+    {
+        self.entries.len()
+    }
+
+    /// The name at a position, which is one of the list.
+    pub fn name_at(&self, index: usize) -> &str
+        requires { index < length self.now }
+        ensures { option_map (λ e. e.0) (slice_get self.now index) ≡ Some result.now }
+    {
+        let entry = self.entries.get_index(index).unwrap();
+        entry.0.as_str()
+    }
+
+    /// The name and the value at a position, which is one of the list.
+    pub fn entry_at(&self, index: usize) -> (&str, &V)
+        requires { index < length self.now }
+        ensures { slice_get self.now index ≡ Some (result.0.now, result.1.now) }
+    {
+        let (name, value) = self.entries.get_index(index).unwrap();
+        (name.as_str(), value)
+    }
+
+    /// The value at a position, which is one of the list.
+    pub fn value_at(&self, index: usize) -> &V
+        requires { index < length self.now }
+        ensures { option_map (λ e. e.1) (slice_get self.now index) ≡ Some result.now }
+    {
+        let entry = self.entries.get_index(index).unwrap();
+        entry.1
+    }
+}
+
+impl<V: Drop> Named<V> {
+    /// Puts a value under a new name, behind the others. Answers `NameTwice` where the name is there, and `OutOfMemory` where memory ran out; then nothing has changed.
+    pub fn insert(&mut self, alloc: Global, name: &str, value: V) -> Result<(), ShapeError>
+        ensures inserted { OnOk result (self.new ≡ self.old ++ (name.now, value) ∷ []) }
+        ensures refused { OnErr result (self.new ≡ self.old) }
+        ensures name_twice { (result ≡ Err ShapeError.NameTwice) ↔ IsSome (find_name self.old name.now) }
+    {
+        if let Some(_) = self.get(name) {
+            return Err(ShapeError::NameTwice);
+        }
+        let Ok(key) = String::from_str(alloc, name) else {
+            return Err(ShapeError::OutOfMemory);
+        };
+        match self.entries.insert(key, value) {
+            Ok(_) => Ok(()),
+            Err(_) => Err(ShapeError::OutOfMemory),
+        }
+    }
+}
+
+impl<V: Drop> Named<Named<V>> {
+    /// Puts a value under two names, behind the others under the first. Answers `NameTwice` where there is one under both, and `OutOfMemory` where memory ran out; then nothing has changed.
+    pub fn insert_under(
+        &mut self,
+        alloc: Global,
+        outer: &str,
+        name: &str,
+        value: V,
+    ) -> Result<(), ShapeError>
+        ensures inserted { OnOk result (self.new ≡ inserted_under self.old outer.now name.now value) }
+        ensures refused { OnErr result (self.new ≡ self.old) }
+        ensures name_twice { (result ≡ Err ShapeError.NameTwice) ↔ IsSome (find_under self.old outer.now name.now) }
+    {
+        if let Some((index, _)) = self.get_full(outer) {
+            let inner = self.entries.get_index_mut(index).unwrap();
+            return inner.insert(alloc, name, value);
+        }
+        let mut inner = Named::new(alloc);
+        match inner.insert(alloc, name, value) {
+            Ok(()) => self.insert(alloc, outer, inner),
+            Err(fault) => Err(fault),
+        }
+    }
+}
+
+impl<V: Copy> Named<V> {
+    /// Values under names, in the order given. Answers `NameTwice` where a name is given twice, and `OutOfMemory` where memory ran out.
+    pub fn from_pairs(alloc: Global, pairs: &[(&str, V)]) -> Result<Named<V>, ShapeError>
+        ensures built { IfOk result (λ n. n ≡ named_pairs pairs.now) }
+        ensures names { OnOk result (NoNameTwice (named_pairs pairs.now)) }
+        ensures name_twice { result ≡ Err ShapeError.NameTwice → NoNameTwice (named_pairs pairs.now) → ⊥ }
+    {
+        let mut named = Named::new(alloc);
+        for i in 0..pairs.len() {
+            let (name, value) = pairs[i];
+            match named.insert(alloc, name, value) {
+                Ok(()) => {}
+                Err(fault) => return Err(fault),
+            }
+        }
+        named.law();
+        Ok(named)
+    }
+
+    /// The same, in memory of its own.
+    pub fn copied(&self, alloc: Global) -> Result<Named<V>, AllocError>
+        ensures { IfOk result (λ n. n ≡ self.now) }
+    {
+        let mut copy = Named::new(alloc);
+        for i in 0..self.len() {
+            match copy.insert(alloc, self.name_at(i), *self.value_at(i)) {
+                Ok(()) => {}
+                Err(_) => return Err(AllocError),
+            }
+        }
+        Ok(copy)
+    }
+}
