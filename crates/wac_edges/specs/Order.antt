@@ -2,7 +2,7 @@
 use Rattle.std.specs.Prelude.{◌≡◌, ℕ, ◌<◌, ◌≤◌, Bool, true, false, not, ◌&&◌, ◌==◌, List, [], ◌∷◌}
 use Rattle.std.specs.FinSet as set
 use Rattle.wac_edges.specs.declared.edges.Edge.{Edge}
-use Rattle.wac_edges.specs.Edge.{edge_cmp, onward, IsBlocked, IsFree}
+use Rattle.wac_edges.specs.Edge.{edge_cmp, IsBlocked, IsFree}
 
 abbrev pub Edges : Type 0
 Edges = set.FinSet edge_cmp
@@ -51,7 +51,3 @@ IsAcyclic edges = (n : ℕ) → IsOnCycle edges n → ⊥
 pub record IsLowestOnCycle (edges : Edges) (n : ℕ) : Type 0 where
   pub here : IsOnCycle edges n
   pub lowest : (m : ℕ) → IsOnCycle edges m → n ≤ m
-
--- m is not reached, and an edge leads to it from this node or from one that is reached
-abbrev pub IsNext : Edges → ℕ → (ℕ → Bool) → ℕ → Type 0
-IsNext edges from reached m = (e : Edge) × (set.contains edges e ≡ true) × (e.target ≡ m) × (onward from reached e ≡ true)

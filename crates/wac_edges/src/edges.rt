@@ -1,16 +1,19 @@
 //! Labelled edges between numbered nodes.
-ghost use Rattle.std.specs.Prelude.{◌≡◌, ◌≢◌, ℕ, Bool, true, false, if◌then◌else◌, is_ok, OnOk, OnErr, IfSome, IfNone, not, Contains};
+ghost use Rattle.std.specs.Prelude.{◌≡◌, ◌<◌, ◌↔◌, ℕ, true, false, length, OnOk, OnErr, IfOk, IfSome, IfNone, MatchOption, not, Contains};
 ghost use Rattle.std.specs.FinSet as set;
 ghost use Rattle.std.specs.Bool.{OnTrue, OnFalse};
 ghost use Rattle.wac_edges.specs.declared.edges.Label.TheVariants.{Alias, Argument, Dependency};
-ghost use Rattle.wac_edges.specs.Edge.{edge_cmp, alias_edge, argument_edge, IsBlocked, IsFree, blocks, onward, is_left as flag_at};
-ghost use Rattle.wac_edges.specs.Order.{IsNext};
+ghost use Rattle.wac_edges.specs.Edge.{edge_cmp, alias_edge, argument_edge, IsBlocked, IsFree, IsListed, blocks, is_left as flag_at};
+ghost use Rattle.wac_edges.specs.Order.{IsAcyclic, IsEdge, IsLowestOnCycle};
+ghost use Rattle.wac_edges.specs.Cycles.{IsStep};
 ghost use Rattle.wac_edges.specs.declared.edges.Edge.{Edge as AnEdge};
 ghost use Rattle.std.specs.List.{list_any};
 ghost use Rattle.wac_edges.specs.contracts.edges.EdgePartialEq.TheImpl as EdgeEq;
 ghost use Rattle.std.specs.List.{filter};
 
+use crate::cycles::{add_step, empty_sets, lowest_on_cycle};
 use std::alloc::{AllocError, Global};
+use std::collections::BTreeSet;
 use std::marker::Model;
 
 /// What an edge says.
@@ -117,12 +120,21 @@ impl Edges {
         is_blocked_in(&self.list, left, target)
     }
 
-    /// A node that is not reached, to which an edge leads from this node or from one that is reached.
-    pub fn next_reached(&self, from: usize, reached: &[bool]) -> Option<usize>
-        ensures some { IfSome result (λ m. IsNext self.now from (flag_at reached.now) m) }
-        ensures none { IfNone result ((m : ℕ) → IsNext self.now from (flag_at reached.now) m → ⊥) }
+    /// The lowest node on a cycle of edges, all of which lead to one of the first so many nodes.
+    pub fn lowest_on_cycle(&self, alloc: Global, nodes: usize) -> Result<Option<usize>, AllocError>
+        requires { (e : AnEdge) → set.contains self.now e ≡ true → e.target < nodes }
+        ensures { IfOk result (λ o. MatchOption o (IsAcyclic self.now) (λ n. IsLowestOnCycle self.now n)) }
     {
-        next_in(&self.list, from, reached)
+        let targets = self.targets(alloc, nodes)?;
+        lowest_on_cycle(alloc, targets.as_slice())
+    }
+
+    /// For each of the first so many nodes, those to which edges lead from it.
+    fn targets(&self, alloc: Global, nodes: usize) -> Result<Vec<BTreeSet<usize>>, AllocError>
+        ensures counted { IfOk result (λ v. length v.items ≡ nodes) }
+        ensures steps { IfOk result (λ v. (a b : ℕ) → (IsStep v.items a b ↔ ((a < nodes) × IsEdge self.now a b))) }
+    {
+        targets_in(alloc, &self.list, nodes)
     }
 }
 
@@ -181,22 +193,21 @@ fn is_blocked_in(list: &[Edge], left: &[bool], target: usize) -> bool
         .any(|edge| edge.target == target && flag_at(left, edge.source))
 }
 
-fn next_in(list: &[Edge], from: usize, reached: &[bool]) -> Option<usize>
-    ensures some { IfSome result (λ m. (e : AnEdge) × Contains list.now e × (e.target ≡ m) × (onward from (flag_at reached.now) e ≡ true)) }
-    ensures none { IfNone result ((e : AnEdge) → Contains list.now e → onward from (flag_at reached.now) e ≡ false) }
+fn targets_in(
+    alloc: Global,
+    list: &[Edge],
+    nodes: usize,
+) -> Result<Vec<BTreeSet<usize>>, AllocError>
+    ensures counted { IfOk result (λ v. length v.items ≡ nodes) }
+    ensures steps { IfOk result (λ v. (a b : ℕ) → (IsStep v.items a b ↔ ((a < nodes) × IsListed list.now a b))) }
 {
+    let mut targets = empty_sets(alloc, nodes)?;
     for edge in list {
-        if is_onward(*edge, from, reached) {
-            return Some(edge.target);
+        if edge.source < nodes {
+            add_step(&mut targets, edge.source, edge.target)?;
         }
     }
-    None
-}
-
-fn is_onward(edge: Edge, from: usize, reached: &[bool]) -> bool
-    ensures { result ≡ onward from (flag_at reached.now) edge }
-{
-    (edge.source == from || flag_at(reached, edge.source)) && !flag_at(reached, edge.target)
+    Ok(targets)
 }
 
 /// The flag of a node; unset where none is kept.

@@ -26,7 +26,6 @@ use crate::packages::PackageId;
 use std::alloc::{AllocError, Global};
 use std::collections::BTreeSet;
 use wac_binary::{ComponentBuilder, Sort};
-use wac_edges::cycles::lowest_on_cycle;
 use wac_edges::order::order;
 use wac_merge::laws::fault_law;
 use wac_types::{ItemKind, Named};
@@ -127,7 +126,10 @@ impl CompositionGraph {
         requires { (n : ℕ) × IsOnCycle self.now.edges n }
         ensures { IfOk result (λ e. (o : Asked) → IsRefused self.now o e) }
     {
-        let Some(n) = lowest_on_cycle(self.alloc, &self.edges, self.nodes.capacity())? else {
+        let Some(n) = self
+            .edges
+            .lowest_on_cycle(self.alloc, self.nodes.capacity())?
+        else {
             unreachable!()
         };
         Ok(EncodeError::GraphContainsCycle { node: NodeId(n) })

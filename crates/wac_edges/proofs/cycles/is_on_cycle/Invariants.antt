@@ -1,10 +1,10 @@
-use Rattle.std.proofs.Common.{◌≡◌, length, not}
-use Rattle.std.specs.Prelude.{count_by}
-use Rattle.wac_edges.proofs.ReachLemmas.{AllReached}
+use Rattle.std.proofs.Common.{length, ◌+◌}
+use Rattle.wac_edges.specs.CycleSearch.{IsWalk}
+use Rattle.wac_edges.proofs.CycleSearch.{unreached}
 use Rattle.wac_edges.proofs.cycles.is_on_cycle.Given as goal
 
-abbrev pub invariant-loop-m : goal.invariant-loop-m
-invariant-loop-m l = (length l.reached.items ≡ l.nodes) × AllReached l.edges l.n l.reached.items
+abbrev pub invariant-loop-a : goal.invariant-loop-a
+invariant-loop-a l = IsWalk l.targets l.n l.reached.items l.pending.items
 
-abbrev pub decreases-loop-m : goal.decreases-loop-m
-decreases-loop-m l = count_by not l.reached.items
+abbrev pub decreases-loop-a : goal.decreases-loop-a
+decreases-loop-a l = unreached l.reached.items + length l.pending.items
