@@ -9,3 +9,4 @@ pub mod ReadingLaws
 pub mod Views
 pub mod Name
 pub mod Clash
+pub mod Plain

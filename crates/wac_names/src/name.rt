@@ -1,8 +1,9 @@
-ghost use Rattle.std.specs.Prelude.{◌≡◌, ◌≢◌, false, ◌⊎◌, ◌↔◌, ℕ, List, IfOk, IfErr, IsTrue, Ok, Err};
+ghost use Rattle.std.specs.Prelude.{◌≡◌, ◌≢◌, false, ◌⊎◌, ◌↔◌, ℕ, List, IfOk, IfErr, IsOk, IsTrue, Ok, Err};
 ghost use Rattle.wac_names.specs.Faults.{HasFault};
 ghost use Rattle.wac_names.specs.Grammar.{HasKind};
 ghost use Rattle.wac_names.specs.Kind.{Kind};
 ghost use Rattle.wac_names.specs.Name.{IsDecided};
+ghost use Rattle.wac_names.specs.Plain.{IsPlainKind};
 ghost use Rattle.wac_names.specs.Text.{has};
 ghost use Rattle.wac_names.specs.Views.{kind_view};
 ghost use Rattle.wac_names.specs.declared.fault.NameFault.{NameFault};
@@ -43,6 +44,8 @@ impl<'a> ComponentName<'a> {
 
         // A text that has a kind is refused for want of memory alone.
         ensures accepts { (k : Kind) → HasKind text.now k → IfErr result (λ f. f ≡ NameFault.OutOfMemory) }
+        // A name whose versions have no pre-release and no build metadata takes no memory.
+        ensures plain { (k : Kind) → HasKind text.now k → IsPlainKind k → IsOk result }
         // A text without an `@` takes no memory.
         ensures memory { has 64 text.now ≡ false → IfErr result (λ f. f ≢ NameFault.OutOfMemory) }
         // A text that has a fault is never accepted.
