@@ -7,7 +7,7 @@ ghost use Rattle.wac_binary.specs.ModuleView.{module_decl_of};
 use crate::core_types::{EntityType, GlobalType, MemoryType, TableType};
 use crate::put::{put_indexed, put_text, put_unsigned};
 use std::alloc::AllocError;
-use wac_types::{CoreRefType, CoreType};
+use wac_shapes::{CoreRefType, CoreType};
 
 /// A declaration of a core module type that is about to be written, with its parts where they are.
 #[derive(Clone, Copy)]

@@ -1,6 +1,6 @@
 //! What a core module imports or exports.
 
-use wac_types::{CoreRefType, CoreType};
+use wac_shapes::{CoreRefType, CoreType};
 
 /// A table.
 #[derive(Clone, Copy, Debug, PartialEq, Eq)]

@@ -15,7 +15,7 @@ use crate::fault::BinaryFault;
 use crate::put::put_unsigned;
 use std::alloc::{AllocError, Global};
 use std::marker::Model;
-use wac_types::CoreType;
+use wac_shapes::CoreType;
 
 /// A core module type that is being written. Contracts see it as the list of its declarations.
 ///

@@ -9,7 +9,7 @@ ghost use Rattle.wac_binary.specs.Views.{arguments_of};
 use crate::sorts::{Description, Sort};
 use crate::types::ComponentValType;
 use std::alloc::AllocError;
-use wac_types::PrimitiveType;
+use wac_shapes::PrimitiveType;
 
 #[tactic(auto, using(crate::specs::LebLaws::leb_more, crate::specs::LebLaws::leb_last, std::proofs::lemmas::Grind::common_steps))]
 fn put_leb(out: &mut Vec<u8>, limit: u64, n: u64) -> Result<(), AllocError>
