@@ -136,7 +136,6 @@ fn newest_positions(
 }
 
 /// The classes of entries, numbered in order of first appearance.
-#[derive(Drop)]
 pub struct Classes {
     /// The number of each entry's class.
     numbers: Vec<usize>,
@@ -144,6 +143,17 @@ pub struct Classes {
     positions: Vec<usize>,
     /// The number of the class of each name.
     names: Named<usize>,
+}
+
+/// The numbers are let go of here, and not anew at each place where classes go out of scope.
+impl Drop for Classes {
+    fn drop(self) {
+        let Classes {
+            numbers: _,
+            positions: _,
+            names: _,
+        } = self;
+    }
 }
 
 impl Classes {
