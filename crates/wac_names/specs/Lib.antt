@@ -10,3 +10,4 @@ pub mod Views
 pub mod Name
 pub mod Clash
 pub mod Plain
+pub mod NameView

@@ -50,9 +50,6 @@ returns-in_err-kind-clause-refuses c = λ g h.
       | inr same ↦ inr (rw (p.1, p.2, same) refl)
     ]
 
-pub invariant_of-result : goal.invariant_of-result
-invariant_of-result c = kind-read c.args.text.now (kind_view c.in_ok-kind.kind) c.in_ok-kind.ensures.value
-
 pub returns-clause-ok : goal.returns-clause-ok
 returns-clause-ok c = (refl, kind-read c.args.text.now (kind_view c.in_ok-kind.kind) c.in_ok-kind.ensures.value)
 
