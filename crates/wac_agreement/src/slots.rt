@@ -1,4 +1,7 @@
 //! What entries have at each spot of a class.
+//!
+//! Under each place of a class stands what the first entry that has the place exports there, and a later entry is compared with
+//! that alone: entries before the first disagreement all agree.
 ghost use Rattle.std.specs.Prelude.{◌≡◌, ◌<◌, ◌∷◌, ◌++◌, [], length, Some, slice_get, ◌↔◌, IsTrue, IfOk, OnOk};
 ghost use Rattle.std.specs.Option.{MatchOption, option_map};
 ghost use Rattle.wac_entries.specs.Nodes.{type_of};

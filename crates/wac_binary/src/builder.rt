@@ -28,7 +28,6 @@ use std::marker::Model;
 /// A writer takes any index: what it stands for is a matter of the items. Each writer adds one item at the end and
 /// answers the index that the item adds to the space of its sort. It answers `TooLarge` exactly where the items with
 /// the new one no longer fit 32 bits, and `OutOfMemory` where memory is refused; then it has added nothing.
-#[derive(Drop)]
 pub struct ComponentBuilder {
     alloc: Global,
     bytes: Vec<u8>,
@@ -37,6 +36,20 @@ pub struct ComponentBuilder {
     open_section: Option<Open>,
     counts: [u64; 7],
     ghost written: { Written bytes.items open_section things.items } by { Written_prop bytes.items open_section things.items },
+}
+
+/// What is written is let go of here, and not anew at each place where a builder goes out of scope.
+impl Drop for ComponentBuilder {
+    fn drop(self) {
+        let ComponentBuilder {
+            alloc: _,
+            bytes: _,
+            things: _,
+            next: _,
+            open_section: _,
+            counts: _,
+        } = self;
+    }
 }
 
 impl Model for ComponentBuilder {

@@ -26,9 +26,15 @@ use std::marker::Model;
 /// the end and answers the index that it adds to the space of its sort, in the scope of the instance type. It
 /// answers `TooLarge` exactly where the declarations with the new one no longer fit 32 bits, and `OutOfMemory` where
 /// memory is refused; then it has added nothing.
-#[derive(Drop)]
 pub struct InstanceType {
     declarations: Declarations,
+}
+
+/// What is written is let go of here, and not anew at each place where a builder goes out of scope.
+impl Drop for InstanceType {
+    fn drop(self) {
+        let InstanceType { declarations: _ } = self;
+    }
 }
 
 impl Model for InstanceType {

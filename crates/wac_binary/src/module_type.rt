@@ -21,12 +21,22 @@ use wac_shapes::CoreType;
 ///
 /// Each writer adds one declaration at the end. It answers `TooLarge` exactly where the declarations with the new one
 /// no longer fit 32 bits, and `OutOfMemory` where memory is refused; then it has added nothing.
-#[derive(Drop)]
 pub struct ModuleType {
     bytes: Vec<u8>,
     count: u64,
     types: u64,
     ghost written: { WrittenModule bytes.items count } by { WrittenModule_prop bytes.items count },
+}
+
+/// What is written is let go of here, and not anew at each place where a builder goes out of scope.
+impl Drop for ModuleType {
+    fn drop(self) {
+        let ModuleType {
+            bytes: _,
+            count: _,
+            types: _,
+        } = self;
+    }
 }
 
 impl Model for ModuleType {

@@ -1,4 +1,9 @@
 //! The sections of a component: finished ones, and one that is open for further items of its id.
+//!
+//! The first item of a new section goes to a buffer of its own, which is swapped in where the item fits; every other item is
+//! written once, into the open section, and cut off where it is refused. Whether a section fits is clear from its count and its
+//! size alone unless their sum is near 2 ^ 32, since a number has at most one byte more than its value; the count's own length
+//! is looked at only there.
 
 ghost use Rattle.std.specs.Prelude.{◌≡◌, List, ℕ, ◌+◌, ◌<◌, ◌≤◌, ◌^◌, ◌++◌, ◌∷◌, [], length, OnOk, OnErr, IfOk, IfErr, IfSome, ◌↔◌, IsTrue};
 ghost use Rattle.std.specs.List.{flat_map};

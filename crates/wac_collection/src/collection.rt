@@ -50,7 +50,6 @@ pub struct Held<T> {
 }
 
 /// A collection of types. Each item mentions only items added before it.
-#[derive(Drop)]
 pub struct Types {
     alloc: Global,
     resources: Vec<Shared<Resource>>,
@@ -63,6 +62,23 @@ pub struct Types {
     interfaces: Vec<Shared<Interface>>,
     worlds: Vec<Shared<World>>,
     modules: Vec<Shared<ModuleType>>,
+}
+
+/// Each item is let go of here, and not anew by each program that drops a collection.
+impl Drop for Types {
+    fn drop(self) {
+        let Types {
+            alloc: _,
+            resources: _,
+            resource_ends: _,
+            funcs: _,
+            defined: _,
+            value_ends: _,
+            interfaces: _,
+            worlds: _,
+            modules: _,
+        } = self;
+    }
 }
 
 impl Model for Types {

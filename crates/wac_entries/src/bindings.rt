@@ -151,12 +151,21 @@ fn first_classes(
 }
 
 /// What the classes of asked entries bind.
-#[derive(Drop)]
 pub struct Bindings {
     /// What each class binds.
     classes: Vec<Bound>,
     /// The number of the first class that binds each resource.
     firsts: IndexMap<ResourceId, usize>,
+}
+
+/// What classes bind is let go of here, and not anew at each place where it goes out of scope.
+impl Drop for Bindings {
+    fn drop(self) {
+        let Bindings {
+            classes: _,
+            firsts: _,
+        } = self;
+    }
 }
 
 impl Model for Bindings {

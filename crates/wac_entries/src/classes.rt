@@ -1,4 +1,7 @@
 //! The classes of entries.
+//!
+//! A class is known by a key: that of the track where its name is one of an instance, else `-` and the name. Keys are equal
+//! exactly where names are of one class, so classes are numbered by look-ups, and a name that was seen is not read again.
 ghost use Rattle.std.specs.Prelude.{◌≡◌, ◌+◌, ◌<◌, ℕ, List, [], length, Some, IfOk, OnOk, slice_get, take, string_bytes, is_some};
 ghost use Rattle.std.specs.Option.{option_and_then};
 ghost use Rattle.wac_shapes.specs.Name.{Name, find_name};
@@ -136,7 +139,6 @@ fn newest_positions(
 }
 
 /// The classes of entries, numbered in order of first appearance.
-#[derive(Drop)]
 pub struct Classes {
     /// The number of each entry's class.
     numbers: Vec<usize>,
@@ -144,6 +146,17 @@ pub struct Classes {
     positions: Vec<usize>,
     /// The number of the class of each name.
     names: Named<usize>,
+}
+
+/// The numbers are let go of here, and not anew at each place where classes go out of scope.
+impl Drop for Classes {
+    fn drop(self) {
+        let Classes {
+            numbers: _,
+            positions: _,
+            names: _,
+        } = self;
+    }
 }
 
 impl Classes {

@@ -1,4 +1,7 @@
 //! What a scope lists, as nodes of a table.
+//!
+//! An entry's types are put into the table scope by scope, from the innermost out, each scope with a memo of its own: nothing
+//! recurses, and each type is treated once in each scope that mentions it.
 ghost use Rattle.std.specs.Prelude.{◌≡◌, [], true, IfOk, OnOk};
 ghost use Rattle.wac_collection.specs.Collection.{holds_type};
 ghost use Rattle.wac_shapes.specs.Kinds.{kind_type};

@@ -7,12 +7,21 @@ use std::collections::HashMap;
 use wac_types::{DefinedTypeId, FuncTypeId};
 
 /// The numbers of the types of a scope: of those that have one so far.
-#[derive(Drop)]
 pub struct Memo {
     /// Those of definitions.
     defined: HashMap<DefinedTypeId, usize>,
     /// Those of function types.
     funcs: HashMap<FuncTypeId, usize>,
+}
+
+/// The numbers are let go of here, and not anew at each place where they go out of scope.
+impl Drop for Memo {
+    fn drop(self) {
+        let Memo {
+            defined: _,
+            funcs: _,
+        } = self;
+    }
 }
 
 impl Memo {

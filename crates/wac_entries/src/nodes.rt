@@ -86,9 +86,15 @@ pub enum Node {
 }
 
 /// Nodes, each once, which mention lower ones.
-#[derive(Drop)]
 pub struct Nodes {
     nodes: IndexSet<Node>,
+}
+
+/// The nodes are let go of here, and not anew at each place where a table goes out of scope.
+impl Drop for Nodes {
+    fn drop(self) {
+        let Nodes { nodes: _ } = self;
+    }
 }
 
 impl Model for Nodes {

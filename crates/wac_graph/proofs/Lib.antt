@@ -11,7 +11,6 @@ pub mod AliasLemmas
 pub mod HeldLemmas
 pub mod ExternNameLemmas
 pub mod ImportLemmas
-pub mod NameRows
 pub mod ExportLemmas
 pub mod SatisfyLemmas
 pub mod ArgumentLemmas
@@ -21,7 +20,6 @@ pub mod CauseLemmas
 pub mod ConflictLemmas
 pub mod WriteAliasLemmas
 pub mod WriteArgumentsLemmas
-pub mod Rows
 pub mod ImportRows
 pub mod EntryLists
 pub mod UsedEntries
@@ -29,9 +27,6 @@ pub mod AskingTasks
 pub mod AskingKnown
 pub mod AskingLoops
 pub mod AskingWalk
-pub mod ImportExample
-pub mod EntryExample
-pub mod CauseExample
 pub mod OuterOrder
 pub mod AskedHeld
 pub mod MergeLemmas

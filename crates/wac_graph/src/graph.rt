@@ -34,7 +34,6 @@ use wac_types::{
 };
 
 /// A composition graph.
-#[derive(Drop)]
 pub struct CompositionGraph {
     pub(crate) alloc: Global,
     pub(crate) types: Types,
@@ -44,6 +43,22 @@ pub struct CompositionGraph {
     pub(crate) exports: IndexMap<String, NodeId>,
     pub(crate) package_map: IndexMap<PackageKey, PackageId>,
     pub(crate) slots: Vec<Slot>,
+}
+
+/// What a graph holds is let go of here, and not anew by each program that drops one.
+impl Drop for CompositionGraph {
+    fn drop(self) {
+        let CompositionGraph {
+            alloc: _,
+            types: _,
+            nodes: _,
+            edges: _,
+            imports: _,
+            exports: _,
+            package_map: _,
+            slots: _,
+        } = self;
+    }
 }
 
 impl Model for CompositionGraph {

@@ -34,11 +34,21 @@ struct Finished {
 }
 
 /// Imports that are asked for, in order; once finished, with their classes and their merge.
-#[derive(Drop)]
 pub struct TypeAggregator {
     alloc: Global,
     entries: Vec<Entry>,
     finished: Option<Finished>,
+}
+
+/// What an aggregator holds is let go of here, and not anew by each program that drops one.
+impl Drop for TypeAggregator {
+    fn drop(self) {
+        let TypeAggregator {
+            alloc: _,
+            entries: _,
+            finished: _,
+        } = self;
+    }
 }
 
 impl Model for TypeAggregator {
@@ -76,7 +86,7 @@ impl TypeAggregator {
         let TypeAggregator {
             alloc,
             mut entries,
-            ..
+            finished: _,
         } = self;
         entries.push(Entry::new(alloc, name, kind)?)?;
         Ok(TypeAggregator {
@@ -105,7 +115,11 @@ impl TypeAggregator {
         ensures fault { IfErr result (λ e. IfSome (fault_of e) (HasFault by_names types.now self.entries)) }
         ensures refused { (fault : AFault) → HasFault by_names types.now self.entries fault → IsErrAnd result (λ e. (fault_of e ≡ Some fault) ⊎ (e ≡ MergeFault.OutOfMemory)) }
     {
-        let TypeAggregator { alloc, entries, .. } = self;
+        let TypeAggregator {
+            alloc,
+            entries,
+            finished: _,
+        } = self;
         let asked = entries.as_slice();
         let classes = Classes::new(alloc, asked)?;
         let bindings = Bindings::new(alloc, types, asked, &classes)?;

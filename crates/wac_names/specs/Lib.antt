@@ -9,3 +9,5 @@ pub mod ReadingLaws
 pub mod Views
 pub mod Name
 pub mod Clash
+pub mod Plain
+pub mod NameView

@@ -4,6 +4,7 @@ ghost use Rattle.std.specs.Prelude.{◌≡◌, ◌↔◌, ◌⊎◌, ℕ, List, 
 ghost use Rattle.std.specs.Option.{option_copied};
 ghost use Rattle.wac_names.specs.Clash.{Clash, IsItsConstructor, plain};
 ghost use Rattle.wac_names.specs.Grammar.{HasKind};
+ghost use Rattle.wac_names.specs.NameView.{name_view};
 ghost use Rattle.wac_names.specs.Views.{kind_view};
 
 use crate::kind::ComponentNameKind;
@@ -50,7 +51,7 @@ fn are_label_and_constructor(a: ComponentNameKind<'_>, b: ComponentNameKind<'_>)
 /// dropped and letters are lowered; a label and the constructor of exactly that label don't. All other
 /// names clash only where they are equal. Takes no memory.
 pub fn clash(a: &ComponentName<'_>, b: &ComponentName<'_>) -> bool
-    ensures { IsTrue result ↔ Clash a.now.text b.now.text }
+    ensures { IsTrue result ↔ Clash (name_view a.now).text (name_view b.now).text }
 {
     let one = a.kind();
     let other = b.kind();

@@ -1,8 +1,9 @@
-ghost use Rattle.std.specs.Prelude.{◌≡◌, ◌↔◌, IfOk, IsOk, IsTrue, None};
+ghost use Rattle.std.specs.Prelude.{◌≡◌, ◌↔◌, IfOk, IfSome, IsOk, IsTrue, None};
 ghost use Rattle.std.specs.Option.{option_copied, option_map};
 ghost use Rattle.semver.specs.Identifiers.{parts_of};
 ghost use Rattle.wac_names.specs.Track.{parts_piece};
 ghost use Rattle.wac_names.specs.Kind.{IsExportable};
+ghost use Rattle.wac_names.specs.Plain.{IsPlainVersion};
 ghost use Rattle.wac_names.specs.Views.{interface_name, interface_package, interface_version, kind_view, package_view, hash_text, url_integrity, url_text};
 
 use crate::reading::parse_version;
@@ -175,7 +176,8 @@ impl<'a> InterfaceName<'a> {
     /// A version without pre-release and build metadata takes no memory.
     pub fn version(&self, alloc: Global) -> Result<Option<Version>, AllocError>
         ensures value { IfOk result (λ v. option_map parts_of v ≡ parts_piece (interface_version self.now)) }
-        ensures plain { interface_version self.now ≡ None → IsOk result }
+        ensures none { interface_version self.now ≡ None → IsOk result }
+        ensures plain { IfSome (interface_version self.now) IsPlainVersion → IsOk result }
     {
         parse_version(alloc, self.version)
     }

@@ -1,8 +1,14 @@
-ghost use Rattle.std.specs.Prelude.{◌≡◌, ◌≢◌, false, ◌⊎◌, ◌↔◌, ℕ, List, IfOk, IfErr, IsTrue, Ok, Err};
+ghost use Rattle.std.specs.Prelude.{◌≡◌, ◌≢◌, false, ◌⊎◌, ◌↔◌, ℕ, List, IfOk, IfErr, IsOk, IsTrue, Ok, Err, nat_eq};
+ghost use Rattle.std.proofs.Common.{ap, sym};
+ghost use Rattle.std.specs.Cmp.{on_equiv, on_per, partial_equiv_from_equiv};
+ghost use Rattle.std.specs.Cmp.Lexicographic.{nat_list_eq_equiv, pointwise, same_text};
+ghost use Rattle.std.specs.Hash as fed;
 ghost use Rattle.wac_names.specs.Faults.{HasFault};
 ghost use Rattle.wac_names.specs.Grammar.{HasKind};
 ghost use Rattle.wac_names.specs.Kind.{Kind};
 ghost use Rattle.wac_names.specs.Name.{IsDecided};
+ghost use Rattle.wac_names.specs.Plain.{IsPlainKind};
+ghost use Rattle.wac_names.specs.Reading.{read};
 ghost use Rattle.wac_names.specs.Text.{has};
 ghost use Rattle.wac_names.specs.Views.{kind_view};
 ghost use Rattle.wac_names.specs.declared.fault.NameFault.{NameFault};
@@ -11,38 +17,31 @@ use crate::fault::NameFault;
 use crate::kind::ComponentNameKind;
 use crate::reading;
 use std::alloc::Global;
-use std::marker::Model;
+use std::hash::{Hash, Hasher};
 
 /// A component name: a text that the grammar allows, and its kind.
-#[derive(Debug, Drop)]
+#[derive(Clone, Copy, Debug)]
 pub struct ComponentName<'a> {
     text: &'a str,
     kind: ComponentNameKind<'a>,
-}
-
-impl<'a> Model for ComponentName<'a> {
-    ghost use Rattle.wac_names.specs.Grammar.{HasKind};
-    ghost use Rattle.wac_names.specs.Name.{Name};
-    ghost use Rattle.wac_names.specs.Views.{kind_view};
-
-    ghost Value = { Name };
-
-    ghost view = { λ n. record { text = n.text.now; kind = kind_view n.kind } };
-
-    ghost invariant = { λ n. HasKind n.text.now (kind_view n.kind) };
+    ghost is_read: { read text.now ≡ Ok (kind_view kind) },
 }
 
 impl<'a> ComponentName<'a> {
+    ghost use Rattle.wac_names.specs.NameView.{name_view};
+
     /// The name that a text is, or why it is none.
     ///
     /// `OutOfMemory` comes where memory is refused for the pre-release or the build metadata of a
     /// version; any other fault is that of the text.
     pub fn new(alloc: Global, text: &'a str) -> Result<Self, NameFault>
-        ensures ok { IfOk result (λ n. (n.text ≡ text.now) × HasKind text.now n.kind) }
+        ensures ok { IfOk result (λ n. ((name_view n).text ≡ text.now) × HasKind text.now (name_view n).kind) }
         ensures fault { IfErr result (λ f. (f ≡ NameFault.OutOfMemory) ⊎ HasFault text.now f) }
 
         // A text that has a kind is refused for want of memory alone.
         ensures accepts { (k : Kind) → HasKind text.now k → IfErr result (λ f. f ≡ NameFault.OutOfMemory) }
+        // A name whose versions have no pre-release and no build metadata takes no memory.
+        ensures plain { (k : Kind) → HasKind text.now k → IsPlainKind k → IsOk result }
         // A text without an `@` takes no memory.
         ensures memory { has 64 text.now ≡ false → IfErr result (λ f. f ≢ NameFault.OutOfMemory) }
         // A text that has a fault is never accepted.
@@ -55,17 +54,49 @@ impl<'a> ComponentName<'a> {
 
     /// What the name is, with its pieces. Takes no memory.
     pub fn kind(&self) -> ComponentNameKind<'a>
-        ensures value { kind_view result ≡ self.now.kind }
-        ensures kind { HasKind self.now.text (kind_view result) }
+        ensures value { kind_view result ≡ (name_view self.now).kind }
+        ensures kind { HasKind (name_view self.now).text (kind_view result) }
     {
         self.kind
     }
 
     /// The text of the name.
     pub fn as_str(&self) -> &'a str
-        ensures value { result.now ≡ self.now.text }
+        ensures value { result.now ≡ (name_view self.now).text }
     {
         self.text
+    }
+}
+
+/// Names are equal where their texts are.
+impl<'a> PartialEq for ComponentName<'a> {
+    ghost use Rattle.wac_names.specs.NameView.{text_of};
+
+    ghost eq = { λ a b. pointwise nat_eq (text_of a) (text_of b) };
+
+    ghost laws = { on_per text_of (partial_equiv_from_equiv nat_list_eq_equiv) };
+
+    fn eq(&self, other: &ComponentName<'a>) -> bool {
+        self.as_str() == other.as_str()
+    }
+}
+
+impl<'a> Eq for ComponentName<'a> {
+    ghost use Rattle.wac_names.specs.NameView.{text_of};
+
+    ghost laws = { on_equiv text_of nat_list_eq_equiv };
+}
+
+/// A name is hashed as its text is.
+impl<'a> Hash for ComponentName<'a> {
+    ghost use Rattle.wac_names.specs.NameView.{text_of};
+
+    ghost hash_input = { λ n. fed.str (text_of n) };
+
+    ghost respects_eq = { λ a b e. ap fed.str (same_text (text_of a) (text_of b) (sym e)) };
+
+    fn hash<H: Hasher>(&self, state: &mut H) {
+        self.as_str().hash(state);
     }
 }
 

@@ -1,11 +1,12 @@
 // A text is cut once, from the left.
 
-ghost use Rattle.std.specs.Prelude.{◌≡◌, ◌≢◌, IfErr, IfOk, IsOk, None, Ok, Err, false};
+ghost use Rattle.std.specs.Prelude.{◌≡◌, ◌≢◌, IfErr, IfOk, IfSome, IsOk, None, Ok, Err, false};
 ghost use Rattle.wac_names.specs.Text.{has};
 ghost use Rattle.semver.specs.Identifiers.{parts_of};
 ghost use Rattle.std.specs.Option.{option_copied, option_map};
 ghost use Rattle.wac_names.specs.Track.{parts_piece};
 ghost use Rattle.wac_names.specs.Grammar.{is_version};
+ghost use Rattle.wac_names.specs.Plain.{AnswersPlain, IsPlainKind, IsPlainRange, IsPlainVersion};
 ghost use Rattle.wac_names.specs.Kind.{constructor, hash, label, method, static};
 ghost use Rattle.wac_names.specs.Reading.{Gives, GivesOrMemory, Passes, PassesOrMemory, is_interface_name, is_label, is_package, is_version_piece, named_package, package_of, read, read_bracketed, read_from, read_hash, read_interface, read_interface_parts, read_label, read_locked, read_locked_inside, read_marked, read_path, read_placed, read_plain, read_range, read_range_piece, read_tail, read_unlocked, read_unlocked_inside, read_url};
 ghost use Rattle.wac_names.specs.Views.{kind_view, dependency_view, interface_view, package_view, range_view, url_view};
@@ -21,18 +22,15 @@ use semver::Version;
 use std::alloc::{AllocError, Global};
 
 /// A version, or the fault.
+#[tactic(auto, unfolding(crate::specs::Track::parts_piece))]
 fn check_version(alloc: Global, text: &str, fault: NameFault) -> Result<(), NameFault>
-    ensures { PassesOrMemory (is_version text.now) fault result (λ _. Unit {0}) }
+    ensures value { PassesOrMemory (is_version text.now) fault result (λ _. Unit {0}) }
+    ensures plain { IsPlainVersion text.now → IsOk result }
 {
-    match Version::parse(alloc, text) {
-        Ok(_) => Ok(()),
-        Err(error) => {
-            if error == semver::Error::from(AllocError) {
-                Err(NameFault::OutOfMemory)
-            } else {
-                Err(fault)
-            }
-        }
+    match parse_version(alloc, Some(text)) {
+        Ok(Some(_)) => Ok(()),
+        Ok(None) => Err(fault),
+        Err(_) => Err(NameFault::OutOfMemory),
     }
 }
 
@@ -114,7 +112,8 @@ fn tail(text: &str) -> Result<Option<&str>, NameFault>
 /// One of `{>=low}` and `{>=low <high}`, without its braces and its `>=`.
 #[tactic(auto, unfolding(crate::specs::Reading::read_from))]
 fn range_from(alloc: Global, text: &str) -> Result<VersionRange<'_>, NameFault>
-    ensures { GivesOrMemory range_view result (read_from text.now) }
+    ensures value { GivesOrMemory range_view result (read_from text.now) }
+    ensures plain { AnswersPlain IsPlainRange (read_from text.now) result }
 {
     let Some((low, rest)) = cut(text, ' ') else {
         check_version(alloc, text, NameFault::BadRange)?;
@@ -131,7 +130,8 @@ fn range_from(alloc: Global, text: &str) -> Result<VersionRange<'_>, NameFault>
 /// A range of versions.
 #[tactic(auto, unfolding(crate::specs::Reading::read_range))]
 fn range(alloc: Global, text: &str) -> Result<VersionRange<'_>, NameFault>
-    ensures { GivesOrMemory range_view result (read_range text.now) }
+    ensures value { GivesOrMemory range_view result (read_range text.now) }
+    ensures plain { AnswersPlain IsPlainRange (read_range text.now) result }
 {
     if let Some(rest) = strip(text, "{>=") {
         let Some(bounds) = strip_end(rest, '}') else {
@@ -155,7 +155,8 @@ fn range(alloc: Global, text: &str) -> Result<VersionRange<'_>, NameFault>
 /// The range where there is one.
 fn range_piece(alloc: Global, text: Option<&str>) -> Result<Option<VersionRange<'_>>, NameFault>
     ensures value { GivesOrMemory (option_map range_view) result (read_range_piece (option_copied text.entry)) }
-    ensures plain { option_copied text.entry ≡ None → IsOk result }
+    ensures none { option_copied text.entry ≡ None → IsOk result }
+    ensures plain { AnswersPlain (λ r. IfSome r IsPlainRange) (read_range_piece (option_copied text.entry)) result }
 {
     match text {
         Some(text) => Ok(Some(range(alloc, text)?)),
@@ -167,7 +168,8 @@ fn range_piece(alloc: Global, text: Option<&str>) -> Result<Option<VersionRange<
 #[tactic(auto, unfolding(crate::specs::Reading::is_version_piece))]
 fn check_version_piece(alloc: Global, text: Option<&str>) -> Result<(), NameFault>
     ensures value { PassesOrMemory (is_version_piece (option_copied text.entry)) NameFault.BadVersion result (λ _. Unit {0}) }
-    ensures plain { option_copied text.entry ≡ None → IsOk result }
+    ensures none { option_copied text.entry ≡ None → IsOk result }
+    ensures plain { IfSome (option_copied text.entry) IsPlainVersion → IsOk result }
 {
     match text {
         Some(text) => check_version(alloc, text, NameFault::BadVersion),
@@ -179,6 +181,7 @@ fn check_version_piece(alloc: Global, text: Option<&str>) -> Result<(), NameFaul
 #[tactic(auto, using(crate::proofs::MemoryFacts::has_front, crate::proofs::MemoryFacts::no_piece), unfolding(crate::specs::Reading::read_unlocked, crate::specs::Reading::read_unlocked_inside))]
 fn unlocked(alloc: Global, text: &str) -> Result<DependencyName<'_>, NameFault>
     ensures value { GivesOrMemory dependency_view result (read_unlocked text.now) }
+    ensures plain { AnswersPlain IsPlainKind (read_unlocked text.now) result }
     ensures memory { has 64 text.now ≡ false → IfErr result (λ f. f ≢ NameFault.OutOfMemory) }
 {
     let Some(inside) = strip_end(text, '>') else {
@@ -194,6 +197,7 @@ fn unlocked(alloc: Global, text: &str) -> Result<DependencyName<'_>, NameFault>
 #[tactic(auto, using(crate::proofs::MemoryFacts::has_part, crate::proofs::MemoryFacts::no_piece), unfolding(crate::specs::Reading::read_locked, crate::specs::Reading::read_locked_inside))]
 fn locked(alloc: Global, text: &str) -> Result<DependencyName<'_>, NameFault>
     ensures value { GivesOrMemory dependency_view result (read_locked text.now) }
+    ensures plain { AnswersPlain IsPlainKind (read_locked text.now) result }
     ensures memory { has 64 text.now ≡ false → IfErr result (λ f. f ≢ NameFault.OutOfMemory) }
 {
     let Some((inside, rest)) = cut(text, '>') else {
@@ -230,6 +234,7 @@ fn url(text: &str) -> Result<UrlName<'_>, NameFault>
 #[tactic(auto, using(crate::proofs::MemoryFacts::no_piece), unfolding(crate::specs::Reading::read_interface))]
 fn interface(alloc: Global, text: &str) -> Result<InterfaceName<'_>, NameFault>
     ensures value { GivesOrMemory interface_view result (read_interface text.now) }
+    ensures plain { AnswersPlain IsPlainKind (read_interface text.now) result }
     ensures memory { has 64 text.now ≡ false → IfErr result (λ f. f ≢ NameFault.OutOfMemory) }
 {
     let (name, version) = versioned(text);
@@ -269,6 +274,7 @@ fn bracketed(text: &str) -> Result<ComponentNameKind<'_>, NameFault>
 #[tactic(auto, unfolding(crate::specs::Reading::read_plain))]
 fn plain(alloc: Global, text: &str) -> Result<ComponentNameKind<'_>, NameFault>
     ensures value { GivesOrMemory kind_view result (read_plain text.now) }
+    ensures plain { AnswersPlain IsPlainKind (read_plain text.now) result }
     ensures memory { has 64 text.now ≡ false → IfErr result (λ f. f ≢ NameFault.OutOfMemory) }
 {
     match cut(text, ':') {
@@ -281,6 +287,7 @@ fn plain(alloc: Global, text: &str) -> Result<ComponentNameKind<'_>, NameFault>
 #[tactic(auto, using(crate::proofs::MemoryFacts::has_behind), unfolding(crate::specs::Reading::read_placed))]
 fn placed(alloc: Global, text: &str) -> Result<ComponentNameKind<'_>, NameFault>
     ensures value { GivesOrMemory kind_view result (read_placed text.now) }
+    ensures plain { AnswersPlain IsPlainKind (read_placed text.now) result }
     ensures memory { has 64 text.now ≡ false → IfErr result (λ f. f ≢ NameFault.OutOfMemory) }
 {
     if let Some(rest) = strip(text, "url=<") {
@@ -297,6 +304,7 @@ fn placed(alloc: Global, text: &str) -> Result<ComponentNameKind<'_>, NameFault>
 #[tactic(auto, using(crate::proofs::MemoryFacts::has_behind), unfolding(crate::specs::Reading::read_marked))]
 fn marked(alloc: Global, text: &str) -> Result<ComponentNameKind<'_>, NameFault>
     ensures value { GivesOrMemory kind_view result (read_marked text.now) }
+    ensures plain { AnswersPlain IsPlainKind (read_marked text.now) result }
     ensures memory { has 64 text.now ≡ false → IfErr result (λ f. f ≢ NameFault.OutOfMemory) }
 {
     if let Some(rest) = strip(text, "unlocked-dep=<") {
@@ -312,6 +320,7 @@ fn marked(alloc: Global, text: &str) -> Result<ComponentNameKind<'_>, NameFault>
 #[tactic(auto, unfolding(crate::specs::Reading::read))]
 pub(crate) fn kind(alloc: Global, text: &str) -> Result<ComponentNameKind<'_>, NameFault>
     ensures value { GivesOrMemory kind_view result (read text.now) }
+    ensures plain { AnswersPlain IsPlainKind (read text.now) result }
     ensures memory { has 64 text.now ≡ false → IfErr result (λ f. f ≢ NameFault.OutOfMemory) }
 {
     if text.is_empty() {
@@ -340,7 +349,8 @@ pub(crate) fn parse_version(
     text: Option<&str>,
 ) -> Result<Option<Version>, AllocError>
     ensures value { IfOk result (λ v. option_map parts_of v ≡ parts_piece (option_copied text.entry)) }
-    ensures plain { option_copied text.entry ≡ None → IsOk result }
+    ensures none { option_copied text.entry ≡ None → IsOk result }
+    ensures plain { IfSome (option_copied text.entry) IsPlainVersion → IsOk result }
 {
     let Some(text) = text else {
         return Ok(None);

@@ -4,9 +4,10 @@ ghost use Rattle.std.specs.Prelude.{◌≡◌, ◌↔◌, ℕ, List, Option, IfO
 ghost use Rattle.std.specs.Option.{option_cmp, option_copied, option_map};
 ghost use Rattle.semver.specs.Identifiers.{parts_of};
 ghost use Rattle.semver.specs.Parse.{Parts};
+ghost use Rattle.wac_names.specs.Plain.{IsPlainText, IsPlainVersion};
 ghost use Rattle.wac_names.specs.Reading.{is_interface_name, read_track, read_version, track_at};
 ghost use Rattle.wac_names.specs.ReadingLaws.{ReadingLaws};
-ghost use Rattle.wac_names.specs.Text.{has, before};
+ghost use Rattle.wac_names.specs.Text.{after, has, before};
 ghost use Rattle.wac_names.specs.Track.{HasTrack, HasVersion, KeysTellTracks, OneTrack, OneTrackLaws, key_text, parts_piece, VersionLaws, series, version_cmp};
 ghost use Rattle.wac_names.specs.Views.{track_view};
 
@@ -49,7 +50,8 @@ pub enum Track<'a> {
 #[tactic(auto, unfolding(crate::specs::Reading::read_version, crate::specs::Reading::version_piece))]
 fn version(alloc: Global, text: &str) -> Result<Option<Version>, AllocError>
     ensures value { IfOk result (λ v. option_map parts_of v ≡ read_version text.now) }
-    ensures plain { has 64 text.now ≡ false → IsOk result }
+    ensures memory { has 64 text.now ≡ false → IsOk result }
+    ensures plain { IsPlainVersion (after 64 text.now) → IsOk result }
 {
     let (name, version) = versioned(text);
     if is_interface_name(name) {
@@ -96,10 +98,11 @@ impl<'a> Track<'a> {
     /// The track of a text: that of its release where it is an interface name with a version that
     /// isn't a pre-release, and else the whole text. Build metadata doesn't count.
     ///
-    /// A text without a version takes no memory.
+    /// A text without an `@` takes no memory, nor does one whose version has no pre-release and no build metadata.
     pub fn new(alloc: Global, text: &'a str) -> Result<Self, AllocError>
         ensures value { IfOk result (λ t. HasTrack text.now (track_view t)) }
-        ensures plain { has 64 text.now ≡ false → IsOk result }
+        ensures memory { has 64 text.now ≡ false → IsOk result }
+        ensures plain { IsPlainVersion (after 64 text.now) → IsOk result }
     {
         let version = version(alloc, text)?;
         let (name, _) = versioned(text);
@@ -123,9 +126,10 @@ impl<'a> Track<'a> {
 
 /// Whether two names have one track.
 ///
-/// Names without a version take no memory.
+/// A text without an `@` takes no memory, nor does one whose version has no pre-release and no build metadata.
 pub fn are_semver_compatible(alloc: Global, a: &str, b: &str) -> Result<bool, AllocError>
     ensures value { IfOk result (λ r. IsTrue r ↔ OneTrack a.now b.now) }
+    ensures plain { IsPlainText a.now → IsPlainText b.now → IsOk result }
 {
     let a = Track::new(alloc, a)?;
     let b = Track::new(alloc, b)?;
@@ -135,10 +139,11 @@ pub fn are_semver_compatible(alloc: Global, a: &str, b: &str) -> Result<bool, Al
 /// The order of two interface names by their versions: by number, then by pre-release, then by build
 /// metadata. A name without a version comes before each that has one.
 ///
-/// Names without a version take no memory.
+/// A text without an `@` takes no memory, nor does one whose version has no pre-release and no build metadata.
 pub fn compare_versions(alloc: Global, a: &str, b: &str) -> Result<Ordering, AllocError>
     ensures value { IfOk result (λ o. (x : Option Parts) × (y : Option Parts) × HasVersion a.now x × HasVersion b.now y
         × (o ≡ option_cmp version_cmp x y)) }
+    ensures plain { IsPlainText a.now → IsPlainText b.now → IsOk result }
 {
     let a = version(alloc, a)?;
     let b = version(alloc, b)?;

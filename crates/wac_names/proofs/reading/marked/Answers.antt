@@ -28,3 +28,11 @@ returns-in-Some-strip-clause-value c = search rules
 pub returns-clause-value : goal.returns-clause-value
 unfolding read_marked begins
 returns-clause-value c = search rules
+
+pub returns-in_err-locked-clause-plain : goal.returns-in_err-locked-clause-plain
+unfolding read_marked begins
+returns-in_err-locked-clause-plain c = search rules
+
+pub returns-clause-plain : goal.returns-clause-plain
+unfolding read_marked begins
+returns-clause-plain c = search rules

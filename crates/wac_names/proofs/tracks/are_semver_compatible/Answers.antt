@@ -15,5 +15,5 @@ compatible s t a b r h g e = (
   λ w. e ∙ (same-track a b).1 (had-track s (track_view a) h ∙ (one_track-read s t w ∙ sym (had-track t (track_view b) g))),
 )
 
-pub returns : goal.returns
-returns c = record { value = compatible c.args.a.now c.args.b.now c.in_ok-a.a c.in_ok-b.b c.eq.result c.in_ok-a.ensures.value c.in_ok-b.ensures.value c.eq.ensures }
+pub returns-clause-value : goal.returns-clause-value
+returns-clause-value c = compatible c.args.a.now c.args.b.now c.in_ok-a.a c.in_ok-b.b c.eq.result c.in_ok-a.ensures.value c.in_ok-b.ensures.value c.eq.ensures

@@ -15,8 +15,8 @@ compared None (Some y) = refl
 compared (Some x) None = refl
 compared (Some x) (Some y) = refl
 
-pub returns : goal.returns
-returns c =
+pub returns-clause-value : goal.returns-clause-value
+returns-clause-value c =
     let a = c.args.a.now in
     let b = c.args.b.now in
-    record { value = (read_version a, read_version b, version-had a, version-had b, c.cmp.ensures ∙ (compared c.in_ok-a.a c.in_ok-b.b ∙ rw (c.in_ok-a.ensures.value, c.in_ok-b.ensures.value) refl)) }
+    (read_version a, read_version b, version-had a, version-had b, c.cmp.ensures ∙ (compared c.in_ok-a.a c.in_ok-b.b ∙ rw (c.in_ok-a.ensures.value, c.in_ok-b.ensures.value) refl))

@@ -27,6 +27,11 @@ check-requires-clause-held c =
     let same : c.as_slice-asked.result.now ≡ c.args.self.entries = c.as_slice-asked.ensures.value ∙ ap (λ (a : Aggregate). a.entries) c.self.view_is in
     subst (λ (es : List Entry). AreHeld c.args.types.now es) (sym same) c.requires
 
+pub new-requires-2-clause-held : goal.new-requires-2-clause-held
+new-requires-2-clause-held c =
+    let same : c.as_slice-asked.result.now ≡ c.args.self.entries = c.as_slice-asked.ensures.value ∙ ap (λ (a : Aggregate). a.entries) c.self.view_is in
+    subst (λ (es : List Entry). AreHeld c.args.types.now es) (sym same) c.requires
+
 pub new-requires-3-clause-held : goal.new-requires-3-clause-held
 new-requires-3-clause-held c =
     let same : c.as_slice-asked.result.now ≡ c.args.self.entries = c.as_slice-asked.ensures.value ∙ ap (λ (a : Aggregate). a.entries) c.self.view_is in

@@ -24,10 +24,9 @@ use Rattle.wac_graph.specs.Graph.{Graph, GraphNode, node_at, imports_of, IsSatis
 use Rattle.wac_edges.specs.Order.{Edges, Writes, IsLowestReady, without}
 use Rattle.wac_graph.specs.OuterImports.{AreOuterImports}
 use Rattle.wac_graph.specs.Means.{Means, is_import, is_written, node_number, instantiations, used_after, used_packages, package_bytes, sort_of_kind, AreInstantiations, IsThing, as_instantiation, as_alias, given, HasItem, shown, export_of, export_item_of}
-use Rattle.wac_edges.proofs.EdgeLemmas.{edge_cmp_total, exact_edges}
-use Rattle.wac_edges.proofs.WrittenOrder.{eqb_same}
 use Rattle.wac_graph.proofs.ThingLemmas.{IsPlain}
 use Rattle.wac_graph.proofs.EncodeLemmas.{AllSet, no_imports, asked_none}
+use Rattle.wac_examples.proofs.Ordered.{edge_cmp_total, exact_edges}
 
 -- two packages of the same bytes: the first exports the function `a`, the second imports the function `b`
 abbrev pub of_function : ItemKind
@@ -43,17 +42,17 @@ types = record {
   worlds = record { item = record { id = None; uses = []; imports = []; exports = (97 ∷ [], of_function) ∷ [] }; before = 1 } ∷ record { item = record { id = None; uses = []; imports = (98 ∷ [], of_function) ∷ []; exports = [] }; before = 3 } ∷ [];
 }
 
-abbrev first : PackageId
+abbrev pub first : PackageId
 first = record { slot = 0; generation = 0 }
 
-abbrev second : PackageId
+abbrev pub second : PackageId
 second = record { slot = 1; generation = 0 }
 
 -- the three nodes
 abbrev pub instance_of_first : GraphNode
 instance_of_first = record { kind = graph.instantiation; item_kind = item.Instance (record { 0 = 0 }); owner = Some first; name = None; export_name = None }
 
-abbrev alias_of_first : GraphNode
+abbrev pub alias_of_first : GraphNode
 alias_of_first = record { kind = graph.alias; item_kind = of_function; owner = Some first; name = None; export_name = None }
 
 abbrev pub instance_of_second : GraphNode
@@ -189,7 +188,9 @@ clash : {b : Bool} → b ≡ true → b ≡ false → ⊥
 clash h k = cc
 
 differ : (m n : ℕ) → m ≡ n → eqb m n ≡ false → ⊥
-differ m n h k = clash (ap (λ x. eqb m x) (sym h) ∙ eqb_same m) k
+differ m n h k = clash (ap (λ x. eqb m x) (sym h) ∙ same m) k where
+  same : (k : ℕ) → eqb k k ≡ true
+  same k = grind (arith, nat_tests)
 
 -- the first node is ready at once, the alias after it, the second instance last
 ready_0 : IsLowestReady readme_graph.edges three 0

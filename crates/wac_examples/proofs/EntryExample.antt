@@ -21,8 +21,8 @@ use Rattle.wac_graph.specs.Graph.{Graph, GraphNode, node_at}
 use Rattle.wac_graph.specs.Means.{node_number}
 use Rattle.wac_graph.specs.Asked.{Entry, asked_by, imported_by}
 use Rattle.wac_graph.specs.Entries.{once, with_used, asked_entries}
-use Rattle.wac_graph.proofs.ImportExample.{no_entries}
-use Rattle.wac_graph.proofs.Rows.{readme_graph}
+use Rattle.wac_examples.proofs.ImportExample.{no_entries}
+use Rattle.wac_examples.proofs.Rows.{readme_graph}
 
 -- the types `t` and `u`
 abbrev byte_type : Name → Name × ItemKind

@@ -44,9 +44,9 @@ use Rattle.wac_graph.specs.Means.{node_number}
 use Rattle.wac_graph.specs.Asked.{Entry, asked_by, imported_by}
 use Rattle.wac_graph.specs.Entries.{once, with_used, asked_entries, to_merge}
 use Rattle.wac_graph.specs.Cause.{HasNoConflict, IsMergeConflict, Stands, implicit_merge, explicit_merge, import_circle}
-use Rattle.wac_edges.proofs.EdgeLemmas.{edge_cmp_total}
-use Rattle.wac_graph.proofs.ImportExample.{no_entries, no_items}
-use Rattle.wac_graph.proofs.Rows.{readme_graph, instance_of_first, instance_of_second, by_two}
+use Rattle.wac_examples.proofs.Ordered.{edge_cmp_total}
+use Rattle.wac_examples.proofs.ImportExample.{no_entries, no_items}
+use Rattle.wac_examples.proofs.Rows.{readme_graph, instance_of_first, instance_of_second, by_two}
 
 -- ---- graphs of two nodes without edges
 abbrev no_edges : Edges

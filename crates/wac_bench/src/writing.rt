@@ -1,10 +1,9 @@
-//! Times how fast components are written, beside a plain copy of the same bytes: packages of 4 MiB, function imports,
-//! and nested instance types. Any argument asks for the times; without one it writes a few of each and prints how many
-//! bytes they have.
-#![tactic(auto)]
+//! How fast components are written, beside a plain copy of the same bytes: packages of 4 MiB, function imports, and nested
+//! instance types.
 
+use crate::times::Times;
+use anyhow::Result;
 use std::alloc::Global;
-use std::env;
 use std::time::Instant;
 use wac_binary::{BinaryFault, ComponentBuilder, Description, FuncType, InstanceType};
 
@@ -68,6 +67,7 @@ fn instance_types(alloc: Global, count: u32) -> Result<Vec<u8>, BinaryFault> {
     b.into_bytes()
 }
 
+/// A component of so many of these.
 fn written(
     alloc: Global,
     workload: Workload,
@@ -81,81 +81,71 @@ fn written(
     }
 }
 
-/// Megabytes in a second.
-fn speed(bytes: usize, nanoseconds: u128) -> u128 {
-    bytes as u128 * 1000 / nanoseconds.max(1)
-}
-
-/// The first and the middle one of times in order.
-fn least_and_median(times: &[u128]) -> (u128, u128) {
-    let least = times.first().copied().unwrap_or(1);
-    let median = times.get(times.len() / 2).copied().unwrap_or(1);
-    (least, median)
-}
-
-/// The times of writing, in order.
-fn times_of_writing(
+/// How long writing takes.
+fn time_of_writing(
     rt: &HostRuntime,
     workload: Workload,
     count: u32,
     package: &[u8],
-) -> anyhow::Result<Vec<u128>> {
-    let mut times = Vec::new(rt.alloc());
+) -> Result<Times> {
+    let mut rounds = Vec::new(rt.alloc());
     for _ in 0..ROUNDS {
         let start = Instant::now(rt)?;
         let _bytes = written(rt.alloc(), workload, count, package)?;
-        times.push(start.elapsed(rt)?.as_nanos())?;
+        rounds.push(start.elapsed(rt)?)?;
     }
-    times.sort()?;
-    Ok(times)
+    Ok(Times::of(rounds)?)
 }
 
-/// The times of copying bytes, in order.
-fn times_of_copying(rt: &HostRuntime, bytes: &[u8]) -> anyhow::Result<Vec<u128>> {
-    let mut times = Vec::new(rt.alloc());
+/// How long copying bytes takes.
+fn time_of_copying(rt: &HostRuntime, bytes: &[u8]) -> Result<Times> {
+    let mut rounds = Vec::new(rt.alloc());
     for _ in 0..ROUNDS {
         let start = Instant::now(rt)?;
         let mut copy = Vec::new(rt.alloc());
         copy.extend_from_slice(bytes)?;
-        times.push(start.elapsed(rt)?.as_nanos())?;
+        rounds.push(start.elapsed(rt)?)?;
     }
-    times.sort()?;
-    Ok(times)
+    Ok(Times::of(rounds)?)
 }
 
-fn measure(
+/// Writes so many, copies their bytes, and prints how long each takes.
+fn measured(
     rt: &HostRuntime,
-    name: &str,
+    what: &str,
     workload: Workload,
     count: u32,
     package: &[u8],
-) -> anyhow::Result<()> {
-    let (least, median) = least_and_median(&times_of_writing(rt, workload, count, package)?);
+) -> Result<()> {
+    let writing = time_of_writing(rt, workload, count, package)?;
     let bytes = written(rt.alloc(), workload, count, package)?;
-    let (least_copy, median_copy) = least_and_median(&times_of_copying(rt, bytes.as_slice())?);
+    let copying = time_of_copying(rt, bytes.as_slice())?;
     let length = bytes.len();
-    let speed = speed(length, median);
+    let (least, median) = (writing.least.as_nanos(), writing.middle.as_nanos());
+    let (least_copy, median_copy) = (copying.least.as_nanos(), copying.middle.as_nanos());
     println!(rt;
-        "{count} {name}: {length} bytes, written in {least} ns at least and {median} ns in the median ({speed} MB/s), copied in {least_copy} ns and {median_copy} ns"
+        "{count} {what}: {length} bytes, written in {least} ns at least and {median} ns in the median, copied in {least_copy} ns and {median_copy} ns"
     )?;
     Ok(())
 }
 
-fn main(rt: HostRuntime) -> anyhow::Result<()> {
+/// Writes a few of each, and prints how many bytes they have.
+pub fn show(rt: &HostRuntime) -> Result<()> {
     let alloc = rt.alloc();
-    if env::args(&rt)?.count() < 2 {
-        let packages = packages(alloc, 2, &[0; 16])?.len();
-        let imports = imports(alloc, 100)?.len();
-        let types = instance_types(alloc, 100)?.len();
-        println!(rt;
-            "2 packages: {packages} bytes, 100 imports: {imports} bytes, 100 instance types: {types} bytes"
-        )?;
-        return Ok(());
-    }
-    let mut package = Vec::new(alloc);
-    package.resize(4 << 20, 0u8)?;
-    measure(&rt, "imports", Workload::Imports, 200_000, &[])?;
-    measure(&rt, "instance types", Workload::InstanceTypes, 50_000, &[])?;
-    measure(&rt, "packages", Workload::Packages, 16, package.as_slice())?;
+    let packages = packages(alloc, 2, &[0; 16])?.len();
+    let imports = imports(alloc, 100)?.len();
+    let types = instance_types(alloc, 100)?.len();
+    println!(rt;
+        "2 packages: {packages} bytes, 100 imports: {imports} bytes, 100 instance types: {types} bytes"
+    )?;
     Ok(())
+}
+
+/// Writes each beside a copy of its bytes.
+pub fn measure(rt: &HostRuntime) -> Result<()> {
+    let mut package = Vec::new(rt.alloc());
+    package.resize(4 << 20, 0u8)?;
+    measured(rt, "imports", Workload::Imports, 200_000, &[])?;
+    measured(rt, "instance types", Workload::InstanceTypes, 50_000, &[])?;
+    measured(rt, "packages", Workload::Packages, 16, package.as_slice())
 }

@@ -12,8 +12,8 @@ use Rattle.wac_graph.specs.Graph as graph
 use Rattle.wac_graph.specs.Graph.{Graph, GraphNode, node_at}
 use Rattle.wac_graph.specs.Means.{node_number}
 use Rattle.wac_graph.specs.Imports.{unset_rows, node_rows, asked_rows}
-use Rattle.wac_edges.proofs.EdgeLemmas.{edge_cmp_total}
-use Rattle.wac_graph.proofs.Rows.{of_function, instance_of_second, readme_graph}
+use Rattle.wac_examples.proofs.Ordered.{edge_cmp_total}
+use Rattle.wac_examples.proofs.Rows.{of_function, instance_of_second, readme_graph}
 
 abbrev import_of_x : GraphNode
 import_of_x = record { kind = graph.import (120 ∷ []); item_kind = of_function; owner = None; name = None; export_name = None }

@@ -1,0 +1,159 @@
+//! How long items of two collections take to add and to compare: tuples doubled so many deep, a chain of lists, aliases and
+//! options, a tuple of aliases of each other, and interfaces of functions over records.
+
+use crate::times::{ROUNDS, Times, print_power, print_times};
+use crate::types::{defined, export, function, instance, primitive, record};
+use anyhow::Result;
+use std::alloc::Global;
+use std::time::Instant;
+use wac_types::{
+    DefinedType, ItemKind, Named, PrimitiveType, Sequence, SubtypeChecker, Types, ValueType,
+};
+
+/// What is compared.
+#[derive(Clone, Copy)]
+enum Sort {
+    Tuples,
+    Chain,
+    Aliases,
+    Functions,
+}
+
+/// How long the items took to add and to compare.
+#[derive(Clone, Copy)]
+struct Costs {
+    added: Times,
+    compared: Times,
+}
+
+/// Adds tuples, each of the one before twice.
+fn tuples(alloc: Global, types: &mut Types, count: u64) -> Result<ItemKind> {
+    let mut value = primitive(PrimitiveType::Bool);
+    for _ in 0..count {
+        let pair = Sequence::new(alloc, &[value, value])?;
+        value = defined(types, DefinedType::Tuple(pair))?;
+    }
+    Ok(ItemKind::Value(value))
+}
+
+/// The type of this number in a chain, over the one before.
+fn link(number: u64, before: ValueType) -> DefinedType {
+    match number % 3 {
+        0 => DefinedType::List(before),
+        1 => DefinedType::Alias(before),
+        _ => DefinedType::Option(before),
+    }
+}
+
+/// Adds lists, aliases and options in turn, each of the one before.
+fn chain(types: &mut Types, count: u64) -> Result<ItemKind> {
+    let mut value = primitive(PrimitiveType::Bool);
+    for number in 0..count {
+        value = defined(types, link(number, value))?;
+    }
+    Ok(ItemKind::Value(value))
+}
+
+/// Adds aliases, each of the one before, and a tuple of them all.
+fn aliases(alloc: Global, types: &mut Types, count: u64) -> Result<ItemKind> {
+    let mut value = primitive(PrimitiveType::Bool);
+    let mut listed = Vec::new(alloc);
+    for _ in 0..count {
+        value = defined(types, DefinedType::Alias(value))?;
+        listed.push(value)?;
+    }
+    let tuple = Sequence::new(alloc, listed.as_slice())?;
+    Ok(ItemKind::Value(defined(types, DefinedType::Tuple(tuple))?))
+}
+
+/// Adds an interface of functions, each over two records of its own.
+fn functions(alloc: Global, types: &mut Types, count: u64) -> Result<ItemKind> {
+    let mut exports = Named::new(alloc);
+    for number in 0..count {
+        let x = record(alloc, types)?;
+        let y = record(alloc, types)?;
+        let returned = Some(primitive(PrimitiveType::Bool));
+        let kind = function(alloc, types, &[("x", x), ("y", y)], returned)?;
+        export(alloc, &mut exports, number, kind)?;
+    }
+    instance(alloc, types, None, exports)
+}
+
+/// Adds an item of so many parts.
+fn item(alloc: Global, types: &mut Types, sort: Sort, count: u64) -> Result<ItemKind> {
+    match sort {
+        Sort::Tuples => tuples(alloc, types, count),
+        Sort::Chain => chain(types, count),
+        Sort::Aliases => aliases(alloc, types, count),
+        Sort::Functions => functions(alloc, types, count),
+    }
+}
+
+/// Whether both items are held and the first is a subtype of the second.
+fn is_subtype(a: ItemKind, at: &Types, b: ItemKind, bt: &Types) -> bool {
+    if !at.contains(a.ty()) || !bt.contains(b.ty()) {
+        return false;
+    }
+    SubtypeChecker::new().is_subtype(a, at, b, bt).is_ok()
+}
+
+/// Adds items of so many parts to two collections, compares them, and prints how long each takes.
+fn measured(rt: &HostRuntime, what: &str, sort: Sort, count: u64) -> Result<Costs> {
+    let mut adding = Vec::new(rt.alloc());
+    let mut comparing = Vec::new(rt.alloc());
+    let mut answer = true;
+    for _ in 0..ROUNDS {
+        let mut first = Types::new(rt.alloc());
+        let mut second = Types::new(rt.alloc());
+        let start = Instant::now(rt)?;
+        let a = item(rt.alloc(), &mut first, sort, count)?;
+        let b = item(rt.alloc(), &mut second, sort, count)?;
+        adding.push(start.elapsed(rt)?)?;
+        let start = Instant::now(rt)?;
+        answer = is_subtype(a, &first, b, &second) && answer;
+        comparing.push(start.elapsed(rt)?)?;
+    }
+    let added = Times::of(adding)?;
+    let compared = Times::of(comparing)?;
+    println!(rt; "{what} {count}: {answer}")?;
+    print_times(rt, "  added", count, added)?;
+    print_times(rt, "  compared", count, compared)?;
+    Ok(Costs { added, compared })
+}
+
+/// Measures at a count, twice, four and eight times it, and prints how the times grow.
+fn measure_growth(rt: &HostRuntime, what: &str, sort: Sort, count: u32) -> Result<()> {
+    let count = u64::from(count);
+    let first = measured(rt, what, sort, count)?;
+    let _ = measured(rt, what, sort, 2 * count)?;
+    let _ = measured(rt, what, sort, 4 * count)?;
+    let last = measured(rt, what, sort, 8 * count)?;
+    println!(rt; "{what}, adding and comparing:")?;
+    print_power(rt, "  added", first.added, last.added)?;
+    print_power(rt, "  compared", first.compared, last.compared)
+}
+
+/// Compares tuples doubled 60 deep, tuples with lists, and chains of 100,000, and prints the answers.
+pub fn show(rt: &HostRuntime) -> Result<()> {
+    let mut first = Types::new(rt.alloc());
+    let mut second = Types::new(rt.alloc());
+    let a = tuples(rt.alloc(), &mut first, 60)?;
+    let b = chain(&mut first, 100_000)?;
+    let c = chain(&mut second, 100_000)?;
+    let d = tuples(rt.alloc(), &mut second, 60)?;
+    let same = is_subtype(a, &first, d, &second);
+    let other = is_subtype(a, &first, b, &first);
+    let long = is_subtype(b, &first, c, &second);
+    println!(rt;
+        "tuples doubled 60 deep: {same}; a tuple for a list: {other}; a chain of 100000: {long}"
+    )?;
+    Ok(())
+}
+
+/// Adds and compares each, and prints how the times grow.
+pub fn measure(rt: &HostRuntime) -> Result<()> {
+    measure_growth(rt, "tuples", Sort::Tuples, 12_500)?;
+    measure_growth(rt, "chain", Sort::Chain, 12_500)?;
+    measure_growth(rt, "aliases", Sort::Aliases, 12_500)?;
+    measure_growth(rt, "functions", Sort::Functions, 12_500)
+}

@@ -1,0 +1,47 @@
+//! Measures how long calls of the libraries take: `names` reads names, `comparing` adds and compares items, `merging` merges
+//! imports, `writing` writes components. With such a word it takes a workload at some counts and prints its times and by which
+//! power of the count they grow; without one it does a little of each and prints no time. Another word ends it with status 2.
+#![tactic(auto)]
+
+mod comparing;
+mod merging;
+mod names;
+mod times;
+mod types;
+mod writing;
+
+use anyhow::Result;
+use std::env;
+use std::process::ExitCode;
+
+/// Does a little of each and prints what came of it.
+fn show(rt: &HostRuntime) -> Result<()> {
+    names::show(rt)?;
+    comparing::show(rt)?;
+    merging::show(rt)?;
+    writing::show(rt)
+}
+
+/// Measures what the word names. Answers whether it names a workload.
+fn measure(rt: &HostRuntime, word: &str) -> Result<bool> {
+    match word {
+        "names" => names::measure(rt)?,
+        "comparing" => comparing::measure(rt)?,
+        "merging" => merging::measure(rt)?,
+        "writing" => writing::measure(rt)?,
+        _ => return Ok(false),
+    }
+    Ok(true)
+}
+
+fn main(rt: HostRuntime) -> Result<ExitCode> {
+    let Some(word) = env::args(&rt)?.nth(1) else {
+        show(&rt)?;
+        return Ok(ExitCode::SUCCESS);
+    };
+    if measure(&rt, word.as_str())? {
+        return Ok(ExitCode::SUCCESS);
+    }
+    println!(rt; "names, comparing, merging or writing")?;
+    Ok(ExitCode::from(2))
+}

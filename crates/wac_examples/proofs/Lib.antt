@@ -1,0 +1,9 @@
+pub mod Ordered
+pub mod Rows
+pub mod TwinRows
+pub mod TwinMeaning
+pub mod WrongMeanings
+pub mod ImportExample
+pub mod EntryExample
+pub mod CauseExample
+pub mod NameRows

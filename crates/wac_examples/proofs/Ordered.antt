@@ -1,0 +1,107 @@
+-- The order in which nodes are written: there is one, and it is by number where edges lead to higher numbers.
+use Rattle.std.proofs.Common.{◌≡◌, ℕ, zero, suc, ◌+◌, ◌<◌, ◌≤◌, Bool, true, false, not, ◌&&◌, ◌||◌, eqb, List, [], ◌∷◌, refl, ap, sym, ◌∙◌, subst, arith}
+use Rattle.std.specs.FinSet as set
+use Rattle.std.specs.FinSet.{IsAntisymmetric, slice_cmp-IsAntisymmetric, nat_cmp-IsAntisymmetric}
+use Rattle.std.specs.List.{list_any, AllByRecursion}
+use Rattle.std.specs.Ordering.{eq_by_cmp}
+use Rattle.std.specs.Cmp.{IsTotalOrder}
+use Rattle.std.specs.Cmp.Lexicographic.{nat_list_cmp_total}
+use Rattle.std.proofs.lemmas.Bool.Decides.{nat_tests}
+use Rattle.std.proofs.lemmas.Cmp.{on_total}
+use Rattle.std.proofs.lemmas.Map.Views.{tells_apart}
+use Rattle.wac_edges.specs.declared.edges.Edge.{Edge}
+use Rattle.wac_edges.specs.Edge.{edge_cmp, edge_key, edge_of, edge_of-edge_key}
+use Rattle.wac_edges.specs.Order.{Edges, Writes, IsLowestReady, without}
+
+-- ---- sets of edges that a list gives
+pub edge_cmp_total : IsTotalOrder edge_cmp
+edge_cmp_total = on_total edge_key nat_list_cmp_total
+
+edge_cmp-IsAntisymmetric : IsAntisymmetric edge_cmp
+edge_cmp-IsAntisymmetric x y e =
+    sym (edge_of-edge_key x) ∙ ap edge_of (slice_cmp-IsAntisymmetric nat_cmp-IsAntisymmetric (edge_key x) (edge_key y) e) ∙ edge_of-edge_key y
+
+pub exact_edges : (e f : Edge) → eq_by_cmp edge_cmp e f ≡ true → e ≡ f
+exact_edges = tells_apart edge_cmp-IsAntisymmetric
+
+-- what holds of each edge of the list holds of each edge of the set
+pub by_edge : (P : Edge → Type 0) (es : List Edge) → AllByRecursion P es → (e : Edge) → set.contains (set.from_list {R = edge_cmp} es) e ≡ true → P e
+by_edge P es all e stands = among es all (sym (set.contains-from_list edge_cmp_total es e) ∙ stands) where
+  among : (es : List Edge) → AllByRecursion P es → list_any (eq_by_cmp edge_cmp e) es ≡ true → P e
+  among [] _ h = let wrong : false ≡ true = h in absurd (cc)
+  among (x ∷ es) all h = split (eq_by_cmp edge_cmp e x) refl h (among es all.1) where
+    split : (b : Bool) → eq_by_cmp edge_cmp e x ≡ b → (b || list_any (eq_by_cmp edge_cmp e) es) ≡ true → (list_any (eq_by_cmp edge_cmp e) es ≡ true → P e) → P e
+    split true is _ _ = subst P (sym (exact_edges e x is)) all.0
+    split false _ h later = later h
+
+-- ---- one order
+not_both : {b : Bool} → b ≡ true → b ≡ false → ⊥
+not_both h k = cc
+
+-- an edge leads to a lower node that is left, so that it is not ready
+lower_is_blocked : (edges : Edges) (left : ℕ → Bool) (n m : ℕ) → IsLowestReady edges left n → IsLowestReady edges left m → m < n → ⊥
+lower_is_blocked edges left n m a b small = let (e, stands, to, from) = a.lower m small b.here in not_both from (b.free e stands to)
+
+-- of two nodes that are the lowest that are ready neither is lower
+one_next : (edges : Edges) (left : ℕ → Bool) (n m : ℕ) → IsLowestReady edges left n → IsLowestReady edges left m → n ≡ m
+one_next edges left n m a b =
+    let not_lower : m < n → ⊥ = lower_is_blocked edges left n m a b in
+    let not_higher : n < m → ⊥ = lower_is_blocked edges left m n b a in
+    omega (arith, not_lower, not_higher)
+
+pub one_order : (edges : Edges) (left : ℕ → Bool) (ns ms : List ℕ) → Writes edges left ns → Writes edges left ms → ns ≡ ms
+one_order edges left [] [] a b = refl
+one_order edges left [] (m ∷ ms) a b = absurd (not_both (b.0).here (a m))
+one_order edges left (n ∷ ns) [] a b = absurd (not_both (a.0).here (b n))
+one_order edges left (n ∷ ns) (m ∷ ms) a b =
+    let same : n ≡ m = one_next edges left n m a.0 b.0 in
+    let more : ns ≡ ms = one_order edges (without left n) ns ms a.1 (subst (λ k. Writes edges (without left k) ms) (sym same) b.1) in
+    cc
+
+-- ---- by number
+-- so many numbers, from this one on
+abbrev pub counting : ℕ → ℕ → List ℕ
+counting k zero = []
+counting k (suc count) = k ∷ counting (suc k) count
+
+-- the nodes that are left are those of the numbers from k on, so many
+pub record Range (left : ℕ → Bool) (k count : ℕ) : Type 0 where
+  pub below : (m : ℕ) → m < k → left m ≡ false
+  pub within : (m : ℕ) → k ≤ m → m < k + count → left m ≡ true
+  pub above : (m : ℕ) → k + count ≤ m → left m ≡ false
+
+-- the same without the first
+range_after : (left : ℕ → Bool) (k count : ℕ) → Range left k (suc count) → Range (without left k) (suc k) count
+range_after left k count r = record {
+  below = λ m small. below m small (eqb m k) refl;
+  within = λ m from to. rw (r.within m (omega arith) (omega arith)) (other m from);
+  above = λ m from. rw (r.above m (omega arith)) refl;
+} where
+  other : (m : ℕ) → suc k ≤ m → not (eqb m k) ≡ true
+  other m from = grind (arith, nat_tests)
+
+  below : (m : ℕ) → m < suc k → (b : Bool) → eqb m k ≡ b → (left m && not b) ≡ false
+  below m small true _ = none (left m) where
+    none : (b : Bool) → (b && false) ≡ false
+    none true = refl
+    none false = refl
+  below m small false is = rw (r.below m (lower (grind (arith, nat_tests)))) refl where
+    lower : (m ≡ k → ⊥) → m < k
+    lower differ = omega (arith, differ)
+
+-- where edges lead to higher numbers
+pub by_number : (edges : Edges) → ((e : Edge) → set.contains edges e ≡ true → e.source < e.target) → (k count : ℕ) (left : ℕ → Bool) → Range left k count → Writes edges left (counting k count)
+by_number edges upward k zero left r = λ m. none m (left m) refl where
+  none : (m : ℕ) (b : Bool) → left m ≡ b → left m ≡ false
+  none m false is = is
+  none m true is =
+      let not_below : m < k → ⊥ = λ small. not_both is (r.below m small) in
+      r.above m (omega (arith, not_below))
+by_number edges upward k (suc count) left r = (
+  record {
+    here = r.within k (omega arith) (omega arith);
+    free = λ e stands leads. (let up : e.source < e.target = upward e stands in r.below e.source (omega (arith, up, leads)));
+    lower = λ m small is. absurd (not_both is (r.below m small));
+  },
+  by_number edges upward (suc k) count (without left k) (range_after left k count r),
+)
