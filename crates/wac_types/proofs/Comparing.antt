@@ -1,7 +1,7 @@
 -- What the comparison keeps: which questions are settled, and that the answer to all of them is that to the first.
 use Rattle.std.proofs.Common.{ℕ, zero, suc, Bool, true, false, List, [], ◌∷◌, ◌++◌, ◌≡◌, ◌<◌, ◌≤◌, ◌+◌, length, drop, refl, ap, sym, ◌∙◌, subst, Some, arith, slice_get, length-append}
 use Rattle.std.specs.List.{AllByRecursion}
-use Rattle.wac_types.specs.declared.checker.Question.{Question}
+use Rattle.wac_types.specs.declared.questions.Question.{Question}
 use Rattle.wac_shapes.specs.declared.component.ItemKind.{ItemKind}
 use Rattle.wac_collection.specs.Collection.{Collection, holds_type}
 use Rattle.wac_shapes.specs.Kinds.{kind_type}

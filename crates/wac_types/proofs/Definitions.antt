@@ -1,7 +1,7 @@
 -- What is asked of definitions and of function types, part by part.
 use Rattle.std.proofs.Common.{ℕ, suc, Bool, false, List, [], ◌∷◌, map, ◌≡◌, length, refl, ap, sym, ◌∙◌, subst, Option}
 use Rattle.wac_shapes.specs.Name.{Name}
-use Rattle.wac_types.specs.declared.checker.Question.{Question}
+use Rattle.wac_types.specs.declared.questions.Question.{Question}
 use Rattle.wac_shapes.specs.declared.component.ValueType.{ValueType}
 use Rattle.wac_shapes.specs.declared.component.Variant.{Variant}
 use Rattle.wac_shapes.specs.declared.component.Record.{Record}

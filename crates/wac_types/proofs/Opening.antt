@@ -1,7 +1,7 @@
 -- Types that are looked into where they are mentioned: what is asked of their parts is asked of them.
 use Rattle.std.proofs.Common.{Bool, List, [], ◌∷◌, map, ◌≡◌, refl, ap, sym, ◌∙◌, subst, Some, arith}
 use Rattle.wac_shapes.specs.Name.{Name}
-use Rattle.wac_types.specs.declared.checker.Question.{Question}
+use Rattle.wac_types.specs.declared.questions.Question.{Question}
 use Rattle.wac_shapes.specs.declared.component.FuncTypeId.{FuncTypeId}
 use Rattle.wac_shapes.specs.declared.component.FuncType.{FuncType}
 use Rattle.wac_shapes.specs.declared.component.Record.{Record}

@@ -7,8 +7,8 @@ use Rattle.std.specs.Bool.{beq}
 use Rattle.wac_shapes.specs.contracts.component.PrimitiveType.{the_type}
 use Rattle.wac_shapes.specs.contracts.component.ValueTypePartialEq.TheImpl as ValueEq
 use Rattle.wac_shapes.specs.contracts.component.TypePartialEq.TheImpl as TypeEq
-use Rattle.wac_types.specs.contracts.checker.QuestionPartialEq.TheImpl as QuestionEq
-use Rattle.wac_types.specs.declared.checker.Question.{Question}
+use Rattle.wac_types.specs.contracts.questions.QuestionPartialEq.TheImpl as QuestionEq
+use Rattle.wac_types.specs.declared.questions.Question.{Question}
 use Rattle.wac_shapes.specs.declared.component.ValueType.{ValueType}
 use Rattle.wac_shapes.specs.declared.component.ValueType.TheVariants as val
 use Rattle.wac_shapes.specs.declared.component.«Type».{«Type» as AnyType}

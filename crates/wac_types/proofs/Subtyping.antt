@@ -4,7 +4,7 @@ use Rattle.std.proofs.lemmas.Bool.{cases_Bool}
 use Rattle.std.specs.List.{AllByRecursion}
 use Rattle.wac_shapes.specs.Name.{Name, same_name, find_name}
 use Rattle.wac_shapes.specs.Named.{NoNameTwice}
-use Rattle.wac_types.specs.declared.checker.Question.{Question}
+use Rattle.wac_types.specs.declared.questions.Question.{Question}
 use Rattle.wac_collection.specs.declared.collection.Held.{Held}
 use Rattle.wac_shapes.specs.declared.component.World.{World}
 use Rattle.wac_shapes.specs.declared.component.FuncType.{FuncType}

@@ -1,7 +1,7 @@
 -- What the answer to a question rests on, by the sort of its types.
 use Rattle.std.proofs.Common.{Bool, true, false, IsTrue, List, ◌≡◌, ◌+◌, ◌↔◌, refl, ap, sym, ◌∙◌, subst, Option, Some, None}
 use Rattle.wac_shapes.specs.Name.{Name, option_case}
-use Rattle.wac_types.specs.declared.checker.Question.{Question}
+use Rattle.wac_types.specs.declared.questions.Question.{Question}
 use Rattle.wac_shapes.specs.declared.component.ResourceId.{ResourceId}
 use Rattle.wac_shapes.specs.declared.component.FuncTypeId.{FuncTypeId}
 use Rattle.wac_shapes.specs.declared.component.FuncType.{FuncType}

@@ -4,8 +4,8 @@ use Rattle.std.specs.List.{AllByRecursion, list_any}
 use Rattle.std.specs.List.{IsDistinct}
 use Rattle.std.proofs.lemmas.Map.Made.{length-le_from_is_member}
 use Rattle.indexmap.proofs.CallerLemmas.{Contains-list_any}
-use Rattle.wac_types.specs.contracts.checker.QuestionPartialEq.TheImpl as QuestionEq
-use Rattle.wac_types.specs.declared.checker.Question.{Question}
+use Rattle.wac_types.specs.contracts.questions.QuestionPartialEq.TheImpl as QuestionEq
+use Rattle.wac_types.specs.declared.questions.Question.{Question}
 use Rattle.wac_shapes.specs.declared.component.PrimitiveType.{PrimitiveType}
 use Rattle.wac_shapes.specs.declared.component.PrimitiveType.TheVariants as prim
 use Rattle.wac_shapes.specs.declared.component.ValueType.{ValueType}

@@ -1,7 +1,7 @@
 -- Trees of value types, and what is asked of them.
 use Rattle.std.proofs.Common.{ℕ, zero, suc, Bool, List, [], ◌∷◌, ◌≡◌, refl, ap, sym, ◌∙◌, subst, Option, Some, None, slice_get}
 use Rattle.wac_shapes.specs.Name.{Name, option_case}
-use Rattle.wac_types.specs.declared.checker.Question.{Question}
+use Rattle.wac_types.specs.declared.questions.Question.{Question}
 use Rattle.wac_collection.specs.declared.collection.Held.{Held}
 use Rattle.wac_shapes.specs.declared.component.PrimitiveType.{PrimitiveType}
 use Rattle.wac_shapes.specs.declared.component.ValueType.{ValueType}

@@ -1,7 +1,7 @@
 -- The questions of a comparison: pairs of types of which the first is to be a subtype of the second.
 use Rattle.std.specs.Prelude.{ℕ, suc, ◌+◌, ◌<◌, ◌≡◌, ◌≢◌, Bool, true, false, List, ◌++◌, slice_get}
 use Rattle.std.specs.List.{AllByRecursion, Contains}
-use Rattle.wac_types.specs.declared.checker.Question.{Question}
+use Rattle.wac_types.specs.declared.questions.Question.{Question}
 use Rattle.wac_shapes.specs.declared.component.ValueType.{ValueType}
 use Rattle.wac_shapes.specs.declared.component.ValueType.TheVariants as val
 use Rattle.wac_shapes.specs.declared.component.«Type».{«Type» as AnyType}

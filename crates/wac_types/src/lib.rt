@@ -2,7 +2,11 @@
 #![tactic(auto)]
 
 mod checker;
+mod comparison;
+mod core_modules;
 pub mod laws;
+mod questions;
+mod small;
 
 pub use checker::{SubtypeChecker, TypeFault};
 pub use wac_collection::{

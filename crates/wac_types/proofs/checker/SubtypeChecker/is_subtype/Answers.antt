@@ -1,5 +1,5 @@
 use Rattle.std.proofs.Common.{arith, length, ap, subst, ◌+◌, ◌∙◌, sym, ◌<◌, ◌≤◌, List, slice_get}
-use Rattle.wac_types.specs.declared.checker.Question.{Question}
+use Rattle.wac_types.specs.declared.questions.Question.{Question}
 use Rattle.wac_types.proofs.Agreeing.{get_read}
 use Rattle.wac_types.proofs.Universe.{universe, asked_few}
 use Rattle.wac_types.proofs.Comparing.{Compares, compares_first, compares_next, compares_last, ahead, turned_round}

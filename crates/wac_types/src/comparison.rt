@@ -1,0 +1,486 @@
+//! What a comparison asks: types part by part, listed items name by name.
+ghost use Rattle.std.specs.Prelude.{◌≡◌, ◌≢◌, ◌+◌, ◌↔◌, [], ◌∷◌, map, not, true, None, Err, IfOk, IsTrue};
+ghost use Rattle.std.specs.Option.{option_copied};
+ghost use Rattle.wac_shapes.specs.Name.{find_name};
+ghost use Rattle.wac_collection.specs.Collection.{kind_types, value_types, and_maybe, seconds, case_values, func_mentions, defined_mentions, world_mentions, holds_type};
+ghost use Rattle.wac_shapes.specs.Kinds.{kind_type};
+ghost use Rattle.wac_collection.specs.Held.{resolved};
+ghost use Rattle.wac_types.specs.Subtype.{Sub, type_tree, kind_tree, resource_names};
+ghost use Rattle.wac_types.specs.Compare.{value_in, optional_in, func_in, defined_in, world_in, entry_in, case_in, aliased, alias_in, Offers};
+ghost use Rattle.wac_types.specs.Questions.{in_order, type_rank, Settles, Asks, Refutes};
+ghost use Rattle.wac_shapes.specs.declared.component.«Type».TheVariants as ty;
+
+use crate::checker::TypeFault;
+use crate::core_modules::is_module_subtype;
+use crate::questions::{Question, put};
+use crate::small::has_small_parts;
+use indexmap::IndexSet;
+use wac_collection::{
+    DefinedType, FuncType, FuncTypeId, ItemKind, Labels, Named, PrimitiveType, ResourceId, Type,
+    Types, ValueType, World,
+};
+
+/// A comparison of types of two collections: the first is asked to be a subtype of the second, or the same.
+#[derive(Clone, Copy)]
+pub(crate) struct Comparison<'a> {
+    /// Whether the collections stand in the other order than those of the first question.
+    pub(crate) turned: bool,
+    /// The collection of the first type.
+    pub(crate) first: &'a Types,
+    /// The collection of the second type.
+    pub(crate) second: &'a Types,
+}
+
+impl<'a> Comparison<'a> {
+    /// The comparison with its collections in the other order.
+    pub(crate) fn turned(self) -> Comparison<'a>
+        ensures turned { result.turned ≡ not self.entry.turned }
+        ensures first { result.first.now ≡ self.entry.second.now }
+        ensures second { result.second.now ≡ self.entry.first.now }
+    {
+        Comparison {
+            turned: !self.turned,
+            first: self.second,
+            second: self.first,
+        }
+    }
+
+    // Asks whether one type is a subtype of another.
+    fn ask_type(self, asked: &mut IndexSet<Question>, a: Type, b: Type) -> Result<(), TypeFault>
+        ensures asked { IfOk result (λ _. Asks self.entry.turned self.entry.first.now self.entry.second.now (a ∷ []) (b ∷ []) asked.old.keys asked.new.keys (Sub (type_tree self.entry.first.now a) (type_tree self.entry.second.now b))) }
+        ensures no_mismatch { result ≢ Err TypeFault.Mismatch }
+    {
+        put(
+            asked,
+            Question {
+                turned: self.turned,
+                first: a,
+                second: b,
+            },
+        )
+    }
+
+    /// Asks whether one value type is another, which is a question of its own unless both are primitives.
+    pub(crate) fn ask_part(
+        self,
+        asked: &mut IndexSet<Question>,
+        v: ValueType,
+        w: ValueType,
+    ) -> Result<(), TypeFault>
+        ensures asked { IfOk result (λ _. Asks self.entry.turned self.entry.first.now self.entry.second.now (ty.Value v ∷ []) (ty.Value w ∷ []) asked.old.keys asked.new.keys (value_in self.entry.first.now v ≡ value_in self.entry.second.now w)) }
+        ensures mismatch { result ≡ Err TypeFault.Mismatch → value_in self.entry.first.now v ≡ value_in self.entry.second.now w → ⊥ }
+    {
+        match (v, w) {
+            (ValueType::Primitive(p), ValueType::Primitive(q)) => same_primitive(p, q),
+            _ => self.ask_type(asked, Type::Value(v), Type::Value(w)),
+        }
+    }
+
+    // Asks whether one value type is another.
+    #[inline(always)]
+    fn ask_value(
+        self,
+        asked: &mut IndexSet<Question>,
+        v: ValueType,
+        w: ValueType,
+    ) -> Result<(), TypeFault>
+        ensures asked { IfOk result (λ _. Asks self.entry.turned self.entry.first.now self.entry.second.now (ty.Value v ∷ []) (ty.Value w ∷ []) asked.old.keys asked.new.keys (value_in self.entry.first.now v ≡ value_in self.entry.second.now w)) }
+        ensures mismatch { result ≡ Err TypeFault.Mismatch → value_in self.entry.first.now v ≡ value_in self.entry.second.now w → ⊥ }
+    {
+        match (v, w) {
+            (ValueType::Primitive(p), ValueType::Primitive(q)) => same_primitive(p, q),
+            _ => self.ask_opened(asked, v, w),
+        }
+    }
+
+    // Asks whether both are there and one is the other, or neither is there.
+    fn ask_optional(
+        self,
+        asked: &mut IndexSet<Question>,
+        v: Option<ValueType>,
+        w: Option<ValueType>,
+    ) -> Result<(), TypeFault>
+        ensures asked { IfOk result (λ _. Asks self.entry.turned self.entry.first.now self.entry.second.now (value_types (and_maybe v [])) (value_types (and_maybe w [])) asked.old.keys asked.new.keys (optional_in self.entry.first.now v ≡ optional_in self.entry.second.now w)) }
+        ensures mismatch { result ≡ Err TypeFault.Mismatch → Refutes self.entry.first.now self.entry.second.now (value_types (and_maybe v [])) (value_types (and_maybe w [])) (optional_in self.entry.first.now v ≡ optional_in self.entry.second.now w) }
+    {
+        match (v, w) {
+            (None, None) => Ok(()),
+            (Some(v), Some(w)) => self.ask_value(asked, v, w),
+            _ => Err(TypeFault::Mismatch),
+        }
+    }
+
+    // Asks whether the value types of one list are those of the other.
+    fn ask_values(
+        self,
+        asked: &mut IndexSet<Question>,
+        vs: &[ValueType],
+        ws: &[ValueType],
+    ) -> Result<(), TypeFault>
+        ensures asked { IfOk result (λ _. Asks self.entry.turned self.entry.first.now self.entry.second.now (value_types vs.now) (value_types ws.now) asked.old.keys asked.new.keys (map (value_in self.entry.first.now) vs.now ≡ map (value_in self.entry.second.now) ws.now)) }
+        ensures mismatch { result ≡ Err TypeFault.Mismatch → map (value_in self.entry.first.now) vs.now ≡ map (value_in self.entry.second.now) ws.now → ⊥ }
+    {
+        if vs.len() != ws.len() {
+            return Err(TypeFault::Mismatch);
+        }
+        for i in 0..vs.len() {
+            self.ask_value(asked, vs[i], ws[i])?;
+        }
+        Ok(())
+    }
+
+    // Asks whether the names of one list are those of the other, and the value types under them.
+    fn ask_named(
+        self,
+        asked: &mut IndexSet<Question>,
+        vs: &Named<ValueType>,
+        ws: &Named<ValueType>,
+    ) -> Result<(), TypeFault>
+        ensures asked { IfOk result (λ _. Asks self.entry.turned self.entry.first.now self.entry.second.now (value_types (seconds vs.now)) (value_types (seconds ws.now)) asked.old.keys asked.new.keys (map (entry_in self.entry.first.now) vs.now ≡ map (entry_in self.entry.second.now) ws.now)) }
+        ensures mismatch { result ≡ Err TypeFault.Mismatch → map (entry_in self.entry.first.now) vs.now ≡ map (entry_in self.entry.second.now) ws.now → ⊥ }
+    {
+        if vs.len() != ws.len() {
+            return Err(TypeFault::Mismatch);
+        }
+        for i in 0..vs.len() {
+            let (name, v) = vs.entry_at(i);
+            let (other, w) = ws.entry_at(i);
+            if name != other {
+                return Err(TypeFault::Mismatch);
+            }
+            self.ask_value(asked, *v, *w)?;
+        }
+        Ok(())
+    }
+
+    // Asks whether the cases of one variant are those of the other.
+    fn ask_cases(
+        self,
+        asked: &mut IndexSet<Question>,
+        cs: &Named<Option<ValueType>>,
+        ds: &Named<Option<ValueType>>,
+    ) -> Result<(), TypeFault>
+        ensures asked { IfOk result (λ _. Asks self.entry.turned self.entry.first.now self.entry.second.now (value_types (case_values cs.now)) (value_types (case_values ds.now)) asked.old.keys asked.new.keys (map (case_in self.entry.first.now) cs.now ≡ map (case_in self.entry.second.now) ds.now)) }
+        ensures mismatch { result ≡ Err TypeFault.Mismatch → Refutes self.entry.first.now self.entry.second.now (value_types (case_values cs.now)) (value_types (case_values ds.now)) (map (case_in self.entry.first.now) cs.now ≡ map (case_in self.entry.second.now) ds.now) }
+    {
+        if cs.len() != ds.len() {
+            return Err(TypeFault::Mismatch);
+        }
+        for i in 0..cs.len() {
+            if cs.name_at(i) != ds.name_at(i) {
+                return Err(TypeFault::Mismatch);
+            }
+            self.ask_optional(asked, *cs.value_at(i), *ds.value_at(i))?;
+        }
+        Ok(())
+    }
+
+    // Asks whether one function type is the other.
+    fn ask_func(
+        self,
+        asked: &mut IndexSet<Question>,
+        f: &FuncType,
+        g: &FuncType,
+    ) -> Result<(), TypeFault>
+        ensures asked { IfOk result (λ _. Asks self.entry.turned self.entry.first.now self.entry.second.now (func_mentions f.now) (func_mentions g.now) asked.old.keys asked.new.keys (func_in self.entry.first.now f.now ≡ func_in self.entry.second.now g.now)) }
+        ensures mismatch { result ≡ Err TypeFault.Mismatch → Refutes self.entry.first.now self.entry.second.now (func_mentions f.now) (func_mentions g.now) (func_in self.entry.first.now f.now ≡ func_in self.entry.second.now g.now) }
+    {
+        if f.is_async != g.is_async {
+            return Err(TypeFault::Mismatch);
+        }
+        self.ask_optional(asked, f.result, g.result)?;
+        self.ask_named(asked, &f.params, &g.params)
+    }
+
+    // Asks whether one function type is the other. Those of few parameters under short names are looked into at once.
+    fn ask_func_type(
+        self,
+        asked: &mut IndexSet<Question>,
+        i: FuncTypeId,
+        j: FuncTypeId,
+    ) -> Result<(), TypeFault>
+        ensures asked { IfOk result (λ _. Asks self.entry.turned self.entry.first.now self.entry.second.now (ty.Func i ∷ []) (ty.Func j ∷ []) asked.old.keys asked.new.keys (Sub (type_tree self.entry.first.now (ty.Func i)) (type_tree self.entry.second.now (ty.Func j)))) }
+        ensures mismatch { result ≡ Err TypeFault.Mismatch → Sub (type_tree self.entry.first.now (ty.Func i)) (type_tree self.entry.second.now (ty.Func j)) → ⊥ }
+    {
+        self.first.law();
+        self.second.law();
+        if !self.first.contains(Type::Func(i)) || !self.second.contains(Type::Func(j)) {
+            return self.ask_type(asked, Type::Func(i), Type::Func(j));
+        }
+        let f = &self.first[i];
+        let g = &self.second[j];
+        if !has_small_parts(&f.params) {
+            return self.ask_type(asked, Type::Func(i), Type::Func(j));
+        }
+        self.ask_func(asked, f, g)
+    }
+
+    // Asks whether one definition is the other; neither is an alias.
+    fn ask_defined(
+        self,
+        asked: &mut IndexSet<Question>,
+        d: &DefinedType,
+        e: &DefinedType,
+    ) -> Result<(), TypeFault>
+        requires first { aliased d.now ≡ None }
+        requires second { aliased e.now ≡ None }
+        ensures asked { IfOk result (λ _. Asks self.entry.turned self.entry.first.now self.entry.second.now (defined_mentions d.now) (defined_mentions e.now) asked.old.keys asked.new.keys (defined_in self.entry.first.now d.now ≡ defined_in self.entry.second.now e.now)) }
+        ensures mismatch { result ≡ Err TypeFault.Mismatch → Refutes self.entry.first.now self.entry.second.now (defined_mentions d.now) (defined_mentions e.now) (defined_in self.entry.first.now d.now ≡ defined_in self.entry.second.now e.now) }
+    {
+        match (d, e) {
+            (DefinedType::Tuple(vs), DefinedType::Tuple(ws)) => {
+                self.ask_values(asked, vs.as_slice(), ws.as_slice())
+            }
+            (DefinedType::List(v), DefinedType::List(w)) => self.ask_value(asked, *v, *w),
+            (DefinedType::FixedSizeList(v, m), DefinedType::FixedSizeList(w, n)) => {
+                if *m != *n {
+                    return Err(TypeFault::Mismatch);
+                }
+                self.ask_value(asked, *v, *w)
+            }
+            (DefinedType::Option(v), DefinedType::Option(w)) => self.ask_value(asked, *v, *w),
+            (DefinedType::Result { ok: v, err: f }, DefinedType::Result { ok: w, err: g }) => {
+                self.ask_optional(asked, *v, *w)?;
+                self.ask_optional(asked, *f, *g)
+            }
+            (DefinedType::Variant(v), DefinedType::Variant(w)) => {
+                self.ask_cases(asked, &v.cases, &w.cases)
+            }
+            (DefinedType::Record(v), DefinedType::Record(w)) => {
+                self.ask_named(asked, &v.fields, &w.fields)
+            }
+            (DefinedType::Flags(v), DefinedType::Flags(w)) => ask_labels(&v.0, &w.0),
+            (DefinedType::Enum(v), DefinedType::Enum(w)) => ask_labels(&v.0, &w.0),
+            (DefinedType::Stream(v), DefinedType::Stream(w)) => self.ask_optional(asked, *v, *w),
+            (DefinedType::Future(v), DefinedType::Future(w)) => self.ask_optional(asked, *v, *w),
+            _ => Err(TypeFault::Mismatch),
+        }
+    }
+
+    // The same, with `Mismatch` for no.
+    fn ask_resource(self, r: ResourceId, s: ResourceId) -> Result<(), TypeFault>
+        requires first { holds_type self.first.now (ty.Resource r) ≡ true }
+        requires second { holds_type self.second.now (ty.Resource s) ≡ true }
+        ensures same { IfOk result (λ _. resource_names self.entry.first.now (resolved self.entry.first.now r) ≡ resource_names self.entry.second.now (resolved self.entry.second.now s)) }
+        ensures mismatch { result ≡ Err TypeFault.Mismatch → resource_names self.entry.first.now (resolved self.entry.first.now r) ≡ resource_names self.entry.second.now (resolved self.entry.second.now s) → ⊥ }
+    {
+        if same_resource(r, self.first, s, self.second) {
+            Ok(())
+        } else {
+            Err(TypeFault::Mismatch)
+        }
+    }
+
+    /// Asks whether one item is a subtype of the other.
+    pub(crate) fn ask_kinds(
+        self,
+        asked: &mut IndexSet<Question>,
+        x: ItemKind,
+        y: ItemKind,
+    ) -> Result<(), TypeFault>
+        ensures asked { IfOk result (λ _. Asks self.entry.turned self.entry.first.now self.entry.second.now (kind_type x ∷ []) (kind_type y ∷ []) asked.old.keys asked.new.keys (Sub (kind_tree self.entry.first.now x) (kind_tree self.entry.second.now y))) }
+        ensures mismatch { result ≡ Err TypeFault.Mismatch → Sub (kind_tree self.entry.first.now x) (kind_tree self.entry.second.now y) → ⊥ }
+    {
+        match (x, y) {
+            (ItemKind::TypeItem(a), ItemKind::TypeItem(b)) => {
+                self.ask_type(asked, a, b)?;
+                self.turned().ask_type(asked, b, a)
+            }
+            (ItemKind::Func(i), ItemKind::Func(j)) => self.ask_func_type(asked, i, j),
+            (ItemKind::Instance(i), ItemKind::Instance(j)) => {
+                self.ask_type(asked, Type::Interface(i), Type::Interface(j))
+            }
+            (ItemKind::Component(i), ItemKind::Component(j)) => {
+                self.ask_type(asked, Type::World(i), Type::World(j))
+            }
+            (ItemKind::Module(i), ItemKind::Module(j)) => {
+                self.ask_type(asked, Type::Module(i), Type::Module(j))
+            }
+            (ItemKind::Value(v), ItemKind::Value(w)) => self.ask_value(asked, v, w),
+            _ => Err(TypeFault::Mismatch),
+        }
+    }
+
+    // Asks whether each item of the second list is offered by the first.
+    fn ask_items(
+        self,
+        asked: &mut IndexSet<Question>,
+        xs: &Named<ItemKind>,
+        ys: &Named<ItemKind>,
+    ) -> Result<(), TypeFault>
+        ensures asked { IfOk result (λ _. Asks self.entry.turned self.entry.first.now self.entry.second.now (kind_types xs.now) (kind_types ys.now) asked.old.keys asked.new.keys (Offers self.entry.first.now xs.now self.entry.second.now ys.now)) }
+        ensures mismatch { result ≡ Err TypeFault.Mismatch → Offers self.entry.first.now xs.now self.entry.second.now ys.now → ⊥ }
+    {
+        ys.law();
+        for i in 0..ys.len() {
+            match item_near(xs, i, ys.name_at(i)) {
+                Some(x) => self.ask_kinds(asked, *x, *ys.value_at(i))?,
+                None => return Err(TypeFault::Mismatch),
+            }
+        }
+        Ok(())
+    }
+
+    // Asks whether one world is a subtype of the other.
+    fn ask_worlds(
+        self,
+        asked: &mut IndexSet<Question>,
+        w: &World,
+        v: &World,
+    ) -> Result<(), TypeFault>
+        ensures asked { IfOk result (λ _. Asks self.entry.turned self.entry.first.now self.entry.second.now (world_mentions w.now) (world_mentions v.now) asked.old.keys asked.new.keys (Sub (world_in self.entry.first.now w.now) (world_in self.entry.second.now v.now))) }
+        ensures mismatch { result ≡ Err TypeFault.Mismatch → Sub (world_in self.entry.first.now w.now) (world_in self.entry.second.now v.now) → ⊥ }
+    {
+        self.turned().ask_items(asked, &v.imports, &w.imports)?;
+        self.ask_items(asked, &w.exports, &v.exports)
+    }
+
+    // Asks what the answer for two value types rests on: for aliases, on the types at their ends.
+    fn answer_value(
+        self,
+        asked: &mut IndexSet<Question>,
+        v: ValueType,
+        w: ValueType,
+    ) -> Result<(), TypeFault>
+        requires first { holds_type self.first.now (ty.Value v) ≡ true }
+        requires second { holds_type self.second.now (ty.Value w) ≡ true }
+        ensures settled { IfOk result (λ _. Settles (in_order self.entry.turned self.entry.first.now self.entry.second.now) (type_rank self.entry.first.now (ty.Value v) + type_rank self.entry.second.now (ty.Value w)) asked.old.keys asked.new.keys (value_in self.entry.first.now v ≡ value_in self.entry.second.now w)) }
+        ensures mismatch { result ≡ Err TypeFault.Mismatch → value_in self.entry.first.now v ≡ value_in self.entry.second.now w → ⊥ }
+    {
+        self.first.law();
+        self.second.law();
+        let first = self.first.resolve_value_type(v);
+        let second = self.second.resolve_value_type(w);
+        if first != v || second != w {
+            return self.ask_value(asked, first, second);
+        }
+        self.answer_plain(asked, v, w)
+    }
+
+    // The same of two value types that are no aliases.
+    fn answer_plain(
+        self,
+        asked: &mut IndexSet<Question>,
+        v: ValueType,
+        w: ValueType,
+    ) -> Result<(), TypeFault>
+        requires first { holds_type self.first.now (ty.Value v) ≡ true }
+        requires second { holds_type self.second.now (ty.Value w) ≡ true }
+        requires first_plain { alias_in self.first.now v ≡ None }
+        requires second_plain { alias_in self.second.now w ≡ None }
+        ensures settled { IfOk result (λ _. Settles (in_order self.entry.turned self.entry.first.now self.entry.second.now) (type_rank self.entry.first.now (ty.Value v) + type_rank self.entry.second.now (ty.Value w)) asked.old.keys asked.new.keys (value_in self.entry.first.now v ≡ value_in self.entry.second.now w)) }
+        ensures mismatch { result ≡ Err TypeFault.Mismatch → value_in self.entry.first.now v ≡ value_in self.entry.second.now w → ⊥ }
+    {
+        self.first.law();
+        self.second.law();
+        match (v, w) {
+            (ValueType::Primitive(p), ValueType::Primitive(q)) => same_primitive(p, q),
+            (ValueType::Own(r), ValueType::Own(s)) => self.ask_resource(r, s),
+            (ValueType::Borrow(r), ValueType::Borrow(s)) => self.ask_resource(r, s),
+            (ValueType::Defined(d), ValueType::Defined(e)) => {
+                self.ask_defined(asked, &self.first[d], &self.second[e])
+            }
+            _ => Err(TypeFault::Mismatch),
+        }
+    }
+
+    /// Asks what the answer to a question rests on.
+    pub(crate) fn answer(
+        self,
+        asked: &mut IndexSet<Question>,
+        a: Type,
+        b: Type,
+    ) -> Result<(), TypeFault>
+        requires first { holds_type self.first.now (a) ≡ true }
+        requires second { holds_type self.second.now (b) ≡ true }
+        ensures settled { IfOk result (λ _. Settles (in_order self.entry.turned self.entry.first.now self.entry.second.now) (type_rank self.entry.first.now (a) + type_rank self.entry.second.now (b)) asked.old.keys asked.new.keys (Sub (type_tree self.entry.first.now a) (type_tree self.entry.second.now b))) }
+        ensures mismatch { result ≡ Err TypeFault.Mismatch → Sub (type_tree self.entry.first.now a) (type_tree self.entry.second.now b) → ⊥ }
+    {
+        self.first.law();
+        self.second.law();
+        match (a, b) {
+            (Type::Resource(r), Type::Resource(s)) => self.ask_resource(r, s),
+            (Type::Func(f), Type::Func(g)) => {
+                self.ask_func(asked, &self.first[f], &self.second[g])
+            }
+            (Type::Value(v), Type::Value(w)) => self.answer_value(asked, v, w),
+            (Type::Interface(i), Type::Interface(j)) => {
+                self.ask_items(asked, &self.first[i].exports, &self.second[j].exports)
+            }
+            (Type::World(w), Type::World(v)) => {
+                self.ask_worlds(asked, &self.first[w], &self.second[v])
+            }
+            (Type::Module(m), Type::Module(n)) => {
+                if is_module_subtype(&self.first[m], &self.second[n]) {
+                    Ok(())
+                } else {
+                    Err(TypeFault::Mismatch)
+                }
+            }
+            _ => Err(TypeFault::Mismatch),
+        }
+    }
+}
+
+// Whether the names are the same, in the same order.
+fn same_labels(xs: &Labels, ys: &Labels) -> bool
+    ensures { IsTrue result ↔ (xs.now ≡ ys.now) }
+{
+    if xs.len() != ys.len() {
+        return false;
+    }
+    for i in 0..xs.len() {
+        if xs.name_at(i) != ys.name_at(i) {
+            return false;
+        }
+    }
+    true
+}
+
+// The same, with `Mismatch` for no.
+fn ask_labels(xs: &Labels, ys: &Labels) -> Result<(), TypeFault>
+    ensures same { IfOk result (λ _. xs.now ≡ ys.now) }
+    ensures mismatch { result ≡ Err TypeFault.Mismatch → xs.now ≡ ys.now → ⊥ }
+{
+    if same_labels(xs, ys) {
+        Ok(())
+    } else {
+        Err(TypeFault::Mismatch)
+    }
+}
+
+// Whether the resources at the ends of the aliases have the same name.
+fn same_resource(r: ResourceId, at: &Types, s: ResourceId, bt: &Types) -> bool
+    requires first { holds_type at.now (ty.Resource r) ≡ true }
+    requires second { holds_type bt.now (ty.Resource s) ≡ true }
+    ensures { IsTrue result ↔ (resource_names at.now (resolved at.now r) ≡ resource_names bt.now (resolved bt.now s)) }
+{
+    at.law();
+    bt.law();
+    let first = &at[at.resolve_resource(r)];
+    let second = &bt[bt.resolve_resource(s)];
+    first.name.as_str() == second.name.as_str()
+}
+
+// The item under a name, looked for at a position first.
+fn item_near<'a>(items: &'a Named<ItemKind>, index: usize, name: &str) -> Option<&'a ItemKind>
+    ensures { option_copied result ≡ find_name items.now name.now }
+{
+    items.law();
+    if index < items.len() && items.name_at(index) == name {
+        return Some(items.value_at(index));
+    }
+    items.get(name)
+}
+
+// Whether the primitives are the same.
+fn same_primitive(p: PrimitiveType, q: PrimitiveType) -> Result<(), TypeFault>
+    ensures same { IfOk result (λ _. p ≡ q) }
+    ensures mismatch { result ≡ Err TypeFault.Mismatch → p ≡ q → ⊥ }
+{
+    if p == q {
+        Ok(())
+    } else {
+        Err(TypeFault::Mismatch)
+    }
+}
