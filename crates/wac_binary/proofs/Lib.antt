@@ -9,4 +9,7 @@ pub mod CustomLaws
 pub mod CustomReading
 pub mod MeaningLaws
 pub mod ScopeLaws
+pub mod HasMeaningLaws
+pub mod AddedLaws
 pub mod Rows
+pub mod MeaningRows

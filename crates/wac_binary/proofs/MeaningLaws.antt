@@ -149,7 +149,7 @@ new_thing items x t p = ap (λ r. thing_at (things r t) (indexes (space t) items
 
 -- the scope
 
-scope_with : (r : Root) (u : Sort) (x : Thing) → (with_thing r u x).scope ≡ r.scope
+pub scope_with : (r : Root) (u : Sort) (x : Thing) → (with_thing r u x).scope ≡ r.scope
 scope_with r s.CoreModule x = refl
 scope_with r _ x = refl
 

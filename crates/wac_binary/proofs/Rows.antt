@@ -1,5 +1,6 @@
 -- Worked examples of bytes and meanings, each decided by computing.
 use Rattle.std.specs.Prelude.{◌≡◌, List, [], ◌∷◌, ◌++◌, None, Some, true, false, refl}
+use Rattle.std.proofs.Common.{arith, rules}
 use Rattle.wac_shapes.specs.Name.{Name}
 use Rattle.wac_collection.specs.Tree.{Tree, imported, exported, position, named, own, absent, function, function_item, type_in, items_in, type_equal, enum_of}
 use Rattle.wac_shapes.specs.Core.{core_function, core_memory}
@@ -12,6 +13,7 @@ use Rattle.wac_binary.specs.Items.{own_def, list_def, enum_def, value_def, func_
 use Rattle.wac_binary.specs.Bytes.{preamble, bytes_of, value, value_def_bytes, memory_bytes}
 use Rattle.wac_binary.specs.Customs.{component_name, producers, names_bytes, producers_bytes}
 use Rattle.wac_binary.specs.Unfold.{empty, type_at, after, no_module, module_after}
+use Rattle.wac_binary.specs.HasMeaning.{HasMeaning}
 use Rattle.wac_binary.specs.Meaning.{meaning, stands_for, projection, instance_at, component_at, nothing}
 
 -- a value type's index is a signed number: 63 is one byte, 64 two; an own's index is unsigned
@@ -49,6 +51,9 @@ readme_bytes : bytes_of readme
     ++ (0x05 ∷ 0x08 ∷ 0x01 ∷ 0x00 ∷ 0x01 ∷ 0x01 ∷ 0x01 ∷ 0x62 ∷ 0x01 ∷ 0x00 ∷ [])
 unfolding groups leb bytes_of
 readme_bytes = refl
+
+readme_meant : HasMeaning readme
+readme_meant = search rules
 
 readme_instances : (meaning readme).instantiations
     ≡ record { component = component_at 0; arguments = [] } ∷ record { component = component_at 1; arguments = (98 ∷ [], projection (instance_at 0) (97 ∷ [])) ∷ [] } ∷ []
@@ -91,6 +96,9 @@ with_resource_bytes : bytes_of with_resource
 unfolding groups leb bytes_of
 with_resource_bytes = refl
 
+with_resource_meant : HasMeaning with_resource
+with_resource_meant = search rules
+
 with_resource_function : items_in (type_at (meaning with_resource).scope.types 0) (102 ∷ [])
     ≡ function_item (function false ((120 ∷ []) ∷ []) (λ i. type_at (own (record { out = 0; side = exported; path = named (114 ∷ []) ∷ [] }) ∷ []) i) absent)
 with_resource_function = refl
@@ -102,6 +110,9 @@ two_resources =
     ∷ type_item (instance_def (next (export_decl (114 ∷ []) e.Fresh) end)) ∷ import_item (2 ∷ []) (e.Instance 1)
     ∷ alias_item (export_alias s.Type 0 (114 ∷ [])) ∷ alias_item (export_alias s.Type 1 (114 ∷ []))
     ∷ type_item (instance_def (next (alias_decl (outer_alias s.Type 1 2)) (next (export_decl (114 ∷ []) (e.Equal 0)) (next (alias_decl (outer_alias s.Type 1 3)) (next (export_decl (115 ∷ []) (e.Equal 2)) (next (type_decl (value_def (own_def 1))) (next (type_decl (value_def (own_def 3))) (next (type_decl (func_def false ((120 ∷ [], Index 4) ∷ (121 ∷ [], Index 5) ∷ []) None)) (next (export_decl (102 ∷ []) (e.Func 6)) end))))))))) ∷ import_item (3 ∷ []) (e.Instance 4) ∷ []
+
+two_resources_meant : HasMeaning two_resources
+two_resources_meant = search rules
 
 abbrev third_of : List (Name × Tree) → Tree
 third_of (a ∷ b ∷ c ∷ rest) = type_in c.1
@@ -126,6 +137,9 @@ small_module_bytes : bytes_of (core_type small_module ∷ [])
     ≡ preamble ++ (0x03 ∷ 0x14 ∷ 0x01 ∷ 0x50 ∷ 0x03 ∷ 0x01 ∷ 0x60 ∷ 0x00 ∷ 0x00 ∷ 0x00 ∷ 0x01 ∷ 0x6d ∷ 0x01 ∷ 0x66 ∷ 0x00 ∷ 0x00 ∷ 0x03 ∷ 0x01 ∷ 0x65 ∷ 0x02 ∷ 0x00 ∷ 0x01 ∷ [])
 unfolding groups leb bytes_of
 small_module_bytes = refl
+
+small_module_meant : HasMeaning (core_type small_module ∷ [])
+small_module_meant = search rules
 
 small_module_import : (module_after no_module small_module).imports (109 ∷ []) (102 ∷ []) ≡ core_function [] []
 small_module_import = refl
@@ -152,6 +166,9 @@ with_cut_bytes : bytes_of (type_item (component_def with_cut) ∷ [])
     ++ (0x07 ∷ 0x3b ∷ 0x01 ∷ 0x41 ∷ 0x05 ∷ 0x01 ∷ 0x42 ∷ 0x02 ∷ 0x01 ∷ 0x6d ∷ 0x01 ∷ 0x01 ∷ 0x61 ∷ 0x04 ∷ 0x00 ∷ 0x01 ∷ 0x74 ∷ 0x03 ∷ 0x00 ∷ 0x00 ∷ 0x03 ∷ 0x00 ∷ 0x05 ∷ 0x6e ∷ 0x3a ∷ 0x70 ∷ 0x2f ∷ 0x6a ∷ 0x05 ∷ 0x00 ∷ 0x02 ∷ 0x03 ∷ 0x00 ∷ 0x00 ∷ 0x01 ∷ 0x74 ∷ 0x01 ∷ 0x42 ∷ 0x02 ∷ 0x02 ∷ 0x03 ∷ 0x02 ∷ 0x01 ∷ 0x01 ∷ 0x04 ∷ 0x00 ∷ 0x01 ∷ 0x74 ∷ 0x03 ∷ 0x00 ∷ 0x00 ∷ 0x04 ∷ 0x00 ∷ 0x05 ∷ 0x6e ∷ 0x3a ∷ 0x70 ∷ 0x2f ∷ 0x69 ∷ 0x05 ∷ 0x02 ∷ [])
 unfolding groups leb bytes_of
 with_cut_bytes = refl
+
+with_cut_meant : HasMeaning (type_item (component_def with_cut) ∷ [])
+with_cut_meant = search rules
 
 -- the exported interface's `t` is the enum
 with_cut_type : items_in (type_in ((after with_cut empty []).exports (110 ∷ 58 ∷ 112 ∷ 47 ∷ 105 ∷ []))) (116 ∷ []) ≡ type_equal (enum_of ((97 ∷ []) ∷ []))

@@ -1,5 +1,5 @@
 -- What a declaration adds to its scope, and that it changes nothing else; and what growth of the scopes around it leaves.
-use Rattle.std.proofs.Common.{◌≡◌, ℕ, zero, suc, ◌+◌, ◌<◌, List, [], ◌∷◌, ◌++◌, length, refl, ap, sym, ◌∙◌, subst, length-append, arith, append-nil}
+use Rattle.std.proofs.Common.{◌≡◌, ℕ, zero, suc, ◌+◌, ◌<◌, ◌≤◌, List, [], ◌∷◌, ◌++◌, length, refl, ap, sym, ◌∙◌, subst, length-append, arith, append-nil, append_assoc}
 use Rattle.std.specs.Prelude.{Some}
 use Rattle.wac_shapes.specs.Name.{Name}
 use Rattle.wac_shapes.specs.Core.{CoreItem}
@@ -13,8 +13,8 @@ use Rattle.wac_binary.specs.Items.{TypeDef, value_def, func_def, component_def, 
 use Rattle.wac_binary.specs.Indexes.{space, core_types, described_sort, adds, is_in, indexes, decl_adds, declared, function_types}
 use Rattle.wac_binary.specs.Unfold.{Scope, Bound, empty, type_at, bound_at, scope_at, described_item, with_bound, with_alias, with_outer, outer_bound, tree_of, after, with_decl, module_tree, no_module, module_after, with_module_decl, Module, func_at}
 use Rattle.wac_binary.specs.Growth.{Grows, AllGrow, IsThere, TypeReaches, Reach, Reaches}
-use Rattle.wac_binary.specs.Meaning.{Root, start, read, meaning, with_exported}
-use Rattle.wac_binary.proofs.MeaningLaws.{Longer, same_list, one_longer, longer_twice, in_scope, types_alias, types_outer, types_bound, instances_alias, instances_outer, instances_bound, type_earlier, type_new, bound_earlier, read_append, scope_types, scope_instances, types_read, instances_read, all_longer, one_more as root_one_more}
+use Rattle.wac_binary.specs.Meaning.{Root, start, read, read_all, meaning, with_exported}
+use Rattle.wac_binary.proofs.MeaningLaws.{Longer, same_list, one_longer, longer_twice, scope_with, in_scope, types_alias, types_outer, types_bound, instances_alias, instances_outer, instances_bound, type_earlier, type_new, bound_earlier, read_append, scope_types, scope_instances, types_read, instances_read, all_longer, one_more as root_one_more}
 
 -- the core types of a scope
 
@@ -63,6 +63,76 @@ pub new_core_type : (items : List Item) (m : List ModuleDecl) → type_at (meani
 new_core_type items m =
     ap (λ r. type_at r.scope.core_types (indexes core_types items)) (root_one_more items (core_type m)) ∙ type_new (meaning items).scope.core_types (module_tree m) _ (sym (core_types_counted items))
 
+-- the core modules and components of a scope
+
+modules_alias : (c : Scope) (u : Sort) (b : Bound) (n : Name) → (with_alias c u b n).modules ≡ c.modules + is_in 0 (Some (space u))
+modules_alias c s.CoreModule b n = omega arith
+modules_alias c _ b n = omega arith
+
+modules_outer : (c o : Scope) (u : Sort) (k i : ℕ) → (with_outer c u k o i).modules ≡ c.modules + is_in 0 (Some (space u))
+modules_outer c o s.CoreModule k i = omega arith
+modules_outer c o _ k i = omega arith
+
+modules_exported : (c : Scope) (u : Sort) (i : ℕ) → (with_exported c u i).modules ≡ c.modules + is_in 0 (Some (space u))
+modules_exported c s.CoreModule i = omega arith
+modules_exported c _ i = omega arith
+
+modules_bound : (c : Scope) (side : Side) (path : List Place) (d : Description) (a : Scope) → (with_bound a side path (described_item c d)).modules ≡ a.modules + is_in 0 (Some (space (described_sort d)))
+modules_bound c side path (e.CoreModule i) a = omega arith
+modules_bound c side path _ a = omega arith
+
+components_alias : (c : Scope) (u : Sort) (b : Bound) (n : Name) → (with_alias c u b n).components ≡ c.components + is_in 4 (Some (space u))
+components_alias c s.Component b n = omega arith
+components_alias c _ b n = omega arith
+
+components_outer : (c o : Scope) (u : Sort) (k i : ℕ) → (with_outer c u k o i).components ≡ c.components + is_in 4 (Some (space u))
+components_outer c o s.Component k i = omega arith
+components_outer c o _ k i = omega arith
+
+components_exported : (c : Scope) (u : Sort) (i : ℕ) → (with_exported c u i).components ≡ c.components + is_in 4 (Some (space u))
+components_exported c s.Component i = omega arith
+components_exported c _ i = omega arith
+
+components_bound : (c : Scope) (side : Side) (path : List Place) (d : Description) (a : Scope) → (with_bound a side path (described_item c d)).components ≡ a.components + is_in 4 (Some (space (described_sort d)))
+components_bound c side path (e.Component i) a = omega arith
+components_bound c side path _ a = omega arith
+
+modules_read : (r : Root) (x : Item) → (read r x).scope.modules ≡ r.scope.modules + is_in 0 (adds x)
+modules_read r (custom n bs) = omega arith
+modules_read r (core_type m) = omega arith
+modules_read r (nested bs) = omega arith
+modules_read r (instantiate i args) = omega arith
+modules_read r (alias_item (export_alias u i n)) = ap (λ c. c.modules) (scope_with _ u _) ∙ modules_alias r.scope u _ n
+modules_read r (alias_item (outer_alias u k i)) = ap (λ c. c.modules) (scope_with _ u _) ∙ modules_outer r.scope _ u k i
+modules_read r (type_item d) = omega arith
+modules_read r (import_item n d) = ap (λ c. c.modules) (scope_with _ (described_sort d) _) ∙ modules_bound r.scope _ _ d r.scope
+modules_read r (export_item n u i) = ap (λ c. c.modules) (scope_with _ u _) ∙ modules_exported r.scope u i
+
+components_read : (r : Root) (x : Item) → (read r x).scope.components ≡ r.scope.components + is_in 4 (adds x)
+components_read r (custom n bs) = omega arith
+components_read r (core_type m) = omega arith
+components_read r (nested bs) = omega arith
+components_read r (instantiate i args) = omega arith
+components_read r (alias_item (export_alias u i n)) = ap (λ c. c.components) (scope_with _ u _) ∙ components_alias r.scope u _ n
+components_read r (alias_item (outer_alias u k i)) = ap (λ c. c.components) (scope_with _ u _) ∙ components_outer r.scope _ u k i
+components_read r (type_item d) = omega arith
+components_read r (import_item n d) = ap (λ c. c.components) (scope_with _ (described_sort d) _) ∙ components_bound r.scope _ _ d r.scope
+components_read r (export_item n u i) = ap (λ c. c.components) (scope_with _ u _) ∙ components_exported r.scope u i
+
+module _ (f : Scope → ℕ) (k : ℕ) (step : (r : Root) (x : Item) → f (read r x).scope ≡ f r.scope + is_in k (adds x)) where
+  number_after : (r : Root) (xs : List Item) → f (read_all r xs).scope ≡ f r.scope + indexes k xs
+  number_after r [] = omega arith
+  number_after r (x ∷ xs) = omega (arith, step r x, number_after (read r x) xs)
+
+  number_stays : (items more : List Item) → f (meaning items).scope ≤ f (meaning (items ++ more)).scope
+  number_stays items more = let e = ap (λ r. f r.scope) (read_append start items more) ∙ number_after (meaning items) more in omega arith
+
+pub modules_counted : (items : List Item) → (meaning items).scope.modules ≡ indexes (space s.CoreModule) items
+modules_counted items = omega (arith, number_after (λ c. c.modules) 0 modules_read start items)
+
+pub components_counted : (items : List Item) → (meaning items).scope.components ≡ indexes (space s.Component) items
+components_counted items = omega (arith, number_after (λ c. c.components) 4 components_read start items)
+
 pub root_grows : (items more : List Item) → Grows (meaning items).scope (meaning (items ++ more)).scope
 root_grows items more =
     let a = all_longer scope_core_types 6 core_read (meaning items) more in
@@ -75,6 +145,8 @@ root_grows items more =
       core_types_are = ap (λ r. r.scope.core_types) (read_append start items more) ∙ a.is;
       types_are = ap (λ r. r.scope.types) (read_append start items more) ∙ b.is;
       instances_are = ap (λ r. r.scope.instances) (read_append start items more) ∙ c.is;
+      modules_stay = number_stays (λ c. c.modules) 0 modules_read items more;
+      components_stay = number_stays (λ c. c.components) 4 components_read items more;
     }
 
 -- declarations
@@ -110,6 +182,36 @@ instances_decl (alias_decl (outer_alias t k i)) c out = instances_outer c _ t k 
 instances_decl (import_decl n d) c out = instances_bound c _ _ d _
 instances_decl (export_decl n d) c out = instances_bound c _ _ d _
 
+modules_decl : (d : Decl) (c : Scope) (out : List Scope) → (with_decl d c out).modules ≡ c.modules + is_in 0 (Some (decl_adds d))
+modules_decl (core_type_decl m) c out = omega arith
+modules_decl (type_decl t) c out = omega arith
+modules_decl (alias_decl (export_alias t i n)) c out = modules_alias c t _ n
+modules_decl (alias_decl (outer_alias t k i)) c out = modules_outer c _ t k i
+modules_decl (import_decl n d) c out = modules_bound c _ _ d _
+modules_decl (export_decl n d) c out = modules_bound c _ _ d _
+
+components_decl : (d : Decl) (c : Scope) (out : List Scope) → (with_decl d c out).components ≡ c.components + is_in 4 (Some (decl_adds d))
+components_decl (core_type_decl m) c out = omega arith
+components_decl (type_decl t) c out = omega arith
+components_decl (alias_decl (export_alias t i n)) c out = components_alias c t _ n
+components_decl (alias_decl (outer_alias t k i)) c out = components_outer c _ t k i
+components_decl (import_decl n d) c out = components_bound c _ _ d _
+components_decl (export_decl n d) c out = components_bound c _ _ d _
+
+module _ (f : Scope → ℕ) (k : ℕ) (step : (d : Decl) (c : Scope) (out : List Scope) → f (with_decl d c out) ≡ f c + is_in k (Some (decl_adds d))) where
+  number_declared : (ds : List Decl) (c : Scope) (out : List Scope) → f (after (decls ds) c out) ≡ f c + declared k ds
+  number_declared [] c out = omega arith
+  number_declared (d ∷ ds) c out = omega (arith, step d c out, number_declared ds (with_decl d c out) out)
+
+  number_kept : (ds more : List Decl) (out : List Scope) → f (after (decls ds) empty out) ≤ f (after (decls (ds ++ more)) empty out)
+  number_kept ds more out = let e = ap f (after_append ds more empty out) ∙ number_declared more (after (decls ds) empty out) out in omega arith
+
+pub declared_modules_counted : (ds : List Decl) (out : List Scope) → (after (decls ds) empty out).modules ≡ declared (space s.CoreModule) ds
+declared_modules_counted ds out = omega (arith, number_declared (λ c. c.modules) 0 modules_decl ds empty out)
+
+pub declared_components_counted : (ds : List Decl) (out : List Scope) → (after (decls ds) empty out).components ≡ declared (space s.Component) ds
+declared_components_counted ds out = omega (arith, number_declared (λ c. c.components) 4 components_decl ds empty out)
+
 abbrev declared_types : Scope → List Tree
 declared_types c = c.types
 
@@ -139,7 +241,16 @@ grows ds more out =
     let a = longer_behind core_types_in 6 core_decl ds more out in
     let b = longer_behind declared_types 3 types_decl ds more out in
     let c = longer_behind declared_instances 5 instances_decl ds more out in
-    record { core_types = a.more; types = b.more; instances = c.more; core_types_are = a.is; types_are = b.is; instances_are = c.is }
+    record {
+      core_types = a.more;
+      types = b.more;
+      instances = c.more;
+      core_types_are = a.is;
+      types_are = b.is;
+      instances_are = c.is;
+      modules_stay = number_kept (λ c. c.modules) 0 modules_decl ds more out;
+      components_stay = number_kept (λ c. c.components) 4 components_decl ds more out;
+    }
 
 pub declared_core_types_earlier : (ds more : List Decl) (out : List Scope) (i : ℕ) → i < declared core_types ds → type_at (after (decls (ds ++ more)) empty out).core_types i ≡ type_at (after (decls ds) empty out).core_types i
 declared_core_types_earlier ds more out i h =
@@ -166,7 +277,7 @@ declared_new_type ds t out =
 
 -- the scopes around
 
-type_kept : (c d : Scope) (i : ℕ) → Grows c d → i < length c.types → type_at d.types i ≡ type_at c.types i
+pub type_kept : (c d : Scope) (i : ℕ) → Grows c d → i < length c.types → type_at d.types i ≡ type_at c.types i
 type_kept c d i g h = ap (λ xs. type_at xs i) g.types_are ∙ type_earlier c.types g.types i h
 
 instance_kept : (c d : Scope) (i : ℕ) → Grows c d → i < length c.instances → bound_at d.instances i ≡ bound_at c.instances i
@@ -177,10 +288,43 @@ outer_kept c o q s.Type k i g h = ap (λ t. record c { types = c.types ++ seen_f
 outer_kept c o q s.Instance k i g h = ap (λ b. record c { instances = c.instances ++ outer_bound k b ∷ [] }) (instance_kept o q i g h)
 outer_kept c o q _ k i g h = refl
 
-same_scope : (c : Scope) → Grows c c
-same_scope c = record { core_types = []; types = []; instances = []; core_types_are = sym (append-nil c.core_types); types_are = sym (append-nil c.types); instances_are = sym (append-nil c.instances) }
+pub same_scope : (c : Scope) → Grows c c
+same_scope c = record {
+  core_types = [];
+  types = [];
+  instances = [];
+  core_types_are = sym (append-nil c.core_types);
+  types_are = sym (append-nil c.types);
+  instances_are = sym (append-nil c.instances);
+  modules_stay = omega arith;
+  components_stay = omega arith;
+}
 
-scopes_grow : (cs ds : List Scope) (k : ℕ) → AllGrow cs ds → Grows (scope_at cs k) (scope_at ds k)
+pub grows_twice : (a b c : Scope) → Grows a b → Grows b c → Grows a c
+grows_twice a b c p q = record {
+  core_types = p.core_types ++ q.core_types;
+  types = p.types ++ q.types;
+  instances = p.instances ++ q.instances;
+  core_types_are = q.core_types_are ∙ ap (λ xs. xs ++ q.core_types) p.core_types_are ∙ append_assoc a.core_types p.core_types q.core_types;
+  types_are = q.types_are ∙ ap (λ xs. xs ++ q.types) p.types_are ∙ append_assoc a.types p.types q.types;
+  instances_are = q.instances_are ∙ ap (λ xs. xs ++ q.instances) p.instances_are ∙ append_assoc a.instances p.instances q.instances;
+  modules_stay = let h = p.modules_stay in let k = q.modules_stay in omega arith;
+  components_stay = let h = p.components_stay in let k = q.components_stay in omega arith;
+}
+
+pub same_scopes : (cs : List Scope) → AllGrow cs cs
+same_scopes [] = tt
+same_scopes (c ∷ cs) = (same_scope c, same_scopes cs)
+
+pub all_grow_twice : (xs ys zs : List Scope) → AllGrow xs ys → AllGrow ys zs → AllGrow xs zs
+all_grow_twice [] [] [] p q = tt
+all_grow_twice (a ∷ xs) (b ∷ ys) (c ∷ zs) p q = (grows_twice a b c p.0 q.0, all_grow_twice xs ys zs p.1 q.1)
+all_grow_twice [] [] (c ∷ zs) p q = absurd q
+all_grow_twice [] (b ∷ ys) zs p q = absurd p
+all_grow_twice (a ∷ xs) [] zs p q = absurd p
+all_grow_twice (a ∷ xs) (b ∷ ys) [] p q = absurd q
+
+pub scopes_grow : (cs ds : List Scope) (k : ℕ) → AllGrow cs ds → Grows (scope_at cs k) (scope_at ds k)
 scopes_grow [] [] k g = same_scope empty
 scopes_grow [] (d ∷ ds) k g = absurd g
 scopes_grow (c ∷ cs) [] k g = absurd g
@@ -198,7 +342,7 @@ mutual
   after_kept end c out new g h = refl
   after_kept (next d ds) c out new g h = ap (λ w. after ds w new) (decl_kept d c out new g h.0) ∙ after_kept ds (with_decl d c out) out new g h.1
 
-  decl_kept : (d : Decl) (c : Scope) (out new : List Scope) → AllGrow out new → Reaches d c out → with_decl d c new ≡ with_decl d c out
+  pub decl_kept : (d : Decl) (c : Scope) (out new : List Scope) → AllGrow out new → Reaches d c out → with_decl d c new ≡ with_decl d c out
   decl_kept (core_type_decl m) c out new g h = refl
   decl_kept (type_decl t) c out new g h = ap (λ x. record c { types = c.types ++ x ∷ [] }) (tree_kept t c out new g h)
   decl_kept (alias_decl (export_alias t i n)) c out new g h = refl

@@ -1,12 +1,12 @@
 -- When scopes have only grown, and which declarations cannot tell.
-use Rattle.std.specs.Prelude.{◌≡◌, ℕ, ◌<◌, List, [], ◌∷◌, ◌++◌, length}
+use Rattle.std.specs.Prelude.{◌≡◌, ℕ, ◌<◌, ◌≤◌, List, [], ◌∷◌, ◌++◌, length}
 use Rattle.wac_collection.specs.Tree.{Tree}
 use Rattle.wac_binary.specs.declared.sorts.Sort.{Sort}
 use Rattle.wac_binary.specs.declared.sorts.Sort.TheVariants as s
 use Rattle.wac_binary.specs.Items.{export_alias, outer_alias, TypeDef, value_def, func_def, component_def, instance_def, Decls, end, next, Decl, core_type_decl, type_decl, alias_decl, import_decl, export_decl}
 use Rattle.wac_binary.specs.Unfold.{Scope, Bound, empty, scope_at, with_decl}
 
--- the indexes of the new scope begin with those of the old one
+-- the indexes of the new scope begin with those of the old one, and no core module or component is lost
 pub record Grows (old new : Scope) : Type 0 where
   pub core_types : List Tree
   pub types : List Tree
@@ -14,6 +14,8 @@ pub record Grows (old new : Scope) : Type 0 where
   pub core_types_are : new.core_types ≡ old.core_types ++ core_types
   pub types_are : new.types ≡ old.types ++ types
   pub instances_are : new.instances ≡ old.instances ++ instances
+  pub modules_stay : old.modules ≤ new.modules
+  pub components_stay : old.components ≤ new.components
 
 -- each of these scopes has grown
 abbrev pub AllGrow : List Scope → List Scope → Type 0

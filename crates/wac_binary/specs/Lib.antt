@@ -9,6 +9,8 @@ pub mod Views
 pub mod Unfold
 pub mod Growth
 pub mod Meaning
+pub mod HasMeaning
+pub mod Added
 pub mod ItemView
 pub mod DeclView
 pub mod Code

@@ -6,7 +6,7 @@ use Rattle.wac_binary.specs.declared.sorts.Sort.{Sort}
 use Rattle.wac_binary.specs.declared.sorts.Sort.TheVariants as s
 use Rattle.wac_binary.specs.Items.{export_alias, outer_alias, Item, custom, core_type, nested, instantiate, alias_item, type_item, import_item, export_item}
 use Rattle.wac_binary.specs.Indexes.{described_sort}
-use Rattle.wac_binary.specs.Unfold.{Scope, empty, unbound, type_at, bound_at, described_item, with_bound, with_alias, with_outer, module_tree, tree_of}
+use Rattle.wac_binary.specs.Unfold.{Scope, empty, unbound, type_at, bound_at, described_item, counted_up, with_bound, with_alias, with_outer, module_tree, tree_of}
 
 -- what an index stands for
 pub data Thing : Type 0 where
@@ -87,7 +87,7 @@ projected x n = projection x n
 abbrev pub with_exported : Scope → Sort → ℕ → Scope
 with_exported c s.Type i = record c { types = c.types ++ type_at c.types i ∷ [] }
 with_exported c s.Instance i = record c { instances = c.instances ++ bound_at c.instances i ∷ [] }
-with_exported c _ i = c
+with_exported c t i = counted_up c t
 
 -- the tree of what an export's index stands for, where it has one
 abbrev pub exported_tree : Scope → Sort → ℕ → Tree
@@ -121,7 +121,7 @@ thing_added r (export_item n t i) = stands_for r t i
 abbrev pub read : Root → Item → Root
 read r (custom n bs) = record r { customs = r.customs ++ (n, bs) ∷ [] }
 read r (core_type m) = record r { scope = record r.scope { core_types = r.scope.core_types ++ module_tree m ∷ [] } }
-read r (nested bs) = with_thing (record r { nested_bytes = r.nested_bytes ++ bs ∷ [] }) s.Component (component_at (length r.nested_bytes))
+read r (nested bs) = with_thing (record r { scope = counted_up r.scope s.Component; nested_bytes = r.nested_bytes ++ bs ∷ [] }) s.Component (component_at (length r.nested_bytes))
 read r (instantiate i args) =
     with_thing
     (record r { scope = record r.scope { instances = r.scope.instances ++ unbound ∷ [] }; instantiations = r.instantiations ++ record { component = stands_for r s.Component i; arguments = map (λ a. (a.0, stands_for r a.1 a.2)) args } ∷ [] })

@@ -1,7 +1,7 @@
 -- What the type and instance indexes of a scope stand for, and the tree of each type.
 use Rattle.std.specs.Prelude.{ℕ, zero, suc, List, [], ◌∷◌, ◌++◌, if◌then◌else◌, length, map, Option, Some, None}
 use Rattle.wac_shapes.specs.Name.{Name, same_name}
-use Rattle.wac_collection.specs.Tree.{Side, imported, exported, Place, named, Tree, absent, resource, primitive, record_of, variant_of, list_of, fixed_list_of, tuple_of, flags_of, enum_of, option_of, result_of, stream_of, future_of, function, instance, component, module_of, fresh, type_equal, function_item, instance_item, component_item, module_item, seen_from, taken_from, type_in, items_in, own_of, borrow_of}
+use Rattle.wac_collection.specs.Tree.{Side, imported, exported, Place, named, Tree, absent, resource, primitive, record_of, variant_of, list_of, fixed_list_of, tuple_of, flags_of, enum_of, option_of, result_of, stream_of, future_of, function, instance, component, module_of, fresh, type_equal, function_item, instance_item, component_item, module_item, seen_from, taken_from, items_in, own_of, borrow_of}
 use Rattle.wac_shapes.specs.declared.core_types.CoreType.{CoreType}
 use Rattle.wac_shapes.specs.Core.{CoreItem, no_item, core_function, core_table, core_memory, core_global, core_tag}
 use Rattle.wac_binary.specs.declared.core_types.EntityType.{EntityType}
@@ -56,16 +56,18 @@ module_after m (d ∷ ds) = module_after (with_module_decl m d) ds
 abbrev pub module_tree : List ModuleDecl → Tree
 module_tree ds = let m = module_after no_module ds in module_of m.imports m.exports
 
--- what the type and instance indexes of a scope stand for, and its imports and exports
+-- what the type and instance indexes of a scope stand for, how many core modules and components it has, and its imports and exports
 pub record Scope : Type 0 where
   pub core_types : List Tree
   pub types : List Tree
   pub instances : List Bound
+  pub modules : ℕ
+  pub components : ℕ
   pub imports : Name → Tree
   pub exports : Name → Tree
 
 abbrev pub empty : Scope
-empty = record { core_types = []; types = []; instances = []; imports = λ _. absent; exports = λ _. absent }
+empty = record { core_types = []; types = []; instances = []; modules = 0; components = 0; imports = λ _. absent; exports = λ _. absent }
 
 -- an instance that is bound nowhere here: it has no tree
 abbrev pub unbound : Bound
@@ -97,10 +99,16 @@ abbrev pub option_val : Scope → Option ComponentValType → Tree
 option_val c None = absent
 option_val c (Some v) = val c v
 
--- the type that a type item is, where it is bound on this side under this path
+-- the type that a type item is, where it is bound on this side under this path; no other item gives one
 abbrev pub bound_type : Side → List Place → Tree → Tree
 bound_type side path fresh = resource (record { out = 0; side = side; path = path })
-bound_type side path t = type_in t
+bound_type side path (type_equal t) = t
+bound_type side path _ = absent
+
+-- the type of an instance item; no other item gives one
+abbrev pub bound_instance : Tree → Tree
+bound_instance (instance_item t) = t
+bound_instance _ = absent
 
 -- the item that a description says
 abbrev pub described_item : Scope → Description → Tree
@@ -111,18 +119,38 @@ described_item c e.Fresh = fresh
 described_item c (e.Component i) = component_item (type_at c.types i)
 described_item c (e.Instance i) = instance_item (type_at c.types i)
 
+-- one more index of a sort; what types and instances stand for is said where they are added, and of functions and values no count is kept
+abbrev pub counted_up : Scope → Sort → Scope
+counted_up c s.CoreModule = record c { modules = suc c.modules }
+counted_up c s.Component = record c { components = suc c.components }
+counted_up c _ = c
+
 -- the index that an item bound on this side under this path adds
 abbrev pub with_bound : Scope → Side → List Place → Tree → Scope
 with_bound c side path fresh = record c { types = c.types ++ bound_type side path fresh ∷ [] }
 with_bound c side path (type_equal t) = record c { types = c.types ++ t ∷ [] }
 with_bound c side path (instance_item t) = record c { instances = c.instances ++ record { type = t; side = side; path = path } ∷ [] }
+with_bound c side path (module_item t) = counted_up c s.CoreModule
+with_bound c side path (component_item t) = counted_up c s.Component
 with_bound c side path _ = c
+
+-- an instance's export, where the instance is bound
+abbrev pub exported_item : Bound → Name → Tree
+exported_item b n = taken_from b.side b.path (items_in b.type n)
+
+-- the type that is an instance's export, where that is a type item
+abbrev pub aliased_type : Bound → Name → Tree
+aliased_type b n = bound_type b.side (b.path ++ named n ∷ []) (exported_item b n)
+
+-- the instance that is an instance's export, where that is an instance item
+abbrev pub aliased_instance : Bound → Name → Bound
+aliased_instance b n = record { type = bound_instance (exported_item b n); side = b.side; path = b.path ++ named n ∷ [] }
 
 -- the index that an alias of an instance's export adds
 abbrev pub with_alias : Scope → Sort → Bound → Name → Scope
-with_alias c s.Type b n = record c { types = c.types ++ bound_type b.side (b.path ++ named n ∷ []) (taken_from b.side b.path (items_in b.type n)) ∷ [] }
-with_alias c s.Instance b n = record c { instances = c.instances ++ record { type = type_in (taken_from b.side b.path (items_in b.type n)); side = b.side; path = b.path ++ named n ∷ [] } ∷ [] }
-with_alias c _ b n = c
+with_alias c s.Type b n = record c { types = c.types ++ aliased_type b n ∷ [] }
+with_alias c s.Instance b n = record c { instances = c.instances ++ aliased_instance b n ∷ [] }
+with_alias c t b n = counted_up c t
 
 -- an instance so many scopes out: only that of this very scope is bound here
 abbrev pub outer_bound : ℕ → Bound → Bound
@@ -133,7 +161,7 @@ outer_bound (suc k) b = unbound
 abbrev pub with_outer : Scope → Sort → ℕ → Scope → ℕ → Scope
 with_outer c s.Type k o i = record c { types = c.types ++ seen_from k (type_at o.types i) ∷ [] }
 with_outer c s.Instance k o i = record c { instances = c.instances ++ outer_bound k (bound_at o.instances i) ∷ [] }
-with_outer c _ k o i = c
+with_outer c t k o i = counted_up c t
 
 -- the tree of a value type's definition
 abbrev pub value_tree : ValueDef → Scope → Tree

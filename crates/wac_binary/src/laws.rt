@@ -1,18 +1,23 @@
 //! What holds of all items, for proofs about what is written with this crate.
 
-ghost use Rattle.std.specs.Prelude.{◌≡◌, List, ℕ, ◌<◌, ◌++◌, ◌∷◌, [], length, Some};
-ghost use Rattle.wac_binary.specs.Items.{Item, TypeDef, core_type, type_item, Decl, Decls, decls, core_type_decl, type_decl, ModuleDecl, module_func};
+ghost use Rattle.std.specs.Prelude.{◌≡◌, List, ℕ, ◌<◌, ◌++◌, ◌∷◌, [], length, Bool, Some, None};
+ghost use Rattle.wac_collection.specs.Tree.{imported, exported, position, named, resource, seen_from};
+ghost use Rattle.wac_binary.specs.Items.{Item, TypeDef, core_type, instantiate, alias_item, export_alias, outer_alias, type_item, import_item, export_item, func_def, Decl, Decls, decls, core_type_decl, type_decl, alias_decl, import_decl, export_decl, ModuleDecl, module_func};
 ghost use Rattle.wac_binary.specs.Bytes.{bytes_of};
 ghost use Rattle.wac_binary.specs.Customs.{of_sort, names_bytes, producers_bytes};
 ghost use Rattle.wac_shapes.specs.Name.{Name};
 ghost use Rattle.wac_binary.specs.Indexes.{space, core_types, sort_added, indexes, declared, function_types};
-ghost use Rattle.wac_binary.specs.Unfold.{Scope, empty, type_at, bound_at, tree_of, after, with_decl, module_tree, no_module, module_after, func_at};
+ghost use Rattle.wac_binary.specs.Unfold.{Scope, empty, unbound, type_at, bound_at, scope_at, aliased_type, aliased_instance, tree_of, after, with_decl, module_tree, no_module, module_after, func_at};
 ghost use Rattle.wac_binary.specs.Growth.{Grows, AllGrow, Reach, Reaches};
 ghost use Rattle.wac_shapes.specs.Core.{CoreItem};
 ghost use Rattle.wac_shapes.specs.declared.core_types.CoreType.{CoreType as OfCoreType};
-ghost use Rattle.wac_binary.specs.Meaning.{meaning, read, things, stands_for, thing_added};
+ghost use Rattle.wac_binary.specs.Meaning.{meaning, root_scope, read, read_all, things, stands_for, thing_added};
+ghost use Rattle.wac_binary.specs.HasMeaning.{HasMeaning, ItemHasMeaning, DeclsHaveMeaning, DeclHasMeaning, ImportNothing, TypeHasMeaning};
+ghost use Rattle.wac_binary.specs.Added.{type_added, instance_added, type_declared, instance_declared};
 ghost use Rattle.wac_binary.specs.declared.sorts.Sort.{Sort as OfSort};
 ghost use Rattle.wac_binary.specs.declared.sorts.Sort.TheVariants as s;
+ghost use Rattle.wac_binary.specs.declared.sorts.Description.TheVariants as e;
+ghost use Rattle.wac_binary.specs.declared.types.ComponentValType.{ComponentValType as OfValType};
 
 /// No bytes are the bytes of two lists of items.
 #[tactic(auto, using(crate::specs::OneText::one_reading))]
@@ -42,6 +47,10 @@ pub fn law()
     ensures new_type { (items : List Item) (d : TypeDef)
         → type_at (meaning (items ++ type_item d ∷ [])).scope.types (indexes (space s.Type) items) ≡ tree_of d (meaning items).scope [] }
     ensures new_core_type { (items : List Item) (m : List ModuleDecl) → type_at (meaning (items ++ core_type m ∷ [])).scope.core_types (indexes core_types items) ≡ module_tree m }
+    ensures modules_counted { (items : List Item) → (meaning items).scope.modules ≡ indexes (space s.CoreModule) items }
+    ensures components_counted { (items : List Item) → (meaning items).scope.components ≡ indexes (space s.Component) items }
+    // two lists of items in a row
+    ensures in_a_row { (items more : List Item) → meaning (items ++ more) ≡ read_all (meaning items) more }
     // earlier indexes keep what they stand for, and their trees
     ensures earlier { (items more : List Item) (t : OfSort) (i : ℕ) → i < indexes (space t) items
         → stands_for (meaning (items ++ more)) t i ≡ stands_for (meaning items) t i }
@@ -60,6 +69,8 @@ pub fn scope_law()
     ensures types_counted { (ds : List Decl) (out : List Scope) → length (after (decls ds) empty out).types ≡ declared (space s.Type) ds }
     ensures instances_counted { (ds : List Decl) (out : List Scope) → length (after (decls ds) empty out).instances ≡ declared (space s.Instance) ds }
     ensures core_types_counted { (ds : List Decl) (out : List Scope) → length (after (decls ds) empty out).core_types ≡ declared core_types ds }
+    ensures modules_counted { (ds : List Decl) (out : List Scope) → (after (decls ds) empty out).modules ≡ declared (space s.CoreModule) ds }
+    ensures components_counted { (ds : List Decl) (out : List Scope) → (after (decls ds) empty out).components ≡ declared (space s.Component) ds }
     // one more declaration comes after the others, and a new type's index is the next one
     ensures one_more { (ds : List Decl) (d : Decl) (out : List Scope) → after (decls (ds ++ d ∷ [])) empty out ≡ with_decl d (after (decls ds) empty out) out }
     ensures new_type { (ds : List Decl) (t : TypeDef) (out : List Scope)
@@ -79,7 +90,59 @@ pub fn scope_law()
     ensures around { (ds : Decls) (out new : List Scope) → AllGrow out new → Reach ds empty out → after ds empty new ≡ after ds empty out }
     // each outer alias names an index that is there, where that held before the last declaration and holds of it; and it stays so
     ensures reach_one_more { (ds : List Decl) (d : Decl) (out : List Scope) → Reach (decls ds) empty out → Reaches d (after (decls ds) empty out) out → Reach (decls (ds ++ d ∷ [])) empty out }
+    // growth
+    ensures grows_not { (c : Scope) → Grows c c }
+    ensures grows_twice { (a b c : Scope) → Grows a b → Grows b c → Grows a c }
+    ensures all_grow_not { (out : List Scope) → AllGrow out out }
+    ensures all_grow_twice { (xs ys zs : List Scope) → AllGrow xs ys → AllGrow ys zs → AllGrow xs zs }
     ensures reach_kept { (ds : Decls) (out new : List Scope) → AllGrow out new → Reach ds empty out → Reach ds empty new }
+{}
+
+/// What the index of one more alias, import, export or instantiation stands for, at the root.
+pub fn added_law()
+    ensures alias_type { (items : List Item) (i : ℕ) (n : Name) → type_added items (alias_item (export_alias s.Type i n)) ≡ aliased_type (bound_at (meaning items).scope.instances i) n }
+    ensures alias_instance { (items : List Item) (i : ℕ) (n : Name) → instance_added items (alias_item (export_alias s.Instance i n)) ≡ aliased_instance (bound_at (meaning items).scope.instances i) n }
+    ensures outer_type { (items : List Item) (k i : ℕ) → type_added items (alias_item (outer_alias s.Type k i)) ≡ seen_from k (type_at (root_scope (meaning items) k).types i) }
+    ensures import_equal { (items : List Item) (n : Name) (i : ℕ) → type_added items (import_item n (e.Equal i)) ≡ type_at (meaning items).scope.types i }
+    ensures import_fresh { (items : List Item) (n : Name) → type_added items (import_item n e.Fresh) ≡ resource (record { out = 0; side = imported; path = position (length (meaning items).imports) ∷ [] }) }
+    ensures import_instance { (items : List Item) (n : Name) (i : ℕ)
+        → instance_added items (import_item n (e.Instance i)) ≡ record { type = type_at (meaning items).scope.types i; side = imported; path = position (length (meaning items).imports) ∷ [] } }
+    ensures export_type { (items : List Item) (n : Name) (i : ℕ) → type_added items (export_item n s.Type i) ≡ type_at (meaning items).scope.types i }
+    ensures export_instance { (items : List Item) (n : Name) (i : ℕ) → instance_added items (export_item n s.Instance i) ≡ bound_at (meaning items).scope.instances i }
+    ensures instantiation { (items : List Item) (i : ℕ) (args : List (Name × OfSort × ℕ)) → instance_added items (instantiate i args) ≡ unbound }
+{}
+
+/// What the index of one more alias, import or export stands for, in the scope of a component type or an instance type.
+pub fn declared_law()
+    ensures alias_type { (ds : List Decl) (i : ℕ) (n : Name) (out : List Scope) → type_declared ds (alias_decl (export_alias s.Type i n)) out ≡ aliased_type (bound_at (after (decls ds) empty out).instances i) n }
+    ensures alias_instance { (ds : List Decl) (i : ℕ) (n : Name) (out : List Scope) → instance_declared ds (alias_decl (export_alias s.Instance i n)) out ≡ aliased_instance (bound_at (after (decls ds) empty out).instances i) n }
+    ensures outer_type { (ds : List Decl) (k i : ℕ) (out : List Scope) → type_declared ds (alias_decl (outer_alias s.Type k i)) out ≡ seen_from k (type_at (scope_at (after (decls ds) empty out ∷ out) k).types i) }
+    ensures import_equal { (ds : List Decl) (n : Name) (i : ℕ) (out : List Scope) → type_declared ds (import_decl n (e.Equal i)) out ≡ type_at (after (decls ds) empty out).types i }
+    ensures import_fresh { (ds : List Decl) (n : Name) (out : List Scope) → type_declared ds (import_decl n e.Fresh) out ≡ resource (record { out = 0; side = imported; path = named n ∷ [] }) }
+    ensures import_instance { (ds : List Decl) (n : Name) (i : ℕ) (out : List Scope)
+        → instance_declared ds (import_decl n (e.Instance i)) out ≡ record { type = type_at (after (decls ds) empty out).types i; side = imported; path = named n ∷ [] } }
+    ensures export_equal { (ds : List Decl) (n : Name) (i : ℕ) (out : List Scope) → type_declared ds (export_decl n (e.Equal i)) out ≡ type_at (after (decls ds) empty out).types i }
+    ensures export_fresh { (ds : List Decl) (n : Name) (out : List Scope) → type_declared ds (export_decl n e.Fresh) out ≡ resource (record { out = 0; side = exported; path = named n ∷ [] }) }
+    ensures export_instance { (ds : List Decl) (n : Name) (i : ℕ) (out : List Scope)
+        → instance_declared ds (export_decl n (e.Instance i)) out ≡ record { type = type_at (after (decls ds) empty out).types i; side = exported; path = named n ∷ [] } }
+{}
+
+/// That items and declarations have a meaning where those before the last have one and the last has one; that it stays, with
+/// the trees, where scopes only grow; and that a function with a result and one without never have one tree.
+pub fn has_meaning_law()
+    ensures one_more { (items : List Item) (x : Item) → HasMeaning items → ItemHasMeaning (meaning items) x → HasMeaning (items ++ x ∷ []) }
+    ensures before { (items : List Item) (x : Item) → HasMeaning (items ++ x ∷ []) → HasMeaning items × ItemHasMeaning (meaning items) x }
+    ensures declared_one_more { (ds : List Decl) (d : Decl) (out : List Scope) → DeclsHaveMeaning (decls ds) empty out → DeclHasMeaning d (after (decls ds) empty out) out → DeclsHaveMeaning (decls (ds ++ d ∷ [])) empty out }
+    ensures declared_before { (ds : List Decl) (d : Decl) (out : List Scope) → DeclsHaveMeaning (decls (ds ++ d ∷ [])) empty out → DeclsHaveMeaning (decls ds) empty out × DeclHasMeaning d (after (decls ds) empty out) out }
+    ensures import_nothing { (ds : List Decl) (d : Decl) → ImportNothing (decls ds) → ImportNothing (decls (d ∷ [])) → ImportNothing (decls (ds ++ d ∷ [])) }
+    // where scopes only grew
+    ensures declared_kept { (ds : Decls) (out new : List Scope) → AllGrow out new → DeclsHaveMeaning ds empty out → DeclsHaveMeaning ds empty new }
+    ensures type_kept { (t : TypeDef) (c d : Scope) (out new : List Scope) → Grows c d → AllGrow out new → TypeHasMeaning t c out → TypeHasMeaning t d new }
+    ensures tree_kept { (t : TypeDef) (c d : Scope) (out new : List Scope) → Grows c d → AllGrow out new → TypeHasMeaning t c out → tree_of t d new ≡ tree_of t c out }
+    // outer aliases lead to indexes that are there
+    ensures reach { (ds : Decls) (out : List Scope) → DeclsHaveMeaning ds empty out → Reach ds empty out }
+    ensures outcomes { (a b : Bool) (ps qs : List (Name × OfValType)) (v : OfValType) (c d : Scope) (out new : List Scope) → TypeHasMeaning (func_def a ps (Some v)) c out
+        → tree_of (func_def a ps (Some v)) c out ≡ tree_of (func_def b qs None) d new → ⊥ }
 {}
 
 /// That a function type of a core module type has the index that its writer answers, and keeps it.

@@ -25,7 +25,10 @@ pub use core_types::{EntityType, GlobalType, MemoryType, TableType};
 pub use customs::{component_names, producers};
 pub use fault::BinaryFault;
 pub use instance_type::InstanceType;
-pub use laws::{law, module_law, one_custom_reading, one_reading, scope_law};
+pub use laws::{
+    added_law, declared_law, has_meaning_law, law, module_law, one_custom_reading, one_reading,
+    scope_law,
+};
 pub use module_type::ModuleType;
 pub use sorts::{Description, Sort};
 pub use types::{ComponentValType, DefinedType, FuncType};
