@@ -9,7 +9,6 @@ pub mod Searching
 pub mod Leading
 pub mod KeySets
 pub mod Reaching
-pub mod Circling
 pub mod Resting
 pub mod Alike
 pub mod Kinded

@@ -8,9 +8,9 @@ use Rattle.wac_shapes.specs.Name.{Name, same_name}
 use Rattle.wac_collection.specs.Collection.{Collection}
 use Rattle.wac_shapes.specs.declared.component.ItemKind.{ItemKind}
 use Rattle.wac_shapes.specs.declared.component.ItemKind.TheVariants as kind
-use Rattle.wac_agreement.specs.Circles.{Leads}
+use Rattle.wac_edges.specs.Cycles.{IsStep, Path, step, further}
 use Rattle.wac_entries.specs.Classes.{Entry, NameRules, by_names, class_names}
-use Rattle.wac_agreement.specs.ClassOrder.{Arranges, done, there, new, Selects, none, takes, leaves, RestsThrough, step, further, RestsOn, IsWrittenOrder, group_of, group_under, in_group, grouped}
+use Rattle.wac_agreement.specs.ClassOrder.{Arranges, done, there, new, Selects, none, takes, leaves, RestsOn, IsWrittenOrder, group_of, group_under, in_group, grouped}
 use Rattle.wac_agreement.specs.Faults.{HasNoCircle}
 use Rattle.wac_agreement.specs.Order.{IsOnce, AreAll}
 use Rattle.wac_agreement.proofs.KeySets.{In}
@@ -133,13 +133,13 @@ module _ (rests : ℕ → ℕ → Type 0) (all : List ℕ) where
 
   -- what is placed was before, or is among the numbers, or one of them rests on it through others
   abbrev From : List ℕ → List ℕ → ℕ → Type 0
-  From placed ns q = In placed q ⊎ ((m : ℕ) × In ns m × ((m ≡ q) ⊎ RestsThrough rests m q))
+  From placed ns q = In placed q ⊎ ((m : ℕ) × In ns m × ((m ≡ q) ⊎ Path rests m q))
 
   from_tail : (placed : List ℕ) (n : ℕ) (l : List ℕ) (q : ℕ) → From placed l q → From placed (n ∷ l) q
   from_tail placed n l q (inl w) = inl w
   from_tail placed n l q (inr (m, i, w)) = inr (m, inr i, w)
 
-  through_under : (n q : ℕ) (under : List ℕ) → Selects (rests n) all under → (m : ℕ) → In under m → (m ≡ q) ⊎ RestsThrough rests m q → RestsThrough rests n q
+  through_under : (n q : ℕ) (under : List ℕ) → Selects (rests n) all under → (m : ℕ) → In under m → (m ≡ q) ⊎ Path rests m q → Path rests n q
   through_under n q under s m i (inl e) = step n q (subst (λ k. rests n k) e (selects_in (rests n) all under s m i).1)
   through_under n q under s m i (inr t) = further n m q (selects_in (rests n) all under s m i).1 t
 
@@ -159,12 +159,12 @@ module _ (rests : ℕ → ℕ → Type 0) (all : List ℕ) where
   arranges_from placed ns after (there p a n l c r) q h = from_tail p n l q (arranges_from p l a r q h)
   arranges_from placed ns after (new p under before a n l c s u r) q h = from_new p before under l n q s (λ k w. arranges_from p under before u k w) (arranges_from (before ++ n ∷ []) l a r q h)
 
-  new_apart : (placed under : List ℕ) (n : ℕ) → ((m : ℕ) → RestsThrough rests m m → ⊥) → (Contains placed n → ⊥) → Selects (rests n) all under → From placed under n → ⊥
+  new_apart : (placed under : List ℕ) (n : ℕ) → ((m : ℕ) → Path rests m m → ⊥) → (Contains placed n → ⊥) → Selects (rests n) all under → From placed under n → ⊥
   new_apart placed under n ordered c s (inl w) = c (in_contains placed n w)
   new_apart placed under n ordered c s (inr (m, i, w)) = ordered n (through_under n n under s m i w)
 
   -- each is placed once
-  pub arranges_once : ((m : ℕ) → RestsThrough rests m m → ⊥) → (placed ns after : List ℕ) → Arranges rests all placed ns after → Once placed → Once after
+  pub arranges_once : ((m : ℕ) → Path rests m m → ⊥) → (placed ns after : List ℕ) → Arranges rests all placed ns after → Once placed → Once after
   arranges_once ordered placed ns after (done p) o = o
   arranges_once ordered placed ns after (there p a n l c r) o = arranges_once ordered p l a r o
   arranges_once ordered placed ns after (new p under before a n l c s u r) o =
@@ -298,6 +298,6 @@ module _ (rules : NameRules) (es : List Entry) where
     order_once ordered = once_at order (arranges_once (RestsOn rules c es) (grouped rules es) ordered [] (grouped rules es) order written tt)
 
 -- ---- an order that comes out of sets of numbers
-module _ (c : Collection) (es : List Entry) (sets : List (BTreeSet ℕ)) (rests : (a b : ℕ) → Leads sets a b ↔ RestsOn by_names c es a b) where
-  pub written_from : (all order : List ℕ) → all ≡ grouped by_names es → Arranges (Leads sets) all [] all order → IsWrittenOrder by_names c es order
-  written_from all order is a = arranges_alike (Leads sets) (RestsOn by_names c es) rests (grouped by_names es) [] (grouped by_names es) order (subst (λ (ns : List ℕ). Arranges (Leads sets) ns [] ns order) is a)
+module _ (c : Collection) (es : List Entry) (sets : List (BTreeSet ℕ)) (rests : (a b : ℕ) → IsStep sets a b ↔ RestsOn by_names c es a b) where
+  pub written_from : (all order : List ℕ) → all ≡ grouped by_names es → Arranges (IsStep sets) all [] all order → IsWrittenOrder by_names c es order
+  written_from all order is a = arranges_alike (IsStep sets) (RestsOn by_names c es) rests (grouped by_names es) [] (grouped by_names es) order (subst (λ (ns : List ℕ). Arranges (IsStep sets) ns [] ns order) is a)

@@ -11,9 +11,9 @@ use Rattle.std.proofs.lemmas.Cmp.{ranked}
 use Rattle.std.proofs.lemmas.Map.Keys.{sorted_head, sorted_tail}
 use Rattle.std.proofs.lemmas.Option.{get_or_from_slice_get, slice_get-get_or, slice_get_within}
 use Rattle.wac_agreement.specs.ClassOrder.{Selects, none, takes, leaves}
-use Rattle.wac_agreement.specs.Circles.{AreBelow}
+use Rattle.wac_edges.specs.Numbers.{AreBelow, Has}
 use Rattle.wac_agreement.specs.Order.{IsOnce, AreAll, AreRanks}
-use Rattle.wac_agreement.specs.ReachSteps.{Has, with_all}
+use Rattle.wac_agreement.specs.ReachSteps.{with_all}
 use Rattle.wac_agreement.proofs.KeySets.{In, has_all, all_new}
 use Rattle.wac_agreement.proofs.RestSets.{has_in, in_has}
 use Rattle.wac_agreement.proofs.OrderLaws.{at_in, in_at, contains_in}

@@ -7,11 +7,12 @@ use Rattle.std.proofs.lemmas.Option.{get_or_from_slice_get, slice_get-get_or, sl
 use Rattle.wac_shapes.proofs.Names.{take_at}
 use Rattle.wac_agreement.specs.declared.order.Step.{Step}
 use Rattle.wac_agreement.specs.declared.order.Step.TheVariants.{Open, Place}
-use Rattle.wac_agreement.specs.ClassOrder.{Arranges, done, there, new, Selects, RestsThrough, step, further}
-use Rattle.wac_agreement.specs.Circles.{Leads, AreBelow, AreWithin, HasNoCircle, is_reached}
+use Rattle.wac_agreement.specs.ClassOrder.{Arranges, done, there, new, Selects}
+use Rattle.wac_edges.specs.Cycles.{Path, step, further, IsStep, AreWithin, HasNoCycle}
+use Rattle.wac_edges.specs.Numbers.{AreBelow, Has}
+use Rattle.wac_edges.specs.CycleSearch.{is_reached}
 use Rattle.wac_agreement.specs.Order.{AreAll, openings}
-use Rattle.wac_agreement.specs.ReachSteps.{Has}
-use Rattle.wac_agreement.proofs.Circling.{unreached}
+use Rattle.wac_edges.proofs.CycleSearch.{unreached}
 use Rattle.wac_agreement.proofs.KeySets.{In}
 use Rattle.wac_agreement.proofs.RestSets.{has_in}
 use Rattle.wac_agreement.proofs.OrderLaws.{in_front, in_behind, in_either, contains_in, in_contains, selects_alike, selects_in, selects_long}
@@ -91,16 +92,16 @@ module _ (rests : ℕ → ℕ → Type 0) (all : List ℕ) where
   hang_new P (Open x ∷ left) n under f h = (h.0, hang_new P left n under f h.1)
   hang_new P (Place x ∷ left) n under f h = (h.0, hang_new (rests x) left n under f h.1)
 
-  hang_reach : (x : ℕ) (left : List Step) (n : ℕ) → Hangs (rests x) (left ++ Open n ∷ []) → RestsThrough rests x n
+  hang_reach : (x : ℕ) (left : List Step) (n : ℕ) → Hangs (rests x) (left ++ Open n ∷ []) → Path rests x n
   hang_reach x [] n h = step x n h.0
   hang_reach x (Open y ∷ left) n h = hang_reach x left n h.1
   hang_reach x (Place y ∷ left) n h = further x y n h.0 (hang_reach y left n h.1)
 
   -- what is to be placed below a step rests on its class through others
-  hang_through : (P : ℕ → Type 0) (left : List Step) (n m : ℕ) → Hangs P (left ++ Open n ∷ []) → Waits left m → RestsThrough rests m n
+  hang_through : (P : ℕ → Type 0) (left : List Step) (n m : ℕ) → Hangs P (left ++ Open n ∷ []) → Waits left m → Path rests m n
   hang_through P [] n m h w = absurd w
   hang_through P (Open x ∷ left) n m h w = hang_through P left n m h.1 w
-  hang_through P (Place x ∷ left) n m h (inl e) = subst (λ k. RestsThrough rests k n) (sym e) (hang_reach x left n h.1)
+  hang_through P (Place x ∷ left) n m h (inl e) = subst (λ k. Path rests k n) (sym e) (hang_reach x left n h.1)
   hang_through P (Place x ∷ left) n m h (inr w) = hang_through (rests x) left n m h.1 w
 
   waits_either : (xs ys : List Step) (m : ℕ) → Waits (xs ++ ys) m → Waits xs m ⊎ Waits ys m
@@ -214,14 +215,14 @@ module _ (rests : List (BTreeSet ℕ)) (all : List ℕ) where
   pub record IsArranging (opened : List Bool) (steps : List Step) (order : List ℕ) : Type 0 where
     pub long : length opened ≡ length rests
     pub low : AreLow (length rests) steps
-    pub hangs : Hangs (Leads rests) all (λ n. Unit {0}) steps
+    pub hangs : Hangs (IsStep rests) all (λ n. Unit {0}) steps
     pub placed : (m : ℕ) → In order m → is_reached opened m ≡ true
-    pub waits : (m : ℕ) → Waits (Leads rests) all steps m → is_reached opened m ≡ true
-    pub known : (m : ℕ) → is_reached opened m ≡ true → In order m ⊎ Waits (Leads rests) all steps m
-    pub ends : (after : List ℕ) → Finishes (Leads rests) all steps order after → Arranges (Leads rests) all [] all after
+    pub waits : (m : ℕ) → Waits (IsStep rests) all steps m → is_reached opened m ≡ true
+    pub known : (m : ℕ) → is_reached opened m ≡ true → In order m ⊎ Waits (IsStep rests) all steps m
+    pub ends : (after : List ℕ) → Finishes (IsStep rests) all steps order after → Arranges (IsStep rests) all [] all after
 
   abbrev Rest : ℕ → ℕ → Type 0
-  Rest = Leads rests
+  Rest = IsStep rests
 
   -- at first all are to be opened
   pub first_step : (opened : List Bool) → AreAll (length rests) all → opened ≡ replicate (length rests) false → IsArranging opened (openings all) []
@@ -237,7 +238,7 @@ module _ (rests : List (BTreeSet ℕ)) (all : List ℕ) where
 
   module _ (opened : List Bool) (left : List Step) (order : List ℕ) (n : ℕ) where
     -- its turn had come: it is placed, since none rests on itself through others
-    next_there : HasNoCircle rests → IsArranging opened (left ++ Open n ∷ []) order → is_reached opened n ≡ true → IsArranging opened left order
+    next_there : HasNoCycle rests → IsArranging opened (left ++ Open n ∷ []) order → is_reached opened n ≡ true → IsArranging opened left order
     next_there ordered old is = record {
       long = old.long;
       low = low_front (length rests) left (Open n ∷ []) old.low;
@@ -337,7 +338,7 @@ module _ (rests : List (BTreeSet ℕ)) (all : List ℕ) where
 
   -- ---- the step that is taken
   module _ (opened : List Bool) (steps left : List Step) (order : List ℕ) (n : ℕ) where
-    pub there_next : HasNoCircle rests → steps ≡ left ++ Open n ∷ [] → IsArranging opened steps order → is_reached opened n ≡ true → IsArranging opened left order
+    pub there_next : HasNoCycle rests → steps ≡ left ++ Open n ∷ [] → IsArranging opened steps order → is_reached opened n ≡ true → IsArranging opened left order
     there_next ordered popped old is = next_there opened left order n ordered (subst (λ (ts : List Step). IsArranging opened ts order) popped old) is
 
     pub placed_next : (more : List ℕ) → steps ≡ left ++ Place n ∷ [] → more ≡ order ++ n ∷ [] → IsArranging opened steps order → IsArranging opened left more

@@ -18,13 +18,13 @@ use Rattle.wac_shapes.specs.declared.component.ResourceId.{ResourceId}
 use Rattle.wac_shapes.specs.declared.component.ItemKind.{ItemKind}
 use Rattle.wac_shapes.specs.declared.component.ItemKind.TheVariants as kind
 use Rattle.wac_entries.specs.Binding.{binding_class, binding_from, class_binds, root_bindings}
-use Rattle.wac_agreement.specs.Circles.{AreWithin, IsLowestOnCircle, Leads}
-use Rattle.wac_agreement.specs.Circles as circles
+use Rattle.wac_edges.specs.Cycles.{AreWithin, HasLowestOnCycle, IsStep}
+use Rattle.wac_edges.specs.Cycles as cycles
 use Rattle.wac_entries.specs.Classes.{Entry, by_names, class_names}
 use Rattle.wac_agreement.specs.ClassOrder.{IsFirstOnCircle, RestsOn, by_resource, by_use}
 use Rattle.wac_agreement.specs.Faults.{HasNoCircle}
 use Rattle.wac_agreement.specs.Union.{inside_member, member_tree}
-use Rattle.wac_agreement.proofs.Circling.{along}
+use Rattle.wac_edges.proofs.CycleSearch.{along}
 use Rattle.wac_agreement.proofs.Resting.{No, Nothing, Quiet, free_class, held, no_first, no_none, no_outer, no_some, quiet_item, quiet_items, quiet_to, Free}
 
 module _ (c : Collection) (es : List Entry) where
@@ -92,13 +92,13 @@ module _ (c : Collection) (es : List Entry) where
     split Equal is = let same : b ≡ length (class_names by_names es) = ranked b (length (class_names by_names es)) Equal is in absurd (member_quiet b (omega (arith, same)) class a e.kind h)
     split Greater is = let more : length (class_names by_names es) < b = ranked b (length (class_names by_names es)) Greater is in absurd (member_quiet b (omega (arith, more)) class a e.kind h)
 
-  module _ (sets : List (BTreeSet ℕ)) (counted : length sets ≡ length (class_names by_names es)) (rests : (a b : ℕ) → Leads sets a b ↔ RestsOn by_names c es a b) where
+  module _ (sets : List (BTreeSet ℕ)) (counted : length sets ≡ length (class_names by_names es)) (rests : (a b : ℕ) → IsStep sets a b ↔ RestsOn by_names c es a b) where
     pub are_within : AreWithin sets
     are_within a b h = let low : b < length (class_names by_names es) = rests_low a b ((rests a b).0 h) in omega (arith, counted, low)
 
-    pub first_of : (o : Option ℕ) → MatchOption o (circles.HasNoCircle sets) (λ n. IsLowestOnCircle sets n) → MatchOption o (HasNoCircle by_names c es) (λ n. IsFirstOnCircle by_names c es n)
-    first_of None none = λ a on. none a (along (RestsOn by_names c es) (Leads sets) (λ x y h. (rests x y).1 h) a a on)
+    pub first_of : (o : Option ℕ) → MatchOption o (cycles.HasNoCycle sets) (λ n. HasLowestOnCycle sets n) → MatchOption o (HasNoCircle by_names c es) (λ n. IsFirstOnCircle by_names c es n)
+    first_of None none = λ a on. none a (along (RestsOn by_names c es) (IsStep sets) (λ x y h. (rests x y).1 h) a a on)
     first_of (Some n) lowest = record {
-      on = along (Leads sets) (RestsOn by_names c es) (λ x y h. (rests x y).0 h) n n lowest.on;
-      first = λ b on. lowest.lowest b (along (RestsOn by_names c es) (Leads sets) (λ x y h. (rests x y).1 h) b b on);
+      on = along (IsStep sets) (RestsOn by_names c es) (λ x y h. (rests x y).0 h) n n lowest.on;
+      first = λ b on. lowest.lowest b (along (RestsOn by_names c es) (IsStep sets) (λ x y h. (rests x y).1 h) b b on);
     }

@@ -1,5 +1,5 @@
 -- The sets of numbers to which entries lead, as they grow.
-use Rattle.std.proofs.Common.{◌≡◌, ◌≢◌, ℕ, zero, suc, ◌<◌, true, List, [], ◌∷◌, ◌++◌, drop, Option, Some, None, slice_get, refl, ap, sym, ◌∙◌, subst, inl, inr, ◌⊎◌, arith}
+use Rattle.std.proofs.Common.{◌≡◌, ◌≢◌, ℕ, zero, suc, ◌<◌, true, List, [], ◌∷◌, drop, Option, Some, None, slice_get, refl, ap, sym, ◌∙◌, subst, inl, inr, ◌⊎◌, arith}
 use Rattle.std.specs.Prelude.{◌↔◌}
 use Rattle.std.specs.Option.{option_map}
 use Rattle.std.specs.Ordering.{nat_cmp}
@@ -14,13 +14,15 @@ use Rattle.wac_shapes.specs.declared.component.InterfaceId.{InterfaceId}
 use Rattle.wac_shapes.specs.declared.component.UsedType.{UsedType}
 use Rattle.wac_shapes.specs.declared.component.«Type».TheVariants as ty
 use Rattle.wac_entries.specs.Bindings.{ClassBindings}
-use Rattle.wac_agreement.specs.Circles.{Leads}
+use Rattle.wac_edges.specs.Cycles.{IsStep}
 use Rattle.wac_entries.specs.Classes.{Entry}
 use Rattle.wac_entries.specs.Nodes.{Node, Item, and_optional}
-use Rattle.wac_agreement.specs.ReachSteps.{Has, with_all}
+use Rattle.wac_edges.specs.Numbers.{Has}
+use Rattle.wac_agreement.specs.ReachSteps.{with_all}
 use Rattle.wac_agreement.specs.Resting.{EntryLeads, Gains, ItemLeads, classes_used, interface_class, used_classes}
-use Rattle.wac_agreement.proofs.KeySets.{In, has_all, all_old, all_new, has_head, has_tail, has_split, has_insert, has_old, has_new}
-use Rattle.wac_entries.proofs.Lists.{push-cases, set-cases}
+use Rattle.wac_agreement.proofs.KeySets.{In, has_all, all_old, all_new}
+use Rattle.wac_edges.proofs.Numbers.{has_head, has_tail, has_split, has_insert, has_old, has_new}
+use Rattle.wac_entries.proofs.Lists.{set-cases}
 
 -- ---- numbers of lists
 pub has_in : (ns : List ℕ) (q : ℕ) → Has ns q → In ns q
@@ -128,12 +130,6 @@ gain_all own more old new rest none g b = (g.sound b, g.kept b, λ n h. done n h
   ]
 
 -- ---- one set for each class
-pub empty_push : (sets : List (BTreeSet ℕ)) (s : BTreeSet ℕ) → s.keys ≡ [] → ((a b : ℕ) → Leads sets a b → ⊥) → (a b : ℕ) → Leads (sets ++ s ∷ []) a b → ⊥
-empty_push sets s none h a b (t, at, has) = elim (push-cases sets s a t at) [
-  | inl old ↦ h a b (t, old, has)
-  | inr (end, is) ↦ has_in [] b (subst (λ (l : List ℕ). Has l b) (ap (λ (x : BTreeSet ℕ). x.keys) is ∙ none) has)
-]
-
 set-same : {X : Type 0} (xs : List X) (k : ℕ) (x y : X) → slice_get xs k ≡ Some x → slice_get (set xs k y) k ≡ Some y
 set-same [] k x y at = cc
 set-same (z ∷ xs) zero x y at = refl
@@ -150,12 +146,12 @@ module _ (ns : List Node) (c : Collection) (es : List Entry) (xs : List Item) (n
   abbrev pub Entries : ℕ → ℕ → ℕ → Type 0
   Entries = EntryLeads ns c es xs numbers names bs
 
-  pub none_leads : (sets : List (BTreeSet ℕ)) → ((a b : ℕ) → Leads sets a b → ⊥) → (a b : ℕ) → Leads sets a b ↔ Entries 0 a b
+  pub none_leads : (sets : List (BTreeSet ℕ)) → ((a b : ℕ) → IsStep sets a b → ⊥) → (a b : ℕ) → IsStep sets a b ↔ Entries 0 a b
   none_leads sets h a b = (λ l. absurd (h a b l), λ l. let low : l.at < 0 = l.below in absurd (omega (arith, low)))
 
   module _ (i k : ℕ) (e : Entry) (x : Item) (sets : List (BTreeSet ℕ)) (m new : BTreeSet ℕ) (more : List ℕ)
       (e_at : slice_get es i ≡ Some e) (x_at : slice_get xs i ≡ Some x) (k_at : slice_get numbers i ≡ Some k) (m_at : slice_get sets k ≡ Some m)
-      (leads : (b : ℕ) → Has more b ↔ ItemLeads ns c names bs e.kind x b) (gains : Gains k more m.keys new.keys) (before : (a b : ℕ) → Leads sets a b ↔ Entries i a b) where
+      (leads : (b : ℕ) → Has more b ↔ ItemLeads ns c names bs e.kind x b) (gains : Gains k more m.keys new.keys) (before : (a b : ℕ) → IsStep sets a b ↔ Entries i a b) where
     wider : (a b : ℕ) → Entries i a b → Entries (suc i) a b
     wider a b l = record {
       at = l.at;
@@ -175,16 +171,16 @@ module _ (ns : List Node) (c : Collection) (es : List Entry) (xs : List Item) (n
       | inr g ↦ record { at = i; entry = e; item = x; below = omega arith; is_entry = e_at; is_item = x_at; is_class = k_at; other = g.0; leads = (leads b).0 g.1 }
     ]
 
-    to : (a b : ℕ) → Leads (set sets k new) a b → Entries (suc i) a b
+    to : (a b : ℕ) → IsStep (set sets k new) a b → Entries (suc i) a b
     to a b (s, at, h) = elim (set-cases sets k new a s at) [
       | inl (same, is) ↦ subst (λ (y : ℕ). Entries (suc i) y b) (sym same) (to_new b (subst (λ (y : BTreeSet ℕ). Has y.keys b) is h))
       | inr (other, old) ↦ wider a b ((before a b).0 (s, old, h))
     ]
 
-    in_new : (a b : ℕ) → a ≡ k → Has new.keys b → Leads (set sets k new) a b
+    in_new : (a b : ℕ) → a ≡ k → Has new.keys b → IsStep (set sets k new) a b
     in_new a b same h = (new, ap (slice_get (set sets k new)) same ∙ set-same sets k m new m_at, h)
 
-    of_old : (a b : ℕ) → Leads sets a b → Leads (set sets k new) a b
+    of_old : (a b : ℕ) → IsStep sets a b → IsStep (set sets k new) a b
     of_old a b (s, at, h) = elim (eqb_tells a k) [
       | inl (t, same) ↦
           let some : Some s ≡ Some m = sym at ∙ (ap (slice_get sets) same ∙ m_at) in
@@ -193,7 +189,7 @@ module _ (ns : List Node) (c : Collection) (es : List Entry) (xs : List Item) (n
       | inr (t, other) ↦ (s, set-other sets k a s new other at, h)
     ]
 
-    of_this : (a b : ℕ) → (l : Entries (suc i) a b) → l.at ≡ i → Leads (set sets k new) a b
+    of_this : (a b : ℕ) → (l : Entries (suc i) a b) → l.at ≡ i → IsStep (set sets k new) a b
     of_this a b l is =
         let some_e : Some l.entry ≡ Some e = sym l.is_entry ∙ (ap (slice_get es) is ∙ e_at) in
         let some_x : Some l.item ≡ Some x = sym l.is_item ∙ (ap (slice_get xs) is ∙ x_at) in
@@ -205,7 +201,7 @@ module _ (ns : List Node) (c : Collection) (es : List Entry) (xs : List Item) (n
         subst (λ (y : Item). ItemLeads ns c names bs e.kind y b) same_x (subst (λ (y : Entry). ItemLeads ns c names bs y.kind l.item b) same_e l.leads) in
         in_new a b same_k ((gains b).2 (λ s. l.other (same_k ∙ s)) ((leads b).1 led))
 
-    back : (a b : ℕ) → Entries (suc i) a b → Leads (set sets k new) a b
+    back : (a b : ℕ) → Entries (suc i) a b → IsStep (set sets k new) a b
     back a b l = elim (eqb_tells l.at i) [
       | inl (t, same) ↦ of_this a b l same
       | inr (t, other) ↦
@@ -224,5 +220,5 @@ module _ (ns : List Node) (c : Collection) (es : List Entry) (xs : List Item) (n
     ]
 
     -- one more entry leads on
-    pub leads_next : (a b : ℕ) → Leads (set sets k new) a b ↔ Entries (suc i) a b
+    pub leads_next : (a b : ℕ) → IsStep (set sets k new) a b ↔ Entries (suc i) a b
     leads_next a b = (to a b, back a b)

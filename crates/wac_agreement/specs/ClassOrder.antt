@@ -1,5 +1,6 @@
 -- The order in which classes are written: instances, type items, the rest, each after what it rests on.
 use Rattle.std.specs.Prelude.{ℕ, suc, ◌≡◌, ◌≢◌, ◌≤◌, Bool, true, ◌==◌, if◌then◌else◌, List, [], ◌∷◌, ◌++◌, Some, slice_get, Contains}
+use Rattle.wac_edges.specs.Cycles.{Path}
 use Rattle.wac_shapes.specs.Name.{Name, same_name}
 use Rattle.wac_collection.specs.Tree.{Place, position, TypeTree, resource, own, borrow, record_of, variant_of, list_of, fixed_list_of, tuple_of, option_of, result_of, stream_of, future_of, function, instance, component, type_equal, function_item, instance_item, component_item, module_item, value_item}
 use Rattle.wac_collection.specs.Collection.{Collection, item_at}
@@ -56,14 +57,9 @@ pub data RestsOn (rules : NameRules) (c : Collection) (es : List Entry) : ℕ �
       → Mentions (λ l. begins_at b l.path) (member_tree rules c es class a (root_bindings rules c es (λ k. k)) e.kind)
       → RestsOn rules c es a b
 
--- by one step or more
-pub data RestsThrough (rests : ℕ → ℕ → Type 0) : ℕ → ℕ → Type 0 where
-  step : (a b : ℕ) → rests a b → RestsThrough rests a b
-  further : (a b d : ℕ) → rests a b → RestsThrough rests b d → RestsThrough rests a d
-
 -- the class rests on itself through others
 abbrev pub IsOnCircle : NameRules → Collection → List Entry → ℕ → Type 0
-IsOnCircle rules c es a = RestsThrough (RestsOn rules c es) a a
+IsOnCircle rules c es a = Path (RestsOn rules c es) a a
 
 -- of the classes on circles the one that is asked first
 pub record IsFirstOnCircle (rules : NameRules) (c : Collection) (es : List Entry) (a : ℕ) : Type 0 where

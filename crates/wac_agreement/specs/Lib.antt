@@ -5,7 +5,6 @@ pub mod Apart
 pub mod Shapes
 pub mod Reach
 pub mod ReachSteps
-pub mod Circles
 pub mod Compared
 pub mod Faults
 pub mod Resting

@@ -1,9 +1,8 @@
 -- How the classes that a type reaches are found. Private functions alone cite this.
-use Rattle.std.specs.Prelude.{ℕ, ◌≡◌, ◌<◌, true, ◌⊎◌, List, [], Option, Some, None, length, fold}
-use Rattle.std.specs.List.{list_any}
+use Rattle.std.specs.Prelude.{ℕ, ◌<◌, ◌⊎◌, List, [], Option, Some, None, length, fold}
 use Rattle.std.specs.Ordering.{nat_cmp}
-use Rattle.std.specs.BTreeMap.{is_at}
 use Rattle.std.specs.BTreeSet.{insert_key}
+use Rattle.wac_edges.specs.Numbers.{Has}
 use Rattle.wac_types.specs.Called.{Called, of_class}
 use Rattle.wac_entries.specs.Nodes.{Node, of_resource, of_own, of_borrow, of_component, mentions, tree_at}
 use Rattle.wac_agreement.specs.Reach.{Reaches, IsOfClass}
@@ -28,10 +27,6 @@ node_class _ = None
 -- numbers in order, and more of them
 abbrev pub with_all : List ℕ → List ℕ → List ℕ
 with_all = fold (insert_key nat_cmp)
-
--- a number is among these
-abbrev pub Has : List ℕ → ℕ → Type 0
-Has ks q = list_any (is_at (nat_cmp q)) ks ≡ true
 
 -- What the node of a number reaches are the classes that were found, and what the nodes reach that are still to be looked at.
 pub record AreReached (ns : List Node) (number : ℕ) (classes pending : List ℕ) : Type 0 where

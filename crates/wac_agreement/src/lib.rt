@@ -5,7 +5,6 @@
 
 pub mod agreement;
 pub mod apart;
-pub mod circles;
 pub mod compared;
 pub mod fault;
 pub mod order;

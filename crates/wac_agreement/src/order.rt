@@ -3,12 +3,13 @@
 //! A class whose turn has come waits in a list of steps, below those that it rests on, so that no chain of classes is too
 //! long. Each is opened once and placed once.
 ghost use Rattle.std.specs.Prelude.{◌≡◌, ◌<◌, ◌↔◌, ◌++◌, ℕ, [], length, map, slice_get, slice_index, Contains, IfOk, OnOk, Some};
-ghost use Rattle.wac_agreement.specs.Circles.{AreBelow, AreWithin, HasNoCircle, Leads};
+ghost use Rattle.wac_edges.specs.Numbers.{AreBelow, Has};
+ghost use Rattle.wac_edges.specs.Cycles.{AreWithin, HasNoCycle, IsStep};
 ghost use Rattle.wac_entries.specs.Classes.{AreClasses, by_names, class_names};
 ghost use Rattle.wac_agreement.specs.ClassOrder.{Arranges, IsWrittenOrder, RestsOn, Selects, grouped};
 ghost use Rattle.wac_agreement.specs.Faults as faults;
 ghost use Rattle.wac_agreement.specs.Order.{AreAll, AreRanks, IsOnce, openings};
-ghost use Rattle.wac_agreement.specs.ReachSteps.{Has, with_all};
+ghost use Rattle.wac_agreement.specs.ReachSteps.{with_all};
 
 use crate::reach::put;
 use std::alloc::{AllocError, Global};
@@ -124,8 +125,8 @@ fn arranged(
     requires all { AreAll (length rests.now) all.now }
     requires once { IsOnce all.now }
     requires within { AreWithin rests.now }
-    requires ordered { HasNoCircle rests.now }
-    ensures { IfOk result (λ o. Arranges (Leads rests.now) all.now [] all.now o.items) }
+    requires ordered { HasNoCycle rests.now }
+    ensures { IfOk result (λ o. Arranges (IsStep rests.now) all.now [] all.now o.items) }
 {
     let ranks = ranks(alloc, all, rests.len())?;
     let mut opened = vec![in alloc; false; rests.len()]?;
@@ -158,7 +159,7 @@ pub fn written_order(
 ) -> Result<Vec<usize>, AllocError>
     requires classes { AreClasses by_names entries.now classes.now.numbers.items classes.now.positions.items classes.now.names }
     requires counted { length rests.now ≡ length (class_names by_names entries.now) }
-    requires rests { (a b : ℕ) → (Leads rests.now a b ↔ RestsOn by_names types.now entries.now a b) }
+    requires rests { (a b : ℕ) → (IsStep rests.now a b ↔ RestsOn by_names types.now entries.now a b) }
     requires ordered { faults.HasNoCircle by_names types.now entries.now }
     ensures written { IfOk result (λ o. IsWrittenOrder by_names types.now entries.now o.items) }
     ensures each { IfOk result (λ o. (k : ℕ) → (Contains o.items k ↔ k < length (class_names by_names entries.now))) }

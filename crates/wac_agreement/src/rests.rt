@@ -4,7 +4,7 @@ ghost use Rattle.wac_collection.specs.Collection.{holds_type, holds_all, used_ty
 ghost use Rattle.wac_shapes.specs.Kinds.{kind_type};
 ghost use Rattle.wac_shapes.specs.declared.component.ItemKind.TheVariants as kind_of;
 ghost use Rattle.wac_entries.specs.Bindings.{AreBindings, AreHeld};
-ghost use Rattle.wac_agreement.specs.Circles.{Leads};
+ghost use Rattle.wac_edges.specs.Cycles.{IsStep};
 ghost use Rattle.wac_entries.specs.Classes.{AreClasses, by_names, class_names};
 ghost use Rattle.wac_agreement.specs.ClassOrder.{RestsOn};
 ghost use Rattle.wac_agreement.specs.Compared.{AreCompared};
@@ -12,12 +12,14 @@ ghost use Rattle.wac_agreement.specs.Faults.{HasNoDisagreement};
 ghost use Rattle.wac_entries.specs.Nodes.{tree_at, type_of as type_in};
 ghost use Rattle.wac_entries.specs.NodeViews.{item_view};
 ghost use Rattle.wac_agreement.specs.Reach.{IsOfClass, Reaches};
-ghost use Rattle.wac_agreement.specs.ReachSteps.{Has, with_all};
+ghost use Rattle.wac_edges.specs.Numbers.{Has};
+ghost use Rattle.wac_agreement.specs.ReachSteps.{with_all};
 ghost use Rattle.wac_agreement.specs.Resting.{Gains, ItemLeads, classes_used, first_class, interface_class, used_classes};
 
 use crate::reach::{classes_reached, put, put_optional, type_of};
 use std::alloc::{AllocError, Global};
 use std::collections::BTreeSet;
+use wac_edges::cycles::empty_sets;
 use wac_entries::bindings::Bindings;
 use wac_entries::classes::Classes;
 use wac_entries::entry::Entry;
@@ -130,18 +132,6 @@ fn put_others(
     Ok(())
 }
 
-/// Empty sets, as many as there are classes.
-fn empty_sets(alloc: Global, count: usize) -> Result<Vec<BTreeSet<usize>>, AllocError>
-    ensures counted { IfOk result (λ v. length v.items ≡ count) }
-    ensures empty { IfOk result (λ v. (a b : ℕ) → Leads v.items a b → ⊥) }
-{
-    let mut sets = Vec::new(alloc);
-    for _ in 0..count {
-        sets.push(BTreeSet::new(alloc))?;
-    }
-    Ok(sets)
-}
-
 /// For each class those that it rests on.
 pub fn rests(
     alloc: Global,
@@ -159,7 +149,7 @@ pub fn rests(
     requires items { AreCompared nodes.now types.now entries.now (map item_view items.now) }
     requires agree { HasNoDisagreement by_names types.now entries.now }
     ensures counted { IfOk result (λ v. length v.items ≡ length (class_names by_names entries.now)) }
-    ensures rests { IfOk result (λ v. (a b : ℕ) → (Leads v.items a b ↔ RestsOn by_names types.now entries.now a b)) }
+    ensures rests { IfOk result (λ v. (a b : ℕ) → (IsStep v.items a b ↔ RestsOn by_names types.now entries.now a b)) }
 {
     let numbers = classes.numbers();
     let mut rests = empty_sets(alloc, classes.positions().len())?;

@@ -21,13 +21,13 @@ use Rattle.wac_shapes.specs.declared.component.Interface.{Interface}
 use Rattle.wac_shapes.specs.declared.component.ItemKind.{ItemKind}
 use Rattle.wac_shapes.specs.declared.component.World.{World}
 use Rattle.wac_shapes.specs.declared.component.WorldId.{WorldId}
-use Rattle.wac_graph.specs.declared.edges.Edge.{Edge}
+use Rattle.wac_edges.specs.declared.edges.Edge.{Edge}
 use Rattle.wac_graph.specs.declared.errors.RegisterPackageError.{RegisterPackageError}
 use Rattle.wac_graph.specs.declared.errors.RegisterPackageError.TheVariants as register
 use Rattle.wac_graph.specs.declared.node.NodeId.{NodeId}
 use Rattle.wac_graph.specs.declared.packages.PackageId.{PackageId}
 use Rattle.wac_graph.specs.declared.packages.Slot.{Slot}
-use Rattle.wac_graph.specs.Edge.{edge_cmp, edge_key, alias_edge, argument_edge}
+use Rattle.wac_edges.specs.Edge.{edge_cmp, edge_key, alias_edge, argument_edge}
 use Rattle.wac_graph.specs.Graph.{Graph, GraphNode, node_at, package_at, package_in}
 use Rattle.wac_graph.specs.Steps.{Adds, AddsNode, Registers, Instantiates, instance_node, Aliases, AliasesOf, GivesAlias, export_named, alias_node, SetsArgument, SetsOn, GivesArgument, import_named}
 use Rattle.wac_binary.specs.Bytes.{preamble}

@@ -10,7 +10,7 @@ use Rattle.wac_shapes.specs.declared.component.ItemKind.TheVariants as kind
 use Rattle.wac_shapes.specs.declared.component.World.{World}
 use Rattle.wac_binary.specs.Items.{Item}
 use Rattle.wac_binary.specs.Bytes.{preamble, bytes_of}
-use Rattle.wac_graph.specs.declared.edges.Edge.{Edge}
+use Rattle.wac_edges.specs.declared.edges.Edge.{Edge}
 use Rattle.wac_graph.specs.declared.node.NodeId.{NodeId}
 use Rattle.wac_graph.specs.declared.packages.PackageId.{PackageId}
 use Rattle.wac_graph.specs.Graph.{Graph, GraphNode, node_at, package_at, IsAliasOf, IsArgumentOf}

@@ -22,7 +22,7 @@ use Rattle.wac_graph.specs.declared.node.NodeId.{NodeId}
 use Rattle.wac_graph.specs.declared.errors.AliasError.{AliasError}
 use Rattle.wac_graph.specs.declared.errors.AliasError.TheVariants.{NodeIsNotAnInstance, InstanceMissingExport}
 use Rattle.wac_graph.specs.declared.graph.CompositionGraph.TheInside.{Inside}
-use Rattle.wac_graph.specs.Edge.{edge_cmp, alias_edge}
+use Rattle.wac_edges.specs.Edge.{edge_cmp, alias_edge}
 use Rattle.wac_graph.specs.Graph.{Graph, node_at, interface_of, exports_of}
 use Rattle.wac_graph.specs.Inside.{node_of, nodes_of, graph_of, Invariant, satisfied}
 use Rattle.wac_graph.specs.Steps.{Aliases, AliasesOf, GivesAlias, alias_node, export_named}

@@ -22,17 +22,17 @@ use Rattle.wac_graph.specs.declared.node.NodeId.{NodeId}
 use Rattle.wac_graph.specs.declared.node.NodeKind.{NodeKind}
 use Rattle.wac_graph.specs.declared.node.NodeKind.TheVariants as code
 use Rattle.wac_graph.specs.declared.packages.PackageId.{PackageId}
-use Rattle.wac_graph.specs.declared.edges.Edge.{Edge}
+use Rattle.wac_edges.specs.declared.edges.Edge.{Edge}
 use Rattle.wac_graph.specs.declared.errors.InstantiationArgumentError.{InstantiationArgumentError}
 use Rattle.wac_graph.specs.declared.errors.InstantiationArgumentError.TheVariants.{NodeIsNotAnInstantiation, InvalidArgumentName, ArgumentAlreadyPassed, ArgumentTypeMismatch}
 use Rattle.wac_graph.specs.declared.graph.CompositionGraph.TheInside.{Inside}
-use Rattle.wac_graph.specs.Edge.{edge_cmp}
+use Rattle.wac_edges.specs.Edge.{edge_cmp}
 use Rattle.wac_graph.specs.Graph as graph
 use Rattle.wac_graph.specs.Arguments.{IsInstantiation, HasImport, Fits}
 use Rattle.wac_graph.specs.Graph.{Graph, GraphNode, Kind, node_at, package_at, package_in, package_of, imports_of, IsSatisfied, IsUnsatisfied, IsArgumentOf}
 use Rattle.wac_graph.specs.Inside.{node_of, kind_of, graph_of, Invariant, satisfied, satisfied_at, IsInstantiationAt}
 use Rattle.wac_graph.specs.Steps.{SetsArgument, SetsOn, import_named}
-use Rattle.wac_graph.proofs.EdgeLemmas.{edge_cmp_total, exact_edges, edge_cmp-IsAntisymmetric}
+use Rattle.wac_edges.proofs.EdgeLemmas.{edge_cmp_total, exact_edges, edge_cmp-IsAntisymmetric}
 use Rattle.wac_graph.proofs.NodeLemmas.{get-nodes_of, nodes_of-same}
 use Rattle.wac_graph.proofs.HeldLemmas.{imports_held}
 use Rattle.wac_graph.proofs.AliasLemmas.{found_entry}

@@ -32,18 +32,19 @@ use Rattle.wac_types.specs.Called.{Called}
 use Rattle.wac_entries.specs.Agreement.{Agree, compared, here, below}
 use Rattle.wac_entries.specs.Classes.{by_names, same_class}
 use Rattle.wac_entries.specs.Classes as merge
-use Rattle.wac_agreement.specs.ClassOrder.{RestsOn, by_use, step, further}
+use Rattle.wac_agreement.specs.ClassOrder.{RestsOn, by_use}
+use Rattle.wac_edges.specs.Cycles.{step, further}
 use Rattle.wac_agreement.specs.Faults.{Disagrees, HasNoDisagreement, UseEachOther}
-use Rattle.wac_graph.specs.declared.edges.Edge.{Edge}
+use Rattle.wac_edges.specs.declared.edges.Edge.{Edge}
 use Rattle.wac_graph.specs.declared.encode.EncodeOptions.{EncodeOptions}
 use Rattle.wac_graph.specs.Graph as graph
 use Rattle.wac_graph.specs.Graph.{Graph, GraphNode, node_at}
-use Rattle.wac_graph.specs.Order.{Edges, Leads, IsAcyclic}
+use Rattle.wac_edges.specs.Order.{Edges, Leads, IsAcyclic}
 use Rattle.wac_graph.specs.Means.{node_number}
 use Rattle.wac_graph.specs.Asked.{Entry, asked_by, imported_by}
 use Rattle.wac_graph.specs.Entries.{once, with_used, asked_entries, to_merge}
 use Rattle.wac_graph.specs.Cause.{HasNoConflict, IsMergeConflict, Stands, implicit_merge, explicit_merge, import_circle}
-use Rattle.wac_graph.proofs.EdgeLemmas.{edge_cmp_total}
+use Rattle.wac_edges.proofs.EdgeLemmas.{edge_cmp_total}
 use Rattle.wac_graph.proofs.ImportExample.{no_entries, no_items}
 use Rattle.wac_graph.proofs.Rows.{readme_graph, instance_of_first, instance_of_second, by_two}
 

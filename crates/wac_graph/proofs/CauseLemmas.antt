@@ -12,7 +12,7 @@ use Rattle.wac_graph.specs.declared.node.NodeId.{NodeId}
 use Rattle.wac_graph.specs.Graph as graph
 use Rattle.wac_graph.specs.Graph.{Graph, GraphNode, node_at, imports_of, package_of, IsImportOf}
 use Rattle.wac_graph.specs.Sound.{IsSound}
-use Rattle.wac_graph.specs.Order.{IsAcyclic, IsLowestOnCycle}
+use Rattle.wac_edges.specs.Order.{IsAcyclic, IsLowestOnCycle}
 use Rattle.wac_graph.specs.Means.{node_number}
 use Rattle.wac_graph.specs.NotYet.{IsNotYet, AllWritable}
 use Rattle.wac_agreement.specs.Faults.{OneFault, Fault, disagree, use_each_other}

@@ -21,7 +21,7 @@ use Rattle.wac_graph.specs.Graph as graph
 use Rattle.wac_graph.specs.Graph.{Graph, GraphNode, node_at, package_at, package_of, imports_of}
 use Rattle.wac_graph.specs.Inside.{node_of, kind_of, graph_of, names_of, Invariant, satisfied, satisfied_at}
 use Rattle.wac_graph.specs.Means.{node_number}
-use Rattle.wac_graph.specs.Order.{IsAcyclic}
+use Rattle.wac_edges.specs.Order.{IsAcyclic}
 use Rattle.wac_graph.specs.Cause.{IsConflict, IsFirstConflict, HasNoConflict, cause_of, conflict}
 use Rattle.wac_graph.specs.Search.{Clashes, IsFirstOf, IsLowest, IsRefused}
 use Rattle.wac_graph.proofs.NodeLemmas.{lookup_text}

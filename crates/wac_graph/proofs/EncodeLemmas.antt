@@ -17,21 +17,21 @@ use Rattle.wac_binary.specs.Indexes.{space, indexes}
 use Rattle.wac_binary.specs.Meaning.{Thing, stands_for, meaning}
 use Rattle.wac_entries.specs.Classes.{by_names}
 use Rattle.wac_agreement.specs.ClassOrder as classes
-use Rattle.wac_graph.specs.declared.edges.Edge.{Edge}
+use Rattle.wac_edges.specs.declared.edges.Edge.{Edge}
 use Rattle.wac_graph.specs.declared.node.NodeId.{NodeId}
 use Rattle.wac_graph.specs.declared.packages.PackageId.{PackageId}
-use Rattle.wac_graph.specs.Edge.{edge_cmp, argument_edge}
+use Rattle.wac_edges.specs.Edge.{edge_cmp, argument_edge}
 use Rattle.wac_graph.specs.Graph as graph
 use Rattle.wac_graph.specs.Graph.{Graph, GraphNode, Kind, node_at, imports_of, IsSatisfied}
 use Rattle.wac_graph.specs.Sound.{IsSound}
-use Rattle.wac_graph.specs.Order.{Writes, IsLowestReady}
+use Rattle.wac_edges.specs.Order.{Writes, IsLowestReady}
 use Rattle.wac_graph.specs.Asked.{is_argument, is_satisfied, unsatisfied, asked_by, imported_by, asked}
 use Rattle.wac_graph.specs.Entries.{with_used, once, to_merge}
 use Rattle.wac_graph.specs.OuterImports.{AreOuterImports}
 use Rattle.wac_graph.specs.Means.{node_number, node_is, is_instantiation, is_written, instantiations, IsThing, sort_of_kind, with_package, used_after, used_packages, package_bytes, AreInstantiations, HasItem, shown, export_of, export_item_of, Means}
 use Rattle.wac_graph.specs.Encoding.{Adds, adds_instantiation, adds_alias}
-use Rattle.wac_graph.proofs.EdgeLemmas.{exact_edges}
-use Rattle.wac_graph.proofs.WrittenOrder.{minus, eqb_same, all_in}
+use Rattle.wac_edges.proofs.EdgeLemmas.{exact_edges}
+use Rattle.wac_edges.proofs.WrittenOrder.{minus, eqb_same, all_in}
 use Rattle.wac_graph.proofs.ThingLemmas.{IsPlain, is_written-node}
 use Rattle.wac_graph.proofs.MeaningLemmas.{export_shown, export_others, indexes-push}
 use Rattle.wac_graph.proofs.WrittenLemmas.{Counted, Earlier, Written, with_component, instance_more, alias_more, used-append, HasItem-push, used_prefix}

@@ -18,7 +18,7 @@ use Rattle.wac_graph.specs.declared.node.NodeKind.TheVariants as code
 use Rattle.wac_graph.specs.declared.packages.PackageId.{PackageId}
 use Rattle.wac_graph.specs.declared.graph.CompositionGraph.TheInside.{Inside}
 use Rattle.wac_graph.specs.declared.encode.EncodeOptions.{EncodeOptions}
-use Rattle.wac_graph.specs.Edge.{is_left}
+use Rattle.wac_edges.specs.Edge.{is_left}
 use Rattle.wac_graph.specs.Graph as graph
 use Rattle.wac_graph.specs.Graph.{Graph, GraphNode, Kind, node_at, package_at, package_in, package_of, imports_of}
 use Rattle.wac_graph.specs.Inside.{node_of, kind_of, graph_of, Invariant, satisfied, satisfied_at}

@@ -19,14 +19,14 @@ use Rattle.std.proofs.lemmas.List.Folds.{list_any_at}
 use Rattle.slab.specs.Slab.{get, entries_from}
 use Rattle.wac_shapes.specs.Name.{Name}
 use Rattle.wac_shapes.specs.declared.component.ItemKind.{ItemKind}
-use Rattle.wac_graph.specs.declared.edges.Edge.{Edge}
-use Rattle.wac_graph.specs.declared.edges.Label.{Label}
-use Rattle.wac_graph.specs.declared.edges.Label.TheVariants.{Alias, Argument, Dependency}
+use Rattle.wac_edges.specs.declared.edges.Edge.{Edge}
+use Rattle.wac_edges.specs.declared.edges.Label.{Label}
+use Rattle.wac_edges.specs.declared.edges.Label.TheVariants.{Alias, Argument, Dependency}
 use Rattle.wac_graph.specs.declared.node.Node.{Node}
 use Rattle.wac_graph.specs.declared.node.NodeId.{NodeId}
 use Rattle.wac_graph.specs.declared.node.NodeKind.TheVariants as code
 use Rattle.wac_graph.specs.declared.graph.CompositionGraph.TheInside.{Inside}
-use Rattle.wac_graph.specs.Edge.{edge_cmp, argument_edge}
+use Rattle.wac_edges.specs.Edge.{edge_cmp, argument_edge}
 use Rattle.wac_graph.specs.Graph as graph
 use Rattle.wac_graph.specs.Graph.{Graph, GraphNode, Kind, node_at, imports_of, import_name}
 use Rattle.wac_graph.specs.Inside.{node_of, nodes_of, kind_of, graph_of, Invariant, satisfied, satisfied_at}
@@ -34,7 +34,7 @@ use Rattle.wac_graph.specs.Asked.{is_argument, is_argument_label, is_satisfied, 
 use Rattle.wac_graph.specs.Means.{node_number}
 use Rattle.wac_graph.specs.Imports.{unset_row, node_row, unset_rows, node_rows, asked_rows}
 use Rattle.wac_graph.specs.ImportsLeft.{unset, unset_from, row_of, node_left, instantiations_left, nodes_left, left}
-use Rattle.wac_graph.proofs.EdgeLemmas.{edge_cmp_total}
+use Rattle.wac_edges.proofs.EdgeLemmas.{edge_cmp_total}
 use Rattle.wac_graph.proofs.EncodeLemmas.{satisfied as set_by_edge}
 use Rattle.wac_graph.proofs.EncodingLemmas.{node_is}
 

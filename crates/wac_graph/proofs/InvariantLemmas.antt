@@ -14,14 +14,14 @@ use Rattle.wac_collection.specs.Collection.{Collection, holds_type}
 use Rattle.wac_shapes.specs.Kinds.{kind_type}
 use Rattle.wac_collection.specs.Package.{PackageParts, Key, same_key, HoldsPackage}
 use Rattle.wac_shapes.specs.declared.component.ItemKind.{ItemKind}
-use Rattle.wac_graph.specs.declared.edges.Edge.{Edge}
-use Rattle.wac_graph.specs.declared.edges.Label.TheVariants as label
+use Rattle.wac_edges.specs.declared.edges.Edge.{Edge}
+use Rattle.wac_edges.specs.declared.edges.Label.TheVariants as label
 use Rattle.wac_graph.specs.declared.node.Node.{Node}
 use Rattle.wac_graph.specs.declared.node.NodeId.{NodeId}
 use Rattle.wac_graph.specs.declared.packages.PackageId.{PackageId}
 use Rattle.wac_graph.specs.declared.packages.Slot.{Slot}
 use Rattle.wac_graph.specs.declared.graph.CompositionGraph.TheInside.{Inside}
-use Rattle.wac_graph.specs.Edge.{edge_cmp, alias_edge, argument_edge}
+use Rattle.wac_edges.specs.Edge.{edge_cmp, alias_edge, argument_edge}
 use Rattle.wac_graph.specs.Graph as graph
 use Rattle.wac_graph.specs.Graph.{GraphNode, node_at, package_at, package_in, exports_of}
 use Rattle.wac_graph.specs.Sound.{IsSound}
@@ -30,7 +30,7 @@ use Rattle.wac_graph.specs.Steps.{instance_node, import_node, alias_node}
 use Rattle.wac_graph.proofs.SoundLemmas.{by_eq, insert_same, insert_other, ImportIn, import_before, import_after, sound_import, Extends, sound_types, sound_slot, sound_node, sound_alias, sound_argument, sound_export, added_edge, kept_edge, new_edge, package_before, package_after}
 use Rattle.wac_collection.specs.KeyLaws.{same_key-true, same_key_equiv}
 use Rattle.indexmap.specs.IndexMap.{insert_entry}
-use Rattle.wac_graph.proofs.WrittenOrder.{eqb_same, slice_get-middle}
+use Rattle.wac_edges.proofs.WrittenOrder.{eqb_same, slice_get-middle}
 use Rattle.std.proofs.lemmas.Bool.{eqb-true}
 use Rattle.wac_graph.proofs.NodeLemmas.{get-nodes_of, nodes_of-insert, nodes_of-same, is_some-node_of, find_kept, find_new, find_either}
 

@@ -1,9 +1,4 @@
-pub mod EdgeLemmas
-pub mod OrderLemmas
-pub mod CycleLemmas
-pub mod ReachLemmas
 pub mod MeaningLemmas
-pub mod WrittenOrder
 pub mod ThingLemmas
 pub mod WrittenLemmas
 pub mod EncodeLemmas

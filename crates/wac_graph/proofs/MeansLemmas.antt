@@ -9,23 +9,23 @@ use Rattle.std.proofs.lemmas.List.{append-nil, length-set, get_or-set_same, get_
 use Rattle.wac_shapes.specs.Name.{Name, option_case}
 use Rattle.wac_binary.specs.Items.{Item, export_item}
 use Rattle.wac_binary.specs.Meaning.{Thing}
-use Rattle.wac_graph.specs.declared.edges.Edge.{Edge}
+use Rattle.wac_edges.specs.declared.edges.Edge.{Edge}
 use Rattle.wac_graph.specs.declared.node.NodeId.{NodeId}
 use Rattle.wac_graph.specs.declared.encode.EncodeOptions.{EncodeOptions}
 use Rattle.wac_graph.specs.declared.graph.CompositionGraph.TheInside.{Inside}
-use Rattle.wac_graph.specs.Edge.{is_left}
+use Rattle.wac_edges.specs.Edge.{is_left}
 use Rattle.wac_graph.specs.Graph as graph
 use Rattle.wac_graph.specs.Graph.{Graph, GraphNode, Kind, node_at}
 use Rattle.wac_graph.specs.Inside.{graph_of, Invariant}
 use Rattle.wac_graph.specs.Sound.{IsSound}
-use Rattle.wac_graph.specs.Order.{Writes, IsOnCycle, IsAcyclic, IsLowestOnCycle}
+use Rattle.wac_edges.specs.Order.{Writes, IsOnCycle, IsAcyclic, IsLowestOnCycle}
 use Rattle.wac_graph.specs.Means.{node_number, is_there, is_written, is_import, IsThing, sort_of_kind, export_item_of, Means}
 use Rattle.wac_graph.specs.Encoding.{Adds, Progress, WroteAll, index_in}
 use Rattle.wac_graph.specs.NotYet.{AllWritable, IsNotYet, unset, defined, imported, undefined_components, processed}
-use Rattle.wac_graph.proofs.WrittenOrder.{has, written_left, minus-push, minus-true, split_writes, slice_get-middle}
+use Rattle.wac_edges.proofs.WrittenOrder.{has, written_left, minus-push, minus-true, split_writes, slice_get-middle}
 use Rattle.wac_graph.proofs.ThingLemmas.{IsPlain, is_written-node, node_of_written, all_things}
 use Rattle.wac_graph.proofs.EncodingLemmas.{node_is, none_past, by_lt}
-use Rattle.wac_graph.proofs.ReachLemmas.{ordered_acyclic}
+use Rattle.wac_edges.proofs.ReachLemmas.{ordered_acyclic}
 use Rattle.wac_graph.proofs.WrittenLemmas.{Counted, Earlier}
 use Rattle.wac_graph.proofs.EncodeLemmas.{AllSet, Done, adds_more, nothing_done, Exported, no_exports, export_more, means}
 

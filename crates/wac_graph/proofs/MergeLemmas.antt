@@ -27,7 +27,7 @@ use Rattle.wac_graph.specs.Entries.{asked_entries, to_merge}
 use Rattle.wac_graph.specs.EntriesLeft.{IsHeldKind}
 use Rattle.wac_graph.specs.Imports.{node_row, node_rows}
 use Rattle.wac_graph.specs.Means.{node_number}
-use Rattle.wac_graph.specs.Order.{IsAcyclic}
+use Rattle.wac_edges.specs.Order.{IsAcyclic}
 use Rattle.wac_graph.specs.Search.{IsRefused}
 use Rattle.wac_graph.proofs.AskedHeld.{asking_nodes}
 

@@ -18,16 +18,16 @@ use Rattle.wac_shapes.specs.declared.component.«Type».{«Type» as AnyType}
 use Rattle.wac_shapes.specs.declared.component.«Type».TheVariants as ty
 use Rattle.wac_shapes.specs.declared.component.InterfaceId.{InterfaceId}
 use Rattle.wac_shapes.specs.declared.component.WorldId.{WorldId}
-use Rattle.wac_graph.specs.declared.edges.Edge.{Edge}
-use Rattle.wac_graph.specs.declared.edges.Label.TheVariants as label
+use Rattle.wac_edges.specs.declared.edges.Edge.{Edge}
+use Rattle.wac_edges.specs.declared.edges.Label.TheVariants as label
 use Rattle.wac_graph.specs.declared.node.NodeId.{NodeId}
 use Rattle.wac_graph.specs.declared.packages.PackageId.{PackageId}
 use Rattle.wac_graph.specs.declared.packages.Slot.{Slot}
-use Rattle.wac_graph.specs.Edge.{edge_cmp, alias_edge, argument_edge}
+use Rattle.wac_edges.specs.Edge.{edge_cmp, alias_edge, argument_edge}
 use Rattle.wac_graph.specs.Graph as graph
 use Rattle.wac_graph.specs.Graph.{Graph, GraphNode, node_at, package_at, package_in, exports_of, interface_of, IsAliasOf}
 use Rattle.wac_graph.specs.Sound.{IsSound, IsInstance, IsAlias}
-use Rattle.wac_graph.proofs.EdgeLemmas.{edge_cmp_total, exact_edges}
+use Rattle.wac_edges.proofs.EdgeLemmas.{edge_cmp_total, exact_edges}
 use Rattle.wac_graph.proofs.WrittenLemmas.{slice_get-prefix}
 
 pub by_eq : {P : Type 0} (m n : ℕ) → (m ≡ n → P) → (m ≢ n → P) → P

@@ -7,14 +7,14 @@ use Rattle.std.proofs.lemmas.List.{append-nil}
 use Rattle.std.proofs.lemmas.List.Elements.{filter-append}
 use Rattle.wac_shapes.specs.Name.{option_case}
 use Rattle.wac_binary.specs.Meaning.{Thing, nothing, instance_at, projection}
-use Rattle.wac_graph.specs.declared.edges.Edge.{Edge}
-use Rattle.wac_graph.specs.Edge.{alias_edge}
+use Rattle.wac_edges.specs.declared.edges.Edge.{Edge}
+use Rattle.wac_edges.specs.Edge.{alias_edge}
 use Rattle.wac_graph.specs.Graph as graph
 use Rattle.wac_graph.specs.Graph.{Graph, GraphNode, Kind, node_at}
 use Rattle.wac_graph.specs.Sound.{IsSound}
-use Rattle.wac_graph.specs.Order.{Writes, IsLowestReady}
+use Rattle.wac_edges.specs.Order.{Writes, IsLowestReady}
 use Rattle.wac_graph.specs.Means.{node_number, node_is, is_import, is_instantiation, is_written, instantiations, IsThing, as_import, as_instantiation, as_alias}
-use Rattle.wac_graph.proofs.WrittenOrder.{has, minus, minus-push, minus-false, minus-true, eqb_same, apart, in_push, still_in, all_in, slice_get-middle}
+use Rattle.wac_edges.proofs.WrittenOrder.{has, minus, minus-push, minus-false, minus-true, eqb_same, apart, in_push, still_in, all_in, slice_get-middle}
 
 -- every node is an instantiation or an alias
 abbrev pub IsPlain : Graph → Type 0

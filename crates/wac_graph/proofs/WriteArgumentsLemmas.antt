@@ -24,7 +24,7 @@ use Rattle.wac_graph.specs.declared.node.NodeKind.TheVariants as code
 use Rattle.wac_graph.specs.declared.packages.PackageId.{PackageId}
 use Rattle.wac_graph.specs.declared.encode.Encoder.{Encoder}
 use Rattle.wac_graph.specs.declared.graph.CompositionGraph.TheInside.{Inside}
-use Rattle.wac_graph.specs.Edge.{argument_edge}
+use Rattle.wac_edges.specs.Edge.{argument_edge}
 use Rattle.wac_graph.specs.Graph as graph
 use Rattle.wac_graph.specs.Graph.{Graph, GraphNode, node_at, imports_of, package_in}
 use Rattle.wac_graph.specs.Inside.{node_of, kind_of, graph_of, Invariant}

@@ -14,17 +14,17 @@ use Rattle.wac_binary.specs.declared.sorts.Sort.TheVariants as sort
 use Rattle.wac_binary.specs.Items.{Item, nested, instantiate, alias_item, export_alias}
 use Rattle.wac_binary.specs.Indexes.{space, indexes, is_in, adds, sort_added}
 use Rattle.wac_binary.specs.Meaning.{Thing, instance_at, component_at, projection, projected, Instantiation, things, stands_for, meaning}
-use Rattle.wac_graph.specs.declared.edges.Edge.{Edge}
+use Rattle.wac_edges.specs.declared.edges.Edge.{Edge}
 use Rattle.wac_graph.specs.declared.node.NodeId.{NodeId}
 use Rattle.wac_graph.specs.declared.packages.PackageId.{PackageId}
-use Rattle.wac_graph.specs.Edge.{alias_edge, argument_edge}
+use Rattle.wac_edges.specs.Edge.{alias_edge, argument_edge}
 use Rattle.wac_graph.specs.Graph as graph
 use Rattle.wac_graph.specs.Graph.{Graph, GraphNode, Kind, node_at, package_at, imports_of, exports_of, IsAliasOf, IsArgumentOf}
 use Rattle.wac_graph.specs.Sound.{IsSound}
-use Rattle.wac_graph.specs.Order.{Writes, IsLowestReady}
+use Rattle.wac_edges.specs.Order.{Writes, IsLowestReady}
 use Rattle.wac_graph.specs.Means.{node_number, node_is, is_import, is_instantiation, is_written, instantiations, IsThing, as_import, as_instantiation, as_alias, sort_of_kind, same_package, with_package, used_after, used_packages, package_bytes, IsArgument, given, AreArguments, IsInstantiationOf, AreInstantiations, HasItem, is_own_item}
 use Rattle.wac_graph.specs.Encoding.{HasComponent, IsArgumentItem, AreArgumentItems}
-use Rattle.wac_graph.proofs.WrittenOrder.{has, minus, minus-true, eqb_same, apart, in_push, now_in, slice_get-middle, written_left, only_place, has-filter}
+use Rattle.wac_edges.proofs.WrittenOrder.{has, minus, minus-true, eqb_same, apart, in_push, now_in, slice_get-middle, written_left, only_place, has-filter}
 use Rattle.wac_graph.proofs.ThingLemmas.{IsPlain, ready_sources}
 use Rattle.wac_graph.proofs.MeaningLemmas.{alias_stands, alias_rest, nested_bytes_more, nested_stands, instantiations_more, instance_stands, made_of, indexes-push}
 

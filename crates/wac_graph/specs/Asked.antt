@@ -5,9 +5,9 @@ use Rattle.std.specs.FinMap as finite
 use Rattle.std.specs.FinSet as set
 use Rattle.wac_shapes.specs.Name.{Name}
 use Rattle.wac_shapes.specs.declared.component.ItemKind.{ItemKind}
-use Rattle.wac_graph.specs.declared.edges.Label.{Label}
-use Rattle.wac_graph.specs.declared.edges.Label.TheVariants.{Argument}
-use Rattle.wac_graph.specs.declared.edges.Edge.{Edge}
+use Rattle.wac_edges.specs.declared.edges.Label.{Label}
+use Rattle.wac_edges.specs.declared.edges.Label.TheVariants.{Argument}
+use Rattle.wac_edges.specs.declared.edges.Edge.{Edge}
 use Rattle.wac_graph.specs.Graph.{Graph, GraphNode, Kind, import, instantiation, node_at, imports_of}
 
 -- an asked import: its name and kind, and the node that asks for it

@@ -13,7 +13,7 @@ use Rattle.wac_graph.specs.declared.errors.EncodeError.TheVariants as error
 use Rattle.wac_graph.specs.declared.node.NodeId.{NodeId}
 use Rattle.wac_graph.specs.Graph as graph
 use Rattle.wac_graph.specs.Graph.{Graph, GraphNode, node_at, imports_of, package_of, IsUnsatisfied, IsImportOf}
-use Rattle.wac_graph.specs.Order.{IsAcyclic, IsLowestOnCycle}
+use Rattle.wac_edges.specs.Order.{IsAcyclic, IsLowestOnCycle}
 use Rattle.wac_graph.specs.Asked.{Entry}
 use Rattle.wac_graph.specs.Entries.{asked_entries, to_merge}
 use Rattle.wac_graph.specs.NotYet.{IsNotYet}

@@ -13,7 +13,7 @@ use Rattle.wac_shapes.specs.declared.component.ItemKind.TheVariants.{Instance}
 use Rattle.wac_graph.specs.declared.node.NodeId.{NodeId}
 use Rattle.wac_graph.specs.declared.packages.PackageId.{PackageId}
 use Rattle.wac_graph.specs.declared.packages.Slot.{Slot}
-use Rattle.wac_graph.specs.Edge.{edge_cmp, alias_edge, argument_edge}
+use Rattle.wac_edges.specs.Edge.{edge_cmp, alias_edge, argument_edge}
 
 -- what a node is. Which arguments of an instantiation are set is not kept here: the edges say it
 pub data Kind : Type 0 where

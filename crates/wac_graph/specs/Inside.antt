@@ -16,7 +16,7 @@ use Rattle.wac_graph.specs.declared.node.NodeKind.{NodeKind}
 use Rattle.wac_graph.specs.declared.node.NodeKind.TheVariants as code
 use Rattle.wac_graph.specs.declared.packages.PackageId.{PackageId}
 use Rattle.wac_graph.specs.declared.graph.CompositionGraph.TheInside.{Inside}
-use Rattle.wac_graph.specs.Edge.{argument_edge}
+use Rattle.wac_edges.specs.Edge.{argument_edge}
 use Rattle.wac_graph.specs.Graph as graph
 use Rattle.wac_graph.specs.Graph.{Graph, GraphNode, Kind, package_at, IsImportOf}
 use Rattle.wac_graph.specs.Sound.{IsSound}

@@ -1,5 +1,3 @@
-pub mod Edge
-pub mod Order
 pub mod Graph
 pub mod PackageKeys
 pub mod Sound

@@ -12,7 +12,7 @@ use Rattle.wac_binary.specs.Meaning.{Thing, import_at, projection, instance_at, 
 use Rattle.wac_graph.specs.declared.node.NodeId.{NodeId}
 use Rattle.wac_graph.specs.declared.packages.PackageId.{PackageId}
 use Rattle.wac_graph.specs.Graph.{Graph, GraphNode, Kind, import, instantiation, alias, node_at, package_at, imports_of, exports_of, IsAliasOf, IsArgumentOf, IsUnsatisfied}
-use Rattle.wac_graph.specs.Order.{Writes}
+use Rattle.wac_edges.specs.Order.{Writes}
 use Rattle.wac_graph.specs.OuterImports.{AreOuterImports, IsImportPlace}
 
 -- the sort of the index of an item

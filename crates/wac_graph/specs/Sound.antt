@@ -6,7 +6,7 @@ use Rattle.wac_collection.specs.Package.{PackageParts, HoldsPackage}
 use Rattle.wac_collection.specs.Collection.{holds_type}
 use Rattle.wac_shapes.specs.Kinds.{kind_type}
 use Rattle.wac_shapes.specs.declared.component.ItemKind.TheVariants.{Instance}
-use Rattle.wac_graph.specs.declared.edges.Edge.{Edge}
+use Rattle.wac_edges.specs.declared.edges.Edge.{Edge}
 use Rattle.wac_graph.specs.declared.node.NodeId.{NodeId}
 use Rattle.wac_graph.specs.declared.packages.PackageId.{PackageId}
 use Rattle.wac_graph.specs.Graph.{Graph, GraphNode, instantiation, alias, node_at, package_at, exports_of, IsAliasOf, IsImportOf}

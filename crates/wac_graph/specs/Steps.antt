@@ -26,7 +26,7 @@ use Rattle.wac_graph.specs.declared.errors.InstantiationArgumentError.{Instantia
 use Rattle.wac_graph.specs.declared.errors.InstantiationArgumentError.TheVariants as argument_error
 use Rattle.wac_graph.specs.declared.node.NodeId.{NodeId}
 use Rattle.wac_graph.specs.declared.packages.PackageId.{PackageId}
-use Rattle.wac_graph.specs.Edge.{alias_edge, argument_edge}
+use Rattle.wac_edges.specs.Edge.{alias_edge, argument_edge}
 use Rattle.wac_graph.specs.ExternName.{IsImportName, IsExportName, HasExportFault}
 use Rattle.wac_graph.specs.Graph as graph
 use Rattle.wac_graph.specs.Graph.{Graph, GraphNode, node_at, package_at, export_at, package_of, interface_of, exports_of, imports_of, IsAliasOf, IsArgumentOf, IsSatisfied, IsUnsatisfied, IsRegistered, IsImportOf}

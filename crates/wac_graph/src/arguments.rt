@@ -6,18 +6,18 @@ ghost use Rattle.slab.specs.Slab.{get};
 ghost use Rattle.wac_collection.specs.Collection.{holds_type};
 ghost use Rattle.wac_shapes.specs.Kinds.{kind_type};
 ghost use Rattle.wac_graph.specs.Arguments.{IsInstantiation, HasImport, Fits};
-ghost use Rattle.wac_graph.specs.Edge.{argument_edge as labelled};
+ghost use Rattle.wac_edges.specs.Edge.{argument_edge as labelled};
 ghost use Rattle.wac_graph.specs.Graph.{node_at, IsArgumentOf};
 ghost use Rattle.wac_graph.specs.Inside.{IsInstantiationAt, satisfied_at, node_of};
 ghost use Rattle.wac_graph.specs.Steps.{SetsArgument};
 ghost use Rattle.wac_graph.specs.declared.node.NodeId.{NodeId as AnId};
 
-use crate::edges::{Edge, Label};
 use crate::errors::InstantiationArgumentError;
 use crate::graph::{CompositionGraph, package_in_slots};
 use crate::node::{Node, NodeId, NodeKind};
 use slab::Slab;
 use std::alloc::AllocError;
+use wac_edges::edges::{Edge, Label};
 use wac_types::{ItemKind, SubtypeChecker, TypeFault};
 
 /// The edge of a node that is the argument for an instantiation's import at this position.

@@ -9,7 +9,7 @@ ghost use Rattle.wac_graph.specs.Search.{Clashes, IsFirstOf, IsLowest, IsRefused
 ghost use Rattle.wac_graph.specs.Graph.{node_at, package_of, instantiation};
 ghost use Rattle.wac_graph.specs.Inside.{names_of};
 ghost use Rattle.wac_graph.specs.Means.{node_number};
-ghost use Rattle.wac_graph.specs.Order.{IsAcyclic};
+ghost use Rattle.wac_edges.specs.Order.{IsAcyclic};
 ghost use Rattle.wac_graph.specs.declared.encode.EncodeOptions.{EncodeOptions as Asked};
 ghost use Rattle.wac_graph.specs.declared.node.NodeId.{NodeId as AnId};
 

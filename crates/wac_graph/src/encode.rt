@@ -7,7 +7,7 @@ ghost use Rattle.std.specs.List.{list_any, flat_map};
 ghost use Rattle.std.specs.BTreeSet as positions;
 ghost use Rattle.std.specs.Ordering.{nat_cmp};
 ghost use Rattle.wac_binary.specs.Views.{arguments_of};
-ghost use Rattle.wac_graph.specs.Edge.{is_left};
+ghost use Rattle.wac_edges.specs.Edge.{is_left};
 ghost use Rattle.wac_graph.specs.Graph.{node_at, imports_of, instantiation, alias};
 ghost use Rattle.wac_graph.specs.Means.{Means, node_number, is_there, same_package, sort_of_kind, export_item_of};
 ghost use Rattle.wac_graph.specs.Encoding.{Adds, AreArgumentItems, Wrote, WroteAll, index_in};
@@ -16,18 +16,17 @@ ghost use Rattle.wac_graph.specs.Cause.{Cause, cause_of, Stands};
 ghost use Rattle.wac_graph.specs.Search.{IsRefused};
 ghost use Rattle.wac_graph.specs.NotYet.{IsNotYet, IsWritable, AllWritable};
 ghost use Rattle.wac_graph.specs.Sound.{IsSound};
-ghost use Rattle.wac_graph.specs.Order.{Writes, IsOnCycle, IsAcyclic};
+ghost use Rattle.wac_edges.specs.Order.{Writes, IsOnCycle, IsAcyclic};
 ghost use Rattle.wac_graph.specs.declared.encode.EncodeOptions.{EncodeOptions as Asked};
 
-use crate::cycles::lowest_on_cycle;
 use crate::errors::EncodeError;
 use crate::graph::{CompositionGraph, package_in_slots};
 use crate::node::{NodeId, NodeKind};
-use crate::order::order;
 use crate::packages::PackageId;
 use std::alloc::{AllocError, Global};
 use std::collections::BTreeSet;
 use wac_binary::{ComponentBuilder, Sort};
+use wac_edges::order::order;
 use wac_merge::laws::fault_law;
 use wac_types::{ItemKind, Named};
 
@@ -127,7 +126,10 @@ impl CompositionGraph {
         requires { (n : ℕ) × IsOnCycle self.now.edges n }
         ensures { IfOk result (λ e. (o : Asked) → IsRefused self.now o e) }
     {
-        let Some(n) = lowest_on_cycle(self.alloc, &self.edges, self.nodes.capacity())? else {
+        let Some(n) = self
+            .edges
+            .lowest_on_cycle(self.alloc, self.nodes.capacity())?
+        else {
             unreachable!()
         };
         Ok(EncodeError::GraphContainsCycle { node: NodeId(n) })

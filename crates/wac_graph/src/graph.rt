@@ -13,7 +13,6 @@ ghost use Rattle.wac_graph.specs.Graph.{node_at, package_at, export_at, package_
 ghost use Rattle.wac_graph.specs.Steps.{IsEmpty, Adds, Registers, Imports, Instantiates, Aliases, SetsArgument, Exports};
 
 use crate::arguments::argument_edge;
-use crate::edges::{Edge, Edges, Label};
 use crate::errors::{
     AliasError, ExportError, ImportError, InstantiationArgumentError, RegisterPackageError,
 };
@@ -27,6 +26,7 @@ use std::alloc::{AllocError, Global};
 use std::collections::BTreeSet;
 use std::marker::Model;
 use std::ops::Index;
+use wac_edges::edges::{Edge, Edges, Label};
 use wac_types::{
     AddTypeError, DefinedType, DefinedTypeId, FuncType, FuncTypeId, Interface, InterfaceId,
     ItemKind, ModuleType, ModuleTypeId, Package, PackageKey, Resource, ResourceId, Types, World,

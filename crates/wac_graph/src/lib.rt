@@ -5,8 +5,6 @@
 mod arguments;
 mod asked;
 mod conflicts;
-mod cycles;
-mod edges;
 mod encode;
 mod errors;
 mod graph;
@@ -14,7 +12,6 @@ mod imports;
 mod merging;
 mod names;
 mod node;
-mod order;
 mod packages;
 
 pub use encode::{EncodeOptions, Processor};

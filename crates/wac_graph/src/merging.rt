@@ -7,7 +7,7 @@ ghost use Rattle.wac_agreement.specs.Faults.{Disagrees};
 ghost use Rattle.wac_graph.specs.Cause.{HasMerge, HasNoConflict};
 ghost use Rattle.wac_graph.specs.Entries.{asked_entries, to_merge};
 ghost use Rattle.wac_graph.specs.EntriesLeft.{entry_view, IsHeldKind};
-ghost use Rattle.wac_graph.specs.Order.{IsAcyclic};
+ghost use Rattle.wac_edges.specs.Order.{IsAcyclic};
 ghost use Rattle.wac_graph.specs.Search.{IsRefused};
 ghost use Rattle.wac_graph.specs.declared.encode.EncodeOptions.{EncodeOptions as Asked};
 

@@ -15,7 +15,8 @@ use Rattle.wac_agreement.specs.declared.fault.MergeFault.{MergeFault}
 use Rattle.wac_agreement.specs.declared.fault.MergeFault.TheVariants as merge
 use Rattle.wac_entries.specs.Classes.{Entry, by_names, class_names, canonical}
 use Rattle.wac_entries.specs.Agreement.{compared, AreInstances, AgreesAt, IsDisagreement, LeadsApart, here, below, joined}
-use Rattle.wac_agreement.specs.ClassOrder.{IsOnCircle, RestsThrough, RestsOn, step, further, by_use, by_resource}
+use Rattle.wac_agreement.specs.ClassOrder.{IsOnCircle, RestsOn, by_use, by_resource}
+use Rattle.wac_edges.specs.Cycles.{Path, step, further}
 use Rattle.wac_agreement.specs.Faults.{HasNoDisagreement, HasNoCircle, Disagrees, UseEachOther, Fault, disagree, use_each_other, HasFault, fault_of}
 use Rattle.wac_merge.specs.Aggregate.{IsFault}
 
@@ -160,7 +161,7 @@ module _ (c : Collection) (es : List Entry) where
   resting a b (by_resource a' b' class e apart numbered of mentions) = (class, numbered)
 
   -- what is on a circle has a number
-  from : (a b : ℕ) → RestsThrough (RestsOn by_names c es) a b → (class : Name) × (slice_get (class_names by_names es) a ≡ Some class)
+  from : (a b : ℕ) → Path (RestsOn by_names c es) a b → (class : Name) × (slice_get (class_names by_names es) a ≡ Some class)
   from a b (step a' b' r) = resting a' b' r
   from a b (further a' d b' r more) = resting a' d r
 

@@ -15,11 +15,11 @@ ghost use Rattle.wac_merge.specs.Merge.{AreBound, IsMerge, bound_resource, impor
 use crate::merged::Merged;
 use std::alloc::{AllocError, Global};
 use std::marker::Model;
-use wac_agreement::circles::lowest_on_circle;
 use wac_agreement::compared::{entry_items, first_pair};
 use wac_agreement::fault::MergeFault;
 use wac_agreement::order::written_order;
 use wac_agreement::rests::rests;
+use wac_edges::cycles::lowest_on_cycle;
 use wac_entries::bindings::Bindings;
 use wac_entries::classes::Classes;
 use wac_entries::entry::Entry;
@@ -199,7 +199,7 @@ fn check(
     }
     let rests = rests(alloc, &nodes, types, entries, classes, bindings, items)?;
     let rests = rests.as_slice();
-    if let Some(number) = lowest_on_circle(alloc, rests)? {
+    if let Some(number) = lowest_on_cycle(alloc, rests)? {
         return Err(circle(alloc, entries, classes, number)?);
     }
     Ok(written_order(alloc, types, entries, classes, rests)?)

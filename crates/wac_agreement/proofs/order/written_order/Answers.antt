@@ -1,10 +1,10 @@
 use Rattle.std.proofs.Common.{List, ℕ, sym, ◌∙◌, subst, length}
 use Rattle.std.proofs.lemmas.Result.{IfOk-weaker}
-use Rattle.wac_agreement.specs.Circles.{Leads}
+use Rattle.wac_edges.specs.Cycles.{IsStep}
 use Rattle.wac_entries.specs.Classes.{by_names}
 use Rattle.wac_agreement.specs.ClassOrder.{RestsOn, grouped}
 use Rattle.wac_agreement.specs.Order.{AreAll, IsOnce}
-use Rattle.wac_agreement.proofs.Circling.{along}
+use Rattle.wac_edges.proofs.CycleSearch.{along}
 use Rattle.wac_agreement.proofs.OrderLaws.{grouped_all, grouped_once, once_at, order_each, order_once, written_from}
 use Rattle.wac_agreement.proofs.RestCircles.{are_within}
 use Rattle.wac_agreement.proofs.order.written_order.Goals as goal
@@ -23,7 +23,7 @@ arranged-requires-clause-within c = are_within c.args.types.now c.args.entries.n
 
 pub arranged-requires-clause-ordered : goal.arranged-requires-clause-ordered
 arranged-requires-clause-ordered c n on =
-    c.requires.ordered n (along (Leads c.args.rests.now) (RestsOn by_names c.args.types.now c.args.entries.now) (λ a b h. (c.requires.rests a b).0 h) n n on)
+    c.requires.ordered n (along (IsStep c.args.rests.now) (RestsOn by_names c.args.types.now c.args.entries.now) (λ a b h. (c.requires.rests a b).0 h) n n on)
 
 pub returns-clause-written : goal.returns-clause-written
 returns-clause-written c =

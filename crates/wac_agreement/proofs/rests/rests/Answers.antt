@@ -10,10 +10,10 @@ use Rattle.wac_shapes.specs.Kinds.{kind_type}
 use Rattle.wac_shapes.specs.declared.component.ItemKind.{ItemKind}
 use Rattle.wac_entries.specs.declared.nodes.Item.{Item}
 use Rattle.wac_entries.specs.declared.nodes.Item.TheVariants as item
-use Rattle.wac_agreement.specs.Circles.{Leads}
+use Rattle.wac_edges.specs.Cycles.{IsStep}
 use Rattle.wac_entries.specs.Classes.{Entry, by_names, class_names}
 use Rattle.wac_entries.specs.NodeViews.{item_view}
-use Rattle.wac_agreement.specs.ReachSteps.{Has}
+use Rattle.wac_edges.specs.Numbers.{Has}
 use Rattle.wac_agreement.specs.Resting.{EntryLeads, ItemLeads}
 use Rattle.wac_agreement.proofs.RestLinks.{entries_rest}
 use Rattle.wac_agreement.proofs.RestSets.{leads_next, none_leads}
@@ -80,7 +80,7 @@ pub returns-clause-rests : goal.returns-clause-rests
 returns-clause-rests c a b =
     let es = c.args.entries.now in
     let all : c.loop-i.i ≡ length es = omega (arith, c.loop-i-test.false, c.loop-i.auto.i-end) in
-    let l = subst (λ (n : ℕ). Leads c.loop-i.rests.items a b ↔ EntryLeads c.args.nodes.now c.args.types.now es (map item_view c.args.items.now) c.args.classes.now.numbers.items c.args.classes.now.names c.args.bindings.now n a b)
+    let l = subst (λ (n : ℕ). IsStep c.loop-i.rests.items a b ↔ EntryLeads c.args.nodes.now c.args.types.now es (map item_view c.args.items.now) c.args.classes.now.numbers.items c.args.classes.now.names c.args.bindings.now n a b)
     all (c.loop-i.invariant.leads a b) in
     let r = entries_rest c.args.nodes.now c.args.types.now es (map item_view c.args.items.now) c.args.classes.now.numbers.items c.args.classes.now.positions.items c.args.classes.now.names c.args.bindings.now
     c.requires.classes c.requires.bindings (length-map c.args.items.now item_view ∙ c.requires.counted) c.requires.items c.requires.agree a b in

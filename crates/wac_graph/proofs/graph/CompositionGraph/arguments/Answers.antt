@@ -1,6 +1,6 @@
 use Rattle.std.proofs.Common.{arith, ◌≡◌, ℕ, false, subst}
 use Rattle.std.specs.FinSet as set
-use Rattle.wac_graph.specs.Edge.{argument_edge}
+use Rattle.wac_edges.specs.Edge.{argument_edge}
 use Rattle.wac_graph.proofs.WriteArgumentsLemmas.{argument_there, argument_set, pushed, all_arguments}
 use Rattle.wac_graph.proofs.graph.CompositionGraph.arguments.Goals as goal
 

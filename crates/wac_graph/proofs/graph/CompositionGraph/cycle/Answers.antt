@@ -1,5 +1,5 @@
 use Rattle.std.proofs.Common.{arith, subst, MatchOption}
-use Rattle.wac_graph.specs.Order.{IsAcyclic, IsLowestOnCycle}
+use Rattle.wac_edges.specs.Order.{IsAcyclic, IsLowestOnCycle}
 use Rattle.wac_graph.proofs.MeansLemmas.{targets_below, acyclic_now, lowest_now}
 use Rattle.wac_graph.proofs.CauseLemmas.{at_cycle}
 use Rattle.wac_graph.proofs.graph.CompositionGraph.cycle.Goals as goal

@@ -1,6 +1,6 @@
 use Rattle.std.proofs.Common.{ap, ◌∙◌}
 use Rattle.std.specs.FinSet as set
-use Rattle.wac_graph.specs.Edge.{argument_edge}
+use Rattle.wac_edges.specs.Edge.{argument_edge}
 use Rattle.wac_graph.proofs.NodeLemmas.{there}
 use Rattle.wac_graph.proofs.InvariantLemmas.{invariant_argument, invariant_back}
 use Rattle.wac_graph.proofs.ArgumentLemmas.{is_instantiation, instantiation_there, taken_back, absent_edge, same_graph}

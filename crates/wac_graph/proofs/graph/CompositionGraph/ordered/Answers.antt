@@ -1,5 +1,5 @@
-use Rattle.wac_graph.specs.Edge.{is_left}
-use Rattle.wac_graph.specs.Order.{Writes}
+use Rattle.wac_edges.specs.Edge.{is_left}
+use Rattle.wac_edges.specs.Order.{Writes}
 use Rattle.wac_graph.proofs.MeansLemmas.{when_some, sound_now, ordered_now, acyclic}
 use Rattle.wac_graph.proofs.graph.CompositionGraph.ordered.Goals as goal
 

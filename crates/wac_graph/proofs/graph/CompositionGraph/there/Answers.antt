@@ -1,5 +1,5 @@
 use Rattle.std.proofs.Common.{◌≡◌, ◌<◌, ℕ, arith, subst, sym}
-use Rattle.wac_graph.specs.Edge.{is_left}
+use Rattle.wac_edges.specs.Edge.{is_left}
 use Rattle.wac_graph.specs.Means.{is_there}
 use Rattle.wac_graph.proofs.EncodingLemmas.{all_flags}
 use Rattle.wac_graph.proofs.graph.CompositionGraph.there.Goals as goal

@@ -1,5 +1,5 @@
 use Rattle.std.proofs.Common.{◌≡◌, ◌<◌, ℕ, length}
-use Rattle.wac_graph.specs.Edge.{is_left}
+use Rattle.wac_edges.specs.Edge.{is_left}
 use Rattle.wac_graph.specs.Means.{is_there}
 use Rattle.wac_graph.proofs.graph.CompositionGraph.there.Given as goal
 

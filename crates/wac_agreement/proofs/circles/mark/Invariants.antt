@@ -1,9 +1,0 @@
-use Rattle.std.proofs.Common.{◌≡◌, length, fold}
-use Rattle.wac_agreement.specs.Circles.{AreBelow, marked}
-use Rattle.wac_agreement.proofs.circles.mark.Given as goal
-
-abbrev pub invariant-loop-b : goal.invariant-loop-b
-invariant-loop-b l = record {
-  low : AreBelow (length l.reached.items) l.b-iterator;
-  folds : fold marked (l.reached.items, l.pending.items) l.b-iterator ≡ fold marked (l.initial.reached.items, l.initial.pending.items) l.steps.keys;
-}

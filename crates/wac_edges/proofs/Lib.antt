@@ -1,0 +1,9 @@
+pub mod EdgeLemmas
+pub mod OrderLemmas
+pub mod CycleLemmas
+pub mod WrittenOrder
+pub mod ReachLemmas
+pub mod Numbers
+pub mod StepLemmas
+pub mod CycleSearch
+pub mod TargetLemmas

@@ -1,0 +1,69 @@
+-- An edge as a key of a set.
+use Rattle.std.specs.Prelude.{◌≡◌, ℕ, Bool, true, false, ◌&&◌, ◌==◌, List, [], ◌∷◌, Contains, refl, zero, suc, slice_index_or}
+use Rattle.std.proofs.Common.{ap}
+use Rattle.std.specs.FinSet as set
+use Rattle.std.specs.Ordering.{nat_cmp}
+use Rattle.std.specs.Cmp.Lexicographic.{slice_cmp}
+use Rattle.std.specs.declared.cmp.Ordering.{Ordering}
+use Rattle.std.specs.Coded.{Coded, code_by, coded_list, coded_ℕ}
+use Rattle.wac_edges.specs.declared.edges.Label.{Label}
+use Rattle.wac_edges.specs.declared.edges.Label.TheVariants.{Alias, Argument, Dependency}
+use Rattle.wac_edges.specs.declared.edges.Edge.{Edge}
+
+abbrev pub label_key : Label → List ℕ
+label_key (Alias i) = 0 ∷ i ∷ []
+label_key (Argument i) = 1 ∷ i ∷ []
+label_key Dependency = []
+
+abbrev pub label_of : List ℕ → Label
+label_of (zero ∷ i ∷ _) = Alias i
+label_of (suc _ ∷ i ∷ _) = Argument i
+label_of _ = Dependency
+
+abbrev pub edge_key : Edge → List ℕ
+edge_key e = e.source ∷ e.target ∷ label_key e.label
+
+abbrev pub edge_of : List ℕ → Edge
+edge_of (s ∷ t ∷ l) = record { source = s; target = t; label = label_of l }
+edge_of _ = record { source = 0; target = 0; label = Dependency }
+
+pub label_of-label_key : (l : Label) → label_of (label_key l) ≡ l
+label_of-label_key (Alias i) = refl
+label_of-label_key (Argument i) = refl
+label_of-label_key Dependency = refl
+
+pub edge_of-edge_key : (e : Edge) → edge_of (edge_key e) ≡ e
+edge_of-edge_key e = ap (λ (l : Label). let x : Edge = record { source = e.source; target = e.target; label = l } in x) (label_of-label_key e.label)
+
+abbrev pub edge_code : Coded Edge
+edge_code = code_by (List ℕ) (coded_list coded_ℕ) edge_key edge_of edge_of-edge_key
+
+-- by source, target and label
+abbrev pub edge_cmp : Edge → Edge → Ordering
+edge_cmp a b = slice_cmp nat_cmp (edge_key a) (edge_key b)
+
+abbrev pub alias_edge : ℕ → ℕ → ℕ → Edge
+alias_edge source target position = record { source = source; target = target; label = Alias position }
+
+abbrev pub argument_edge : ℕ → ℕ → ℕ → Edge
+argument_edge source target position = record { source = source; target = target; label = Argument position }
+
+-- which nodes are left, by their flags
+abbrev pub is_left : List Bool → ℕ → Bool
+is_left flags n = slice_index_or flags n false
+
+-- the edge leads to n from a node that is left
+abbrev pub blocks : (ℕ → Bool) → ℕ → Edge → Bool
+blocks left n e = e.target == n && left e.source
+
+-- an edge leads to n from a node that is left
+abbrev pub IsBlocked : set.FinSet edge_cmp → (ℕ → Bool) → ℕ → Type 0
+IsBlocked edges left n = (e : Edge) × (set.contains edges e ≡ true) × (e.target ≡ n) × (left e.source ≡ true)
+
+-- no edge leads to n from a node that is left
+abbrev pub IsFree : set.FinSet edge_cmp → (ℕ → Bool) → ℕ → Type 0
+IsFree edges left n = (e : Edge) → set.contains edges e ≡ true → e.target ≡ n → left e.source ≡ false
+
+-- an edge of the list leads from a to b
+abbrev pub IsListed : List Edge → ℕ → ℕ → Type 0
+IsListed list a b = (e : Edge) × Contains list e × (e.source ≡ a) × (e.target ≡ b)

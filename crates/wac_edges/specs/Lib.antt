@@ -1,0 +1,5 @@
+pub mod Edge
+pub mod Order
+pub mod Numbers
+pub mod Cycles
+pub mod CycleSearch

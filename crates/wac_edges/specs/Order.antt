@@ -1,0 +1,53 @@
+-- The order in which nodes are written: each is the lowest of those left to which no edge leads from one that is left.
+use Rattle.std.specs.Prelude.{◌≡◌, ℕ, ◌<◌, ◌≤◌, Bool, true, false, not, ◌&&◌, ◌==◌, List, [], ◌∷◌}
+use Rattle.std.specs.FinSet as set
+use Rattle.wac_edges.specs.declared.edges.Edge.{Edge}
+use Rattle.wac_edges.specs.Edge.{edge_cmp, IsBlocked, IsFree}
+
+abbrev pub Edges : Type 0
+Edges = set.FinSet edge_cmp
+
+-- n is left, no edge leads to it from a node that is left, and to each lower node that is left one does
+pub record IsLowestReady (edges : Edges) (left : ℕ → Bool) (n : ℕ) : Type 0 where
+  pub here : left n ≡ true
+  pub free : IsFree edges left n
+  pub lower : (m : ℕ) → m < n → left m ≡ true → IsBlocked edges left m
+
+-- an edge leads to each node that is left from one that is left
+abbrev pub IsStuck : Edges → (ℕ → Bool) → Type 0
+IsStuck edges left = (m : ℕ) → left m ≡ true → IsBlocked edges left m
+
+-- no node is left
+abbrev pub IsDone : (ℕ → Bool) → Type 0
+IsDone left = (m : ℕ) → left m ≡ false
+
+-- those that are left without n
+abbrev pub without : (ℕ → Bool) → ℕ → ℕ → Bool
+without left n m = left m && not (m == n)
+
+-- the nodes that are left, one after another, each the lowest that is ready then
+abbrev pub Writes : Edges → (ℕ → Bool) → List ℕ → Type 0
+Writes edges left [] = IsDone left
+Writes edges left (n ∷ ns) = IsLowestReady edges left n × Writes edges (without left n) ns
+
+-- an edge leads from a to b
+abbrev pub IsEdge : Edges → ℕ → ℕ → Type 0
+IsEdge edges a b = (e : Edge) × (set.contains edges e ≡ true) × (e.source ≡ a) × (e.target ≡ b)
+
+-- edges lead from a over these nodes to b
+abbrev pub Leads : Edges → ℕ → List ℕ → ℕ → Type 0
+Leads edges a [] b = IsEdge edges a b
+Leads edges a (c ∷ cs) b = IsEdge edges a c × Leads edges c cs b
+
+-- the node is on a cycle of edges
+abbrev pub IsOnCycle : Edges → ℕ → Type 0
+IsOnCycle edges n = (ns : List ℕ) × Leads edges n ns n
+
+-- no edges form a cycle
+abbrev pub IsAcyclic : Edges → Type 0
+IsAcyclic edges = (n : ℕ) → IsOnCycle edges n → ⊥
+
+-- the node is on a cycle of edges, and no lower one is
+pub record IsLowestOnCycle (edges : Edges) (n : ℕ) : Type 0 where
+  pub here : IsOnCycle edges n
+  pub lowest : (m : ℕ) → IsOnCycle edges m → n ≤ m

@@ -1,0 +1,221 @@
+//! Labelled edges between numbered nodes.
+ghost use Rattle.std.specs.Prelude.{◌≡◌, ◌<◌, ◌↔◌, ℕ, true, false, length, OnOk, OnErr, IfOk, IfSome, IfNone, MatchOption, not, Contains};
+ghost use Rattle.std.specs.FinSet as set;
+ghost use Rattle.std.specs.Bool.{OnTrue, OnFalse};
+ghost use Rattle.wac_edges.specs.declared.edges.Label.TheVariants.{Alias, Argument, Dependency};
+ghost use Rattle.wac_edges.specs.Edge.{edge_cmp, alias_edge, argument_edge, IsBlocked, IsFree, IsListed, blocks, is_left as flag_at};
+ghost use Rattle.wac_edges.specs.Order.{IsAcyclic, IsEdge, IsLowestOnCycle};
+ghost use Rattle.wac_edges.specs.Cycles.{IsStep};
+ghost use Rattle.wac_edges.specs.declared.edges.Edge.{Edge as AnEdge};
+ghost use Rattle.std.specs.List.{list_any};
+ghost use Rattle.wac_edges.specs.contracts.edges.EdgePartialEq.TheImpl as EdgeEq;
+ghost use Rattle.std.specs.List.{filter};
+
+use crate::cycles::{add_step, empty_sets, lowest_on_cycle};
+use std::alloc::{AllocError, Global};
+use std::collections::BTreeSet;
+use std::marker::Model;
+
+/// What an edge says.
+#[derive(Clone, Copy, Debug, PartialEq, Eq)]
+pub enum Label {
+    /// From an instance to the alias of its export at this position.
+    Alias(usize),
+    /// From a node to the instantiation whose import at this position it satisfies.
+    Argument(usize),
+    /// From a definition to one that mentions it.
+    Dependency,
+}
+
+/// An edge.
+#[derive(Clone, Copy, Debug, PartialEq, Eq)]
+pub struct Edge {
+    /// The node that it leads from.
+    pub source: usize,
+    /// The node that it leads to.
+    pub target: usize,
+    /// What it says.
+    pub label: Label,
+}
+
+/// A set of edges.
+#[derive(Drop)]
+pub struct Edges {
+    list: Vec<Edge>,
+}
+
+impl Model for Edges {
+    ghost use Rattle.std.specs.FinSet as set;
+    ghost use Rattle.wac_edges.specs.Edge.{edge_cmp, edge_code};
+
+    ghost Value = { set.FinSet edge_cmp };
+
+    ghost coded = { set.code edge_code };
+
+    ghost view = { λ a. set.from_list a.list.items };
+}
+
+impl Edges {
+    /// The empty set.
+    pub fn new(alloc: Global) -> Edges
+        ensures { result ≡ set.empty }
+    {
+        Edges {
+            list: Vec::new(alloc),
+        }
+    }
+
+    /// Adds an edge; where memory runs out nothing has changed.
+    pub fn add(&mut self, edge: Edge) -> Result<(), AllocError>
+        ensures ok { OnOk result (self.new ≡ set.insert self.old edge) }
+        ensures err { OnErr result (self.new ≡ self.old) }
+    {
+        self.list.push(edge)?;
+        Ok(())
+    }
+
+    /// Whether the edge is in the set.
+    pub fn contains(&self, edge: Edge) -> bool
+        ensures { result ≡ set.contains self.now edge }
+    {
+        self.list.contains(&edge)
+    }
+
+    /// Takes the edge out, if it is in the set.
+    pub fn remove(&mut self, edge: Edge)
+        ensures { self.new ≡ set.remove self.old edge }
+    {
+        remove_from(&mut self.list, edge);
+    }
+
+    /// The alias of an instance's export at this position.
+    pub fn alias(&self, source: usize, position: usize) -> Option<usize>
+        ensures some { IfSome result (λ target. set.contains self.now (alias_edge source target position) ≡ true) }
+        ensures none { IfNone result ((target : ℕ) → set.contains self.now (alias_edge source target position) ≡ false) }
+    {
+        alias_in(&self.list, source, position)
+    }
+
+    /// The instance and the position of the export that an alias stands for.
+    pub fn alias_source(&self, target: usize) -> Option<(usize, usize)>
+        ensures some { IfSome result (λ s. set.contains self.now (alias_edge s.0 target s.1) ≡ true) }
+        ensures none { IfNone result ((source position : ℕ) → set.contains self.now (alias_edge source target position) ≡ false) }
+    {
+        alias_source_in(&self.list, target)
+    }
+
+    /// The node that satisfies the import of an instantiation at this position.
+    pub fn argument(&self, target: usize, position: usize) -> Option<usize>
+        ensures some { IfSome result (λ source. set.contains self.now (argument_edge source target position) ≡ true) }
+        ensures none { IfNone result ((source : ℕ) → set.contains self.now (argument_edge source target position) ≡ false) }
+    {
+        argument_in(&self.list, target, position)
+    }
+
+    /// Whether an edge leads to a node from one that is left.
+    pub fn is_blocked(&self, left: &[bool], target: usize) -> bool
+        ensures blocked { OnTrue result (IsBlocked self.now (flag_at left.now) target) }
+        ensures free { OnFalse result (IsFree self.now (flag_at left.now) target) }
+    {
+        is_blocked_in(&self.list, left, target)
+    }
+
+    /// The lowest node on a cycle of edges, all of which lead to one of the first so many nodes.
+    pub fn lowest_on_cycle(&self, alloc: Global, nodes: usize) -> Result<Option<usize>, AllocError>
+        requires { (e : AnEdge) → set.contains self.now e ≡ true → e.target < nodes }
+        ensures { IfOk result (λ o. MatchOption o (IsAcyclic self.now) (λ n. IsLowestOnCycle self.now n)) }
+    {
+        let targets = self.targets(alloc, nodes)?;
+        lowest_on_cycle(alloc, targets.as_slice())
+    }
+
+    /// For each of the first so many nodes, those to which edges lead from it.
+    fn targets(&self, alloc: Global, nodes: usize) -> Result<Vec<BTreeSet<usize>>, AllocError>
+        ensures counted { IfOk result (λ v. length v.items ≡ nodes) }
+        ensures steps { IfOk result (λ v. (a b : ℕ) → (IsStep v.items a b ↔ ((a < nodes) × IsEdge self.now a b))) }
+    {
+        targets_in(alloc, &self.list, nodes)
+    }
+}
+
+fn remove_from(list: &mut Vec<Edge>, edge: Edge)
+    ensures { list.new.items ≡ filter (λ e. not ((EdgeEq.ghosts).eq e edge)) list.old.items }
+{
+    list.retain(|e| *e != edge);
+}
+
+fn alias_in(list: &[Edge], source: usize, position: usize) -> Option<usize>
+    ensures some { IfSome result (λ target. Contains list.now (alias_edge source target position)) }
+    ensures none { IfNone result ((target : ℕ) → Contains list.now (alias_edge source target position) → ⊥) }
+{
+    for edge in list {
+        if let Label::Alias(i) = edge.label {
+            if edge.source == source && i == position {
+                return Some(edge.target);
+            }
+        }
+    }
+    None
+}
+
+fn alias_source_in(list: &[Edge], target: usize) -> Option<(usize, usize)>
+    ensures some { IfSome result (λ s. Contains list.now (alias_edge s.0 target s.1)) }
+    ensures none { IfNone result ((source position : ℕ) → Contains list.now (alias_edge source target position) → ⊥) }
+{
+    for edge in list {
+        if let Label::Alias(i) = edge.label {
+            if edge.target == target {
+                return Some((edge.source, i));
+            }
+        }
+    }
+    None
+}
+
+fn argument_in(list: &[Edge], target: usize, position: usize) -> Option<usize>
+    ensures some { IfSome result (λ source. Contains list.now (argument_edge source target position)) }
+    ensures none { IfNone result ((source : ℕ) → Contains list.now (argument_edge source target position) → ⊥) }
+{
+    for edge in list {
+        if let Label::Argument(i) = edge.label {
+            if edge.target == target && i == position {
+                return Some(edge.source);
+            }
+        }
+    }
+    None
+}
+
+fn is_blocked_in(list: &[Edge], left: &[bool], target: usize) -> bool
+    ensures { result ≡ list_any (blocks (flag_at left.now) target) list.now }
+{
+    list.iter()
+        .any(|edge| edge.target == target && flag_at(left, edge.source))
+}
+
+fn targets_in(
+    alloc: Global,
+    list: &[Edge],
+    nodes: usize,
+) -> Result<Vec<BTreeSet<usize>>, AllocError>
+    ensures counted { IfOk result (λ v. length v.items ≡ nodes) }
+    ensures steps { IfOk result (λ v. (a b : ℕ) → (IsStep v.items a b ↔ ((a < nodes) × IsListed list.now a b))) }
+{
+    let mut targets = empty_sets(alloc, nodes)?;
+    for edge in list {
+        if edge.source < nodes {
+            add_step(&mut targets, edge.source, edge.target)?;
+        }
+    }
+    Ok(targets)
+}
+
+/// The flag of a node; unset where none is kept.
+fn flag_at(flags: &[bool], n: usize) -> bool
+    ensures { result ≡ flag_at flags.now n }
+{
+    match flags.get(n) {
+        Some(flag) => *flag,
+        None => false,
+    }
+}

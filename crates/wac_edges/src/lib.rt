@@ -1,0 +1,6 @@
+//! Labelled edges between numbered nodes: which form a cycle, and an order in which each node comes after those that lead to it.
+#![tactic(auto)]
+
+pub mod cycles;
+pub mod edges;
+pub mod order;

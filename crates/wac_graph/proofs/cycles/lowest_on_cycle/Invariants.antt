@@ -1,6 +1,0 @@
-use Rattle.std.proofs.Common.{ℕ, ◌<◌}
-use Rattle.wac_graph.specs.Order.{IsOnCycle}
-use Rattle.wac_graph.proofs.cycles.lowest_on_cycle.Given as goal
-
-abbrev pub invariant-loop-n : goal.invariant-loop-n
-invariant-loop-n l = (m : ℕ) → m < l.n → IsOnCycle l.edges m → ⊥

@@ -1,6 +1,0 @@
-use Rattle.std.proofs.Common.{◌≡◌, ℕ, ◌<◌, false}
-use Rattle.wac_graph.specs.Edge.{is_left}
-use Rattle.wac_graph.proofs.order.is_done.Given as goal
-
-abbrev pub invariant-loop-n : goal.invariant-loop-n
-invariant-loop-n l = (m : ℕ) → m < l.n → is_left l.left m ≡ false
