@@ -5,7 +5,7 @@ use Rattle.std.specs.Prelude.{slice_get, slice_set, slice_index, nat_lt}
 use Rattle.std.specs.BTreeSet.{BTreeSet, contains}
 use Rattle.std.specs.Ordering.{nat_cmp}
 use Rattle.std.proofs.lemmas.Bool.Decides.{nat_tests}
-use Rattle.wac_agreement.specs.ClassOrder.{RestsThrough, step, further}
+use Rattle.wac_terms.specs.ClassOrder.{RestsThrough, step, further}
 use Rattle.wac_agreement.specs.Circles.{Leads, AreWithin, LeadsBack, HasNoCircle, IsLowestOnCircle, AreBelow, Ascends, AreAbove, is_reached, marked, IsWalk}
 use Rattle.wac_agreement.specs.ReachSteps.{Has}
 use Rattle.wac_agreement.proofs.KeySets.{has_head, has_tail, has_split, has_front, has_last, has_either}

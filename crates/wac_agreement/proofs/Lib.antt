@@ -11,7 +11,7 @@ pub mod KeySets
 pub mod Reaching
 pub mod Circling
 pub mod Resting
-pub mod Alike
+pub mod Joined
 pub mod Kinded
 pub mod Pairs
 pub mod Sources

@@ -7,7 +7,7 @@ use Rattle.std.proofs.lemmas.Option.{get_or_from_slice_get, slice_get-get_or, sl
 use Rattle.wac_shapes.proofs.Names.{take_at}
 use Rattle.wac_agreement.specs.declared.order.Step.{Step}
 use Rattle.wac_agreement.specs.declared.order.Step.TheVariants.{Open, Place}
-use Rattle.wac_agreement.specs.ClassOrder.{Arranges, done, there, new, Selects, RestsThrough, step, further}
+use Rattle.wac_terms.specs.ClassOrder.{Arranges, done, there, new, Selects, RestsThrough, step, further}
 use Rattle.wac_agreement.specs.Circles.{Leads, AreBelow, AreWithin, HasNoCircle, is_reached}
 use Rattle.wac_agreement.specs.Order.{AreAll, openings}
 use Rattle.wac_agreement.specs.ReachSteps.{Has}

@@ -2,7 +2,7 @@
 use Rattle.std.specs.Prelude.{ℕ, ◌≡◌, ◌<◌, ◌≤◌, Bool, true, false, if◌then◌else◌, ◌⊎◌, List, [], ◌∷◌, ◌++◌, length, Some, slice_get, slice_set, slice_index, slice_index_or}
 use Rattle.std.specs.BTreeSet.{BTreeSet, contains}
 use Rattle.std.specs.Ordering.{nat_cmp}
-use Rattle.wac_agreement.specs.ClassOrder.{RestsThrough}
+use Rattle.wac_terms.specs.ClassOrder.{RestsThrough}
 use Rattle.wac_agreement.specs.ReachSteps.{Has}
 
 -- b is in the set of a

@@ -5,7 +5,7 @@
 ghost use Rattle.std.specs.Prelude.{◌≡◌, ◌<◌, ◌↔◌, ◌++◌, ℕ, [], length, map, slice_get, slice_index, Contains, IfOk, OnOk, Some};
 ghost use Rattle.wac_agreement.specs.Circles.{AreBelow, AreWithin, HasNoCircle, Leads};
 ghost use Rattle.wac_entries.specs.Classes.{AreClasses, by_names, class_names};
-ghost use Rattle.wac_agreement.specs.ClassOrder.{Arranges, IsWrittenOrder, RestsOn, Selects, grouped};
+ghost use Rattle.wac_terms.specs.ClassOrder.{Arranges, IsWrittenOrder, RestsOn, Selects, grouped};
 ghost use Rattle.wac_agreement.specs.Faults as faults;
 ghost use Rattle.wac_agreement.specs.Order.{AreAll, AreRanks, IsOnce, openings};
 ghost use Rattle.wac_agreement.specs.ReachSteps.{Has, with_all};
