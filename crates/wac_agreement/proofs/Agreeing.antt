@@ -1,5 +1,5 @@
 -- Members of a class agree, where each two entries of it do.
-use Rattle.std.proofs.Common.{◌≡◌, ℕ, ◌<◌, true, List, ◌⊎◌, inl, inr, length, Some, slice_get, refl, sym, ap, ◌∙◌, subst, arith}
+use Rattle.std.proofs.Common.{◌≡◌, ℕ, ◌<◌, true, List, ◌⊎◌, inl, inr, length, Some, slice_get, sym, ap, ◌∙◌, subst, arith}
 use Rattle.std.proofs.lemmas.Bool.{cases_order}
 use Rattle.std.proofs.lemmas.Option.{slice_get_within}
 use Rattle.wac_shapes.specs.Name.{Name}
@@ -12,16 +12,9 @@ use Rattle.wac_entries.specs.Classes.{AreClasses, Entry, by_names, same_class}
 use Rattle.wac_agreement.specs.Compared.{AreCompared}
 use Rattle.wac_entries.specs.Nodes.{Item, Node, tree_at}
 use Rattle.wac_entries.specs.Nodes as nodes
-use Rattle.wac_agreement.proofs.Alike.{compared_alike}
 use Rattle.wac_entries.proofs.ClassFacts.{class-sym, class-trans}
-use Rattle.wac_agreement.proofs.Comparing.{agree_at}
+use Rattle.wac_terms.proofs.Alike.{agree_at, agree_itself, compared_alike}
 use Rattle.wac_entries.proofs.Lists.{some-at}
-
--- an item agrees with itself
-pub agree_itself : (t : TypeTree Called) → Agree t t
-agree_itself (instance items) = λ n. inr (inr (agree_itself (items n)))
-agree_itself (instance_item t) = agree_itself t
-agree_itself _ = refl
 
 -- agreement goes both ways
 pub agree_turned : (t u : TypeTree Called) → Agree t u → Agree u t

@@ -16,18 +16,12 @@ use Rattle.wac_entries.specs.Nodes.{Node, of_resource, of_primitive, of_own, of_
 use Rattle.wac_agreement.specs.Slots.{exports_in, exports_of, IsOpen, Fits}
 use Rattle.wac_agreement.specs.Apart.{ItemsAgree}
 use Rattle.wac_entries.proofs.SortedMaps.{items_are, found_are}
+use Rattle.wac_terms.proofs.Alike.{agree_at, agree_itself}
+use Rattle.wac_terms.proofs.Found.{no_some, some_same}
 use Rattle.wac_entries.proofs.NodeLaws.{same_tree, deep, one_tree}
 
-agree_refl : (t : TypeTree Called) → Agree t t
-agree_refl (instance f) = λ n. inr (inr (agree_refl (f n)))
-agree_refl (instance_item t) = agree_refl t
-agree_refl _ = refl
-
 agree_equal : (t u : TypeTree Called) → t ≡ u → Agree t u
-agree_equal t u e = subst (λ x. Agree t x) e (agree_refl t)
-
-pub agree_at : (t u a b : TypeTree Called) → t ≡ a → u ≡ b → Agree a b → Agree t u
-agree_at t u a b e f h = subst (λ x. Agree x u) (sym e) (subst (λ x. Agree a x) (sym f) h)
+agree_equal t u e = subst (λ x. Agree t x) e (agree_itself t)
 
 -- nodes that are not both instances agree where they are equal
 node_agree : (t u : ℕ → TypeTree Called) (n m : Node) → ((es : List (Name × Item)) → exports_in n ≡ Some es → (fs : List (Name × Item)) → exports_in m ≡ Some fs → ⊥) → Agree (node_tree t n) (node_tree u m) → node_tree t n ≡ node_tree u m
@@ -70,26 +64,6 @@ node_agree t u (of_component is xs) m never h = h
 node_agree t u (of_module is xs) m never h = h
 
 -- ---- what stands under a name
-pub some_same : {A : Type 0} (a b : A) → Some a ≡ Some b → a ≡ b
-some_same a b e = cc
-
-pub one_some : {A : Type 0} (o : Option A) (a b : A) → o ≡ Some a → o ≡ Some b → a ≡ b
-one_some o a b e f = some_same a b (sym e ∙ f)
-
-pub no_some : {A : Type 0} (a : A) → None ≡ Some a → ⊥
-no_some a e = cc
-
--- what is found stands in the list
-pub find_at : {V : Type 0} (es : List (Name × V)) (n : Name) (x : V) → find_name es n ≡ Some x → (k : ℕ) × (slice_get es k ≡ Some (n, x))
-find_at [] n x e = absurd (no_some x e)
-find_at (y ∷ es) n x e = elim (cases_Bool (same_name n y.0)) [
-  | inl t ↦
-      let value : y.1 ≡ x = some_same y.1 x (sym (ap (λ b. if b then Some y.1 else find_name es n) t) ∙ e) in
-      let name : n ≡ y.0 = same_name-true n y.0 t in
-      (0, λ i. Some (sym name i, value i))
-  | inr f ↦ let (k, at) = find_at es n x (sym (ap (λ b. if b then Some y.1 else find_name es n) f) ∙ e) in (suc k, at)
-]
-
 -- what holds of each stands of what is found
 pub all_find : {V : Type 0} (P : V → Type 0) (es : List (Name × V)) (n : Name) (x : V) → AllByRecursion (λ e. P e.1) es → find_name es n ≡ Some x → P x
 all_find P [] n x h e = absurd (no_some x e)

@@ -5,8 +5,8 @@ use Rattle.wac_entries.specs.Nodes.{Node, Item}
 use Rattle.wac_agreement.specs.declared.agreement.Walk.{Walk}
 use Rattle.wac_agreement.specs.Slots.{Slot}
 use Rattle.wac_agreement.specs.Apart.{ItemsAgree, AgreeTo, AllAgree, IsFirstApart, AreSlots, IsCompared}
-use Rattle.wac_agreement.proofs.Comparing.{one_some, no_some}
-use Rattle.wac_agreement.proofs.Stepping.{less_cases}
+use Rattle.wac_terms.proofs.Found.{one_some, no_some}
+use Rattle.wac_terms.proofs.Found.{less_cases}
 
 least_or : (a b : ℕ) → (a ≤ b) ⊎ (b < a)
 least_or zero b = inl (omega arith)

@@ -19,7 +19,9 @@ use Rattle.wac_entries.specs.NodeViews.{item_view}
 use Rattle.wac_agreement.specs.Slots.{exports_of}
 use Rattle.wac_agreement.specs.Apart.{ItemsAgree, AreApart, AllAgree, IsFirstApart}
 use Rattle.wac_agreement.specs.Shapes.{IsShaped, IsOfKind, AgreeUnder, IsNextListed, IsNext, AreAtEnd}
-use Rattle.wac_agreement.proofs.Comparing.{some_same, no_some, find_at, all_at, all_of, open_lower, listed_find, item_there, open_tree, agree_open, child_lower, agree_at}
+use Rattle.wac_terms.proofs.Found.{some_same, no_some, find_at}
+use Rattle.wac_agreement.proofs.Comparing.{all_at, all_of, open_lower, listed_find, item_there, open_tree, agree_open, child_lower}
+use Rattle.wac_terms.proofs.Alike.{agree_at}
 
 -- ---- whether two items agree
 pair_apart : (ns : List Node) (x y : Item) (i j : ℕ) → AreApart ns (x ∷ y ∷ []) (0 ∷ 0 ∷ []) i j → ItemsAgree ns x y → ⊥

@@ -10,7 +10,7 @@ pub mod Leading
 pub mod KeySets
 pub mod Reaching
 pub mod Resting
-pub mod Alike
+pub mod Joined
 pub mod Kinded
 pub mod Pairs
 pub mod Sources

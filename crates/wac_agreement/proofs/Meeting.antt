@@ -1,5 +1,5 @@
 -- Exports that are met in turn.
-use Rattle.std.proofs.Common.{◌≡◌, ℕ, zero, suc, ◌+◌, ◌<◌, ◌≤◌, List, [], ◌∷◌, ◌++◌, ◌⊎◌, inl, inr, length, map, take, Option, Some, None, refl, ap, sym, subst, arith, add-one}
+use Rattle.std.proofs.Common.{◌≡◌, ℕ, zero, suc, ◌+◌, ◌<◌, ◌≤◌, List, [], ◌∷◌, ◌++◌, ◌⊎◌, inl, inr, length, take, Option, Some, None, refl, ap, sym, subst, arith, add-one}
 use Rattle.std.specs.Prelude.{slice_get}
 use Rattle.std.specs.List.{AllByRecursion}
 use Rattle.std.specs.Option.{option_map}
@@ -11,12 +11,6 @@ use Rattle.wac_agreement.specs.declared.agreement.Walk.{Walk}
 use Rattle.wac_agreement.specs.Slots.{Spot, export, Slot}
 use Rattle.wac_agreement.specs.Apart.{Meets, anew, fitting, apart, MeetsAll, none, more, AreLow}
 use Rattle.wac_entries.proofs.Lists.{push-cases}
-use Rattle.wac_agreement.proofs.Comparing.{some_same, no_some}
-
-pub get_map : {A B : Type 0} (f : A → B) (xs : List A) (i : ℕ) (x : A) → slice_get xs i ≡ Some x → slice_get (map f xs) i ≡ Some (f x)
-get_map f [] i x at = absurd (no_some x at)
-get_map f (y ∷ xs) zero x at = ap (λ z. Some (f z)) (some_same y x at)
-get_map f (y ∷ xs) (suc i) x at = get_map f xs i x at
 
 pub meets_next : (ns : List Node) (entry place : ℕ) (old mid new : Walk) (es : List (Name × Item)) (i : ℕ) (n : Name) (x : Item) → slice_get es i ≡ Some (n, x)
     → MeetsAll ns entry place old (take i es) mid → Meets ns entry (export place n) x mid new → MeetsAll ns entry place old (take (i + 1) es) new
@@ -54,10 +48,6 @@ taken (x ∷ xs) (suc i) h = ap (λ l. x ∷ l) (taken xs i (omega (arith, h)))
 pub none_met : (ns : List Node) (entry place : ℕ) (w : Walk) (es : List (Name × Item)) → MeetsAll ns entry place w (take 0 es) w
 none_met ns entry place w [] = none
 none_met ns entry place w (e ∷ es) = none
-
-pub mapped_length : {A B : Type 0} (f : A → B) (xs : List A) → length (map f xs) ≡ length xs
-mapped_length f [] = refl
-mapped_length f (x ∷ xs) = ap suc (mapped_length f xs)
 
 pub none_mapped : {A B : Type 0} (f : A → B) (o : Option (Bor A)) (p : Option B) → ((x : Bor A) → o ≡ Some x → ⊥) → option_map (λ (x : Bor A). f x.now) o ≡ p → p ≡ None
 none_mapped f None p never e = sym e

@@ -10,7 +10,7 @@ use Rattle.wac_shapes.specs.declared.component.ItemKind.TheVariants as kind
 use Rattle.wac_shapes.specs.declared.component.«Type».{«Type» as AnyType}
 use Rattle.wac_shapes.proofs.Names.{same_name-true, same_name-refl, take_at}
 use Rattle.wac_entries.specs.Classes.{Entry, IsClassOf, by_names, class_names, names_of_classes, same_class}
-use Rattle.wac_agreement.specs.ClassOrder.{group_of, group_under, in_group}
+use Rattle.wac_terms.specs.ClassOrder.{group_of, group_under, in_group}
 use Rattle.wac_entries.specs.Numbering.{class_names_to}
 use Rattle.wac_entries.proofs.ClassFacts.{added, has_class, class-sym, class-trans, names_of_classes-push, one-position}
 use Rattle.wac_entries.proofs.Lists.{any-found, at-end, some-at}

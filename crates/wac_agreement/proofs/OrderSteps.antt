@@ -7,7 +7,7 @@ use Rattle.std.proofs.lemmas.Option.{get_or_from_slice_get, slice_get-get_or, sl
 use Rattle.wac_shapes.proofs.Names.{take_at}
 use Rattle.wac_agreement.specs.declared.order.Step.{Step}
 use Rattle.wac_agreement.specs.declared.order.Step.TheVariants.{Open, Place}
-use Rattle.wac_agreement.specs.ClassOrder.{Arranges, done, there, new, Selects}
+use Rattle.wac_terms.specs.ClassOrder.{Arranges, done, there, new, Selects}
 use Rattle.wac_edges.specs.Cycles.{Path, step, further, IsStep, AreWithin, HasNoCycle}
 use Rattle.wac_edges.specs.Numbers.{AreBelow, Has}
 use Rattle.wac_edges.specs.CycleSearch.{is_reached}

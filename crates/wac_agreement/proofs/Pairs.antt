@@ -10,16 +10,18 @@ use Rattle.wac_agreement.specs.Apart.{ItemsAgree, AreApart, AllAgree, IsFirstApa
 use Rattle.wac_entries.specs.Bindings.{AreHeld}
 use Rattle.wac_entries.specs.Classes.{Entry, by_names, same_class, AreClasses}
 use Rattle.wac_agreement.specs.Compared.{AreCompared}
-use Rattle.wac_agreement.specs.Faults.{Disagrees, HasNoDisagreement}
+use Rattle.wac_agreement.specs.Faults.{Disagrees}
+use Rattle.wac_terms.specs.NoDisagreement.{HasNoDisagreement}
 use Rattle.wac_entries.specs.Nodes.{Node, Item, type_of, item_tree, tree_at}
 use Rattle.wac_agreement.specs.Shapes.{IsOfKind, IsShaped}
-use Rattle.wac_agreement.proofs.Alike.{compared_alike}
+use Rattle.wac_terms.proofs.Alike.{compared_alike}
 use Rattle.wac_entries.proofs.ClassFacts.{class-sym}
-use Rattle.wac_agreement.proofs.Comparing.{agree_at, one_some}
+use Rattle.wac_terms.proofs.Alike.{agree_at}
+use Rattle.wac_terms.proofs.Found.{one_some}
 use Rattle.wac_agreement.proofs.Kinded.{compared_of_kind}
 use Rattle.wac_agreement.proofs.Leading.{of_kind_shaped}
 use Rattle.wac_entries.proofs.Lists.{some-at}
-use Rattle.wac_agreement.proofs.Meeting.{get_map, mapped_length}
+use Rattle.wac_terms.proofs.Found.{get_map, mapped_length}
 
 -- what holds at each position holds of all
 all_from : {A : Type 0} (P : A → Type 0) (xs : List A) → ((k : ℕ) (x : A) → slice_get xs k ≡ Some x → P x) → AllByRecursion P xs

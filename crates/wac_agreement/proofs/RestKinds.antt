@@ -25,7 +25,7 @@ use Rattle.wac_shapes.specs.declared.component.ItemKind.TheVariants as kind
 use Rattle.wac_entries.specs.Classes.{Entry, by_names, same_class, members}
 use Rattle.wac_entries.specs.Binding.{class_binds}
 use Rattle.wac_entries.specs.Agreement.{Agree, called_in_class, called_inside, called_outside, compared}
-use Rattle.wac_agreement.specs.Faults.{HasNoDisagreement}
+use Rattle.wac_terms.specs.NoDisagreement.{HasNoDisagreement}
 use Rattle.wac_entries.proofs.ClassFacts.{class-sym, class-trans}
 use Rattle.wac_agreement.proofs.Resting.{BindsNothing}
 
@@ -178,17 +178,6 @@ module _ {X : Type 0} (f : X → Bool) where
     | inl h ↦ let w = filter-at xs j x at t in (suc w.0, subst (λ (b : Bool). slice_get (cond b (y ∷ filter f xs) (filter f xs)) (suc w.0) ≡ Some x) (sym h) w.1)
     | inr h ↦ let w = filter-at xs j x at t in (w.0, subst (λ (b : Bool). slice_get (cond b (y ∷ filter f xs) (filter f xs)) w.0 ≡ Some x) (sym h) w.1)
   ]
-
-  pub at-filter : (xs : List X) (k : ℕ) (x : X) → slice_get (filter f xs) k ≡ Some x → (j : ℕ) × (slice_get xs j ≡ Some x) × (f x ≡ true)
-  at-filter [] k x at = cc
-  at-filter (y ∷ xs) k x at = elim (cases_Bool (f y)) [
-    | inl h ↦ first k h (λ l there. at-filter xs l x there) (subst (λ (b : Bool). slice_get (cond b (y ∷ filter f xs) (filter f xs)) k ≡ Some x) h at)
-    | inr h ↦ let w = at-filter xs k x (subst (λ (b : Bool). slice_get (cond b (y ∷ filter f xs) (filter f xs)) k ≡ Some x) h at) in (suc w.0, w.1, w.2)
-  ]
-    where
-      first : (k : ℕ) → f y ≡ true → ((l : ℕ) → slice_get (filter f xs) l ≡ Some x → (j : ℕ) × (slice_get xs j ≡ Some x) × (f x ≡ true)) → slice_get (y ∷ filter f xs) k ≡ Some x → (j : ℕ) × (slice_get (y ∷ xs) j ≡ Some x) × (f x ≡ true)
-      first zero h more at = let same : y ≡ x = cc in (0, at, sym (ap f same) ∙ h)
-      first (suc k) h more at = let w = more k at in (suc w.0, w.1, w.2)
 
   all-filtered : (P : X → Type 0) (xs : List X) → ((j : ℕ) (x : X) → slice_get xs j ≡ Some x → f x ≡ true → P x) → AllByRecursion P (filter f xs)
   all-filtered P [] h = tt

@@ -22,21 +22,22 @@ use Rattle.wac_entries.specs.Agreement.{compared}
 use Rattle.wac_entries.specs.Binding.{binding_class, root_bindings}
 use Rattle.wac_entries.specs.Bindings.{AreBindings, ClassBindings}
 use Rattle.wac_entries.specs.Classes.{AreClasses, Entry, by_names, class_names, is_asked, is_instance, members, names_instance, names_of_classes, same_class, same_track}
-use Rattle.wac_agreement.specs.ClassOrder.{Mentions, RestsOn, begins_at, by_resource, by_use}
+use Rattle.wac_terms.specs.ClassOrder.{Mentions, RestsOn, begins_at, by_resource, by_use}
 use Rattle.wac_agreement.specs.Compared.{AreCompared}
-use Rattle.wac_agreement.specs.Faults.{HasNoDisagreement}
+use Rattle.wac_terms.specs.NoDisagreement.{HasNoDisagreement}
 use Rattle.wac_entries.specs.Nodes.{Node, Item, a_type, a_func, an_instance, a_component, a_module, a_value, and_optional, item_tree, tree_at, type_of}
 use Rattle.wac_agreement.specs.Reach.{Reaches, IsOfClass, in_type_item, in_function_item, in_instance_item, in_component_item, in_module_item, in_value_item}
 use Rattle.wac_edges.specs.Numbers.{Has}
 use Rattle.wac_agreement.specs.Resting.{EntryLeads, ItemLeads, classes_used, first_class, interface_class, used_classes}
-use Rattle.wac_agreement.specs.Union.{member_tree}
+use Rattle.wac_terms.specs.Union.{member_tree}
 use Rattle.wac_entries.proofs.Canonical.{class_name-asked}
 use Rattle.wac_entries.proofs.ClassFacts.{class-sym, class-trans, one-position}
 use Rattle.wac_agreement.proofs.KeySets.{In}
 use Rattle.wac_entries.proofs.Lists.{any-at, any-found, some-at}
 use Rattle.wac_agreement.proofs.Reaching.{inside}
 use Rattle.wac_agreement.proofs.Resting.{BindsNothing, IsNoResource, Same, class_none, member_resource, same_member, same_member_instance}
-use Rattle.wac_agreement.proofs.RestKinds.{all_nothing, at-filter, filter-at}
+use Rattle.wac_agreement.proofs.RestKinds.{all_nothing, filter-at}
+use Rattle.wac_terms.proofs.Found.{at-filter}
 use Rattle.wac_agreement.proofs.RestNames.{compared-same}
 use Rattle.wac_agreement.proofs.RestSets.{has_in, in_has}
 

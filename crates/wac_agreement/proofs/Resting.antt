@@ -26,10 +26,10 @@ use Rattle.wac_shapes.specs.declared.component.ItemKind.{ItemKind}
 use Rattle.wac_shapes.specs.declared.component.ItemKind.TheVariants as kind
 use Rattle.wac_entries.specs.Classes.{Entry, NameRules, same_track, members}
 use Rattle.wac_entries.specs.Binding.{kind_binds, first_binds, class_binds, binding_class, root_bindings}
-use Rattle.wac_agreement.specs.Union.{inside_member, member_tree}
+use Rattle.wac_terms.specs.Union.{inside_member, member_tree}
 use Rattle.wac_entries.specs.Agreement.{called_outside, called_in_class, called_inside, compared}
-use Rattle.wac_agreement.specs.ClassOrder.{Mentions, begins_at}
-use Rattle.wac_agreement.specs.ClassOrder as order
+use Rattle.wac_terms.specs.ClassOrder.{Mentions, begins_at}
+use Rattle.wac_terms.specs.ClassOrder as order
 use Rattle.wac_agreement.specs.Reach.{Reaches, IsOfClass}
 use Rattle.wac_agreement.specs.Reach as reach
 use Rattle.wac_agreement.proofs.Reaching.{Inside, inside}

@@ -8,8 +8,9 @@ use Rattle.std.specs.FinMap.{nat_cmp-IsAntisymmetric, slice_cmp-IsAntisymmetric}
 use Rattle.wac_shapes.specs.Name.{Name, find_name}
 use Rattle.wac_entries.specs.Nodes.{Sorted}
 use Rattle.wac_agreement.specs.Shapes.{compare, AreBefore, AreBehind}
-use Rattle.wac_agreement.proofs.Stepping.{less_cases}
-use Rattle.wac_agreement.proofs.Comparing.{some_same, one_some, no_some, find_at, at_find, all_at, never_less}
+use Rattle.wac_terms.proofs.Found.{less_cases}
+use Rattle.wac_terms.proofs.Found.{some_same, one_some, no_some, find_at}
+use Rattle.wac_agreement.proofs.Comparing.{at_find, all_at, never_less}
 
 module _ {V : Type 0} where
   sorted_pair : (es : List (Name × V)) (k l : ℕ) (e f : Name × V) → Sorted es → k < l → slice_get es k ≡ Some e → slice_get es l ≡ Some f → compare e.0 f.0 ≡ Less

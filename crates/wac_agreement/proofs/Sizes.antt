@@ -7,7 +7,8 @@ use Rattle.wac_entries.specs.Nodes.{Node, Item, an_instance, type_of, IsTable}
 use Rattle.wac_agreement.specs.declared.agreement.Walk.{Walk}
 use Rattle.wac_agreement.specs.Slots.{exports_of, Spot, export}
 use Rattle.wac_agreement.specs.Apart.{pushed, Meets, anew, fitting, apart, MeetsAll, none, more, sizes_by, size_to, size_of, left}
-use Rattle.wac_agreement.proofs.Comparing.{some_same, no_some, open_instance, open_lower, all_of}
+use Rattle.wac_terms.proofs.Found.{some_same, no_some}
+use Rattle.wac_agreement.proofs.Comparing.{open_instance, open_lower, all_of}
 
 sizes_same : (f g : Item → ℕ) (es : List (Name × Item)) → AllByRecursion (λ e. f e.1 ≡ g e.1) es → sizes_by f es ≡ sizes_by g es
 sizes_same f g [] h = refl

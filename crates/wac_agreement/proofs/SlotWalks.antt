@@ -8,7 +8,8 @@ use Rattle.wac_agreement.specs.declared.agreement.Walk.{Walk}
 use Rattle.wac_agreement.specs.Slots.{exports_of, IsOpen, Fits, Spot, of_class, export, Slot, IsFree}
 use Rattle.wac_agreement.specs.Apart.{ItemsAgree, pushed, Stands, root, below, Has, IsKnown, IsOf, AreSlots, WasMet, WasHandled, IsWalking, AreLow}
 use Rattle.wac_entries.proofs.Lists.{at-push, at-end, push-cases}
-use Rattle.wac_agreement.proofs.Comparing.{one_some, open_instance, child_lower, open_agree}
+use Rattle.wac_terms.proofs.Found.{one_some}
+use Rattle.wac_agreement.proofs.Comparing.{open_instance, child_lower, open_agree}
 
 -- ---- what may stand at a spot
 abbrev pub CanStand : List Node → List Slot → ℕ → Item → Spot → Item → Type 0

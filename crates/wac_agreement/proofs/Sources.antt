@@ -33,11 +33,11 @@ use Rattle.wac_entries.specs.Listings.{at_scope, AreListings, IsAround, IsAround
 use Rattle.wac_entries.specs.NodeViews.{item_view}
 use Rattle.wac_entries.specs.Nodes.{Node, Item, a_type, a_func, an_instance, a_component, a_module, a_value, type_of, item_tree, tree_at}
 use Rattle.wac_entries.specs.Scopes.{called_in, called_in_root, listed_in, opened_by, scope_tree}
-use Rattle.wac_agreement.proofs.Alike.{compared_alike}
+use Rattle.wac_terms.proofs.Alike.{compared_alike}
 use Rattle.wac_entries.proofs.CodingGrowth.{longer}
-use Rattle.wac_agreement.proofs.Comparing.{no_some, one_some}
+use Rattle.wac_terms.proofs.Found.{no_some, one_some}
 use Rattle.wac_entries.proofs.Lists.{push-cases, some-at}
-use Rattle.wac_agreement.proofs.Meeting.{mapped_length}
+use Rattle.wac_terms.proofs.Found.{mapped_length}
 use Rattle.wac_entries.proofs.Opening.{below}
 use Rattle.wac_entries.proofs.ScopeLaws.{called-rooted}
 

@@ -9,17 +9,9 @@ use Rattle.wac_agreement.specs.declared.agreement.Walk.{Walk}
 use Rattle.wac_agreement.specs.Slots.{exports_of, IsOpen, Fits, Spot, of_class, export, Slot}
 use Rattle.wac_agreement.specs.Apart.{ItemsAgree, AreApart, Meets, anew, fitting, apart, MeetsAll, none, more, Stands, root, below, IsKnown, IsOf, AreSlots, WasMet, WasHandled, IsWalking, AreLow, IsGoing, Goes, IsCompared}
 use Rattle.wac_entries.proofs.Lists.{some-at, at-push, at-end, push-cases}
-use Rattle.wac_agreement.proofs.Comparing.{some_same, one_some, no_some, find_at, at_find, open_instance, open_sorted, open_lower, all_of, child_lower, agree_open, agree_same, unfit_apart}
+use Rattle.wac_terms.proofs.Found.{less_cases, some_same, one_some, no_some, find_at}
+use Rattle.wac_agreement.proofs.Comparing.{at_find, open_instance, open_sorted, open_lower, all_of, child_lower, agree_open, agree_same, unfit_apart}
 use Rattle.wac_agreement.proofs.SlotWalks.{CanStand, stand, stands_more, can_more, one_class, same_there, inside, low_there, agree_there, met_cases, met_more, met_there, Grown, grown_same, grown_on, handled_more, HasMet, slots_low, more_slots}
-
-pub less_cases : (l k : ℕ) → l < k + 1 → (l < k) ⊎ (l ≡ k)
-less_cases zero zero h = inr refl
-less_cases zero (suc k) h = inl (omega arith)
-less_cases (suc l) zero h = absurd (omega (arith, h))
-less_cases (suc l) (suc k) h = elim (less_cases l k (omega (arith, h))) [
-  | inl less ↦ inl (omega (arith, less))
-  | inr same ↦ inr (ap suc same)
-]
 
 module _ (ns : List Node) (table : IsTable ns) (items : List Item) (classes : List ℕ) (low : (j : ℕ) (x : Item) → slice_get items j ≡ Some x → type_of x < length ns)
     (i class : ℕ) (item : Item) (at_i : slice_get items i ≡ Some item) (class_i : slice_get classes i ≡ Some class) where

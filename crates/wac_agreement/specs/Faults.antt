@@ -3,14 +3,11 @@ use Rattle.std.specs.Prelude.{ℕ, ◌≡◌, List, Option, Some, None, slice_ge
 use Rattle.wac_shapes.specs.Name.{Name}
 use Rattle.wac_collection.specs.Collection.{Collection}
 use Rattle.wac_entries.specs.Classes.{Entry, NameRules, by_names, class_names, canonical}
-use Rattle.wac_entries.specs.Agreement.{compared, IsDisagreement, IsFirstDisagreement, LeadsApart, joined}
-use Rattle.wac_agreement.specs.ClassOrder.{IsOnCircle, IsFirstOnCircle}
+use Rattle.wac_entries.specs.Agreement.{compared, IsFirstDisagreement, LeadsApart, joined}
+use Rattle.wac_terms.specs.ClassOrder.{IsOnCircle, IsFirstOnCircle}
 use Rattle.wac_agreement.specs.declared.fault.MergeFault.{MergeFault}
 use Rattle.wac_agreement.specs.declared.fault.MergeFault.TheVariants as merge
-
--- no entry disagrees with an earlier one of its class
-abbrev pub HasNoDisagreement : NameRules → Collection → List Entry → Type 0
-HasNoDisagreement rules c es = (i j : ℕ) → IsDisagreement rules c es i j → ⊥
+use Rattle.wac_terms.specs.NoDisagreement.{HasNoDisagreement}
 
 -- the earliest entry that disagrees, the earliest that it disagrees with, and the names of the exports that lead to where they do
 pub record Disagrees (rules : NameRules) (c : Collection) (es : List Entry) (first second : ℕ) (export : Name) : Type 0 where

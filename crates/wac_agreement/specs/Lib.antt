@@ -1,5 +1,3 @@
-pub mod Union
-pub mod ClassOrder
 pub mod Slots
 pub mod Apart
 pub mod Shapes

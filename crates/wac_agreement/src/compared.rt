@@ -10,7 +10,8 @@ ghost use Rattle.wac_entries.specs.Classes.{AreClasses, by_names, class_names};
 ghost use Rattle.wac_entries.specs.Coding.{IsGrown};
 ghost use Rattle.wac_agreement.specs.Compared.{AreCompared, IsItemOf};
 ghost use Rattle.wac_entries.specs.CallsView.{AreNamed};
-ghost use Rattle.wac_agreement.specs.Faults.{Disagrees, HasNoDisagreement};
+ghost use Rattle.wac_agreement.specs.Faults.{Disagrees};
+ghost use Rattle.wac_terms.specs.NoDisagreement.{HasNoDisagreement};
 ghost use Rattle.wac_entries.specs.NodeViews.{item_view};
 
 use crate::agreement::first_disagreement;

@@ -6,7 +6,7 @@ ghost use Rattle.std.specs.Prelude.{◌≡◌, ◌<◌, ◌↔◌, ◌++◌, ℕ
 ghost use Rattle.wac_edges.specs.Numbers.{AreBelow, Has};
 ghost use Rattle.wac_edges.specs.Cycles.{AreWithin, HasNoCycle, IsStep};
 ghost use Rattle.wac_entries.specs.Classes.{AreClasses, by_names, class_names};
-ghost use Rattle.wac_agreement.specs.ClassOrder.{Arranges, IsWrittenOrder, RestsOn, Selects, grouped};
+ghost use Rattle.wac_terms.specs.ClassOrder.{Arranges, IsWrittenOrder, RestsOn, Selects, grouped};
 ghost use Rattle.wac_agreement.specs.Faults as faults;
 ghost use Rattle.wac_agreement.specs.Order.{AreAll, AreRanks, IsOnce, openings};
 ghost use Rattle.wac_agreement.specs.ReachSteps.{with_all};

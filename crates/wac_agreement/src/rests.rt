@@ -6,9 +6,9 @@ ghost use Rattle.wac_shapes.specs.declared.component.ItemKind.TheVariants as kin
 ghost use Rattle.wac_entries.specs.Bindings.{AreBindings, AreHeld};
 ghost use Rattle.wac_edges.specs.Cycles.{IsStep};
 ghost use Rattle.wac_entries.specs.Classes.{AreClasses, by_names, class_names};
-ghost use Rattle.wac_agreement.specs.ClassOrder.{RestsOn};
+ghost use Rattle.wac_terms.specs.ClassOrder.{RestsOn};
 ghost use Rattle.wac_agreement.specs.Compared.{AreCompared};
-ghost use Rattle.wac_agreement.specs.Faults.{HasNoDisagreement};
+ghost use Rattle.wac_terms.specs.NoDisagreement.{HasNoDisagreement};
 ghost use Rattle.wac_entries.specs.Nodes.{tree_at, type_of as type_in};
 ghost use Rattle.wac_entries.specs.NodeViews.{item_view};
 ghost use Rattle.wac_agreement.specs.Reach.{IsOfClass, Reaches};

@@ -32,9 +32,10 @@ use Rattle.wac_types.specs.Called.{Called}
 use Rattle.wac_entries.specs.Agreement.{Agree, compared, here, below}
 use Rattle.wac_entries.specs.Classes.{by_names, same_class}
 use Rattle.wac_entries.specs.Classes as merge
-use Rattle.wac_agreement.specs.ClassOrder.{RestsOn, by_use}
+use Rattle.wac_terms.specs.ClassOrder.{RestsOn, by_use}
 use Rattle.wac_edges.specs.Cycles.{step, further}
-use Rattle.wac_agreement.specs.Faults.{Disagrees, HasNoDisagreement, UseEachOther}
+use Rattle.wac_terms.specs.NoDisagreement.{HasNoDisagreement}
+use Rattle.wac_agreement.specs.Faults.{Disagrees, UseEachOther}
 use Rattle.wac_edges.specs.declared.edges.Edge.{Edge}
 use Rattle.wac_graph.specs.declared.encode.EncodeOptions.{EncodeOptions}
 use Rattle.wac_graph.specs.Graph as graph

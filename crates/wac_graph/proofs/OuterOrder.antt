@@ -1,7 +1,7 @@
 -- There is one order in which the classes of what a graph asks for are written.
 use Rattle.std.proofs.Common.{◌≡◌, ℕ, List, [], ◌∷◌, ◌++◌, refl, ap, sym, subst}
 use Rattle.wac_entries.specs.Classes.{by_names}
-use Rattle.wac_agreement.specs.ClassOrder.{RestsOn, Selects, none, takes, leaves, Arranges, done, there, new, grouped}
+use Rattle.wac_terms.specs.ClassOrder.{RestsOn, Selects, none, takes, leaves, Arranges, done, there, new, grouped}
 use Rattle.wac_graph.specs.Graph.{Graph}
 use Rattle.wac_graph.specs.OuterImports.{outer_entries, IsOuterOrder}
 

@@ -4,7 +4,8 @@ use Rattle.wac_shapes.specs.Name.{Name}
 use Rattle.wac_collection.specs.Package.{Key}
 use Rattle.wac_shapes.specs.declared.component.ItemKind.{ItemKind}
 use Rattle.wac_entries.specs.Classes.{by_names}
-use Rattle.wac_agreement.specs.Faults.{Disagrees, HasNoCircle, HasNoDisagreement, UseEachOther}
+use Rattle.wac_agreement.specs.Faults.{Disagrees, HasNoCircle, UseEachOther}
+use Rattle.wac_terms.specs.NoDisagreement.{HasNoDisagreement}
 use Rattle.wac_agreement.specs.declared.fault.MergeFault.{MergeFault}
 use Rattle.wac_agreement.specs.declared.fault.MergeFault.TheVariants as merge
 use Rattle.wac_graph.specs.declared.encode.EncodeOptions.{EncodeOptions}

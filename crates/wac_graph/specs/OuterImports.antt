@@ -4,9 +4,9 @@ use Rattle.wac_shapes.specs.Name.{Name}
 use Rattle.wac_collection.specs.Tree.{Tree}
 use Rattle.wac_entries.specs.Binding.{root_bindings}
 use Rattle.wac_entries.specs.Classes.{Entry, by_names, class_names, canonical, IsClassOf}
-use Rattle.wac_agreement.specs.ClassOrder.{IsWrittenOrder}
-use Rattle.wac_merge.specs.Merge.{position_in}
-use Rattle.wac_agreement.specs.Union.{merged}
+use Rattle.wac_terms.specs.ClassOrder.{IsWrittenOrder}
+use Rattle.wac_terms.specs.Merge.{position_in}
+use Rattle.wac_terms.specs.Union.{merged}
 use Rattle.wac_graph.specs.Graph.{Graph}
 use Rattle.wac_graph.specs.Entries.{asked_entries, to_merge}
 

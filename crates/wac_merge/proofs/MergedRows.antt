@@ -21,10 +21,10 @@ use Rattle.wac_shapes.specs.declared.component.«Type».TheVariants as ty
 use Rattle.wac_types.specs.Subtype.{Sub, same, instances, instance_items, IsSubtype, type_tree}
 use Rattle.wac_entries.specs.Classes.{Entry, NameRules, class_names, canonical, members}
 use Rattle.wac_entries.specs.Binding.{binding_class, class_binds, root_bindings}
-use Rattle.wac_agreement.specs.Union.{union, merged}
+use Rattle.wac_terms.specs.Union.{union, merged}
 use Rattle.wac_entries.specs.Agreement.{compared}
-use Rattle.wac_agreement.specs.ClassOrder.{grouped, RestsOn, by_use, by_resource, IsWrittenOrder, done, new, leaves, none}
-use Rattle.wac_merge.specs.Merge.{Merged, IsMerge, IsListed, class_id, position_in, bound_resource}
+use Rattle.wac_terms.specs.ClassOrder.{grouped, RestsOn, by_use, by_resource, IsWrittenOrder, done, new, leaves, none}
+use Rattle.wac_terms.specs.Merge.{Merged, IsMerge, IsListed, class_id, position_in, bound_resource}
 
 -- names of one number are labels; of two, an interface and its version on one track
 abbrev simple_track : Name → Track

@@ -3,7 +3,7 @@ use Rattle.std.specs.Prelude.{◌≡◌, Bool, false, List, [], ◌⊎◌, Some}
 use Rattle.wac_collection.specs.Collection.{Collection, empty}
 use Rattle.wac_entries.specs.Classes.{Entry, by_names}
 use Rattle.wac_agreement.specs.Faults.{Fault, HasFault, fault_of}
-use Rattle.wac_merge.specs.Merge.{Merged}
+use Rattle.wac_terms.specs.Merge.{Merged}
 use Rattle.wac_agreement.specs.declared.fault.MergeFault.{MergeFault}
 use Rattle.wac_agreement.specs.declared.fault.MergeFault.TheVariants.{OutOfMemory}
 

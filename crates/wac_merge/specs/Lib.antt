@@ -1,13 +1,1 @@
-pub mod Merge
 pub mod Aggregate
-pub mod Unions
-pub mod Became
-pub mod Renaming
-pub mod Writing
-pub mod MergedClasses
-pub mod UnionSteps
-pub mod GroupViews
-pub mod MergedKinds
-pub mod RenamingSteps
-pub mod FreshSteps
-pub mod WritingSteps

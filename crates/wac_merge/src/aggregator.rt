@@ -7,12 +7,12 @@ ghost use Rattle.wac_shapes.specs.Name.{Name as AName};
 ghost use Rattle.wac_merge.specs.Aggregate.{IsFault, unmerged};
 ghost use Rattle.wac_entries.specs.Agreement.{AllMembersAgree};
 ghost use Rattle.wac_entries.specs.Bindings.{AreBindings, AreHeld};
-ghost use Rattle.wac_agreement.specs.ClassOrder.{IsWrittenOrder};
+ghost use Rattle.wac_terms.specs.ClassOrder.{IsWrittenOrder};
 ghost use Rattle.wac_entries.specs.Classes.{AreClasses, by_names, canonical, class_names, imported_as};
-ghost use Rattle.wac_agreement.specs.Faults.{Fault as AFault, HasFault, HasNoCircle, HasNoDisagreement, fault_of, use_each_other};
-ghost use Rattle.wac_merge.specs.Merge.{AreBound, IsMerge, bound_resource, import_entries, listed_resource, own_resource};
+ghost use Rattle.wac_agreement.specs.Faults.{Fault as AFault, HasFault, HasNoCircle, fault_of, use_each_other};
+ghost use Rattle.wac_terms.specs.NoDisagreement.{HasNoDisagreement};
+ghost use Rattle.wac_terms.specs.Merge.{AreBound, IsMerge, bound_resource, import_entries, listed_resource, own_resource};
 
-use crate::merged::Merged;
 use std::alloc::{AllocError, Global};
 use std::marker::Model;
 use wac_agreement::compared::{entry_items, first_pair};
@@ -25,6 +25,7 @@ use wac_entries::classes::Classes;
 use wac_entries::entry::Entry;
 use wac_entries::nodes::Nodes;
 use wac_types::{ItemKind, Named, ResourceId, Type, Types};
+use wac_unions::merged::Merged;
 
 /// The classes of entries, and their merge.
 #[derive(Drop)]

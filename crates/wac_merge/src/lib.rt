@@ -19,14 +19,7 @@
 #![tactic(auto)]
 
 mod aggregator;
-mod became;
-mod fresh;
-mod grouped;
 pub mod laws;
-mod merged;
-mod renamer;
-mod unions;
-mod writing;
 
 pub use aggregator::TypeAggregator;
 pub use wac_agreement::fault::MergeFault;

@@ -1,6 +1,6 @@
 use Rattle.std.proofs.Common.{◌≡◌, ◌≤◌, map, length, None, arith}
 use Rattle.wac_entries.specs.NodeViews.{item_view}
-use Rattle.wac_agreement.proofs.Meeting.{mapped_length}
+use Rattle.wac_terms.proofs.Found.{mapped_length}
 use Rattle.wac_agreement.proofs.Disagreeing.{agree_next, agree_all, first_apart, is_none}
 use Rattle.wac_agreement.proofs.agreement.first_disagreement.Goals as goal
 

@@ -4,7 +4,7 @@ use Rattle.std.specs.declared.cmp.Ordering.TheVariants.{Less, Equal, Greater}
 use Rattle.std.proofs.lemmas.Option.{slice_get_read}
 use Rattle.wac_shapes.specs.Name.{Name}
 use Rattle.wac_entries.specs.NodeViews.{item_view, listed}
-use Rattle.wac_agreement.proofs.Meeting.{get_map}
+use Rattle.wac_terms.proofs.Found.{get_map}
 use Rattle.wac_agreement.specs.Shapes.{compare}
 use Rattle.wac_agreement.proofs.Searching.{before_more, behind_more, found_here, found_nowhere}
 use Rattle.wac_agreement.proofs.apart.find_export.Goals as goal

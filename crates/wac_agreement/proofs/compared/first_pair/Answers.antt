@@ -10,7 +10,7 @@ use Rattle.wac_agreement.specs.Shapes.{IsOfKind}
 use Rattle.wac_entries.specs.declared.nodes.Item.TheVariants as item
 use Rattle.wac_shapes.specs.declared.component.ItemKind.{ItemKind}
 use Rattle.wac_agreement.proofs.Leading.{match_some, match_none}
-use Rattle.wac_agreement.proofs.Meeting.{mapped_length}
+use Rattle.wac_terms.proofs.Found.{mapped_length}
 use Rattle.wac_agreement.proofs.Agreeing.{members_agree}
 use Rattle.wac_agreement.proofs.Pairs.{all_low, low_at, of_kind_at, shaped_at, none_disagrees, first_disagrees, first_within, second_within, apart_at, read_map}
 use Rattle.wac_agreement.proofs.compared.first_pair.Goals as goal

@@ -1,7 +1,7 @@
 use Rattle.std.proofs.Common.{◌≡◌, ◌<◌, ◌++◌, ◌∷◌, [], ◌⊎◌, inl, inr, length, Some, refl, ap, ◌∙◌, string_bytes, arith}
 use Rattle.std.specs.Prelude.{slice_get}
 use Rattle.std.proofs.lemmas.Option.{slice_get_read}
-use Rattle.wac_agreement.proofs.Alike.{joined_next}
+use Rattle.wac_agreement.proofs.Joined.{joined_next}
 use Rattle.wac_agreement.proofs.compared.join.Goals.{then-i-gt0+in_ok-push, else-i-gt0}
 use Rattle.wac_agreement.proofs.compared.join.Goals as goal
 

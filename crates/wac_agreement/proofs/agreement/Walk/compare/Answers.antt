@@ -7,7 +7,8 @@ use Rattle.wac_entries.specs.declared.nodes.Item.TheVariants.{«Type»}
 use Rattle.wac_agreement.specs.Slots.{exports_of}
 use Rattle.wac_agreement.specs.Apart.{MeetsAll}
 use Rattle.wac_agreement.proofs.Comparing.{all_at}
-use Rattle.wac_agreement.proofs.Meeting.{get_map, none_mapped}
+use Rattle.wac_terms.proofs.Found.{get_map}
+use Rattle.wac_agreement.proofs.Meeting.{none_mapped}
 use Rattle.wac_agreement.proofs.SlotWalks.{slots_low}
 use Rattle.wac_agreement.proofs.Stepping.{compared, goes_first, goes_none, goes_some, met_low, goes_low, exports_low}
 use Rattle.wac_agreement.proofs.Sizes.{less_none, less_some}

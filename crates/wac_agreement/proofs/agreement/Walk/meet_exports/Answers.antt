@@ -7,7 +7,8 @@ use Rattle.wac_entries.specs.NodeViews.{listed, item_view}
 use Rattle.wac_agreement.specs.Slots.{export}
 use Rattle.wac_agreement.specs.Apart.{Meets, MeetsAll}
 use Rattle.wac_agreement.proofs.Comparing.{all_at}
-use Rattle.wac_agreement.proofs.Meeting.{get_map, meets_next, low_after_all, all_take, taken, none_met, mapped_length}
+use Rattle.wac_terms.proofs.Found.{get_map, mapped_length}
+use Rattle.wac_agreement.proofs.Meeting.{meets_next, low_after_all, all_take, taken, none_met}
 use Rattle.wac_agreement.proofs.agreement.Walk.meet_exports.Goals as goal
 
 pub loop-name-init : goal.loop-name-init

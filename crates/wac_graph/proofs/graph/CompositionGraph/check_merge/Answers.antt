@@ -3,7 +3,8 @@ use Rattle.std.specs.List.{AllByRecursion}
 use Rattle.wac_collection.specs.Collection.{Collection, IsWellFormed}
 use Rattle.wac_merge.specs.Aggregate.{IsFault}
 use Rattle.wac_entries.specs.Bindings.{AreHeld}
-use Rattle.wac_agreement.specs.Faults.{HasNoCircle, HasNoDisagreement}
+use Rattle.wac_agreement.specs.Faults.{HasNoCircle}
+use Rattle.wac_terms.specs.NoDisagreement.{HasNoDisagreement}
 use Rattle.wac_agreement.specs.declared.fault.MergeFault.{MergeFault}
 use Rattle.wac_entries.specs.Classes as merge
 use Rattle.wac_graph.specs.Asked.{Entry}

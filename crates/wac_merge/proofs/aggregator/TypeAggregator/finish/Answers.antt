@@ -3,7 +3,8 @@ use Rattle.std.specs.Prelude.{◌↔◌}
 use Rattle.wac_entries.specs.Bindings.{AreHeld}
 use Rattle.wac_merge.specs.Aggregate.{Aggregate, IsFault}
 use Rattle.wac_entries.specs.Classes.{Entry, by_names, class_names}
-use Rattle.wac_agreement.specs.Faults.{HasFault, HasNoCircle, HasNoDisagreement, fault_of}
+use Rattle.wac_agreement.specs.Faults.{HasFault, HasNoCircle, fault_of}
+use Rattle.wac_terms.specs.NoDisagreement.{HasNoDisagreement}
 use Rattle.wac_agreement.specs.declared.fault.MergeFault.{MergeFault}
 use Rattle.wac_agreement.specs.declared.fault.MergeFault.TheVariants.{OutOfMemory}
 use Rattle.wac_merge.proofs.FaultLemmas.{exit_cause, exit_refused, names_fault, no_fault, refused_for}

@@ -1,6 +1,6 @@
 use Rattle.std.proofs.Common.{sym, ap, ◌∙◌}
-use Rattle.wac_merge.specs.Merge.{own_resource}
-use Rattle.wac_merge.proofs.OwnResources.{bound-nowhere, bound-there}
+use Rattle.wac_terms.specs.Merge.{own_resource}
+use Rattle.wac_terms.proofs.OwnResources.{bound-nowhere, bound-there}
 use Rattle.wac_merge.proofs.aggregator.TypeAggregator.resource.Goals as goal
 
 pub returns-in_err-kind : goal.returns-in_err-kind

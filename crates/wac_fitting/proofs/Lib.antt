@@ -1,0 +1,11 @@
+pub mod FittingOwn
+pub mod FittingParts
+pub mod FittingClasses
+pub mod FittingSteps
+pub mod Fitting
+pub mod BecameEndsNames
+pub mod BecameEnds
+pub mod BecameEndsKept
+pub mod MergedBindingsClasses
+pub mod MergedBindings
+pub mod MergedBindingsAgreed

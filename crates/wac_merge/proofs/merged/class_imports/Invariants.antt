@@ -1,8 +1,0 @@
-use Rattle.std.proofs.Common.{take}
-use Rattle.wac_merge.specs.Merge.{import_entries}
-use Rattle.wac_merge.specs.MergedClasses.{AreImports}
-use Rattle.wac_merge.specs.Renaming.{IsExtended}
-use Rattle.wac_merge.proofs.merged.class_imports.Given as goal
-
-abbrev pub invariant-loop-i : goal.invariant-loop-i
-invariant-loop-i l = record { extended : IsExtended l.fn.merged l.merged; imports : AreImports l.types l.merged l.entries l.became.parts.now l.became.bindings.now l.became.fresh.now l.written (take l.i l.order) (import_entries l.imports) }

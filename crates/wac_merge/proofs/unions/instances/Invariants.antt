@@ -1,7 +1,0 @@
-use Rattle.std.proofs.Common.{◌≡◌, map, take}
-use Rattle.wac_merge.specs.Unions.{instances_in}
-use Rattle.wac_merge.specs.UnionSteps.{inside_part}
-use Rattle.wac_merge.proofs.unions.instances.Given as goal
-
-abbrev pub invariant-loop-index : goal.invariant-loop-index
-invariant-loop-index l = l.parts.items ≡ map (inside_part l.union) (instances_in (take l.index l.listed))

@@ -1,0 +1,9 @@
+pub mod Extending
+pub mod RenamingShapes
+pub mod RenamingTrees
+pub mod RenamingLoops
+pub mod RenamingMemo
+pub mod RenamingTasks
+pub mod BecameWalks
+pub mod FreshAdding
+pub mod FreshClasses

@@ -1,0 +1,71 @@
+-- One more definition, or function type, that became another.
+use Rattle.std.proofs.Common.{◌≡◌, Bool, true, false, cond, nat_eq, Some, Result, Ok, Err, OnOk, refl, ap, sym, ◌∙◌, subst}
+use Rattle.std.proofs.lemmas.Bool.{eqb-true}
+use Rattle.std.specs.HashMap.{get}
+use Rattle.std.specs.declared.alloc.AllocError.{AllocError}
+use Rattle.wac_collection.specs.Collection.{Collection, item_at}
+use Rattle.wac_shapes.specs.declared.component.DefinedType.{DefinedType}
+use Rattle.wac_shapes.specs.declared.component.DefinedTypeId.{DefinedTypeId}
+use Rattle.wac_shapes.specs.declared.component.FuncType.{FuncType}
+use Rattle.wac_shapes.specs.declared.component.FuncTypeId.{FuncTypeId}
+use Rattle.wac_shapes.specs.declared.component.ValueType.{ValueType}
+use Rattle.wac_shapes.specs.declared.component.ValueType.TheVariants as val
+use Rattle.wac_shapes.specs.declared.component.«Type».TheVariants as ty
+use Rattle.wac_renaming.specs.RenamedTypes.{AreRenamed, becomes, defined_in, func_in}
+use Rattle.wac_terms.specs.Renaming.{IsRenamed}
+use Rattle.wac_renaming.specs.RenamingSteps.{FieldsGoTogether, GoTogether, HasDefinedToo, HasFuncToo, HaveOneShape, IsDefinedBehind, IsFuncBehind, IsRenamedIn}
+use Rattle.wac_renaming.specs.declared.renamer.Renamed.{Renamed}
+use Rattle.wac_renaming.specs.declared.renamer.Renaming.{Renaming}
+use Rattle.wac_renaming.proofs.Extending.{still_renamed}
+use Rattle.wac_renaming.proofs.RenamingShapes.{fields_more, option_more, shape_more}
+use Rattle.wac_renaming.proofs.RenamingTrees.{AreWhole, defined_renamed, func_renamed}
+
+same_defined : (a b : DefinedTypeId) → nat_eq a.0 b.0 ≡ true → a ≡ b
+same_defined a b e = rw (eqb-true a.0 b.0 e) refl
+
+same_func : (a b : FuncTypeId) → nat_eq a.0 b.0 ≡ true → a ≡ b
+same_func a b e = rw (eqb-true a.0 b.0 e) refl
+
+one_some : {A : Type 0} (a b : A) → Some a ≡ Some b → a ≡ b
+one_some a b e = cc
+
+module _ (s : Renaming) (m : Collection) (old new : Renamed) where
+  module _ (d e : DefinedTypeId) (put : HasDefinedToo old d e new) where
+    split_defined : AreRenamed m s old → IsRenamedIn s m (val.Defined d) (val.Defined e) → (k i : DefinedTypeId) (b : Bool) → nat_eq d.0 k.0 ≡ b → cond b (Some e) (defined_in old k) ≡ Some i → IsRenamedIn s m (val.Defined k) (val.Defined i)
+    split_defined r h k i true same is = subst (λ (x : DefinedTypeId). IsRenamedIn s m (val.Defined x) (val.Defined i)) (same_defined d k same) (subst (λ (x : DefinedTypeId). IsRenamedIn s m (val.Defined d) (val.Defined x)) (one_some e i is) h)
+    split_defined r h k i false same is = r.defined k i is
+
+    defined_right : AreRenamed m s old → IsRenamedIn s m (val.Defined d) (val.Defined e) → AreRenamed m s new
+    defined_right r h = record {
+      defined = λ k i is. split_defined r h k i (nat_eq d.0 k.0) refl (sym (put.defined k) ∙ is);
+      funcs = λ f i is. r.funcs f i (ap (λ x. get (λ a b. nat_eq a.0 b.0) x f) (sym put.funcs) ∙ is);
+    }
+
+  module _ (f g : FuncTypeId) (put : HasFuncToo old f g new) where
+    split_func : AreRenamed m s old → IsRenamed s.types.now m (becomes s) (ty.Func f) (ty.Func g) → (k i : FuncTypeId) (b : Bool) → nat_eq f.0 k.0 ≡ b → cond b (Some g) (func_in old k) ≡ Some i → IsRenamed s.types.now m (becomes s) (ty.Func k) (ty.Func i)
+    split_func r h k i true same is = subst (λ (x : FuncTypeId). IsRenamed s.types.now m (becomes s) (ty.Func x) (ty.Func i)) (same_func f k same) (subst (λ (x : FuncTypeId). IsRenamed s.types.now m (becomes s) (ty.Func f) (ty.Func x)) (one_some g i is) h)
+    split_func r h k i false same is = r.funcs k i is
+
+    pub func_right : AreRenamed m s old → IsRenamed s.types.now m (becomes s) (ty.Func f) (ty.Func g) → AreRenamed m s new
+    func_right r h = record {
+      defined = λ d i is. r.defined d i (ap (λ x. get (λ a b. nat_eq a.0 b.0) x d) (sym put.defined) ∙ is);
+      funcs = λ k i is. split_func r h k i (nat_eq f.0 k.0) refl (sym (put.funcs k) ∙ is);
+    }
+
+  -- where a definition was put
+  pub defined_put : (d e : DefinedTypeId) (r : Result (Unit {0}) AllocError) → OnOk r (HasDefinedToo old d e new) → AreRenamed m s old → IsRenamedIn s m (val.Defined d) (val.Defined e) → OnOk r (AreRenamed m s new)
+  defined_put d e (Ok _) put r h = defined_right d e put r h
+  defined_put d e (Err _) put r h = put
+
+-- ---- what was added behind is what it was made of
+module _ (s : Renaming) (m more : Collection) (wc : AreWhole s.types.now) (wm : AreWhole more) where
+  pub defined_closed : (d e : DefinedTypeId) (x y : DefinedType) → item_at s.types.now.defined d.0 ≡ Some x → IsDefinedBehind m more y e → HaveOneShape (IsRenamedIn s m) x y → IsRenamedIn s more (val.Defined d) (val.Defined e)
+  defined_closed d e x y at behind shape =
+      defined_renamed s.types.now more (becomes s) wc wm d e x y at behind.there
+      (shape_more (IsRenamedIn s m) (IsRenamedIn s more) (λ v w r. still_renamed m more behind.extended s.types.now (becomes s) (ty.Value v) (ty.Value w) r) x y shape)
+
+  pub func_closed : (f g : FuncTypeId) (x y : FuncType) → item_at s.types.now.funcs f.0 ≡ Some x → IsFuncBehind m more y g → FieldsGoTogether (IsRenamedIn s m) x.params y.params → GoTogether (IsRenamedIn s m) x.result y.result → y.is_async ≡ x.is_async
+      → IsRenamed s.types.now more (becomes s) (ty.Func f) (ty.Func g)
+  func_closed f g x y at behind fields result same =
+      let on : (v w : ValueType) → IsRenamedIn s m v w → IsRenamedIn s more v w = λ v w r. still_renamed m more behind.extended s.types.now (becomes s) (ty.Value v) (ty.Value w) r in
+      func_renamed s.types.now more (becomes s) wc wm f g x y at behind.there (fields_more (IsRenamedIn s m) (IsRenamedIn s more) on x.params y.params fields) (option_more (IsRenamedIn s m) (IsRenamedIn s more) on x.result y.result result) same

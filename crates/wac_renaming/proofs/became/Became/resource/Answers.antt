@@ -1,0 +1,52 @@
+use Rattle.std.proofs.Common.{◌≡◌, Some, get_or, sym, ap, ◌∙◌, subst}
+use Rattle.std.proofs.lemmas.Option.{slice_get-get_or}
+use Rattle.wac_terms.specs.Became.{became, new_at, or_itself}
+use Rattle.wac_entries.specs.CalledViews.{path_view}
+use Rattle.wac_entries.specs.Places.{find_resource, place_view}
+use Rattle.wac_terms.specs.Unions.{IsPart}
+use Rattle.wac_renaming.proofs.BecameWalks.{around-bound, around-on, around-past, around-start, itself-or, no-part}
+use Rattle.wac_renaming.proofs.became.Became.resource.Goals as goal
+
+pub outward-init : goal.outward-init
+outward-init c =
+    let b = c.args.self.now in
+    around-start c.args.types.now b.parts.now b.bound.now b.bindings.now b.fresh.now c.requires.bound c.in-Some.start c.resolve_resource-resource.result
+    (subst (IsPart b.parts.now) c.in-Some.is c.requires.within)
+
+pub returns-in-Some-place : goal.returns-in-Some-place
+returns-in-Some-place c =
+    let t = c.args.types.now in
+    let b = c.args.self.now in
+    let r = c.resolve_resource-resource.result in
+    let x = get_or b.parts.now c.outward.position no-part in
+    let found : find_resource c.index-self-position.result r ≡ Some (place_view c.in-Some-place.place.now) = ap (λ y. find_resource y r) c.index-self-position.is ∙ sym c.in-Some-place.ensures in
+    c.unwrap_or.ensures
+    ∙ itself-or c.at.result r
+    ∙ ap (or_itself r) (c.at.ensures ∙ ap (λ path. new_at b.fresh.now x.union (path_view path)) c.as_slice-path.ensures.value)
+    ∙ sym (around-bound t b.parts.now b.bound.now b.bindings.now b.fresh.now c.requires.bound c.in-Some.start c.outward.position r x c.index-self-position.result
+    (slice_get-get_or b.parts.now c.outward.position no-part c.outward.invariant.near) c.index-self-position.is c.outward.invariant c.in-Some-place.place.now found)
+    ∙ (λ i. became t b.parts.now b.bindings.now b.fresh.now (sym c.in-Some.is i) (c.resolve_resource-resource.ensures i))
+
+pub returns-in_default-outer : goal.returns-in_default-outer
+returns-in_default-outer c =
+    let t = c.args.types.now in
+    let b = c.args.self.now in
+    let r = c.resolve_resource-resource.result in
+    let x = get_or b.parts.now c.outward.position no-part in
+    c.in_class.ensures
+    ∙ sym (around-past t b.parts.now b.bound.now b.bindings.now b.fresh.now c.requires.bound c.in-Some.start c.outward.position r x c.index-self-position.result
+    (slice_get-get_or b.parts.now c.outward.position no-part c.outward.invariant.near) c.index-self-position.is c.outward.invariant c.in_default-outer.is (ap (λ y. find_resource y r) c.index-self-position.is ∙ sym c.in_default-place.ensures))
+    ∙ (λ i. became t b.parts.now b.bindings.now b.fresh.now (sym c.in-Some.is i) (c.resolve_resource-resource.ensures i))
+
+pub outward-smaller : goal.outward-smaller
+outward-smaller c =
+    let b = c.args.self.now in
+    c.requires.around c.outward.position c.in-Some-outer.outer (get_or b.parts.now c.outward.position no-part) (slice_get-get_or b.parts.now c.outward.position no-part c.outward.invariant.near) c.in-Some-outer.is
+
+pub outward-preserved : goal.outward-preserved
+outward-preserved c =
+    let b = c.args.self.now in
+    around-on c.args.types.now b.parts.now b.bound.now b.bindings.now b.fresh.now c.requires.bound c.in-Some.start c.outward.position c.resolve_resource-resource.result
+    (get_or b.parts.now c.outward.position no-part) c.index-self-position.result
+    (slice_get-get_or b.parts.now c.outward.position no-part c.outward.invariant.near) c.index-self-position.is c.outward.invariant c.requires.around c.in-Some-outer.outer c.in-Some-outer.is
+    (ap (λ y. find_resource y c.resolve_resource-resource.result) c.index-self-position.is ∙ sym c.in_default-place.ensures)

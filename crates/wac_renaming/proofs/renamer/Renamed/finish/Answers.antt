@@ -1,0 +1,49 @@
+use Rattle.std.proofs.Common.{◌≡◌, ◌<◌, ◌-◌, List, [], ◌++◌, take, ap, sym, ◌∙◌, subst}
+use Rattle.std.specs.List.{AllByRecursion}
+use Rattle.wac_entries.specs.declared.tasks.Task.{Task}
+use Rattle.wac_entries.specs.Tasks.{tasks_weight, IsHeldTask}
+use Rattle.wac_renaming.specs.RenamingSteps.{AreCovered, IsUnderWay}
+use Rattle.wac_entries.proofs.CodingTasks.{all_last}
+use Rattle.wac_renaming.proofs.Extending.{extended_twice, still_can}
+use Rattle.wac_renaming.proofs.RenamingTasks.{all_done, less_to_do, may_be_done, still_under_way, under_way}
+use Rattle.wac_renaming.proofs.renamer.Renamed.finish.Goals as goal
+
+pub loop-task-init : goal.loop-task-init
+loop-task-init c = under_way c.args.renaming.now c.args.merged.now c.args.self.now c.args.tasks.items c.requires.right c.requires.held c.requires.opened
+
+pub perform-requires-clause-held : goal.perform-requires-clause-held
+perform-requires-clause-held c =
+    let s = c.args.renaming.now.types.now in
+    all_last (IsHeldTask s) c.pop.new.self.items c.in-Some.task (subst (λ (ts : List Task). AllByRecursion (IsHeldTask s) ts) c.in-Some.ensures.items c.loop-task.invariant.held)
+
+pub perform-requires-clause-ready : goal.perform-requires-clause-ready
+perform-requires-clause-ready c =
+    let s = c.args.renaming.now.types.now in
+    may_be_done s c.loop-task.self c.pop.new.self.items c.in-Some.task (subst (λ (ts : List Task). AreCovered s c.loop-task.self ts) c.in-Some.ensures.items c.loop-task.invariant.covered)
+
+pub perform-requires-clause-known : goal.perform-requires-clause-known
+perform-requires-clause-known c = still_can c.args.merged.now c.loop-task.merged c.loop-task.invariant.extended c.law-2.ensures c.args.renaming.now c.requires.known
+
+pub loop-task-smaller : goal.loop-task-smaller
+loop-task-smaller c =
+    let s = c.args.renaming.now.types.now in
+    subst (λ (ts : List Task). tasks_weight s c.perform.new.tasks.items < tasks_weight s ts) (sym c.in-Some.ensures.items)
+    (less_to_do s c.law.ensures c.in-Some.task c.loop-task.self c.perform.new.self c.pop.new.self.items c.perform.new.tasks.items c.in_ok-perform.ensures.did)
+
+pub loop-task-preserved : goal.loop-task-preserved
+loop-task-preserved c =
+    let s = c.args.renaming.now in
+    still_under_way s c.law.ensures c.args.merged.now c.args.tasks.items c.in-Some.task c.loop-task.merged c.perform.new.merged c.loop-task.self c.perform.new.self c.pop.new.self.items c.perform.new.tasks.items
+    (subst (λ (ts : List Task). IsUnderWay s c.args.merged.now c.args.tasks.items c.loop-task.merged c.loop-task.self ts) c.in-Some.ensures.items c.loop-task.invariant)
+    c.perform.ensures.extended c.in_ok-perform.ensures.right c.in_ok-perform.ensures.did
+
+pub returns-in_err-perform-clause-extended : goal.returns-in_err-perform-clause-extended
+returns-in_err-perform-clause-extended c = extended_twice c.args.merged.now c.loop-task.merged c.perform.new.merged c.loop-task.invariant.extended c.perform.ensures.extended
+
+pub returns-clause-done : goal.returns-clause-done
+returns-clause-done c =
+    let s = c.args.renaming.now in
+    let rest : c.pop.new.self.items ≡ [] = c.in_default.ensures.rest ∙ ap (λ k. take (k - 1) c.loop-task.tasks.items) c.in_default.ensures.cases.0 in
+    let none : c.loop-task.tasks.items ≡ [] = c.in_default.ensures.items ∙ ap (λ (ts : List Task). ts ++ []) rest in
+    all_done s c.args.merged.now c.loop-task.merged c.args.tasks.items c.loop-task.self
+    (subst (λ (ts : List Task). IsUnderWay s c.args.merged.now c.args.tasks.items c.loop-task.merged c.loop-task.self ts) none c.loop-task.invariant)

@@ -1,0 +1,89 @@
+use Rattle.std.proofs.Common.{◌≡◌, List, refl, true, sym, ◌∙◌, subst}
+use Rattle.std.specs.List.{AllByRecursion}
+use Rattle.wac_collection.specs.Collection.{func_values, holds_value, seconds}
+use Rattle.wac_shapes.specs.declared.component.FuncType.{FuncType}
+use Rattle.wac_entries.specs.declared.tasks.Task.{Task}
+use Rattle.wac_entries.specs.Tasks.{IsHeldTask, IsOpening}
+use Rattle.wac_renaming.specs.RenamedTypes.{becomes}
+use Rattle.wac_renaming.specs.RenamingSteps.{IsDone, IsReady}
+use Rattle.wac_entries.proofs.CodingOpenings.{first_of, openings_two, rest_of}
+use Rattle.wac_entries.proofs.CodingTasks.{all_openings, func_held, func_values_hold}
+use Rattle.wac_renaming.proofs.Extending.{extended_none, extended_twice, still_all_renamed, still_can}
+use Rattle.wac_renaming.proofs.RenamingMemo.{func_closed, func_right}
+use Rattle.wac_renaming.proofs.RenamingTasks.{ready_values}
+use Rattle.wac_renaming.proofs.RenamingTrees as trees
+use Rattle.wac_renaming.proofs.renamer.Renamed.func.Goals as goal
+
+pub returns-in-Some-clause-extended : goal.returns-in-Some-clause-extended
+returns-in-Some-clause-extended c = extended_none c.args.merged.now
+
+pub returns-in-Some-clause-func : goal.returns-in-Some-clause-func
+returns-in-Some-clause-func c = c.requires.right.funcs c.args.id c.in-Some.became (sym c.func_type.ensures ∙ c.in-Some.is)
+
+pub finish-requires-clause-held : goal.finish-requires-clause-held
+finish-requires-clause-held c =
+    let x = c.index-func.result.now in
+    let is = openings_two x.result (seconds x.params) c.new-tasks.result.items c.open_optional.new.tasks.items c.open_fields.new.tasks.items c.new-tasks.ensures.items c.in_ok-open_optional.ensures c.in_ok-open_fields.ensures in
+    subst (λ (ts : List Task). AllByRecursion (IsHeldTask c.args.renaming.now.types.now) ts) (sym is) (func_held c.args.renaming.now.types.now c.law.ensures c.args.id x c.index-func.ensures)
+
+pub finish-requires-clause-opened : goal.finish-requires-clause-opened
+finish-requires-clause-opened c =
+    let x = c.index-func.result.now in
+    let is = openings_two x.result (seconds x.params) c.new-tasks.result.items c.open_optional.new.tasks.items c.open_fields.new.tasks.items c.new-tasks.ensures.items c.in_ok-open_optional.ensures c.in_ok-open_fields.ensures in
+    subst (λ (ts : List Task). AllByRecursion IsOpening ts) (sym is) (all_openings c.args.renaming.now.types.now (func_values x))
+
+pub fields-requires-clause-held : goal.fields-requires-clause-held
+fields-requires-clause-held c =
+    let s = c.args.renaming.now.types.now in
+    let x = c.index-func.result.now in
+    rest_of (λ v. holds_value s v ≡ true) x.result (seconds x.params) (func_values_hold s c.law.ensures c.args.id x c.index-func.ensures)
+
+pub fields-requires-clause-ready : goal.fields-requires-clause-ready
+fields-requires-clause-ready c =
+    let x = c.index-func.result.now in
+    let memo = c.finish.new.self in
+    let is = openings_two x.result (seconds x.params) c.new-tasks.result.items c.open_optional.new.tasks.items c.open_fields.new.tasks.items c.new-tasks.ensures.items c.in_ok-open_optional.ensures c.in_ok-open_fields.ensures in
+    rest_of (IsReady memo) x.result (seconds x.params) (ready_values memo (func_values x) (subst (λ (ts : List Task). AllByRecursion (IsDone memo) ts) is c.in_ok-finish.ensures.done))
+
+pub fields-requires-clause-known : goal.fields-requires-clause-known
+fields-requires-clause-known c = still_can c.args.merged.now c.finish.new.merged c.finish.ensures.extended c.law-2.ensures c.args.renaming.now c.requires.known
+
+pub optional-requires-clause-held : goal.optional-requires-clause-held
+optional-requires-clause-held c =
+    let s = c.args.renaming.now.types.now in
+    let x = c.index-func.result.now in
+    first_of (λ v. holds_value s v ≡ true) x.result (seconds x.params) (func_values_hold s c.law.ensures c.args.id x c.index-func.ensures)
+
+pub optional-requires-clause-known : goal.optional-requires-clause-known
+optional-requires-clause-known c = still_can c.args.merged.now c.finish.new.merged c.finish.ensures.extended c.law-2.ensures c.args.renaming.now c.requires.known
+
+pub add_func-requires : goal.add_func-requires
+add_func-requires c =
+    let s = c.args.renaming.now in
+    let x = c.index-func.result.now in
+    let y : FuncType = record { params = c.in_ok-fields.field-0; result = c.optional.result; is_async = x.is_async } in
+    record { held = trees.func_held s.types.now c.finish.new.merged (becomes s) x y c.in_ok-fields.ensures c.optional.ensures }
+
+pub returns-in_err-became-clause-extended : goal.returns-in_err-became-clause-extended
+returns-in_err-became-clause-extended c = extended_twice c.args.merged.now c.finish.new.merged c.add_func.new.merged c.finish.ensures.extended c.add_func.ensures.extended
+
+pub returns-in_err-put_func-clause-extended : goal.returns-in_err-put_func-clause-extended
+returns-in_err-put_func-clause-extended c = extended_twice c.args.merged.now c.finish.new.merged c.add_func.new.merged c.finish.ensures.extended c.add_func.ensures.extended
+
+pub returns-clause-extended : goal.returns-clause-extended
+returns-clause-extended c = extended_twice c.args.merged.now c.finish.new.merged c.add_func.new.merged c.finish.ensures.extended c.add_func.ensures.extended
+
+pub returns-clause-func : goal.returns-clause-func
+returns-clause-func c =
+    let s = c.args.renaming.now in
+    let x = c.index-func.result.now in
+    let y : FuncType = record { params = c.in_ok-fields.field-0; result = c.optional.result; is_async = x.is_async } in
+    func_closed s c.finish.new.merged c.add_func.new.merged (record { named = c.trees_are_whole.ensures.named; placed = c.trees_are_whole.ensures.placed }) (record { named = c.trees_are_whole-2.ensures.named; placed = c.trees_are_whole-2.ensures.placed })
+    c.args.id c.in_ok-became.became x y c.index-func.ensures c.in_ok-became.ensures.added c.in_ok-fields.ensures c.optional.ensures refl
+
+pub returns-clause-right : goal.returns-clause-right
+returns-clause-right c =
+    let s = c.args.renaming.now in
+    let m = c.finish.new.merged in
+    let more = c.add_func.new.merged in
+    func_right s more c.finish.new.self c.put_func.new.self c.args.id c.in_ok-became.became c.in_ok-put_func.ensures (still_all_renamed m more c.add_func.ensures.extended s c.finish.new.self c.in_ok-finish.ensures.right) (returns-clause-func c)

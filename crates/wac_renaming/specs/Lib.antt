@@ -1,0 +1,3 @@
+pub mod FreshSteps
+pub mod RenamedTypes
+pub mod RenamingSteps

@@ -1,0 +1,46 @@
+-- Types while they are renamed, and what they became. Private functions alone cite this.
+use Rattle.std.specs.Prelude.{ℕ, ◌≡◌, nat_eq, Option, Some}
+use Rattle.std.specs.HashMap.{get}
+use Rattle.wac_collection.specs.Collection.{Collection}
+use Rattle.wac_shapes.specs.declared.component.ResourceId.{ResourceId}
+use Rattle.wac_shapes.specs.declared.component.DefinedTypeId.{DefinedTypeId}
+use Rattle.wac_shapes.specs.declared.component.FuncTypeId.{FuncTypeId}
+use Rattle.wac_shapes.specs.declared.component.«Type».TheVariants as ty
+use Rattle.wac_shapes.specs.declared.component.ValueType.TheVariants as val
+use Rattle.wac_terms.specs.Unions.{AreAround, IsPart}
+use Rattle.wac_terms.specs.Became.{AreBoundParts, became}
+use Rattle.wac_renaming.specs.declared.became.Became.{Became}
+use Rattle.wac_renaming.specs.declared.renamer.Renamed.{Renamed}
+use Rattle.wac_renaming.specs.declared.renamer.Renaming.{Renaming}
+use Rattle.wac_terms.specs.Renaming.{AreEnds, IsExtended, IsRenamed}
+
+-- what a resource at the end of its aliases becomes where types are renamed
+abbrev pub becomes : Renaming → ResourceId → ResourceId
+becomes s = became s.types.now s.became.now.parts.now s.became.now.bindings.now s.became.now.fresh.now s.part
+
+-- the collection begins with that of the types to be renamed, and holds what their resources become; the parts are as they should be
+pub record CanRename (m : Collection) (s : Renaming) : Type 0 where
+  pub extended : IsExtended s.types.now m
+  pub ends : AreEnds s.types.now m (becomes s)
+  pub bound : AreBoundParts s.types.now s.became.now.parts.now s.became.now.bound.now
+  pub around : AreAround s.became.now.parts.now
+  pub within : IsPart s.became.now.parts.now s.part
+
+-- so it is in each part, and outside of all
+pub record CanRenameAll (m c : Collection) (b : Became) : Type 0 where
+  pub extended : IsExtended c m
+  pub ends : (part : Option ℕ) → IsPart b.parts.now part → AreEnds c m (became c b.parts.now b.bindings.now b.fresh.now part)
+  pub bound : AreBoundParts c b.parts.now b.bound.now
+  pub around : AreAround b.parts.now
+
+-- what definitions and function types became
+abbrev pub defined_in : Renamed → DefinedTypeId → Option DefinedTypeId
+defined_in memo d = get (λ a b. nat_eq a.0 b.0) memo.defined d
+
+abbrev pub func_in : Renamed → FuncTypeId → Option FuncTypeId
+func_in memo f = get (λ a b. nat_eq a.0 b.0) memo.funcs f
+
+-- all that became something was renamed
+pub record AreRenamed (m : Collection) (s : Renaming) (memo : Renamed) : Type 0 where
+  pub defined : (d e : DefinedTypeId) → defined_in memo d ≡ Some e → IsRenamed s.types.now m (becomes s) (ty.Value (val.Defined d)) (ty.Value (val.Defined e))
+  pub funcs : (f g : FuncTypeId) → func_in memo f ≡ Some g → IsRenamed s.types.now m (becomes s) (ty.Func f) (ty.Func g)

@@ -1,0 +1,129 @@
+-- The steps in which types are renamed. Private functions alone cite this.
+use Rattle.std.specs.Prelude.{ℕ, ◌≡◌, ◌++◌, ◌⊎◌, cond, nat_eq, List, ◌∷◌, [], Option, Some, None, IsSome}
+use Rattle.std.specs.List.{AllByRecursion, AllZip}
+use Rattle.wac_shapes.specs.Name.{Name}
+use Rattle.wac_collection.specs.Collection.{Collection, item_at}
+use Rattle.wac_shapes.specs.declared.component.DefinedType.{DefinedType}
+use Rattle.wac_shapes.specs.declared.component.DefinedType.TheVariants as def
+use Rattle.wac_shapes.specs.declared.component.DefinedTypeId.{DefinedTypeId}
+use Rattle.wac_shapes.specs.declared.component.Enum.{Enum}
+use Rattle.wac_shapes.specs.declared.component.Flags.{Flags}
+use Rattle.wac_shapes.specs.declared.component.FuncType.{FuncType}
+use Rattle.wac_shapes.specs.declared.component.FuncTypeId.{FuncTypeId}
+use Rattle.wac_shapes.specs.declared.component.Record.{Record}
+use Rattle.wac_shapes.specs.declared.component.ResourceId.{ResourceId}
+use Rattle.wac_shapes.specs.declared.component.ValueType.{ValueType}
+use Rattle.wac_shapes.specs.declared.component.ValueType.TheVariants as val
+use Rattle.wac_shapes.specs.declared.component.Variant.{Variant}
+use Rattle.wac_shapes.specs.declared.component.«Type».TheVariants as ty
+use Rattle.wac_entries.specs.Coding.{HasTask}
+use Rattle.wac_renaming.specs.RenamedTypes.{AreRenamed, becomes, defined_in, func_in}
+use Rattle.wac_terms.specs.Renaming.{IsExtended, IsRenamed}
+use Rattle.wac_entries.specs.Tasks.{task_id, parts_of, openings, IsHeldTask}
+use Rattle.wac_renaming.specs.declared.renamer.Renamed.{Renamed}
+use Rattle.wac_renaming.specs.declared.renamer.Renaming.{Renaming}
+use Rattle.wac_entries.specs.declared.tasks.Task.{Task}
+use Rattle.wac_entries.specs.declared.tasks.Task.TheVariants.{Open, Close}
+
+-- a value type became one of the second collection
+abbrev pub IsRenamedValue : Collection → Collection → (ResourceId → ResourceId) → ValueType → ValueType → Type 0
+IsRenamedValue c m f v w = IsRenamed c m f (ty.Value v) (ty.Value w)
+
+-- so it does in a renaming, where the collection is this
+abbrev pub IsRenamedIn : Renaming → Collection → ValueType → ValueType → Type 0
+IsRenamedIn s m = IsRenamedValue s.types.now m (becomes s)
+
+-- with one more definition, or function type, that became another
+pub record HasDefinedToo (old : Renamed) (d e : DefinedTypeId) (new : Renamed) : Type 0 where
+  pub defined : (k : DefinedTypeId) → defined_in new k ≡ cond (nat_eq d.0 k.0) (Some e) (defined_in old k)
+  pub funcs : new.funcs ≡ old.funcs
+
+pub record HasFuncToo (old : Renamed) (f g : FuncTypeId) (new : Renamed) : Type 0 where
+  pub funcs : (k : FuncTypeId) → func_in new k ≡ cond (nat_eq f.0 k.0) (Some g) (func_in old k)
+  pub defined : new.defined ≡ old.defined
+
+-- optional value types that go together
+abbrev pub GoTogether : (ValueType → ValueType → Type 0) → Option ValueType → Option ValueType → Type 0
+GoTogether R None None = Unit {0}
+GoTogether R (Some v) (Some w) = R v w
+GoTogether R _ _ = ⊥
+
+-- fields, and cases, of the same names, whose value types go together
+abbrev pub FieldsGoTogether : (ValueType → ValueType → Type 0) → List (Name × ValueType) → List (Name × ValueType) → Type 0
+FieldsGoTogether R = AllZip (λ e f. (f.0 ≡ e.0) × R e.1 f.1)
+
+abbrev pub CasesGoTogether : (ValueType → ValueType → Type 0) → List (Name × Option ValueType) → List (Name × Option ValueType) → Type 0
+CasesGoTogether R = AllZip (λ e f. (f.0 ≡ e.0) × GoTogether R e.1 f.1)
+
+-- definitions of one shape, whose value types go together
+pub data HaveOneShape (R : ValueType → ValueType → Type 0) (d e : DefinedType) : Type 0 where
+  tuples : (vs ws : List ValueType) → d ≡ def.Tuple vs → e ≡ def.Tuple ws → AllZip R vs ws → HaveOneShape R d e
+  lists : (v w : ValueType) → d ≡ def.List v → e ≡ def.List w → R v w → HaveOneShape R d e
+  fixed_lists : (v w : ValueType) (n : ℕ) → d ≡ def.FixedSizeList v n → e ≡ def.FixedSizeList w n → R v w → HaveOneShape R d e
+  options : (v w : ValueType) → d ≡ def.Option v → e ≡ def.Option w → R v w → HaveOneShape R d e
+  results : (v w p q : Option ValueType) → d ≡ def.Result v p → e ≡ def.Result w q → GoTogether R v w → GoTogether R p q → HaveOneShape R d e
+  variants : (x y : Variant) → d ≡ def.Variant x → e ≡ def.Variant y → CasesGoTogether R x.cases y.cases → HaveOneShape R d e
+  records : (x y : Record) → d ≡ def.Record x → e ≡ def.Record y → FieldsGoTogether R x.fields y.fields → HaveOneShape R d e
+  flags : (x y : Flags) → d ≡ def.Flags x → e ≡ def.Flags y → y.0 ≡ x.0 → HaveOneShape R d e
+  enums : (x y : Enum) → d ≡ def.Enum x → e ≡ def.Enum y → y.0 ≡ x.0 → HaveOneShape R d e
+  aliases : (v w : ValueType) → d ≡ def.Alias v → e ≡ def.Alias w → R v w → HaveOneShape R d e
+  streams : (v w : Option ValueType) → d ≡ def.Stream v → e ≡ def.Stream w → GoTogether R v w → HaveOneShape R d e
+  futures : (v w : Option ValueType) → d ≡ def.Future v → e ≡ def.Future w → GoTogether R v w → HaveOneShape R d e
+
+-- a definition, and a function type, that was put behind what is there
+pub record IsDefinedBehind (c m : Collection) (d : DefinedType) (id : DefinedTypeId) : Type 0 where
+  pub extended : IsExtended c m
+  pub there : item_at m.defined id.0 ≡ Some d
+
+pub record IsFuncBehind (c m : Collection) (f : FuncType) (id : FuncTypeId) : Type 0 where
+  pub extended : IsExtended c m
+  pub there : item_at m.funcs id.0 ≡ Some f
+
+-- what became something still did
+pub record IsMore (old new : Renamed) : Type 0 where
+  pub defined : (d : DefinedTypeId) → IsSome (defined_in old d) → IsSome (defined_in new d)
+
+-- a value type became something, where it is a definition
+abbrev pub IsReady : Renamed → ValueType → Type 0
+IsReady memo (val.Primitive p) = Unit {0}
+IsReady memo (val.Own r) = Unit {0}
+IsReady memo (val.Borrow r) = Unit {0}
+IsReady memo (val.Defined d) = IsSome (defined_in memo d)
+
+abbrev pub AreReady : Renamed → List ValueType → Type 0
+AreReady memo vs = AllByRecursion (IsReady memo) vs
+
+-- the definition of a task became something
+abbrev pub IsDone : Renamed → Task → Type 0
+IsDone memo t = IsSome (defined_in memo (task_id t))
+
+-- to be closed a definition needs its parts renamed
+abbrev pub MayBeDone : Collection → Renamed → Task → Type 0
+MayBeDone c memo (Open d) = Unit {0}
+MayBeDone c memo (Close d) = AreReady memo (parts_of c d)
+
+-- a task was done: its definition became something, or its parts come first
+pub data Did (c : Collection) (t : Task) (old new : Renamed) (left now : List Task) : Type 0 where
+  renamed : IsMore old new → IsDone new t → now ≡ left → Did c t old new left now
+  put_off : (d : DefinedTypeId) → t ≡ Open d → new ≡ old → now ≡ left ++ Close d ∷ openings (parts_of c d) → Did c t old new left now
+
+-- a value type became something, or its definition waits
+abbrev pub IsAwaited : Renamed → List Task → ValueType → Type 0
+IsAwaited memo ts (val.Primitive p) = Unit {0}
+IsAwaited memo ts (val.Own r) = Unit {0}
+IsAwaited memo ts (val.Borrow r) = Unit {0}
+IsAwaited memo ts (val.Defined d) = IsSome (defined_in memo d) ⊎ HasTask d ts
+
+-- the parts of what is to be closed became something, or wait above it
+abbrev pub AreCovered : Collection → Renamed → List Task → Type 0
+AreCovered c memo [] = Unit {0}
+AreCovered c memo (Open d ∷ ts) = AreCovered c memo ts
+AreCovered c memo (Close d ∷ ts) = AllByRecursion (IsAwaited memo ts) (parts_of c d) × AreCovered c memo ts
+
+-- while tasks are done: what is wanted became something or waits
+pub record IsUnderWay (s : Renaming) (first : Collection) (wanted : List Task) (m : Collection) (memo : Renamed) (tasks : List Task) : Type 0 where
+  pub extended : IsExtended first m
+  pub right : AreRenamed m s memo
+  pub held : AllByRecursion (IsHeldTask s.types.now) tasks
+  pub covered : AreCovered s.types.now memo tasks
+  pub awaited : AllByRecursion (λ w. IsAwaited memo tasks (val.Defined (task_id w))) wanted

@@ -1,0 +1,87 @@
+//! What resources become in a merged collection.
+ghost use Rattle.std.specs.Prelude.{◌≡◌, ℕ, IfOk, Some, slice_get};
+ghost use Rattle.wac_collection.specs.Collection.{HasInterface};
+ghost use Rattle.wac_collection.specs.Held.{resolved};
+ghost use Rattle.wac_terms.specs.Became.{AreBoundParts, became, became_in_class, became_outside};
+ghost use Rattle.wac_terms.specs.Unions.{AreAround, IsPart};
+ghost use Rattle.wac_terms.specs.declared.parts.Part.{Part as APart};
+
+use std::alloc::{AllocError, Global};
+use wac_entries::bindings::Bindings;
+use wac_entries::bound::Bound;
+use wac_entries::scopes::Opener;
+use wac_terms::fresh::Fresh;
+use wac_terms::parts::Part;
+use wac_types::{ResourceId, Types};
+
+/// What the interface of each part binds.
+pub fn part_bounds(alloc: Global, types: &Types, parts: &[Part]) -> Result<Vec<Bound>, AllocError>
+    requires { (p : ℕ) (x : APart) → slice_get parts.now p ≡ Some x → HasInterface types.now x.interface }
+    ensures { IfOk result (λ b. AreBoundParts types.now parts.now b.items) }
+{
+    let mut bounds = Vec::new(alloc);
+    for p in 0..parts.len() {
+        bounds.push(Bound::of(alloc, types, Opener::Interface(parts[p].interface))?)?;
+    }
+    Ok(bounds)
+}
+
+/// What resources become in the parts of unions.
+#[derive(Clone, Copy)]
+pub struct Became<'a> {
+    /// The parts.
+    pub parts: &'a [Part],
+    /// What the interface of each binds.
+    pub bound: &'a [Bound],
+    /// What the classes bind.
+    pub bindings: &'a Bindings,
+    /// The new resources.
+    pub fresh: &'a Fresh,
+}
+
+impl<'a> Became<'a> {
+    /// What a resource that is no alias becomes outside of all parts.
+    fn outside(&self, resource: ResourceId) -> ResourceId
+        ensures { result ≡ became_outside self.now.bindings.now self.now.fresh.now resource }
+    {
+        match self.bindings.first(resource) {
+            Some((class, path)) => self.fresh.at(class, path).unwrap_or(resource),
+            None => resource,
+        }
+    }
+
+    /// What it becomes around the outermost parts of a class.
+    fn in_class(&self, class: usize, resource: ResourceId) -> ResourceId
+        ensures { result ≡ became_in_class self.now.bindings.now self.now.fresh.now class resource }
+    {
+        match self.bindings.path(class, resource) {
+            Some(path) => self.fresh.at(class, path).unwrap_or(resource),
+            None => self.outside(resource),
+        }
+    }
+
+    /// What a resource becomes in a part; outside of all where there is none.
+    pub fn resource(&self, types: &Types, part: Option<usize>, resource: ResourceId) -> ResourceId
+        requires bound { AreBoundParts types.now self.now.parts.now self.now.bound.now }
+        requires around { AreAround self.now.parts.now }
+        requires within { IsPart self.now.parts.now part }
+        ensures { result ≡ became types.now self.now.parts.now self.now.bindings.now self.now.fresh.now part (resolved types.now resource) }
+    {
+        let resource = types.resolve_resource(resource);
+        let Some(start) = part else {
+            return self.outside(resource);
+        };
+        let mut position = start;
+        'outward: loop {
+            let inner = self.parts[position];
+            if let Some(place) = self.bound[position].place(resource) {
+                let path = place.path.as_slice();
+                return self.fresh.at(inner.union, path).unwrap_or(resource);
+            }
+            let Some(outer) = inner.outer else {
+                return self.in_class(inner.union, resource);
+            };
+            position = outer;
+        }
+    }
+}

@@ -1,0 +1,461 @@
+//! Types of a collection whose resources become others, in a collection that begins with it.
+//!
+//! A definition whose parts are not renamed yet waits in a list of tasks, below its parts, so that no chain of definitions is
+//! too long. Each is opened once and renamed once.
+ghost use Rattle.std.specs.Prelude.{◌≡◌, ◌++◌, ◌∷◌, [], true, None, IfOk, OnOk};
+ghost use Rattle.std.specs.List.{AllByRecursion, AllZip};
+ghost use Rattle.wac_collection.specs.Collection.{Collection, HasDefined, HasFunc, and_maybe, case_values, defined_values, func_values, holds_value, seconds};
+ghost use Rattle.wac_collection.specs.Held.{resolved};
+ghost use Rattle.wac_shapes.specs.Name.{find_name};
+ghost use Rattle.wac_collection.specs.declared.collection.AddTypeError.TheVariants.{OutOfMemory};
+ghost use Rattle.wac_shapes.specs.declared.component.ValueType.TheVariants as val;
+ghost use Rattle.wac_shapes.specs.declared.component.«Type».TheVariants as ty;
+ghost use Rattle.wac_terms.specs.Became.{AreBoundParts};
+ghost use Rattle.wac_entries.specs.Coding.{AreHeldValues};
+ghost use Rattle.wac_renaming.specs.RenamedTypes.{AreRenamed, CanRename, becomes, defined_in, func_in};
+ghost use Rattle.wac_terms.specs.Renaming.{IsExtended, IsRenamed};
+ghost use Rattle.wac_renaming.specs.RenamingSteps.{AreReady, CasesGoTogether, Did, FieldsGoTogether, GoTogether, HasDefinedToo, HasFuncToo, HaveOneShape, IsDefinedBehind, IsDone, IsFuncBehind, IsMore, IsReady, IsRenamedIn, MayBeDone};
+ghost use Rattle.wac_entries.specs.Tasks.{IsHeldTask, IsOpening, parts_of};
+ghost use Rattle.wac_terms.specs.Unions.{AreAround, IsPart};
+ghost use Rattle.wac_renaming.specs.declared.renamer.Renaming.{Renaming as ARenaming};
+
+use crate::became::Became;
+use std::alloc::{AllocError, Global};
+use std::collections::HashMap;
+use wac_entries::tasks::{Task, open_fields, open_optional, open_parts, open_value};
+use wac_types::laws::{growth_keeps_trees, trees_are_whole};
+use wac_types::{
+    AddTypeError, DefinedType, DefinedTypeId, Enum, Flags, FuncType, FuncTypeId, Labels, Named,
+    Record, ResourceId, ShapeError, Types, ValueType, Variant,
+};
+
+/// Where types are renamed: the collection that they are of, what its resources become, and in which part.
+#[derive(Clone, Copy)]
+pub struct Renaming<'a> {
+    /// For the memory.
+    pub alloc: Global,
+    /// The collection.
+    pub types: &'a Types,
+    /// What its resources become.
+    pub became: &'a Became<'a>,
+    /// The part; none outside of all.
+    pub part: Option<usize>,
+}
+
+impl<'a> Renaming<'a> {
+    /// What a resource becomes.
+    pub fn resource(&self, id: ResourceId) -> ResourceId
+        requires bound { AreBoundParts self.now.types.now self.now.became.now.parts.now self.now.became.now.bound.now }
+        requires around { AreAround self.now.became.now.parts.now }
+        requires within { IsPart self.now.became.now.parts.now self.now.part }
+        ensures { result ≡ becomes self.now (resolved self.now.types.now id) }
+    {
+        self.became.resource(self.types, self.part, id)
+    }
+}
+
+/// What definitions and function types became.
+#[derive(Drop)]
+pub struct Renamed {
+    defined: HashMap<DefinedTypeId, DefinedTypeId>,
+    funcs: HashMap<FuncTypeId, FuncTypeId>,
+}
+
+/// Puts a value under a name that is not there, behind the others.
+fn put<V: Drop>(alloc: Global, named: &mut Named<V>, name: &str, value: V) -> Result<(), AllocError>
+    requires { find_name named.old name.now ≡ None }
+    ensures { OnOk result (named.new ≡ named.old ++ (name.now, value) ∷ []) }
+{
+    match named.insert(alloc, name, value) {
+        Ok(()) => Ok(()),
+        Err(ShapeError::NameTwice) => unreachable!(),
+        Err(ShapeError::OutOfMemory) => Err(AllocError),
+    }
+}
+
+/// Names in order, in memory of their own.
+fn copied(alloc: Global, labels: &Labels) -> Result<Labels, AllocError>
+    ensures { IfOk result (λ l. l ≡ labels.now) }
+{
+    let mut names = Vec::new(alloc);
+    for i in 0..labels.len() {
+        names.push(labels.name_at(i))?;
+    }
+    labels.law();
+    match Labels::new(alloc, names.as_slice()) {
+        Ok(copy) => Ok(copy),
+        Err(ShapeError::NameTwice) => unreachable!(),
+        Err(ShapeError::OutOfMemory) => Err(AllocError),
+    }
+}
+
+/// An error of an adder, where nothing stands against what it adds: memory ran out.
+fn out_of_memory(fault: AddTypeError) -> AllocError
+    requires { fault ≡ OutOfMemory }
+{
+    let AddTypeError::OutOfMemory = fault else {
+        unreachable!()
+    };
+    AllocError
+}
+
+/// Adds a definition whose values are held.
+fn add_defined(merged: &mut Types, definition: DefinedType) -> Result<DefinedTypeId, AllocError>
+    requires held { AreHeldValues merged.old (defined_values definition) }
+    ensures extended { IsExtended merged.old merged.new }
+    ensures added { IfOk result (λ id. IsDefinedBehind merged.old merged.new definition id) }
+{
+    growth_keeps_trees(merged);
+    match merged.add_defined_type(definition) {
+        Ok(id) => Ok(id),
+        Err(fault) => Err(out_of_memory(fault)),
+    }
+}
+
+/// Adds a function type whose values are held.
+fn add_func(merged: &mut Types, func: FuncType) -> Result<FuncTypeId, AllocError>
+    requires held { AreHeldValues merged.old (func_values func) }
+    ensures extended { IsExtended merged.old merged.new }
+    ensures added { IfOk result (λ id. IsFuncBehind merged.old merged.new func id) }
+{
+    growth_keeps_trees(merged);
+    match merged.add_func_type(func) {
+        Ok(id) => Ok(id),
+        Err(fault) => Err(out_of_memory(fault)),
+    }
+}
+
+impl Renamed {
+    /// Nothing became another yet.
+    pub fn new(alloc: Global) -> Renamed
+        ensures right { (m : Collection) (s : ARenaming) → AreRenamed m s result }
+    {
+        Renamed {
+            defined: HashMap::new(alloc),
+            funcs: HashMap::new(alloc),
+        }
+    }
+
+    /// What a definition became.
+    fn defined(&self, id: DefinedTypeId) -> Option<DefinedTypeId>
+        ensures { result ≡ defined_in self.now id }
+    {
+        self.defined.get(&id).copied()
+    }
+
+    /// What a function type became.
+    fn func_type(&self, id: FuncTypeId) -> Option<FuncTypeId>
+        ensures { result ≡ func_in self.now id }
+    {
+        self.funcs.get(&id).copied()
+    }
+
+    /// A definition became another.
+    fn put_defined(&mut self, id: DefinedTypeId, became: DefinedTypeId) -> Result<(), AllocError>
+        ensures { OnOk result (HasDefinedToo self.old id became self.new) }
+    {
+        match self.defined.insert(id, became) {
+            Ok(_) => Ok(()),
+            Err(_) => Err(AllocError),
+        }
+    }
+
+    /// A function type became another.
+    fn put_func(&mut self, id: FuncTypeId, became: FuncTypeId) -> Result<(), AllocError>
+        ensures { OnOk result (HasFuncToo self.old id became self.new) }
+    {
+        match self.funcs.insert(id, became) {
+            Ok(_) => Ok(()),
+            Err(_) => Err(AllocError),
+        }
+    }
+
+    /// What a value type becomes, where its definition became something if it has one.
+    fn part(&self, merged: &Types, renaming: &Renaming<'_>, value: ValueType) -> ValueType
+        requires held { holds_value renaming.now.types.now value ≡ true }
+        requires ready { IsReady self.now value }
+        requires known { CanRename merged.now renaming.now }
+        requires right { AreRenamed merged.now renaming.now self.now }
+        ensures { IsRenamedIn renaming.now merged.now value result }
+    {
+        let _ = merged;
+        match value {
+            ValueType::Primitive(_) => value,
+            ValueType::Own(id) => ValueType::Own(renaming.resource(id)),
+            ValueType::Borrow(id) => ValueType::Borrow(renaming.resource(id)),
+            ValueType::Defined(id) => ValueType::Defined(self.defined(id).unwrap()),
+        }
+    }
+
+    /// What an optional value type becomes.
+    fn optional(
+        &self,
+        merged: &Types,
+        renaming: &Renaming<'_>,
+        value: Option<ValueType>,
+    ) -> Option<ValueType>
+        requires held { AreHeldValues renaming.now.types.now (and_maybe value []) }
+        requires ready { AreReady self.now (and_maybe value []) }
+        requires known { CanRename merged.now renaming.now }
+        requires right { AreRenamed merged.now renaming.now self.now }
+        ensures { GoTogether (IsRenamedIn renaming.now merged.now) value result }
+    {
+        match value {
+            Some(value) => Some(self.part(merged, renaming, value)),
+            None => None,
+        }
+    }
+
+    /// What values become, in order.
+    fn parts(
+        &self,
+        merged: &Types,
+        renaming: &Renaming<'_>,
+        values: &[ValueType],
+    ) -> Result<Vec<ValueType>, AllocError>
+        requires held { AreHeldValues renaming.now.types.now values.now }
+        requires ready { AreReady self.now values.now }
+        requires known { CanRename merged.now renaming.now }
+        requires right { AreRenamed merged.now renaming.now self.now }
+        ensures { IfOk result (λ ws. AllZip (IsRenamedIn renaming.now merged.now) values.now ws.items) }
+    {
+        let mut renamed = Vec::new(renaming.alloc);
+        for i in 0..values.len() {
+            renamed.push(self.part(merged, renaming, values[i]))?;
+        }
+        Ok(renamed)
+    }
+
+    /// What fields or parameters become, under their names.
+    fn fields(
+        &self,
+        merged: &Types,
+        renaming: &Renaming<'_>,
+        fields: &Named<ValueType>,
+    ) -> Result<Named<ValueType>, AllocError>
+        requires held { AreHeldValues renaming.now.types.now (seconds fields.now) }
+        requires ready { AreReady self.now (seconds fields.now) }
+        requires known { CanRename merged.now renaming.now }
+        requires right { AreRenamed merged.now renaming.now self.now }
+        ensures { IfOk result (λ es. FieldsGoTogether (IsRenamedIn renaming.now merged.now) fields.now es) }
+    {
+        fields.law();
+        let mut renamed = Named::with_capacity(renaming.alloc, fields.len())?;
+        for i in 0..fields.len() {
+            let (name, value) = fields.entry_at(i);
+            let value = self.part(merged, renaming, *value);
+            put(renaming.alloc, &mut renamed, name, value)?;
+        }
+        Ok(renamed)
+    }
+
+    /// What cases become, under their names.
+    fn cases(
+        &self,
+        merged: &Types,
+        renaming: &Renaming<'_>,
+        cases: &Named<Option<ValueType>>,
+    ) -> Result<Named<Option<ValueType>>, AllocError>
+        requires held { AreHeldValues renaming.now.types.now (case_values cases.now) }
+        requires ready { AreReady self.now (case_values cases.now) }
+        requires known { CanRename merged.now renaming.now }
+        requires right { AreRenamed merged.now renaming.now self.now }
+        ensures { IfOk result (λ es. CasesGoTogether (IsRenamedIn renaming.now merged.now) cases.now es) }
+    {
+        cases.law();
+        let mut renamed = Named::with_capacity(renaming.alloc, cases.len())?;
+        for i in 0..cases.len() {
+            let (name, value) = cases.entry_at(i);
+            let value = self.optional(merged, renaming, *value);
+            put(renaming.alloc, &mut renamed, name, value)?;
+        }
+        Ok(renamed)
+    }
+
+    /// What a definition becomes whose parts are renamed.
+    fn definition(
+        &self,
+        merged: &Types,
+        renaming: &Renaming<'_>,
+        definition: &DefinedType,
+    ) -> Result<DefinedType, AllocError>
+        requires held { AreHeldValues renaming.now.types.now (defined_values definition.now) }
+        requires ready { AreReady self.now (defined_values definition.now) }
+        requires known { CanRename merged.now renaming.now }
+        requires right { AreRenamed merged.now renaming.now self.now }
+        ensures { IfOk result (λ d. HaveOneShape (IsRenamedIn renaming.now merged.now) definition.now d) }
+    {
+        let alloc = renaming.alloc;
+        let renamed = match definition {
+            DefinedType::Tuple(parts) => {
+                let parts = self.parts(merged, renaming, parts.as_slice())?;
+                DefinedType::tuple(alloc, parts.as_slice())?
+            }
+            DefinedType::List(value) => DefinedType::List(self.part(merged, renaming, *value)),
+            DefinedType::FixedSizeList(value, length) => {
+                DefinedType::FixedSizeList(self.part(merged, renaming, *value), *length)
+            }
+            DefinedType::Option(value) => DefinedType::Option(self.part(merged, renaming, *value)),
+            DefinedType::Result { ok, err } => {
+                let ok = self.optional(merged, renaming, *ok);
+                let err = self.optional(merged, renaming, *err);
+                DefinedType::Result { ok, err }
+            }
+            DefinedType::Variant(variant) => {
+                let cases = self.cases(merged, renaming, &variant.cases)?;
+                DefinedType::Variant(Variant { cases })
+            }
+            DefinedType::Record(record) => {
+                let fields = self.fields(merged, renaming, &record.fields)?;
+                DefinedType::Record(Record { fields })
+            }
+            DefinedType::Flags(flags) => DefinedType::Flags(Flags(copied(alloc, &flags.0)?)),
+            DefinedType::Enum(cases) => DefinedType::Enum(Enum(copied(alloc, &cases.0)?)),
+            DefinedType::Alias(value) => DefinedType::Alias(self.part(merged, renaming, *value)),
+            DefinedType::Stream(value) => DefinedType::Stream(self.optional(
+                merged, renaming, *value,
+            )),
+            DefinedType::Future(value) => DefinedType::Future(self.optional(
+                merged, renaming, *value,
+            )),
+        };
+        Ok(renamed)
+    }
+
+    /// Renames a definition whose parts are renamed.
+    fn close(
+        &mut self,
+        merged: &mut Types,
+        renaming: &Renaming<'_>,
+        id: DefinedTypeId,
+    ) -> Result<(), AllocError>
+        requires held { HasDefined renaming.now.types.now id }
+        requires ready { AreReady self.old (parts_of renaming.now.types.now id) }
+        requires known { CanRename merged.old renaming.now }
+        requires right { AreRenamed merged.old renaming.now self.old }
+        ensures extended { IsExtended merged.old merged.new }
+        ensures right { OnOk result (AreRenamed merged.new renaming.now self.new) }
+        ensures more { OnOk result (IsMore self.old self.new) }
+        ensures done { OnOk result (IsReady self.new (val.Defined id)) }
+    {
+        renaming.types.law();
+        trees_are_whole(renaming.types);
+        let definition = self.definition(merged, renaming, &renaming.types[id])?;
+        let became = add_defined(merged, definition)?;
+        trees_are_whole(merged);
+        self.put_defined(id, became)
+    }
+
+    /// Does a task: renames its definition, or puts it off behind its parts.
+    fn perform(
+        &mut self,
+        merged: &mut Types,
+        renaming: &Renaming<'_>,
+        task: Task,
+        tasks: &mut Vec<Task>,
+    ) -> Result<(), AllocError>
+        requires held { IsHeldTask renaming.now.types.now task }
+        requires ready { MayBeDone renaming.now.types.now self.old task }
+        requires known { CanRename merged.old renaming.now }
+        requires right { AreRenamed merged.old renaming.now self.old }
+        ensures extended { IsExtended merged.old merged.new }
+        ensures right { OnOk result (AreRenamed merged.new renaming.now self.new) }
+        ensures did { OnOk result (Did renaming.now.types.now task self.old self.new tasks.old.items tasks.new.items) }
+    {
+        match task {
+            Task::Open(id) => {
+                if let Some(_) = self.defined(id) {
+                    return Ok(());
+                }
+                tasks.push(Task::Close(id))?;
+                open_parts(tasks, &renaming.types[id])
+            }
+            Task::Close(id) => self.close(merged, renaming, id),
+        }
+    }
+
+    /// Renames the definitions of tasks, and what they reach.
+    fn finish(
+        &mut self,
+        merged: &mut Types,
+        renaming: &Renaming<'_>,
+        mut tasks: Vec<Task>,
+    ) -> Result<(), AllocError>
+        requires held { AllByRecursion (IsHeldTask renaming.now.types.now) tasks.items }
+        requires opened { AllByRecursion IsOpening tasks.items }
+        requires known { CanRename merged.old renaming.now }
+        requires right { AreRenamed merged.old renaming.now self.old }
+        ensures extended { IsExtended merged.old merged.new }
+        ensures right { OnOk result (AreRenamed merged.new renaming.now self.new) }
+        ensures done { OnOk result (AllByRecursion (IsDone self.new) tasks.items) }
+    {
+        renaming.types.law();
+        merged.law();
+        while let Some(task) = tasks.pop() {
+            self.perform(merged, renaming, task, &mut tasks)?;
+        }
+        Ok(())
+    }
+
+    /// What a value type becomes in a merged collection, behind what is there. A definition is renamed once, and without recursion.
+    pub fn value(
+        &mut self,
+        merged: &mut Types,
+        renaming: &Renaming<'_>,
+        value: ValueType,
+    ) -> Result<ValueType, AllocError>
+        requires held { holds_value renaming.now.types.now value ≡ true }
+        requires known { CanRename merged.old renaming.now }
+        requires right { AreRenamed merged.old renaming.now self.old }
+        ensures extended { IsExtended merged.old merged.new }
+        ensures right { OnOk result (AreRenamed merged.new renaming.now self.new) }
+        ensures value { IfOk result (λ w. IsRenamed renaming.now.types.now merged.new (becomes renaming.now) (ty.Value value) (ty.Value w)) }
+    {
+        if let ValueType::Defined(id) = value {
+            if let Some(became) = self.defined(id) {
+                return Ok(ValueType::Defined(became));
+            }
+        }
+        merged.law();
+        let mut tasks = Vec::new(renaming.alloc);
+        open_value(&mut tasks, value)?;
+        self.finish(merged, renaming, tasks)?;
+        Ok(self.part(merged, renaming, value))
+    }
+
+    /// What a function type becomes there.
+    pub fn func(
+        &mut self,
+        merged: &mut Types,
+        renaming: &Renaming<'_>,
+        id: FuncTypeId,
+    ) -> Result<FuncTypeId, AllocError>
+        requires held { HasFunc renaming.now.types.now id }
+        requires known { CanRename merged.old renaming.now }
+        requires right { AreRenamed merged.old renaming.now self.old }
+        ensures extended { IsExtended merged.old merged.new }
+        ensures right { OnOk result (AreRenamed merged.new renaming.now self.new) }
+        ensures func { IfOk result (λ g. IsRenamed renaming.now.types.now merged.new (becomes renaming.now) (ty.Func id) (ty.Func g)) }
+    {
+        if let Some(became) = self.func_type(id) {
+            return Ok(became);
+        }
+        renaming.types.law();
+        trees_are_whole(renaming.types);
+        merged.law();
+        let func = &renaming.types[id];
+        let mut tasks = Vec::new(renaming.alloc);
+        open_optional(&mut tasks, func.result)?;
+        open_fields(&mut tasks, &func.params)?;
+        self.finish(merged, renaming, tasks)?;
+        let renamed = FuncType {
+            params: self.fields(merged, renaming, &func.params)?,
+            result: self.optional(merged, renaming, func.result),
+            is_async: func.is_async,
+        };
+        let became = add_func(merged, renamed)?;
+        trees_are_whole(merged);
+        self.put_func(id, became)?;
+        Ok(became)
+    }
+}

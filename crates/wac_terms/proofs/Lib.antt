@@ -1,0 +1,4 @@
+pub mod Found
+pub mod Alike
+pub mod NewUnder
+pub mod OwnResources

@@ -1,0 +1,42 @@
+//! The new resources of a merged collection.
+ghost use Rattle.std.specs.Prelude.{◌≡◌};
+ghost use Rattle.wac_entries.specs.CalledViews.{path_view};
+ghost use Rattle.wac_terms.specs.Became.{new_at, own_in, whole_in};
+
+use wac_types::{Named, ResourceId};
+
+/// New resources.
+#[derive(Drop)]
+pub struct Fresh {
+    /// For each union those that it binds, by name.
+    pub own: Vec<Named<ResourceId>>,
+    /// For each class the one that it is, where it is a resource that it binds.
+    pub whole: Vec<Option<ResourceId>>,
+}
+
+impl Fresh {
+    /// The new resource that a class is.
+    pub fn whole(&self, class: usize) -> Option<ResourceId>
+        ensures { result ≡ whole_in self.now class }
+    {
+        self.whole.get(class).copied()?
+    }
+
+    /// The new resource that a class or a union binds under a path.
+    pub fn at(&self, number: usize, path: &[String]) -> Option<ResourceId>
+        ensures { result ≡ new_at self.now number (path_view path.now) }
+    {
+        match path {
+            [] => self.whole(number),
+            [name] => self.own_in(number, name.as_str()),
+            _ => None,
+        }
+    }
+
+    /// The new resource that a union binds under a name.
+    pub fn own_in(&self, union: usize, name: &str) -> Option<ResourceId>
+        ensures { result ≡ own_in self.now union name.now }
+    {
+        self.own.get(union)?.get(name).copied()
+    }
+}

@@ -1,0 +1,12 @@
+pub mod ClassFolds
+pub mod WritingItems
+pub mod WritingUnions
+pub mod ImportKinds
+pub mod Assembled
+pub mod AssembledKinds
+pub mod AssembledLists
+pub mod AssembledItemsFirst
+pub mod AssembledItems
+pub mod AssembledSubtypes
+pub mod AssembledMerge
+pub mod AssembledBound

@@ -1,0 +1,91 @@
+use Rattle.std.proofs.Common.{◌≡◌, ◌<◌, List, [], Err, take, length, slice_get, refl, sym, ap, ◌∙◌, subst, arith, add-one}
+use Rattle.std.proofs.lemmas.List.{take_all}
+use Rattle.std.proofs.lemmas.Option.{slice_get_read}
+use Rattle.wac_shapes.specs.Name.{Name, find_name}
+use Rattle.wac_shapes.specs.Named.{names_of}
+use Rattle.wac_shapes.specs.declared.component.ItemKind.{ItemKind}
+use Rattle.wac_shapes.proofs.Names.{find_name-at, none_before, take_at}
+use Rattle.wac_shapes.proofs.Under.{not_some}
+use Rattle.wac_unions.specs.WritingSteps.{AreWrittenItems}
+use Rattle.wac_renaming.specs.declared.renamer.Renaming.{Renaming}
+use Rattle.wac_terms.specs.declared.parts.Export.{Export}
+use Rattle.wac_terms.specs.declared.parts.Union.{Union}
+use Rattle.wac_terms.proofs.Found.{one_some}
+use Rattle.wac_renaming.proofs.Extending.{extended_none, extended_twice}
+use Rattle.wac_uniting.proofs.SameNames.{none_alike, push_alike}
+use Rattle.wac_unions.proofs.WritingItems.{items-more, items-none}
+use Rattle.wac_unions.proofs.WritingUnions.{renamed-alike, still-can}
+use Rattle.wac_unions.proofs.writing.write_exports.Goals as goal
+
+pub loop-i-init : goal.loop-i-init
+loop-i-init c =
+    let t = c.args.types.now in
+    let m = c.args.merged.now in
+    let b = c.args.became.now in
+    let count = length c.args.unions.now.unions.items in
+    record {
+      extended = extended_none m;
+      right = λ s p q r. c.new-renamed.ensures.right m s;
+      written = subst (λ (ks : List (Name × ItemKind)). AreWrittenItems t m b count c.args.written.now c.args.union [] ks) (sym c.in_ok-items.ensures.empty) (items-none t m b count c.args.written.now c.args.union);
+      names = ap names_of c.in_ok-items.ensures.empty;
+    }
+
+pub write_export-requires-clause-writing : goal.write_export-requires-clause-writing
+write_export-requires-clause-writing c =
+    still-can c.args.merged.now c.loop-i.merged c.loop-i.invariant.extended c.law.ensures c.args.types.now c.args.unions.now.unions.items c.args.became.now c.args.written.now c.args.union c.requires
+
+pub write_export-requires-clause-export : goal.write_export-requires-clause-export
+write_export-requires-clause-export c =
+    let us = c.args.unions.now.unions.items in
+    let u = c.args.union in
+    let x : Union = c.index.result.now in
+    let count = c.requires.counted in
+    let low : u < length us = omega (arith, count) in
+    (x, slice_get_read us (length us) u x refl low c.index.ensures, find_name-at x.exports c.loop-i.i c.entry_at.result.0.now c.entry_at.result.1.now c.law-2.ensures c.entry_at.ensures)
+
+pub returns-in_err-item-clause-extended : goal.returns-in_err-item-clause-extended
+returns-in_err-item-clause-extended c = extended_twice c.args.merged.now c.loop-i.merged c.write_export.new.merged c.loop-i.invariant.extended c.write_export.ensures.extended
+
+pub returns-in-Err-OutOfMemory-clause-extended : goal.returns-in-Err-OutOfMemory-clause-extended
+returns-in-Err-OutOfMemory-clause-extended c = extended_twice c.args.merged.now c.loop-i.merged c.write_export.new.merged c.loop-i.invariant.extended c.write_export.ensures.extended
+
+pub unreachable-requires : goal.unreachable-requires
+unreachable-requires c =
+    let es : List (Name × Export) = c.index.result.now.exports in
+    let i = c.loop-i.i in
+    let items : List (Name × ItemKind) = c.loop-i.items in
+    let n : Name = c.entry_at.result.0.now in
+    not_some (find_name items n) (none_alike (take i es) items n (sym c.loop-i.invariant.names) (none_before es i n c.entry_at.result.1.now c.law-2.ensures c.entry_at.ensures))
+    (c.insert.ensures.name_twice.0 (c.in-Err-NameTwice.is ∙ ap Err c.in-Err-NameTwice.field-0-is))
+
+pub loop-i-preserved : goal.loop-i-preserved
+loop-i-preserved c =
+    let t = c.args.types.now in
+    let now = c.loop-i.merged in
+    let more = c.write_export.new.merged in
+    let b = c.args.became.now in
+    let count = length c.args.unions.now.unions.items in
+    let es : List (Name × Export) = c.index.result.now.exports in
+    let i = c.loop-i.i in
+    let n : Name = c.entry_at.result.0.now in
+    let e : Export = c.entry_at.result.1.now in
+    let renaming : Renaming = record { alloc = c.args.alloc; types = c.args.types; became = c.args.became; part = c.begin.new.part } in
+    let v = c.loop-i.invariant in
+    record {
+      extended = extended_twice c.args.merged.now now more v.extended c.write_export.ensures.extended;
+      right = λ s p q r. renamed-alike more c.write_export.new.renamed renaming s (sym p) (sym q) (sym r) c.in_ok-item.ensures.right;
+      written = rw (add-one, take_at es i (n, e) c.entry_at.ensures, c.in-Ok.ensures.inserted)
+          (items-more t now more b count c.args.written.now c.args.union (take i es) c.loop-i.items n e c.in_ok-item.item c.write_export.ensures.extended v.written c.in_ok-item.ensures.written);
+      names = rw (add-one, take_at es i (n, e) c.entry_at.ensures, c.in-Ok.ensures.inserted) (push_alike c.loop-i.items (take i es) n c.in_ok-item.item e v.names);
+    }
+
+pub returns-clause-written : goal.returns-clause-written
+returns-clause-written c x there =
+    let us = c.args.unions.now.unions.items in
+    let u = c.args.union in
+    let y : Union = c.index.result.now in
+    let held = c.requires.counted in
+    let low : u < length us = omega (arith, held) in
+    let same : y ≡ x = one_some (slice_get us u) y x (slice_get_read us (length us) u y refl low c.index.ensures) there in
+    subst (λ (z : Union). AreWrittenItems c.args.types.now c.loop-i.merged c.args.became.now (length us) c.args.written.now u z.exports c.loop-i.items) same
+    (subst (λ (es : List (Name × Export)). AreWrittenItems c.args.types.now c.loop-i.merged c.args.became.now (length us) c.args.written.now u es c.loop-i.items) (take_all c.loop-i.i y.exports (omega arith)) c.loop-i.invariant.written)

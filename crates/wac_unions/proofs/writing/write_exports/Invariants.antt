@@ -1,0 +1,12 @@
+use Rattle.std.proofs.Common.{◌≡◌, map, length, take}
+use Rattle.wac_terms.specs.Renaming.{IsExtended}
+use Rattle.wac_unions.specs.WritingSteps.{AreRenamedIn, AreWrittenItems}
+use Rattle.wac_unions.proofs.writing.write_exports.Given as goal
+
+abbrev pub invariant-loop-i : goal.invariant-loop-i
+invariant-loop-i l = record {
+  extended : IsExtended l.initial.merged l.merged;
+  right : AreRenamedIn l.types l.merged l.became l.part l.renamed;
+  written : AreWrittenItems l.types l.merged l.became (length l.unions.unions.items) l.written l.union (take l.i l.exports) l.items;
+  names : map (λ e. e.0) l.items ≡ map (λ e. e.0) (take l.i l.exports);
+}

@@ -1,0 +1,100 @@
+use Rattle.std.proofs.Common.{◌≡◌, ◌+◌, ◌-◌, ◌<◌, ℕ, List, [], ◌∷◌, ◌++◌, length, map, slice_get, string_bytes, Option, Some, refl, sym, subst, ap, ◌∙◌, arith}
+use Rattle.std.specs.Option.{option_map}
+use Rattle.std.proofs.lemmas.List.{length-append}
+use Rattle.std.proofs.lemmas.Option.{slice_get-map, slice_get_read}
+use Rattle.wac_collection.specs.Collection.{HasInterface}
+use Rattle.wac_shapes.specs.Name.{Name}
+use Rattle.wac_shapes.specs.declared.component.InterfaceId.{InterfaceId}
+use Rattle.wac_terms.specs.Unions.{AreUnions}
+use Rattle.wac_terms.specs.Writing.{AreWritten}
+use Rattle.wac_unions.specs.WritingSteps.{CanWrite, IsWrittenUnion}
+use Rattle.wac_terms.specs.declared.parts.Part.{Part}
+use Rattle.wac_terms.specs.declared.parts.Union.{Union}
+use Rattle.wac_renaming.proofs.Extending.{extended_none, extended_twice, still_can_all, still_fresh}
+use Rattle.wac_entries.proofs.Lists.{some-at}
+use Rattle.wac_unions.proofs.WritingUnions.{AreAllWritten, are-written, at-empty, held-more, length-mapped, union-held, union-more}
+use Rattle.wac_unions.proofs.writing.write_unions.Goals as goal
+
+pub loop-done-init : goal.loop-done-init
+loop-done-init c =
+    let empty : c.new-written.result.items ≡ [] = c.new-written.ensures.items in
+    record {
+      extended = extended_none c.args.merged.now;
+      counted = ap length empty;
+      held = λ j w at. absurd (at-empty c.new-written.result.items j w empty at);
+      written = λ j u w x id at place there named. absurd (at-empty c.new-written.result.items j w empty at);
+    }
+
+pub write_union-requires : goal.write_union-requires
+write_union-requires c =
+    let t = c.args.types.now in
+    let us = c.args.unions.now.unions.items in
+    let b = c.args.became.now in
+    let m = c.args.merged.now in
+    let now = c.loop-done.merged in
+    let v = c.loop-done.invariant in
+    let count : c.len-count.result ≡ length us = omega (arith, c.len-count.ensures, c.args.unions.now.unions.ok.0) in
+    let low : c.loop-done.done < c.len-count.result = c.loop-done-test.true in
+    let done = v.counted in
+    subst (λ (l : List InterfaceId). CanWrite t now us b l (c.len-count.result - 1 - c.loop-done.done)) (sym c.as_slice-behind.ensures.value)
+    (record {
+      unions = (c.requires.unions.0, subst (λ (ps : List Part). AreUnions t c.requires.unions.0 us ps) (sym c.requires.parts) c.requires.unions.1);
+      fresh = still_fresh m now v.extended c.law.ensures t us b.bindings.now b.fresh.now c.requires.fresh;
+      known = still_can_all m now v.extended c.law.ensures t b c.requires.known;
+      counted = omega (arith, count, low, done);
+      held = v.held;
+    })
+
+pub returns-in_err-id-clause-extended : goal.returns-in_err-id-clause-extended
+returns-in_err-id-clause-extended c = extended_twice c.args.merged.now c.loop-done.merged c.write_union.new.merged c.loop-done.invariant.extended c.write_union.ensures.extended
+
+pub returns-in_err-push-clause-extended : goal.returns-in_err-push-clause-extended
+returns-in_err-push-clause-extended c = extended_twice c.args.merged.now c.loop-done.merged c.write_union.new.merged c.loop-done.invariant.extended c.write_union.ensures.extended
+
+pub loop-done-preserved : goal.loop-done-preserved
+loop-done-preserved c =
+    let t = c.args.types.now in
+    let us = c.args.unions.now.unions.items in
+    let b = c.args.became.now in
+    let now = c.loop-done.merged in
+    let more = c.write_union.new.merged in
+    let v = c.loop-done.invariant in
+    let ids = c.args.ids.now in
+    let views = map (option_map string_bytes) ids in
+    let written : List InterfaceId = c.loop-done.written.items in
+    let w : InterfaceId = c.in_ok-id.id in
+    let u : ℕ = c.len-count.result - 1 - c.loop-done.done in
+    let count : c.len-count.result ≡ length us = omega (arith, c.len-count.ensures, c.args.unions.now.unions.ok.0) in
+    let low : c.loop-done.done < c.len-count.result = c.loop-done-test.true in
+    let done = v.counted in
+    let named = c.requires.counted in
+    let near : u < length us = omega (arith, count, low) in
+    let place : length written + u + 1 ≡ length us = omega (arith, count, low, done) in
+    let id = c.index-ids-union.result in
+    let at : slice_get ids u ≡ Some id = slice_get_read ids (length ids) u id refl (omega (arith, near, named)) c.index-ids-union.is in
+    let name : Option Name = option_map string_bytes id in
+    let view : slice_get views u ≡ Some name = slice_get-map (option_map string_bytes) ids u ∙ ap (option_map (option_map string_bytes)) at in
+    let is : (x : Union) → slice_get us u ≡ Some x → IsWrittenUnion t more b (length us) written u x name w =
+    λ x there. subst (λ (l : List InterfaceId). IsWrittenUnion t more b (length us) l u x name w) c.as_slice-behind.ensures.value (c.in_ok-id.ensures.written x there) in
+    let x = some-at us u near in
+    let items : c.push.new.self.items ≡ written ++ w ∷ [] = c.in_ok-push.ensures.items in
+    record {
+      extended = extended_twice c.args.merged.now now more v.extended c.write_union.ensures.extended;
+      counted = ap length items ∙ (length-append written (w ∷ []) ∙ ap (λ n. n + 1) v.counted);
+      held = subst (λ (l : List InterfaceId). (j : ℕ) (y : InterfaceId) → slice_get l j ≡ Some y → HasInterface more y) (sym items)
+          (held-more now more written w c.write_union.ensures.extended (union-held t more b (length us) written u x.0 name w (is x.0 x.1)) v.held);
+      written = subst (λ (l : List InterfaceId). AreAllWritten t more b us views l) (sym items) (union-more t now more b us views written u w name c.write_union.ensures.extended place view v.written is);
+    }
+
+pub returns-clause-written : goal.returns-clause-written
+returns-clause-written c =
+    let t = c.args.types.now in
+    let us = c.args.unions.now.unions.items in
+    let b = c.args.became.now in
+    let v = c.loop-done.invariant in
+    let ids = c.args.ids.now in
+    let views = map (option_map string_bytes) ids in
+    let done = v.counted in
+    let all : length c.loop-done.written.items ≡ length us = omega (arith, done, c.len-count.ensures, c.args.unions.now.unions.ok.0, c.loop-done-test.false, c.loop-done.auto.done-end) in
+    subst (λ (l : List InterfaceId). AreWritten t c.loop-done.merged us c.args.unions.now.parts.items b.bindings.now b.fresh.now views l) (sym c.reverse.ensures.items)
+    (are-written t c.loop-done.merged b us c.args.unions.now.parts.items views c.loop-done.written.items c.requires.parts all (length-mapped (option_map string_bytes) ids ∙ c.requires.counted) v.written)

@@ -1,0 +1,2 @@
+pub mod MergedClasses
+pub mod WritingSteps

@@ -1,0 +1,68 @@
+-- Unions, as they are written one by one. Private functions alone cite this.
+use Rattle.std.specs.Prelude.{ℕ, ◌+◌, ◌<◌, ◌≤◌, ◌≡◌, true, List, [], length, Option, Some, None, slice_get}
+use Rattle.std.specs.List.{AllZip, list_all}
+use Rattle.wac_shapes.specs.Name.{Name, find_name}
+use Rattle.wac_collection.specs.Collection.{Collection, HasInterface, holds_all, holds_type, item_at, kind_types}
+use Rattle.wac_shapes.specs.Kinds.{kind_type}
+use Rattle.wac_collection.specs.Uses.{is_named_right}
+use Rattle.wac_shapes.specs.declared.component.Interface.{Interface}
+use Rattle.wac_shapes.specs.declared.component.InterfaceId.{InterfaceId}
+use Rattle.wac_shapes.specs.declared.component.ItemKind.{ItemKind}
+use Rattle.wac_terms.specs.Became.{AreFresh}
+use Rattle.wac_renaming.specs.RenamedTypes.{AreRenamed, CanRenameAll}
+use Rattle.wac_terms.specs.Unions.{AreUnions}
+use Rattle.wac_terms.specs.Writing.{IsWrittenExport}
+use Rattle.wac_renaming.specs.declared.became.Became.{Became}
+use Rattle.wac_renaming.specs.declared.renamer.Renamed.{Renamed}
+use Rattle.wac_renaming.specs.declared.renamer.Renaming.{Renaming}
+use Rattle.wac_terms.specs.declared.parts.Export.{Export}
+use Rattle.wac_terms.specs.declared.parts.Union.{Union}
+
+-- where so many are written from the last on, the list in order has what was written
+abbrev pub HasWritten : ℕ → List InterfaceId → List InterfaceId → Type 0
+HasWritten count written ws = (j v : ℕ) (w : InterfaceId) → slice_get written j ≡ Some w → j + v + 1 ≡ count → slice_get ws v ≡ Some w
+
+-- the union at a position is behind those that are still to be written, of so many of which so many are written
+abbrev pub IsBehind : ℕ → ℕ → Option ℕ → Type 0
+IsBehind count done position = (v : ℕ) → position ≡ Some v → (v < count) × (count ≤ v + done)
+
+-- the interface of the union at a position
+abbrev pub IsFoundIn : ℕ → List InterfaceId → Option ℕ → Option InterfaceId → Type 0
+IsFoundIn count written None o = o ≡ None
+IsFoundIn count written (Some v) o = (j : ℕ) × (w : InterfaceId) × (slice_get written j ≡ Some w) × (j + v + 1 ≡ count) × (o ≡ Some w)
+
+-- a union has an export under a name
+abbrev pub HasExport : List Union → ℕ → Name → Export → Type 0
+HasExport us u n e = (x : Union) × (slice_get us u ≡ Some x) × (find_name x.exports n ≡ Some e)
+
+-- what stands under a name in a union became this, wherever the unions behind it are in the end
+pub record IsWrittenItem (c m : Collection) (b : Became) (count : ℕ) (written : List InterfaceId) (u : ℕ) (n : Name) (e : Export) (k : ItemKind) : Type 0 where
+  pub held : holds_type m (kind_type k) ≡ true
+  pub named : is_named_right m [] (n, k) ≡ true
+  pub export : (ws : List InterfaceId) → HasWritten count written ws → IsWrittenExport c m b.parts.now b.bindings.now b.fresh.now ws u (n, e) (n, k)
+
+-- exports of a union became these items
+pub record AreWrittenItems (c m : Collection) (b : Became) (count : ℕ) (written : List InterfaceId) (u : ℕ) (es : List (Name × Export)) (ks : List (Name × ItemKind)) : Type 0 where
+  pub held : holds_all m (kind_types ks) ≡ true
+  pub named : list_all (is_named_right m []) ks ≡ true
+  pub exports : (ws : List InterfaceId) → HasWritten count written ws → AllZip (IsWrittenExport c m b.parts.now b.bindings.now b.fresh.now ws u) es ks
+
+-- a union became an interface that uses no other, under an id
+pub record IsWrittenUnion (c m : Collection) (b : Became) (count : ℕ) (written : List InterfaceId) (u : ℕ) (x : Union) (id : Option Name) (w : InterfaceId) : Type 0 where
+  pub interface : Interface
+  pub there : item_at m.interfaces w.0 ≡ Some interface
+  pub unused : interface.uses ≡ []
+  pub named : id ≡ interface.id
+  pub exports : (ws : List InterfaceId) → HasWritten count written ws → AllZip (IsWrittenExport c m b.parts.now b.bindings.now b.fresh.now ws u) x.exports interface.exports
+
+-- what is known where a union is written, after those behind it
+pub record CanWrite (c m : Collection) (us : List Union) (b : Became) (written : List InterfaceId) (u : ℕ) : Type 0 where
+  pub unions : (roots : List (List InterfaceId)) × AreUnions c roots us b.parts.now
+  pub fresh : AreFresh c us b.bindings.now b.fresh.now m
+  pub known : CanRenameAll m c b
+  pub counted : length written + u + 1 ≡ length us
+  pub held : (j : ℕ) (w : InterfaceId) → slice_get written j ≡ Some w → HasInterface m w
+
+-- the same for each renaming of these types in this part
+abbrev pub AreRenamedIn : Collection → Collection → Became → Option ℕ → Renamed → Type 0
+AreRenamedIn c m b part memo = (s : Renaming) → s.types.now ≡ c → s.became.now ≡ b → s.part ≡ part → AreRenamed m s memo

@@ -1,0 +1,402 @@
+//! The merged imports of entries that have a merge, and the collection of their types.
+ghost use Rattle.std.specs.Prelude.{Contains, List, Some, length, map, slice_get, string_bytes, true, ℕ, ◌<◌, ◌≡◌, ◌↔◌, [], IfOk, OnOk};
+ghost use Rattle.std.specs.Option.{option_map};
+ghost use Rattle.wac_collection.specs.Collection.{HasInterface, holds_type};
+ghost use Rattle.wac_shapes.specs.Kinds.{kind_type};
+ghost use Rattle.wac_shapes.specs.Name.{Name as AName};
+ghost use Rattle.wac_shapes.specs.declared.component.InterfaceId.{InterfaceId as AnId};
+ghost use Rattle.wac_entries.specs.Agreement.{AllMembersAgree};
+ghost use Rattle.wac_terms.specs.Became.{AreFresh};
+ghost use Rattle.wac_entries.specs.Bindings.{AreBindings, AreHeld};
+ghost use Rattle.wac_terms.specs.ClassOrder.{IsWrittenOrder};
+ghost use Rattle.wac_entries.specs.Classes.{AreClasses, Entry as AnEntry, by_names, class_names, same_class};
+ghost use Rattle.wac_terms.specs.Merge.{AreBound, IsMerge, import_entries, is_on_track};
+ghost use Rattle.wac_unions.specs.MergedClasses.{AreClassUnions, AreIds, AreImports, AreOnTrack, AreRoots, AreWrittenImports, IsClassKind, IsUnionId, first_id, with_root};
+ghost use Rattle.wac_terms.specs.MergedKinds.{AreListedOnce};
+ghost use Rattle.wac_renaming.specs.RenamedTypes.{CanRenameAll};
+ghost use Rattle.wac_terms.specs.Renaming.{IsExtended};
+ghost use Rattle.wac_terms.specs.Unions.{AreUnions};
+ghost use Rattle.wac_terms.specs.Writing.{IsGiven};
+ghost use Rattle.wac_terms.specs.declared.parts.Part.{Part as APart};
+ghost use Rattle.wac_terms.specs.declared.parts.Union.{Union as AUnion};
+ghost use Rattle.wac_names.specs.Reading.{read_track};
+ghost use Rattle.wac_names.specs.Views.{track_view};
+
+use crate::writing::{write_kind, write_unions};
+use std::alloc::{AllocError, Global};
+use std::marker::Model;
+use wac_entries::bindings::{Bindings, class_tracks};
+use wac_entries::classes::Classes;
+use wac_entries::entry::Entry;
+use wac_names::Track;
+use wac_renaming::adding::add_fresh;
+use wac_renaming::became::{Became, part_bounds};
+use wac_renaming::renamer::{Renamed, Renaming};
+use wac_terms::parts::Part;
+use wac_types::laws::trees_are_whole;
+use wac_types::{InterfaceId, ItemKind, Named, ShapeError, Type, Types};
+use wac_uniting::unions::Unions;
+
+/// Puts an interface among those of its class that are united: every instance, and the first of a type item.
+fn put_root(roots: &mut Vec<InterfaceId>, kind: ItemKind) -> Result<(), AllocError>
+    ensures { OnOk result (roots.new.items ≡ with_root roots.old.items kind) }
+{
+    match kind {
+        ItemKind::Instance(id) => roots.push(id)?,
+        ItemKind::TypeItem(Type::Interface(id)) if roots.is_empty() => roots.push(id)?,
+        _ => {}
+    }
+    Ok(())
+}
+
+/// No interface for each class.
+fn no_roots(alloc: Global, count: usize) -> Result<Vec<Vec<InterfaceId>>, AllocError>
+    ensures counted { IfOk result (λ v. length v.items ≡ count) }
+    ensures empty { IfOk result (λ v. (k : ℕ) (is : List AnId) → slice_get (map (λ is. is.items) v.items) k ≡ Some is → is ≡ []) }
+{
+    let mut roots = Vec::new(alloc);
+    for _ in 0..count {
+        roots.push(Vec::new(alloc))?;
+    }
+    Ok(roots)
+}
+
+/// The interfaces of each class that are united.
+fn class_roots(
+    alloc: Global,
+    entries: &[Entry],
+    classes: &Classes,
+) -> Result<Vec<Vec<InterfaceId>>, AllocError>
+    requires classes { AreClasses by_names entries.now classes.now.numbers.items classes.now.positions.items classes.now.names }
+    ensures { IfOk result (λ v. AreRoots entries.now (map (λ is. is.items) v.items)) }
+{
+    let numbers = classes.numbers();
+    let mut roots = no_roots(alloc, classes.positions().len())?;
+    for i in 0..entries.len() {
+        put_root(&mut roots[numbers[i]], entries[i].kind())?;
+    }
+    Ok(roots)
+}
+
+/// Whether an item is an instance whose interface has an id on a track.
+fn is_on_track(
+    alloc: Global,
+    types: &Types,
+    track: &Track<'_>,
+    kind: ItemKind,
+) -> Result<bool, AllocError>
+    requires { holds_type types.now (kind_type kind) ≡ true }
+    ensures { IfOk result (λ is. (class : AName) → track_view track.now ≡ read_track class → is ≡ is_on_track by_names types.now class kind) }
+{
+    let ItemKind::Instance(id) = kind else {
+        return Ok(false);
+    };
+    let Some(text) = &types[id].id else {
+        return Ok(false);
+    };
+    Ok(Track::new(alloc, text.as_str())? == *track)
+}
+
+/// Whether each class has a member that is an instance whose interface has an id on the class's track.
+fn on_track(
+    alloc: Global,
+    types: &Types,
+    entries: &[Entry],
+    classes: &Classes,
+) -> Result<Vec<bool>, AllocError>
+    requires held { AreHeld types.now entries.now }
+    requires classes { AreClasses by_names entries.now classes.now.numbers.items classes.now.positions.items classes.now.names }
+    ensures { IfOk result (λ v. AreOnTrack types.now entries.now v.items) }
+{
+    let numbers = classes.numbers();
+    let tracks = class_tracks(alloc, entries, classes)?;
+    let mut on = vec![in alloc; false; tracks.len()]?;
+    for i in 0..entries.len() {
+        let number = numbers[i];
+        let is = is_on_track(alloc, types, &tracks[number], entries[i].kind())?;
+        on[number] = on[number] | is;
+    }
+    Ok(on)
+}
+
+/// The id of the interface of the first part of a union.
+fn first_id(
+    alloc: Global,
+    types: &Types,
+    unions: &Unions,
+    position: usize,
+) -> Result<Option<String>, AllocError>
+    requires unions { (roots : List (List AnId)) × AreUnions types.now roots unions.now.unions.items unions.now.parts.items }
+    requires within { position < length unions.now.unions.items }
+    ensures { IfOk result (λ o. (x : AUnion) → slice_get unions.now.unions.items position ≡ Some x → option_map string_bytes o ≡ first_id types.now unions.now.parts.items x.parts.items) }
+{
+    let Some(part) = unions.unions[position].parts.first() else {
+        return Ok(None);
+    };
+    match &types[unions.parts[*part].interface].id {
+        Some(text) => Ok(Some(String::from_str(alloc, text.as_str())?)),
+        None => Ok(None),
+    }
+}
+
+/// The id of a union's interface: that of its class, or of its first part.
+fn union_id(
+    alloc: Global,
+    types: &Types,
+    entries: &[Entry],
+    classes: &Classes,
+    unions: &Unions,
+    on: &[bool],
+    position: usize,
+) -> Result<Option<String>, AllocError>
+    requires classes { AreClasses by_names entries.now classes.now.numbers.items classes.now.positions.items classes.now.names }
+    requires unions { (roots : List (List AnId)) × AreUnions types.now roots unions.now.unions.items unions.now.parts.items }
+    requires on { AreOnTrack types.now entries.now on.now }
+    requires within { position < length unions.now.unions.items }
+    ensures { IfOk result (λ o. (x : AUnion) → slice_get unions.now.unions.items position ≡ Some x → IsUnionId types.now entries.now unions.now.parts.items position x (option_map string_bytes o)) }
+{
+    if !on.get(position).copied().unwrap_or(false) {
+        return first_id(alloc, types, unions, position);
+    }
+    let name = entries[classes.positions()[position]].name();
+    Ok(Some(String::from_str(alloc, name)?))
+}
+
+/// The id of each union's interface.
+fn union_ids(
+    alloc: Global,
+    types: &Types,
+    entries: &[Entry],
+    classes: &Classes,
+    unions: &Unions,
+) -> Result<Vec<Option<String>>, AllocError>
+    requires held { AreHeld types.now entries.now }
+    requires classes { AreClasses by_names entries.now classes.now.numbers.items classes.now.positions.items classes.now.names }
+    requires unions { (roots : List (List AnId)) × AreUnions types.now roots unions.now.unions.items unions.now.parts.items }
+    ensures { IfOk result (λ ids. AreIds types.now entries.now unions.now.unions.items unions.now.parts.items (map (option_map string_bytes) ids.items)) }
+{
+    let on = on_track(alloc, types, entries, classes)?;
+    let on = on.as_slice();
+    let mut ids = Vec::new(alloc);
+    for position in 0..unions.unions.len() {
+        ids.push(union_id(alloc, types, entries, classes, unions, on, position)?)?;
+    }
+    Ok(ids)
+}
+
+/// The interface of the union at a position.
+fn interface_at(written: &[InterfaceId], position: usize) -> Option<InterfaceId>
+    ensures { result ≡ slice_get written.now position }
+{
+    written.get(position).copied()
+}
+
+/// What a class became.
+fn class_kind(
+    alloc: Global,
+    merged: &mut Types,
+    types: &Types,
+    became: &Became<'_>,
+    written: &[InterfaceId],
+    number: usize,
+    entry: &Entry,
+) -> Result<ItemKind, AllocError>
+    requires held { holds_type types.now (kind_type entry.now.kind) ≡ true }
+    requires known { CanRenameAll merged.old types.now became.now }
+    requires given { IsGiven merged.old entry.now.kind (slice_get written.now number) }
+    ensures extended { IsExtended merged.old merged.new }
+    ensures kind { IfOk result (λ k. IsClassKind types.now merged.new became.now.parts.now became.now.bindings.now became.now.fresh.now written.now number entry.now k) }
+{
+    if let Some(resource) = became.fresh.whole(number) {
+        return Ok(ItemKind::TypeItem(Type::Resource(resource)));
+    }
+    let renaming = Renaming {
+        alloc,
+        types,
+        became,
+        part: None,
+    };
+    let mut renamed = Renamed::new(alloc);
+    let inner = interface_at(written, number);
+    write_kind(
+        merged,
+        &mut renamed,
+        &renaming,
+        inner,
+        entry.name(),
+        entry.kind(),
+    )
+}
+
+/// The imports in an order of their classes.
+fn class_imports(
+    alloc: Global,
+    merged: &mut Types,
+    types: &Types,
+    entries: &[Entry],
+    classes: &Classes,
+    became: &Became<'_>,
+    written: &[InterfaceId],
+    order: &[usize],
+) -> Result<Named<ItemKind>, AllocError>
+    requires held { AreHeld types.now entries.now }
+    requires classes { AreClasses by_names entries.now classes.now.numbers.items classes.now.positions.items classes.now.names }
+    requires known { CanRenameAll merged.old types.now became.now }
+    requires given { (i k : ℕ) (class : AName) (e : AnEntry) → slice_get entries.now i ≡ Some e → slice_get (class_names by_names entries.now) k ≡ Some class → same_class by_names entries.now class e.name ≡ true → IsGiven merged.old e.kind (slice_get written.now k) }
+    requires each { (k : ℕ) → Contains order.now k → k < length (class_names by_names entries.now) }
+    requires once { (i j k : ℕ) → slice_get order.now i ≡ Some k → slice_get order.now j ≡ Some k → i ≡ j }
+    ensures extended { IsExtended merged.old merged.new }
+    ensures imports { IfOk result (λ is. AreImports types.now merged.new entries.now became.now.parts.now became.now.bindings.now became.now.fresh.now written.now order.now (import_entries is)) }
+{
+    merged.law();
+    let positions = classes.positions();
+    let mut imports = Named::new(alloc);
+    for i in 0..order.len() {
+        let number = order[i];
+        let entry = &entries[positions[number]];
+        let kind = class_kind(alloc, merged, types, became, written, number, entry)?;
+        match imports.insert(alloc, entry.name(), kind) {
+            Ok(()) => {}
+            Err(ShapeError::OutOfMemory) => return Err(AllocError),
+            Err(ShapeError::NameTwice) => unreachable!(),
+        }
+    }
+    Ok(imports)
+}
+
+/// The law of interfaces: none lists a name twice.
+fn listed_once(types: &Types, parts: &[Part])
+    requires { (p : ℕ) (x : APart) → slice_get parts.now p ≡ Some x → HasInterface types.now x.interface }
+    ensures { AreListedOnce types.now parts.now }
+{
+    for i in 0..parts.len() {
+        types[parts[i].interface].exports.law();
+    }
+}
+
+/// The unions of the interfaces of each class.
+fn class_unions(
+    alloc: Global,
+    types: &Types,
+    entries: &[Entry],
+    classes: &Classes,
+) -> Result<Unions, AllocError>
+    requires held { AreHeld types.now entries.now }
+    requires classes { AreClasses by_names entries.now classes.now.numbers.items classes.now.positions.items classes.now.names }
+    ensures unions { IfOk result (λ u. AreClassUnions types.now entries.now u.unions.items u.parts.items) }
+    ensures listed { IfOk result (λ u. AreListedOnce types.now u.parts.items) }
+{
+    let roots = class_roots(alloc, entries, classes)?;
+    let unions = Unions::new(alloc, types, roots.as_slice())?;
+    listed_once(types, unions.parts.as_slice());
+    Ok(unions)
+}
+
+/// The imports in an order of their classes, behind the unions, which are written first.
+fn write_imports<'a>(
+    alloc: Global,
+    merged: &mut Types,
+    types: &'a Types,
+    entries: &[Entry],
+    classes: &Classes,
+    unions: &Unions,
+    became: &'a Became<'a>,
+    order: &[usize],
+) -> Result<Named<ItemKind>, AllocError>
+    requires held { AreHeld types.now entries.now }
+    requires classes { AreClasses by_names entries.now classes.now.numbers.items classes.now.positions.items classes.now.names }
+    requires unions { AreClassUnions types.now entries.now unions.now.unions.items unions.now.parts.items }
+    requires parts { became.now.parts.now ≡ unions.now.parts.items }
+    requires fresh { AreFresh types.now unions.now.unions.items became.now.bindings.now became.now.fresh.now merged.old }
+    requires known { CanRenameAll merged.old types.now became.now }
+    requires each { (k : ℕ) → Contains order.now k → k < length (class_names by_names entries.now) }
+    requires once { (i j k : ℕ) → slice_get order.now i ≡ Some k → slice_get order.now j ≡ Some k → i ≡ j }
+    ensures extended { IsExtended merged.old merged.new }
+    ensures imports { IfOk result (λ is. AreWrittenImports types.now merged.new entries.now unions.now.unions.items unions.now.parts.items became.now.bindings.now became.now.fresh.now order.now (import_entries is)) }
+{
+    merged.law();
+    let ids = union_ids(alloc, types, entries, classes, unions)?;
+    let written = write_unions(alloc, merged, types, unions, became, ids.as_slice())?;
+    let written = written.as_slice();
+    class_imports(
+        alloc, merged, types, entries, classes, became, written, order,
+    )
+}
+
+/// The merged imports, in the order in which they are written, and the collection of their types.
+#[derive(Drop)]
+pub struct Merged {
+    /// The collection: what the entries' collection holds, and behind it what is merged.
+    pub types: Types,
+    /// The imports.
+    pub imports: Named<ItemKind>,
+}
+
+impl Model for Merged {
+    ghost use Rattle.wac_terms.specs.Merge as merge;
+
+    ghost Value = { merge.Merged };
+
+    ghost view = { λ m. record { types = m.types; imports = merge.import_entries m.imports } };
+}
+
+impl Merged {
+    /// Entries of a collection that agree, in an order of their classes in which they are written.
+    pub fn new(
+        alloc: Global,
+        types: &Types,
+        entries: &[Entry],
+        classes: &Classes,
+        bindings: &Bindings,
+        order: &[usize],
+    ) -> Result<Merged, AllocError>
+        requires held { AreHeld types.now entries.now }
+        requires classes { AreClasses by_names entries.now classes.now.numbers.items classes.now.positions.items classes.now.names }
+        requires bindings { AreBindings types.now entries.now bindings.now }
+        requires agreed { AllMembersAgree by_names types.now entries.now }
+        requires written { IsWrittenOrder by_names types.now entries.now order.now }
+        requires each { (k : ℕ) → (Contains order.now k ↔ k < length (class_names by_names entries.now)) }
+        requires once { (i j k : ℕ) → slice_get order.now i ≡ Some k → slice_get order.now j ≡ Some k → i ≡ j }
+        ensures merged { IfOk result (λ m. IsMerge by_names types.now entries.now m) }
+        ensures bound { IfOk result (λ m. AreBound by_names types.now entries.now m) }
+    {
+        types.law();
+        types.uses_law();
+        trees_are_whole(types);
+        let unions = class_unions(alloc, types, entries, classes)?;
+        let bound = part_bounds(alloc, types, unions.parts.as_slice())?;
+        let mut merged = types.clone()?;
+        let fresh = add_fresh(
+            alloc,
+            &mut merged,
+            types,
+            entries,
+            classes,
+            bindings,
+            unions.unions.as_slice(),
+        )?;
+        let became = Became {
+            parts: unions.parts.as_slice(),
+            bound: bound.as_slice(),
+            bindings,
+            fresh: &fresh,
+        };
+        merged.law();
+        let imports = write_imports(
+            alloc,
+            &mut merged,
+            types,
+            entries,
+            classes,
+            &unions,
+            &became,
+            order,
+        )?;
+        merged.law();
+        trees_are_whole(&merged);
+        Ok(Merged {
+            types: merged,
+            imports,
+        })
+    }
+}

@@ -1,0 +1,313 @@
+//! Unions as interfaces of a merged collection.
+ghost use Rattle.std.specs.Prelude.{◌+◌, ◌≡◌, List, [], length, map, string_bytes, true, Some, IfOk, OnOk, slice_get};
+ghost use Rattle.std.specs.List.{list_all};
+ghost use Rattle.std.specs.Option.{option_map};
+ghost use Rattle.wac_collection.specs.Collection.{Collection, HasResource, holds_all, holds_type, item_at, kind_types};
+ghost use Rattle.wac_shapes.specs.Kinds.{kind_type};
+ghost use Rattle.wac_collection.specs.Uses.{is_named_right};
+ghost use Rattle.wac_shapes.specs.declared.component.InterfaceId.{InterfaceId as AnId};
+ghost use Rattle.wac_shapes.specs.declared.component.ItemKind.TheVariants as kind_of;
+ghost use Rattle.wac_terms.specs.Became.{AreFresh};
+ghost use Rattle.wac_renaming.specs.RenamedTypes.{AreRenamed, CanRename, CanRenameAll, becomes};
+ghost use Rattle.wac_terms.specs.Renaming.{IsExtended};
+ghost use Rattle.wac_terms.specs.Unions.{AreUnions};
+ghost use Rattle.wac_terms.specs.Writing.{AreWritten, IsAliasOf, IsGiven, IsWrittenAs};
+ghost use Rattle.wac_unions.specs.WritingSteps.{AreRenamedIn, AreWrittenItems, CanWrite, HasExport, IsBehind, IsFoundIn, IsWrittenItem, IsWrittenUnion};
+ghost use Rattle.wac_renaming.specs.declared.became.Became.{Became as ABecame};
+ghost use Rattle.wac_terms.specs.declared.parts.Union.{Union as AUnion};
+
+use std::alloc::{AllocError, Global};
+use wac_renaming::became::Became;
+use wac_renaming::renamer::{Renamed, Renaming};
+use wac_terms::parts::Export;
+use wac_types::laws::growth_keeps_trees;
+use wac_types::{
+    AddTypeError, Interface, InterfaceId, ItemKind, Named, Resource, ResourceId, ShapeError, Text,
+    Type, Types,
+};
+use wac_uniting::unions::Unions;
+
+/// Adds an alias of a resource, under a name.
+fn add_alias(
+    alloc: Global,
+    merged: &mut Types,
+    name: &str,
+    source: ResourceId,
+) -> Result<ResourceId, AllocError>
+    requires { HasResource merged.old source }
+    ensures extended { IsExtended merged.old merged.new }
+    ensures alias { IfOk result (λ a. IsAliasOf merged.new name.now source a) }
+{
+    growth_keeps_trees(merged);
+    let resource = Resource::alias(alloc, name, None, source)?;
+    match merged.add_resource(resource) {
+        Ok(id) => Ok(id),
+        Err(AddTypeError::OutOfMemory) => Err(AllocError),
+        Err(_) => unreachable!(),
+    }
+}
+
+/// What the type of a type item becomes under a name, where the interface of what lies in it is given for an interface.
+fn write_type(
+    merged: &mut Types,
+    renamed: &mut Renamed,
+    renaming: &Renaming<'_>,
+    inner: Option<InterfaceId>,
+    name: &str,
+    ty: Type,
+) -> Result<Type, AllocError>
+    requires held { holds_type renaming.now.types.now ty ≡ true }
+    requires given { IsGiven merged.old (kind_of.TypeItem ty) inner }
+    requires known { CanRename merged.old renaming.now }
+    requires right { AreRenamed merged.old renaming.now renamed.old }
+    ensures extended { IsExtended merged.old merged.new }
+    ensures right { OnOk result (AreRenamed merged.new renaming.now renamed.new) }
+    ensures held { IfOk result (λ t. holds_type merged.new t ≡ true) }
+    ensures written { IfOk result (λ t. IsWrittenAs renaming.now.types.now merged.new (becomes renaming.now) inner name.now (kind_of.TypeItem ty) (kind_of.TypeItem t)) }
+{
+    match ty {
+        Type::Resource(id) => {
+            let end = renaming.became.resource(renaming.types, renaming.part, id);
+            let alias = add_alias(renaming.alloc, merged, name, end)?;
+            Ok(Type::Resource(alias))
+        }
+        Type::Func(id) => {
+            let func = renamed.func(merged, renaming, id)?;
+            Ok(Type::Func(func))
+        }
+        Type::Value(value) => {
+            let value = renamed.value(merged, renaming, value)?;
+            Ok(Type::Value(value))
+        }
+        Type::Interface(_) => Ok(Type::Interface(inner.unwrap())),
+        Type::World(id) => Ok(Type::World(id)),
+        Type::Module(id) => Ok(Type::Module(id)),
+    }
+}
+
+/// What an item becomes under a name, where the interface of what lies in it is given for an instance and for an interface.
+pub fn write_kind(
+    merged: &mut Types,
+    renamed: &mut Renamed,
+    renaming: &Renaming<'_>,
+    inner: Option<InterfaceId>,
+    name: &str,
+    kind: ItemKind,
+) -> Result<ItemKind, AllocError>
+    requires held { holds_type renaming.now.types.now (kind_type kind) ≡ true }
+    requires given { IsGiven merged.old kind inner }
+    requires known { CanRename merged.old renaming.now }
+    requires right { AreRenamed merged.old renaming.now renamed.old }
+    ensures extended { IsExtended merged.old merged.new }
+    ensures right { OnOk result (AreRenamed merged.new renaming.now renamed.new) }
+    ensures held { IfOk result (λ k. holds_type merged.new (kind_type k) ≡ true) }
+    ensures written { IfOk result (λ k. IsWrittenAs renaming.now.types.now merged.new (becomes renaming.now) inner name.now kind k) }
+{
+    match kind {
+        ItemKind::TypeItem(ty) => {
+            let ty = write_type(merged, renamed, renaming, inner, name, ty)?;
+            Ok(ItemKind::TypeItem(ty))
+        }
+        ItemKind::Func(id) => {
+            let func = renamed.func(merged, renaming, id)?;
+            Ok(ItemKind::Func(func))
+        }
+        ItemKind::Value(value) => {
+            let value = renamed.value(merged, renaming, value)?;
+            Ok(ItemKind::Value(value))
+        }
+        ItemKind::Instance(_) => Ok(ItemKind::Instance(inner.unwrap())),
+        ItemKind::Component(id) => Ok(ItemKind::Component(id)),
+        ItemKind::Module(id) => Ok(ItemKind::Module(id)),
+    }
+}
+
+/// The interface of the union at a position, of so many that are written from the last on; none where there is no position.
+fn written_inner(
+    written: &[InterfaceId],
+    count: usize,
+    position: Option<usize>,
+) -> Option<InterfaceId>
+    requires { IsBehind count (length written.now) position }
+    ensures { IsFoundIn count written.now position result }
+{
+    let position = position?;
+    Some(written[count - 1 - position])
+}
+
+/// What stands under a name in a union becomes: the union's own resource, or what its first part lists.
+fn write_export(
+    merged: &mut Types,
+    renamed: &mut Renamed,
+    renaming: &Renaming<'_>,
+    unions: &Unions,
+    written: &[InterfaceId],
+    union: usize,
+    name: &str,
+    export: &Export,
+) -> Result<ItemKind, AllocError>
+    requires writing { CanWrite renaming.now.types.now merged.old unions.now.unions.items renaming.now.became.now written.now union }
+    requires export { HasExport unions.now.unions.items union name.now export.now }
+    requires part { renaming.now.part ≡ Some export.now.part }
+    requires right { AreRenamed merged.old renaming.now renamed.old }
+    ensures extended { IsExtended merged.old merged.new }
+    ensures right { OnOk result (AreRenamed merged.new renaming.now renamed.new) }
+    ensures written { IfOk result (IsWrittenItem renaming.now.types.now merged.new renaming.now.became.now (length unions.now.unions.items) written.now union name.now export.now) }
+{
+    if export.is_own {
+        let own = renaming.became.fresh.own_in(union, name).unwrap();
+        return Ok(ItemKind::TypeItem(Type::Resource(own)));
+    }
+    renaming.types.law();
+    let inner = written_inner(written, unions.unions.len(), export.inner);
+    write_kind(merged, renamed, renaming, inner, name, export.kind)
+}
+
+/// Nothing was renamed yet in a part, where another was before it.
+fn begin(alloc: Global, renamed: &mut Renamed, part: &mut Option<usize>, next: usize)
+    ensures part { part.new ≡ Some next }
+    ensures right { (c m : Collection) (b : ABecame) → AreRenamedIn c m b part.old renamed.old → AreRenamedIn c m b part.new renamed.new }
+{
+    if *part != Some(next) {
+        *renamed = Renamed::new(alloc);
+        *part = Some(next);
+    }
+}
+
+/// What the exports of a union become.
+fn write_exports<'a>(
+    alloc: Global,
+    merged: &mut Types,
+    types: &'a Types,
+    unions: &Unions,
+    became: &'a Became<'a>,
+    written: &[InterfaceId],
+    union: usize,
+) -> Result<Named<ItemKind>, AllocError>
+    requires { CanWrite types.now merged.old unions.now.unions.items became.now written.now union }
+    ensures extended { IsExtended merged.old merged.new }
+    ensures written { IfOk result (λ ks. (x : AUnion) → slice_get unions.now.unions.items union ≡ Some x → AreWrittenItems types.now merged.new became.now (length unions.now.unions.items) written.now union x.exports ks) }
+{
+    merged.law();
+    let exports = &unions.unions[union].exports;
+    exports.law();
+    let mut items = Named::with_capacity(alloc, exports.len())?;
+    let mut renamed = Renamed::new(alloc);
+    let mut part = None;
+    for i in 0..exports.len() {
+        let (name, export) = exports.entry_at(i);
+        begin(alloc, &mut renamed, &mut part, export.part);
+        let renaming = Renaming {
+            alloc,
+            types,
+            became,
+            part,
+        };
+        let item = write_export(
+            merged,
+            &mut renamed,
+            &renaming,
+            unions,
+            written,
+            union,
+            name,
+            export,
+        )?;
+        match items.insert(alloc, name, item) {
+            Ok(()) => {}
+            Err(ShapeError::OutOfMemory) => return Err(AllocError),
+            Err(ShapeError::NameTwice) => unreachable!(),
+        }
+    }
+    Ok(items)
+}
+
+/// An optional text, in memory of its own.
+fn copied(alloc: Global, text: &Option<String>) -> Result<Option<Text>, AllocError>
+    ensures { IfOk result (λ t. t ≡ option_map string_bytes text.now) }
+{
+    match text {
+        Some(text) => Ok(Some(Text::new(alloc, text.as_str())?)),
+        None => Ok(None),
+    }
+}
+
+/// Adds an interface that uses no other.
+fn add_interface(
+    alloc: Global,
+    merged: &mut Types,
+    id: Option<Text>,
+    exports: Named<ItemKind>,
+) -> Result<InterfaceId, AllocError>
+    requires held { holds_all merged.old (kind_types exports) ≡ true }
+    requires named { list_all (is_named_right merged.old []) exports ≡ true }
+    ensures extended { IsExtended merged.old merged.new }
+    ensures added { IfOk result (λ w. item_at merged.new.interfaces w.0 ≡ Some (record { id = id; uses = []; exports = exports })) }
+{
+    growth_keeps_trees(merged);
+    let uses = Named::new(alloc);
+    match merged.add_interface(Interface { id, uses, exports }) {
+        Ok(id) => Ok(id),
+        Err(AddTypeError::OutOfMemory) => Err(AllocError),
+        Err(_) => unreachable!(),
+    }
+}
+
+/// Writes a union as an interface, after those behind it.
+fn write_union<'a>(
+    alloc: Global,
+    merged: &mut Types,
+    types: &'a Types,
+    unions: &Unions,
+    became: &'a Became<'a>,
+    written: &[InterfaceId],
+    union: usize,
+    id: &Option<String>,
+) -> Result<InterfaceId, AllocError>
+    requires { CanWrite types.now merged.old unions.now.unions.items became.now written.now union }
+    ensures extended { IsExtended merged.old merged.new }
+    ensures written { IfOk result (λ w. (x : AUnion) → slice_get unions.now.unions.items union ≡ Some x → IsWrittenUnion types.now merged.new became.now (length unions.now.unions.items) written.now union x (option_map string_bytes id.now) w) }
+{
+    let exports = write_exports(alloc, merged, types, unions, became, written, union)?;
+    let id = copied(alloc, id)?;
+    add_interface(alloc, merged, id, exports)
+}
+
+/// Writes unions as interfaces behind what is there, each under the id that is given for it, from the last to the first.
+pub fn write_unions<'a>(
+    alloc: Global,
+    merged: &mut Types,
+    types: &'a Types,
+    unions: &Unions,
+    became: &'a Became<'a>,
+    ids: &[Option<String>],
+) -> Result<Vec<InterfaceId>, AllocError>
+    requires unions { (roots : List (List AnId)) × AreUnions types.now roots unions.now.unions.items unions.now.parts.items }
+    requires parts { became.now.parts.now ≡ unions.now.parts.items }
+    requires counted { length ids.now ≡ length unions.now.unions.items }
+    requires fresh { AreFresh types.now unions.now.unions.items became.now.bindings.now became.now.fresh.now merged.old }
+    requires known { CanRenameAll merged.old types.now became.now }
+    ensures extended { IsExtended merged.old merged.new }
+    ensures written { IfOk result (λ ws. AreWritten types.now merged.new unions.now.unions.items unions.now.parts.items became.now.bindings.now became.now.fresh.now (map (option_map string_bytes) ids.now) ws.items) }
+{
+    merged.law();
+    let count = unions.unions.len();
+    let mut written = Vec::new(alloc);
+    for done in 0..count {
+        let union = count - 1 - done;
+        let behind = written.as_slice();
+        let id = write_union(
+            alloc,
+            merged,
+            types,
+            unions,
+            became,
+            behind,
+            union,
+            &ids[union],
+        )?;
+        written.push(id)?;
+    }
+    written.reverse();
+    Ok(written)
+}

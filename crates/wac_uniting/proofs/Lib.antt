@@ -1,0 +1,7 @@
+pub mod UnionLists
+pub mod UnionGroups
+pub mod SameNames
+pub mod GroupViews
+pub mod UnionPlaces
+pub mod UnionWeights
+pub mod UnionJoins

@@ -1,0 +1,2 @@
+pub mod UnionSteps
+pub mod GroupViews
