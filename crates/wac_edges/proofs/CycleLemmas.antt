@@ -62,7 +62,7 @@ all_left : (edges : Edges) (left : List Bool) (a : ℕ) (bs : List ℕ) → Chai
 all_left edges left a [] chain q h = at_head left a q false h chain (λ other. cc)
 all_left edges left a (b ∷ bs) chain q h = at_head left a q (list_any (eqb q) (b ∷ bs)) h chain.0 (λ other. all_left edges left b bs chain.2 q other)
 
-within : (left : List Bool) (q : ℕ) → is_left left q ≡ true → q < length left
+pub within : (left : List Bool) (q : ℕ) → is_left left q ≡ true → q < length left
 within [] q h = cc
 within (b ∷ left) zero h = omega arith
 within (b ∷ left) (suc q) h = let r = within left q h in omega arith

@@ -12,9 +12,7 @@ use Rattle.std.specs.Cmp.{IsTotalOrder, tied_itself}
 use Rattle.std.specs.Cmp.Lexicographic.{slice_cmp, nat_list_cmp_total}
 use Rattle.std.proofs.lemmas.Cmp.{on_total}
 use Rattle.std.specs.FinSet.{contains, from_list, contains-from_list, remove, contains-remove, same_set, IsAntisymmetric, slice_cmp-IsAntisymmetric, nat_cmp-IsAntisymmetric}
-use Rattle.std.proofs.lemmas.Bool.{eqb-true}
-use Rattle.std.proofs.Common.{zero, suc}
-use Rattle.wac_edges.specs.Edge.{edge_cmp, edge_key, edge_of, edge_of-edge_key, label_key, blocks, IsBlocked, IsFree}
+use Rattle.wac_edges.specs.Edge.{edge_cmp, edge_key, edge_of, edge_of-edge_key, label_key}
 use Rattle.wac_edges.specs.contracts.edges.LabelPartialEq.TheImpl as LabelEq
 use Rattle.wac_edges.specs.contracts.edges.EdgePartialEq.TheImpl as EdgeEq
 use Rattle.wac_edges.specs.declared.edges.Label.{Label}
@@ -108,40 +106,3 @@ IfNone-map P Q (Some x) f h = h
 -- what is in the set is in the list
 pub from_set : (es : List Edge) (e : Edge) → contains (from_list {R = edge_cmp} es) e ≡ true → Contains es e
 from_set es e h = Contains-from_any exact_edges e es (sym (contains-from_list edge_cmp_total es e) ∙ h)
-
--- an edge of the list that passes the test
-passing : (p : Edge → Bool) (es : List Edge) → list_any p es ≡ true → (e : Edge) × Contains es e × (p e ≡ true)
-passing p [] h = cc
-passing p (x ∷ es) h =
-    elim (p x) as (λ t. p x ≡ t → (t || list_any p es) ≡ true → (e : Edge) × Contains (x ∷ es) e × (p e ≡ true)) [
-      | true ↦ λ here _. (x, (zero, omega arith, refl), here)
-      | false ↦ λ _ rest. let (e, there, passes) = passing p es rest in (e, (suc there.0, omega arith, there.2), passes)
-    ] refl h
-
-and_first : (a b : Bool) → (a && b) ≡ true → a ≡ true
-and_first true b h = refl
-and_first false b h = h
-
-and_second : (a b : Bool) → (a && b) ≡ true → b ≡ true
-and_second true b h = h
-and_second false b h = cc
-
-pub blocked_in_set : (es : List Edge) (left : ℕ → Bool) (n : ℕ) → list_any (blocks left n) es ≡ true → IsBlocked (from_list {R = edge_cmp} es) left n
-blocked_in_set es left n h =
-    let (e, there, passes) = passing (blocks left n) es h in
-    (e, in_set es e there, eqb-true e.target n (and_first (eqb e.target n) (left e.source) passes), and_second (eqb e.target n) (left e.source) passes)
-
-pub free_in_set : (es : List Edge) (left : ℕ → Bool) (n : ℕ) → list_any (blocks left n) es ≡ false → IsFree (from_list {R = edge_cmp} es) left n
-free_in_set es left n none e inside leads = elim (left e.source) as (λ t. left e.source ≡ t → t ≡ false) [
-  | true ↦ λ is. absurd (no (list_any (blocks left n) es) none (list_any-from_Contains-edge (from_set es e inside) (rw (leads, is) (eqb_same n))))
-  | false ↦ λ _. refl
-] refl where
-  no : (b : Bool) → b ≡ false → b ≡ true → ⊥
-  no true h _ = cc
-  no false _ h = cc
-
-  eqb_same : (k : ℕ) → (eqb k k && true) ≡ true
-  eqb_same k = grind (arith, nat_tests)
-
-  list_any-from_Contains-edge : Contains es e → blocks left n e ≡ true → list_any (blocks left n) es ≡ true
-  list_any-from_Contains-edge (i, within, is) passes = list_any_at (blocks left n) es i e within (rw is passes)

@@ -7,3 +7,4 @@ pub mod Numbers
 pub mod StepLemmas
 pub mod CycleSearch
 pub mod TargetLemmas
+pub mod ReadyLemmas

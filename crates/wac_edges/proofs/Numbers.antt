@@ -12,7 +12,7 @@ use Rattle.wac_edges.specs.Numbers.{Has}
 abbrev at_key : ℕ → ℕ → Bool
 at_key q = is_at (nat_cmp q)
 
-same_key : (q k : ℕ) → at_key q k ≡ true → q ≡ k
+pub same_key : (q k : ℕ) → at_key q k ≡ true → q ≡ k
 same_key q k h = split (nat_cmp q k) refl h where
   split : (o : Ordering) → o ≡ nat_cmp q k → is_eq o ≡ true → q ≡ k
   split Less is e = cc

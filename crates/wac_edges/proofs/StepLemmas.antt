@@ -4,7 +4,7 @@ use Rattle.std.specs.BTreeSet.{BTreeSet}
 use Rattle.wac_edges.specs.Cycles.{IsStep}
 use Rattle.wac_edges.specs.Numbers.{Has}
 
-has_none : (ks : List ℕ) (q : ℕ) → ks ≡ [] → Has ks q → ⊥
+pub has_none : (ks : List ℕ) (q : ℕ) → ks ≡ [] → Has ks q → ⊥
 has_none ks q none h = let wrong : Has [] q = subst (λ (l : List ℕ). Has l q) none h in cc
 
 -- an empty set more

@@ -1,5 +1,5 @@
 -- An edge as a key of a set.
-use Rattle.std.specs.Prelude.{◌≡◌, ℕ, Bool, true, false, ◌&&◌, ◌==◌, List, [], ◌∷◌, Contains, refl, zero, suc, slice_index_or}
+use Rattle.std.specs.Prelude.{◌≡◌, ℕ, Bool, true, false, List, [], ◌∷◌, Contains, refl, zero, suc, slice_index_or}
 use Rattle.std.proofs.Common.{ap}
 use Rattle.std.specs.FinSet as set
 use Rattle.std.specs.Ordering.{nat_cmp}
@@ -51,10 +51,6 @@ argument_edge source target position = record { source = source; target = target
 -- which nodes are left, by their flags
 abbrev pub is_left : List Bool → ℕ → Bool
 is_left flags n = slice_index_or flags n false
-
--- the edge leads to n from a node that is left
-abbrev pub blocks : (ℕ → Bool) → ℕ → Edge → Bool
-blocks left n e = e.target == n && left e.source
 
 -- an edge leads to n from a node that is left
 abbrev pub IsBlocked : set.FinSet edge_cmp → (ℕ → Bool) → ℕ → Type 0

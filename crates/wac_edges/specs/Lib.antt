@@ -3,3 +3,4 @@ pub mod Order
 pub mod Numbers
 pub mod Cycles
 pub mod CycleSearch
+pub mod Ready

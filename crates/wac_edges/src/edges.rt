@@ -1,13 +1,11 @@
 //! Labelled edges between numbered nodes.
 ghost use Rattle.std.specs.Prelude.{◌≡◌, ◌<◌, ◌↔◌, ℕ, true, false, length, OnOk, OnErr, IfOk, IfSome, IfNone, MatchOption, not, Contains};
 ghost use Rattle.std.specs.FinSet as set;
-ghost use Rattle.std.specs.Bool.{OnTrue, OnFalse};
 ghost use Rattle.wac_edges.specs.declared.edges.Label.TheVariants.{Alias, Argument, Dependency};
-ghost use Rattle.wac_edges.specs.Edge.{edge_cmp, alias_edge, argument_edge, IsBlocked, IsFree, IsListed, blocks, is_left as flag_at};
+ghost use Rattle.wac_edges.specs.Edge.{edge_cmp, alias_edge, argument_edge, IsListed};
 ghost use Rattle.wac_edges.specs.Order.{IsAcyclic, IsEdge, IsLowestOnCycle};
 ghost use Rattle.wac_edges.specs.Cycles.{IsStep};
 ghost use Rattle.wac_edges.specs.declared.edges.Edge.{Edge as AnEdge};
-ghost use Rattle.std.specs.List.{list_any};
 ghost use Rattle.wac_edges.specs.contracts.edges.EdgePartialEq.TheImpl as EdgeEq;
 ghost use Rattle.std.specs.List.{filter};
 
@@ -112,14 +110,6 @@ impl Edges {
         argument_in(&self.list, target, position)
     }
 
-    /// Whether an edge leads to a node from one that is left.
-    pub fn is_blocked(&self, left: &[bool], target: usize) -> bool
-        ensures blocked { OnTrue result (IsBlocked self.now (flag_at left.now) target) }
-        ensures free { OnFalse result (IsFree self.now (flag_at left.now) target) }
-    {
-        is_blocked_in(&self.list, left, target)
-    }
-
     /// The lowest node on a cycle of edges, all of which lead to one of the first so many nodes.
     pub fn lowest_on_cycle(&self, alloc: Global, nodes: usize) -> Result<Option<usize>, AllocError>
         requires { (e : AnEdge) → set.contains self.now e ≡ true → e.target < nodes }
@@ -130,7 +120,11 @@ impl Edges {
     }
 
     /// For each of the first so many nodes, those to which edges lead from it.
-    fn targets(&self, alloc: Global, nodes: usize) -> Result<Vec<BTreeSet<usize>>, AllocError>
+    pub(crate) fn targets(
+        &self,
+        alloc: Global,
+        nodes: usize,
+    ) -> Result<Vec<BTreeSet<usize>>, AllocError>
         ensures counted { IfOk result (λ v. length v.items ≡ nodes) }
         ensures steps { IfOk result (λ v. (a b : ℕ) → (IsStep v.items a b ↔ ((a < nodes) × IsEdge self.now a b))) }
     {
@@ -186,13 +180,6 @@ fn argument_in(list: &[Edge], target: usize, position: usize) -> Option<usize>
     None
 }
 
-fn is_blocked_in(list: &[Edge], left: &[bool], target: usize) -> bool
-    ensures { result ≡ list_any (blocks (flag_at left.now) target) list.now }
-{
-    list.iter()
-        .any(|edge| edge.target == target && flag_at(left, edge.source))
-}
-
 fn targets_in(
     alloc: Global,
     list: &[Edge],
@@ -208,14 +195,4 @@ fn targets_in(
         }
     }
     Ok(targets)
-}
-
-/// The flag of a node; unset where none is kept.
-fn flag_at(flags: &[bool], n: usize) -> bool
-    ensures { result ≡ flag_at flags.now n }
-{
-    match flags.get(n) {
-        Some(flag) => *flag,
-        None => false,
-    }
 }

@@ -1,22 +1,114 @@
 //! The order in which nodes are written.
-ghost use Rattle.std.specs.Prelude.{◌≡◌, ℕ, ◌<◌, Bool, true, false, List, [], ◌++◌, length, IfOk, IfSome, IfNone, MatchOption};
-ghost use Rattle.wac_edges.specs.Edge.{is_left, IsBlocked, IsFree};
+ghost use Rattle.std.specs.Prelude.{◌≡◌, ℕ, ◌<◌, ◌≤◌, ◌+◌, ◌-◌, ◌^◌, ◌↔◌, Bool, true, false, List, [], ◌∷◌, ◌++◌, length, slice_index, slice_set, IfOk, OnOk, IfSome, IfNone, MatchOption};
+ghost use Rattle.wac_edges.specs.Edge.{is_left};
 ghost use Rattle.std.specs.Bool.{OnTrue, OnFalse};
-ghost use Rattle.wac_edges.specs.Order.{IsLowestReady, IsStuck, Writes, IsDone, IsOnCycle};
+ghost use Rattle.wac_edges.specs.Order.{Writes, IsDone, IsOnCycle};
+ghost use Rattle.wac_edges.specs.Ready.{occurs, AreCounted, AreReady};
 
 use crate::edges::Edges;
 use std::alloc::{AllocError, Global};
+use std::collections::BTreeSet;
 
-/// The lowest node that is left and to which no edge leads from one that is left.
-fn lowest_ready(edges: &Edges, left: &[bool]) -> Option<usize>
-    ensures { MatchOption result (IsStuck edges.now (is_left left.now)) (λ n. IsLowestReady edges.now (is_left left.now) n) }
+/// Counts a step to a number, if there is a count of it.
+fn count_one(counts: &mut [usize], b: usize)
+    requires { slice_index counts.old b + 1 < 2 ^ 64 }
+    ensures { counts.new ≡ slice_set counts.old b (slice_index counts.old b + 1) }
 {
-    for n in 0..left.len() {
-        if left[n] && !edges.is_blocked(left, n) {
-            return Some(n);
+    if b < counts.len() {
+        counts[b] += 1;
+    }
+}
+
+/// Counts the steps to some numbers.
+fn count(steps: &BTreeSet<usize>, counts: &mut [usize])
+    requires { (b : ℕ) → slice_index counts.old b + 1 < 2 ^ 64 }
+    ensures counted { (b : ℕ) → b < length counts.old → slice_index counts.new b ≡ slice_index counts.old b + occurs steps.now.keys b }
+    ensures once { (b : ℕ) → occurs steps.now.keys b ≤ 1 }
+{
+    for b in steps.iter() {
+        count_one(counts, *b);
+    }
+}
+
+/// Counts the steps from those that are left, over counts that are zero.
+fn count_all(targets: &[BTreeSet<usize>], left: &[bool], counts: &mut [usize])
+    requires long { length left.now ≡ length targets.now }
+    requires none { (b : ℕ) → slice_index counts.old b ≡ 0 }
+    ensures { AreCounted left.now targets.now counts.new }
+{
+    for a in 0..targets.len() {
+        if left[a] {
+            count(&targets[a], counts);
         }
     }
-    None
+}
+
+/// For each number, how many steps lead to it from those that are left.
+fn counts(
+    alloc: Global,
+    targets: &[BTreeSet<usize>],
+    left: &[bool],
+) -> Result<Vec<usize>, AllocError>
+    requires { length left.now ≡ length targets.now }
+    ensures long { IfOk result (λ v. length v.items ≡ length targets.now) }
+    ensures counted { IfOk result (λ v. AreCounted left.now targets.now v.items) }
+{
+    let mut counts = vec![in alloc; 0; targets.len()]?;
+    count_all(targets, left, &mut counts);
+    Ok(counts)
+}
+
+/// The numbers that are left and whose count is zero.
+fn free(alloc: Global, left: &[bool], counts: &[usize]) -> Result<BTreeSet<usize>, AllocError>
+    requires { length counts.now ≡ length left.now }
+    ensures { IfOk result (λ s. AreReady s left.now counts.now) }
+{
+    let mut ready = BTreeSet::new(alloc);
+    for b in 0..left.len() {
+        if left[b] && counts[b] == 0 {
+            ready.insert(b)?;
+        }
+    }
+    Ok(ready)
+}
+
+/// Takes a step to a number away. If it is left and no step to it is, it is ready.
+fn release_one(
+    b: usize,
+    left: &[bool],
+    counts: &mut [usize],
+    ready: &mut BTreeSet<usize>,
+) -> Result<(), AllocError>
+    requires long { length counts.old ≡ length left.now }
+    requires ready { AreReady ready.old left.now counts.old }
+    ensures counted { OnOk result (counts.new ≡ slice_set counts.old b (slice_index counts.old b - 1)) }
+    ensures ready { OnOk result (AreReady ready.new left.now counts.new) }
+{
+    if b < counts.len() {
+        counts[b] = counts[b].saturating_sub(1);
+        if counts[b] == 0 && left[b] {
+            ready.insert(b)?;
+        }
+    }
+    Ok(())
+}
+
+/// Takes the steps to some numbers away. Those that are left and to which no step is left are ready.
+fn release(
+    steps: &BTreeSet<usize>,
+    left: &[bool],
+    counts: &mut [usize],
+    ready: &mut BTreeSet<usize>,
+) -> Result<(), AllocError>
+    requires long { length counts.old ≡ length left.now }
+    requires ready { AreReady ready.old left.now counts.old }
+    ensures counted { OnOk result ((b : ℕ) → b < length counts.old → slice_index counts.new b ≡ slice_index counts.old b - occurs steps.now.keys b) }
+    ensures ready { OnOk result (AreReady ready.new left.now counts.new) }
+{
+    for b in steps.iter() {
+        release_one(*b, left, counts, ready)?;
+    }
+    Ok(())
 }
 
 /// Whether no node is left.
@@ -43,10 +135,19 @@ pub fn order(
     ensures cycle { IfOk result (λ o. IfNone o ((n : ℕ) × IsOnCycle edges.now n)) }
 {
     let mut left = left;
+    let targets = edges.targets(alloc, left.len())?;
+    let mut counts = counts(alloc, targets.as_slice(), left.as_slice())?;
+    let mut ready = free(alloc, left.as_slice(), counts.as_slice())?;
     let mut written = Vec::new(alloc);
-    while let Some(n) = lowest_ready(edges, &left) {
+    while let Some(n) = ready.pop_first() {
         written.push(n)?;
         left[n] = false;
+        release(
+            &targets[n],
+            left.as_slice(),
+            counts.as_mut_slice(),
+            &mut ready,
+        )?;
     }
     if is_done(&left) {
         Ok(Some(written))

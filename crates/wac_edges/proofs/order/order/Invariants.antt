@@ -1,11 +1,18 @@
-use Rattle.std.proofs.Common.{ℕ, ◌++◌, List}
+use Rattle.std.proofs.Common.{◌≡◌, ℕ, ◌++◌, List, length}
 use Rattle.std.specs.Prelude.{count_by}
 use Rattle.wac_edges.specs.Edge.{is_left}
 use Rattle.wac_edges.specs.Order.{Writes}
+use Rattle.wac_edges.specs.Ready.{AreCounted, AreReady}
 use Rattle.wac_edges.proofs.order.order.Given as goal
 
 abbrev pub invariant-loop-n : goal.invariant-loop-n
-invariant-loop-n l = (ns : List ℕ) → Writes l.edges (is_left l.left.items) ns → Writes l.edges (is_left l.fn.left.items) (l.written.items ++ ns)
+invariant-loop-n l = record {
+  later : (ns : List ℕ) → Writes l.edges (is_left l.left.items) ns → Writes l.edges (is_left l.fn.left.items) (l.written.items ++ ns);
+  left_long : length l.left.items ≡ length l.targets.items;
+  counts_long : length l.counts.items ≡ length l.targets.items;
+  counted : AreCounted l.left.items l.targets.items l.counts.items;
+  ready : AreReady l.ready l.left.items l.counts.items;
+}
 
 abbrev pub decreases-loop-n : goal.decreases-loop-n
 decreases-loop-n l = count_by (λ b. b) l.left.items

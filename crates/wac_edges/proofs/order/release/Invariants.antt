@@ -1,0 +1,11 @@
+use Rattle.std.proofs.Common.{◌≡◌, ℕ, ◌<◌, ◌-◌, length}
+use Rattle.std.specs.Prelude.{slice_index}
+use Rattle.wac_edges.specs.Ready.{occurs, AreReady}
+use Rattle.wac_edges.proofs.order.release.Given as goal
+
+abbrev pub invariant-loop-b : goal.invariant-loop-b
+invariant-loop-b l = record {
+  long : length l.counts ≡ length l.left;
+  counted : (q : ℕ) → q < length l.initial.counts → slice_index l.counts q - occurs l.b-iterator q ≡ slice_index l.initial.counts q - occurs l.steps.keys q;
+  ready : AreReady l.ready l.left l.counts;
+}
