@@ -1,11 +1,10 @@
-use Rattle.std.proofs.Common.{◌≡◌, ℕ, Bool, true, false, List, [], ◌∷◌, refl, ap, ◌∙◌, sym, arith, eqb, ◌&&◌, not, ◌||◌, cond, length, get_or, ◌<◌}
+use Rattle.std.proofs.Common.{◌≡◌, ℕ, Bool, true, false, List, [], ◌∷◌, refl, ap, ◌∙◌, sym, arith, eqb, ◌&&◌, not, ◌||◌, cond}
 use Rattle.std.proofs.lemmas.Bool.Decides.{nat_tests}
 use Rattle.std.specs.List.{list_any, filter}
 use Rattle.std.proofs.lemmas.List.Folds.{list_any_at}
 use Rattle.std.proofs.lemmas.Map.Views.{tells_apart, Contains-from_any}
 use Rattle.std.specs.List.{Contains}
 use Rattle.std.proofs.Common.{IfSome, IfNone, Option, Some, None}
-use Rattle.std.proofs.lemmas.Bool.{false_from_ne_true}
 use Rattle.std.specs.Ordering.{nat_cmp, eq_by_cmp, is_eq}
 use Rattle.std.proofs.Math.Bool.{and-false}
 use Rattle.std.specs.Cmp.{IsTotalOrder, tied_itself}
@@ -86,14 +85,8 @@ remove_by_filter es e = same_set edge_cmp_total edge_cmp-IsAntisymmetric _ _ (λ
     ∙ sym (contains-remove edge_cmp_total (from_list es) e q))
 
 -- an edge of the list is in the set
-pub member : (es : List Edge) (i : ℕ) (d : Edge) → i < length es → contains (from_list {R = edge_cmp} es) (get_or es i d) ≡ true
-member es i d h = contains-from_list edge_cmp_total es (get_or es i d) ∙ list_any_at (eq_by_cmp edge_cmp (get_or es i d)) es i d h (ap is_eq (tied_itself edge_cmp_total (get_or es i d)))
-
 pub in_set : (es : List Edge) (e : Edge) → Contains es e → contains (from_list {R = edge_cmp} es) e ≡ true
 in_set es e h = contains-from_list edge_cmp_total es e ∙ list_any_at (eq_by_cmp edge_cmp e) es h.0 e h.1 (ap (λ (x : Edge). eq_by_cmp edge_cmp e x) h.2 ∙ ap is_eq (tied_itself edge_cmp_total e))
-
-pub not_in_set : (es : List Edge) (e : Edge) → (Contains es e → ⊥) → contains (from_list {R = edge_cmp} es) e ≡ false
-not_in_set es e h = false_from_ne_true _ (λ t. h (Contains-from_any exact_edges e es (sym (contains-from_list edge_cmp_total es e) ∙ t)))
 
 pub IfSome-map : {X : Type 0} (P Q : X → Type 0) (o : Option X) → ((x : X) → P x → Q x) → IfSome o P → IfSome o Q
 IfSome-map P Q None f h = h

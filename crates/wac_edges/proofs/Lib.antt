@@ -8,3 +8,4 @@ pub mod StepLemmas
 pub mod CycleSearch
 pub mod TargetLemmas
 pub mod ReadyLemmas
+pub mod RowLemmas

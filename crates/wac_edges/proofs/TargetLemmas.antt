@@ -1,96 +1,70 @@
 -- The sets of the nodes to which edges lead, and that cycles of edges are those of steps between numbers.
-use Rattle.std.proofs.Common.{◌≡◌, ℕ, ◌+◌, ◌<◌, ◌≤◌, true, List, [], ◌∷◌, length, Option, Some, None, slice_get, refl, ap, sym, ◌∙◌, subst, ◌⊎◌, inl, inr, arith}
-use Rattle.std.specs.Prelude.{◌↔◌}
+use Rattle.std.proofs.Common.{◌≡◌, ℕ, ◌+◌, ◌<◌, true, List, [], ◌∷◌, ◌++◌, length, take, get_or, Option, Some, None, ap, sym, ◌∙◌, subst, ◌⊎◌, inl, inr, arith}
+use Rattle.std.specs.Prelude.{◌↔◌, Contains}
 use Rattle.std.specs.BTreeSet.{BTreeSet}
 use Rattle.std.specs.FinSet as set
-use Rattle.std.specs.FinSet.{from_list}
 use Rattle.std.specs.Option.{MatchOption}
-use Rattle.std.proofs.lemmas.Bool.Decides.{eqb_tells}
-use Rattle.std.proofs.lemmas.Option.{slice_get_read, slice_get_within, get_or_from_slice_get}
+use Rattle.std.proofs.lemmas.Bool.{cases_eq}
+use Rattle.std.proofs.lemmas.List.{take_more}
+use Rattle.std.proofs.lemmas.List.Elements.{Contains-append_left, Contains-push, Contains-push_cases}
 use Rattle.wac_edges.specs.declared.edges.Edge.{Edge}
 use Rattle.wac_edges.specs.Cycles.{IsStep, AreWithin, LeadsBack, HasNoCycle, HasLowestOnCycle, Path, step, further}
-use Rattle.wac_edges.specs.Edge.{edge_cmp, IsListed}
 use Rattle.wac_edges.specs.Order.{Edges, IsEdge, Leads, IsOnCycle, IsAcyclic, IsLowestOnCycle}
-use Rattle.wac_edges.proofs.EdgeLemmas.{in_set, from_set}
+use Rattle.wac_edges.specs.Rows.{LeadsTo}
 use Rattle.wac_edges.proofs.ReachLemmas.{cycle_target}
 
-module _ (list : List Edge) (nodes : ℕ) where
-  -- an edge before this position leads from a, one of the nodes, to b
-  pub record IsTold (before a b : ℕ) : Type 0 where
-    pub low : a < nodes
-    pub at : ℕ
-    pub edge : Edge
-    pub early : at < before
-    pub is_edge : slice_get list at ≡ Some edge
-    pub from : edge.source ≡ a
-    pub to : edge.target ≡ b
+-- the steps of one edge more
+pub leads_more : (list : List Edge) (k : ℕ) (d e : Edge) → k < length list → get_or list k d ≡ e → (b : ℕ) → LeadsTo (take (k + 1) list) b ↔ (LeadsTo (take k list) b ⊎ (b ≡ e.target))
+leads_more list k d e low is b = (to, from) where
+  one : take (k + 1) list ≡ take k list ++ e ∷ []
+  one = take_more list k d low ∙ ap (λ (x : Edge). take k list ++ x ∷ []) is
 
-  pub told_none : (sets : List (BTreeSet ℕ)) → ((a b : ℕ) → IsStep sets a b → ⊥) → (a b : ℕ) → IsStep sets a b ↔ IsTold 0 a b
-  told_none sets none a b = (λ s. absurd (none a b s), λ t. let early : t.at < 0 = t.early in absurd (omega arith))
+  to : LeadsTo (take (k + 1) list) b → LeadsTo (take k list) b ⊎ (b ≡ e.target)
+  to (x, there, leads) = split (Contains-push_cases (take k list) e x (subst (λ (l : List Edge). Contains l x) one there)) where
+    split : Contains (take k list) x ⊎ (e ≡ x) → LeadsTo (take k list) b ⊎ (b ≡ e.target)
+    split (inl w) = inl (x, w, leads)
+    split (inr same) = inr (sym leads ∙ ap (λ (y : Edge). y.target) (sym same))
 
-  module _ (k : ℕ) (e : Edge) (here : slice_get list k ≡ Some e) (sets : List (BTreeSet ℕ)) (told : (a b : ℕ) → IsStep sets a b ↔ IsTold k a b) where
-    wider : (a b : ℕ) → IsTold k a b → IsTold (k + 1) a b
-    wider a b t = record {
-      low = t.low;
-      at = t.at;
-      edge = t.edge;
-      early = let early : t.at < k = t.early in omega arith;
-      is_edge = t.is_edge;
-      from = t.from;
-      to = t.to;
-    }
+  from : LeadsTo (take k list) b ⊎ (b ≡ e.target) → LeadsTo (take (k + 1) list) b
+  from (inl (x, w, leads)) = (x, subst (λ (l : List Edge). Contains l x) (sym one) (Contains-append_left (take k list) (e ∷ []) x w), leads)
+  from (inr same) = (e, subst (λ (l : List Edge). Contains l e) (sym one) (Contains-push (take k list) e), sym same)
 
-    this : (a b : ℕ) (t : IsTold (k + 1) a b) → t.at ≡ k → t.edge ≡ e
-    this a b t same = let some : Some t.edge ≡ Some e = sym t.is_edge ∙ (ap (slice_get list) same ∙ here) in cc
+pub leads_none : (b : ℕ) → LeadsTo [] b → ⊥
+leads_none b (e, (k, within, _), _) = let wrong : k < 0 = within in omega arith
 
-    split : (a b : ℕ) → IsTold (k + 1) a b → IsTold k a b ⊎ ((a ≡ e.source) × (b ≡ e.target))
-    split a b t = elim (eqb_tells t.at k) [
-      | inl (_, same) ↦ inr (sym t.from ∙ ap (λ (x : Edge). x.source) (this a b t same), sym t.to ∙ ap (λ (x : Edge). x.target) (this a b t same))
-      | inr (_, other) ↦ inl (record {
-        low = t.low;
-        at = t.at;
-        edge = t.edge;
-        early = let early : t.at < k + 1 = t.early in omega (arith, other);
-        is_edge = t.is_edge;
-        from = t.from;
-        to = t.to;
-      })
-    ]
+pub step_none : (S A L : Type 0) → (L → ⊥) → S ↔ (S ⊎ (A × L))
+step_none S A L none = (λ s. inl s, from) where
+  from : S ⊎ (A × L) → S
+  from (inl s) = s
+  from (inr (_, l)) = absurd (none l)
 
-    -- an edge from one of the nodes adds its step
-    pub told_next : (new : List (BTreeSet ℕ)) → e.source < nodes → ((a b : ℕ) → IsStep new a b ↔ (IsStep sets a b ⊎ ((a ≡ e.source) × (b ≡ e.target)))) → (a b : ℕ) → IsStep new a b ↔ IsTold (k + 1) a b
-    told_next new low added a b = (λ s. to ((added a b).0 s), λ t. (added a b).1 (from (split a b t))) where
-      to : IsStep sets a b ⊎ ((a ≡ e.source) × (b ≡ e.target)) → IsTold (k + 1) a b
-      to (inl s) = wider a b ((told a b).0 s)
-      to (inr (same, also)) = record { low = omega (arith, same, low); at = k; edge = e; early = omega arith; is_edge = here; from = sym same; to = sym also }
+pub step_more : (S C N A L M E : Type 0) → C ↔ (S ⊎ (A × L)) → N ↔ (C ⊎ (A × E)) → M ↔ (L ⊎ E) → N ↔ (S ⊎ (A × M))
+step_more S C N A L M E was next more = (λ n. to (next.0 n), λ s. next.1 (from s)) where
+  old : S ⊎ (A × L) → S ⊎ (A × M)
+  old (inl s) = inl s
+  old (inr (a, l)) = inr (a, more.1 (inl l))
 
-      from : IsTold k a b ⊎ ((a ≡ e.source) × (b ≡ e.target)) → IsStep sets a b ⊎ ((a ≡ e.source) × (b ≡ e.target))
-      from (inl t) = inl ((told a b).1 t)
-      from (inr same) = inr same
+  to : C ⊎ (A × E) → S ⊎ (A × M)
+  to (inl c) = old (was.0 c)
+  to (inr (a, e)) = inr (a, more.1 (inr e))
 
-    -- an edge from another node adds none
-    pub told_skip : nodes ≤ e.source → (a b : ℕ) → IsStep sets a b ↔ IsTold (k + 1) a b
-    told_skip high a b = (λ s. wider a b ((told a b).0 s), λ t. from t (split a b t)) where
-      from : IsTold (k + 1) a b → IsTold k a b ⊎ ((a ≡ e.source) × (b ≡ e.target)) → IsStep sets a b
-      from t (inl before) = (told a b).1 before
-      from t (inr (same, _)) = let low : a < nodes = t.low in absurd (omega (arith, same, high))
+  which : A → L ⊎ E → C ⊎ (A × E)
+  which a (inl l) = inl (was.1 (inr (a, l)))
+  which a (inr e) = inr (a, e)
 
-  pub told_all : (k : ℕ) (sets : List (BTreeSet ℕ)) → length list ≤ k → ((a b : ℕ) → IsStep sets a b ↔ IsTold k a b) → (a b : ℕ) → IsStep sets a b ↔ ((a < nodes) × IsListed list a b)
-  told_all k sets all told a b = (λ s. to ((told a b).0 s), λ h. (told a b).1 (from h)) where
-    to : IsTold k a b → (a < nodes) × IsListed list a b
-    to t = (t.low, (t.edge, (t.at, slice_get_within list t.at t.edge t.is_edge, get_or_from_slice_get list t.at t.edge t.edge t.is_edge), t.from, t.to))
+  from : S ⊎ (A × M) → C ⊎ (A × E)
+  from (inl s) = inl (was.1 (inl s))
+  from (inr (a, m)) = which a (more.0 m)
 
-    from : (a < nodes) × IsListed list a b → IsTold k a b
-    from (low, (e, (i, within, is), leaves, leads)) = record { low = low; at = i; edge = e; early = omega (arith, within, all); is_edge = slice_get_read list (length list) i e refl within (sym is); from = leaves; to = leads }
+pub next_row : (P : ℕ → Type 0) (n a : ℕ) (C N : Type 0) → C ↔ ((n < a) × P n) → N ↔ (C ⊎ ((n ≡ a) × P a)) → N ↔ ((n < a + 1) × P n)
+next_row P n a C N was next = (λ x. to (next.0 x), λ p. next.1 (from (cases_eq n a) p)) where
+  to : C ⊎ ((n ≡ a) × P a) → (n < a + 1) × P n
+  to (inl c) = let (low, p) = was.0 c in (omega (arith, low), p)
+  to (inr (same, p)) = (omega (arith, same), subst P (sym same) p)
 
--- steps by what is listed are steps by what is in the set
-pub in_edges : (list : List Edge) (edges : Edges) → from_list list ≡ edges → (S L : Type 0) (a b : ℕ) → S ↔ (L × IsListed list a b) → S ↔ (L × IsEdge edges a b)
-in_edges list edges is S L a b h = subst (λ (es : Edges). S ↔ (L × IsEdge es a b)) is (to, from) where
-  to : S → L × IsEdge (from_list {R = edge_cmp} list) a b
-  to s = let (low, (e, there, leaves, leads)) = h.0 s in (low, (e, in_set list e there, leaves, leads))
-
-  from : L × IsEdge (from_list {R = edge_cmp} list) a b → S
-  from (low, (e, stands, leaves, leads)) = h.1 (low, (e, from_set list e stands, leaves, leads))
+  from : (n ≡ a) ⊎ (n ≡ a → ⊥) → (n < a + 1) × P n → C ⊎ ((n ≡ a) × P a)
+  from (inl same) (_, p) = inr (same, subst P same p)
+  from (inr other) (low, p) = inl (was.1 (omega arith, p))
 
 module _ (edges : Edges) (nodes : ℕ) (sets : List (BTreeSet ℕ)) (ends : (e : Edge) → set.contains edges e ≡ true → e.target < nodes) (counted : length sets ≡ nodes) (steps : (a b : ℕ) → IsStep sets a b ↔ ((a < nodes) × IsEdge edges a b)) where
   target_low : (a b : ℕ) → IsEdge edges a b → b < nodes

@@ -1,5 +1,5 @@
 -- An edge as a key of a set.
-use Rattle.std.specs.Prelude.{◌≡◌, ℕ, Bool, true, false, List, [], ◌∷◌, Contains, refl, zero, suc, slice_index_or}
+use Rattle.std.specs.Prelude.{◌≡◌, ℕ, Bool, true, false, List, [], ◌∷◌, refl, zero, suc, slice_index_or}
 use Rattle.std.proofs.Common.{ap}
 use Rattle.std.specs.FinSet as set
 use Rattle.std.specs.Ordering.{nat_cmp}
@@ -59,7 +59,3 @@ IsBlocked edges left n = (e : Edge) × (set.contains edges e ≡ true) × (e.tar
 -- no edge leads to n from a node that is left
 abbrev pub IsFree : set.FinSet edge_cmp → (ℕ → Bool) → ℕ → Type 0
 IsFree edges left n = (e : Edge) → set.contains edges e ≡ true → e.target ≡ n → left e.source ≡ false
-
--- an edge of the list leads from a to b
-abbrev pub IsListed : List Edge → ℕ → ℕ → Type 0
-IsListed list a b = (e : Edge) × Contains list e × (e.source ≡ a) × (e.target ≡ b)

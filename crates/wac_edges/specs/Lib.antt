@@ -4,3 +4,4 @@ pub mod Numbers
 pub mod Cycles
 pub mod CycleSearch
 pub mod Ready
+pub mod Rows

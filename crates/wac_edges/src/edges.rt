@@ -1,8 +1,9 @@
 //! Labelled edges between numbered nodes.
-ghost use Rattle.std.specs.Prelude.{◌≡◌, ◌<◌, ◌↔◌, ℕ, true, false, length, OnOk, OnErr, IfOk, IfSome, IfNone, MatchOption, not, Contains};
+ghost use Rattle.std.specs.Prelude.{◌≡◌, ◌<◌, ◌↔◌, ◌⊎◌, ℕ, true, false, length, OnOk, OnErr, IfOk, IfSome, IfNone, MatchOption, not, Contains};
 ghost use Rattle.std.specs.FinSet as set;
 ghost use Rattle.wac_edges.specs.declared.edges.Label.TheVariants.{Alias, Argument, Dependency};
-ghost use Rattle.wac_edges.specs.Edge.{edge_cmp, alias_edge, argument_edge, IsListed};
+ghost use Rattle.wac_edges.specs.Edge.{edge_cmp, alias_edge, argument_edge};
+ghost use Rattle.wac_edges.specs.Rows.{row, AreSame, AreWith, AreWithout, HasRoom, LeadsTo};
 ghost use Rattle.wac_edges.specs.Order.{IsAcyclic, IsEdge, IsLowestOnCycle};
 ghost use Rattle.wac_edges.specs.Cycles.{IsStep};
 ghost use Rattle.wac_edges.specs.declared.edges.Edge.{Edge as AnEdge};
@@ -36,10 +37,13 @@ pub struct Edge {
     pub label: Label,
 }
 
-/// A set of edges.
+/// A set of edges: each stands in the row of its source in `out` and in that of its target in `into`. There are rows for all
+/// numbers up to the greatest of a source and of a target that was given.
 #[derive(Drop)]
 pub struct Edges {
-    list: Vec<Edge>,
+    alloc: Global,
+    out: Vec<Vec<Edge>>,
+    into: Vec<Vec<Edge>>,
 }
 
 impl Model for Edges {
@@ -50,7 +54,11 @@ impl Model for Edges {
 
     ghost coded = { set.code edge_code };
 
-    ghost view = { λ a. set.from_list a.list.items };
+    ghost use Rattle.wac_edges.specs.Rows.{all_edges, AreMirrored};
+
+    ghost view = { λ a. set.from_list (all_edges a.into.items) };
+
+    ghost invariant = { λ a. AreMirrored a.out.items a.into.items };
 }
 
 impl Edges {
@@ -59,7 +67,9 @@ impl Edges {
         ensures { result ≡ set.empty }
     {
         Edges {
-            list: Vec::new(alloc),
+            alloc,
+            out: Vec::new(alloc),
+            into: Vec::new(alloc),
         }
     }
 
@@ -68,7 +78,10 @@ impl Edges {
         ensures ok { OnOk result (self.new ≡ set.insert self.old edge) }
         ensures err { OnErr result (self.new ≡ self.old) }
     {
-        self.list.push(edge)?;
+        make_room(self.alloc, &mut self.out, edge.source)?;
+        make_room(self.alloc, &mut self.into, edge.target)?;
+        put(&mut self.out, edge.source, edge);
+        put(&mut self.into, edge.target, edge);
         Ok(())
     }
 
@@ -76,14 +89,15 @@ impl Edges {
     pub fn contains(&self, edge: Edge) -> bool
         ensures { result ≡ set.contains self.now edge }
     {
-        self.list.contains(&edge)
+        walk(&self.into, edge.target).contains(&edge)
     }
 
     /// Takes the edge out, if it is in the set.
     pub fn remove(&mut self, edge: Edge)
         ensures { self.new ≡ set.remove self.old edge }
     {
-        remove_from(&mut self.list, edge);
+        take_out(&mut self.out, edge.source, edge);
+        take_out(&mut self.into, edge.target, edge);
     }
 
     /// The alias of an instance's export at this position.
@@ -91,7 +105,7 @@ impl Edges {
         ensures some { IfSome result (λ target. set.contains self.now (alias_edge source target position) ≡ true) }
         ensures none { IfNone result ((target : ℕ) → set.contains self.now (alias_edge source target position) ≡ false) }
     {
-        alias_in(&self.list, source, position)
+        alias_in(walk(&self.out, source), source, position)
     }
 
     /// The instance and the position of the export that an alias stands for.
@@ -99,7 +113,7 @@ impl Edges {
         ensures some { IfSome result (λ s. set.contains self.now (alias_edge s.0 target s.1) ≡ true) }
         ensures none { IfNone result ((source position : ℕ) → set.contains self.now (alias_edge source target position) ≡ false) }
     {
-        alias_source_in(&self.list, target)
+        alias_source_in(walk(&self.into, target), target)
     }
 
     /// The node that satisfies the import of an instantiation at this position.
@@ -107,7 +121,7 @@ impl Edges {
         ensures some { IfSome result (λ source. set.contains self.now (argument_edge source target position) ≡ true) }
         ensures none { IfNone result ((source : ℕ) → set.contains self.now (argument_edge source target position) ≡ false) }
     {
-        argument_in(&self.list, target, position)
+        argument_in(walk(&self.into, target), target, position)
     }
 
     /// The lowest node on a cycle of edges, all of which lead to one of the first so many nodes.
@@ -128,7 +142,7 @@ impl Edges {
         ensures counted { IfOk result (λ v. length v.items ≡ nodes) }
         ensures steps { IfOk result (λ v. (a b : ℕ) → (IsStep v.items a b ↔ ((a < nodes) × IsEdge self.now a b))) }
     {
-        targets_in(alloc, &self.list, nodes)
+        targets_in(alloc, &self.out, nodes)
     }
 }
 
@@ -182,17 +196,73 @@ fn argument_in(list: &[Edge], target: usize, position: usize) -> Option<usize>
 
 fn targets_in(
     alloc: Global,
-    list: &[Edge],
+    rows: &[Vec<Edge>],
     nodes: usize,
 ) -> Result<Vec<BTreeSet<usize>>, AllocError>
     ensures counted { IfOk result (λ v. length v.items ≡ nodes) }
-    ensures steps { IfOk result (λ v. (a b : ℕ) → (IsStep v.items a b ↔ ((a < nodes) × IsListed list.now a b))) }
+    ensures steps { IfOk result (λ v. (a b : ℕ) → (IsStep v.items a b ↔ ((a < nodes) × LeadsTo (row rows.now a) b))) }
 {
     let mut targets = empty_sets(alloc, nodes)?;
-    for edge in list {
-        if edge.source < nodes {
-            add_step(&mut targets, edge.source, edge.target)?;
-        }
+    for a in 0..nodes {
+        add_targets(&mut targets, a, walk(rows, a))?;
     }
     Ok(targets)
+}
+
+/// Adds steps from a node to those to which some edges lead.
+fn add_targets(targets: &mut [BTreeSet<usize>], a: usize, list: &[Edge]) -> Result<(), AllocError>
+    requires { a < length targets.old }
+    ensures { OnOk result ((n b : ℕ) → (IsStep targets.new n b ↔ (IsStep targets.old n b ⊎ ((n ≡ a) × LeadsTo list.now b)))) }
+{
+    for edge in list {
+        add_step(targets, a, edge.target)?;
+    }
+    Ok(())
+}
+
+/// The edges in the row of a node.
+fn walk(rows: &[Vec<Edge>], node: usize) -> &[Edge]
+    ensures { result.now ≡ row rows.now node }
+{
+    match rows.get(node) {
+        Some(row) => row.as_slice(),
+        None => &[],
+    }
+}
+
+/// Adds rows up to that of a node.
+fn add_rows(alloc: Global, rows: &mut Vec<Vec<Edge>>, node: usize) -> Result<(), AllocError>
+    ensures same { AreSame rows.old.items rows.new.items }
+    ensures there { OnOk result (node < length rows.new.items) }
+{
+    while rows.len() <= node {
+        rows.push(Vec::new(alloc))?;
+    }
+    Ok(())
+}
+
+/// Makes room for one edge more in the row of a node.
+fn make_room(alloc: Global, rows: &mut Vec<Vec<Edge>>, node: usize) -> Result<(), AllocError>
+    ensures same { AreSame rows.old.items rows.new.items }
+    ensures room { OnOk result (HasRoom rows.new.items node) }
+{
+    add_rows(alloc, rows, node)?;
+    rows[node].reserve(1)
+}
+
+/// Puts an edge into the row of a node that has room.
+fn put(rows: &mut [Vec<Edge>], node: usize, edge: Edge)
+    requires { HasRoom rows.old node }
+    ensures { AreWith rows.old node edge rows.new }
+{
+    rows[node].push(edge).unwrap();
+}
+
+/// Takes an edge out of the row of a node.
+fn take_out(rows: &mut [Vec<Edge>], node: usize, edge: Edge)
+    ensures { AreWithout rows.old node edge rows.new }
+{
+    if node < rows.len() {
+        remove_from(&mut rows[node], edge);
+    }
 }

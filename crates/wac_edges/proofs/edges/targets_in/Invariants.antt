@@ -1,11 +1,11 @@
-use Rattle.std.proofs.Common.{◌≡◌, ℕ, length}
+use Rattle.std.proofs.Common.{◌≡◌, ◌<◌, ℕ, length}
 use Rattle.std.specs.Prelude.{◌↔◌}
 use Rattle.wac_edges.specs.Cycles.{IsStep}
-use Rattle.wac_edges.proofs.TargetLemmas.{IsTold}
+use Rattle.wac_edges.specs.Rows.{row, LeadsTo}
 use Rattle.wac_edges.proofs.edges.targets_in.Given as goal
 
-abbrev pub invariant-loop-edge : goal.invariant-loop-edge
-invariant-loop-edge l = record {
+abbrev pub invariant-loop-a : goal.invariant-loop-a
+invariant-loop-a l = record {
   counted : length l.targets.items ≡ l.nodes;
-  told : (a b : ℕ) → IsStep l.targets.items a b ↔ IsTold l.list l.nodes l.edge-index a b;
+  steps : (n b : ℕ) → IsStep l.targets.items n b ↔ ((n < l.a) × LeadsTo (row l.rows n) b);
 }
