@@ -7,3 +7,5 @@ pub mod Became
 pub mod Renaming
 pub mod Writing
 pub mod MergedKinds
+pub mod Values
+pub mod ValueBindings

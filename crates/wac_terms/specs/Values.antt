@@ -1,0 +1,42 @@
+-- Which value types items list and use. A value type is told by its definition, at the end of its aliases; primitives and handles are none.
+use Rattle.std.specs.Prelude.{◌==◌, Bool, false, if◌then◌else◌, List, [], ◌∷◌, Option, Some, None}
+use Rattle.std.specs.List.{list_any}
+use Rattle.wac_shapes.specs.Name.{Name, option_case}
+use Rattle.wac_collection.specs.Collection.{Collection}
+use Rattle.wac_collection.specs.Aliases.{value_resolved}
+use Rattle.wac_collection.specs.Uses.{used_item}
+use Rattle.wac_shapes.specs.declared.component.DefinedTypeId.{DefinedTypeId}
+use Rattle.wac_shapes.specs.declared.component.UsedType.{UsedType}
+use Rattle.wac_shapes.specs.declared.component.ValueType.{ValueType}
+use Rattle.wac_shapes.specs.declared.component.ValueType.TheVariants as val
+use Rattle.wac_shapes.specs.declared.component.«Type».TheVariants as ty
+use Rattle.wac_shapes.specs.declared.component.ItemKind.{ItemKind}
+use Rattle.wac_shapes.specs.declared.component.ItemKind.TheVariants as kind
+
+-- the definition of a value type, where it has one
+abbrev pub definition : ValueType → Option DefinedTypeId
+definition (val.Defined d) = Some d
+definition v = None
+
+-- the value type that an item lists: that of a type item, its aliases followed to the end
+abbrev pub listed_value : Collection → ItemKind → Option DefinedTypeId
+listed_value c (kind.TypeItem (ty.Value v)) = definition (value_resolved c v)
+listed_value c k = None
+
+-- whether it is this one
+abbrev pub is_value : DefinedTypeId → Option DefinedTypeId → Bool
+is_value d None = false
+is_value d (Some q) = q.0 == d.0
+
+-- the first name, in listed order, under which these items list a value type
+abbrev pub value_name : Collection → List (Name × ItemKind) → DefinedTypeId → Option Name
+value_name c [] d = None
+value_name c (e ∷ rest) d = if is_value d (listed_value c e.1) then Some e.0 else value_name c rest d
+
+-- the value type that is used: what the interface that it is used from lists under its name there
+abbrev pub used_value : Collection → Name × UsedType → Option DefinedTypeId
+used_value c e = option_case (used_item c e.0 e.1) None (listed_value c)
+
+-- whether a value type is among those that are used
+abbrev pub uses_value : Collection → List (Name × UsedType) → DefinedTypeId → Bool
+uses_value c uses d = list_any (λ e. is_value d (used_value c e)) uses

@@ -1,0 +1,4 @@
+mod Rows
+pub mod Tables
+pub mod Listings
+pub mod Seen

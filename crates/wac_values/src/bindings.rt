@@ -1,0 +1,147 @@
+//! Which class binds each value type, and under which name.
+ghost use Rattle.std.specs.Prelude.{◌≡◌, true, IfOk, OnOk};
+ghost use Rattle.std.specs.Option.{option_map};
+ghost use Rattle.wac_collection.specs.Collection.{holds_type};
+ghost use Rattle.wac_shapes.specs.Kinds.{kind_type};
+ghost use Rattle.wac_shapes.specs.declared.component.ItemKind.TheVariants as kind_of;
+ghost use Rattle.wac_entries.specs.Bindings.{AreHeld};
+ghost use Rattle.wac_entries.specs.Classes.{by_names, AreClasses};
+ghost use Rattle.wac_terms.specs.ValueBindings.{AreValueBindings, find_value};
+ghost use Rattle.wac_values.specs.Listings.{Takes, exported, has_value, listed_by};
+ghost use Rattle.wac_values.specs.Bound.{binding_view};
+
+use crate::listed::{listed_value, used_values};
+use crate::table::Table;
+use indexmap::IndexSet;
+use std::alloc::{AllocError, Global};
+use std::marker::Model;
+use wac_entries::classes::Classes;
+use wac_entries::entry::Entry;
+use wac_types::{DefinedTypeId, InterfaceId, ItemKind, Named, Types};
+
+/// What binds a value type.
+#[derive(Clone, Copy)]
+pub struct ValueBinding<'a> {
+    /// The number of the class.
+    pub class: usize,
+    /// The name under which the class lists the type; none where the class is the type itself.
+    pub name: Option<&'a str>,
+}
+
+/// Puts the value types that an interface lists, where it uses those in a set.
+fn put_exports(
+    table: &mut Table,
+    alloc: Global,
+    types: &Types,
+    class: usize,
+    exports: &Named<ItemKind>,
+    used: &IndexSet<DefinedTypeId>,
+) -> Result<(), AllocError>
+    ensures { OnOk result (Takes table.old (exported types.now (has_value used.now.keys) class exports.now) table.new) }
+{
+    for i in 0..exports.len() {
+        let (name, kind) = exports.entry_at(i);
+        if let Some(value) = listed_value(types, *kind) {
+            let is_used = used.contains(&value);
+            table.put(alloc, value, is_used, class, Some(name))?;
+        }
+    }
+    Ok(())
+}
+
+/// Puts the value types that an instance in a class lists.
+fn put_instance(
+    table: &mut Table,
+    alloc: Global,
+    types: &Types,
+    class: usize,
+    id: InterfaceId,
+) -> Result<(), AllocError>
+    requires { holds_type types.now (kind_type (kind_of.Instance id)) ≡ true }
+    ensures { OnOk result (Takes table.old (listed_by types.now class (kind_of.Instance id)) table.new) }
+{
+    types.law();
+    let it = &types[id];
+    let used = used_values(alloc, types, &it.uses)?;
+    put_exports(table, alloc, types, class, &it.exports, &used)
+}
+
+/// Puts the value types that a member of a class lists.
+fn put_member(
+    table: &mut Table,
+    alloc: Global,
+    types: &Types,
+    class: usize,
+    kind: ItemKind,
+) -> Result<(), AllocError>
+    requires { holds_type types.now (kind_type kind) ≡ true }
+    ensures { OnOk result (Takes table.old (listed_by types.now class kind) table.new) }
+{
+    if let ItemKind::Instance(id) = kind {
+        return put_instance(table, alloc, types, class, id);
+    }
+    match listed_value(types, kind) {
+        Some(value) => table.put(alloc, value, false, class, None),
+        None => Ok(()),
+    }
+}
+
+/// What binds each value type.
+pub struct ValueBindings {
+    table: Table,
+}
+
+/// The table is let go of here, and not anew at each place where it goes out of scope.
+impl Drop for ValueBindings {
+    fn drop(self) {
+        let ValueBindings { table: _ } = self;
+    }
+}
+
+impl Model for ValueBindings {
+    ghost use Rattle.std.specs.Prelude.{List, ℕ};
+    ghost use Rattle.wac_collection.specs.Tree.{Place};
+    ghost use Rattle.wac_shapes.specs.declared.component.DefinedTypeId.{DefinedTypeId};
+    ghost use Rattle.wac_values.specs.Listings.{places};
+
+    ghost Value = { List (DefinedTypeId × (ℕ × List Place)) };
+
+    ghost view = { λ b. places b.table };
+}
+
+impl ValueBindings {
+    /// What binds a value type, which is to be no alias: `resolve_value_type` follows aliases to the end. None where
+    /// no class lists it. Takes no memory.
+    pub fn of(&self, value: DefinedTypeId) -> Option<ValueBinding<'_>>
+        ensures { option_map binding_view result ≡ find_value self.now value }
+    {
+        let listing = self.table.get(value)?;
+        let name = match &listing.name {
+            Some(text) => Some(text.as_str()),
+            None => None,
+        };
+        Some(ValueBinding {
+            class: listing.class,
+            name,
+        })
+    }
+}
+
+/// What binds each value type, by the classes of these entries. Answers `AllocError` where memory ran out.
+pub fn value_bindings(
+    alloc: Global,
+    types: &Types,
+    entries: &[Entry],
+    classes: &Classes,
+) -> Result<ValueBindings, AllocError>
+    requires held { AreHeld types.now entries.now }
+    requires classes { AreClasses by_names entries.now classes.now.numbers.items classes.now.positions.items classes.now.names }
+    ensures { IfOk result (λ b. AreValueBindings types.now entries.now b) }
+{
+    let numbers = classes.numbers();
+    let mut table = Table::new(alloc);
+    for i in 0..entries.len() {
+        put_member(&mut table, alloc, types, numbers[i], entries[i].kind())?;
+    }
+    Ok(ValueBindings { table })
+}

@@ -1,0 +1,8 @@
+//! Where value types are bound: which class, and under which name.
+//!
+//! A layer of `wac_merge`, whose crate is the door.
+#![tactic(auto)]
+
+pub mod bindings;
+mod listed;
+mod table;

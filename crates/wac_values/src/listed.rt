@@ -1,0 +1,56 @@
+//! Which value types are listed and used.
+ghost use Rattle.std.specs.Prelude.{◌≡◌, true, IfOk};
+ghost use Rattle.wac_collection.specs.Collection.{holds_all, holds_type, used_types};
+ghost use Rattle.wac_shapes.specs.declared.component.DefinedTypeId.{DefinedTypeId as AnId};
+ghost use Rattle.wac_shapes.specs.declared.component.«Type».TheVariants as ty;
+ghost use Rattle.wac_terms.specs.Values.{listed_value, used_value, uses_value};
+ghost use Rattle.wac_values.specs.Listings.{has_value};
+
+use indexmap::IndexSet;
+use std::alloc::{AllocError, Global};
+use wac_types::{DefinedTypeId, ItemKind, Named, Type, Types, UsedType, ValueType};
+
+/// The value type that an item lists: that of a type item, its aliases followed to the end.
+pub(crate) fn listed_value(types: &Types, kind: ItemKind) -> Option<DefinedTypeId>
+    ensures { result ≡ listed_value types.now kind }
+{
+    let ItemKind::TypeItem(Type::Value(value)) = kind else {
+        return None;
+    };
+    match types.resolve_value_type(value) {
+        ValueType::Defined(id) => Some(id),
+        _ => None,
+    }
+}
+
+/// The value type that is used: what the interface that it is used from lists under its name there.
+fn used_value(types: &Types, name: &str, used: &UsedType) -> Option<DefinedTypeId>
+    requires { holds_type types.now (ty.Interface used.now.interface) ≡ true }
+    ensures { result ≡ used_value types.now (name.now, used.now) }
+{
+    let exports = &types[used.interface].exports;
+    let kind = match &used.name {
+        Some(text) => exports.get(text.as_str())?,
+        None => exports.get(name)?,
+    };
+    listed_value(types, *kind)
+}
+
+/// The value types that are used.
+pub(crate) fn used_values(
+    alloc: Global,
+    types: &Types,
+    uses: &Named<UsedType>,
+) -> Result<IndexSet<DefinedTypeId>, AllocError>
+    requires { holds_all types.now (used_types uses.now) ≡ true }
+    ensures { IfOk result (λ values. (d : AnId) → has_value values.keys d ≡ uses_value types.now uses.now d) }
+{
+    let mut values = IndexSet::new(alloc);
+    for i in 0..uses.len() {
+        let (name, used) = uses.entry_at(i);
+        if let Some(value) = used_value(types, name, used) {
+            values.insert(value)?;
+        }
+    }
+    Ok(values)
+}
