@@ -1,4 +1,4 @@
-//! Tests of the crates below `wac_graph`, through what they make public.
+//! Tests of the crates below merging, through what they make public.
 //!
 //! They stand in one crate so that no library is proved once more for its tests.
 #![tactic(auto)]
@@ -7,8 +7,6 @@
 mod binary;
 #[cfg(test)]
 mod collection;
-#[cfg(test)]
-mod merging;
 #[cfg(test)]
 mod names;
 #[cfg(test)]

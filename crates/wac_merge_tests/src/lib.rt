@@ -1,0 +1,7 @@
+//! Tests of merging, through what `wac_merge` makes public.
+//!
+//! They stand apart from `wac_tests`, so that the tests of the crates below need not wait for merging.
+#![tactic(auto)]
+
+#[cfg(test)]
+mod merging;
