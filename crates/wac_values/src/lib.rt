@@ -6,3 +6,5 @@
 pub mod bindings;
 mod listed;
 mod table;
+#[cfg(test)]
+mod tests;
