@@ -1,7 +1,9 @@
-//! Tests of merging, through what `wac_merge` makes public.
+//! Tests of merging, through what `wac_merge` and its layers make public.
 //!
 //! They stand apart from `wac_tests`, so that the tests of the crates below need not wait for merging.
 #![tactic(auto)]
 
 #[cfg(test)]
 mod merging;
+#[cfg(test)]
+mod values;

@@ -6,5 +6,3 @@
 pub mod bindings;
 mod listed;
 mod table;
-#[cfg(test)]
-mod tests;

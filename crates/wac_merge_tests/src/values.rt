@@ -4,7 +4,6 @@ ghost use Rattle.wac_collection.specs.Collection.{holds_type};
 ghost use Rattle.wac_entries.specs.Bindings.{AreHeld};
 ghost use Rattle.wac_shapes.specs.Kinds.{kind_type};
 
-use crate::bindings::value_bindings;
 use std::alloc::Global;
 use std::process::Abort;
 use std::test::Fail;
@@ -13,6 +12,7 @@ use wac_entries::entry::Entry;
 use wac_types::{
     DefinedType, DefinedTypeId, Enum, Interface, InterfaceId, ItemKind, Type, Types, ValueType,
 };
+use wac_values::bindings::value_bindings;
 
 // An enumeration of one case, and an alias of it.
 fn enumeration(types: &mut Types, alloc: Global) -> Result<(DefinedTypeId, ItemKind), Fail> {
