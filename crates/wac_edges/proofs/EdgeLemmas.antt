@@ -11,7 +11,7 @@ use Rattle.std.specs.Cmp.{IsTotalOrder, tied_itself}
 use Rattle.std.specs.Cmp.Lexicographic.{slice_cmp, nat_list_cmp_total}
 use Rattle.std.proofs.lemmas.Cmp.{on_total}
 use Rattle.std.specs.FinSet.{contains, from_list, contains-from_list, remove, contains-remove, same_set, IsAntisymmetric, slice_cmp-IsAntisymmetric, nat_cmp-IsAntisymmetric}
-use Rattle.wac_edges.specs.Edge.{edge_cmp, edge_key, edge_of, edge_of-edge_key, label_key}
+use Rattle.wac_edges.specs.Edge.{edge_cmp, edge_key, edge_of, edge_of-edge_key, label_key, label_of, label_of-label_key}
 use Rattle.wac_edges.specs.contracts.edges.LabelPartialEq.TheImpl as LabelEq
 use Rattle.wac_edges.specs.contracts.edges.EdgePartialEq.TheImpl as EdgeEq
 use Rattle.wac_edges.specs.declared.edges.Label.{Label}
@@ -56,6 +56,19 @@ contains_by_eq es e = any_same es e ∙ sym (contains-from_list edge_cmp_total e
 -- the edges of the list that are not e
 pub exact_edges : (e f : Edge) → eq_by_cmp edge_cmp e f ≡ true → e ≡ f
 exact_edges = tells_apart edge_cmp-IsAntisymmetric
+
+-- the derived `==` of labels and of edges
+pub label_exact : (l m : Label) → (LabelEq.ghosts).eq l m ≡ true → l ≡ m
+label_exact l m h = sym (label_of-label_key l) ∙ ap label_of (sym (tells_apart (slice_cmp-IsAntisymmetric nat_cmp-IsAntisymmetric) (label_key m) (label_key l) (sym (same_label l m) ∙ h))) ∙ label_of-label_key m
+
+pub label_tied : (l m : Label) → l ≡ m → (LabelEq.ghosts).eq l m ≡ true
+label_tied l m e = ap (λ (v : Label). (LabelEq.ghosts).eq l v) (sym e) ∙ same_label l l ∙ ap is_eq (tied_itself nat_list_cmp_total (label_key l))
+
+pub edge_exact : (e f : Edge) → (EdgeEq.ghosts).eq e f ≡ true → e ≡ f
+edge_exact e f h = sym (exact_edges f e (sym (same_edge e f) ∙ h))
+
+pub edge_tied : (e f : Edge) → e ≡ f → (EdgeEq.ghosts).eq e f ≡ true
+edge_tied e f is = ap (λ (v : Edge). (EdgeEq.ghosts).eq e v) (sym is) ∙ same_edge e e ∙ ap is_eq (tied_itself edge_cmp_total e)
 
 absorbed : (n a : Bool) → (not n && a) ≡ (not n && (n || a))
 absorbed true a = refl

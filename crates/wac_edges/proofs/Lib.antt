@@ -8,4 +8,8 @@ pub mod StepLemmas
 pub mod CycleSearch
 pub mod TargetLemmas
 pub mod ReadyLemmas
-pub mod RowLemmas
+pub mod LinkLemmas
+pub mod TableLemmas
+pub mod ListLemmas
+pub mod FindLemmas
+pub mod SetLemmas

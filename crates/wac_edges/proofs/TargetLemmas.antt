@@ -1,34 +1,19 @@
 -- The sets of the nodes to which edges lead, and that cycles of edges are those of steps between numbers.
-use Rattle.std.proofs.Common.{◌≡◌, ℕ, ◌+◌, ◌<◌, true, List, [], ◌∷◌, ◌++◌, length, take, get_or, Option, Some, None, ap, sym, ◌∙◌, subst, ◌⊎◌, inl, inr, arith}
-use Rattle.std.specs.Prelude.{◌↔◌, Contains}
+use Rattle.std.proofs.Common.{◌≡◌, ℕ, ◌+◌, ◌<◌, true, List, [], ◌∷◌, ◌++◌, length, Option, Some, None, ap, sym, ◌∙◌, subst, ◌⊎◌, inl, inr, arith}
+use Rattle.std.specs.Prelude.{◌↔◌}
 use Rattle.std.specs.BTreeSet.{BTreeSet}
 use Rattle.std.specs.FinSet as set
 use Rattle.std.specs.Option.{MatchOption}
 use Rattle.std.proofs.lemmas.Bool.{cases_eq}
-use Rattle.std.proofs.lemmas.List.{take_more}
 use Rattle.std.proofs.lemmas.List.Elements.{Contains-append_left, Contains-push, Contains-push_cases}
 use Rattle.wac_edges.specs.declared.edges.Edge.{Edge}
+use Rattle.wac_edges.specs.declared.edges.End.TheVariants.{Outgoing}
 use Rattle.wac_edges.specs.Cycles.{IsStep, AreWithin, LeadsBack, HasNoCycle, HasLowestOnCycle, Path, step, further}
 use Rattle.wac_edges.specs.Order.{Edges, IsEdge, Leads, IsOnCycle, IsAcyclic, IsLowestOnCycle}
-use Rattle.wac_edges.specs.Rows.{LeadsTo}
+use Rattle.wac_edges.specs.Ends.{AreAt, LeadsTo}
 use Rattle.wac_edges.proofs.ReachLemmas.{cycle_target}
 
--- the steps of one edge more
-pub leads_more : (list : List Edge) (k : ℕ) (d e : Edge) → k < length list → get_or list k d ≡ e → (b : ℕ) → LeadsTo (take (k + 1) list) b ↔ (LeadsTo (take k list) b ⊎ (b ≡ e.target))
-leads_more list k d e low is b = (to, from) where
-  one : take (k + 1) list ≡ take k list ++ e ∷ []
-  one = take_more list k d low ∙ ap (λ (x : Edge). take k list ++ x ∷ []) is
-
-  to : LeadsTo (take (k + 1) list) b → LeadsTo (take k list) b ⊎ (b ≡ e.target)
-  to (x, there, leads) = split (Contains-push_cases (take k list) e x (subst (λ (l : List Edge). Contains l x) one there)) where
-    split : Contains (take k list) x ⊎ (e ≡ x) → LeadsTo (take k list) b ⊎ (b ≡ e.target)
-    split (inl w) = inl (x, w, leads)
-    split (inr same) = inr (sym leads ∙ ap (λ (y : Edge). y.target) (sym same))
-
-  from : LeadsTo (take k list) b ⊎ (b ≡ e.target) → LeadsTo (take (k + 1) list) b
-  from (inl (x, w, leads)) = (x, subst (λ (l : List Edge). Contains l x) (sym one) (Contains-append_left (take k list) (e ∷ []) x w), leads)
-  from (inr same) = (e, subst (λ (l : List Edge). Contains l e) (sym one) (Contains-push (take k list) e), sym same)
-
+-- no step leads from no edge
 pub leads_none : (b : ℕ) → LeadsTo [] b → ⊥
 leads_none b (e, (k, within, _), _) = let wrong : k < 0 = within in omega arith
 
@@ -65,6 +50,37 @@ next_row P n a C N was next = (λ x. to (next.0 x), λ p. next.1 (from (cases_eq
   from : (n ≡ a) ⊎ (n ≡ a → ⊥) → (n < a + 1) × P n → C ⊎ ((n ≡ a) × P a)
   from (inl same) (_, p) = inr (same, subst P same p)
   from (inr other) (low, p) = inl (was.1 (omega arith, p))
+
+pub leads_push : (given : List Edge) (e : Edge) (b : ℕ) → LeadsTo (given ++ e ∷ []) b ↔ (LeadsTo given b ⊎ (b ≡ e.target))
+leads_push given e b = (to, from) where
+  to : LeadsTo (given ++ e ∷ []) b → LeadsTo given b ⊎ (b ≡ e.target)
+  to (x, there, leads) = elim (Contains-push_cases given e x there) [
+    | inl w ↦ inl (x, w, leads)
+    | inr same ↦ inr (sym leads ∙ ap (λ (y : Edge). y.target) (sym same))
+  ]
+
+  from : LeadsTo given b ⊎ (b ≡ e.target) → LeadsTo (given ++ e ∷ []) b
+  from (inl (x, w, leads)) = (x, Contains-append_left given (e ∷ []) x w, leads)
+  from (inr same) = (e, Contains-push given e, sym same)
+
+-- the edges out of a node lead where its edges in the set do
+pub leads_at : (edges : Edges) (a : ℕ) (es : List Edge) → AreAt edges a Outgoing es → (b : ℕ) → LeadsTo es b ↔ IsEdge edges a b
+leads_at edges a es at b = (to, from) where
+  to : LeadsTo es b → IsEdge edges a b
+  to (e, w, leads) = let (has, source) = (at.all e).0 w in (e, has, source, leads)
+
+  from : IsEdge edges a b → LeadsTo es b
+  from (e, has, source, leads) = (e, (at.all e).1 (has, source), leads)
+
+pub step_as : (N C A L E : Type 0) → N ↔ (C ⊎ (A × L)) → L ↔ E → N ↔ (C ⊎ (A × E))
+step_as N C A L E next same = (λ n. to (next.0 n), λ s. next.1 (from s)) where
+  to : C ⊎ (A × L) → C ⊎ (A × E)
+  to (inl c) = inl c
+  to (inr (a, l)) = inr (a, same.0 l)
+
+  from : C ⊎ (A × E) → C ⊎ (A × L)
+  from (inl c) = inl c
+  from (inr (a, e)) = inr (a, same.1 e)
 
 module _ (edges : Edges) (nodes : ℕ) (sets : List (BTreeSet ℕ)) (ends : (e : Edge) → set.contains edges e ≡ true → e.target < nodes) (counted : length sets ≡ nodes) (steps : (a b : ℕ) → IsStep sets a b ↔ ((a < nodes) × IsEdge edges a b)) where
   target_low : (a b : ℕ) → IsEdge edges a b → b < nodes

@@ -1,16 +1,17 @@
 //! Labelled edges between numbered nodes.
-ghost use Rattle.std.specs.Prelude.{◌≡◌, ◌<◌, ◌↔◌, ◌⊎◌, ℕ, true, false, length, OnOk, OnErr, IfOk, IfSome, IfNone, MatchOption, not, Contains};
+ghost use Rattle.std.specs.Prelude.{◌≡◌, ◌<◌, ◌↔◌, ◌⊎◌, ℕ, true, false, OnOk, OnErr, IfOk, IfSome, IfNone, MatchOption, length};
+ghost use Rattle.std.specs.Bool.{OnTrue, OnFalse};
 ghost use Rattle.std.specs.FinSet as set;
-ghost use Rattle.wac_edges.specs.declared.edges.Label.TheVariants.{Alias, Argument, Dependency};
+ghost use Rattle.wac_edges.specs.declared.edges.Edge.{Edge as AnEdge};
 ghost use Rattle.wac_edges.specs.Edge.{edge_cmp, alias_edge, argument_edge};
-ghost use Rattle.wac_edges.specs.Rows.{row, AreSame, AreWith, AreWithout, HasRoom, LeadsTo};
+ghost use Rattle.wac_edges.specs.Ends.{at_end, AreAt, HasLabel, LeadsTo};
 ghost use Rattle.wac_edges.specs.Order.{IsAcyclic, IsEdge, IsLowestOnCycle};
 ghost use Rattle.wac_edges.specs.Cycles.{IsStep};
-ghost use Rattle.wac_edges.specs.declared.edges.Edge.{Edge as AnEdge};
-ghost use Rattle.wac_edges.specs.contracts.edges.EdgePartialEq.TheImpl as EdgeEq;
-ghost use Rattle.std.specs.List.{filter};
 
 use crate::cycles::{add_step, empty_sets, lowest_on_cycle};
+use crate::records::{Firsts, Record, find, make_firsts, put, take};
+use crate::walk::{Walk, records_at};
+use slab::Slab;
 use std::alloc::{AllocError, Global};
 use std::collections::BTreeSet;
 use std::marker::Model;
@@ -37,13 +38,34 @@ pub struct Edge {
     pub label: Label,
 }
 
-/// A set of edges: each stands in the row of its source in `out` and in that of its target in `into`. There are rows for all
-/// numbers up to the greatest of a source and of a target that was given.
+impl Edge {
+    /// The node that has the edge at this end.
+    pub fn node(&self, end: End) -> usize
+        ensures { result ≡ at_end end self.now }
+    {
+        match end {
+            End::Outgoing => self.source,
+            End::Incoming => self.target,
+        }
+    }
+}
+
+/// An end of edges as their nodes see it.
+#[derive(Clone, Copy, Debug, PartialEq, Eq)]
+pub enum End {
+    /// The edges that lead from a node.
+    Outgoing,
+    /// The edges that lead to a node.
+    Incoming,
+}
+
+/// A set of edges. Each has one record in a table; a record whose edge is taken out is used again. The record stands in a
+/// list of the edges from its source and in one of those to its target, so that each look-up reads the records at one node.
 #[derive(Drop)]
 pub struct Edges {
-    alloc: Global,
-    out: Vec<Vec<Edge>>,
-    into: Vec<Vec<Edge>>,
+    records: Slab<Record>,
+    // For each number up to the greatest of a source or a target that was given.
+    firsts: Vec<Firsts>,
 }
 
 impl Model for Edges {
@@ -54,11 +76,12 @@ impl Model for Edges {
 
     ghost coded = { set.code edge_code };
 
-    ghost use Rattle.wac_edges.specs.Rows.{all_edges, AreMirrored};
+    ghost use Rattle.slab.specs.Slab.{get};
+    ghost use Rattle.wac_edges.specs.Records.{all_edges, AreListed};
 
-    ghost view = { λ a. set.from_list (all_edges a.into.items) };
+    ghost view = { λ a. set.from_list (all_edges a.records.slots) };
 
-    ghost invariant = { λ a. AreMirrored a.out.items a.into.items };
+    ghost invariant = { λ a. AreListed (get a.records) a.firsts.items };
 }
 
 impl Edges {
@@ -67,9 +90,8 @@ impl Edges {
         ensures { result ≡ set.empty }
     {
         Edges {
-            alloc,
-            out: Vec::new(alloc),
-            into: Vec::new(alloc),
+            records: Slab::new(alloc),
+            firsts: Vec::new(alloc),
         }
     }
 
@@ -78,26 +100,52 @@ impl Edges {
         ensures ok { OnOk result (self.new ≡ set.insert self.old edge) }
         ensures err { OnErr result (self.new ≡ self.old) }
     {
-        make_room(self.alloc, &mut self.out, edge.source)?;
-        make_room(self.alloc, &mut self.into, edge.target)?;
-        put(&mut self.out, edge.source, edge);
-        put(&mut self.into, edge.target, edge);
+        if self.contains(edge) {
+            return Ok(());
+        }
+        make_firsts(&mut self.firsts, edge.source)?;
+        make_firsts(&mut self.firsts, edge.target)?;
+        self.records.reserve(1)?;
+        put(&mut self.records, &mut self.firsts, edge);
         Ok(())
     }
 
-    /// Whether the edge is in the set.
+    /// Whether the edge is in the set. This reads no more than two records for each edge at the one of its ends that has
+    /// fewer.
     pub fn contains(&self, edge: Edge) -> bool
         ensures { result ≡ set.contains self.now edge }
     {
-        walk(&self.into, edge.target).contains(&edge)
+        find(&self.records, &self.firsts, edge).is_some()
     }
 
-    /// Takes the edge out, if it is in the set.
+    /// Takes the edge out, if it is in the set. Takes no memory.
     pub fn remove(&mut self, edge: Edge)
         ensures { self.new ≡ set.remove self.old edge }
     {
-        take_out(&mut self.out, edge.source, edge);
-        take_out(&mut self.into, edge.target, edge);
+        if let Some(key) = find(&self.records, &self.firsts, edge) {
+            take(&mut self.records, &mut self.firsts, key);
+        }
+    }
+
+    /// A walk over the edges at this end of a node, the one added last first. Takes no memory.
+    pub fn walk(&self, node: usize, end: End) -> Walk<'_>
+        ensures edges { AreAt self.now node end result.left }
+        ensures steps { result.steps ≡ 0 }
+    {
+        Walk::new(records_at(&self.records, &self.firsts, node, end))
+    }
+
+    /// Whether an edge of this label stands at this end of a node.
+    pub fn has(&self, node: usize, end: End, label: Label) -> bool
+        ensures there { OnTrue result (HasLabel self.now node end label) }
+        ensures absent { OnFalse result (HasLabel self.now node end label → ⊥) }
+    {
+        for edge in self.walk(node, end) {
+            if edge.label == label {
+                return true;
+            }
+        }
+        false
     }
 
     /// The alias of an instance's export at this position.
@@ -105,7 +153,12 @@ impl Edges {
         ensures some { IfSome result (λ target. set.contains self.now (alias_edge source target position) ≡ true) }
         ensures none { IfNone result ((target : ℕ) → set.contains self.now (alias_edge source target position) ≡ false) }
     {
-        alias_in(walk(&self.out, source), source, position)
+        for edge in self.walk(source, End::Outgoing) {
+            if edge.label == Label::Alias(position) {
+                return Some(edge.target);
+            }
+        }
+        None
     }
 
     /// The instance and the position of the export that an alias stands for.
@@ -113,7 +166,12 @@ impl Edges {
         ensures some { IfSome result (λ s. set.contains self.now (alias_edge s.0 target s.1) ≡ true) }
         ensures none { IfNone result ((source position : ℕ) → set.contains self.now (alias_edge source target position) ≡ false) }
     {
-        alias_source_in(walk(&self.into, target), target)
+        for edge in self.walk(target, End::Incoming) {
+            if let Label::Alias(i) = edge.label {
+                return Some((edge.source, i));
+            }
+        }
+        None
     }
 
     /// The node that satisfies the import of an instantiation at this position.
@@ -121,7 +179,12 @@ impl Edges {
         ensures some { IfSome result (λ source. set.contains self.now (argument_edge source target position) ≡ true) }
         ensures none { IfNone result ((source : ℕ) → set.contains self.now (argument_edge source target position) ≡ false) }
     {
-        argument_in(walk(&self.into, target), target, position)
+        for edge in self.walk(target, End::Incoming) {
+            if edge.label == Label::Argument(position) {
+                return Some(edge.source);
+            }
+        }
+        None
     }
 
     /// The lowest node on a cycle of edges, all of which lead to one of the first so many nodes.
@@ -142,127 +205,21 @@ impl Edges {
         ensures counted { IfOk result (λ v. length v.items ≡ nodes) }
         ensures steps { IfOk result (λ v. (a b : ℕ) → (IsStep v.items a b ↔ ((a < nodes) × IsEdge self.now a b))) }
     {
-        targets_in(alloc, &self.out, nodes)
-    }
-}
-
-fn remove_from(list: &mut Vec<Edge>, edge: Edge)
-    ensures { list.new.items ≡ filter (λ e. not ((EdgeEq.ghosts).eq e edge)) list.old.items }
-{
-    list.retain(|e| *e != edge);
-}
-
-fn alias_in(list: &[Edge], source: usize, position: usize) -> Option<usize>
-    ensures some { IfSome result (λ target. Contains list.now (alias_edge source target position)) }
-    ensures none { IfNone result ((target : ℕ) → Contains list.now (alias_edge source target position) → ⊥) }
-{
-    for edge in list {
-        if let Label::Alias(i) = edge.label {
-            if edge.source == source && i == position {
-                return Some(edge.target);
-            }
+        let mut targets = empty_sets(alloc, nodes)?;
+        for a in 0..nodes {
+            add_targets(&mut targets, a, self.walk(a, End::Outgoing))?;
         }
+        Ok(targets)
     }
-    None
-}
-
-fn alias_source_in(list: &[Edge], target: usize) -> Option<(usize, usize)>
-    ensures some { IfSome result (λ s. Contains list.now (alias_edge s.0 target s.1)) }
-    ensures none { IfNone result ((source position : ℕ) → Contains list.now (alias_edge source target position) → ⊥) }
-{
-    for edge in list {
-        if let Label::Alias(i) = edge.label {
-            if edge.target == target {
-                return Some((edge.source, i));
-            }
-        }
-    }
-    None
-}
-
-fn argument_in(list: &[Edge], target: usize, position: usize) -> Option<usize>
-    ensures some { IfSome result (λ source. Contains list.now (argument_edge source target position)) }
-    ensures none { IfNone result ((source : ℕ) → Contains list.now (argument_edge source target position) → ⊥) }
-{
-    for edge in list {
-        if let Label::Argument(i) = edge.label {
-            if edge.target == target && i == position {
-                return Some(edge.source);
-            }
-        }
-    }
-    None
-}
-
-fn targets_in(
-    alloc: Global,
-    rows: &[Vec<Edge>],
-    nodes: usize,
-) -> Result<Vec<BTreeSet<usize>>, AllocError>
-    ensures counted { IfOk result (λ v. length v.items ≡ nodes) }
-    ensures steps { IfOk result (λ v. (a b : ℕ) → (IsStep v.items a b ↔ ((a < nodes) × LeadsTo (row rows.now a) b))) }
-{
-    let mut targets = empty_sets(alloc, nodes)?;
-    for a in 0..nodes {
-        add_targets(&mut targets, a, walk(rows, a))?;
-    }
-    Ok(targets)
 }
 
 /// Adds steps from a node to those to which some edges lead.
-fn add_targets(targets: &mut [BTreeSet<usize>], a: usize, list: &[Edge]) -> Result<(), AllocError>
+fn add_targets(targets: &mut [BTreeSet<usize>], a: usize, walk: Walk<'_>) -> Result<(), AllocError>
     requires { a < length targets.old }
-    ensures { OnOk result ((n b : ℕ) → (IsStep targets.new n b ↔ (IsStep targets.old n b ⊎ ((n ≡ a) × LeadsTo list.now b)))) }
+    ensures { OnOk result ((n b : ℕ) → (IsStep targets.new n b ↔ (IsStep targets.old n b ⊎ ((n ≡ a) × LeadsTo walk.entry.left b)))) }
 {
-    for edge in list {
+    for edge in walk {
         add_step(targets, a, edge.target)?;
     }
     Ok(())
-}
-
-/// The edges in the row of a node.
-fn walk(rows: &[Vec<Edge>], node: usize) -> &[Edge]
-    ensures { result.now ≡ row rows.now node }
-{
-    match rows.get(node) {
-        Some(row) => row.as_slice(),
-        None => &[],
-    }
-}
-
-/// Adds rows up to that of a node.
-fn add_rows(alloc: Global, rows: &mut Vec<Vec<Edge>>, node: usize) -> Result<(), AllocError>
-    ensures same { AreSame rows.old.items rows.new.items }
-    ensures there { OnOk result (node < length rows.new.items) }
-{
-    while rows.len() <= node {
-        rows.push(Vec::new(alloc))?;
-    }
-    Ok(())
-}
-
-/// Makes room for one edge more in the row of a node.
-fn make_room(alloc: Global, rows: &mut Vec<Vec<Edge>>, node: usize) -> Result<(), AllocError>
-    ensures same { AreSame rows.old.items rows.new.items }
-    ensures room { OnOk result (HasRoom rows.new.items node) }
-{
-    add_rows(alloc, rows, node)?;
-    rows[node].reserve(1)
-}
-
-/// Puts an edge into the row of a node that has room.
-fn put(rows: &mut [Vec<Edge>], node: usize, edge: Edge)
-    requires { HasRoom rows.old node }
-    ensures { AreWith rows.old node edge rows.new }
-{
-    rows[node].push(edge).unwrap();
-}
-
-/// Takes an edge out of the row of a node.
-fn take_out(rows: &mut [Vec<Edge>], node: usize, edge: Edge)
-    ensures { AreWithout rows.old node edge rows.new }
-{
-    if node < rows.len() {
-        remove_from(&mut rows[node], edge);
-    }
 }

@@ -4,3 +4,5 @@
 pub mod cycles;
 pub mod edges;
 pub mod order;
+mod records;
+pub mod walk;

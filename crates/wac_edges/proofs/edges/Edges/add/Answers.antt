@@ -1,49 +1,43 @@
-use Rattle.std.proofs.Common.{◌≡◌, length, refl, ap, sym, ◌∙◌, subst, arith}
+use Rattle.std.proofs.Common.{◌≡◌, List, Some, true, false, sym, ap, ◌∙◌, subst}
 use Rattle.std.specs.FinSet as set
-use Rattle.std.proofs.lemmas.List.{with_items_is}
-use Rattle.wac_edges.specs.Rows.{Rows, AreWith, HasRoom}
-use Rattle.wac_edges.proofs.RowLemmas.{the_set, any_err, mirrored_same, mirrored_with, same_value, same_with, with_value}
+use Rattle.slab.specs.Slab.{Slab, get}
+use Rattle.wac_edges.specs.declared.records.Record.{Record}
+use Rattle.wac_edges.specs.declared.records.Firsts.{Firsts}
+use Rattle.wac_edges.specs.Order.{Edges}
+use Rattle.wac_edges.specs.Records.{AreListed, edge_at}
+use Rattle.wac_edges.proofs.TableLemmas.{listed_same}
+use Rattle.wac_edges.proofs.SetLemmas.{the_set, of_table, value_with, inserted_same}
 use Rattle.wac_edges.proofs.edges.Edges.add.Goals as goal
 
+pub returns-then-contains-clause-ok : goal.returns-then-contains-clause-ok
+returns-then-contains-clause-ok c = inserted_same c.args.self.now c.args.edge (sym c.contains.ensures ∙ c.if-contains.true)
+
 pub invariant_of-self : goal.invariant_of-self
-invariant_of-self c = mirrored_same c.self.inside.out.items c.self.inside.into.items c.self.invariant c.make_room.new.rows.items c.self.inside.into.items c.make_room.ensures.same (λ n. refl)
+invariant_of-self c = listed_same (get c.self.inside.records) c.self.inside.firsts.items c.make_firsts.new.firsts.items c.make_firsts.ensures.same c.self.invariant
 
-pub invariant_of-self-in_err-make_room-2 : goal.invariant_of-self-in_err-make_room-2
-invariant_of-self-in_err-make_room-2 c =
-    mirrored_same c.self.inside.out.items c.self.inside.into.items c.self.invariant c.make_room.new.rows.items c.make_room-2.new.rows.items c.make_room.ensures.same c.make_room-2.ensures.same
+pub invariant_of-self-in_err-make_firsts-2 : goal.invariant_of-self-in_err-make_firsts-2
+invariant_of-self-in_err-make_firsts-2 c =
+    listed_same (get c.self.inside.records) c.self.inside.firsts.items c.make_firsts-2.new.firsts.items (λ end n. c.make_firsts-2.ensures.same end n ∙ c.make_firsts.ensures.same end n) c.self.invariant
 
-pub returns-in_err-make_room-2-clause-err : goal.returns-in_err-make_room-2-clause-err
-returns-in_err-make_room-2-clause-err c =
-    any_err c.from_residual-in_err-make_room-2.result _ (same_value c.self.inside.into.items c.make_room-2.new.rows.items c.make_room-2.ensures.same ∙ c.self.view_is)
+pub invariant_of-self-in_err-reserve : goal.invariant_of-self-in_err-reserve
+invariant_of-self-in_err-reserve c =
+    subst (λ (s : Slab Record). AreListed (get s) c.make_firsts-2.new.firsts.items) (sym c.reserve.ensures.rest_kept)
+    (listed_same (get c.self.inside.records) c.self.inside.firsts.items c.make_firsts-2.new.firsts.items (λ end n. c.make_firsts-2.ensures.same end n ∙ c.make_firsts.ensures.same end n) c.self.invariant)
 
-pub put-requires : goal.put-requires
-put-requires c = subst (λ (rows : Rows). HasRoom rows c.args.edge.source) (sym c.deref_mut.ensures.value) c.in_ok-make_room.ensures.room
+pub put-requires-clause-listed : goal.put-requires-clause-listed
+put-requires-clause-listed c =
+    subst (λ (f : List Firsts). AreListed (get c.reserve.new.self) f) (sym c.deref_mut.ensures.value)
+    (subst (λ (s : Slab Record). AreListed (get s) c.make_firsts-2.new.firsts.items) (sym c.reserve.ensures.rest_kept)
+    (listed_same (get c.self.inside.records) c.self.inside.firsts.items c.make_firsts-2.new.firsts.items (λ end n. c.make_firsts-2.ensures.same end n ∙ c.make_firsts.ensures.same end n) c.self.invariant))
 
-pub put-requires-2 : goal.put-requires-2
-put-requires-2 c = subst (λ (rows : Rows). HasRoom rows c.args.edge.target) (sym c.deref_mut-2.ensures.value) c.in_ok-make_room-2.ensures.room
-
-pub invariant_of-self-2 : goal.invariant_of-self-2
-invariant_of-self-2 c =
-    let edge = c.args.edge in
-    let old_out = c.self.inside.out.items in
-    let old_into = c.self.inside.into.items in
-    let out = c.make_room.new.rows in
-    let into = c.make_room-2.new.rows in
-    let out_long : length c.put.new.rows ≡ length out.items = c.put.auto.rows ∙ ap length c.deref_mut.ensures.value in
-    let into_long : length c.put-2.new.rows ≡ length into.items = c.put-2.auto.rows ∙ ap length c.deref_mut-2.ensures.value in
-    let out_is = with_items_is out c.put.new.rows (omega (arith, out_long, out.ok.0)) in
-    let into_is = with_items_is into c.put-2.new.rows (omega (arith, into_long, into.ok.0)) in
-    rw (out_is, into_is) (mirrored_with old_out old_into c.self.invariant c.put.new.rows c.put-2.new.rows edge
-    (same_with old_out out.items c.put.new.rows edge.source edge c.make_room.ensures.same (subst (λ (old : Rows). AreWith old edge.source edge c.put.new.rows) c.deref_mut.ensures.value c.put.ensures))
-    (same_with old_into into.items c.put-2.new.rows edge.target edge c.make_room-2.ensures.same (subst (λ (old : Rows). AreWith old edge.target edge c.put-2.new.rows) c.deref_mut-2.ensures.value c.put-2.ensures)))
+pub put-requires-clause-absent : goal.put-requires-clause-absent
+put-requires-clause-absent c =
+    λ k at.
+    let there : edge_at (get c.self.inside.records) k ≡ Some c.args.edge = sym (ap (λ (s : Slab Record). edge_at (get s) k) c.reserve.ensures.rest_kept) ∙ at in
+    let wrong : false ≡ true = sym c.if-contains.false ∙ c.contains.ensures ∙ ap (λ (s : Edges). set.contains s c.args.edge) (sym c.self.view_is) ∙ of_table c.self.inside.records c.args.edge (k, there) in
+    cc
 
 pub returns-clause-ok : goal.returns-clause-ok
 returns-clause-ok c =
-    let edge = c.args.edge in
-    let old_into = c.self.inside.into.items in
-    let into = c.make_room-2.new.rows in
-    let into_long : length c.put-2.new.rows ≡ length into.items = c.put-2.auto.rows ∙ ap length c.deref_mut-2.ensures.value in
-    let into_is = with_items_is into c.put-2.new.rows (omega (arith, into_long, into.ok.0)) in
-    ap (λ (rows : Rows). the_set rows) into_is
-    ∙ with_value old_into c.put-2.new.rows edge (same_with old_into into.items c.put-2.new.rows edge.target edge c.make_room-2.ensures.same (subst (λ (old : Rows). AreWith old edge.target edge c.put-2.new.rows) c.deref_mut-2.ensures.value c.put-2.ensures))
-    ∙ ap (λ s. set.insert s edge) c.self.view_is
+    value_with c.reserve.new.self c.put.new.records c.args.edge c.put.ensures.edges
+    ∙ ap (λ (s : Edges). set.insert s c.args.edge) (ap (λ (s : Slab Record). the_set s) c.reserve.ensures.rest_kept ∙ c.self.view_is)

@@ -1,17 +1,25 @@
-use Rattle.std.proofs.Common.{◌≡◌, ℕ, false, refl, ap, ◌∙◌}
-use Rattle.std.specs.List.{Contains}
+use Rattle.std.proofs.Common.{◌≡◌, ℕ, true, false, sym, ap, ◌∙◌, subst}
 use Rattle.std.specs.FinSet as set
-use Rattle.wac_edges.specs.Edge.{alias_edge}
-use Rattle.wac_edges.specs.Rows.{Rows, row}
-use Rattle.wac_edges.proofs.EdgeLemmas.{IfSome-map, IfNone-map}
-use Rattle.wac_edges.proofs.RowLemmas.{found_out, absent_out}
+use Rattle.wac_edges.specs.declared.edges.End.TheVariants.{Outgoing}
+use Rattle.wac_edges.specs.declared.edges.Label.{Label}
+use Rattle.wac_edges.specs.declared.edges.Label.TheVariants.{Alias}
+use Rattle.wac_edges.specs.declared.edges.Edge.{Edge}
+use Rattle.wac_edges.specs.Ends.{Walked}
+use Rattle.wac_edges.proofs.EdgeLemmas.{label_exact, label_tied}
+use Rattle.wac_edges.proofs.SetLemmas.{seeks_start, seeks_next, seeks_found}
 use Rattle.wac_edges.proofs.edges.Edges.alias.Goals as goal
 
-pub returns-clause-some : goal.returns-clause-some
-returns-clause-some c = IfSome-map _ _ _ (λ t h. found_out c.args.self.now c.self.inside.out.items c.self.inside.into.items c.self.view_is c.self.invariant c.walk.result.now c.args.source (c.walk.ensures ∙ ap (λ (rows : Rows). row rows c.args.source) c.deref.ensures.value) (alias_edge c.args.source t c.args.position) h) c.alias_in.ensures.some
+pub loop-edge-init : goal.loop-edge-init
+loop-edge-init c =
+    (tt, tt, seeks_start c.args.self.now c.args.source Outgoing (λ (e : Edge). e.label ≡ Alias c.args.position) c.walk-edge-items.result.left c.into_iter-edge-iterator.result.left (ap (λ (w : Walked). w.left) c.into_iter-edge-iterator.ensures.into_iter_gives) c.walk-edge-items.ensures.edges)
 
-pub returns-clause-none : goal.returns-clause-none
-returns-clause-none c =
-    IfNone-map ((t : ℕ) → Contains c.walk.result.now (alias_edge c.args.source t c.args.position) → ⊥) ((t : ℕ) → set.contains c.args.self.now (alias_edge c.args.source t c.args.position) ≡ false) _
-    (λ h t. absent_out c.args.self.now c.self.inside.out.items c.self.inside.into.items c.self.view_is c.self.invariant c.walk.result.now c.args.source (c.walk.ensures ∙ ap (λ (rows : Rows). row rows c.args.source) c.deref.ensures.value) (alias_edge c.args.source t c.args.position) refl (h t))
-    c.alias_in.ensures.none
+pub loop-edge-preserved : goal.loop-edge-preserved
+loop-edge-preserved c =
+    (tt, tt, seeks_next c.args.self.now c.args.source Outgoing (λ (e : Edge). e.label ≡ Alias c.args.position) c.in-Some.edge c.next.new.self.left c.loop-edge.edge-iterator.left c.in-Some.ensures.steps.0 (λ same. let wrong : false ≡ true = sym c.if-eq.false ∙ c.eq.ensures ∙ label_tied c.in-Some.edge.label (Alias c.args.position) same in cc) c.loop-edge.invariant.2)
+
+pub returns-then-eq-clause-some : goal.returns-then-eq-clause-some
+returns-then-eq-clause-some c =
+    let (has, at) = seeks_found c.args.self.now c.args.source Outgoing (λ (e : Edge). e.label ≡ Alias c.args.position) c.in-Some.edge c.next.new.self.left c.loop-edge.edge-iterator.left c.in-Some.ensures.steps.0 c.loop-edge.invariant.2 in
+    let label : c.in-Some.edge.label ≡ Alias c.args.position = label_exact c.in-Some.edge.label (Alias c.args.position) (sym c.eq.ensures ∙ c.if-eq.true) in
+    subst (λ (l : Label). set.contains c.args.self.now (record { source = c.args.source; target = c.in-Some.edge.target; label = l }) ≡ true) label
+    (subst (λ (n : ℕ). set.contains c.args.self.now (record { source = n; target = c.in-Some.edge.target; label = c.in-Some.edge.label }) ≡ true) at has)

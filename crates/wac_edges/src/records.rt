@@ -1,0 +1,244 @@
+//! Edges as records of one table, each in a list of those at its source and in one of those at its target.
+ghost use Rattle.std.specs.Prelude.{◌≡◌, ◌↔◌, ◌⊎◌, ℕ, ◌<◌, ◌≤◌, Some, None, IfSome, IfNone, OnOk, length, vec_len};
+ghost use Rattle.std.specs.Option.{option_map, ForNone, ForSome};
+ghost use Rattle.slab.specs.Slab.{get, ContainsKey, HasRoomFor};
+ghost use Rattle.wac_edges.specs.declared.edges.Edge.{Edge as AnEdge};
+ghost use Rattle.wac_edges.specs.declared.edges.End.{End as AnEnd};
+ghost use Rattle.wac_edges.specs.Ends.{at_end};
+ghost use Rattle.wac_edges.specs.Records.{AreLinked, AreListed, HasEdge, links_at, with_links, with_next, with_previous, places, first_at, edge_at, opposite, updated, changed, begun_by};
+
+use crate::edges::{Edge, End};
+use crate::walk::records_at;
+use slab::Slab;
+use std::alloc::AllocError;
+
+/// The keys of the records before and after one in a list.
+#[derive(Clone, Copy, Debug)]
+pub(crate) struct Links {
+    pub(crate) previous: Option<usize>,
+    pub(crate) next: Option<usize>,
+}
+
+/// An edge with its place among the edges out of its source and among those into its target.
+#[derive(Clone, Copy, Debug)]
+pub(crate) struct Record {
+    pub(crate) edge: Edge,
+    pub(crate) out: Links,
+    pub(crate) into: Links,
+}
+
+impl Record {
+    /// A record that is in no list yet.
+    pub(crate) fn new(edge: Edge) -> Record
+        ensures { result.edge ≡ edge }
+    {
+        let alone = Links {
+            previous: None,
+            next: None,
+        };
+        Record {
+            edge,
+            out: alone,
+            into: alone,
+        }
+    }
+
+    /// Its place in the list at this end.
+    pub(crate) fn links(&self, end: End) -> Links
+        ensures { result ≡ links_at end self.now }
+    {
+        match end {
+            End::Outgoing => self.out,
+            End::Incoming => self.into,
+        }
+    }
+
+    /// The record at another place in the list at this end.
+    fn with_links(self, end: End, links: Links) -> Record
+        ensures { result ≡ with_links end links self }
+    {
+        match end {
+            End::Outgoing => Record { out: links, ..self },
+            End::Incoming => Record {
+                into: links,
+                ..self
+            },
+        }
+    }
+}
+
+/// The keys of the first of the edges out of a node and of the first of those into it.
+#[derive(Clone, Copy, Debug)]
+pub(crate) struct Firsts {
+    pub(crate) out: Option<usize>,
+    pub(crate) into: Option<usize>,
+}
+
+/// The first record of the list at this end of a node.
+pub(crate) fn first(firsts: &[Firsts], node: usize, end: End) -> Option<usize>
+    ensures { result ≡ first_at end firsts.now node }
+{
+    let firsts = firsts.get(node)?;
+    match end {
+        End::Outgoing => firsts.out,
+        End::Incoming => firsts.into,
+    }
+}
+
+/// Changes which record is the first of the list at this end of a node.
+fn set_first(firsts: &mut [Firsts], node: usize, end: End, key: Option<usize>)
+    requires { node < length firsts.old }
+    ensures here { (n : ℕ) → first_at end firsts.new n ≡ updated (first_at end firsts.old) node key n }
+    ensures opposite { (n : ℕ) → first_at (opposite end) firsts.new n ≡ first_at (opposite end) firsts.old n }
+{
+    match end {
+        End::Outgoing => firsts[node].out = key,
+        End::Incoming => firsts[node].into = key,
+    }
+}
+
+/// Moves a record to another place in the list at this end.
+fn set_links(records: &mut Slab<Record>, key: usize, end: End, links: Links)
+    requires { ContainsKey records.old key }
+    ensures { (q : ℕ) → get records.new q ≡ updated (get records.old) key (option_map (with_links end links) (get records.old key)) q }
+{
+    let moved = records[key].with_links(end, links);
+    records[key] = moved;
+}
+
+/// Changes which record comes after one, where there is one, or is the first in the list at this end of a node.
+fn set_next(
+    records: &mut Slab<Record>,
+    firsts: &mut [Firsts],
+    node: usize,
+    end: End,
+    key: Option<usize>,
+    next: Option<usize>,
+)
+    requires there { ForSome key (λ k. ContainsKey records.old k) }
+    requires node { ForNone key (node < length firsts.old) }
+    ensures records { (q : ℕ) → get records.new q ≡ changed (with_next end next) key (get records.old) q }
+    ensures firsts { (n : ℕ) → first_at end firsts.new n ≡ begun_by (first_at end firsts.old) node key next n }
+    ensures opposite { (n : ℕ) → first_at (opposite end) firsts.new n ≡ first_at (opposite end) firsts.old n }
+{
+    match key {
+        Some(key) => {
+            let previous = records[key].links(end).previous;
+            set_links(records, key, end, Links { previous, next });
+        }
+        None => set_first(firsts, node, end, next),
+    }
+}
+
+/// Changes which record comes before one, where there is one, in the list at this end.
+fn set_previous(records: &mut Slab<Record>, end: End, key: Option<usize>, previous: Option<usize>)
+    requires { ForSome key (λ k. ContainsKey records.old k) }
+    ensures { (q : ℕ) → get records.new q ≡ changed (with_previous end previous) key (get records.old) q }
+{
+    if let Some(key) = key {
+        let next = records[key].links(end).next;
+        set_links(records, key, end, Links { previous, next });
+    }
+}
+
+/// Puts a record that is not in the list at this end of its node before all others there.
+fn link(records: &mut Slab<Record>, firsts: &mut [Firsts], key: usize, end: End)
+    requires there { ContainsKey records.old key }
+    requires node { (e : AnEdge) → edge_at (get records.old) key ≡ Some e → at_end end e < length firsts.old }
+    requires others { AreLinked (updated (places end (get records.old)) key None) (first_at end firsts.old) }
+    ensures linked { AreLinked (places end (get records.new)) (first_at end firsts.new) }
+    ensures opposite { (q : ℕ) → places (opposite end) (get records.new) q ≡ places (opposite end) (get records.old) q }
+    ensures firsts { (n : ℕ) → first_at (opposite end) firsts.new n ≡ first_at (opposite end) firsts.old n }
+    ensures edges { (q : ℕ) → edge_at (get records.new) q ≡ edge_at (get records.old) q }
+{
+    let node = records[key].edge.node(end);
+    let next = first(firsts, node, end);
+    let links = Links {
+        previous: None,
+        next,
+    };
+    set_links(records, key, end, links);
+    set_previous(records, end, next, Some(key));
+    set_first(firsts, node, end, Some(key));
+}
+
+/// Takes a record out of the list at this end of its node: the records before and after it become neighbours.
+fn unlink(records: &mut Slab<Record>, firsts: &mut [Firsts], key: usize, end: End)
+    requires there { ContainsKey records.old key }
+    requires linked { AreLinked (places end (get records.old)) (first_at end firsts.old) }
+    ensures others { AreLinked (updated (places end (get records.new)) key None) (first_at end firsts.new) }
+    ensures opposite { (q : ℕ) → places (opposite end) (get records.new) q ≡ places (opposite end) (get records.old) q }
+    ensures firsts { (n : ℕ) → first_at (opposite end) firsts.new n ≡ first_at (opposite end) firsts.old n }
+    ensures edges { (q : ℕ) → edge_at (get records.new) q ≡ edge_at (get records.old) q }
+{
+    let record = records[key];
+    let node = record.edge.node(end);
+    let links = record.links(end);
+    set_next(records, firsts, node, end, links.previous, links.next);
+    set_previous(records, end, links.next, links.previous);
+}
+
+/// Makes room for the lists of a node.
+pub(crate) fn make_firsts(firsts: &mut Vec<Firsts>, node: usize) -> Result<(), AllocError>
+    ensures same { (end : AnEnd) (n : ℕ) → first_at end firsts.new.items n ≡ first_at end firsts.old.items n }
+    ensures longer { vec_len firsts.old ≤ vec_len firsts.new }
+    ensures there { OnOk result (node < vec_len firsts.new) }
+{
+    let Some(count) = node.checked_add(1) else {
+        return Err(AllocError);
+    };
+    if firsts.len() < count {
+        let none = Firsts {
+            out: None,
+            into: None,
+        };
+        firsts.resize(count, none)?;
+    }
+    Ok(())
+}
+
+/// The key of an edge's record. It reads no more than two records for each edge at the one of its ends that has fewer.
+pub(crate) fn find(records: &Slab<Record>, firsts: &[Firsts], edge: Edge) -> Option<usize>
+    requires { AreListed (get records.now) firsts.now }
+    ensures some { IfSome result (λ k. edge_at (get records.now) k ≡ Some edge) }
+    ensures none { IfNone result ((k : ℕ) → edge_at (get records.now) k ≡ Some edge → ⊥) }
+{
+    let mut out = records_at(records, firsts, edge.source, End::Outgoing);
+    let mut into = records_at(records, firsts, edge.target, End::Incoming);
+    while let (Some(one), Some(other)) = (out.next(), into.next()) {
+        if one.1 == edge {
+            return Some(one.0);
+        }
+        if other.1 == edge {
+            return Some(other.0);
+        }
+    }
+    None
+}
+
+/// Puts an edge that has no record yet into the table, which has room for one more, and into the lists at both its ends.
+pub(crate) fn put(records: &mut Slab<Record>, firsts: &mut [Firsts], edge: Edge)
+    requires room { HasRoomFor records.old 1 }
+    requires source { edge.source < length firsts.old }
+    requires target { edge.target < length firsts.old }
+    requires listed { AreListed (get records.old) firsts.old }
+    requires absent { (k : ℕ) → edge_at (get records.old) k ≡ Some edge → ⊥ }
+    ensures listed { AreListed (get records.new) firsts.new }
+    ensures edges { (e : AnEdge) → HasEdge (get records.new) e ↔ (HasEdge (get records.old) e ⊎ (e ≡ edge)) }
+{
+    let key = records.insert_reserved(Record::new(edge));
+    link(records, firsts, key, End::Outgoing);
+    link(records, firsts, key, End::Incoming);
+}
+
+/// Takes a record out of the lists at both its ends and out of the table.
+pub(crate) fn take(records: &mut Slab<Record>, firsts: &mut [Firsts], key: usize)
+    requires there { ContainsKey records.old key }
+    requires listed { AreListed (get records.old) firsts.old }
+    ensures listed { AreListed (get records.new) firsts.new }
+    ensures edges { (e : AnEdge) → HasEdge (get records.new) e ↔ (HasEdge (get records.old) e × (edge_at (get records.old) key ≡ Some e → ⊥)) }
+{
+    unlink(records, firsts, key, End::Outgoing);
+    unlink(records, firsts, key, End::Incoming);
+    records.remove(key);
+}

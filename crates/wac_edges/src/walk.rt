@@ -1,0 +1,122 @@
+//! Walks over the edges at one end of a node.
+ghost use Rattle.std.specs.Prelude.{◌≡◌, ◌+◌, ◌<◌, ◌^◌, length, map};
+ghost use Rattle.slab.specs.Slab.{get};
+ghost use Rattle.wac_edges.specs.Records.{AreListed, list_at, first_at};
+
+use crate::edges::{Edge, End};
+use crate::records::{Firsts, Record, first};
+use slab::Slab;
+use std::marker::Model;
+
+/// The records of one list that are still to come: the key and the edge of each.
+#[derive(Drop)]
+pub(crate) struct Records<'a> {
+    table: &'a Slab<Record>,
+    end: End,
+    here: Option<usize>,
+}
+
+impl<'a> Model for Records<'a> {
+    ghost use Rattle.std.specs.Prelude.{ℕ, List};
+    ghost use Rattle.wac_edges.specs.declared.edges.Edge.{Edge};
+
+    ghost Value = { List (ℕ × Edge) };
+
+    ghost use Rattle.slab.specs.Slab.{get};
+    ghost use Rattle.wac_edges.specs.Records.{IsList, list_at};
+
+    ghost view = { λ s. list_at s.table.now s.end s.here };
+
+    ghost invariant = { λ s. IsList (get s.table.now) s.end s.here (list_at s.table.now s.end s.here) };
+}
+
+impl<'a> Iterator for Records<'a> {
+    type Item = (usize, Edge);
+
+    ghost use Rattle.std.specs.Iterator.{YieldsFirst, item_count};
+
+    ghost next_gives = { YieldsFirst (λ s. s) };
+
+    ghost remaining = { item_count (λ s. s) };
+
+    fn next(&mut self) -> Option<(usize, Edge)> {
+        let key = self.here?;
+        let record = &self.table[key];
+        self.here = record.links(self.end).next;
+        Some((key, record.edge))
+    }
+}
+
+/// The records of the list at this end of a node.
+pub(crate) fn records_at<'a>(
+    table: &'a Slab<Record>,
+    firsts: &[Firsts],
+    node: usize,
+    end: End,
+) -> Records<'a>
+    requires { AreListed (get table.now) firsts.now }
+    ensures list { result ≡ list_at table.now end (first_at end firsts.now node) }
+    ensures short { length result < 2 ^ 64 }
+{
+    // No list has more records than the table has room for.
+    let _room = table.capacity();
+    Records {
+        table,
+        end,
+        here: first(firsts, node, end),
+    }
+}
+
+/// A walk over the edges at one end of a node. It gives each of them once and reads one record for each.
+#[derive(Drop)]
+pub struct Walk<'a> {
+    records: Records<'a>,
+    steps: usize,
+}
+
+impl<'a> Model for Walk<'a> {
+    ghost use Rattle.wac_edges.specs.Ends.{Walked};
+
+    ghost Value = { Walked };
+
+    ghost use Rattle.std.specs.Prelude.{◌+◌, ◌<◌, ◌^◌, length, map};
+
+    ghost view = { λ w. record { left = map (λ x. x.1) w.records; steps = w.steps } };
+
+    ghost invariant = { λ w. w.steps + length w.records < 2 ^ 64 };
+}
+
+impl<'a> Walk<'a> {
+    /// A walk over the edges of these records, none of which was read yet.
+    pub(crate) fn new(records: Records<'a>) -> Walk<'a>
+        requires { length records < 2 ^ 64 }
+        ensures left { result.left ≡ map (λ x. x.1) records.entry }
+        ensures steps { result.steps ≡ 0 }
+    {
+        Walk { records, steps: 0 }
+    }
+
+    /// How many records were read so far: as many as edges were given.
+    pub fn steps(&self) -> usize
+        ensures { result ≡ self.now.steps }
+    {
+        self.steps
+    }
+}
+
+impl<'a> Iterator for Walk<'a> {
+    type Item = Edge;
+
+    ghost use Rattle.std.specs.Iterator.{item_count};
+    ghost use Rattle.wac_edges.specs.Ends.{Gives};
+
+    ghost next_gives = { Gives };
+
+    ghost remaining = { item_count (λ w. w.left) };
+
+    fn next(&mut self) -> Option<Edge> {
+        let (_, edge) = self.records.next()?;
+        self.steps += 1;
+        Some(edge)
+    }
+}
