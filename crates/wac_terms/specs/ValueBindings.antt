@@ -1,7 +1,6 @@
 -- What binds a value type: the first class, in asked order, that lists it as its own.
 use Rattle.std.specs.Prelude.{ℕ, suc, ◌≡◌, ◌==◌, Bool, false, if◌then◌else◌, List, [], ◌∷◌, Option, Some, None}
-use Rattle.wac_shapes.specs.Name.{option_case, first_some}
-use Rattle.wac_shapes.specs.Name.{Name}
+use Rattle.wac_shapes.specs.Name.{Name, option_case, first_some}
 use Rattle.wac_collection.specs.Tree.{Place, named}
 use Rattle.wac_collection.specs.Collection.{Collection, item_at}
 use Rattle.wac_shapes.specs.declared.component.DefinedTypeId.{DefinedTypeId}
@@ -10,7 +9,7 @@ use Rattle.wac_shapes.specs.declared.component.ItemKind.TheVariants as kind
 use Rattle.wac_entries.specs.Classes.{Entry, NameRules, by_names, class_names, members}
 use Rattle.wac_terms.specs.Values.{is_value, listed_value, uses_value, value_name}
 
--- the path under which a member of a class lists a value type: a name of an instance's own interface, not of one inside it, or none where the member is the type
+-- the path under which a member of a class lists a value type: the first name under which the interface of an instance lists it itself, not in an instance inside; no name where the member is the type
 abbrev pub listed_path : Collection → ItemKind → DefinedTypeId → Option (List Place)
 listed_path c (kind.Instance i) d = option_case (item_at c.interfaces i.0) None (λ it. option_case (value_name c it.exports d) None (λ n. Some (named n ∷ [])))
 listed_path c k d = if is_value d (listed_value c k) then Some [] else None
