@@ -20,7 +20,7 @@ use Rattle.wac_shapes.specs.declared.component.ItemKind.TheVariants as kind
 use Rattle.wac_types.proofs.Unfolding.{all_right, before_more, type_before}
 use Rattle.wac_entries.specs.Agreement.{compared, called_inside}
 use Rattle.wac_entries.specs.Classes.{Entry, by_names}
-use Rattle.wac_entries.specs.ItemCoding.{listing_under}
+use Rattle.wac_coding.specs.ItemCoding.{listing_under}
 use Rattle.wac_agreement.specs.Shapes.{IsOfKind}
 use Rattle.wac_terms.proofs.Found.{some_same, no_some}
 use Rattle.wac_entries.proofs.SortedMaps.{items_are, found_are}

@@ -15,14 +15,5 @@ pub mod ScopeLaws
 pub mod Walking
 pub mod Places
 pub mod ClassPaths
-pub mod CodingShapes
-pub mod CodingGrowth
-pub mod CodingTrees
-pub mod CodingOpenings
-pub mod CodingMemo
-pub mod CodingLoops
-pub mod CodingTasks
-pub mod CodingModules
-pub mod CodingListing
-pub mod Opened
-pub mod OpenedItems
+pub mod TaskOpenings
+pub mod TaskLemmas

@@ -1,7 +1,7 @@
 -- Lists: what is there at a position, and what passes a test.
 use Rattle.std.proofs.Common.{◌≡◌, ◌≢◌, ℕ, zero, suc, ◌<◌, Bool, true, false, cond, List, [], ◌∷◌, ◌++◌, filter, length, slice_get, Some, refl, sym, ap, ◌∙◌, inl, inr, ◌⊎◌, arith}
 use Rattle.std.proofs.Math.ListN.{set}
-use Rattle.std.specs.List.{list_any}
+use Rattle.std.specs.List.{AllZip, list_any}
 use Rattle.std.proofs.lemmas.Bool.{or_left, or_right, or_cases, or_parts, or_from, cases_Bool, false≢true}
 
 module _ {X : Type 0} where
@@ -72,3 +72,16 @@ module _ {X : Type 0} where
     | inl h ↦ inl (ap suc h.0, h.1)
     | inr h ↦ inr ((λ e. h.0 (omega (arith, e))), h.1)
   ]
+
+-- ---- lists beside each other
+pub zip_all : {A B : Type 0} (R S : A → B → Type 0) → ((x : A) (y : B) → R x y → S x y) → (xs : List A) (ys : List B) → AllZip R xs ys → AllZip S xs ys
+zip_all R S f [] [] h = tt
+zip_all R S f [] (y ∷ ys) h = h
+zip_all R S f (x ∷ xs) [] h = h
+zip_all R S f (x ∷ xs) (y ∷ ys) h = (f x y h.0, zip_all R S f xs ys h.1)
+
+pub zip_push : {A B : Type 0} (R : A → B → Type 0) (xs : List A) (ys : List B) (x : A) (y : B) → AllZip R xs ys → R x y → AllZip R (xs ++ x ∷ []) (ys ++ y ∷ [])
+zip_push R [] [] x y h r = (r, tt)
+zip_push R [] (z ∷ ys) x y h r = absurd h
+zip_push R (z ∷ xs) [] x y h r = absurd h
+zip_push R (z ∷ xs) (w ∷ ys) x y h r = (h.0, zip_push R xs ys x y h.1 r)

@@ -10,9 +10,4 @@ pub mod NodeViews
 pub mod Places
 pub mod Bindings
 pub mod Walking
-pub mod CallsView
 pub mod Tasks
-pub mod Coding
-pub mod ModuleCoding
-pub mod ItemCoding
-pub mod Listings

@@ -9,7 +9,7 @@ use Rattle.wac_shapes.specs.declared.component.DefinedType.{DefinedType}
 use Rattle.wac_shapes.specs.declared.component.FuncType.{FuncType}
 use Rattle.wac_shapes.specs.declared.component.ValueType.{ValueType}
 use Rattle.wac_renaming.specs.RenamingSteps.{CasesGoTogether, FieldsGoTogether, GoTogether, HaveOneShape, aliases, enums, fixed_lists, flags, futures, lists, options, records, results, streams, tuples, variants}
-use Rattle.wac_entries.proofs.CodingGrowth.{zip_all}
+use Rattle.wac_entries.proofs.Lists.{zip_all}
 
 -- ---- trees
 module _ {L : Type 0} (R : ValueType → ValueType → Type 0) (t s : ValueType → TypeTree L) (same : (v w : ValueType) → R v w → t w ≡ s v) where

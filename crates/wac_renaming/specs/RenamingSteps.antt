@@ -16,10 +16,9 @@ use Rattle.wac_shapes.specs.declared.component.ValueType.{ValueType}
 use Rattle.wac_shapes.specs.declared.component.ValueType.TheVariants as val
 use Rattle.wac_shapes.specs.declared.component.Variant.{Variant}
 use Rattle.wac_shapes.specs.declared.component.«Type».TheVariants as ty
-use Rattle.wac_entries.specs.Coding.{HasTask}
 use Rattle.wac_renaming.specs.RenamedTypes.{AreRenamed, becomes, defined_in, func_in}
 use Rattle.wac_terms.specs.Renaming.{IsExtended, IsRenamed}
-use Rattle.wac_entries.specs.Tasks.{task_id, parts_of, openings, IsHeldTask}
+use Rattle.wac_entries.specs.Tasks.{task_id, parts_of, openings, IsHeldTask, HasTask}
 use Rattle.wac_renaming.specs.declared.renamer.Renamed.{Renamed}
 use Rattle.wac_renaming.specs.declared.renamer.Renaming.{Renaming}
 use Rattle.wac_entries.specs.declared.tasks.Task.{Task}

@@ -11,11 +11,10 @@ ghost use Rattle.wac_collection.specs.declared.collection.AddTypeError.TheVarian
 ghost use Rattle.wac_shapes.specs.declared.component.ValueType.TheVariants as val;
 ghost use Rattle.wac_shapes.specs.declared.component.«Type».TheVariants as ty;
 ghost use Rattle.wac_terms.specs.Became.{AreBoundParts};
-ghost use Rattle.wac_entries.specs.Coding.{AreHeldValues};
 ghost use Rattle.wac_renaming.specs.RenamedTypes.{AreRenamed, CanRename, becomes, defined_in, func_in};
 ghost use Rattle.wac_terms.specs.Renaming.{IsExtended, IsRenamed};
 ghost use Rattle.wac_renaming.specs.RenamingSteps.{AreReady, CasesGoTogether, Did, FieldsGoTogether, GoTogether, HasDefinedToo, HasFuncToo, HaveOneShape, IsDefinedBehind, IsDone, IsFuncBehind, IsMore, IsReady, IsRenamedIn, MayBeDone};
-ghost use Rattle.wac_entries.specs.Tasks.{IsHeldTask, IsOpening, parts_of};
+ghost use Rattle.wac_entries.specs.Tasks.{IsHeldTask, IsOpening, parts_of, AreHeldValues};
 ghost use Rattle.wac_terms.specs.Unions.{AreAround, IsPart};
 ghost use Rattle.wac_renaming.specs.declared.renamer.Renaming.{Renaming as ARenaming};
 

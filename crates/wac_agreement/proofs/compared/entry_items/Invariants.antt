@@ -1,5 +1,5 @@
 use Rattle.std.proofs.Common.{◌≡◌, length, map}
-use Rattle.wac_entries.specs.Coding.{IsGrown}
+use Rattle.wac_coding.specs.Coding.{IsGrown}
 use Rattle.wac_agreement.specs.Compared.{AreCompared}
 use Rattle.wac_entries.specs.NodeViews.{item_view}
 use Rattle.wac_agreement.proofs.compared.entry_items.Given as goal

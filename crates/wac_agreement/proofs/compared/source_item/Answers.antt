@@ -3,15 +3,15 @@ use Rattle.std.specs.Prelude.{slice_get, Vec}
 use Rattle.std.proofs.lemmas.Option.{slice_get_read}
 use Rattle.wac_shapes.specs.Name.{Name}
 use Rattle.wac_entries.specs.Classes.{by_names, class_names, is_instance}
-use Rattle.wac_entries.specs.Coding.{source_tree}
+use Rattle.wac_coding.specs.Coding.{source_tree}
 use Rattle.wac_agreement.specs.Compared.{IsItemOf}
-use Rattle.wac_entries.specs.ItemCoding.{HasItem}
-use Rattle.wac_entries.specs.Listings.{at_scope, AreListings}
+use Rattle.wac_coding.specs.ItemCoding.{HasItem}
+use Rattle.wac_coding.specs.Listings.{at_scope, AreListings}
 use Rattle.wac_entries.specs.NodeViews.{item_view}
-use Rattle.wac_entries.specs.declared.coder.Source.{Source}
+use Rattle.wac_coding.specs.declared.coder.Source.{Source}
 use Rattle.wac_entries.specs.declared.nodes.Item.{Item as AnItem}
 use Rattle.wac_entries.specs.declared.scopes.Opener.TheVariants as opener
-use Rattle.wac_entries.proofs.CodingGrowth.{grown_twice}
+use Rattle.wac_coding.proofs.CodingGrowth.{grown_twice}
 use Rattle.wac_agreement.proofs.Leading.{if_ok}
 use Rattle.wac_agreement.proofs.Sources as source
 use Rattle.wac_agreement.proofs.compared.source_item.Goals as goal

@@ -1,6 +1,6 @@
 use Rattle.std.proofs.Common.{◌+◌, [], take}
 use Rattle.wac_collection.specs.Collection.{and_maybe, case_values}
-use Rattle.wac_entries.proofs.CodingOpenings.{openings_more, cases_take}
+use Rattle.wac_entries.proofs.TaskOpenings.{openings_more, cases_take}
 use Rattle.wac_entries.proofs.tasks.open_cases.Goals as goal
 
 pub loop-i-preserved : goal.loop-i-preserved

@@ -1,6 +1,6 @@
 use Rattle.std.proofs.Common.{◌+◌, ◌∷◌, [], take}
 use Rattle.wac_collection.specs.Collection.{seconds}
-use Rattle.wac_entries.proofs.CodingOpenings.{openings_more, seconds_take}
+use Rattle.wac_entries.proofs.TaskOpenings.{openings_more, seconds_take}
 use Rattle.wac_entries.proofs.tasks.open_fields.Goals as goal
 
 pub loop-i-preserved : goal.loop-i-preserved

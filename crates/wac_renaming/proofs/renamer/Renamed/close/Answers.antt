@@ -1,5 +1,5 @@
 use Rattle.wac_renaming.specs.RenamedTypes.{becomes}
-use Rattle.wac_entries.proofs.CodingTasks.{defined_values_hold}
+use Rattle.wac_entries.proofs.TaskLemmas.{defined_values_hold}
 use Rattle.wac_renaming.proofs.Extending.{still_all_renamed}
 use Rattle.wac_renaming.proofs.RenamingMemo.{defined_closed, defined_put}
 use Rattle.wac_renaming.proofs.RenamingTrees.{shape_held}

@@ -3,7 +3,7 @@ use Rattle.std.specs.List.{AllByRecursion}
 use Rattle.wac_entries.specs.declared.tasks.Task.{Task}
 use Rattle.wac_entries.specs.Tasks.{tasks_weight, IsHeldTask}
 use Rattle.wac_renaming.specs.RenamingSteps.{AreCovered, IsUnderWay}
-use Rattle.wac_entries.proofs.CodingTasks.{all_last}
+use Rattle.wac_entries.proofs.TaskLemmas.{all_last}
 use Rattle.wac_renaming.proofs.Extending.{extended_twice, still_can}
 use Rattle.wac_renaming.proofs.RenamingTasks.{all_done, less_to_do, may_be_done, still_under_way, under_way}
 use Rattle.wac_renaming.proofs.renamer.Renamed.finish.Goals as goal

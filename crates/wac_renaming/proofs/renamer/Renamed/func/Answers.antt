@@ -6,8 +6,8 @@ use Rattle.wac_entries.specs.declared.tasks.Task.{Task}
 use Rattle.wac_entries.specs.Tasks.{IsHeldTask, IsOpening}
 use Rattle.wac_renaming.specs.RenamedTypes.{becomes}
 use Rattle.wac_renaming.specs.RenamingSteps.{IsDone, IsReady}
-use Rattle.wac_entries.proofs.CodingOpenings.{first_of, openings_two, rest_of}
-use Rattle.wac_entries.proofs.CodingTasks.{all_openings, func_held, func_values_hold}
+use Rattle.wac_entries.proofs.TaskOpenings.{first_of, openings_two, rest_of}
+use Rattle.wac_entries.proofs.TaskLemmas.{all_openings, func_held, func_values_hold}
 use Rattle.wac_renaming.proofs.Extending.{extended_none, extended_twice, still_all_renamed, still_can}
 use Rattle.wac_renaming.proofs.RenamingMemo.{func_closed, func_right}
 use Rattle.wac_renaming.proofs.RenamingTasks.{ready_values}

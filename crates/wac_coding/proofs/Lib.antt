@@ -1,0 +1,10 @@
+pub mod CodingShapes
+pub mod CodingGrowth
+pub mod CodingTrees
+pub mod CodingMemo
+pub mod CodingLoops
+pub mod CodingTasks
+pub mod CodingModules
+pub mod CodingListing
+pub mod Opened
+pub mod OpenedItems

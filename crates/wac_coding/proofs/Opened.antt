@@ -1,0 +1,192 @@
+-- The scopes that an item opens: what resources are called in them, what they list, and the tree of the item's type from theirs.
+use Rattle.std.specs.Global.{Global}
+use Rattle.std.proofs.Common.{◌≡◌, ◌≢◌, ℕ, suc, ◌+◌, ◌<◌, ◌≤◌, true, false, List, [], ◌∷◌, map, length, Vec, Option, Some, None, slice_get, get_or, refl, sym, ap, ◌∙◌, subst, arith}
+use Rattle.std.proofs.Math.Path.{fun_ext}
+use Rattle.std.proofs.lemmas.Option.{slice_get_read, slice_get_within}
+use Rattle.wac_shapes.specs.Name.{Name, option_case}
+use Rattle.wac_collection.specs.Tree.{TypeTree, instance, component}
+use Rattle.wac_collection.specs.Collection.{Collection, IsWellFormed, size, item_of, holds_type, holds_all, kind_types, world_imports, world_exports}
+use Rattle.wac_shapes.specs.Kinds.{kind_type}
+use Rattle.wac_collection.specs.Held.{Names, of_held, interface_tree, world_tree, unfolded, items_under, item_tree}
+use Rattle.wac_collection.specs.Bound.{bound_by_imports, bound_in_world}
+use Rattle.wac_types.specs.Called.{Called, or_around, own_leaf, by_binding}
+use Rattle.wac_types.specs.TreeLaws.{IsDeepEnough}
+use Rattle.wac_collection.specs.declared.collection.Held.{Held}
+use Rattle.wac_shapes.specs.declared.component.Interface.{Interface}
+use Rattle.wac_shapes.specs.declared.component.InterfaceId.{InterfaceId}
+use Rattle.wac_shapes.specs.declared.component.World.{World}
+use Rattle.wac_shapes.specs.declared.component.WorldId.{WorldId}
+use Rattle.wac_shapes.specs.declared.component.ResourceId.{ResourceId}
+use Rattle.wac_shapes.specs.declared.component.«Type».TheVariants as ty
+use Rattle.wac_shapes.specs.declared.component.ItemKind.{ItemKind}
+use Rattle.wac_shapes.specs.declared.component.ItemKind.TheVariants as kind
+use Rattle.wac_collection.proofs.Growth.{all_within}
+use Rattle.wac_coding.specs.declared.calls.Calls.{Calls}
+use Rattle.wac_coding.specs.declared.coder.Source.{Source}
+use Rattle.wac_entries.specs.declared.nodes.Item.{Item}
+use Rattle.wac_entries.specs.declared.scopes.Opener.{Opener}
+use Rattle.wac_entries.specs.declared.scopes.Opener.TheVariants as opener
+use Rattle.wac_entries.specs.declared.scopes.Scope.{Scope}
+use Rattle.wac_entries.specs.Classes.{by_names, class_names, is_instance}
+use Rattle.wac_entries.specs.Agreement.{called_in_class}
+use Rattle.wac_coding.specs.CallsView.{names_of, names_in, AreNamed}
+use Rattle.wac_coding.specs.Coding.{tree_in, source_tree}
+use Rattle.wac_coding.specs.ItemCoding.{AreItems, component_tree}
+use Rattle.wac_coding.specs.Listings.{at_scope, OpenAt, OpensAt, IsAroundIn, IsAround, AreListings}
+use Rattle.wac_entries.specs.Nodes.{Node}
+use Rattle.wac_entries.specs.Scopes.{listed_in, binds, opened, opened_by, opened_by_type, called_in_root, scope_tree}
+use Rattle.wac_entries.proofs.Opening.{opened-kind, there, lists}
+use Rattle.wac_entries.proofs.ScopeLaws.{around-same, called-at-root, called-inside}
+
+-- ---- trees
+
+-- inside an instance type and on the two sides of a component type: what is bound there, else what is bound around it
+abbrev in_interface : Collection → Names Called → Option (Held Interface) → Names Called
+in_interface c m o r = or_around c (option_case (item_of o) None (λ it. own_leaf c it r)) m r
+
+abbrev in_imports : Collection → Names Called → Option (Held World) → Names Called
+in_imports c m o r = or_around c (option_case (item_of o) None (λ w. bound_by_imports c w r)) m r
+
+abbrev in_exports : Collection → Names Called → Option (Held World) → Names Called
+in_exports c m o r = or_around c (option_case (item_of o) None (λ w. bound_in_world c w r)) m r
+
+-- what is listed, under what resources are called there
+abbrev listed_under : Collection → Names Called → List (Name × ItemKind) → Name → TypeTree Called
+listed_under c n es = items_under (map (λ e. (e.0, item_tree (unfolded (by_binding c) c n) false e.1)) es)
+
+interface-unfolds : (c : Collection) (m : Names Called) (o : Option (Held Interface)) (h : Held Interface) → o ≡ Some h
+    → of_held (interface_tree (by_binding c) c (unfolded (by_binding c) c) m) o ≡ instance (listed_under c (in_interface c m o) (option_case (item_of o) [] (λ x. x.exports)))
+interface-unfolds c m None h at = cc
+interface-unfolds c m (Some x) h at = refl
+
+world-unfolds : (c : Collection) (m : Names Called) (o : Option (Held World)) (h : Held World) → o ≡ Some h
+    → of_held (world_tree (by_binding c) c (unfolded (by_binding c) c) m) o
+    ≡ component (listed_under c (in_imports c m o) (option_case (item_of o) [] (λ x. x.imports))) (listed_under c (in_exports c m o) (option_case (item_of o) [] (λ x. x.exports)))
+world-unfolds c m None h at = cc
+world-unfolds c m (Some x) h at = refl
+
+module _ (c : Collection) (m : Names Called) (deep : IsDeepEnough (by_binding c) c) where
+  -- an interface is the instance of what its scope lists
+  pub interface-is : (n : Names Called) (i : InterfaceId) → holds_type c (ty.Interface i) ≡ true → ((r : ResourceId) → n r ≡ or_around c (binds c (opener.Interface i) r) m r)
+      → scope_tree c n (opener.Interface i) ≡ tree_in c m (ty.Interface i)
+  unfolding tree_in
+  interface-is n i held named =
+      let h = there c.interfaces i.0 held in
+      let e : n ≡ (λ r. or_around c (binds c (opener.Interface i) r) m r) = fun_ext named in
+      ap (λ x. scope_tree c x (opener.Interface i)) e
+      ∙ (sym (interface-unfolds c m (slice_get c.interfaces i.0) h.0 h.1)
+      ∙ deep (suc (suc (size c))) (omega arith) m (ty.Interface i) held)
+
+  -- a world is the component of what its two scopes list
+  pub world-is : (n l : Names Called) (w : WorldId) → holds_type c (ty.World w) ≡ true → ((r : ResourceId) → n r ≡ or_around c (binds c (opener.Imports w) r) m r)
+      → ((r : ResourceId) → l r ≡ or_around c (binds c (opener.Exports w) r) m r)
+      → component_tree (tree_in c n) (world_imports c w) (tree_in c l) (world_exports c w) ≡ tree_in c m (ty.World w)
+  unfolding tree_in
+  world-is n l w held named others =
+      let h = there c.worlds w.0 held in
+      let e : n ≡ (λ r. or_around c (binds c (opener.Imports w) r) m r) = fun_ext named in
+      let f : l ≡ (λ r. or_around c (binds c (opener.Exports w) r) m r) = fun_ext others in
+      (λ i. component (listed_under c (e i) (world_imports c w)) (listed_under c (f i) (world_exports c w)))
+      ∙ (sym (world-unfolds c m (slice_get c.worlds w.0) h.0 h.1)
+      ∙ deep (suc (suc (size c))) (omega arith) m (ty.World w) held)
+
+-- ---- what resources are called
+
+-- a scope that is opened here, at its position
+pub record IsOpened (c : Collection) (s : Calls) (o : Opener) (i : ℕ) : Type 0 where
+  pub scope : Scope
+  pub at : slice_get s.scopes.now i ≡ Some scope
+  pub opener : scope.opener ≡ o
+  pub names : (r : ResourceId) → names_in c (at_scope s i) r ≡ or_around c (binds c o r) (names_in c s) r
+
+module _ (c : Collection) (s : Calls) (named : AreNamed c s) (around : IsAround s) where
+  abbrev in_root : Opener → Names Called
+  in_root = called_in_root by_names c s.entries.now named.name s.kind
+
+  called-is : (p : Option ℕ) (r : ResourceId)
+      → option_case (slice_get (class_names by_names s.entries.now) s.class) None (λ class. names_of c s.entries.now class s.kind s.scopes.now p r) ≡ names_of c s.entries.now named.name s.kind s.scopes.now p r
+  called-is p r = ap (λ o. option_case o None (λ class. names_of c s.entries.now class s.kind s.scopes.now p r)) named.class
+
+  root-is : (k : ItemKind) (o : Opener) (r : ResourceId) → is_instance k ≡ false
+      → called_in_root by_names c s.entries.now named.name k o r ≡ or_around c (binds c o r) (called_in_class by_names c s.entries.now named.name) r
+  root-is (kind.Instance i) o r plain = cc
+  root-is (kind.TypeItem t) o r plain = refl
+  root-is (kind.Func f) o r plain = refl
+  root-is (kind.Component w) o r plain = refl
+  root-is (kind.Module k) o r plain = refl
+  root-is (kind.Value v) o r plain = refl
+
+  called-there : (p : Option ℕ) → IsAroundIn s.kind p → (i : ℕ) (t : Scope) (r : ResourceId) → slice_get s.scopes.now i ≡ Some t → t.parent ≡ p
+      → names_of c s.entries.now named.name s.kind s.scopes.now (Some i) r ≡ or_around c (binds c t.opener r) (names_of c s.entries.now named.name s.kind s.scopes.now p) r
+  called-there None plain i t r at outer = called-at-root c (opened_by s.kind) s.scopes.now named.scopes in_root i t r at outer ∙ root-is s.kind t.opener r plain
+  called-there (Some p) plain i t r at outer = called-inside c (opened_by s.kind) s.scopes.now named.scopes in_root i p t r at outer
+
+  names-there : (i : ℕ) (t : Scope) (r : ResourceId) → slice_get s.scopes.now i ≡ Some t → t.parent ≡ s.scope → names_in c (at_scope s i) r ≡ or_around c (binds c t.opener r) (names_in c s) r
+  names-there i t r at outer =
+      called-is (Some i) r
+      ∙ (called-there s.scope around i t r at outer
+      ∙ around-same c (binds c t.opener r) (names_of c s.entries.now named.name s.kind s.scopes.now s.scope) (names_in c s) r (sym (called-is s.scope r)))
+
+  opened-there : (k : ItemKind) (first j i : ℕ) (o : Opener) → OpensAt s k first → slice_get (opened_by k) j ≡ Some o → first + j ≡ i → IsOpened c s o i
+  opened-there k first j i o opens at e =
+      let w = opens j o at in
+      let here : slice_get s.scopes.now i ≡ Some w.0 = ap (slice_get s.scopes.now) (sym e) ∙ w.1 in
+      record {
+        scope = w.0;
+        at = here;
+        opener = w.2;
+        names = λ r. names-there i w.0 r here w.3 ∙ ap (λ (x : Opener). or_around c (binds c x r) (names_in c s) r) w.2;
+      }
+
+  -- the scope of an interface, and the two of a world
+  pub interface-opened : (k : ItemKind) (first : ℕ) (id : InterfaceId) → OpensAt s k first → kind_type k ≡ ty.Interface id → IsOpened c s (opener.Interface id) first
+  interface-opened k first id opens is = opened-there k first 0 first (opener.Interface id) opens (ap (λ l. slice_get l 0) (opened-kind k ∙ ap opened_by_type is)) (omega arith)
+
+  pub imports-opened : (k : ItemKind) (first : ℕ) (id : WorldId) → OpensAt s k first → kind_type k ≡ ty.World id → IsOpened c s (opener.Imports id) first
+  imports-opened k first id opens is = opened-there k first 0 first (opener.Imports id) opens (ap (λ l. slice_get l 0) (opened-kind k ∙ ap opened_by_type is)) (omega arith)
+
+  pub exports-opened : (k : ItemKind) (first : ℕ) (id : WorldId) → OpensAt s k first → kind_type k ≡ ty.World id → IsOpened c s (opener.Exports id) (first + 1)
+  exports-opened k first id opens is = opened-there k first 1 (first + 1) (opener.Exports id) opens (ap (λ l. slice_get l 1) (opened-kind k ∙ ap opened_by_type is)) refl
+
+-- ---- what the scopes list
+
+-- what the scope at a position lists
+pub listing-there : (ns : List Node) (c : Collection) (s : Calls) (from i : ℕ) (o : Opener) (ls : List (Vec Item Global)) (xs : Vec Item Global) → AreListings ns c s from ls → from ≤ i → IsOpened c s o i → slice_get ls i ≡ Some xs
+    → AreItems ns (tree_in c (names_in c (at_scope s i))) (listed_in c o) xs.items
+listing-there ns c s from i o ls xs listings le opened at =
+    subst (λ (x : Opener). AreItems ns (tree_in c (names_in c (at_scope s i))) (listed_in c x) xs.items) opened.opener (listings i opened.scope xs le opened.at at)
+
+-- it is what is read at the position, in a source of that scope
+pub listing-read : (ns : List Node) (c : Collection) (s : Calls) (from i : ℕ) (o : Opener) (ls : List (Vec Item Global)) (xs : Vec Item Global) (ys : List Item) (source : Source) → AreListings ns c s from ls → from ≤ i → IsOpened c s o i
+    → i < length ls → xs ≡ get_or ls i xs → ys ≡ xs.items → source.types.now ≡ c → source.calls.now ≡ at_scope s i → AreItems ns (source_tree source) (listed_in source.types.now o) ys
+listing-read ns c s from i o ls xs ys source listings le opened lt read value types calls =
+    subst (λ (x : Calls). AreItems ns (tree_in source.types.now (names_in source.types.now x)) (listed_in source.types.now o) ys) (sym calls)
+    (subst (λ (d : Collection). AreItems ns (tree_in d (names_in d (at_scope s i))) (listed_in d o) ys) (sym types)
+    (subst (λ (l : List Item). AreItems ns (tree_in c (names_in c (at_scope s i))) (listed_in c o) l) (sym value)
+    (listing-there ns c s from i o ls xs listings le opened (slice_get_read ls (length ls) i xs refl lt read))))
+
+-- the scope is one of those that are listed
+pub opened-within : (c : Collection) (s : Calls) (o : Opener) (i n : ℕ) → n ≡ length s.scopes.now → IsOpened c s o i → i < n
+opened-within c s o i n counted opened = let lt = slice_get_within s.scopes.now i opened.scope opened.at in omega (arith, lt, counted)
+
+-- an item of such a type opens a scope
+pub interface-opens : (k : ItemKind) (id : InterfaceId) → kind_type k ≡ ty.Interface id → opened_by k ≢ []
+interface-opens k id is none = let some : [] ≡ opener.Interface id ∷ [] = sym none ∙ (opened-kind k ∙ ap opened_by_type is) in cc
+
+pub world-opens : (k : ItemKind) (id : WorldId) → kind_type k ≡ ty.World id → opened_by k ≢ []
+world-opens k id is none = let some : [] ≡ opener.Imports id ∷ (opener.Exports id ∷ []) = sym none ∙ (opened-kind k ∙ ap opened_by_type is) in cc
+
+-- ---- what a scope lists
+
+-- it is held
+pub listed-all : (c : Collection) → IsWellFormed c → (s : Calls) (i : ℕ) (t : Scope) (d : Collection) (es : List (Name × ItemKind)) → AreNamed c s → slice_get s.scopes.now i ≡ Some t → d ≡ c → listed_in c t.opener ≡ es
+    → holds_all d (kind_types es) ≡ true
+listed-all c wf s i t d es named at same listed =
+    let l = lists c wf t.opener (named.scopes.held i t at) in
+    subst (λ (x : Collection). holds_all x (kind_types es) ≡ true) (sym same)
+    (subst (λ (x : List (Name × ItemKind)). holds_all c (kind_types x) ≡ true) listed (all_within c l.before (kind_types (listed_in c t.opener)) l.listed))
+
+-- the scopes that it opens follow one another
+pub listed-opens : (c : Collection) (s : Calls) (i : ℕ) (t : Scope) (calls : Calls) (es : List (Name × ItemKind)) → AreNamed c s → slice_get s.scopes.now i ≡ Some t → calls ≡ at_scope s i → listed_in c t.opener ≡ es → OpenAt calls es t.first
+listed-opens c s i t calls es named at same listed =
+    subst (λ (x : Calls). OpenAt x es t.first) (sym same) (λ j o there. named.scopes.nested i j t o at (ap (λ (l : List (Name × ItemKind)). slice_get (opened l) j) listed ∙ there))

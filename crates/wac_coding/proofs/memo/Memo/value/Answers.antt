@@ -1,0 +1,16 @@
+use Rattle.std.proofs.Common.{sym, ◌∙◌, subst}
+use Rattle.wac_shapes.specs.declared.component.ValueType.{ValueType}
+use Rattle.wac_shapes.specs.declared.component.«Type».TheVariants as ty
+use Rattle.wac_coding.specs.Coding.{source_tree, HasTree, IsRight}
+use Rattle.wac_coding.proofs.CodingGrowth.{on_ok, right_grown}
+use Rattle.wac_coding.proofs.memo.Memo.value.Goals as goal
+
+pub returns-in-Some-clause-number : goal.returns-in-Some-clause-number
+returns-in-Some-clause-number c =
+    let t = source_tree c.args.source.now in
+    subst (λ (v : ValueType). HasTree c.args.nodes.now (t (ty.Value v)) c.in-Some.number) (sym c.in-Defined.is) (c.requires.right.defined c.in-Defined.id c.in-Some.number (sym c.defined.ensures ∙ c.in-Some.is))
+
+pub returns-clause-right : goal.returns-clause-right
+returns-clause-right c =
+    let t = source_tree c.args.source.now in
+    on_ok (IsRight t c.finish.new.self c.part.new.nodes) c.part.result (right_grown t c.finish.new.self c.finish.new.nodes c.part.new.nodes c.part.ensures.grown c.in_ok-finish.ensures.right)

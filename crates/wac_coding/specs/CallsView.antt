@@ -1,0 +1,37 @@
+-- What the resources of a scope are called. Private functions alone cite this.
+use Rattle.std.specs.Prelude.{ℕ, ◌≡◌, ◌<◌, length, Option, Some, None, List, slice_get}
+use Rattle.wac_shapes.specs.Name.{Name, option_case}
+use Rattle.wac_collection.specs.Collection.{Collection}
+use Rattle.wac_collection.specs.Held.{Names}
+use Rattle.wac_types.specs.Called.{Called}
+use Rattle.wac_shapes.specs.declared.component.ItemKind.{ItemKind}
+use Rattle.wac_coding.specs.declared.calls.Calls.{Calls}
+use Rattle.wac_entries.specs.declared.scopes.Scope.{Scope}
+use Rattle.wac_entries.specs.Classes.{Entry, by_names, class_names}
+use Rattle.wac_entries.specs.Agreement.{called_in_class}
+use Rattle.wac_entries.specs.Bindings.{AreBindings}
+use Rattle.wac_entries.specs.Scopes.{AreScopes, called_in, called_in_root, opened_by}
+use Rattle.wac_entries.specs.Walking.{AreBound}
+
+-- what resources are called in a scope of an entry of a class, and around its outermost scopes
+abbrev pub names_of : Collection → List Entry → Name → ItemKind → List Scope → Option ℕ → Names Called
+names_of c es class kind ss None = called_in_class by_names c es class
+names_of c es class kind ss (Some i) = called_in c (called_in_root by_names c es class kind) ss i
+
+-- what a resource is called that is no alias
+abbrev pub names_in : Collection → Calls → Names Called
+names_in c s r = option_case (slice_get (class_names by_names s.entries.now) s.class) None (λ class. names_of c s.entries.now class s.kind s.scopes.now s.scope r)
+
+-- the scope is one of so many
+abbrev pub IsScopeOf : ℕ → Option ℕ → Type 0
+IsScopeOf n None = Unit {0}
+IsScopeOf n (Some i) = i < n
+
+-- the class is one of the entries, the bindings are theirs, the scopes are those of the item, with what each binds
+pub record AreNamed (c : Collection) (s : Calls) : Type 0 where
+  pub name : Name
+  pub class : slice_get (class_names by_names s.entries.now) s.class ≡ Some name
+  pub bindings : AreBindings c s.entries.now s.bindings.now
+  pub scopes : AreScopes c (opened_by s.kind) s.scopes.now
+  pub bound : AreBound c s.scopes.now s.bound.now
+  pub within : IsScopeOf (length s.scopes.now) s.scope

@@ -1,0 +1,5 @@
+pub mod CallsView
+pub mod Coding
+pub mod ModuleCoding
+pub mod ItemCoding
+pub mod Listings

@@ -1,0 +1,41 @@
+-- What the scopes of an entry list, as items of a table. Private functions alone cite this.
+use Rattle.std.specs.Global.{Global}
+use Rattle.std.specs.Prelude.{ℕ, ◌+◌, ◌≡◌, ◌≤◌, false, List, Option, Some, None, Vec, slice_get}
+use Rattle.wac_shapes.specs.Name.{Name}
+use Rattle.wac_collection.specs.Collection.{Collection}
+use Rattle.wac_shapes.specs.declared.component.ItemKind.{ItemKind}
+use Rattle.wac_coding.specs.declared.calls.Calls.{Calls}
+use Rattle.wac_entries.specs.declared.nodes.Item.{Item}
+use Rattle.wac_entries.specs.declared.scopes.Opener.{Opener}
+use Rattle.wac_entries.specs.declared.scopes.Scope.{Scope}
+use Rattle.wac_entries.specs.Classes.{is_instance}
+use Rattle.wac_coding.specs.CallsView.{names_in}
+use Rattle.wac_coding.specs.Coding.{tree_in}
+use Rattle.wac_coding.specs.ItemCoding.{AreItems}
+use Rattle.wac_entries.specs.Nodes.{Node}
+use Rattle.wac_entries.specs.Scopes.{listed_in, opened, opened_by}
+
+-- in another scope of the same entry
+abbrev pub at_scope : Calls → ℕ → Calls
+at_scope s i = record { entries = s.entries; bindings = s.bindings; class = s.class; kind = s.kind; scopes = s.scopes; bound = s.bound; scope = Some i }
+
+-- the scopes that an item opens where it is listed stand at a position and behind it
+abbrev pub OpensAt : Calls → ItemKind → ℕ → Type 0
+OpensAt s k first = (j : ℕ) (o : Opener) → slice_get (opened_by k) j ≡ Some o → (t : Scope) × (slice_get s.scopes.now (first + j) ≡ Some t) × (t.opener ≡ o) × (t.parent ≡ s.scope)
+
+-- so do those that listed items open, one after another
+abbrev pub OpenAt : Calls → List (Name × ItemKind) → ℕ → Type 0
+OpenAt s es first = (j : ℕ) (o : Opener) → slice_get (opened es) j ≡ Some o → (t : Scope) × (slice_get s.scopes.now (first + j) ≡ Some t) × (t.opener ≡ o) × (t.parent ≡ s.scope)
+
+-- resources are called by what is around where they are listed, but in the outermost scope of an instance, which has its own rule
+abbrev pub IsAroundIn : ItemKind → Option ℕ → Type 0
+IsAroundIn k None = is_instance k ≡ false
+IsAroundIn k (Some i) = Unit {0}
+
+abbrev pub IsAround : Calls → Type 0
+IsAround s = IsAroundIn s.kind s.scope
+
+-- what is listed in each scope from a position on
+abbrev pub AreListings : List Node → Collection → Calls → ℕ → List (Vec Item Global) → Type 0
+AreListings ns c s from ls = (i : ℕ) (t : Scope) (xs : Vec Item Global) → from ≤ i → slice_get s.scopes.now i ≡ Some t → slice_get ls i ≡ Some xs
+    → AreItems ns (tree_in c (names_in c (at_scope s i))) (listed_in c t.opener) xs.items

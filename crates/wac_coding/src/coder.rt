@@ -1,0 +1,399 @@
+//! The types that a scope mentions, as nodes of a table.
+//!
+//! A definition whose parts have no numbers yet waits in a list of tasks, below its parts, so that no chain of definitions is
+//! too long. Each is opened once and numbered once.
+ghost use Rattle.std.specs.Prelude.{◌≡◌, ◌<◌, [], length, map, true, IfOk, OnOk, string_bytes};
+ghost use Rattle.std.specs.List.{AllByRecursion};
+ghost use Rattle.wac_collection.specs.Collection.{and_maybe, HasDefined, HasFunc, holds_value, defined_values, case_values, seconds};
+ghost use Rattle.wac_collection.specs.Held.{defined_tree};
+ghost use Rattle.wac_shapes.specs.declared.component.DefinedType.TheVariants as def;
+ghost use Rattle.wac_shapes.specs.declared.component.ValueType.TheVariants as val;
+ghost use Rattle.wac_shapes.specs.declared.component.«Type».TheVariants as ty;
+ghost use Rattle.wac_entries.specs.Nodes.{mentions, node_tree, tree_at, IsSorted};
+ghost use Rattle.wac_entries.specs.NodeViews.{node_view};
+ghost use Rattle.wac_entries.specs.Tasks.{parts_of, IsHeldTask, IsOpening, AreHeldValues};
+ghost use Rattle.wac_coding.specs.CallsView.{AreNamed};
+ghost use Rattle.wac_coding.specs.Coding.{source_tree, values_of, IsGrown, HasTree, IsRight, IsMore, IsReady, AreReady, IsDone, MayBeDone, Did, HasOption, AreParts, AreFields, AreCases, Fits, Means};
+
+use crate::calls::Calls;
+use crate::memo::Memo;
+use std::alloc::{AllocError, Global};
+use wac_entries::nodes::{Node, Nodes};
+use wac_entries::tasks::{Task, open_fields, open_optional, open_parts, open_value};
+use wac_types::laws::trees_are_whole;
+use wac_types::{DefinedType, DefinedTypeId, FuncTypeId, Labels, Named, Types, ValueType};
+
+/// Where a scope's types are held, and what resources are called in it.
+#[derive(Clone, Copy)]
+pub struct Source<'a> {
+    /// The memory that numbers are kept in.
+    pub alloc: Global,
+    /// The collection.
+    pub types: &'a Types,
+    /// What resources are called.
+    pub calls: &'a Calls<'a>,
+}
+
+impl<'a> Source<'a> {
+    /// The types as they are where resources are called so.
+    pub fn with<'b>(&self, calls: &'b Calls<'b>) -> Source<'b>
+    where
+        'a: 'b,
+        ensures { result ≡ record { alloc = self.now.alloc; types = self.now.types; calls = calls.entry } }
+    {
+        Source {
+            alloc: self.alloc,
+            types: self.types,
+            calls,
+        }
+    }
+}
+
+/// What a definition comes to.
+#[derive(Drop)]
+pub enum Meaning {
+    /// A node.
+    New(Node),
+    /// The node of this number, that of what an alias names.
+    Same(usize),
+}
+
+/// The number of a node, with the node's tree.
+pub fn add(nodes: &mut Nodes, node: Node) -> Result<usize, AllocError>
+    requires lower { AllByRecursion (λ m. m < length nodes.old) (mentions (node_view node)) }
+    requires sorted { IsSorted (node_view node) }
+    ensures grown { IsGrown nodes.old nodes.new }
+    ensures number { IfOk result (λ n. HasTree nodes.new (node_tree (tree_at nodes.old) (node_view node)) n) }
+{
+    nodes.table_law();
+    match nodes.add(node) {
+        Ok(number) => {
+            nodes.table_law();
+            Ok(number)
+        }
+        Err(fault) => Err(fault),
+    }
+}
+
+/// Names in order, in memory of their own.
+fn names(alloc: Global, labels: &Labels) -> Result<Vec<String>, AllocError>
+    ensures { IfOk result (λ v. map string_bytes v.items ≡ labels.now) }
+{
+    let mut names = Vec::with_capacity(alloc, labels.len())?;
+    for i in 0..labels.len() {
+        let name = String::from_str(alloc, labels.name_at(i))?;
+        names.push(name)?;
+    }
+    Ok(names)
+}
+
+impl Memo {
+    /// The number of a value type that has one where it is a definition.
+    fn part(
+        &self,
+        nodes: &mut Nodes,
+        source: &Source,
+        value: ValueType,
+    ) -> Result<usize, AllocError>
+        requires held { holds_value source.now.types.now value ≡ true }
+        requires ready { IsReady self.now value }
+        requires named { AreNamed source.now.types.now source.now.calls.now }
+        requires right { IsRight (source_tree source.now) self.now nodes.old }
+        ensures grown { IsGrown nodes.old nodes.new }
+        ensures number { IfOk result (λ n. HasTree nodes.new (source_tree source.now (ty.Value value)) n) }
+    {
+        match value {
+            ValueType::Primitive(primitive) => add(nodes, Node::Primitive(primitive)),
+            ValueType::Own(id) => {
+                let called = source.calls.called(source.alloc, source.types, id)?;
+                add(nodes, Node::Own(called))
+            }
+            ValueType::Borrow(id) => {
+                let called = source.calls.called(source.alloc, source.types, id)?;
+                add(nodes, Node::Borrow(called))
+            }
+            ValueType::Defined(id) => Ok(self.defined(id).unwrap()),
+        }
+    }
+
+    /// The number of an optional value type.
+    fn optional(
+        &self,
+        nodes: &mut Nodes,
+        source: &Source,
+        value: Option<ValueType>,
+    ) -> Result<Option<usize>, AllocError>
+        requires held { AreHeldValues source.now.types.now (and_maybe value []) }
+        requires ready { AreReady self.now (and_maybe value []) }
+        requires named { AreNamed source.now.types.now source.now.calls.now }
+        requires right { IsRight (source_tree source.now) self.now nodes.old }
+        ensures grown { IsGrown nodes.old nodes.new }
+        ensures number { IfOk result (λ n. HasOption nodes.new (values_of (source_tree source.now)) value n) }
+    {
+        match value {
+            Some(value) => {
+                let number = self.part(nodes, source, value)?;
+                Ok(Some(number))
+            }
+            None => Ok(None),
+        }
+    }
+
+    /// The numbers of values, in order.
+    fn parts(
+        &self,
+        nodes: &mut Nodes,
+        source: &Source,
+        values: &[ValueType],
+    ) -> Result<Vec<usize>, AllocError>
+        requires held { AreHeldValues source.now.types.now values.now }
+        requires ready { AreReady self.now values.now }
+        requires named { AreNamed source.now.types.now source.now.calls.now }
+        requires right { IsRight (source_tree source.now) self.now nodes.old }
+        ensures grown { IsGrown nodes.old nodes.new }
+        ensures numbers { IfOk result (λ ns. AreParts nodes.new (values_of (source_tree source.now)) values.now ns.items) }
+    {
+        let mut numbers = Vec::with_capacity(source.alloc, values.len())?;
+        for i in 0..values.len() {
+            let number = self.part(nodes, source, values[i])?;
+            numbers.push(number)?;
+        }
+        Ok(numbers)
+    }
+
+    /// The numbers of fields or parameters, under their names.
+    fn fields(
+        &self,
+        nodes: &mut Nodes,
+        source: &Source,
+        fields: &Named<ValueType>,
+    ) -> Result<Vec<(String, usize)>, AllocError>
+        requires held { AreHeldValues source.now.types.now (seconds fields.now) }
+        requires ready { AreReady self.now (seconds fields.now) }
+        requires named { AreNamed source.now.types.now source.now.calls.now }
+        requires right { IsRight (source_tree source.now) self.now nodes.old }
+        ensures grown { IsGrown nodes.old nodes.new }
+        ensures numbers { IfOk result (λ es. AreFields nodes.new (values_of (source_tree source.now)) fields.now es.items) }
+    {
+        let mut numbers = Vec::with_capacity(source.alloc, fields.len())?;
+        for i in 0..fields.len() {
+            let number = self.part(nodes, source, *fields.value_at(i))?;
+            let name = String::from_str(source.alloc, fields.name_at(i))?;
+            numbers.push((name, number))?;
+        }
+        Ok(numbers)
+    }
+
+    /// The numbers of the payloads of cases, under their names.
+    fn cases(
+        &self,
+        nodes: &mut Nodes,
+        source: &Source,
+        cases: &Named<Option<ValueType>>,
+    ) -> Result<Vec<(String, Option<usize>)>, AllocError>
+        requires held { AreHeldValues source.now.types.now (case_values cases.now) }
+        requires ready { AreReady self.now (case_values cases.now) }
+        requires named { AreNamed source.now.types.now source.now.calls.now }
+        requires right { IsRight (source_tree source.now) self.now nodes.old }
+        ensures grown { IsGrown nodes.old nodes.new }
+        ensures numbers { IfOk result (λ es. AreCases nodes.new (values_of (source_tree source.now)) cases.now es.items) }
+    {
+        let mut numbers = Vec::with_capacity(source.alloc, cases.len())?;
+        for i in 0..cases.len() {
+            let number = self.optional(nodes, source, *cases.value_at(i))?;
+            let name = String::from_str(source.alloc, cases.name_at(i))?;
+            numbers.push((name, number))?;
+        }
+        Ok(numbers)
+    }
+
+    /// The node of a result with these payloads.
+    fn outcome(
+        &self,
+        nodes: &mut Nodes,
+        source: &Source,
+        ok: Option<ValueType>,
+        err: Option<ValueType>,
+    ) -> Result<Node, AllocError>
+        requires held { AreHeldValues source.now.types.now (and_maybe ok (and_maybe err [])) }
+        requires ready { AreReady self.now (and_maybe ok (and_maybe err [])) }
+        requires named { AreNamed source.now.types.now source.now.calls.now }
+        requires right { IsRight (source_tree source.now) self.now nodes.old }
+        ensures grown { IsGrown nodes.old nodes.new }
+        ensures fits { IfOk result (λ n. Fits nodes.new (defined_tree (values_of (source_tree source.now)) (def.Result ok err)) (node_view n)) }
+    {
+        let ok = self.optional(nodes, source, ok)?;
+        let err = self.optional(nodes, source, err)?;
+        Ok(Node::Result(ok, err))
+    }
+
+    /// What a definition comes to whose parts have numbers.
+    fn meaning(
+        &self,
+        nodes: &mut Nodes,
+        source: &Source,
+        definition: &DefinedType,
+    ) -> Result<Meaning, AllocError>
+        requires held { AreHeldValues source.now.types.now (defined_values definition.now) }
+        requires ready { AreReady self.now (defined_values definition.now) }
+        requires named { AreNamed source.now.types.now source.now.calls.now }
+        requires right { IsRight (source_tree source.now) self.now nodes.old }
+        ensures grown { IsGrown nodes.old nodes.new }
+        ensures meaning { IfOk result (λ n. Means nodes.new (defined_tree (values_of (source_tree source.now)) definition.now) n) }
+    {
+        let node = match definition {
+            DefinedType::Tuple(parts) => Node::Tuple(self.parts(nodes, source, parts.as_slice())?),
+            DefinedType::List(value) => Node::List(self.part(nodes, source, *value)?),
+            DefinedType::FixedSizeList(value, length) => {
+                Node::FixedSizeList(self.part(nodes, source, *value)?, *length)
+            }
+            DefinedType::Option(value) => Node::Option(self.part(nodes, source, *value)?),
+            DefinedType::Result { ok, err } => self.outcome(nodes, source, *ok, *err)?,
+            DefinedType::Variant(variant) => {
+                Node::Variant(self.cases(nodes, source, &variant.cases)?)
+            }
+            DefinedType::Record(record) => {
+                Node::Record(self.fields(nodes, source, &record.fields)?)
+            }
+            DefinedType::Flags(flags) => Node::Flags(names(source.alloc, &flags.0)?),
+            DefinedType::Enum(cases) => Node::Enum(names(source.alloc, &cases.0)?),
+            DefinedType::Alias(value) => {
+                return Ok(Meaning::Same(self.part(nodes, source, *value)?));
+            }
+            DefinedType::Stream(value) => Node::Stream(self.optional(nodes, source, *value)?),
+            DefinedType::Future(value) => Node::Future(self.optional(nodes, source, *value)?),
+        };
+        Ok(Meaning::New(node))
+    }
+
+    /// Numbers a definition whose parts have numbers.
+    fn close(
+        &mut self,
+        nodes: &mut Nodes,
+        source: &Source,
+        id: DefinedTypeId,
+    ) -> Result<(), AllocError>
+        requires held { HasDefined source.now.types.now id }
+        requires ready { AreReady self.old (parts_of source.now.types.now id) }
+        requires named { AreNamed source.now.types.now source.now.calls.now }
+        requires right { IsRight (source_tree source.now) self.old nodes.old }
+        ensures grown { IsGrown nodes.old nodes.new }
+        ensures right { OnOk result (IsRight (source_tree source.now) self.new nodes.new) }
+        ensures more { OnOk result (IsMore self.old self.new) }
+        ensures done { OnOk result (IsReady self.new (val.Defined id)) }
+    {
+        source.types.law();
+        trees_are_whole(source.types);
+        let number = match self.meaning(nodes, source, &source.types[id])? {
+            Meaning::New(node) => add(nodes, node)?,
+            Meaning::Same(number) => number,
+        };
+        self.put_defined(id, number)
+    }
+
+    /// Does a task: numbers its definition, or puts it off behind its parts.
+    fn perform(
+        &mut self,
+        nodes: &mut Nodes,
+        source: &Source,
+        task: Task,
+        tasks: &mut Vec<Task>,
+    ) -> Result<(), AllocError>
+        requires held { IsHeldTask source.now.types.now task }
+        requires ready { MayBeDone source.now.types.now self.old task }
+        requires named { AreNamed source.now.types.now source.now.calls.now }
+        requires right { IsRight (source_tree source.now) self.old nodes.old }
+        ensures grown { IsGrown nodes.old nodes.new }
+        ensures right { OnOk result (IsRight (source_tree source.now) self.new nodes.new) }
+        ensures did { OnOk result (Did source.now.types.now task self.old self.new tasks.old.items tasks.new.items) }
+    {
+        match task {
+            Task::Open(id) => {
+                if let Some(_) = self.defined(id) {
+                    return Ok(());
+                }
+                tasks.push(Task::Close(id))?;
+                open_parts(tasks, &source.types[id])
+            }
+            Task::Close(id) => self.close(nodes, source, id),
+        }
+    }
+
+    /// Numbers the definitions of tasks, and what they reach.
+    fn finish(
+        &mut self,
+        nodes: &mut Nodes,
+        source: &Source,
+        mut tasks: Vec<Task>,
+    ) -> Result<(), AllocError>
+        requires held { AllByRecursion (IsHeldTask source.now.types.now) tasks.items }
+        requires opened { AllByRecursion IsOpening tasks.items }
+        requires named { AreNamed source.now.types.now source.now.calls.now }
+        requires right { IsRight (source_tree source.now) self.old nodes.old }
+        ensures grown { IsGrown nodes.old nodes.new }
+        ensures right { OnOk result (IsRight (source_tree source.now) self.new nodes.new) }
+        ensures done { OnOk result (AllByRecursion (IsDone self.new) tasks.items) }
+    {
+        source.types.law();
+        while let Some(task) = tasks.pop() {
+            self.perform(nodes, source, task, &mut tasks)?;
+        }
+        Ok(())
+    }
+
+    /// The number of a value type.
+    pub fn value(
+        &mut self,
+        nodes: &mut Nodes,
+        source: &Source,
+        value: ValueType,
+    ) -> Result<usize, AllocError>
+        requires held { holds_value source.now.types.now value ≡ true }
+        requires named { AreNamed source.now.types.now source.now.calls.now }
+        requires right { IsRight (source_tree source.now) self.old nodes.old }
+        ensures grown { IsGrown nodes.old nodes.new }
+        ensures right { OnOk result (IsRight (source_tree source.now) self.new nodes.new) }
+        ensures number { IfOk result (λ n. HasTree nodes.new (source_tree source.now (ty.Value value)) n) }
+    {
+        if let ValueType::Defined(id) = value {
+            if let Some(number) = self.defined(id) {
+                return Ok(number);
+            }
+        }
+        let mut tasks = Vec::new(source.alloc);
+        open_value(&mut tasks, value)?;
+        self.finish(nodes, source, tasks)?;
+        self.part(nodes, source, value)
+    }
+
+    /// The number of a function type.
+    pub fn func_type(
+        &mut self,
+        nodes: &mut Nodes,
+        source: &Source,
+        id: FuncTypeId,
+    ) -> Result<usize, AllocError>
+        requires held { HasFunc source.now.types.now id }
+        requires named { AreNamed source.now.types.now source.now.calls.now }
+        requires right { IsRight (source_tree source.now) self.old nodes.old }
+        ensures grown { IsGrown nodes.old nodes.new }
+        ensures right { OnOk result (IsRight (source_tree source.now) self.new nodes.new) }
+        ensures number { IfOk result (λ n. HasTree nodes.new (source_tree source.now (ty.Func id)) n) }
+    {
+        if let Some(number) = self.func(id) {
+            return Ok(number);
+        }
+        source.types.law();
+        trees_are_whole(source.types);
+        let func = &source.types[id];
+        let mut tasks = Vec::new(source.alloc);
+        open_optional(&mut tasks, func.result)?;
+        open_fields(&mut tasks, &func.params)?;
+        self.finish(nodes, source, tasks)?;
+        let params = self.fields(nodes, source, &func.params)?;
+        let returned = self.optional(nodes, source, func.result)?;
+        let number = add(nodes, Node::Func(func.is_async, params, returned))?;
+        self.put_func(id, number)?;
+        Ok(number)
+    }
+}

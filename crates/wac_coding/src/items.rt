@@ -1,0 +1,84 @@
+//! What a scope lists, as nodes of a table.
+//!
+//! An entry's types are put into the table scope by scope, from the innermost out, each scope with a memo of its own: nothing
+//! recurses, and each type is treated once in each scope that mentions it.
+ghost use Rattle.std.specs.Prelude.{◌≡◌, [], true, IfOk, OnOk};
+ghost use Rattle.wac_collection.specs.Collection.{holds_type};
+ghost use Rattle.wac_shapes.specs.Kinds.{kind_type};
+ghost use Rattle.wac_entries.specs.Scopes.{opened_by, opened_by_type};
+ghost use Rattle.wac_entries.specs.NodeViews.{item_view};
+ghost use Rattle.wac_coding.specs.CallsView.{AreNamed};
+ghost use Rattle.wac_coding.specs.Coding.{source_tree, IsGrown, HasTree, IsRight};
+ghost use Rattle.wac_coding.specs.ItemCoding.{HasItem};
+
+use crate::coder::{Source, add};
+use crate::memo::Memo;
+use crate::modules::module_type;
+use std::alloc::AllocError;
+use wac_entries::nodes::{Item, Node, Nodes};
+use wac_types::{ItemKind, Type};
+
+impl Memo {
+    /// The number of a type that opens no scope.
+    pub fn plain_type(
+        &mut self,
+        nodes: &mut Nodes,
+        source: &Source,
+        ty: Type,
+    ) -> Result<usize, AllocError>
+        requires held { holds_type source.now.types.now ty ≡ true }
+        requires plain { opened_by_type ty ≡ [] }
+        requires named { AreNamed source.now.types.now source.now.calls.now }
+        requires right { IsRight (source_tree source.now) self.old nodes.old }
+        ensures grown { IsGrown nodes.old nodes.new }
+        ensures right { OnOk result (IsRight (source_tree source.now) self.new nodes.new) }
+        ensures number { IfOk result (λ n. HasTree nodes.new (source_tree source.now ty) n) }
+    {
+        match ty {
+            Type::Resource(id) => {
+                let called = source.calls.called(source.alloc, source.types, id)?;
+                add(nodes, Node::Resource(called))
+            }
+            Type::Func(id) => self.func_type(nodes, source, id),
+            Type::Value(value) => self.value(nodes, source, value),
+            Type::Module(id) => module_type(nodes, source, id),
+            Type::Interface(_) | Type::World(_) => unreachable!(),
+        }
+    }
+
+    /// What an item that opens no scope is listed as.
+    pub fn plain_item(
+        &mut self,
+        nodes: &mut Nodes,
+        source: &Source,
+        kind: ItemKind,
+    ) -> Result<Item, AllocError>
+        requires held { holds_type source.now.types.now (kind_type kind) ≡ true }
+        requires plain { opened_by kind ≡ [] }
+        requires named { AreNamed source.now.types.now source.now.calls.now }
+        requires right { IsRight (source_tree source.now) self.old nodes.old }
+        ensures grown { IsGrown nodes.old nodes.new }
+        ensures right { OnOk result (IsRight (source_tree source.now) self.new nodes.new) }
+        ensures item { IfOk result (λ x. HasItem nodes.new (source_tree source.now) kind (item_view x)) }
+    {
+        match kind {
+            ItemKind::TypeItem(ty) => {
+                let number = self.plain_type(nodes, source, ty)?;
+                Ok(Item::Type(number))
+            }
+            ItemKind::Func(id) => {
+                let number = self.func_type(nodes, source, id)?;
+                Ok(Item::Func(number))
+            }
+            ItemKind::Module(id) => {
+                let number = module_type(nodes, source, id)?;
+                Ok(Item::Module(number))
+            }
+            ItemKind::Value(value) => {
+                let number = self.value(nodes, source, value)?;
+                Ok(Item::Value(number))
+            }
+            ItemKind::Instance(_) | ItemKind::Component(_) => unreachable!(),
+        }
+    }
+}

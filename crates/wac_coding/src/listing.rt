@@ -1,0 +1,93 @@
+//! What is listed in a scope, as an instance of a table.
+ghost use Rattle.std.specs.Prelude.{◌≡◌, true, IfOk};
+ghost use Rattle.wac_collection.specs.Collection.{holds_type, world_imports, world_exports, HasWorld};
+ghost use Rattle.wac_entries.specs.Scopes.{listed_in, opener_type, scope_tree};
+ghost use Rattle.wac_collection.specs.Tree.{instance};
+ghost use Rattle.wac_entries.specs.NodeViews.{listed};
+ghost use Rattle.wac_coding.specs.CallsView.{names_in};
+ghost use Rattle.wac_coding.specs.Coding.{source_tree, IsGrown, HasTree};
+ghost use Rattle.wac_coding.specs.ItemCoding.{AreItems, Lists, listing_under, component_tree};
+
+use crate::coder::{Source, add};
+use crate::modules::{in_order, put};
+use std::alloc::AllocError;
+use std::collections::BTreeMap;
+use wac_entries::nodes::{Item, Node, Nodes};
+use wac_entries::scopes::Opener;
+use wac_types::{ItemKind, Named, WorldId};
+
+/// Items under their names, sorted by name.
+fn entries(
+    nodes: &Nodes,
+    source: &Source,
+    kinds: &Named<ItemKind>,
+    items: &[Item],
+) -> Result<Vec<(String, Item)>, AllocError>
+    requires { AreItems nodes.now (source_tree source.now) kinds.now items.now }
+    ensures { IfOk result (λ v. Lists nodes.now (source_tree source.now) kinds.now (listed v.items)) }
+{
+    let _ = nodes;
+    let mut map = BTreeMap::new(source.alloc);
+    let mut i = kinds.len();
+    while i > 0 {
+        i -= 1;
+        let name = String::from_str(source.alloc, kinds.name_at(i))?;
+        put(&mut map, name, items[i])?;
+    }
+    in_order(source.alloc, map)
+}
+
+/// The number of the instance that lists these items under their names.
+fn listing(
+    nodes: &mut Nodes,
+    source: &Source,
+    kinds: &Named<ItemKind>,
+    items: &[Item],
+) -> Result<usize, AllocError>
+    requires { AreItems nodes.old (source_tree source.now) kinds.now items.now }
+    ensures grown { IsGrown nodes.old nodes.new }
+    ensures number { IfOk result (λ n. HasTree nodes.new (instance (listing_under (source_tree source.now) kinds.now)) n) }
+{
+    let exports = entries(nodes, source, kinds, items)?;
+    add(nodes, Node::Instance(exports))
+}
+
+/// The number of the instance that is listed in a scope, given what each of its items is listed as.
+pub fn scope_instance(
+    nodes: &mut Nodes,
+    source: &Source,
+    opener: Opener,
+    items: &[Item],
+) -> Result<usize, AllocError>
+    requires held { holds_type source.now.types.now (opener_type opener) ≡ true }
+    requires items { AreItems nodes.old (source_tree source.now) (listed_in source.now.types.now opener) items.now }
+    ensures grown { IsGrown nodes.old nodes.new }
+    ensures number { IfOk result (λ n. HasTree nodes.new (scope_tree source.now.types.now (names_in source.now.types.now source.now.calls.now) opener) n) }
+{
+    match opener {
+        Opener::Interface(id) => listing(nodes, source, &source.types[id].exports, items),
+        Opener::Imports(id) => listing(nodes, source, &source.types[id].imports, items),
+        Opener::Exports(id) => listing(nodes, source, &source.types[id].exports, items),
+    }
+}
+
+/// The number of the component of a world, given what is listed on each of its sides.
+pub fn component(
+    nodes: &mut Nodes,
+    id: WorldId,
+    inside: &Source,
+    imported: &[Item],
+    outside: &Source,
+    exported: &[Item],
+) -> Result<usize, AllocError>
+    requires inside { HasWorld inside.now.types.now id }
+    requires outside { HasWorld outside.now.types.now id }
+    requires imported { AreItems nodes.old (source_tree inside.now) (world_imports inside.now.types.now id) imported.now }
+    requires exported { AreItems nodes.old (source_tree outside.now) (world_exports outside.now.types.now id) exported.now }
+    ensures grown { IsGrown nodes.old nodes.new }
+    ensures number { IfOk result (λ n. HasTree nodes.new (component_tree (source_tree inside.now) (world_imports inside.now.types.now id) (source_tree outside.now) (world_exports outside.now.types.now id)) n) }
+{
+    let imports = entries(nodes, inside, &inside.types[id].imports, imported)?;
+    let exports = entries(nodes, outside, &outside.types[id].exports, exported)?;
+    add(nodes, Node::Component(imports, exports))
+}

@@ -1,0 +1,175 @@
+//! What the scopes of an entry list, as items of a table: the inner ones first.
+ghost use Rattle.std.specs.Prelude.{◌≡◌, ◌≢◌, ◌+◌, ◌<◌, true, List, [], length, Some, IfOk, OnOk, slice_get};
+ghost use Rattle.wac_types.specs.Called.{Called};
+ghost use Rattle.wac_collection.specs.Tree.{TypeTree};
+ghost use Rattle.wac_shapes.specs.declared.component.«Type».{«Type» as AnyType};
+ghost use Rattle.wac_entries.specs.Nodes.{Node};
+ghost use Rattle.wac_collection.specs.Collection.{holds_all, holds_type, kind_types};
+ghost use Rattle.wac_shapes.specs.Kinds.{kind_type};
+ghost use Rattle.wac_entries.specs.NodeViews.{item_view};
+ghost use Rattle.wac_coding.specs.CallsView.{AreNamed, names_in};
+ghost use Rattle.wac_coding.specs.Coding.{source_tree, tree_in, HasTree, IsGrown, IsRight};
+ghost use Rattle.wac_coding.specs.ItemCoding.{AreItems, HasItem};
+ghost use Rattle.wac_coding.specs.Listings.{at_scope, OpenAt, OpensAt, IsAround, AreListings};
+ghost use Rattle.wac_entries.specs.Scopes.{listed_in, opened_by};
+ghost use Rattle.wac_entries.specs.declared.scopes.Scope.{Scope as AScope};
+
+use crate::coder::Source;
+use crate::listing::{component, scope_instance};
+use crate::memo::Memo;
+use std::alloc::{AllocError, Global};
+use wac_entries::nodes::{Item, Nodes};
+use wac_entries::scopes::Opener;
+use wac_types::laws::trees_are_whole;
+use wac_types::{ItemKind, Named, Type};
+
+/// An item of an instance type or of a component type, of this number.
+fn opened_item(kind: ItemKind, number: usize) -> Item
+    ensures { (ns : List Node) (t : AnyType → TypeTree Called) → opened_by kind ≢ [] → HasTree ns (t (kind_type kind)) number → HasItem ns t kind (item_view result) }
+{
+    match kind {
+        ItemKind::Instance(_) => Item::Instance(number),
+        ItemKind::Component(_) => Item::Component(number),
+        _ => Item::Type(number),
+    }
+}
+
+/// What an item is listed as where the scopes that it opens begin at a position.
+pub fn listed_item(
+    memo: &mut Memo,
+    nodes: &mut Nodes,
+    source: &Source,
+    kind: ItemKind,
+    first: usize,
+    listings: &[Vec<Item>],
+) -> Result<Item, AllocError>
+    requires held { holds_type source.now.types.now (kind_type kind) ≡ true }
+    requires named { AreNamed source.now.types.now source.now.calls.now }
+    requires right { IsRight (source_tree source.now) memo.old nodes.old }
+    requires around { IsAround source.now.calls.now }
+    requires opened { OpensAt source.now.calls.now kind first }
+    requires counted { length listings.now ≡ length source.now.calls.now.scopes.now }
+    requires listings { AreListings nodes.old source.now.types.now source.now.calls.now first listings.now }
+    ensures grown { IsGrown nodes.old nodes.new }
+    ensures right { OnOk result (IsRight (source_tree source.now) memo.new nodes.new) }
+    ensures item { IfOk result (λ x. HasItem nodes.new (source_tree source.now) kind (item_view x)) }
+{
+    trees_are_whole(source.types);
+    let calls = source.calls.at(first);
+    let inside = source.with(&calls);
+    match kind.ty() {
+        Type::Interface(id) => {
+            let items = listings[first].as_slice();
+            let number = scope_instance(nodes, &inside, Opener::Interface(id), items)?;
+            Ok(opened_item(kind, number))
+        }
+        Type::World(id) => {
+            let calls = source.calls.at(first + 1);
+            let outside = source.with(&calls);
+            let imported = listings[first].as_slice();
+            let exported = listings[first + 1].as_slice();
+            let number = component(nodes, id, &inside, imported, &outside, exported)?;
+            Ok(opened_item(kind, number))
+        }
+        _ => memo.plain_item(nodes, source, kind),
+    }
+}
+
+/// How many scopes an item opens.
+fn opens(kind: ItemKind) -> usize
+    ensures { result ≡ length (opened_by kind) }
+{
+    match kind.ty() {
+        Type::Interface(_) => 1,
+        Type::World(_) => 2,
+        _ => 0,
+    }
+}
+
+/// What items of a scope are listed as, where the scopes that they open begin at a position.
+fn listed_items(
+    nodes: &mut Nodes,
+    source: &Source,
+    kinds: &Named<ItemKind>,
+    first: usize,
+    listings: &[Vec<Item>],
+) -> Result<Vec<Item>, AllocError>
+    requires held { holds_all source.now.types.now (kind_types kinds.now) ≡ true }
+    requires named { AreNamed source.now.types.now source.now.calls.now }
+    requires around { IsAround source.now.calls.now }
+    requires opened { OpenAt source.now.calls.now kinds.now first }
+    requires counted { length listings.now ≡ length source.now.calls.now.scopes.now }
+    requires listings { AreListings nodes.old source.now.types.now source.now.calls.now first listings.now }
+    ensures grown { IsGrown nodes.old nodes.new }
+    ensures items { IfOk result (λ xs. AreItems nodes.new (source_tree source.now) kinds.now xs.items) }
+{
+    let mut memo = Memo::with_capacity(source.alloc, kinds.len())?;
+    let mut items = Vec::with_capacity(source.alloc, kinds.len())?;
+    let mut next = first;
+    for i in 0..kinds.len() {
+        let kind = *kinds.value_at(i);
+        items.push(listed_item(&mut memo, nodes, source, kind, next, listings)?)?;
+        next += opens(kind);
+    }
+    Ok(items)
+}
+
+/// What the scope at a position lists, where it is known what those behind it list.
+fn listing_at(
+    nodes: &mut Nodes,
+    source: &Source,
+    position: usize,
+    listings: &[Vec<Item>],
+) -> Result<Vec<Item>, AllocError>
+    requires named { AreNamed source.now.types.now source.now.calls.now }
+    requires within { position < length source.now.calls.now.scopes.now }
+    requires counted { length listings.now ≡ length source.now.calls.now.scopes.now }
+    requires listings { AreListings nodes.old source.now.types.now source.now.calls.now (position + 1) listings.now }
+    ensures grown { IsGrown nodes.old nodes.new }
+    ensures items { IfOk result (λ xs. (t : AScope) → slice_get source.now.calls.now.scopes.now position ≡ Some t → AreItems nodes.new (tree_in source.now.types.now (names_in source.now.types.now (at_scope source.now.calls.now position))) (listed_in source.now.types.now t.opener) xs.items) }
+{
+    source.types.law();
+    let calls = source.calls.at(position);
+    let inside = source.with(&calls);
+    let scope = calls.scopes.scope(position);
+    let types = source.types;
+    match scope.opener {
+        Opener::Interface(id) => {
+            listed_items(nodes, &inside, &types[id].exports, scope.first, listings)
+        }
+        Opener::Imports(id) => {
+            listed_items(nodes, &inside, &types[id].imports, scope.first, listings)
+        }
+        Opener::Exports(id) => {
+            listed_items(nodes, &inside, &types[id].exports, scope.first, listings)
+        }
+    }
+}
+
+/// So many listings of nothing.
+fn unlisted(alloc: Global, count: usize) -> Result<Vec<Vec<Item>>, AllocError>
+    ensures { IfOk result (λ v. length v.items ≡ count) }
+{
+    let mut listings = Vec::new(alloc);
+    for _ in 0..count {
+        listings.push(Vec::new(alloc))?;
+    }
+    Ok(listings)
+}
+
+/// What each scope of an entry lists.
+pub fn listings(nodes: &mut Nodes, source: &Source) -> Result<Vec<Vec<Item>>, AllocError>
+    requires named { AreNamed source.now.types.now source.now.calls.now }
+    ensures grown { IsGrown nodes.old nodes.new }
+    ensures counted { IfOk result (λ v. length v.items ≡ length source.now.calls.now.scopes.now) }
+    ensures listings { IfOk result (λ v. AreListings nodes.new source.now.types.now source.now.calls.now 0 v.items) }
+{
+    let mut position = source.calls.scopes.len();
+    let mut listings = unlisted(source.alloc, position)?;
+    while position > 0 {
+        position -= 1;
+        let items = listing_at(nodes, source, position, listings.as_slice())?;
+        listings[position] = items;
+    }
+    Ok(listings)
+}
