@@ -1,3 +1,4 @@
 pub mod Links
 pub mod MergedRows
 pub mod FaultLemmas
+pub mod OrderOnce

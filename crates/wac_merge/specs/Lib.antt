@@ -1,1 +1,2 @@
 pub mod Aggregate
+pub mod OrderLaws

@@ -11,6 +11,7 @@ ghost use Rattle.wac_terms.specs.ClassOrder.{IsWrittenOrder};
 ghost use Rattle.wac_entries.specs.Classes.{AreClasses, by_names, canonical, class_names, imported_as};
 ghost use Rattle.wac_agreement.specs.Faults.{Fault as AFault, HasFault, HasNoCircle, fault_of, use_each_other};
 ghost use Rattle.wac_terms.specs.NoDisagreement.{HasNoDisagreement};
+ghost use Rattle.wac_types.specs.TreeLaws.{IsKeptBy, KeepsTrees};
 ghost use Rattle.wac_terms.specs.Merge.{AreBound, IsMerge, bound_resource, import_entries, listed_resource, own_resource};
 
 use std::alloc::{AllocError, Global};
@@ -100,8 +101,8 @@ impl TypeAggregator {
     /// Merges the entries, which all are of the collection.
     ///
     /// Answers one import for each class, under its canonical name, in the order in which they are written, with the
-    /// collection of their types: the items of the entries' collection, and behind them what is merged. Each import is a subtype
-    /// of each entry of its class.
+    /// collection of their types, which holds each: the items of the entries' collection, which mean what they meant, and behind
+    /// them what is merged. Each import is a subtype of each entry of its class.
     ///
     /// Answers `Disagree` exactly where two entries of one class do not agree, with the first that does not and the first
     /// that it disagrees with; else `UseEachOther` where classes rest on each other in a circle, with the one that is asked
@@ -111,6 +112,9 @@ impl TypeAggregator {
         ensures finished { IfOk result (λ a. (a.entries ≡ self.entries) × (a.is_finished ≡ true)) }
         ensures merged { IfOk result (λ a. IsMerge by_names types.now self.entries a.merge) }
         ensures bound { IfOk result (λ a. AreBound by_names types.now self.entries a.merge) }
+        ensures kept { IfOk result (λ a. IsKeptBy types.now a.merge.types) }
+        ensures meant { IfOk result (λ a. KeepsTrees types.now a.merge.types) }
+        ensures held { IfOk result (λ a. AreHeld a.merge.types a.merge.imports) }
         ensures agree { OnOk result (HasNoDisagreement by_names types.now self.entries) }
         ensures ordered { OnOk result (HasNoCircle by_names types.now self.entries) }
         ensures fault { IfErr result (λ e. IfSome (fault_of e) (HasFault by_names types.now self.entries)) }

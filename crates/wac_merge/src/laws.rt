@@ -1,6 +1,7 @@
-//! Laws of classes and of faults, each given by a call.
+//! Laws of classes, of faults and of the order in which classes are written, each given by a call.
 ghost use Rattle.wac_entries.specs.Classes.{ClassLaws};
 ghost use Rattle.wac_agreement.specs.Faults.{OneFault};
+ghost use Rattle.wac_merge.specs.OrderLaws.{OrderLaw, RestsLaw};
 
 /// One class is an equivalence of names, and two entries are of one class exactly where a chain of links leads from one to the other.
 pub fn class_laws()
@@ -10,4 +11,15 @@ pub fn class_laws()
 /// Entries have one fault at most.
 pub fn fault_law()
     ensures { OneFault }
+{}
+
+/// The order in which classes are written has each class, once where no class rests on itself through others, and there is no
+/// other.
+pub fn order_law()
+    ensures { OrderLaw }
+{}
+
+/// Where a class rests on another, that one stands before it in the order in which they are written.
+pub fn rests_law()
+    ensures { RestsLaw }
 {}

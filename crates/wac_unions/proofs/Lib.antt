@@ -9,4 +9,5 @@ pub mod AssembledItemsFirst
 pub mod AssembledItems
 pub mod AssembledSubtypes
 pub mod AssembledMerge
+pub mod AssembledHeld
 pub mod AssembledBound

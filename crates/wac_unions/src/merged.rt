@@ -359,6 +359,8 @@ impl Merged {
         requires once { (i j k : ℕ) → slice_get order.now i ≡ Some k → slice_get order.now j ≡ Some k → i ≡ j }
         ensures merged { IfOk result (λ m. IsMerge by_names types.now entries.now m) }
         ensures bound { IfOk result (λ m. AreBound by_names types.now entries.now m) }
+        ensures begins { IfOk result (λ m. IsExtended types.now m.types) }
+        ensures holds { IfOk result (λ m. AreHeld m.types m.imports) }
     {
         types.law();
         types.uses_law();

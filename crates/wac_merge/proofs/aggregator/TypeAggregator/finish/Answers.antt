@@ -65,3 +65,12 @@ returns-in_err-merged-clause-fault c =
 pub returns-in_err-merged-clause-refused : goal.returns-in_err-merged-clause-refused
 returns-in_err-merged-clause-refused c = λ fault has.
     exit_refused (λ e. (fault_of e ≡ Some fault) ⊎ (e ≡ OutOfMemory)) c.from_residual-in_err-merged.result OutOfMemory c.from_residual-in_err-merged.ensures.1 (inr refl)
+
+pub returns-clause-kept : goal.returns-clause-kept
+returns-clause-kept c = c.in_ok-merged.ensures.begins.kept
+
+pub returns-clause-meant : goal.returns-clause-meant
+returns-clause-meant c = c.in_ok-merged.ensures.begins.trees
+
+pub returns-clause-held : goal.returns-clause-held
+returns-clause-held c = c.in_ok-merged.ensures.holds

@@ -6,6 +6,7 @@ use Rattle.wac_terms.specs.Unions.{AreUnions}
 use Rattle.wac_terms.specs.declared.parts.Union.{Union}
 use Rattle.wac_unions.proofs.Assembled.{AreAssembled, AreDeep}
 use Rattle.wac_unions.proofs.AssembledBound.{bound-is}
+use Rattle.wac_unions.proofs.AssembledHeld.{imports-held}
 use Rattle.wac_unions.proofs.AssembledMerge.{agreed-pairs, can-rename-all, merge-is}
 use Rattle.wac_renaming.proofs.Extending.{extended_twice, still_fresh}
 use Rattle.wac_unions.proofs.merged.Merged.new.Goals as goal
@@ -74,4 +75,6 @@ returns c =
     record {
       merged = merge-is t m es u.roots us ps bs f w.ids w.ws c.args.order.now (import_entries c.in_ok-imports.imports) all deep c.requires.agreed;
       bound = bound-is t m es u.roots us ps bs f w.ids w.ws c.args.order.now (import_entries c.in_ok-imports.imports) all;
+      begins = all.extended;
+      holds = imports-held t m es u.roots us ps bs f w.ids w.ws c.args.order.now (import_entries c.in_ok-imports.imports) all;
     }
