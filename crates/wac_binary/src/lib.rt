@@ -26,8 +26,8 @@ pub use customs::{component_names, producers};
 pub use fault::BinaryFault;
 pub use instance_type::InstanceType;
 pub use laws::{
-    added_law, declared_law, has_meaning_law, law, module_law, one_custom_reading, one_reading,
-    scope_law,
+    added_law, declared_law, fit_law, has_meaning_law, kept_law, law, listed_law, module_law,
+    one_custom_reading, one_reading, scope_law, within_law,
 };
 pub use module_type::ModuleType;
 pub use sorts::{Description, Sort};
