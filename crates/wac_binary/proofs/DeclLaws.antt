@@ -56,8 +56,8 @@ module _ {ds : List Decl} {bytes counts : List ℕ} {count : ℕ} (s : DeclState
     size_before f = rw (s.bytes_are, ← texts ds d) f.size
 
     -- with one more declaration that fits there was room for it
-    pub room_for : (n : ℕ) → n ≡ length (decl_bytes d) → DeclarationsFit (ds ++ d ∷ []) → (slice_index counts k < 2 ^ 32) × (count + 1 < 2 ^ 32) × (length bytes + n < 2 ^ 32)
-    room_for n e f = let h = fits_before f in let z = size_before f in (h.0, omega arith, omega (arith, length-append bytes (decl_bytes d)))
+    pub room_for : (n len : ℕ) → n ≡ length (decl_bytes d) → len ≡ length bytes → DeclarationsFit (ds ++ d ∷ []) → (slice_index counts k < 2 ^ 32) × (count + 1 < 2 ^ 32) × (len + n < 2 ^ 32)
+    room_for n len e l f = let h = fits_before f in let z = size_before f in (h.0, omega arith, omega (arith, length-append bytes (decl_bytes d)))
 
     pub type_snoc : length counts ≡ 7 → slice_index counts k < 2 ^ 32 → count < 2 ^ 32 - 1 → length (bytes ++ decl_bytes d) < 2 ^ 32 → DeclState (ds ++ d ∷ []) (bytes ++ decl_bytes d) (count + 1) (slice_set counts k (slice_index counts k + 1))
     type_snoc l g c z = record {
@@ -72,9 +72,9 @@ module _ {ds : List Decl} {bytes counts : List ℕ} {count : ℕ} (s : DeclState
     }
 
     -- where there is room
-    pub type_more : length counts ≡ 7 → (n : ℕ) → n ≡ length (decl_bytes d) → (slice_index counts k < 2 ^ 32) × (count + 1 < 2 ^ 32) × (length bytes + n < 2 ^ 32)
+    pub type_more : length counts ≡ 7 → (n len : ℕ) → n ≡ length (decl_bytes d) → len ≡ length bytes → (slice_index counts k < 2 ^ 32) × (count + 1 < 2 ^ 32) × (len + n < 2 ^ 32)
         → DeclState (ds ++ d ∷ []) (bytes ++ decl_bytes d) (count + 1) (slice_set counts k (slice_index counts k + 1))
-    type_more l n e r = type_snoc l r.0 (let h = r.1 in omega arith) (let h = r.2 in omega (arith, length-append bytes (decl_bytes d)))
+    type_more l n len e m r = type_snoc l r.0 (let h = r.1 in omega arith) (let h = r.2 in omega (arith, length-append bytes (decl_bytes d)))
 
 pub type_none : DeclState [] [] 0 (0 ∷ 0 ∷ 0 ∷ 0 ∷ 0 ∷ 0 ∷ 0 ∷ [])
 type_none = record {

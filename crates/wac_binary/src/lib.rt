@@ -4,6 +4,7 @@
 pub mod builder;
 pub mod component_type;
 mod core_decl;
+mod core_size;
 pub mod core_types;
 pub mod customs;
 mod decl;
@@ -16,7 +17,9 @@ pub mod module_type;
 mod put;
 mod put_types;
 mod section;
+mod size;
 pub mod sorts;
+mod type_size;
 pub mod types;
 
 pub use builder::ComponentBuilder;
