@@ -17,7 +17,7 @@ counts_all : (ds : List Decl) → count_of (decls ds) ≡ length ds
 counts_all [] = refl
 counts_all (d ∷ ds) = omega (arith, counts_all ds)
 
-bytes_all : (ds : List Decl) → decls_bytes (decls ds) ≡ flat_map decl_bytes ds
+pub bytes_all : (ds : List Decl) → decls_bytes (decls ds) ≡ flat_map decl_bytes ds
 bytes_all [] = refl
 bytes_all (d ∷ ds) = ap (λ t. decl_bytes d ++ t) (bytes_all ds)
 
@@ -55,6 +55,10 @@ module _ {ds : List Decl} {bytes counts : List ℕ} {count : ℕ} (s : DeclState
     pub size_before : DeclarationsFit (ds ++ d ∷ []) → length (bytes ++ decl_bytes d) < 2 ^ 32
     size_before f = rw (s.bytes_are, ← texts ds d) f.size
 
+    -- with one more declaration that fits there was room for it
+    pub room_for : (n len : ℕ) → n ≡ length (decl_bytes d) → len ≡ length bytes → DeclarationsFit (ds ++ d ∷ []) → (slice_index counts k < 2 ^ 32) × (count + 1 < 2 ^ 32) × (len + n < 2 ^ 32)
+    room_for n len e l f = let h = fits_before f in let z = size_before f in (h.0, omega arith, omega (arith, length-append bytes (decl_bytes d)))
+
     pub type_snoc : length counts ≡ 7 → slice_index counts k < 2 ^ 32 → count < 2 ^ 32 - 1 → length (bytes ++ decl_bytes d) < 2 ^ 32 → DeclState (ds ++ d ∷ []) (bytes ++ decl_bytes d) (count + 1) (slice_set counts k (slice_index counts k + 1))
     type_snoc l g c z = record {
       count_is = sym longer;
@@ -66,6 +70,11 @@ module _ {ds : List Decl} {bytes counts : List ℕ} {count : ℕ} (s : DeclState
         indexes_fit = λ j. rw (added j) (bounded k j (declared j ds) (2 ^ 32) (s.fits.indexes_fit j) (λ e. rw (← e, ← s.counted k q) g));
       };
     }
+
+    -- where there is room
+    pub type_more : length counts ≡ 7 → (n len : ℕ) → n ≡ length (decl_bytes d) → len ≡ length bytes → (slice_index counts k < 2 ^ 32) × (count + 1 < 2 ^ 32) × (len + n < 2 ^ 32)
+        → DeclState (ds ++ d ∷ []) (bytes ++ decl_bytes d) (count + 1) (slice_set counts k (slice_index counts k + 1))
+    type_more l n len e m r = type_snoc l r.0 (let h = r.1 in omega arith) (let h = r.2 in omega (arith, length-append bytes (decl_bytes d)))
 
 pub type_none : DeclState [] [] 0 (0 ∷ 0 ∷ 0 ∷ 0 ∷ 0 ∷ 0 ∷ 0 ∷ [])
 type_none = record {

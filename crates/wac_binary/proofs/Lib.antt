@@ -4,6 +4,7 @@ pub mod SectionLaws
 pub mod ItemLaws
 pub mod WrittenLaws
 pub mod DeclLaws
+pub mod FitLaws
 pub mod ModuleLaws
 pub mod CustomLaws
 pub mod CustomReading
@@ -11,5 +12,7 @@ pub mod MeaningLaws
 pub mod ScopeLaws
 pub mod HasMeaningLaws
 pub mod AddedLaws
+pub mod KeptLaws
+pub mod ListedLaws
 pub mod Rows
 pub mod MeaningRows

@@ -55,6 +55,10 @@ module _ {ds : List ModuleDecl} {bytes : List ℕ} {count types : ℕ} (s : Modu
     pub module_size : ModuleFits (ds ++ d ∷ []) → length (bytes ++ module_decl_bytes d) < 2 ^ 32
     module_size f = rw (s.bytes_are, ← texts ds d) f.size
 
+    -- with one more declaration that fits there was room for it
+    pub module_room : (n len : ℕ) → n ≡ length (module_decl_bytes d) → len ≡ length bytes → ModuleFits (ds ++ d ∷ []) → (count + 1 < 2 ^ 32) × (len + n < 2 ^ 32)
+    module_room n len e l f = let h = count_before f in let z = module_size f in (omega arith, omega (arith, length-append bytes (module_decl_bytes d)))
+
     pub module_snoc : count < 2 ^ 32 - 1 → length (bytes ++ module_decl_bytes d) < 2 ^ 32 → ModuleState (ds ++ d ∷ []) (bytes ++ module_decl_bytes d) (count + 1) (types + function_types (d ∷ []))
     module_snoc c z = record {
       count_is = sym longer;
@@ -62,6 +66,11 @@ module _ {ds : List ModuleDecl} {bytes : List ℕ} {count types : ℕ} (s : Modu
       types_are = rw (s.types_are) (sym (types_snoc ds d));
       fits = record { count = omega (arith, longer); size = rw (texts ds d, ← s.bytes_are) z };
     }
+
+    -- where there is room
+    pub module_more : (n len : ℕ) → n ≡ length (module_decl_bytes d) → len ≡ length bytes → (count + 1 < 2 ^ 32) × (len + n < 2 ^ 32)
+        → ModuleState (ds ++ d ∷ []) (bytes ++ module_decl_bytes d) (count + 1) (types + function_types (d ∷ []))
+    module_more n len e m r = module_snoc (let h = r.0 in omega arith) (let h = r.1 in omega (arith, length-append bytes (module_decl_bytes d)))
 
 pub module_none : ModuleState [] [] 0 0
 module_none = record { count_is = refl; bytes_are = refl; types_are = refl; fits = record { count = omega arith; size = omega arith } }

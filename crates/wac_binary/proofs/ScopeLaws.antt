@@ -317,22 +317,32 @@ same_scopes [] = tt
 same_scopes (c ∷ cs) = (same_scope c, same_scopes cs)
 
 pub all_grow_twice : (xs ys zs : List Scope) → AllGrow xs ys → AllGrow ys zs → AllGrow xs zs
-all_grow_twice [] [] [] p q = tt
+all_grow_twice [] ys zs p q = tt
 all_grow_twice (a ∷ xs) (b ∷ ys) (c ∷ zs) p q = (grows_twice a b c p.0 q.0, all_grow_twice xs ys zs p.1 q.1)
-all_grow_twice [] [] (c ∷ zs) p q = absurd q
-all_grow_twice [] (b ∷ ys) zs p q = absurd p
 all_grow_twice (a ∷ xs) [] zs p q = absurd p
 all_grow_twice (a ∷ xs) (b ∷ ys) [] p q = absurd q
 
+-- a scope without indexes
+from_empty : (c : Scope) → Grows empty c
+from_empty c = record {
+  core_types = c.core_types;
+  types = c.types;
+  instances = c.instances;
+  core_types_are = refl;
+  types_are = refl;
+  instances_are = refl;
+  modules_stay = omega arith;
+  components_stay = omega arith;
+}
+
 pub scopes_grow : (cs ds : List Scope) (k : ℕ) → AllGrow cs ds → Grows (scope_at cs k) (scope_at ds k)
-scopes_grow [] [] k g = same_scope empty
-scopes_grow [] (d ∷ ds) k g = absurd g
+scopes_grow [] ds k g = from_empty (scope_at ds k)
 scopes_grow (c ∷ cs) [] k g = absurd g
 scopes_grow (c ∷ cs) (d ∷ ds) zero g = g.0
 scopes_grow (c ∷ cs) (d ∷ ds) (suc k) g = scopes_grow cs ds k g.1
 
 mutual
-  tree_kept : (t : TypeDef) (c : Scope) (out new : List Scope) → AllGrow out new → TypeReaches t c out → tree_of t c new ≡ tree_of t c out
+  pub tree_kept : (t : TypeDef) (c : Scope) (out new : List Scope) → AllGrow out new → TypeReaches t c out → tree_of t c new ≡ tree_of t c out
   tree_kept (value_def t) c out new g h = refl
   tree_kept (func_def a ps r) c out new g h = refl
   tree_kept (component_def ds) c out new g h = ap (λ w. component w.imports w.exports) (after_kept ds empty (c ∷ out) (c ∷ new) (same_scope c, g) h)

@@ -148,7 +148,7 @@ closed_snoc xs x =
 open_snoc : (xs : List Item) (x : Item) → open_section (xs ++ x ∷ []) ≡ open_of (Some (next_section (open_section xs) x))
 open_snoc xs x = ap open_of (last_open xs x)
 
-joins_id : (c : Bool) (m n : ℕ) → (c && eqb m n) ≡ true → m ≡ n
+pub joins_id : (c : Bool) (m n : ℕ) → (c && eqb m n) ≡ true → m ≡ n
 joins_id true m n e = grind (arith, nat_tests)
 joins_id false m n e = cc
 

@@ -1,12 +1,15 @@
 -- What a builder has written, after one more item.
-use Rattle.std.proofs.Common.{◌≡◌, ℕ, ◌+◌, ◌<◌, ◌^◌, List, [], ◌∷◌, ◌++◌, length, refl, ap, sym, ◌∙◌, arith, append_assoc, append-nil, true, false}
-use Rattle.std.specs.Prelude.{Result, Ok, Err, OnErr, IfSome, slice_index, slice_set, Option, Some, None}
+use Rattle.std.proofs.Common.{◌≡◌, ℕ, ◌+◌, ◌<◌, ◌^◌, List, [], ◌∷◌, ◌++◌, length, refl, ap, sym, ◌∙◌, arith, append_assoc, append-nil, true}
+use Rattle.std.specs.Prelude.{Result, Ok, Err, OnErr, IfSome, slice_index, slice_set, Option, Some, None, Bool, false, IsTrue, IsErrAnd, ◌↔◌}
+use Rattle.std.proofs.lemmas.Bool.{true≢false}
 use Rattle.std.specs.List.{flat_map}
 use Rattle.std.proofs.lemmas.Grind.{common_steps}
 use Rattle.wac_binary.specs.Items.{Item}
 use Rattle.wac_binary.specs.Bytes.{Section, alone, section_bytes, section_id, preamble, bytes_of, is_shared}
 use Rattle.wac_binary.specs.Indexes.{adds, indexes, is_in}
-use Rattle.wac_binary.specs.Fits.{SectionFits, Fits}
+use Rattle.wac_binary.specs.Fits.{SectionFits, Fits, TooLargeUnless}
+use Rattle.wac_binary.specs.declared.fault.BinaryFault.{BinaryFault}
+use Rattle.wac_binary.specs.declared.fault.BinaryFault.TheVariants.{TooLarge, OutOfMemory}
 use Rattle.wac_binary.specs.Sections.{one, before, next_section, closed, open_section}
 use Rattle.wac_binary.specs.OpenSection.{section, section_of, begun}
 use Rattle.wac_binary.specs.Written.{whole, Written, items, items_are, State}
@@ -96,11 +99,15 @@ module _ {xs : List Item} {bytes things counts : List ℕ} {o : Option Open} (s 
       pub index_room : Fits (xs ++ x ∷ []) → slice_index counts k < 2 ^ 32
       index_room f = omega (arith, f.indexes_fit k, added k, here k, s.counted k q)
 
-      more_fits : slice_index counts k < 2 ^ 32 → SectionFits (next_section (section_of o things) x) → Fits (xs ++ x ∷ [])
+      pub more_fits : slice_index counts k < 2 ^ 32 → SectionFits (next_section (section_of o things) x) → Fits (xs ++ x ∷ [])
       more_fits g r = record {
         sections_fit = fits_more xs x s.fits.sections_fit (rw (← s.open_is) r);
         indexes_fit = λ j. rw (added j) (bounded k j (indexes j xs) (2 ^ 32) (s.fits.indexes_fit j) (λ e. rw (← e, ← s.counted k q) g));
       }
+
+      -- with one more item that fits there was room for it
+      pub room_after : Fits (xs ++ x ∷ []) → (slice_index counts k < 2 ^ 32) × SectionFits (next_section (section_of o things) x)
+      room_after f = (index_room f, next_room f)
 
       more_counted : length counts ≡ 7 → (j : ℕ) → j < 7 → slice_index (slice_set counts k (slice_index counts k + 1)) j ≡ indexes j (xs ++ x ∷ [])
       more_counted l j r = grown k j (indexes j xs) (indexes j (xs ++ x ∷ [])) counts (s.counted j r) (omega arith) (added j)
@@ -130,11 +137,19 @@ module _ {xs : List Item} {bytes things counts : List ℕ} {o : Option Open} (s 
 module _ {xs : List Item} {bytes things counts : List ℕ} {o : Option Open} (s : State xs bytes things counts o) (x : Item) (old : List Item) (start new open_things : List ℕ)
     (old_is : xs ≡ old) (start_is : start ≡ begun bytes) (things_are : open_things ≡ things)
     (new_is : new ≡ start ++ (flat_map section_bytes (one (section_of o open_things)) ++ section_bytes (alone x))) (fits : SectionFits (alone x)) where
-  pub with_component : adds x ≡ Some 4 → is_shared (section_id x) ≡ false → length counts ≡ 7 → slice_index counts 4 < 2 ^ 32 → State (old ++ x ∷ []) new things (slice_set counts 4 (slice_index counts 4 + 1)) None
-  with_component p h l g = rw (new_is, start_is, things_are, ← old_is) (state_alone s x 4 p (omega arith) l g h fits)
+  pub with_component : (k : ℕ) → adds x ≡ Some k → k < 7 → is_shared (section_id x) ≡ false → length counts ≡ 7 → slice_index counts k < 2 ^ 32 → State (old ++ x ∷ []) new things (slice_set counts k (slice_index counts k + 1)) None
+  with_component k p q h l g = rw (new_is, start_is, things_are, ← old_is) (state_alone s x k p q l g h fits)
 
   pub with_custom : adds x ≡ None → is_shared (section_id x) ≡ false → State (old ++ x ∷ []) new things counts None
   with_custom p h = rw (new_is, start_is, things_are, ← old_is) (state_custom s x p h fits)
+
+-- items that fit, with one more item in a section of its own
+module _ {xs : List Item} {bytes things counts : List ℕ} {o : Option Open} (s : State xs bytes things counts o) (x : Item) where
+  pub component_fits : (k : ℕ) → adds x ≡ Some k → k < 7 → is_shared (section_id x) ≡ false → length counts ≡ 7 → slice_index counts k < 2 ^ 32 → SectionFits (alone x) → Fits (xs ++ x ∷ [])
+  component_fits k p q h l g r = (state_alone s x k p q l g h r).fits
+
+  pub custom_fits : adds x ≡ None → is_shared (section_id x) ≡ false → SectionFits (alone x) → Fits (xs ++ x ∷ [])
+  custom_fits p h r = (state_custom s x p h r).fits
 
 no_counts : (k : ℕ) → k < 7 → slice_index (0 ∷ 0 ∷ 0 ∷ 0 ∷ 0 ∷ 0 ∷ 0 ∷ []) k ≡ 0
 no_counts k p = grind (arith, common_steps)
@@ -145,3 +160,19 @@ state_none = record { bytes_are = refl; open_is = refl; counted = no_counts; fit
 pub on_err : {T E P : Type 0} (r : Result T E) → P → OnErr r P
 on_err (Ok x) p = tt
 on_err (Err e) p = p
+
+-- what the exit of a `?` answers where memory is refused
+pub out_of_memory : {T : Type 0} (r : Result T BinaryFault) (P : Type 0) → IsErrAnd r (λ e. e ≡ OutOfMemory) → P → TooLargeUnless r P
+out_of_memory (Ok x) P h p = p
+out_of_memory (Err TooLarge) P h p = cc
+out_of_memory (Err OutOfMemory) P h p = p
+
+-- what the exit of a `?` answers where it does not fit
+pub too_large : {T : Type 0} (r : Result T BinaryFault) (e : BinaryFault) (P : Type 0) → IsErrAnd r (λ y. y ≡ e) → e ≡ TooLarge → ¬ P → TooLargeUnless r P
+too_large (Ok x) e P h is none = absurd h
+too_large (Err TooLarge) e P h is none = none
+too_large (Err OutOfMemory) e P h is none = cc
+
+-- a test that failed, of what holds
+pub refuted : {P Q : Type 0} (b : Bool) → IsTrue b ↔ Q → b ≡ false → (P → Q) → ¬ P
+refuted b i e f = λ p. true≢false (sym (i.1 (f p)) ∙ e)

@@ -1,6 +1,6 @@
 -- What the custom sections say that have a meaning: the names of indexes, and the processor.
-use Rattle.std.specs.Prelude.{ℕ, List, [], ◌∷◌, ◌++◌, length, if◌then◌else◌, Bool, eqb, codes}
-use Rattle.std.specs.List.{flat_map}
+use Rattle.std.specs.Prelude.{ℕ, ◌<◌, List, [], ◌∷◌, ◌++◌, length, if◌then◌else◌, Bool, eqb, codes}
+use Rattle.std.specs.List.{AllByRecursion, flat_map}
 use Rattle.wac_shapes.specs.Name.{Name}
 use Rattle.wac_binary.specs.Leb.{unsigned}
 use Rattle.wac_binary.specs.Bytes.{text, vector, sort}
@@ -47,3 +47,17 @@ names_bytes es = flat_map (λ t. subsection t (of_sort t es)) sorts_in_order
 -- the content of a custom section `producers` that names this processor: one field, with one value
 unfoldable pub producers_bytes : (name version : Name) → List ℕ
 producers_bytes name version = 1 ∷ (text (codes "processed-by") ++ 1 ∷ (text name ++ text version))
+
+-- each index is above the one before it, the first above this one
+abbrev pub RiseFrom : ℕ → List (ℕ × Name) → Type 0
+RiseFrom i [] = Unit
+RiseFrom i (e ∷ es) = (i < e.0) × RiseFrom e.0 es
+
+-- the indexes rise
+abbrev pub Rising : List (ℕ × Name) → Type 0
+Rising [] = Unit
+Rising (e ∷ es) = RiseFrom e.0 es
+
+-- the indexes of each sort rise
+abbrev pub AreRising : List (Sort × ℕ × Name) → Type 0
+AreRising es = AllByRecursion (λ t. Rising (of_sort t es)) sorts_in_order

@@ -1,5 +1,5 @@
 -- When scopes have only grown, and which declarations cannot tell.
-use Rattle.std.specs.Prelude.{◌≡◌, ℕ, ◌<◌, ◌≤◌, List, [], ◌∷◌, ◌++◌, length}
+use Rattle.std.specs.Prelude.{◌≡◌, ℕ, suc, ◌<◌, ◌≤◌, List, [], ◌∷◌, ◌++◌, length}
 use Rattle.wac_collection.specs.Tree.{Tree}
 use Rattle.wac_binary.specs.declared.sorts.Sort.{Sort}
 use Rattle.wac_binary.specs.declared.sorts.Sort.TheVariants as s
@@ -17,11 +17,11 @@ pub record Grows (old new : Scope) : Type 0 where
   pub modules_stay : old.modules ≤ new.modules
   pub components_stay : old.components ≤ new.components
 
--- each of these scopes has grown
+-- each of these scopes has grown; there may be more of them further out
 abbrev pub AllGrow : List Scope → List Scope → Type 0
-AllGrow [] [] = Unit
+AllGrow [] ds = Unit
+AllGrow (c ∷ cs) [] = ⊥
 AllGrow (c ∷ cs) (d ∷ ds) = Grows c d × AllGrow cs ds
-AllGrow _ _ = ⊥
 
 -- an index of this sort is there in a scope, where a scope says what the sort's indexes stand for
 abbrev pub IsThere : Sort → ℕ → Scope → Type 0
@@ -49,3 +49,24 @@ abbrev mutual
   Reaches (alias_decl (outer_alias t k i)) c out = IsThere t i (scope_at (c ∷ out) k)
   Reaches (import_decl n d) c out = Unit
   Reaches (export_decl n d) c out = Unit
+
+abbrev mutual
+  -- a type names nothing further out than so many scopes, of which its own surroundings are the first
+  pub TypeStaysWithin : TypeDef → ℕ → Type 0
+  TypeStaysWithin (value_def t) n = 0 < n
+  TypeStaysWithin (func_def is_async params result) n = 0 < n
+  TypeStaysWithin (component_def ds) n = StayWithin ds (suc n)
+  TypeStaysWithin (instance_def ds) n = StayWithin ds (suc n)
+
+  -- declarations name nothing further out than so many scopes, of which theirs is the first
+  pub StayWithin : Decls → ℕ → Type 0
+  StayWithin end n = Unit
+  StayWithin (next d ds) n = StaysWithin d n × StayWithin ds n
+
+  pub StaysWithin : Decl → ℕ → Type 0
+  StaysWithin (core_type_decl m) n = Unit
+  StaysWithin (type_decl t) n = TypeStaysWithin t n
+  StaysWithin (alias_decl (export_alias t i name)) n = Unit
+  StaysWithin (alias_decl (outer_alias t k i)) n = k < n
+  StaysWithin (import_decl name d) n = Unit
+  StaysWithin (export_decl name d) n = Unit

@@ -3,6 +3,7 @@ pub mod Leb
 pub mod LebLaws
 pub mod Bytes
 pub mod Indexes
+pub mod Spaces
 pub mod Fits
 pub mod Customs
 pub mod Views

@@ -4,21 +4,22 @@ ghost use Rattle.std.specs.Prelude.{◌≡◌, List, ℕ, ◌+◌, ◌<◌, ◌�
 ghost use Rattle.wac_binary.specs.Items.{Item as OfItem, decls, value_def, component_def, instance_def, core_type, custom, nested, instantiate, alias_item, export_alias, outer_alias, type_item, import_item, export_item};
 ghost use Rattle.wac_binary.specs.Bytes.{bytes_of};
 ghost use Rattle.wac_binary.specs.Indexes.{space, core_types, described_sort, adds, indexes};
-ghost use Rattle.wac_binary.specs.Fits.{Fits};
+ghost use Rattle.wac_binary.specs.Spaces.{number as number_of};
+ghost use Rattle.wac_binary.specs.Fits.{Fits, TooLargeUnless};
 ghost use Rattle.wac_binary.specs.Views.{arguments_of, func_of, defined_of};
 ghost use Rattle.wac_binary.specs.ItemView.{item_of};
 ghost use Rattle.wac_binary.specs.Written.{Written, Written_prop};
-ghost use Rattle.wac_binary.specs.declared.fault.BinaryFault.TheVariants.{TooLarge, OutOfMemory};
+ghost use Rattle.wac_binary.specs.declared.fault.BinaryFault.TheVariants.{OutOfMemory};
 ghost use Rattle.wac_binary.specs.declared.sorts.Sort.TheVariants as s;
 
 use crate::component_type::ComponentType;
 use crate::decl::{AliasRef, TypeRef};
 use crate::fault::BinaryFault;
 use crate::instance_type::InstanceType;
-use crate::item::{AloneRef, ItemRef, section_id};
+use crate::item::{AloneRef, ItemRef, alone_size, section_id};
 use crate::module_type::ModuleType;
-use crate::section::{Open, begin, put_alone, put_open, put_shared};
-use crate::sorts::{Description, Sort, described_sort, space};
+use crate::section::{Open, begin, has_room, put_alone, put_open, put_shared};
+use crate::sorts::{Description, IndexSpace, Sort, described_sort, number, space};
 use crate::types::{DefinedType, FuncType};
 use std::alloc::Global;
 use std::marker::Model;
@@ -28,6 +29,7 @@ use std::marker::Model;
 /// A writer takes any index: what it stands for is a matter of the items. Each writer adds one item at the end and
 /// answers the index that the item adds to the space of its sort. It answers `TooLarge` exactly where the items with
 /// the new one no longer fit 32 bits, and `OutOfMemory` where memory is refused; then it has added nothing.
+#[derive(Debug)]
 pub struct ComponentBuilder {
     alloc: Global,
     bytes: Vec<u8>,
@@ -84,17 +86,25 @@ impl ComponentBuilder {
         }
     }
 
-    fn append(&mut self, item: &ItemRef<'_>, at: usize) -> Result<u32, BinaryFault>
-        requires space { adds (item_of item.now) ≡ Some at }
-        requires small { at < 7 }
-        ensures index { IfOk result (λ i. i ≡ indexes at self.old) }
+    /// That what is written fits.
+    pub fn fit_law(&self)
+        ensures { Fits self.now }
+    {
+        let _ = &self.bytes;
+    }
+
+    /// Adds an item at the end, and answers the index that it adds to this space.
+    fn append(&mut self, item: &ItemRef<'_>, space: IndexSpace) -> Result<u32, BinaryFault>
+        requires { adds (item_of item.now) ≡ Some (number_of space) }
+        ensures index { IfOk result (λ i. i ≡ indexes (number_of space) self.old) }
         ensures appended { OnOk result (self.new ≡ self.old ++ item_of item.now ∷ []) }
         ensures fits { OnOk result (Fits self.new) }
         ensures refused { OnErr result (self.new ≡ self.old) }
-        ensures too_large { IfErr result (λ e. e ≡ TooLarge → ¬ Fits (self.old ++ item_of item.now ∷ [])) }
+        ensures too_large { TooLargeUnless result (Fits (self.old ++ item_of item.now ∷ [])) }
     {
+        let at = number(space);
         let index = self.counts[at];
-        if index >= 1 << 32 {
+        if !has_room(index, &self.open_section, &self.things, item) {
             return Err(BinaryFault::TooLarge);
         }
         let id = section_id(item);
@@ -107,8 +117,7 @@ impl ComponentBuilder {
             item,
         )?;
         self.counts[at] = index + 1;
-        let open = Open { id, count };
-        self.open_section = Some(open);
+        self.open_section = Some(Open { id, count });
         Ok(index as u32)
     }
 
@@ -118,22 +127,39 @@ impl ComponentBuilder {
         ensures appended { OnOk result (self.new ≡ self.old ++ nested bytes.now ∷ []) }
         ensures fits { OnOk result (Fits self.new) }
         ensures refused { OnErr result (self.new ≡ self.old) }
-        ensures too_large { IfErr result (λ e. e ≡ TooLarge → ¬ Fits (self.old ++ nested bytes.now ∷ [])) }
+        ensures too_large { TooLargeUnless result (Fits (self.old ++ nested bytes.now ∷ [])) }
     {
-        let index = self.counts[4];
-        if index >= 1 << 32 {
-            return Err(BinaryFault::TooLarge);
-        }
+        let item = AloneRef::Component(bytes);
+        let at = number(IndexSpace::Components);
+        let index = self.counts[at];
+        let size = alone_size(index, &item)?;
         begin(&mut self.bytes)?;
         put_alone(
             &mut self.bytes,
             self.open_section,
             &self.things,
-            &AloneRef::Component(bytes),
+            &item,
+            size,
         )?;
-        self.counts[4] = index + 1;
+        self.counts[at] = index + 1;
         self.open_section = None;
         Ok(index as u32)
+    }
+
+    /// Adds a custom section with this name.
+    pub fn custom(&mut self, name: &str, bytes: &[u8]) -> Result<(), BinaryFault>
+        ensures appended { OnOk result (self.new ≡ self.old ++ custom name.now bytes.now ∷ []) }
+        ensures fits { OnOk result (Fits self.new) }
+        ensures refused { OnErr result (self.new ≡ self.old) }
+        ensures too_large { TooLargeUnless result (Fits (self.old ++ custom name.now bytes.now ∷ [])) }
+    {
+        let item = AloneRef::Custom { name, bytes };
+        let last = self.open_section;
+        let size = alone_size(0, &item)?;
+        begin(&mut self.bytes)?;
+        put_alone(&mut self.bytes, last, &self.things, &item, size)?;
+        self.open_section = None;
+        Ok(())
     }
 
     /// Adds an instance of the component with this index, with arguments by name, sort and index, and answers its
@@ -147,14 +173,14 @@ impl ComponentBuilder {
         ensures appended { OnOk result (self.new ≡ self.old ++ instantiate component (arguments_of arguments.now) ∷ []) }
         ensures fits { OnOk result (Fits self.new) }
         ensures refused { OnErr result (self.new ≡ self.old) }
-        ensures too_large { IfErr result (λ e. e ≡ TooLarge → ¬ Fits (self.old ++ instantiate component (arguments_of arguments.now) ∷ [])) }
+        ensures too_large { TooLargeUnless result (Fits (self.old ++ instantiate component (arguments_of arguments.now) ∷ [])) }
     {
         self.append(
             &ItemRef::Instance {
                 component,
                 arguments,
             },
-            5,
+            IndexSpace::Instances,
         )
     }
 
@@ -170,7 +196,7 @@ impl ComponentBuilder {
         ensures appended { OnOk result (self.new ≡ self.old ++ alias_item (export_alias sort instance name.now) ∷ []) }
         ensures fits { OnOk result (Fits self.new) }
         ensures refused { OnErr result (self.new ≡ self.old) }
-        ensures too_large { IfErr result (λ e. e ≡ TooLarge → ¬ Fits (self.old ++ alias_item (export_alias sort instance name.now) ∷ [])) }
+        ensures too_large { TooLargeUnless result (Fits (self.old ++ alias_item (export_alias sort instance name.now) ∷ [])) }
     {
         let alias = AliasRef::Export(sort, instance, name);
         self.append(&ItemRef::Alias(alias), space(sort))
@@ -183,7 +209,7 @@ impl ComponentBuilder {
         ensures appended { OnOk result (self.new ≡ self.old ++ alias_item (outer_alias sort count index) ∷ []) }
         ensures fits { OnOk result (Fits self.new) }
         ensures refused { OnErr result (self.new ≡ self.old) }
-        ensures too_large { IfErr result (λ e. e ≡ TooLarge → ¬ Fits (self.old ++ alias_item (outer_alias sort count index) ∷ [])) }
+        ensures too_large { TooLargeUnless result (Fits (self.old ++ alias_item (outer_alias sort count index) ∷ [])) }
     {
         let alias = AliasRef::Outer(sort, count, index);
         self.append(&ItemRef::Alias(alias), space(sort))
@@ -195,9 +221,9 @@ impl ComponentBuilder {
         ensures appended { OnOk result (self.new ≡ self.old ++ type_item (value_def (defined_of t.now)) ∷ []) }
         ensures fits { OnOk result (Fits self.new) }
         ensures refused { OnErr result (self.new ≡ self.old) }
-        ensures too_large { IfErr result (λ e. e ≡ TooLarge → ¬ Fits (self.old ++ type_item (value_def (defined_of t.now)) ∷ [])) }
+        ensures too_large { TooLargeUnless result (Fits (self.old ++ type_item (value_def (defined_of t.now)) ∷ [])) }
     {
-        self.append(&ItemRef::Type(TypeRef::Defined(t)), 3)
+        self.append(&ItemRef::Type(TypeRef::Defined(t)), IndexSpace::Types)
     }
 
     /// Adds a function type, and answers its type index.
@@ -206,9 +232,9 @@ impl ComponentBuilder {
         ensures appended { OnOk result (self.new ≡ self.old ++ type_item (func_of f.now) ∷ []) }
         ensures fits { OnOk result (Fits self.new) }
         ensures refused { OnErr result (self.new ≡ self.old) }
-        ensures too_large { IfErr result (λ e. e ≡ TooLarge → ¬ Fits (self.old ++ type_item (func_of f.now) ∷ [])) }
+        ensures too_large { TooLargeUnless result (Fits (self.old ++ type_item (func_of f.now) ∷ [])) }
     {
-        self.append(&ItemRef::Type(TypeRef::Func(f)), 3)
+        self.append(&ItemRef::Type(TypeRef::Func(f)), IndexSpace::Types)
     }
 
     /// Adds a component type with these declarations, and answers its type index.
@@ -217,9 +243,9 @@ impl ComponentBuilder {
         ensures appended { OnOk result (self.new ≡ self.old ++ type_item (component_def (decls t.now)) ∷ []) }
         ensures fits { OnOk result (Fits self.new) }
         ensures refused { OnErr result (self.new ≡ self.old) }
-        ensures too_large { IfErr result (λ e. e ≡ TooLarge → ¬ Fits (self.old ++ type_item (component_def (decls t.now)) ∷ [])) }
+        ensures too_large { TooLargeUnless result (Fits (self.old ++ type_item (component_def (decls t.now)) ∷ [])) }
     {
-        self.append(&ItemRef::Type(TypeRef::Component(t)), 3)
+        self.append(&ItemRef::Type(TypeRef::Component(t)), IndexSpace::Types)
     }
 
     /// Adds an instance type with these declarations, and answers its type index.
@@ -228,9 +254,9 @@ impl ComponentBuilder {
         ensures appended { OnOk result (self.new ≡ self.old ++ type_item (instance_def (decls t.now)) ∷ []) }
         ensures fits { OnOk result (Fits self.new) }
         ensures refused { OnErr result (self.new ≡ self.old) }
-        ensures too_large { IfErr result (λ e. e ≡ TooLarge → ¬ Fits (self.old ++ type_item (instance_def (decls t.now)) ∷ [])) }
+        ensures too_large { TooLargeUnless result (Fits (self.old ++ type_item (instance_def (decls t.now)) ∷ [])) }
     {
-        self.append(&ItemRef::Type(TypeRef::Instance(t)), 3)
+        self.append(&ItemRef::Type(TypeRef::Instance(t)), IndexSpace::Types)
     }
 
     /// Adds a core module type, and answers its index among the core types.
@@ -239,9 +265,9 @@ impl ComponentBuilder {
         ensures appended { OnOk result (self.new ≡ self.old ++ core_type t.now ∷ []) }
         ensures fits { OnOk result (Fits self.new) }
         ensures refused { OnErr result (self.new ≡ self.old) }
-        ensures too_large { IfErr result (λ e. e ≡ TooLarge → ¬ Fits (self.old ++ core_type t.now ∷ [])) }
+        ensures too_large { TooLargeUnless result (Fits (self.old ++ core_type t.now ∷ [])) }
     {
-        self.append(&ItemRef::CoreModule(t), 6)
+        self.append(&ItemRef::CoreModule(t), IndexSpace::CoreTypes)
     }
 
     /// Adds an import of this name, and answers its index of the sort that is described.
@@ -250,7 +276,7 @@ impl ComponentBuilder {
         ensures appended { OnOk result (self.new ≡ self.old ++ import_item name.now d ∷ []) }
         ensures fits { OnOk result (Fits self.new) }
         ensures refused { OnErr result (self.new ≡ self.old) }
-        ensures too_large { IfErr result (λ e. e ≡ TooLarge → ¬ Fits (self.old ++ import_item name.now d ∷ [])) }
+        ensures too_large { TooLargeUnless result (Fits (self.old ++ import_item name.now d ∷ [])) }
     {
         self.append(&ItemRef::Import(name, d), space(described_sort(d)))
     }
@@ -261,7 +287,7 @@ impl ComponentBuilder {
         ensures appended { OnOk result (self.new ≡ self.old ++ export_item name.now sort index ∷ []) }
         ensures fits { OnOk result (Fits self.new) }
         ensures refused { OnErr result (self.new ≡ self.old) }
-        ensures too_large { IfErr result (λ e. e ≡ TooLarge → ¬ Fits (self.old ++ export_item name.now sort index ∷ [])) }
+        ensures too_large { TooLargeUnless result (Fits (self.old ++ export_item name.now sort index ∷ [])) }
     {
         self.append(&ItemRef::Export { name, sort, index }, space(sort))
     }
@@ -279,27 +305,10 @@ impl ComponentBuilder {
         Ok(out)
     }
 
-    /// Adds a custom section with this name.
-    pub fn custom(&mut self, name: &str, bytes: &[u8]) -> Result<(), BinaryFault>
-        ensures appended { OnOk result (self.new ≡ self.old ++ custom name.now bytes.now ∷ []) }
-        ensures fits { OnOk result (Fits self.new) }
-        ensures refused { OnErr result (self.new ≡ self.old) }
-        ensures too_large { IfErr result (λ e. e ≡ TooLarge → ¬ Fits (self.old ++ custom name.now bytes.now ∷ [])) }
-    {
-        begin(&mut self.bytes)?;
-        put_alone(
-            &mut self.bytes,
-            self.open_section,
-            &self.things,
-            &AloneRef::Custom { name, bytes },
-        )?;
-        self.open_section = None;
-        Ok(())
-    }
-
     /// The bytes of the component, handed over. Refused only where memory is: `OutOfMemory`.
     pub fn into_bytes(self) -> Result<Vec<u8>, BinaryFault>
         ensures bytes { IfOk result (λ v. v.items ≡ bytes_of self) }
+        ensures fits { Fits self }
         ensures memory { IfErr result (λ e. e ≡ OutOfMemory) }
     {
         let ComponentBuilder {

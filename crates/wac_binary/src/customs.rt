@@ -3,20 +3,21 @@
 ghost use Rattle.std.specs.Prelude.{◌≡◌, List, ℕ, ◌+◌, ◌<◌, ◌≤◌, ◌++◌, ◌∷◌, [], length, OnOk, OnErr, IfOk, IfErr};
 ghost use Rattle.std.specs.List.{flat_map};
 ghost use Rattle.wac_binary.specs.Bytes.{text};
-ghost use Rattle.wac_binary.specs.Customs.{naming, of_sort, subsection, names_bytes, producers_bytes};
+ghost use Rattle.wac_binary.specs.Customs.{naming, of_sort, subsection, AreRising, names_bytes, producers_bytes};
 ghost use Rattle.wac_binary.specs.Views.{names_of};
 ghost use Rattle.wac_binary.specs.declared.fault.BinaryFault.TheVariants.{OutOfMemory};
 
 use crate::fault::BinaryFault;
 use crate::put::{put_sort, put_text, put_unsigned};
-use crate::sorts::{Sort, space};
+use crate::sorts::{Sort, number, space};
 use std::alloc::{AllocError, Global};
 
 /// The content of a custom section `component-name`: for each sort with a name, in the order type, function,
-/// instance, component, core module, value, its indexes with their names, in the order given. The format wants the
-/// indexes of a sort to rise. Refused only where memory is: `OutOfMemory`.
+/// instance, component, core module, value, its indexes with their names, which must rise. Refused only where memory
+/// is: `OutOfMemory`.
 #[tactic(auto, unfolding(crate::specs::Customs::names_bytes))]
 pub fn component_names(alloc: Global, names: &[(Sort, u32, &str)]) -> Result<Vec<u8>, BinaryFault>
+    requires rising { AreRising (names_of names.now) }
     ensures content { IfOk result (λ v. v.items ≡ names_bytes (names_of names.now)) }
     ensures memory { IfErr result (λ e. e ≡ OutOfMemory) }
 {
@@ -52,7 +53,7 @@ fn count_of(sort: Sort, names: &[(Sort, u32, &str)]) -> u64
 {
     let mut count = 0;
     for name in names {
-        if space(name.0) == space(sort) {
+        if number(space(name.0)) == number(space(sort)) {
             count += 1;
         }
     }
@@ -64,7 +65,7 @@ fn put_namings(out: &mut Vec<u8>, sort: Sort, names: &[(Sort, u32, &str)]) -> Re
     ensures written { OnOk result (out.new.items ≡ out.old.items ++ flat_map naming (of_sort sort (names_of names.now))) }
 {
     for name in names {
-        if space(name.0) == space(sort) {
+        if number(space(name.0)) == number(space(sort)) {
             put_unsigned(out, u64::from(name.1))?;
             put_text(out, name.2)?;
         }

@@ -1,13 +1,12 @@
 //! An instance type that is being written, declaration by declaration.
 
-ghost use Rattle.std.specs.Prelude.{◌≡◌, List, ℕ, ◌<◌, ◌≤◌, ◌++◌, ◌∷◌, [], OnOk, OnErr, IfOk, IfErr};
+ghost use Rattle.std.specs.Prelude.{◌≡◌, List, ℕ, ◌<◌, ◌≤◌, ◌++◌, ◌∷◌, [], length, ◌^◌, OnOk, OnErr, IfOk};
 ghost use Rattle.wac_binary.specs.Leb.{unsigned};
 ghost use Rattle.wac_binary.specs.Items.{value_def, component_def, instance_def, decls, core_type_decl, type_decl, alias_decl, export_alias, outer_alias, export_decl};
 ghost use Rattle.wac_binary.specs.Bytes.{count, decls_bytes};
 ghost use Rattle.wac_binary.specs.Indexes.{space, core_types, described_sort, declared};
-ghost use Rattle.wac_binary.specs.Fits.{DeclarationsFit};
+ghost use Rattle.wac_binary.specs.Fits.{DeclarationsFit, TooLargeUnless};
 ghost use Rattle.wac_binary.specs.Views.{func_of, defined_of};
-ghost use Rattle.wac_binary.specs.declared.fault.BinaryFault.TheVariants.{TooLarge};
 ghost use Rattle.wac_binary.specs.declared.sorts.Sort.TheVariants as s;
 
 use crate::component_type::ComponentType;
@@ -15,7 +14,7 @@ use crate::decl::{AliasRef, DeclRef, TypeRef};
 use crate::declarations::Declarations;
 use crate::fault::BinaryFault;
 use crate::module_type::ModuleType;
-use crate::sorts::{Description, Sort, described_sort, space};
+use crate::sorts::{Description, IndexSpace, Sort, described_sort, space};
 use crate::types::{DefinedType, FuncType};
 use std::alloc::{AllocError, Global};
 use std::marker::Model;
@@ -26,6 +25,7 @@ use std::marker::Model;
 /// the end and answers the index that it adds to the space of its sort, in the scope of the instance type. It
 /// answers `TooLarge` exactly where the declarations with the new one no longer fit 32 bits, and `OutOfMemory` where
 /// memory is refused; then it has added nothing.
+#[derive(Debug)]
 pub struct InstanceType {
     declarations: Declarations,
 }
@@ -66,9 +66,10 @@ impl InstanceType {
         ensures appended { OnOk result (self.new ≡ self.old ++ core_type_decl t.now ∷ []) }
         ensures fits { OnOk result (DeclarationsFit self.new) }
         ensures refused { OnErr result (self.new ≡ self.old) }
-        ensures too_large { IfErr result (λ e. e ≡ TooLarge → ¬ DeclarationsFit (self.old ++ core_type_decl t.now ∷ [])) }
+        ensures too_large { TooLargeUnless result (DeclarationsFit (self.old ++ core_type_decl t.now ∷ [])) }
     {
-        self.declarations.append(&DeclRef::CoreModule(t), 6)
+        self.declarations
+            .append(&DeclRef::CoreModule(t), IndexSpace::CoreTypes)
     }
 
     /// Declares a value type, and answers its type index.
@@ -77,10 +78,10 @@ impl InstanceType {
         ensures appended { OnOk result (self.new ≡ self.old ++ type_decl (value_def (defined_of t.now)) ∷ []) }
         ensures fits { OnOk result (DeclarationsFit self.new) }
         ensures refused { OnErr result (self.new ≡ self.old) }
-        ensures too_large { IfErr result (λ e. e ≡ TooLarge → ¬ DeclarationsFit (self.old ++ type_decl (value_def (defined_of t.now)) ∷ [])) }
+        ensures too_large { TooLargeUnless result (DeclarationsFit (self.old ++ type_decl (value_def (defined_of t.now)) ∷ [])) }
     {
         self.declarations
-            .append(&DeclRef::Type(TypeRef::Defined(t)), 3)
+            .append(&DeclRef::Type(TypeRef::Defined(t)), IndexSpace::Types)
     }
 
     /// Declares a function type, and answers its type index.
@@ -89,10 +90,10 @@ impl InstanceType {
         ensures appended { OnOk result (self.new ≡ self.old ++ type_decl (func_of f.now) ∷ []) }
         ensures fits { OnOk result (DeclarationsFit self.new) }
         ensures refused { OnErr result (self.new ≡ self.old) }
-        ensures too_large { IfErr result (λ e. e ≡ TooLarge → ¬ DeclarationsFit (self.old ++ type_decl (func_of f.now) ∷ [])) }
+        ensures too_large { TooLargeUnless result (DeclarationsFit (self.old ++ type_decl (func_of f.now) ∷ [])) }
     {
         self.declarations
-            .append(&DeclRef::Type(TypeRef::Func(f)), 3)
+            .append(&DeclRef::Type(TypeRef::Func(f)), IndexSpace::Types)
     }
 
     /// Declares a component type with these declarations, and answers its type index.
@@ -101,10 +102,10 @@ impl InstanceType {
         ensures appended { OnOk result (self.new ≡ self.old ++ type_decl (component_def (decls t.now)) ∷ []) }
         ensures fits { OnOk result (DeclarationsFit self.new) }
         ensures refused { OnErr result (self.new ≡ self.old) }
-        ensures too_large { IfErr result (λ e. e ≡ TooLarge → ¬ DeclarationsFit (self.old ++ type_decl (component_def (decls t.now)) ∷ [])) }
+        ensures too_large { TooLargeUnless result (DeclarationsFit (self.old ++ type_decl (component_def (decls t.now)) ∷ [])) }
     {
         self.declarations
-            .append(&DeclRef::Type(TypeRef::Component(t)), 3)
+            .append(&DeclRef::Type(TypeRef::Component(t)), IndexSpace::Types)
     }
 
     /// Declares an instance type with these declarations, and answers its type index.
@@ -113,10 +114,10 @@ impl InstanceType {
         ensures appended { OnOk result (self.new ≡ self.old ++ type_decl (instance_def (decls t.now)) ∷ []) }
         ensures fits { OnOk result (DeclarationsFit self.new) }
         ensures refused { OnErr result (self.new ≡ self.old) }
-        ensures too_large { IfErr result (λ e. e ≡ TooLarge → ¬ DeclarationsFit (self.old ++ type_decl (instance_def (decls t.now)) ∷ [])) }
+        ensures too_large { TooLargeUnless result (DeclarationsFit (self.old ++ type_decl (instance_def (decls t.now)) ∷ [])) }
     {
         self.declarations
-            .append(&DeclRef::Type(TypeRef::Instance(t)), 3)
+            .append(&DeclRef::Type(TypeRef::Instance(t)), IndexSpace::Types)
     }
 
     /// Declares an alias of the export of this sort and name of the instance with this index, and answers its index
@@ -131,7 +132,7 @@ impl InstanceType {
         ensures appended { OnOk result (self.new ≡ self.old ++ alias_decl (export_alias sort instance name.now) ∷ []) }
         ensures fits { OnOk result (DeclarationsFit self.new) }
         ensures refused { OnErr result (self.new ≡ self.old) }
-        ensures too_large { IfErr result (λ e. e ≡ TooLarge → ¬ DeclarationsFit (self.old ++ alias_decl (export_alias sort instance name.now) ∷ [])) }
+        ensures too_large { TooLargeUnless result (DeclarationsFit (self.old ++ alias_decl (export_alias sort instance name.now) ∷ [])) }
     {
         let alias = AliasRef::Export(sort, instance, name);
         self.declarations
@@ -145,7 +146,7 @@ impl InstanceType {
         ensures appended { OnOk result (self.new ≡ self.old ++ alias_decl (outer_alias sort count index) ∷ []) }
         ensures fits { OnOk result (DeclarationsFit self.new) }
         ensures refused { OnErr result (self.new ≡ self.old) }
-        ensures too_large { IfErr result (λ e. e ≡ TooLarge → ¬ DeclarationsFit (self.old ++ alias_decl (outer_alias sort count index) ∷ [])) }
+        ensures too_large { TooLargeUnless result (DeclarationsFit (self.old ++ alias_decl (outer_alias sort count index) ∷ [])) }
     {
         let alias = AliasRef::Outer(sort, count, index);
         self.declarations
@@ -158,10 +159,25 @@ impl InstanceType {
         ensures appended { OnOk result (self.new ≡ self.old ++ export_decl name.now d ∷ []) }
         ensures fits { OnOk result (DeclarationsFit self.new) }
         ensures refused { OnErr result (self.new ≡ self.old) }
-        ensures too_large { IfErr result (λ e. e ≡ TooLarge → ¬ DeclarationsFit (self.old ++ export_decl name.now d ∷ [])) }
+        ensures too_large { TooLargeUnless result (DeclarationsFit (self.old ++ export_decl name.now d ∷ [])) }
     {
         self.declarations
             .append(&DeclRef::Export(name, d), space(described_sort(d)))
+    }
+
+    /// That what is declared fits.
+    pub fn fit_law(&self)
+        ensures { DeclarationsFit self.now }
+    {
+        self.declarations.fit_law()
+    }
+
+    /// How long the number of declarations and their bytes are.
+    pub(crate) fn size(&self) -> u128
+        ensures is { result ≡ length (unsigned (count (decls self.now)) ++ decls_bytes (decls self.now)) }
+        ensures small { result ≤ 2 ^ 34 }
+    {
+        self.declarations.size()
     }
 
     /// Puts the number of declarations, and their bytes, at the end of a buffer.

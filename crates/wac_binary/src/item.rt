@@ -1,15 +1,16 @@
 //! An item that is about to be written.
 
-ghost use Rattle.std.specs.Prelude.{◌≡◌, List, ℕ, ◌++◌, ◌∷◌, [], length, OnOk, OnErr, IfOk};
+ghost use Rattle.std.specs.Prelude.{◌≡◌, List, ℕ, ◌++◌, ◌∷◌, [], ◌<◌, ◌^◌, length, OnOk, IfOk, IfErr};
 ghost use Rattle.wac_binary.specs.Bytes.{alone, item_bytes, section_id as id_of};
 ghost use Rattle.wac_binary.specs.Fits.{SectionFits};
 ghost use Rattle.wac_binary.specs.ItemView.{item_of, alone_of};
+ghost use Rattle.wac_binary.specs.declared.fault.BinaryFault.TheVariants.{TooLarge};
 
 use crate::decl::{AliasRef, TypeRef, put_alias, put_type};
 use crate::fault::BinaryFault;
 use crate::module_type::ModuleType;
 use crate::put::{put_argument, put_arguments, put_named, put_text, put_unsigned};
-use crate::section::unsigned_len;
+use crate::size::{bytes_size, text_size};
 use crate::sorts::{Description, Sort};
 use std::alloc::AllocError;
 
@@ -106,26 +107,20 @@ pub(crate) fn alone_id(item: &AloneRef<'_>) -> u8
     }
 }
 
-/// How many bytes such an item has. Refused exactly where its section does not fit 32 bits: `TooLarge`.
-pub(crate) fn alone_size(item: &AloneRef<'_>) -> Result<u64, BinaryFault>
+/// How many bytes such an item has, where there is room for it: its space has so many indexes, and its section fits 32
+/// bits; else `TooLarge`.
+pub(crate) fn alone_size(indexes: u64, item: &AloneRef<'_>) -> Result<u64, BinaryFault>
     ensures size { IfOk result (λ n. n ≡ length (item_bytes (alone_of item.now))) }
-    ensures fits { OnOk result (SectionFits (alone (alone_of item.now))) }
-    ensures too_large { OnErr result (¬ SectionFits (alone (alone_of item.now))) }
+    ensures room { OnOk result ((indexes < 2 ^ 32) × SectionFits (alone (alone_of item.now))) }
+    ensures too_large { IfErr result (λ e. (e ≡ TooLarge) × ¬ ((indexes < 2 ^ 32) × SectionFits (alone (alone_of item.now)))) }
 {
-    let (name, bytes) = match *item {
-        AloneRef::Component(bytes) => (0, bytes.len() as u64),
-        AloneRef::Custom { name, bytes } => (name.len() as u64, bytes.len() as u64),
+    let size = match *item {
+        AloneRef::Component(bytes) => bytes_size(bytes),
+        AloneRef::Custom { name, bytes } => text_size(name) + bytes_size(bytes),
     };
-    if name >= 1 << 32 || bytes >= 1 << 32 {
-        return Err(BinaryFault::TooLarge);
+    if indexes < 1 << 32 && size < 1 << 32 {
+        Ok(size as u64)
+    } else {
+        Err(BinaryFault::TooLarge)
     }
-    let head = match item {
-        AloneRef::Component(_) => 0,
-        AloneRef::Custom { .. } => unsigned_len(name),
-    };
-    let size = head + name + bytes;
-    if size >= 1 << 32 {
-        return Err(BinaryFault::TooLarge);
-    }
-    Ok(size)
 }

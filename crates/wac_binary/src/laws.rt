@@ -1,19 +1,21 @@
 //! What holds of all items, for proofs about what is written with this crate.
 
-ghost use Rattle.std.specs.Prelude.{◌≡◌, List, ℕ, ◌<◌, ◌++◌, ◌∷◌, [], length, Bool, Some, None};
-ghost use Rattle.wac_collection.specs.Tree.{imported, exported, position, named, resource, seen_from};
+ghost use Rattle.std.specs.Prelude.{◌≡◌, List, ℕ, suc, ◌<◌, ◌≤◌, ◌^◌, ◌++◌, ◌∷◌, [], length, slice_get, Bool, Some, None};
+ghost use Rattle.std.specs.List.{flat_map};
+ghost use Rattle.wac_collection.specs.Tree.{Tree, imported, exported, position, named, resource, seen_from};
 ghost use Rattle.wac_binary.specs.Items.{Item, TypeDef, core_type, instantiate, alias_item, export_alias, outer_alias, type_item, import_item, export_item, func_def, Decl, Decls, decls, core_type_decl, type_decl, alias_decl, import_decl, export_decl, ModuleDecl, module_func};
-ghost use Rattle.wac_binary.specs.Bytes.{bytes_of};
+ghost use Rattle.wac_binary.specs.Bytes.{module_decl_bytes, decls_bytes, bytes_of};
 ghost use Rattle.wac_binary.specs.Customs.{of_sort, names_bytes, producers_bytes};
 ghost use Rattle.wac_shapes.specs.Name.{Name};
 ghost use Rattle.wac_binary.specs.Indexes.{space, core_types, sort_added, indexes, declared, function_types};
-ghost use Rattle.wac_binary.specs.Unfold.{Scope, empty, unbound, type_at, bound_at, scope_at, aliased_type, aliased_instance, tree_of, after, with_decl, module_tree, no_module, module_after, func_at};
-ghost use Rattle.wac_binary.specs.Growth.{Grows, AllGrow, Reach, Reaches};
+ghost use Rattle.wac_binary.specs.Unfold.{Scope, Bound, empty, unbound, type_at, bound_at, scope_at, aliased_type, aliased_instance, tree_of, after, with_decl, module_tree, no_module, module_after, func_at};
+ghost use Rattle.wac_binary.specs.Growth.{Grows, AllGrow, TypeReaches, Reach, Reaches, TypeStaysWithin, StayWithin, StaysWithin};
 ghost use Rattle.wac_shapes.specs.Core.{CoreItem};
 ghost use Rattle.wac_shapes.specs.declared.core_types.CoreType.{CoreType as OfCoreType};
 ghost use Rattle.wac_binary.specs.Meaning.{meaning, root_scope, read, read_all, things, stands_for, thing_added};
 ghost use Rattle.wac_binary.specs.HasMeaning.{HasMeaning, ItemHasMeaning, DeclsHaveMeaning, DeclHasMeaning, ImportNothing, TypeHasMeaning};
-ghost use Rattle.wac_binary.specs.Added.{type_added, instance_added, type_declared, instance_declared};
+ghost use Rattle.wac_binary.specs.Added.{type_added, instance_added, type_declared, instance_declared, imports_added, exports_added, imports_declared, exports_declared};
+ghost use Rattle.wac_binary.specs.Fits.{Fits, DeclarationsFit, ModuleFits};
 ghost use Rattle.wac_binary.specs.declared.sorts.Sort.{Sort as OfSort};
 ghost use Rattle.wac_binary.specs.declared.sorts.Sort.TheVariants as s;
 ghost use Rattle.wac_binary.specs.declared.sorts.Description.TheVariants as e;
@@ -88,6 +90,7 @@ pub fn scope_law()
     ensures root_grows { (items more : List Item) → Grows (meaning items).scope (meaning (items ++ more)).scope }
     ensures grows { (ds more : List Decl) (out : List Scope) → Grows (after (decls ds) empty out) (after (decls (ds ++ more)) empty out) }
     ensures around { (ds : Decls) (out new : List Scope) → AllGrow out new → Reach ds empty out → after ds empty new ≡ after ds empty out }
+    ensures type_around { (t : TypeDef) (c : Scope) (out new : List Scope) → AllGrow out new → TypeReaches t c out → tree_of t c new ≡ tree_of t c out }
     // each outer alias names an index that is there, where that held before the last declaration and holds of it; and it stays so
     ensures reach_one_more { (ds : List Decl) (d : Decl) (out : List Scope) → Reach (decls ds) empty out → Reaches d (after (decls ds) empty out) out → Reach (decls (ds ++ d ∷ [])) empty out }
     // growth
@@ -96,6 +99,53 @@ pub fn scope_law()
     ensures all_grow_not { (out : List Scope) → AllGrow out out }
     ensures all_grow_twice { (xs ys zs : List Scope) → AllGrow xs ys → AllGrow ys zs → AllGrow xs zs }
     ensures reach_kept { (ds : Decls) (out new : List Scope) → AllGrow out new → Reach ds empty out → Reach ds empty new }
+{}
+
+/// What stands at an index that is there, and that a scope which grew keeps each index of every sort.
+pub fn kept_law()
+    // an index that is there, by the list that it counts
+    ensures type_found { (ts : List Tree) (i : ℕ) (t : Tree) → slice_get ts i ≡ Some t → type_at ts i ≡ t }
+    ensures instance_found { (bs : List Bound) (i : ℕ) (b : Bound) → slice_get bs i ≡ Some b → bound_at bs i ≡ b }
+    ensures scope_found { (cs : List Scope) (k : ℕ) (c : Scope) → slice_get cs k ≡ Some c → scope_at cs k ≡ c }
+    ensures type_there { (ts : List Tree) (i : ℕ) → i < length ts → slice_get ts i ≡ Some (type_at ts i) }
+    ensures instance_there { (bs : List Bound) (i : ℕ) → i < length bs → slice_get bs i ≡ Some (bound_at bs i) }
+    // a scope that grew
+    ensures types { (c d : Scope) (i : ℕ) (t : Tree) → Grows c d → slice_get c.types i ≡ Some t → slice_get d.types i ≡ Some t }
+    ensures instances { (c d : Scope) (i : ℕ) (b : Bound) → Grows c d → slice_get c.instances i ≡ Some b → slice_get d.instances i ≡ Some b }
+    ensures core_types { (c d : Scope) (i : ℕ) (t : Tree) → Grows c d → slice_get c.core_types i ≡ Some t → slice_get d.core_types i ≡ Some t }
+    ensures modules { (c d : Scope) (i : ℕ) → Grows c d → i < c.modules → i < d.modules }
+    ensures components { (c d : Scope) (i : ℕ) → Grows c d → i < c.components → i < d.components }
+{}
+
+/// That a type whose outer aliases lead no further out than its own scopes has one tree in all surroundings.
+pub fn within_law()
+    ensures alone { (t : TypeDef) (c d : Scope) (out new : List Scope) → TypeStaysWithin t 0 → tree_of t d new ≡ tree_of t c out }
+    // the first scopes may be looked at, and those further out change nothing
+    ensures within { (t : TypeDef) (c : Scope) (own out new : List Scope) → TypeStaysWithin t (suc (length own)) → tree_of t c (own ++ new) ≡ tree_of t c (own ++ out) }
+    ensures declared_within { (ds : Decls) (own out new : List Scope) → StayWithin ds (suc (length own)) → after ds empty (own ++ new) ≡ after ds empty (own ++ out) }
+    ensures one_more { (ds : List Decl) (d : Decl) (n : ℕ) → StayWithin (decls ds) n → StaysWithin d n → StayWithin (decls (ds ++ d ∷ [])) n }
+{}
+
+/// The imports and exports after one more item or declaration.
+pub fn listed_law()
+    ensures imports { (items : List Item) (x : Item) → (meaning (items ++ x ∷ [])).imports ≡ (meaning items).imports ++ imports_added (meaning items) x }
+    ensures exports { (items : List Item) (x : Item) → (meaning (items ++ x ∷ [])).exports ≡ (meaning items).exports ++ exports_added (meaning items) x }
+    // the scope of the root lists nothing itself
+    ensures scope_imports { (items more : List Item) → (meaning (items ++ more)).scope.imports ≡ (meaning items).scope.imports }
+    ensures scope_exports { (items more : List Item) → (meaning (items ++ more)).scope.exports ≡ (meaning items).scope.exports }
+    // the scope of declarations
+    ensures declared_imports { (ds : List Decl) (d : Decl) (out : List Scope) → (after (decls (ds ++ d ∷ [])) empty out).imports ≡ imports_declared (after (decls ds) empty out) d }
+    ensures declared_exports { (ds : List Decl) (d : Decl) (out : List Scope) → (after (decls (ds ++ d ∷ [])) empty out).exports ≡ exports_declared (after (decls ds) empty out) d }
+{}
+
+/// That what has fewer than 2 ^ 32 bytes fits, and so what does not fit has as many.
+pub fn fit_law()
+    ensures items_fit { (items : List Item) → length (bytes_of items) < 2 ^ 32 → Fits items }
+    ensures declarations_fit { (ds : List Decl) → length (decls_bytes (decls ds)) < 2 ^ 32 → DeclarationsFit ds }
+    ensures module_fits { (ds : List ModuleDecl) → length (flat_map module_decl_bytes ds) < 2 ^ 32 → ModuleFits ds }
+    ensures items_large { (items : List Item) → ¬ Fits items → 2 ^ 32 ≤ length (bytes_of items) }
+    ensures declarations_large { (ds : List Decl) → ¬ DeclarationsFit ds → 2 ^ 32 ≤ length (decls_bytes (decls ds)) }
+    ensures module_large { (ds : List ModuleDecl) → ¬ ModuleFits ds → 2 ^ 32 ≤ length (flat_map module_decl_bytes ds) }
 {}
 
 /// What the index of one more alias, import, export or instantiation stands for, at the root.

@@ -1,18 +1,19 @@
 //! A core module type that is being written, declaration by declaration.
 
-ghost use Rattle.std.specs.Prelude.{◌≡◌, List, ℕ, ◌+◌, ◌<◌, ◌≤◌, ◌^◌, ◌++◌, ◌∷◌, [], length, OnOk, OnErr, IfOk, IfErr};
+ghost use Rattle.std.specs.Prelude.{◌≡◌, List, ℕ, ◌+◌, ◌<◌, ◌≤◌, ◌^◌, ◌++◌, ◌∷◌, [], length, OnOk, OnErr, IfOk, IsTrue, ◌↔◌};
 ghost use Rattle.wac_binary.specs.Items.{module_import, module_func, module_export};
 ghost use Rattle.wac_binary.specs.Bytes.{module_decl_bytes, module_bytes};
 ghost use Rattle.wac_binary.specs.Indexes.{function_types};
-ghost use Rattle.wac_binary.specs.Fits.{ModuleFits};
+ghost use Rattle.wac_binary.specs.Fits.{ModuleFits, TooLargeUnless};
 ghost use Rattle.wac_binary.specs.ModuleView.{module_decl_of};
 ghost use Rattle.wac_binary.specs.WrittenModule.{WrittenModule, WrittenModule_prop};
-ghost use Rattle.wac_binary.specs.declared.fault.BinaryFault.TheVariants.{TooLarge};
 
 use crate::core_decl::{ModuleDeclRef, put_module_decl};
+use crate::core_size::module_decl_size;
 use crate::core_types::EntityType;
 use crate::fault::BinaryFault;
 use crate::put::put_unsigned;
+use crate::size::unsigned_size;
 use std::alloc::{AllocError, Global};
 use std::marker::Model;
 use wac_shapes::CoreType;
@@ -21,6 +22,7 @@ use wac_shapes::CoreType;
 ///
 /// Each writer adds one declaration at the end. It answers `TooLarge` exactly where the declarations with the new one
 /// no longer fit 32 bits, and `OutOfMemory` where memory is refused; then it has added nothing.
+#[derive(Debug)]
 pub struct ModuleType {
     bytes: Vec<u8>,
     count: u64,
@@ -68,16 +70,23 @@ impl ModuleType {
         }
     }
 
+    /// That what is declared fits.
+    pub fn fit_law(&self)
+        ensures { ModuleFits self.now }
+    {
+        let _ = &self.bytes;
+    }
+
     /// Adds a declaration at the end, and answers how many function types stood before it.
     fn append(&mut self, d: &ModuleDeclRef<'_>) -> Result<u32, BinaryFault>
         ensures index { IfOk result (λ i. i ≡ function_types self.old) }
         ensures appended { OnOk result (self.new ≡ self.old ++ module_decl_of d.now ∷ []) }
         ensures fits { OnOk result (ModuleFits self.new) }
         ensures refused { OnErr result (self.new ≡ self.old) }
-        ensures too_large { IfErr result (λ e. e ≡ TooLarge → ¬ ModuleFits (self.old ++ module_decl_of d.now ∷ [])) }
+        ensures too_large { TooLargeUnless result (ModuleFits (self.old ++ module_decl_of d.now ∷ [])) }
     {
         let index = self.types;
-        if self.count >= u64::from(u32::MAX) {
+        if !fits(self.count, self.bytes.len(), module_decl_size(d)) {
             return Err(BinaryFault::TooLarge);
         }
         append_module_decl(&mut self.bytes, d)?;
@@ -92,7 +101,7 @@ impl ModuleType {
         ensures appended { OnOk result (self.new ≡ self.old ++ module_func params.now results.now ∷ []) }
         ensures fits { OnOk result (ModuleFits self.new) }
         ensures refused { OnErr result (self.new ≡ self.old) }
-        ensures too_large { IfErr result (λ e. e ≡ TooLarge → ¬ ModuleFits (self.old ++ module_func params.now results.now ∷ [])) }
+        ensures too_large { TooLargeUnless result (ModuleFits (self.old ++ module_func params.now results.now ∷ [])) }
     {
         self.append(&ModuleDeclRef::Func { params, results })
     }
@@ -102,7 +111,7 @@ impl ModuleType {
         ensures appended { OnOk result (self.new ≡ self.old ++ module_import «module».now name.now item ∷ []) }
         ensures fits { OnOk result (ModuleFits self.new) }
         ensures refused { OnErr result (self.new ≡ self.old) }
-        ensures too_large { IfErr result (λ e. e ≡ TooLarge → ¬ ModuleFits (self.old ++ module_import «module».now name.now item ∷ [])) }
+        ensures too_large { TooLargeUnless result (ModuleFits (self.old ++ module_import «module».now name.now item ∷ [])) }
     {
         let _types = self.append(&ModuleDeclRef::Import { module, name, item })?;
         Ok(())
@@ -113,10 +122,18 @@ impl ModuleType {
         ensures appended { OnOk result (self.new ≡ self.old ++ module_export name.now item ∷ []) }
         ensures fits { OnOk result (ModuleFits self.new) }
         ensures refused { OnErr result (self.new ≡ self.old) }
-        ensures too_large { IfErr result (λ e. e ≡ TooLarge → ¬ ModuleFits (self.old ++ module_export name.now item ∷ [])) }
+        ensures too_large { TooLargeUnless result (ModuleFits (self.old ++ module_export name.now item ∷ [])) }
     {
         let _types = self.append(&ModuleDeclRef::Export { name, item })?;
         Ok(())
+    }
+
+    /// How many bytes the type has.
+    pub(crate) fn size(&self) -> u128
+        ensures is { result ≡ length (module_bytes self.now) }
+        ensures small { result ≤ 2 ^ 34 }
+    {
+        1 + u128::from(unsigned_size(self.count)) + u128::from(self.bytes.len() as u64)
     }
 
     /// Puts the type's bytes at the end of a buffer.
@@ -141,21 +158,25 @@ fn types_in(d: &ModuleDeclRef<'_>) -> u64
     }
 }
 
+/// Whether one more declaration of this size fits, where so many declarations have so many bytes.
+fn fits(count: u64, bytes: usize, size: u128) -> bool
+    requires { size ≤ 2 ^ 69 }
+    ensures { IsTrue result ↔ ((count + 1 < 2 ^ 32) × (bytes + size < 2 ^ 32)) }
+{
+    count < (1 << 32) - 1 && bytes as u128 + size < 1 << 32
+}
+
 /// Puts a declaration at the end of a buffer, or leaves the buffer as it was.
-fn append_module_decl(out: &mut Vec<u8>, d: &ModuleDeclRef<'_>) -> Result<(), BinaryFault>
+fn append_module_decl(out: &mut Vec<u8>, d: &ModuleDeclRef<'_>) -> Result<(), AllocError>
     ensures written { OnOk result (out.new.items ≡ out.old.items ++ module_decl_bytes (module_decl_of d.now)) }
-    ensures fits { OnOk result (length out.new.items < 2 ^ 32) }
     ensures refused { OnErr result (out.new.items ≡ out.old.items) }
-    ensures too_large { IfErr result (λ e. e ≡ TooLarge → ¬ (length (out.old.items ++ module_decl_bytes (module_decl_of d.now)) < 2 ^ 32)) }
 {
     let from = out.len();
-    if let Err(e) = put_module_decl(out, d) {
-        out.truncate(from);
-        return Err(e.into());
+    match put_module_decl(out, d) {
+        Ok(()) => Ok(()),
+        Err(e) => {
+            out.truncate(from);
+            Err(e)
+        }
     }
-    if out.len() as u64 >= 1 << 32 {
-        out.truncate(from);
-        return Err(BinaryFault::TooLarge);
-    }
-    Ok(())
 }

@@ -1,9 +1,9 @@
 //! The sections of a component: finished ones, and one that is open for further items of its id.
 //!
-//! The first item of a new section goes to a buffer of its own, which is swapped in where the item fits; every other item is
-//! written once, into the open section, and cut off where it is refused. Whether a section fits is clear from its count and its
-//! size alone unless their sum is near 2 ^ 32, since a number has at most one byte more than its value; the count's own length
-//! is looked at only there.
+//! Whether an item fits is decided by its size before anything is written. The first item of a new section goes to a buffer of
+//! its own, which is swapped in once it is written; every other item is written once, into the open section, and cut off where
+//! memory is refused. Whether a section fits is clear from its count and its size alone unless their sum is near 2 ^ 32, since a
+//! number has at most one byte more than its value; the count's own length is looked at only there.
 
 ghost use Rattle.std.specs.Prelude.{◌≡◌, List, ℕ, ◌+◌, ◌<◌, ◌≤◌, ◌^◌, ◌++◌, ◌∷◌, [], length, OnOk, OnErr, IfOk, IfErr, IfSome, ◌↔◌, IsTrue};
 ghost use Rattle.std.specs.List.{flat_map};
@@ -13,11 +13,11 @@ ghost use Rattle.wac_binary.specs.Leb.{unsigned};
 ghost use Rattle.wac_binary.specs.ItemView.{item_of, alone_of};
 ghost use Rattle.wac_binary.specs.Sections.{one, before, next_section};
 ghost use Rattle.wac_binary.specs.OpenSection.{section, section_of, begun};
-ghost use Rattle.wac_binary.specs.declared.fault.BinaryFault.TheVariants.{TooLarge};
 
-use crate::fault::BinaryFault;
-use crate::item::{AloneRef, ItemRef, alone_id, alone_size, put_alone_item, put_item, section_id};
+use crate::item::{AloneRef, ItemRef, alone_id, put_alone_item, put_item, section_id};
 use crate::put::put_unsigned;
+use crate::size::unsigned_size;
+use crate::type_size::item_size;
 use std::alloc::AllocError;
 use std::mem::swap;
 
@@ -37,39 +37,53 @@ fn is_shared(id: u8) -> bool
     id != 0 && id != 4
 }
 
-/// How long an unsigned number is.
-#[tactic(auto, using(crate::specs::LebLaws::leb_more, crate::specs::LebLaws::leb_last, std::proofs::lemmas::Grind::common_steps))]
-pub(crate) fn unsigned_len(n: u64) -> u64
-    ensures is { result ≡ length (unsigned n) }
-    ensures bound { result ≤ n + 1 }
-{
-    if n < 128 {
-        1
-    } else {
-        1 + unsigned_len(n / 128)
-    }
-}
-
-/// Whether a section with these things fits 32 bits.
+/// Whether a section with things of so many bytes fits 32 bits.
 #[tactic(auto, using(crate::specs::LebLaws::leb_length, std::proofs::lemmas::Grind::common_steps))]
-fn fits(last: Open, things: &[u8]) -> bool
-    requires { last.count ≤ 2 ^ 32 }
-    ensures { IsTrue result ↔ SectionFits (section last things.now) }
+fn fits(last: Open, size: u128) -> bool
+    requires count { last.count ≤ 2 ^ 32 }
+    requires small { size < 2 ^ 127 + 2 ^ 104 }
+    ensures { (things : List ℕ) → length things ≡ size → IsTrue result ↔ SectionFits (section last things) }
 {
-    let size = things.len() as u64;
     if size >= 1 << 32 {
         return false;
     }
     // The count has at most one byte more than its value, so far from the limit its bytes need no counting.
-    if last.count + size < (1 << 32) - 1 {
+    if u128::from(last.count) + size < (1 << 32) - 1 {
         return true;
     }
     let head = if is_shared(last.id) {
-        unsigned_len(last.count)
+        unsigned_size(last.count)
     } else {
         0
     };
-    last.count < 1 << 32 && head + size < 1 << 32
+    last.count < 1 << 32 && u128::from(head) + size < 1 << 32
+}
+
+/// Whether there is room for an item: its space has so many indexes, and the section that it goes to fits 32 bits with it.
+pub(crate) fn has_room(indexes: u64, last: &Option<Open>, things: &[u8], item: &ItemRef<'_>) -> bool
+    requires { IfSome (section_of last.now things.now) SectionFits }
+    ensures { IsTrue result ↔ ((indexes < 2 ^ 32) × SectionFits (next_section (section_of last.now things.now) (item_of item.now))) }
+{
+    indexes < 1 << 32 && section_has_room(last, things, item)
+}
+
+/// Whether the section that an item goes to fits 32 bits with it.
+fn section_has_room(last: &Option<Open>, things: &[u8], item: &ItemRef<'_>) -> bool
+    requires { IfSome (section_of last.now things.now) SectionFits }
+    ensures { IsTrue result ↔ SectionFits (next_section (section_of last.now things.now) (item_of item.now)) }
+{
+    let id = section_id(item);
+    let size = item_size(item);
+    match *last {
+        Some(o) if is_shared(o.id) && o.id == id => {
+            let more = Open {
+                id,
+                count: o.count + 1,
+            };
+            fits(more, u128::from(things.len() as u64) + size)
+        }
+        _ => fits(Open { id, count: 1 }, size),
+    }
 }
 
 /// Writes the preamble where nothing is written yet.
@@ -91,7 +105,7 @@ fn put_section(out: &mut Vec<u8>, last: Open, things: &[u8]) -> Result<(), Alloc
 {
     out.push(last.id)?;
     if is_shared(last.id) {
-        put_unsigned(out, unsigned_len(last.count) + things.len() as u64)?;
+        put_unsigned(out, unsigned_size(last.count) + things.len() as u64)?;
         put_unsigned(out, last.count)?;
     } else {
         put_unsigned(out, things.len() as u64)?;
@@ -132,28 +146,19 @@ fn close(bytes: &mut Vec<u8>, last: Option<Open>, things: &[u8]) -> Result<(), A
 }
 
 /// Writes an item at the end of an open section, and answers how many things that has then; or leaves them as they were.
-fn join(things: &mut Vec<u8>, last: Open, item: &ItemRef<'_>) -> Result<u64, BinaryFault>
+fn join(things: &mut Vec<u8>, last: Open, item: &ItemRef<'_>) -> Result<u64, AllocError>
     requires { last.count < 2 ^ 32 }
     ensures counted { IfOk result (λ n. n ≡ last.count + 1) }
     ensures written { OnOk result (things.new.items ≡ things.old.items ++ item_bytes (item_of item.now)) }
-    ensures fits { OnOk result (SectionFits (section (record last { count = last.count + 1 }) things.new.items)) }
     ensures refused { OnErr result (things.new.items ≡ things.old.items) }
-    ensures too_large { IfErr result (λ e. e ≡ TooLarge → ¬ SectionFits (section (record last { count = last.count + 1 }) (things.old.items ++ item_bytes (item_of item.now)))) }
 {
     let from = things.len();
-    if let Err(e) = put_item(things, item) {
-        things.truncate(from);
-        return Err(e.into());
-    }
-    let more = Open {
-        id: last.id,
-        count: last.count + 1,
-    };
-    if fits(more, things) {
-        Ok(more.count)
-    } else {
-        things.truncate(from);
-        Err(BinaryFault::TooLarge)
+    match put_item(things, item) {
+        Ok(()) => Ok(last.count + 1),
+        Err(e) => {
+            things.truncate(from);
+            Err(e)
+        }
     }
 }
 
@@ -165,14 +170,12 @@ pub(crate) fn put_shared(
     next: &mut Vec<u8>,
     last: &Option<Open>,
     item: &ItemRef<'_>,
-) -> Result<u64, BinaryFault>
+) -> Result<u64, AllocError>
     requires { IfSome (section_of last.now things.old.items) SectionFits }
     ensures bytes { OnOk result (bytes.new.items ≡ bytes.old.items ++ flat_map section_bytes (before (section_of last.now things.old.items) (item_of item.now))) }
     ensures opened { IfOk result (λ n. section (record { id = id_of (item_of item.now); count = n }) things.new.items ≡ next_section (section_of last.now things.old.items) (item_of item.now)) }
-    ensures fits { OnOk result (SectionFits (next_section (section_of last.now things.old.items) (item_of item.now))) }
     ensures refused_bytes { OnErr result (bytes.new.items ≡ bytes.old.items) }
     ensures refused_things { OnErr result (things.new.items ≡ things.old.items) }
-    ensures too_large { IfErr result (λ e. e ≡ TooLarge → ¬ SectionFits (next_section (section_of last.now things.old.items) (item_of item.now))) }
 {
     let id = section_id(item);
     match *last {
@@ -205,26 +208,25 @@ fn put_alone_sections(
     put_alone_item(out, item)
 }
 
-/// Closes the open section and writes an item in a section of its own, or leaves the bytes as they were.
+/// Closes the open section and writes an item of this size in a section of its own, or leaves the bytes as they were.
 pub(crate) fn put_alone(
     bytes: &mut Vec<u8>,
     last: Option<Open>,
     things: &[u8],
     item: &AloneRef<'_>,
-) -> Result<(), BinaryFault>
-    requires { IfSome (section_of last things.now) SectionFits }
+    size: u64,
+) -> Result<(), AllocError>
+    requires last { IfSome (section_of last things.now) SectionFits }
+    requires size { size ≡ length (item_bytes (alone_of item.now)) }
     ensures bytes { OnOk result (bytes.new.items ≡ bytes.old.items ++ (flat_map section_bytes (one (section_of last things.now)) ++ section_bytes (alone (alone_of item.now)))) }
-    ensures fits { OnOk result (SectionFits (alone (alone_of item.now))) }
     ensures refused { OnErr result (bytes.new.items ≡ bytes.old.items) }
-    ensures too_large { IfErr result (λ e. e ≡ TooLarge → ¬ SectionFits (alone (alone_of item.now))) }
 {
-    let size = alone_size(item)?;
     let from = bytes.len();
     match put_alone_sections(bytes, last, things, item, size) {
         Ok(()) => Ok(()),
         Err(e) => {
             bytes.truncate(from);
-            Err(e.into())
+            Err(e)
         }
     }
 }

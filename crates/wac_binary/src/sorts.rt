@@ -2,6 +2,7 @@
 
 ghost use Rattle.std.specs.Prelude.{◌≡◌, ◌<◌};
 ghost use Rattle.wac_binary.specs.Indexes.{space as space_of, described_sort as sort_of};
+ghost use Rattle.wac_binary.specs.Spaces.{number as number_of};
 
 /// What an index counts.
 #[derive(Clone, Copy, Debug, PartialEq, Eq)]
@@ -37,18 +38,45 @@ pub enum Description {
     Instance(u32),
 }
 
-/// The number of the index space of a sort.
-pub(crate) fn space(s: Sort) -> usize
-    ensures is { result ≡ space_of s }
+/// The index spaces of a scope: one for each sort, and one for core types.
+#[derive(Clone, Copy, Debug, PartialEq, Eq)]
+pub(crate) enum IndexSpace {
+    CoreModules,
+    Funcs,
+    Values,
+    Types,
+    Components,
+    Instances,
+    CoreTypes,
+}
+
+/// At which place the count of an index space stands.
+pub(crate) fn number(s: IndexSpace) -> usize
+    ensures is { result ≡ number_of s }
     ensures small { result < 7 }
 {
     match s {
-        Sort::CoreModule => 0,
-        Sort::Func => 1,
-        Sort::Value => 2,
-        Sort::Type => 3,
-        Sort::Component => 4,
-        Sort::Instance => 5,
+        IndexSpace::CoreModules => 0,
+        IndexSpace::Funcs => 1,
+        IndexSpace::Values => 2,
+        IndexSpace::Types => 3,
+        IndexSpace::Components => 4,
+        IndexSpace::Instances => 5,
+        IndexSpace::CoreTypes => 6,
+    }
+}
+
+/// The index space of a sort.
+pub(crate) fn space(s: Sort) -> IndexSpace
+    ensures { number_of result ≡ space_of s }
+{
+    match s {
+        Sort::CoreModule => IndexSpace::CoreModules,
+        Sort::Func => IndexSpace::Funcs,
+        Sort::Value => IndexSpace::Values,
+        Sort::Type => IndexSpace::Types,
+        Sort::Component => IndexSpace::Components,
+        Sort::Instance => IndexSpace::Instances,
     }
 }
 

@@ -1,4 +1,4 @@
-use Rattle.wac_binary.proofs.ScopeLaws.{declared_modules_counted, declared_components_counted, same_scope, grows_twice, same_scopes, all_grow_twice, declared_types_counted, declared_instances_counted, declared_core_types_counted, one_more, declared_new_type, declared_new_core_type, declared_types_earlier, declared_instances_earlier, declared_core_types_earlier, root_grows, grows, around, reach_one_more, reach_kept}
+use Rattle.wac_binary.proofs.ScopeLaws.{declared_modules_counted, declared_components_counted, same_scope, grows_twice, same_scopes, all_grow_twice, declared_types_counted, declared_instances_counted, declared_core_types_counted, one_more, declared_new_type, declared_new_core_type, declared_types_earlier, declared_instances_earlier, declared_core_types_earlier, root_grows, grows, around, tree_kept, reach_one_more, reach_kept}
 use Rattle.wac_binary.proofs.laws.scope_law.Goals as goal
 
 pub returns : goal.returns
@@ -17,6 +17,7 @@ returns c = record {
   root_grows = root_grows;
   grows = grows;
   around = around;
+  type_around = tree_kept;
   reach_one_more = reach_one_more;
   grows_not = same_scope;
   grows_twice = grows_twice;

@@ -1,17 +1,15 @@
-use Rattle.std.proofs.Common.{[], ◌∷◌, ◌++◌, ◌∙◌, arith, ◌+◌}
+use Rattle.std.proofs.Common.{[], ◌∷◌, ◌++◌, ◌∙◌, sym, arith, ◌+◌}
 use Rattle.std.specs.Prelude.{slice_set, slice_index}
-use Rattle.std.proofs.lemmas.Result.{err_from_is_err_and}
 use Rattle.wac_binary.specs.DeclView.{decl_of}
 use Rattle.wac_binary.specs.WrittenDecls.{DeclState}
-use Rattle.wac_binary.proofs.WrittenLaws.{on_err}
-use Rattle.wac_binary.proofs.DeclLaws.{written_type, declarations_kept, type_kept, type_snoc, type_same, fits_before, size_before}
+use Rattle.wac_binary.proofs.WrittenLaws.{on_err, out_of_memory, refuted}
+use Rattle.wac_binary.proofs.DeclLaws.{written_type, declarations_kept, type_kept, type_more, type_same, room_for}
 use Rattle.wac_binary.proofs.declarations.Declarations.append.Goals as goal
-use Rattle.wac_binary.proofs.declarations.Declarations.append.Goals.{then-index-via-then-index, then-index-via-else-index+then-self-from}
 
-pub returns-then-index-clause-too_large : goal.returns-then-index-clause-too_large
-returns-then-index-clause-too_large c = λ e f.
-    let h = fits_before c.self.invariant (decl_of c.args.d.now) c.args.at c.requires.space c.requires.small (rw c.self.view_is f) in
-    elim c.then-index.branch [ then-index-via-then-index w ↦ absurd (omega (arith, h.0)) | then-index-via-else-index+then-self-from w ↦ absurd (omega (arith, h.1)) ]
+pub returns-then-not-fits-clause-too_large : goal.returns-then-not-fits-clause-too_large
+returns-then-not-fits-clause-too_large c =
+    refuted c.fits.result c.fits.ensures c.if-not-fits.true
+    (λ f. room_for c.self.invariant (decl_of c.args.d.now) c.number-at.result (c.requires ∙ sym c.number-at.ensures.is) c.number-at.ensures.small c.decl_size.result c.len.result c.decl_size.ensures.is (omega arith) (rw c.self.view_is f))
 
 pub invariant_of-self : goal.invariant_of-self
 invariant_of-self c = type_kept (type_same c.self.invariant c.in_err-append_decl.ensures.refused) _
@@ -21,8 +19,10 @@ pub returns-in_err-append_decl-clause-refused :
 returns-in_err-append_decl-clause-refused c = on_err _ (declarations_kept (type_same c.self.invariant c.in_err-append_decl.ensures.refused) _ ∙ c.self.view_is)
 
 -- what is kept, with one declaration more
-snoc : (c : goal.In_ok-append_decl) → DeclState (c.args.self.now ++ decl_of c.args.d.now ∷ []) c.append_decl.new.out.items (c.self.inside.count + 1) (slice_set c.self.inside.counts c.args.at (slice_index c.self.inside.counts c.args.at + 1))
-snoc c = rw (← c.self.view_is, c.in_ok-append_decl.ensures.written) (type_snoc c.self.invariant (decl_of c.args.d.now) c.args.at c.requires.space c.requires.small c.self.told (omega arith) (omega arith) (rw (← c.in_ok-append_decl.ensures.written) c.in_ok-append_decl.ensures.fits))
+snoc : (c : goal.In_ok-append_decl) → DeclState (c.args.self.now ++ decl_of c.args.d.now ∷ []) c.append_decl.new.out.items (c.self.inside.count + 1) (slice_set c.self.inside.counts c.number-at.result (slice_index c.self.inside.counts c.number-at.result + 1))
+snoc c =
+    rw (← c.self.view_is, c.in_ok-append_decl.ensures.written)
+    (type_more c.self.invariant (decl_of c.args.d.now) c.number-at.result (c.requires ∙ sym c.number-at.ensures.is) c.number-at.ensures.small c.self.told c.decl_size.result c.len.result c.decl_size.ensures.is (omega arith) (c.fits.ensures.0 c.if-not-fits.false))
 
 pub invariant_of-self-inside-2 : goal.invariant_of-self-inside-2
 invariant_of-self-inside-2 c = (written_type (snoc c), tt)
@@ -36,7 +36,10 @@ returns-clause-appended c = declarations_kept (snoc c.before) _
 pub returns-clause-fits : goal.returns-clause-fits
 returns-clause-fits c = rw (declarations_kept (snoc c.before) _) (snoc c.before).fits
 
+pub returns-clause-too_large : goal.returns-clause-too_large
+returns-clause-too_large c = (snoc c.before).fits
+
 pub returns-in_err-append_decl-clause-too_large : goal.returns-in_err-append_decl-clause-too_large
 returns-in_err-append_decl-clause-too_large c =
-    let p = err_from_is_err_and c.from_residual.result c.from_residual.ensures.1 in
-    rw (p.1, p.2) (λ e f. c.in_err-append_decl.ensures.too_large e (size_before c.self.invariant (decl_of c.args.d.now) c.args.at c.requires.space c.requires.small (rw c.self.view_is f)))
+    out_of_memory c.from_residual.result _ c.from_residual.ensures.1
+    (rw (← c.self.view_is) (type_more c.self.invariant (decl_of c.args.d.now) c.number-at.result (c.requires ∙ sym c.number-at.ensures.is) c.number-at.ensures.small c.self.told c.decl_size.result c.len.result c.decl_size.ensures.is (omega arith) (c.fits.ensures.0 c.if-not-fits.false)).fits)
