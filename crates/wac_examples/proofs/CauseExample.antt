@@ -45,6 +45,7 @@ use Rattle.wac_graph.specs.Means.{node_number}
 use Rattle.wac_graph.specs.Asked.{Entry, asked_by, imported_by}
 use Rattle.wac_graph.specs.Entries.{once, with_used, asked_entries, to_merge}
 use Rattle.wac_graph.specs.Cause.{HasNoConflict, IsMergeConflict, Stands, implicit_merge, explicit_merge, import_circle}
+use Rattle.wac_graph.proofs.StandsLemmas.{stands_implicit, stands_explicit, stands_circle}
 use Rattle.wac_examples.proofs.Ordered.{edge_cmp_total}
 use Rattle.wac_examples.proofs.ImportExample.{no_entries, no_items}
 use Rattle.wac_examples.proofs.Rows.{readme_graph, instance_of_first, instance_of_second, by_two}
@@ -191,17 +192,13 @@ clashing_conflict = record {
 
 -- the second instance is named, with the first
 pub clash_stands : (o : EncodeOptions) → Stands clashing o (implicit_merge (codes "x") (node_number 0) (node_number 1) 0 1 [])
-clash_stands o = (
-  no_cycle,
-  no_imports clashing_types instance_of_first instance_of_second refl refl,
-  record {
-    conflict = clashing_conflict;
-    asked = record { node = instance_of_second; there = at_1 clashing_types instance_of_first instance_of_second; instantiated = refl };
-    name = refl;
-    by_first = refl;
-    by_second = refl;
-  },
-)
+clash_stands o = stands_implicit clashing o (codes "x") (node_number 0) (node_number 1) 0 1 [] no_cycle (no_imports clashing_types instance_of_first instance_of_second refl refl) (record {
+  conflict = clashing_conflict;
+  asked = record { node = instance_of_second; there = at_1 clashing_types instance_of_first instance_of_second; instantiated = refl };
+  name = refl;
+  by_first = refl;
+  by_second = refl;
+})
 
 -- ---- import nodes of two versions of an interface, whose functions `f` differ
 abbrev version_types : Collection
@@ -273,20 +270,16 @@ version_conflict = record {
 
 -- the later import node is named, with the earlier one
 pub versions_stand : (o : EncodeOptions) → Stands versions o (explicit_merge (codes "a:b/c@0.2.1") (node_number 1) (node_number 0))
-versions_stand o = (
-  no_cycle,
-  no_instantiations version_types earlier_import later_import (codes "a:b/c@0.2.0", refl) (codes "a:b/c@0.2.1", refl),
-  record {
-    first = 0;
-    second = 1;
-    export = codes "f";
-    conflict = version_conflict;
-    asked = record { node = later_import; name = codes "a:b/c@0.2.1"; there = at_1 version_types earlier_import later_import; imported = refl };
-    name = refl;
-    by_node = refl;
-    by_other = refl;
-  },
-)
+versions_stand o = stands_explicit versions o (codes "a:b/c@0.2.1") (node_number 1) (node_number 0) no_cycle (no_instantiations version_types earlier_import later_import (codes "a:b/c@0.2.0", refl) (codes "a:b/c@0.2.1", refl)) (record {
+  first = 0;
+  second = 1;
+  export = codes "f";
+  conflict = version_conflict;
+  asked = record { node = later_import; name = codes "a:b/c@0.2.1"; there = at_1 version_types earlier_import later_import; imported = refl };
+  name = refl;
+  by_node = refl;
+  by_other = refl;
+})
 
 -- ---- import nodes of two interfaces that use each other, in different versions
 abbrev item_of : Name → ℕ → Name × ItemKind
@@ -424,11 +417,5 @@ circle_uses = record {
 
 -- it is named
 pub circle_stands : (o : EncodeOptions) → Stands circular o (import_circle y_later)
-circle_stands o = (
-  no_cycle,
-  no_instantiations circle_types import_of_x import_of_y (x_first, refl) (y_later, refl),
-  record {
-    agree = subst (λ es. HasNoDisagreement by_names circle_types (to_merge es)) (sym circle_asked) none_disagrees;
-    circle = subst (λ es. UseEachOther by_names circle_types (to_merge es) y_later) (sym circle_asked) circle_uses;
-  },
-)
+circle_stands o = stands_circle circular o y_later no_cycle (no_instantiations circle_types import_of_x import_of_y (x_first, refl) (y_later, refl))
+    (subst (λ es. HasNoDisagreement by_names circle_types (to_merge es)) (sym circle_asked) none_disagrees) (subst (λ es. UseEachOther by_names circle_types (to_merge es) y_later) (sym circle_asked) circle_uses)

@@ -293,6 +293,7 @@ twins_mean = record {
   in_order = twins_in_order;
   at = twins_at;
   index = twins_index;
+  meant = (tt, ((tt, tt), ((tt, tt), ((tt, tt), ((tt, tt), (tt, ((tt, (tt, (tt, tt))), ((refl, tt), ((refl, tt), tt)))))))));
   imports = twins_imports;
   components = ap (map (package_bytes twins)) (sym twins_packages);
   instances = twins_instances;

@@ -91,3 +91,10 @@ foreign = nested second_bytes ∷ instantiate 0 [] ∷ instantiate 0 [] ∷ alia
 -- another package's bytes
 pub no_bytes_of_another_package : Means foreign twins → ⊥
 no_bytes_of_another_package means = two_lists 11 8 (11 ∷ []) (11 ∷ []) refl (ap (map length) (one_meaning foreign means).components)
+
+abbrev dangling : List Item
+dangling = nested first_bytes ∷ instantiate 0 [] ∷ instantiate 0 [] ∷ alias_of 0 (codes "a") ∷ alias_of 1 (codes "a") ∷ nested second_bytes ∷ given_both 1 0 1 ∷ alias_of 9 (codes "a") ∷ exported (codes "p") 0 ∷ exported (codes "q") 1 ∷ []
+
+-- an alias, which nothing uses, of an instance that is not there
+pub no_alias_of_nothing : Means dangling twins → ⊥
+no_alias_of_nothing means = means.meant.1.1.1.1.1.1.1.0.0

@@ -121,14 +121,17 @@ found_entry name k position kind (e ∷ es) h = split (same_name name e.0) h (fo
 -- what the fields keep when an alias is made
 pub invariant_aliased : (a : Inside) → Invariant a → IsWellFormed a.types → (id : NodeId) (n : Node) (i : InterfaceId) (it : Interface) (position number : ℕ) (kind : ItemKind) (name : Name) (nodes : Slab Node) (edges : set.FinSet edge_cmp) (node : Node)
     → get a.nodes id.0 ≡ Some n → n.item_kind ≡ item.Instance i → item_at (a.types).interfaces i.0 ≡ Some it → Some (position, kind) ≡ named_at 0 name it.exports
+    → ((t : ℕ) → set.contains a.edges (alias_edge id.0 t position) ≡ false)
     → get a.nodes number ≡ None → Updates a.nodes nodes number (Some node) → ((j : ℕ) → satisfied node.kind j ≡ false) → edges ≡ set.insert a.edges (alias_edge id.0 number position) → node_of node ≡ alias_node (node_of n) kind
     → Invariant (record a { nodes = nodes; edges = edges })
-invariant_aliased a v w id n i it position number kind name nodes edges node had is at found vacant u bare added shape =
+invariant_aliased a v w id n i it position number kind name nodes edges node had is at found none vacant u bare added shape =
     let (e, j, place, there, same) = found_entry name 0 position kind it.exports found in
     let here : slice_get it.exports position ≡ Some e = let z : position ≡ j = omega (arith, place) in ap (slice_get it.exports) z ∙ there in
     let exported : slice_get (exports_of (graph_of a) (node_of n)) position ≡ Some (e.0, kind) = ap (λ es. slice_get es position) (exports_are a n i it is at) ∙ here ∙ ap (λ (k : ItemKind). Some (e.0, k)) same in
     let held : holds_type a.types (kind_type kind) ≡ true = ap (λ k. holds_type a.types (kind_type k)) (sym same) ∙ exports_held a.types w i.0 it at position e here in
-    invariant_alias a v nodes number node vacant u bare edges id (node_of n) position e.0 kind shape (get-nodes_of a.nodes.slots id.0 ∙ ap (option_map node_of) had) exported held added
+    invariant_alias a v nodes number node vacant u bare edges id (node_of n) position e.0 kind shape (get-nodes_of a.nodes.slots id.0 ∙ ap (option_map node_of) had) exported held (λ other stands. absurd (false_is_not_true (sym (none other.0) ∙ stands))) added where
+      false_is_not_true : false ≡ true → ⊥
+      false_is_not_true h = cc
 
 -- the interface of an instance is held
 pub interface_there : (a : Inside) → Invariant a → (id : NodeId) (n : Node) (i : InterfaceId) → get a.nodes id.0 ≡ Some n → n.item_kind ≡ item.Instance i → i.0 < length (a.types).interfaces

@@ -26,15 +26,16 @@ use Rattle.wac_edges.specs.declared.edges.Edge.{Edge}
 use Rattle.wac_graph.specs.declared.errors.InstantiationArgumentError.{InstantiationArgumentError}
 use Rattle.wac_graph.specs.declared.errors.InstantiationArgumentError.TheVariants.{NodeIsNotAnInstantiation, InvalidArgumentName, ArgumentAlreadyPassed, ArgumentTypeMismatch}
 use Rattle.wac_graph.specs.declared.graph.CompositionGraph.TheInside.{Inside}
-use Rattle.wac_edges.specs.Edge.{edge_cmp}
+use Rattle.wac_edges.specs.Edge.{edge_cmp, argument_edge}
 use Rattle.wac_graph.specs.Graph as graph
-use Rattle.wac_graph.specs.Arguments.{IsInstantiation, HasImport, Fits}
+use Rattle.wac_graph.specs.Arguments.{IsInstantiation, HasImport, Fits, CanBeGiven}
 use Rattle.wac_graph.specs.Graph.{Graph, GraphNode, Kind, node_at, package_at, package_in, package_of, imports_of, IsSatisfied, IsUnsatisfied, IsArgumentOf}
 use Rattle.wac_graph.specs.Inside.{node_of, kind_of, graph_of, Invariant, satisfied, satisfied_at, IsInstantiationAt}
 use Rattle.wac_graph.specs.Steps.{SetsArgument, SetsOn, import_named}
 use Rattle.wac_edges.proofs.EdgeLemmas.{edge_cmp_total, exact_edges, edge_cmp-IsAntisymmetric}
 use Rattle.wac_graph.proofs.NodeLemmas.{get-nodes_of, nodes_of-same}
 use Rattle.wac_graph.proofs.HeldLemmas.{imports_held}
+use Rattle.wac_graph.proofs.JoinLemmas.{imports_of_package}
 use Rattle.wac_graph.proofs.AliasLemmas.{found_entry}
 
 clash : (b : Bool) → b ≡ true → b ≡ false → ⊥
@@ -76,9 +77,6 @@ item_at_node a argument m given g at = let e : Some (node_of m) ≡ Some g = sym
 
 pub held_node : (a : Inside) → Invariant a → (id : NodeId) (n : Node) → get a.nodes id.0 ≡ Some n → holds_type a.types (kind_type n.item_kind) ≡ true
 held_node a v id n had = (v.sound).held id (node_of n) (get-nodes_of a.nodes.slots id.0 ∙ ap (option_map node_of) had)
-
-pub imports_of_package : (g : Graph) (n : GraphNode) (p : PackageParts) → package_of g n ≡ Some p → imports_of g n ≡ world_imports g.types p.world
-imports_of_package g n p h = rw h refl
 
 -- an instantiation node, of which the package is found
 module _ (a : Inside) (v : Invariant a) (id : NodeId) (n : Node) (s : BTreeSet ℕ) (name : Name) (had : get a.nodes id.0 ≡ Some n) (is : n.kind ≡ code.Instantiation s) where
@@ -204,3 +202,29 @@ instantiation_there a id h = split (get a.nodes id.0) (is_instantiation a id h) 
 pub absent_edge : (b : Bool) → (b ≡ true → ⊥) → b ≡ false
 absent_edge true h = absurd (h refl)
 absent_edge false h = refl
+
+-- what fits an import can be given for it
+pub can_be_given : (g : Graph) (id argument : NodeId) (name : Name) (position : ℕ) (kind : ItemKind) → HasImport g id name position kind → Fits g id position kind argument → IsSome (node_at g argument) → CanBeGiven g id position argument
+can_be_given g id argument name position kind import fits there = both (node_at g id) (node_at g argument) refl refl import fits.1 there where
+  both : (o r : Option GraphNode) → node_at g id ≡ o → node_at g argument ≡ r → IsSomeAnd o (λ m. (m.kind ≡ graph.instantiation) × (import_named g m name ≡ Some (position, kind))) → IfSome r (λ x. IsSubtype g.types x.item_kind g.types kind) → IsSome r
+      → CanBeGiven g id position argument
+  both None r here given none subtype some = absurd none
+  both (Some n) None here given is subtype none = cc
+  both (Some n) (Some m) here given is subtype some =
+      let (e, j, place, at, same) = found_entry name 0 position kind (imports_of g n) (sym is.1) in
+      let at_position : slice_get (imports_of g n) position ≡ Some e = let z : position ≡ j = omega (arith, place) in ap (slice_get (imports_of g n)) z ∙ at in
+      record {
+        given = m;
+        consumer = n;
+        there = given;
+        here = here;
+        joins = (is.0, subst (λ o. IsSomeAnd o (λ x. IsSubtype g.types m.item_kind g.types x.1)) (sym at_position) (subst (λ k. IsSubtype g.types m.item_kind g.types k) (sym same) subtype));
+        unset = fits.0;
+      }
+
+pub given_instantiation : (g : Graph) (id argument : NodeId) (position : ℕ) → CanBeGiven g id position argument → IsInstantiation g id
+given_instantiation g id argument position can = subst (λ o. IsSomeAnd o (λ n. n.kind ≡ graph.instantiation)) (sym can.here) can.joins.0
+
+-- its edge does not stand
+pub unset_edge : (a : Inside) (id argument : NodeId) (position : ℕ) → CanBeGiven (graph_of a) id position argument → set.contains a.edges (argument_edge argument.0 id.0 position) ≡ false
+unset_edge a id argument position can = absent_edge (set.contains a.edges (argument_edge argument.0 id.0 position)) (can.unset argument)

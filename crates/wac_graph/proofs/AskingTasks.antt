@@ -16,7 +16,7 @@ use Rattle.wac_graph.specs.declared.asked.Task.{Task}
 use Rattle.wac_graph.specs.declared.asked.Task.TheVariants.{Open, Close}
 use Rattle.wac_graph.specs.Asked.{Entry}
 use Rattle.wac_graph.specs.Entries.{under_id, used_by, with_used}
-use Rattle.wac_graph.specs.EntriesLeft.{by_node, instance_under, has, HasAll, added, AreSettled, StandsFor, uses_of, openings, task_items, tasks_items, tasks_entries, total, weight_to, task_weight, tasks_weight, IsHeldTask, IsHeldKind, Did, skipped, put_off, closed, passed, IsUnderWay}
+use Rattle.wac_graph.specs.EntriesLeft.{by_node, instance_under, has, HasAll, added, AreSettled, AsksAlike, uses_of, openings, task_items, tasks_items, tasks_entries, total, weight_to, task_weight, tasks_weight, IsHeldTask, IsHeldKind, Did, skipped, put_off, closed, passed, IsUnderWay}
 use Rattle.wac_graph.proofs.EntryLists.{all_each, all_front, all_last, all_joined, has_by, all_renumbered, settled_joined, settled_front, settled_has, stands_itself, stands_through, stands_more, stands_without, stands_added}
 use Rattle.wac_graph.proofs.UsedEntries.{IsUsed, used_below, used_unfolded, used_settled, used_there, uses_weigh}
 
@@ -24,7 +24,7 @@ total_joined : {A : Type 0} (f : A → ℕ) (xs ys : List A) → total f (xs ++ 
 total_joined f [] ys = omega arith
 total_joined f (x ∷ xs) ys = let e = total_joined f xs ys in omega (arith, e)
 
-pub stands_settled : (c : Collection) (a b : List Entry) → StandsFor c a b → AreSettled c [] a → AreSettled c [] b
+pub stands_settled : (c : Collection) (a b : List Entry) → AsksAlike c a b → AreSettled c [] a → AreSettled c [] b
 stands_settled c a b f h = subst (λ t. AreSettled c [] t) (append-nil b) (f.settled [] (subst (λ t. AreSettled c [] t) (sym (append-nil a)) h))
 
 pub on_ok : {A B : Type 0} (r : Result (Unit {0}) AllocError) → (A → B) → OnOk r A → OnOk r B
@@ -100,12 +100,12 @@ module _ (c : Collection) where
 
     -- ---- after each task the same is wanted
     module _ (n : ℕ) (wanted : List Entry) where
-      moved : (t : Task) (old new : List Entry) (left : List Task) → IsUnderWay c n wanted old (left ++ t ∷ []) → StandsFor c (old ++ map (by_node n) (task_items c t)) new → IsUnderWay c n wanted new left
+      moved : (t : Task) (old new : List Entry) (left : List Task) → IsUnderWay c n wanted old (left ++ t ∷ []) → AsksAlike c (old ++ map (by_node n) (task_items c t)) new → IsUnderWay c n wanted new left
       moved t old new left u f =
           let T = map (by_node n) (task_items c t) in
           let R = tasks_entries c n left in
           let is : old ++ tasks_entries c n (left ++ t ∷ []) ≡ (old ++ T) ++ R = ap (λ es. old ++ es) (last_entries n left t) ∙ sym (append_assoc old T R) in
-          let g : StandsFor c (old ++ tasks_entries c n (left ++ t ∷ [])) (new ++ R) = subst (λ es. StandsFor c es (new ++ R)) (sym is) (stands_more c (old ++ T) new R f) in
+          let g : AsksAlike c (old ++ tasks_entries c n (left ++ t ∷ [])) (new ++ R) = subst (λ es. AsksAlike c es (new ++ R)) (sym is) (stands_more c (old ++ T) new R f) in
           record {
             stands = stands_through c wanted (old ++ tasks_entries c n (left ++ t ∷ [])) (new ++ R) u.stands g;
             settled = stands_settled c (old ++ tasks_entries c n (left ++ t ∷ [])) (new ++ R) g u.settled;
@@ -116,7 +116,7 @@ module _ (c : Collection) where
       off_now i old left u =
           let is : old ++ tasks_entries c n (left ++ Open i ∷ []) ≡ old ++ tasks_entries c n (left ++ Close i ∷ openings (uses_of c i)) = ap (λ items. old ++ map (by_node n) items) (sym (off_items left i)) in
           record {
-            stands = subst (λ es. StandsFor c wanted es) is u.stands;
+            stands = subst (λ es. AsksAlike c wanted es) is u.stands;
             settled = subst (λ es. AreSettled c [] es) is u.settled;
             held = all_joined (IsHeldTask c) left (Close i ∷ openings (uses_of c i)) (all_front (IsHeldTask c) left (Open i ∷ []) u.held) (all_last (IsHeldTask c) left (Open i) u.held, uses_held i);
           }
@@ -135,7 +135,7 @@ module _ (c : Collection) where
           let v = subst (λ x. IsUnderWay c n wanted old (left ++ x ∷ [])) is u in
           let all = all_there i name old under there (settled_front c [] old (tasks_entries c n (left ++ Open i ∷ [])) v.settled) in
           subst (IsUnderWay c n wanted new) (sym made)
-          (moved (Open i) old new left v (subst (StandsFor c (old ++ map (by_node n) (task_items c (Open i)))) (sym same) (stands_without c old (map (by_node n) (task_items c (Open i))) all)))
+          (moved (Open i) old new left v (subst (AsksAlike c (old ++ map (by_node n) (task_items c (Open i)))) (sym same) (stands_without c old (map (by_node n) (task_items c (Open i))) all)))
       still_under_way t old new left now u (put_off i is same made) =
           subst (λ es. IsUnderWay c n wanted es now) (sym same)
           (subst (IsUnderWay c n wanted old) (sym made) (off_now i old left (subst (λ x. IsUnderWay c n wanted old (left ++ x ∷ [])) is u)))
@@ -143,11 +143,11 @@ module _ (c : Collection) where
           let v = subst (λ x. IsUnderWay c n wanted old (left ++ x ∷ [])) is u in
           let e = by_node n (name, kind.Instance i) in
           subst (IsUnderWay c n wanted new) (sym made)
-          (moved (Close i) old new left v (subst (λ us. StandsFor c (old ++ map (by_node n) us) new) (sym under) (subst (StandsFor c (old ++ e ∷ [])) (sym same) (stands_added c old e))))
+          (moved (Close i) old new left v (subst (λ us. AsksAlike c (old ++ map (by_node n) us) new) (sym under) (subst (AsksAlike c (old ++ e ∷ [])) (sym same) (stands_added c old e))))
       still_under_way t old new left now u (passed i is under same made) =
           let v = subst (λ x. IsUnderWay c n wanted old (left ++ x ∷ [])) is u in
           subst (IsUnderWay c n wanted new) (sym made)
-          (moved (Close i) old new left v (subst (λ us. StandsFor c (old ++ map (by_node n) us) new) (sym under) (subst (StandsFor c (old ++ [])) (sym same) (subst (λ es. StandsFor c es old) (sym (append-nil old)) (stands_itself c old)))))
+          (moved (Close i) old new left v (subst (λ us. AsksAlike c (old ++ map (by_node n) us) new) (sym under) (subst (AsksAlike c (old ++ [])) (sym same) (subst (λ es. AsksAlike c es old) (sym (append-nil old)) (stands_itself c old)))))
 
     -- at first all is left to do, at last nothing is
     pub under_way : (n : ℕ) (i : InterfaceId) (old : List Entry) → HasInterface c i → AreSettled c [] old → IsUnderWay c n (old ++ map (by_node n) (used_by c (kind.Instance i))) old (openings (uses_of c i))
@@ -155,13 +155,13 @@ module _ (c : Collection) where
         let w = old ++ map (by_node n) (used_by c (kind.Instance i)) in
         let is : w ≡ old ++ tasks_entries c n (openings (uses_of c i)) = ap (λ items. old ++ map (by_node n) items) (sym (used_items i)) in
         record {
-          stands = subst (λ es. StandsFor c w es) is (stands_itself c w);
+          stands = subst (λ es. AsksAlike c w es) is (stands_itself c w);
           settled = subst (λ es. AreSettled c [] es) is (settled_joined c [] old (map (by_node n) (used_by c (kind.Instance i))) settled (used_settled c wf n i held old));
           held = uses_held i;
         }
 
-  pub all_done : (n : ℕ) (wanted now : List Entry) → IsUnderWay c n wanted now [] → StandsFor c wanted now
-  all_done n wanted now u = subst (StandsFor c wanted) (append-nil now) u.stands
+  pub all_done : (n : ℕ) (wanted now : List Entry) → IsUnderWay c n wanted now [] → AsksAlike c wanted now
+  all_done n wanted now u = subst (AsksAlike c wanted) (append-nil now) u.stands
 
   -- ---- an import with what it uses
   module _ (e : Entry) (i : InterfaceId) (typed : e.kind ≡ kind.Instance i) where
@@ -169,17 +169,17 @@ module _ (c : Collection) where
     used_of = ap (λ k. map (by_node e.node) (used_by c k)) typed
 
     -- one that is asked for under its name comes with what it uses
-    pub asked_there : (old : List Entry) → AreSettled c [] old → has old (instance_under e.name i) ≡ true → StandsFor c (old ++ with_used c e) old
+    pub asked_there : (old : List Entry) → AreSettled c [] old → has old (instance_under e.name i) ≡ true → AsksAlike c (old ++ with_used c e) old
     asked_there old settled there =
         let own : has old e ≡ true = has_by old e (instance_under e.name i) refl typed ∙ there in
         stands_without c old (with_used c e) (all_joined (λ y. has old y ≡ true) (map (by_node e.node) (used_by c e.kind)) (e ∷ []) (settled_has c [] old e settled own) (own, tt))
 
-    pub asked_new : (old mid new : List Entry) → StandsFor c (old ++ map (by_node e.node) (used_by c (kind.Instance i))) mid → new ≡ added mid e → StandsFor c (old ++ with_used c e) new
+    pub asked_new : (old mid new : List Entry) → AsksAlike c (old ++ map (by_node e.node) (used_by c (kind.Instance i))) mid → new ≡ added mid e → AsksAlike c (old ++ with_used c e) new
     asked_new old mid new f is =
         let U = map (by_node e.node) (used_by c (kind.Instance i)) in
         let parts : (old ++ U) ++ e ∷ [] ≡ old ++ with_used c e = append_assoc old U (e ∷ []) ∙ ap (λ us. old ++ (us ++ e ∷ [])) (sym used_of) in
-        subst (λ es. StandsFor c es new) parts
-        (stands_through c ((old ++ U) ++ e ∷ []) (mid ++ e ∷ []) new (stands_more c (old ++ U) mid (e ∷ []) f) (subst (StandsFor c (mid ++ e ∷ [])) (sym is) (stands_added c mid e)))
+        subst (λ es. AsksAlike c es new) parts
+        (stands_through c ((old ++ U) ++ e ∷ []) (mid ++ e ∷ []) new (stands_more c (old ++ U) mid (e ∷ []) f) (subst (AsksAlike c (mid ++ e ∷ [])) (sym is) (stands_added c mid e)))
 
     pub with_settled : IsWellFormed c → (old : List Entry) → HasInterface c i → AreSettled c [] old → AreSettled c [] (old ++ with_used c e)
     with_settled wf old held settled =
@@ -201,8 +201,8 @@ module _ (c : Collection) where
     alone : with_used c e ≡ e ∷ []
     alone = ap (λ us. map (by_node e.node) us ++ e ∷ []) (nothing_used e.kind none)
 
-    pub other_asked : (old new : List Entry) → new ≡ added old e → StandsFor c (old ++ with_used c e) new
-    other_asked old new is = subst (λ es. StandsFor c (old ++ es) new) (sym alone) (subst (StandsFor c (old ++ e ∷ [])) (sym is) (stands_added c old e))
+    pub other_asked : (old new : List Entry) → new ≡ added old e → AsksAlike c (old ++ with_used c e) new
+    other_asked old new is = subst (λ es. AsksAlike c (old ++ es) new) (sym alone) (subst (AsksAlike c (old ++ e ∷ [])) (sym is) (stands_added c old e))
 
     pub other_settled : (old : List Entry) → AreSettled c [] old → AreSettled c [] (old ++ with_used c e)
     other_settled old settled = settled_joined c [] old (with_used c e) settled (subst (λ es. AreSettled c old es) (sym alone) (subst (λ us. HasAll old (map (by_node e.node) us)) (sym (nothing_used e.kind none)) tt, tt))

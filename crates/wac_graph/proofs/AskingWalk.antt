@@ -19,7 +19,7 @@ use Rattle.wac_graph.specs.Sound.{IsSound}
 use Rattle.wac_graph.specs.Imports.{node_row, node_rows}
 use Rattle.wac_graph.specs.ImportsLeft.{unset, row_of, node_left}
 use Rattle.wac_graph.specs.Entries.{with_used}
-use Rattle.wac_graph.specs.EntriesLeft.{IsHeldKind, StandsFor, row_entry, all_with_used, all_asked_by, all_imported_by, asked_at, imported_at}
+use Rattle.wac_graph.specs.EntriesLeft.{IsHeldKind, AsksAlike, row_entry, all_with_used, all_asked_by, all_imported_by, asked_at, imported_at}
 use Rattle.wac_graph.specs.Inside.{graph_of}
 use Rattle.wac_graph.proofs.EntryLists.{stands_itself, stands_through, stands_more}
 use Rattle.wac_graph.proofs.HeldLemmas.{imports_held}
@@ -127,14 +127,14 @@ module _ (g : Graph) (n : ℕ) where
 -- ---- as far as a loop has come
 module _ (c : Collection) where
   -- one of the entries that are left is asked for
-  pub one_asked : (wanted old new : List Entry) (e : Entry) (before after : List Entry) → before ≡ e ∷ after → StandsFor c wanted (old ++ all_with_used c before) → StandsFor c (old ++ with_used c e) new → StandsFor c wanted (new ++ all_with_used c after)
+  pub one_asked : (wanted old new : List Entry) (e : Entry) (before after : List Entry) → before ≡ e ∷ after → AsksAlike c wanted (old ++ all_with_used c before) → AsksAlike c (old ++ with_used c e) new → AsksAlike c wanted (new ++ all_with_used c after)
   one_asked wanted old new e before after is f g =
       let parts : old ++ all_with_used c before ≡ (old ++ with_used c e) ++ all_with_used c after = ap (λ es. old ++ all_with_used c es) is ∙ sym (append_assoc old (with_used c e) (all_with_used c after)) in
-      stands_through c wanted ((old ++ with_used c e) ++ all_with_used c after) (new ++ all_with_used c after) (subst (StandsFor c wanted) parts f) (stands_more c (old ++ with_used c e) new (all_with_used c after) g)
+      stands_through c wanted ((old ++ with_used c e) ++ all_with_used c after) (new ++ all_with_used c after) (subst (AsksAlike c wanted) parts f) (stands_more c (old ++ with_used c e) new (all_with_used c after) g)
 
   -- those of one more number are asked for
-  pub number_asked : (F : ℕ → List Entry) (first old new : List Entry) (n : ℕ) → StandsFor c (first ++ all_with_used c (flat_map F (range_with_len 0 n))) old → StandsFor c (old ++ all_with_used c (F n)) new
-      → StandsFor c (first ++ all_with_used c (flat_map F (range_with_len 0 (n + 1)))) new
+  pub number_asked : (F : ℕ → List Entry) (first old new : List Entry) (n : ℕ) → AsksAlike c (first ++ all_with_used c (flat_map F (range_with_len 0 n))) old → AsksAlike c (old ++ all_with_used c (F n)) new
+      → AsksAlike c (first ++ all_with_used c (flat_map F (range_with_len 0 (n + 1)))) new
   number_asked F first old new n f g =
       let A = all_with_used c (flat_map F (range_with_len 0 n)) in
       let one : n + 1 ≡ suc n = omega arith in
@@ -142,18 +142,18 @@ module _ (c : Collection) where
       let all : flat_map F (range_with_len 0 (n + 1)) ≡ flat_map F (range_with_len 0 n) ++ F n = ap (λ k. flat_map F (range_with_len 0 k)) one ∙ range_more F 0 n ∙ ap (λ k. flat_map F (range_with_len 0 n) ++ F k) last in
       let parts : first ++ all_with_used c (flat_map F (range_with_len 0 (n + 1))) ≡ (first ++ A) ++ all_with_used c (F n) =
       ap (λ es. first ++ all_with_used c es) all ∙ ap (λ es. first ++ es) (flat_joined (with_used c) (flat_map F (range_with_len 0 n)) (F n)) ∙ sym (append_assoc first A (all_with_used c (F n))) in
-      subst (λ es. StandsFor c es new) (sym parts)
+      subst (λ es. AsksAlike c es new) (sym parts)
       (stands_through c ((first ++ A) ++ all_with_used c (F n)) (old ++ all_with_used c (F n)) new (stands_more c (first ++ A) old (all_with_used c (F n)) f) g)
 
   -- a number that asks for nothing
-  pub number_passed : (F : ℕ → List Entry) (first old : List Entry) (n : ℕ) → StandsFor c (first ++ all_with_used c (flat_map F (range_with_len 0 n))) old → F n ≡ [] → StandsFor c (first ++ all_with_used c (flat_map F (range_with_len 0 (n + 1)))) old
-  number_passed F first old n f none = number_asked F first old old n f (subst (λ es. StandsFor c (old ++ all_with_used c es) old) (sym none) (subst (λ es. StandsFor c es old) (sym (append-nil old)) (stands_itself c old)))
+  pub number_passed : (F : ℕ → List Entry) (first old : List Entry) (n : ℕ) → AsksAlike c (first ++ all_with_used c (flat_map F (range_with_len 0 n))) old → F n ≡ [] → AsksAlike c (first ++ all_with_used c (flat_map F (range_with_len 0 (n + 1)))) old
+  number_passed F first old n f none = number_asked F first old old n f (subst (λ es. AsksAlike c (old ++ all_with_used c es) old) (sym none) (subst (λ es. AsksAlike c es old) (sym (append-nil old)) (stands_itself c old)))
 
-  pub one_number : (old new : List Entry) (e : Entry) (es : List Entry) → es ≡ e ∷ [] → StandsFor c (old ++ with_used c e) new → StandsFor c (old ++ all_with_used c es) new
-  one_number old new e es is g = subst (λ xs. StandsFor c (old ++ all_with_used c xs) new) (sym is) (subst (λ xs. StandsFor c (old ++ xs) new) (sym (append-nil (with_used c e))) g)
+  pub one_number : (old new : List Entry) (e : Entry) (es : List Entry) → es ≡ e ∷ [] → AsksAlike c (old ++ with_used c e) new → AsksAlike c (old ++ all_with_used c es) new
+  one_number old new e es is g = subst (λ xs. AsksAlike c (old ++ all_with_used c xs) new) (sym is) (subst (λ xs. AsksAlike c (old ++ xs) new) (sym (append-nil (with_used c e))) g)
 
-  pub nothing_asked : (F : ℕ → List Entry) (first : List Entry) → StandsFor c (first ++ all_with_used c (flat_map F (range_with_len 0 0))) first
-  nothing_asked F first = subst (λ es. StandsFor c es first) (sym (append-nil first)) (stands_itself c first)
+  pub nothing_asked : (F : ℕ → List Entry) (first : List Entry) → AsksAlike c (first ++ all_with_used c (flat_map F (range_with_len 0 0))) first
+  nothing_asked F first = subst (λ es. AsksAlike c es first) (sym (append-nil first)) (stands_itself c first)
 
 -- ---- all numbers
 module _ (a : Inside) (end : ℕ) (slots : length a.nodes.slots ≤ end) where
@@ -164,8 +164,8 @@ module _ (a : Inside) (end : ℕ) (slots : length a.nodes.slots ≤ end) where
   all_imported = by_numbers a end slots (imported_at (graph_of a)) (λ n none. ap (imported_by n) (node_is a n None none))
 
 -- first what instantiations ask for, then what import nodes do
-pub both_asked : (g : Graph) (mid new : List Entry) → StandsFor g.types (all_with_used g.types (all_asked_by g)) mid → StandsFor g.types (mid ++ all_with_used g.types (all_imported_by g)) new → StandsFor g.types (all_with_used g.types (asked g)) new
+pub both_asked : (g : Graph) (mid new : List Entry) → AsksAlike g.types (all_with_used g.types (all_asked_by g)) mid → AsksAlike g.types (mid ++ all_with_used g.types (all_imported_by g)) new → AsksAlike g.types (all_with_used g.types (asked g)) new
 both_asked g mid new f h =
     let c = g.types in
-    subst (λ es. StandsFor c es new) (sym (flat_joined (with_used c) (all_asked_by g) (all_imported_by g)))
+    subst (λ es. AsksAlike c es new) (sym (flat_joined (with_used c) (all_asked_by g) (all_imported_by g)))
     (stands_through c (all_with_used c (all_asked_by g) ++ all_with_used c (all_imported_by g)) (mid ++ all_with_used c (all_imported_by g)) new (stands_more c (all_with_used c (all_asked_by g)) mid (all_with_used c (all_imported_by g)) f) h)

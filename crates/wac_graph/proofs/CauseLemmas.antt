@@ -16,11 +16,14 @@ use Rattle.wac_edges.specs.Order.{IsAcyclic, IsLowestOnCycle}
 use Rattle.wac_graph.specs.Means.{node_number}
 use Rattle.wac_graph.specs.NotYet.{IsNotYet, AllWritable}
 use Rattle.wac_agreement.specs.Faults.{OneFault, Fault, disagree, use_each_other}
+use Rattle.wac_entries.specs.Classes.{by_names}
+use Rattle.wac_terms.specs.NoDisagreement.{HasNoDisagreement}
 use Rattle.wac_graph.specs.Asked.{Entry}
 use Rattle.wac_graph.specs.Entries.{asked_entries, to_merge}
-use Rattle.wac_graph.specs.Cause.{IsFirstConflict, HasNoConflict, HasMerge, IsMergeConflict, IsImplicitMerge, IsExplicitMerge, IsImportCircle, Cause, cycle, conflict, implicit_merge, explicit_merge, import_circle, not_yet, Stands, cause_of}
+use Rattle.wac_graph.specs.Cause.{IsFirstConflict, HasNoConflict, HasMerge, IsMergeConflict, IsImplicitMerge, IsExplicitMerge, IsImportCircle, Cause, cycle, conflict, implicit_merge, explicit_merge, import_circle, not_yet, a_disagreement, kind_of_cause, Stands, cause_of}
 use Rattle.wac_graph.specs.Search.{IsRefused}
 use Rattle.wac_graph.proofs.MeansLemmas.{none_left}
+use Rattle.wac_graph.proofs.StandsLemmas.{stands_cycle, stands_not_yet, same_kind, none_there}
 
 same_id : (n m : NodeId) → n.0 ≤ m.0 → m.0 ≤ n.0 → n ≡ m
 same_id n m up down = let e : n.0 ≡ m.0 = omega arith in λ i. record { 0 = e i }
@@ -119,57 +122,51 @@ module _ (g : Graph) (law : OneFault) where
       let kind : graph.instantiation ≡ graph.import (b.asked).name = sym (a.asked).instantiated ∙ (ap (λ (x : GraphNode). x.kind) node ∙ (b.asked).imported) in
       cc
 
-  one_circle : (i j : Name) → IsImportCircle g i → IsImportCircle g j → import_circle i ≡ import_circle j
-  one_circle i j a b = ap import_circle (ap text_in (law g.types (to_merge (asked_entries g)) (use_each_other i) (use_each_other j) (a.agree, a.circle) (b.agree, b.circle)))
+  one_circle : (i j : Name) → HasNoDisagreement by_names g.types (to_merge (asked_entries g)) → IsImportCircle g i → IsImportCircle g j → import_circle i ≡ import_circle j
+  one_circle i j agree a b = ap import_circle (ap text_in (law g.types (to_merge (asked_entries g)) (use_each_other i) (use_each_other j) (agree, a) (agree, b)))
 
-  -- who disagrees
-  apart_in : (p q : ℕ) (x : Name) → IsMergeConflict g p q x → HasMerge g → ⊥
-  apart_in p q x a merges = merges.0 p q (a.disagree).is_first.disagree
-
-  circle_in : (i : Name) → IsImportCircle g i → HasMerge g → ⊥
-  circle_in i a merges = merges.1 (a.circle).number (a.circle).is_first.on
-
-  apart_circle : (p q : ℕ) (x i : Name) → IsMergeConflict g p q x → IsImportCircle g i → ⊥
-  apart_circle p q x i a b = b.agree p q (a.disagree).is_first.disagree
+-- of one kind no two causes are named
+one_named : (g : Graph) → IsSound g → OneFault → (o : EncodeOptions) (a b : Cause) → kind_of_cause a ≡ kind_of_cause b → Stands g o a → Stands g o b → a ≡ b
+one_named g sound law o (cycle n) (cycle m) e a b = ap cycle (same_id n m (a.1.lowest m.0 b.1.here) (b.1.lowest n.0 a.1.here))
+one_named g sound law o (cycle n) (conflict j m l t) e a b = cc
+one_named g sound law o (cycle n) (implicit_merge i f s p q x) e a b = cc
+one_named g sound law o (cycle n) (explicit_merge i m k) e a b = cc
+one_named g sound law o (cycle n) (import_circle i) e a b = cc
+one_named g sound law o (cycle n) not_yet e a b = cc
+one_named g sound law o (conflict i n k s) (cycle m) e a b = cc
+one_named g sound law o (conflict i n k s) (conflict j m l t) e a b = one_conflict g sound i j n m k l s t a.1 b.1
+one_named g sound law o (conflict i n k s) (implicit_merge j f t p q x) e a b = cc
+one_named g sound law o (conflict i n k s) (explicit_merge j m t) e a b = cc
+one_named g sound law o (conflict i n k s) (import_circle j) e a b = cc
+one_named g sound law o (conflict i n k s) not_yet e a b = cc
+one_named g sound law o (implicit_merge i f s p q x) (cycle m) e a b = cc
+one_named g sound law o (implicit_merge i f s p q x) (conflict j m l t) e a b = cc
+one_named g sound law o (implicit_merge i f s p q x) (implicit_merge j t u r v y) e a b = one_implicit g law i j f s t u p q r v x y a.1 b.1
+one_named g sound law o (implicit_merge i f s p q x) (explicit_merge j n k) e a b = absurd (not_both g law i j f s n k p q x a.1 b.1)
+one_named g sound law o (implicit_merge i f s p q x) (import_circle j) e a b = cc
+one_named g sound law o (implicit_merge i f s p q x) not_yet e a b = cc
+one_named g sound law o (explicit_merge i n k) (cycle m) e a b = cc
+one_named g sound law o (explicit_merge i n k) (conflict j m l t) e a b = cc
+one_named g sound law o (explicit_merge i n k) (implicit_merge j t u r v y) e a b = absurd (not_both g law j i t u n k r v y b.1 a.1)
+one_named g sound law o (explicit_merge i n k) (explicit_merge j m l) e a b = one_explicit g law i j n k m l a.1 b.1
+one_named g sound law o (explicit_merge i n k) (import_circle j) e a b = cc
+one_named g sound law o (explicit_merge i n k) not_yet e a b = cc
+one_named g sound law o (import_circle i) (cycle m) e a b = cc
+one_named g sound law o (import_circle i) (conflict j m l t) e a b = cc
+one_named g sound law o (import_circle i) (implicit_merge j t u r v y) e a b = cc
+one_named g sound law o (import_circle i) (explicit_merge j m l) e a b = cc
+one_named g sound law o (import_circle i) (import_circle j) e a b = one_circle g law i j (λ p q h. a.0.1 a_disagreement (omega arith) (p, q, h)) a.1 b.1
+one_named g sound law o (import_circle i) not_yet e a b = cc
+one_named g sound law o not_yet (cycle m) e a b = cc
+one_named g sound law o not_yet (conflict j m l t) e a b = cc
+one_named g sound law o not_yet (implicit_merge j t u r v y) e a b = cc
+one_named g sound law o not_yet (explicit_merge j m l) e a b = cc
+one_named g sound law o not_yet (import_circle j) e a b = cc
+one_named g sound law o not_yet not_yet e a b = refl
 
 -- no two causes stand
 pub one_cause : (g : Graph) → IsSound g → OneFault → (o : EncodeOptions) (a b : Cause) → Stands g o a → Stands g o b → a ≡ b
-one_cause g sound law o (cycle n) (cycle m) a b = ap cycle (same_id n m (a.lowest m.0 b.here) (b.lowest n.0 a.here))
-one_cause g sound law o (cycle n) (conflict j m l t) a b = absurd (b.0 n.0 a.here)
-one_cause g sound law o (cycle n) (implicit_merge i f s p q x) a b = absurd (b.0 n.0 a.here)
-one_cause g sound law o (cycle n) (explicit_merge i m k) a b = absurd (b.0 n.0 a.here)
-one_cause g sound law o (cycle n) (import_circle i) a b = absurd (b.0 n.0 a.here)
-one_cause g sound law o (cycle n) not_yet a b = absurd (b.0 n.0 a.here)
-one_cause g sound law o (conflict i n k s) (cycle m) a b = absurd (a.0 m.0 b.here)
-one_cause g sound law o (conflict i n k s) (conflict j m l t) a b = one_conflict g sound i j n m k l s t a.1 b.1
-one_cause g sound law o (conflict i n k s) (implicit_merge j f t p q x) a b = absurd (b.1 i n (a.1).position s (a.1).conflict)
-one_cause g sound law o (conflict i n k s) (explicit_merge j m t) a b = absurd (b.1 i n (a.1).position s (a.1).conflict)
-one_cause g sound law o (conflict i n k s) (import_circle j) a b = absurd (b.1 i n (a.1).position s (a.1).conflict)
-one_cause g sound law o (conflict i n k s) not_yet a b = absurd (b.1 i n (a.1).position s (a.1).conflict)
-one_cause g sound law o (implicit_merge i f s p q x) (cycle m) a b = absurd (a.0 m.0 b.here)
-one_cause g sound law o (implicit_merge i f s p q x) (conflict j m l t) a b = absurd (a.1 j m (b.1).position t (b.1).conflict)
-one_cause g sound law o (implicit_merge i f s p q x) (implicit_merge j t u r v y) a b = one_implicit g law i j f s t u p q r v x y a.2 b.2
-one_cause g sound law o (implicit_merge i f s p q x) (explicit_merge j n k) a b = absurd (not_both g law i j f s n k p q x a.2 b.2)
-one_cause g sound law o (implicit_merge i f s p q x) (import_circle j) a b = absurd (apart_circle g law p q x j (a.2).conflict b.2)
-one_cause g sound law o (implicit_merge i f s p q x) not_yet a b = absurd (apart_in g law p q x (a.2).conflict b.2)
-one_cause g sound law o (explicit_merge i n k) (cycle m) a b = absurd (a.0 m.0 b.here)
-one_cause g sound law o (explicit_merge i n k) (conflict j m l t) a b = absurd (a.1 j m (b.1).position t (b.1).conflict)
-one_cause g sound law o (explicit_merge i n k) (implicit_merge j t u r v y) a b = absurd (not_both g law j i t u n k r v y b.2 a.2)
-one_cause g sound law o (explicit_merge i n k) (explicit_merge j m l) a b = one_explicit g law i j n k m l a.2 b.2
-one_cause g sound law o (explicit_merge i n k) (import_circle j) a b = absurd (apart_circle g law (a.2).first (a.2).second (a.2).export j (a.2).conflict b.2)
-one_cause g sound law o (explicit_merge i n k) not_yet a b = absurd (apart_in g law (a.2).first (a.2).second (a.2).export (a.2).conflict b.2)
-one_cause g sound law o (import_circle i) (cycle m) a b = absurd (a.0 m.0 b.here)
-one_cause g sound law o (import_circle i) (conflict j m l t) a b = absurd (a.1 j m (b.1).position t (b.1).conflict)
-one_cause g sound law o (import_circle i) (implicit_merge j t u r v y) a b = absurd (apart_circle g law r v y i (b.2).conflict a.2)
-one_cause g sound law o (import_circle i) (explicit_merge j m l) a b = absurd (apart_circle g law (b.2).first (b.2).second (b.2).export i (b.2).conflict a.2)
-one_cause g sound law o (import_circle i) (import_circle j) a b = one_circle g law i j a.2 b.2
-one_cause g sound law o (import_circle i) not_yet a b = absurd (circle_in g law i a.2 b.2)
-one_cause g sound law o not_yet (cycle m) a b = absurd (a.0 m.0 b.here)
-one_cause g sound law o not_yet (conflict j m l t) a b = absurd (a.1 j m (b.1).position t (b.1).conflict)
-one_cause g sound law o not_yet (implicit_merge j t u r v y) a b = absurd (apart_in g law r v y (b.2).conflict a.2)
-one_cause g sound law o not_yet (explicit_merge j m l) a b = absurd (apart_in g law (b.2).first (b.2).second (b.2).export (b.2).conflict a.2)
-one_cause g sound law o not_yet (import_circle j) a b = absurd (circle_in g law j b.2 a.2)
-one_cause g sound law o not_yet not_yet a b = refl
+one_cause g sound law o a b p q = one_named g sound law o a b (same_kind g o (kind_of_cause a) (kind_of_cause b) p.0 q.0) p q
 
 -- the cause that a refusal names stands
 pub names_cause : (g : Graph) (o : EncodeOptions) (e : EncodeError) → IsRefused g o e → IfSome (cause_of e) (Stands g o)
@@ -182,19 +179,14 @@ refused_for g sound law o e (inl is) cause stands = inr is
 refused_for g sound law o e (inr (named, names, there)) cause stands = inl (names ∙ ap Some (one_cause g sound law o named cause there stands))
 
 -- where nothing is refused no cause stands
-pub none_stands : (g : Graph) → OneFault → (o : EncodeOptions) → IsAcyclic g.edges → HasNoConflict g → HasMerge g → AllWritable g → o.define_components ≡ true → (IsSome o.processor → ⊥) → (cause : Cause) → Stands g o cause → ⊥
-none_stands g law o acyclic apart merges all define plain (cycle n) s = acyclic n.0 s.here
-none_stands g law o acyclic apart merges all define plain (conflict i n k t) s = apart i n (s.1).position t (s.1).conflict
-none_stands g law o acyclic apart merges all define plain (implicit_merge i f t p q x) s = apart_in g law p q x (s.2).conflict merges
-none_stands g law o acyclic apart merges all define plain (explicit_merge i n k) s = apart_in g law (s.2).first (s.2).second (s.2).export (s.2).conflict merges
-none_stands g law o acyclic apart merges all define plain (import_circle i) s = circle_in g law i s.2 merges
-none_stands g law o acyclic apart merges all define plain not_yet s = none_left g all o define plain s.3
+pub none_stands : (g : Graph) → (o : EncodeOptions) → IsAcyclic g.edges → HasNoConflict g → HasMerge g → AllWritable g → o.define_components ≡ true → (IsSome o.processor → ⊥) → (cause : Cause) → Stands g o cause → ⊥
+none_stands g o acyclic apart merges all define plain cause s = none_there g o acyclic apart merges (none_left g all o define plain) (kind_of_cause cause) s.0.0
 
 pub at_not_yet : (g : Graph) (o : EncodeOptions) → IsAcyclic g.edges → HasNoConflict g → HasMerge g → IsNotYet g o → IsRefused g o error.NotYet
-at_not_yet g o acyclic apart merges here = inr (not_yet, refl, (acyclic, apart, merges, here))
+at_not_yet g o acyclic apart merges here = inr (not_yet, refl, stands_not_yet g o acyclic apart merges here)
 
 pub at_cycle : (g : Graph) (n : ℕ) → IsLowestOnCycle g.edges n → (o : EncodeOptions) → IsRefused g o (error.GraphContainsCycle (node_number n))
-at_cycle g n lowest o = inr (cycle (node_number n), refl, lowest)
+at_cycle g n lowest o = inr (cycle (node_number n), refl, stands_cycle g o (node_number n) lowest)
 
 -- what a `?` hands on
 pub exit_cause : {A : Type 0} (P : EncodeError → Type 0) (r : Result A EncodeError) (e : EncodeError) → IsErrAnd r (λ y. y ≡ e) → P e → IfErr r P

@@ -24,6 +24,7 @@ use Rattle.wac_graph.specs.Means.{node_number}
 use Rattle.wac_edges.specs.Order.{IsAcyclic}
 use Rattle.wac_graph.specs.Cause.{IsConflict, IsFirstConflict, HasNoConflict, cause_of, conflict}
 use Rattle.wac_graph.specs.Search.{Clashes, IsFirstOf, IsLowest, IsRefused}
+use Rattle.wac_graph.proofs.StandsLemmas.{stands_conflict}
 use Rattle.wac_graph.proofs.NodeLemmas.{lookup_text}
 use Rattle.wac_graph.proofs.EncodingLemmas.{node_is, none_past, by_lt}
 
@@ -154,7 +155,7 @@ names_first g n i import key f lowest owned = record {
 }
 
 pub refused_first : (g : Graph) → IsAcyclic g.edges → (n : ℕ) (import : NodeId) (e : EncodeError) → (key : Key) × (name : Name) × (cause_of e ≡ Some (conflict import (node_number n) key name)) × IsFirstConflict g import (node_number n) key name → (o : EncodeOptions) → IsRefused g o e
-refused_first g acyclic n import e (key, name, names, first) o = inr (conflict import (node_number n) key name, names, (acyclic, first))
+refused_first g acyclic n import e (key, name, names, first) o = inr (conflict import (node_number n) key name, names, stands_conflict g o import (node_number n) key name acyclic first)
 
 some_within : {X : Type 0} (xs : List X) (j : ℕ) (x : X) → slice_get xs j ≡ Some x → j < length xs
 some_within [] j x h = cc

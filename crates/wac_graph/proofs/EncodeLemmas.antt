@@ -15,6 +15,7 @@ use Rattle.wac_binary.specs.declared.sorts.Sort.TheVariants as sort
 use Rattle.wac_binary.specs.Items.{Item, alias_item, export_alias, export_item}
 use Rattle.wac_binary.specs.Indexes.{space, indexes}
 use Rattle.wac_binary.specs.Meaning.{Thing, stands_for, meaning}
+use Rattle.wac_binary.specs.HasMeaning.{HasMeaning, IsSomething}
 use Rattle.wac_entries.specs.Classes.{by_names}
 use Rattle.wac_terms.specs.ClassOrder as classes
 use Rattle.wac_edges.specs.declared.edges.Edge.{Edge}
@@ -29,10 +30,11 @@ use Rattle.wac_graph.specs.Asked.{is_argument, is_satisfied, unsatisfied, asked_
 use Rattle.wac_graph.specs.Entries.{with_used, once, to_merge}
 use Rattle.wac_graph.specs.OuterImports.{AreOuterImports}
 use Rattle.wac_graph.specs.Means.{node_number, node_is, is_instantiation, is_written, instantiations, IsThing, sort_of_kind, with_package, used_after, used_packages, package_bytes, AreInstantiations, HasItem, shown, export_of, export_item_of, Means}
-use Rattle.wac_graph.specs.Encoding.{Adds, adds_instantiation, adds_alias}
+use Rattle.wac_graph.specs.Encoding.{WritesNode, writes_instantiation, writes_alias}
 use Rattle.wac_edges.proofs.EdgeLemmas.{exact_edges}
 use Rattle.wac_edges.proofs.WrittenOrder.{minus, eqb_same, all_in}
 use Rattle.wac_graph.proofs.ThingLemmas.{IsPlain, is_written-node}
+use Rattle.wac_graph.proofs.MeantLemmas.{meant-push, something, IsAmong, new_name}
 use Rattle.wac_graph.proofs.MeaningLemmas.{export_shown, export_others, indexes-push}
 use Rattle.wac_graph.proofs.WrittenLemmas.{Counted, Earlier, Written, with_component, instance_more, alias_more, used-append, HasItem-push, used_prefix}
 
@@ -115,16 +117,16 @@ module _ (counted : Counted) (earlier : Earlier) (g : Graph) (sound : IsSound g)
   -- the next node is written
   pub adds_more : (done later : List ℕ) (n : ℕ) (node : GraphNode) → order ≡ done ++ n ∷ later → IsLowestReady g.edges (minus (is_written g) done) n → Writes g.edges (minus (is_written g) (done ++ n ∷ [])) later → node_at g (node_number n) ≡ Some node
       → (index index' : ℕ → ℕ) (i : ℕ) → index' n ≡ i → ((m : ℕ) → eqb m n ≡ false → index' m ≡ index m)
-      → (components components' : List (PackageId × ℕ)) (items items' : List Item) → Adds g n node index components components' items items' i
+      → (components components' : List (PackageId × ℕ)) (items items' : List Item) → WritesNode g n node index components components' items items' i
       → Done done items components index → Done (done ++ n ∷ []) items' components' index'
-  adds_more done later n node here ready writes there index index' i now others components components' items items' (adds_alias instance source k name kind aliased source_there exported same added counts) w =
+  adds_more done later n node here ready writes there index index' i now others components components' items items' (writes_alias instance source k name kind aliased source_there exported same added counts) w =
       let test : node_is g (λ x. is_instantiation x.kind) n ≡ false = ap (λ o. option_case o false (λ x. is_instantiation x.kind)) there ∙ ap is_instantiation kind in
       let x : Item = alias_item (export_alias (sort_of_kind node.item_kind) (index instance.0) name) in
       let more = alias_more counted earlier g sound plain order at is_thing done later n node here ready writes there index index' i now others (used_packages g done) items components instance source k name w kind aliased source_there exported counts in
       subst (λ us. Written counted earlier g sound plain order at is_thing (done ++ n ∷ []) us items' components' index') (sym (used_push done n false test))
       (subst (λ cs. Written counted earlier g sound plain order at is_thing (done ++ n ∷ []) (used_packages g done) items' cs index') (sym same)
       (subst (λ its. Written counted earlier g sound plain order at is_thing (done ++ n ∷ []) (used_packages g done) its components index') (sym added) more))
-  adds_more done later n node here ready writes there index index' i now others components components' items items' (adds_instantiation id c mid arguments kind owned has_component given added counts) w =
+  adds_more done later n node here ready writes there index index' i now others components components' items items' (writes_instantiation id c mid arguments kind owned has_component given added counts) w =
       let test : node_is g (λ x. is_instantiation x.kind) n ≡ true = ap (λ o. option_case o false (λ x. is_instantiation x.kind)) there ∙ ap is_instantiation kind in
       let owner : owner_of n ≡ Some id = ap (λ o. option_case o None (λ z. z.owner)) there ∙ owned in
       let used : used_packages g (done ++ n ∷ []) ≡ with_package (used_packages g done) (Some id) = used_push done n true test ∙ ap (with_package (used_packages g done)) owner in
@@ -143,6 +145,8 @@ module _ (counted : Counted) (earlier : Earlier) (g : Graph) (sound : IsSound g)
   pub nothing_done : (index : ℕ → ℕ) → Done [] [] [] index
   nothing_done index = record {
     nodes = λ n wrong. cc;
+    meant = tt;
+    unknown = tt;
     imports = refl;
     customs = refl;
     exports = refl;
@@ -159,6 +163,7 @@ module _ (counted : Counted) (earlier : Earlier) (g : Graph) (sound : IsSound g)
   -- all nodes are written, and these exports behind them
   pub record Exported (base : List Item) (es : List (Name × NodeId)) (items : List Item) (index place : ℕ → ℕ) : Type 0 where
     pub split : items ≡ base ++ flat_map (export_item_of g index) es
+    pub meant : HasMeaning items
     pub imports : (meaning items).imports ≡ []
     pub customs : (meaning items).customs ≡ []
     pub bytes : (meaning items).nested_bytes ≡ map (package_bytes g) (used_packages g order)
@@ -171,6 +176,7 @@ module _ (counted : Counted) (earlier : Earlier) (g : Graph) (sound : IsSound g)
   pub no_exports : (items : List Item) (components : List (PackageId × ℕ)) (index : ℕ → ℕ) → Writes g.edges (is_written g) order → (w : Done order items components index) → Exported items [] items index w.place
   no_exports items components index writes w = record {
     split = rw append-nil refl;
+    meant = w.meant;
     imports = w.imports;
     customs = w.customs;
     bytes = w.bytes;
@@ -181,9 +187,9 @@ module _ (counted : Counted) (earlier : Earlier) (g : Graph) (sound : IsSound g)
   }
 
   -- one export more
-  pub export_more : (base : List Item) (es : List (Name × NodeId)) (items : List Item) (index place : ℕ → ℕ) (name : Name) (id : NodeId) (node : GraphNode) → node_at g id ≡ Some node → Exported base es items index place
+  pub export_more : (base : List Item) (es : List (Name × NodeId)) (items : List Item) (index place : ℕ → ℕ) (name : Name) (id : NodeId) (node : GraphNode) → node_at g id ≡ Some node → (IsAmong es name → ⊥) → Exported base es items index place
       → Exported base (es ++ (name, id) ∷ []) (items ++ export_item name (sort_of_kind node.item_kind) (index id.0) ∷ []) index place
-  export_more base es items index place name id node there e =
+  export_more base es items index place name id node there new e =
       let t : Sort = sort_of_kind node.item_kind in
       let x : Item = export_item name t (index id.0) in
       let o = export_others items t (index id.0) name in
@@ -192,6 +198,7 @@ module _ (counted : Counted) (earlier : Earlier) (g : Graph) (sound : IsSound g)
       record {
         split = ap (λ xs. xs ++ x ∷ []) e.split ∙ append_assoc base (flat_map (export_item_of g index) es) (x ∷ [])
             ∙ ap (λ ys. base ++ ys) (sym (flat_map-append (export_item_of g index) es ((name, id) ∷ []) ∙ ap (λ ys. flat_map (export_item_of g index) es ++ ys) (rw append-nil one)));
+        meant = meant-push items x e.meant (new_name g at items es name e.exports new, subst IsSomething (sym (e.stand id.0 node there).1) (something g at order id.0 node (is_thing id.0 node there)));
         imports = o.0 ∙ e.imports;
         bytes = o.1 ∙ e.bytes;
         made = subst (λ made. AreInstantiations g at order (instantiations g order) made) (sym o.2) e.made;
@@ -215,6 +222,7 @@ module _ (counted : Counted) (earlier : Earlier) (g : Graph) (sound : IsSound g)
     in_order = writes;
     at = at;
     index = index;
+    meant = e.meant;
     imports = subst (AreOuterImports g) (sym e.imports) (no_imports g (asked_none g plain all));
     components = e.bytes;
     instances = e.made;

@@ -10,7 +10,7 @@ use Rattle.wac_shapes.specs.declared.component.ItemKind.TheVariants as kind
 use Rattle.wac_shapes.proofs.Names.{same_name-true}
 use Rattle.wac_graph.specs.Asked.{Entry}
 use Rattle.wac_graph.specs.Entries.{same_instance, asks_again, once, used_by}
-use Rattle.wac_graph.specs.EntriesLeft.{by_node, has, HasAll, added, AreApart, AreSettled, StandsFor}
+use Rattle.wac_graph.specs.EntriesLeft.{by_node, has, HasAll, added, AreApart, AreSettled, AsksAlike}
 
 -- ---- lists
 pub all_each : {A : Type 0} (P Q : A → Type 0) → ((x : A) → P x → Q x) → (xs : List A) → AllByRecursion P xs → AllByRecursion Q xs
@@ -191,20 +191,20 @@ module _ (c : Collection) where
     split false _ rest on = subst (λ t. HasAll t (map (by_node e.node) (used_by c e.kind))) (append_assoc s (x ∷ []) xs) (on rest)
 
   -- ---- lists that stand for others
-  pub stands_itself : (a : List Entry) → StandsFor c a a
+  pub stands_itself : (a : List Entry) → AsksAlike c a a
   stands_itself a = record { same = λ tail. refl; settled = λ tail h. h }
 
-  pub stands_through : (a b d : List Entry) → StandsFor c a b → StandsFor c b d → StandsFor c a d
+  pub stands_through : (a b d : List Entry) → AsksAlike c a b → AsksAlike c b d → AsksAlike c a d
   stands_through a b d f g = record { same = λ tail. f.same tail ∙ g.same tail; settled = λ tail h. g.settled tail (f.settled tail h) }
 
-  pub stands_more : (a b more : List Entry) → StandsFor c a b → StandsFor c (a ++ more) (b ++ more)
+  pub stands_more : (a b more : List Entry) → AsksAlike c a b → AsksAlike c (a ++ more) (b ++ more)
   stands_more a b more f = record {
     same = λ tail. ap once (append_assoc a more tail) ∙ f.same (more ++ tail) ∙ sym (ap once (append_assoc b more tail));
     settled = λ tail h. subst (λ t. AreSettled c [] t) (sym (append_assoc b more tail)) (f.settled (more ++ tail) (subst (λ t. AreSettled c [] t) (append_assoc a more tail) h));
   }
 
   -- what is there already
-  pub stands_without : (xs ys : List Entry) → HasAll xs ys → StandsFor c (xs ++ ys) xs
+  pub stands_without : (xs ys : List Entry) → HasAll xs ys → AsksAlike c (xs ++ ys) xs
   stands_without xs ys all = record {
     same = λ tail. ap once (append_assoc xs ys tail) ∙ once_all xs ys tail all;
     settled = λ tail h.
@@ -212,12 +212,12 @@ module _ (c : Collection) where
         (settled_more (xs ++ ys) xs tail (λ e. has_without xs ys e all) (settled_behind [] (xs ++ ys) tail h));
   }
 
-  pub stands_added : (xs : List Entry) (e : Entry) → StandsFor c (xs ++ e ∷ []) (added xs e)
+  pub stands_added : (xs : List Entry) (e : Entry) → AsksAlike c (xs ++ e ∷ []) (added xs e)
   stands_added xs e = split (has xs e) refl where
-    split : (b : Bool) → has xs e ≡ b → StandsFor c (xs ++ e ∷ []) (cond b xs (xs ++ e ∷ []))
+    split : (b : Bool) → has xs e ≡ b → AsksAlike c (xs ++ e ∷ []) (cond b xs (xs ++ e ∷ []))
     split true there = stands_without xs (e ∷ []) (there, tt)
     split false _ = stands_itself (xs ++ e ∷ [])
 
   -- at last
-  pub stands_once : (a b : List Entry) → StandsFor c a b → AreApart b → b ≡ once a
+  pub stands_once : (a b : List Entry) → AsksAlike c a b → AreApart b → b ≡ once a
   stands_once a b f h = sym (ap once (sym (append-nil a)) ∙ f.same [] ∙ ap once (append-nil b) ∙ once_apart b h)

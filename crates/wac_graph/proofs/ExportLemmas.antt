@@ -81,4 +81,4 @@ module _ (a : Inside) where
       let (n, had) = the_node (get a.nodes id.0) there in
       let u = named_updates a.nodes nodes id.0 own n had named in
       invariant_export a v nodes (map_list (λ e. text_pair e) names.entries) id n (record n { export_name = Some own }) name had u (ap (λ t. let x : GraphNode = record (node_of n) { export_name = Some t } in x) own_is) refl
-      (named_vacant a.nodes nodes id.0 own n had named) (listed id name key names key_is absent last) names refl
+      (named_vacant a.nodes nodes id.0 own n had named) (lookup_text a.exports.entries name ∙ absent) (listed id name key names key_is absent last) names refl

@@ -18,7 +18,9 @@ use Rattle.wac_shapes.specs.declared.component.WorldId.{WorldId}
 use Rattle.wac_shapes.specs.declared.component.«Type».{«Type» as AnyType}
 use Rattle.wac_shapes.specs.declared.component.«Type».TheVariants as ty
 use Rattle.wac_shapes.specs.declared.component.ValueType.TheVariants as val
-use Rattle.wac_graph.proofs.SoundLemmas.{Extends}
+use Rattle.wac_types.specs.Subtype.{type_tree}
+use Rattle.wac_types.specs.TreeLaws.{GrowthKeepsTrees}
+use Rattle.wac_graph.proofs.JoinLemmas.{Extends}
 
 lt_more : {A : Type 0} (k : ℕ) (xs ys : List A) → nat_lt k (length xs) ≡ true → nat_lt k (length (xs ++ ys)) ≡ true
 lt_more k xs ys h = rw (length-append xs ys) (more k (length xs) (length ys) h) where
@@ -51,11 +53,16 @@ pub record HasMore (c d : Collection) : Type 0 where
 lt_list : {A : Type 0} (k : ℕ) (xs ys zs : List (Held A)) → zs ≡ xs ++ ys → nat_lt k (length xs) ≡ true → nat_lt k (length zs) ≡ true
 lt_list k xs ys zs is h = ap (λ (l : List (Held _)). nat_lt k (length l)) is ∙ lt_more k xs ys h
 
-pub extends_by : (c d : Collection) → HasMore c d → Extends c d
-extends_by c d m = record {
+abbrev KeepsTypes : Collection → Collection → Type 0
+KeepsTypes c d = (t : AnyType) → holds_type c t ≡ true → type_tree d t ≡ type_tree c t
+
+pub extends_by : (c d : Collection) → HasMore c d → KeepsTypes c d → Extends c d
+extends_by c d m trees = record {
   held = held;
   interfaces = λ i h. ap (λ (xs : List (Held Interface)). option_case (item_of (slice_get xs i.0)) [] (λ x. x.exports)) m.interfaces_are ∙ ap (λ o. option_case (item_of o) [] (λ x. x.exports)) (get_left c.interfaces m.interfaces i.0 (lt_length i.0 c.interfaces h));
-  worlds = λ w h. ap (λ (xs : List (Held World)). option_case (item_of (slice_get xs w.0)) [] (λ x. x.exports)) m.worlds_are ∙ ap (λ o. option_case (item_of o) [] (λ x. x.exports)) (get_left c.worlds m.worlds w.0 (lt_length w.0 c.worlds h));
+  exports = λ w h. ap (λ (xs : List (Held World)). option_case (item_of (slice_get xs w.0)) [] (λ x. x.exports)) m.worlds_are ∙ ap (λ o. option_case (item_of o) [] (λ x. x.exports)) (get_left c.worlds m.worlds w.0 (lt_length w.0 c.worlds h));
+  imports = λ w h. ap (λ (xs : List (Held World)). option_case (item_of (slice_get xs w.0)) [] (λ x. x.imports)) m.worlds_are ∙ ap (λ o. option_case (item_of o) [] (λ x. x.imports)) (get_left c.worlds m.worlds w.0 (lt_length w.0 c.worlds h));
+  trees = trees;
 } where
   held : (t : AnyType) → holds_type c t ≡ true → holds_type d t ≡ true
   held (ty.Resource r) h = lt_list r.0 c.resources m.resources d.resources m.resources_are h
@@ -89,25 +96,25 @@ has_more c d resources funcs defined interfaces worlds modules r f t i w m = rec
 }
 
 pub extends_itself : (c : Collection) → Extends c c
-extends_itself c = extends_by c c (has_more c c [] [] [] [] [] [] (nil c.resources) (nil c.funcs) (nil c.defined) (nil c.interfaces) (nil c.worlds) (nil c.modules))
+extends_itself c = extends_by c c (has_more c c [] [] [] [] [] [] (nil c.resources) (nil c.funcs) (nil c.defined) (nil c.interfaces) (nil c.worlds) (nil c.modules)) (λ t h. refl)
 
-pub extends_resource : (c : Collection) (r : Resource) → Extends c (with_resource c r)
-extends_resource c r = extends_by c (with_resource c r) (has_more c (with_resource c r) _ [] [] [] [] [] refl (nil c.funcs) (nil c.defined) (nil c.interfaces) (nil c.worlds) (nil c.modules))
+pub extends_resource : (c : Collection) → GrowthKeepsTrees c → (r : Resource) → Extends c (with_resource c r)
+extends_resource c law r = extends_by c (with_resource c r) (has_more c (with_resource c r) _ [] [] [] [] [] refl (nil c.funcs) (nil c.defined) (nil c.interfaces) (nil c.worlds) (nil c.modules)) (law.resource r).0
 
-pub extends_func : (c : Collection) (f : FuncType) → Extends c (with_func c f)
-extends_func c f = extends_by c (with_func c f) (has_more c (with_func c f) [] _ [] [] [] [] (nil c.resources) refl (nil c.defined) (nil c.interfaces) (nil c.worlds) (nil c.modules))
+pub extends_func : (c : Collection) → GrowthKeepsTrees c → (f : FuncType) → Extends c (with_func c f)
+extends_func c law f = extends_by c (with_func c f) (has_more c (with_func c f) [] _ [] [] [] [] (nil c.resources) refl (nil c.defined) (nil c.interfaces) (nil c.worlds) (nil c.modules)) (law.func f).0
 
-pub extends_defined : (c : Collection) (t : DefinedType) → Extends c (with_defined c t)
-extends_defined c t = extends_by c (with_defined c t) (has_more c (with_defined c t) [] [] _ [] [] [] (nil c.resources) (nil c.funcs) refl (nil c.interfaces) (nil c.worlds) (nil c.modules))
+pub extends_defined : (c : Collection) → GrowthKeepsTrees c → (t : DefinedType) → Extends c (with_defined c t)
+extends_defined c law t = extends_by c (with_defined c t) (has_more c (with_defined c t) [] [] _ [] [] [] (nil c.resources) (nil c.funcs) refl (nil c.interfaces) (nil c.worlds) (nil c.modules)) (law.defined t).0
 
-pub extends_interface : (c : Collection) (i : Interface) → Extends c (with_interface c i)
-extends_interface c i = extends_by c (with_interface c i) (has_more c (with_interface c i) [] [] [] _ [] [] (nil c.resources) (nil c.funcs) (nil c.defined) refl (nil c.worlds) (nil c.modules))
+pub extends_interface : (c : Collection) → GrowthKeepsTrees c → (i : Interface) → Extends c (with_interface c i)
+extends_interface c law i = extends_by c (with_interface c i) (has_more c (with_interface c i) [] [] [] _ [] [] (nil c.resources) (nil c.funcs) (nil c.defined) refl (nil c.worlds) (nil c.modules)) (law.interface i).0
 
-pub extends_world : (c : Collection) (w : World) → Extends c (with_world c w)
-extends_world c w = extends_by c (with_world c w) (has_more c (with_world c w) [] [] [] [] _ [] (nil c.resources) (nil c.funcs) (nil c.defined) (nil c.interfaces) refl (nil c.modules))
+pub extends_world : (c : Collection) → GrowthKeepsTrees c → (w : World) → Extends c (with_world c w)
+extends_world c law w = extends_by c (with_world c w) (has_more c (with_world c w) [] [] [] [] _ [] (nil c.resources) (nil c.funcs) (nil c.defined) (nil c.interfaces) refl (nil c.modules)) (law.world w).0
 
-pub extends_module : (c : Collection) (m : ModuleType) → Extends c (with_module c m)
-extends_module c m = extends_by c (with_module c m) (has_more c (with_module c m) [] [] [] [] [] _ (nil c.resources) (nil c.funcs) (nil c.defined) (nil c.interfaces) (nil c.worlds) refl)
+pub extends_module : (c : Collection) → GrowthKeepsTrees c → (m : ModuleType) → Extends c (with_module c m)
+extends_module c law m = extends_by c (with_module c m) (has_more c (with_module c m) [] [] [] [] [] _ (nil c.resources) (nil c.funcs) (nil c.defined) (nil c.interfaces) (nil c.worlds) refl) (law.module_type m).0
 
 -- what an adder leaves
 pub extends_result : {Id E : Type 0} (P : Id → Type 0) (result : Result Id E) (c d more : Collection) → Extends c more → IfOk result (λ id. P id × (d ≡ more)) → OnErr result (d ≡ c) → Extends c d

@@ -10,7 +10,7 @@ use Rattle.std.specs.declared.hash.FoldHasher.{FoldHasher}
 use Rattle.std.specs.declared.hash.BuildHasherDefault.{BuildHasherDefault}
 use Rattle.slab.specs.Slab.{Slab, get, Updates}
 use Rattle.wac_shapes.specs.Name.{Name, find_name}
-use Rattle.wac_collection.specs.Collection.{Collection, holds_type}
+use Rattle.wac_collection.specs.Collection.{Collection, holds_type, IsWellFormed}
 use Rattle.wac_shapes.specs.Kinds.{kind_type}
 use Rattle.wac_collection.specs.Package.{PackageParts, Key, same_key, HoldsPackage}
 use Rattle.wac_shapes.specs.declared.component.ItemKind.{ItemKind}
@@ -23,11 +23,14 @@ use Rattle.wac_graph.specs.declared.packages.Slot.{Slot}
 use Rattle.wac_graph.specs.declared.graph.CompositionGraph.TheInside.{Inside}
 use Rattle.wac_edges.specs.Edge.{edge_cmp, alias_edge, argument_edge}
 use Rattle.wac_graph.specs.Graph as graph
-use Rattle.wac_graph.specs.Graph.{GraphNode, node_at, package_at, package_in, exports_of}
+use Rattle.wac_graph.specs.Graph.{GraphNode, node_at, package_at, package_in, exports_of, IsAliasOf, IsRegistered}
+use Rattle.wac_graph.specs.Arguments.{CanBeGiven}
 use Rattle.wac_graph.specs.Sound.{IsSound}
 use Rattle.wac_graph.specs.Inside.{node_of, nodes_of, names_of, graph_of, Invariant, satisfied, satisfied_at, key_of}
 use Rattle.wac_graph.specs.Steps.{instance_node, import_node, alias_node}
-use Rattle.wac_graph.proofs.SoundLemmas.{by_eq, insert_same, insert_other, ImportIn, import_before, import_after, sound_import, Extends, sound_types, sound_slot, sound_node, sound_alias, sound_argument, sound_export, added_edge, kept_edge, new_edge, package_before, package_after}
+use Rattle.wac_graph.proofs.Added.{by_eq, insert_same, insert_other, ImportIn, import_before, import_after, added_edge, kept_edge, new_edge}
+use Rattle.wac_graph.proofs.JoinLemmas.{Extends}
+use Rattle.wac_graph.proofs.SoundLemmas.{sound_import, sound_types, sound_slot, sound_node, sound_alias, sound_argument, sound_export, package_before, package_after}
 use Rattle.wac_collection.specs.KeyLaws.{same_key-true, same_key_equiv}
 use Rattle.indexmap.specs.IndexMap.{insert_entry}
 use Rattle.wac_edges.proofs.WrittenOrder.{eqb_same, slice_get-middle}
@@ -55,12 +58,18 @@ pub invariant_empty : (a : Inside) → a.nodes.slots ≡ [] → a.edges ≡ set.
 invariant_empty a nodes edges imports exports keys slots = record {
   sound = record {
     ends = λ e stands. absurd (no_edge e stands);
-    exported = λ i name n at. absurd (no_entry (map_list (λ e. (string_bytes e.0, e.1)) a.exports.entries) i (name, n) (ap (map_list (λ e. (string_bytes e.0, e.1))) exports) at);
+    joins = λ e x y stands _ _. absurd (no_edge e stands);
+    exported = λ i name n at. absurd (no_export i name n at);
     held = λ n node there. absurd (no_node n node there);
     instances = λ n node there _. absurd (no_node n node there);
     aliases = λ n node there _. absurd (no_node n node there);
+    one_argument = λ n i x y p _. absurd (no_edge (argument_edge x.0 n.0 i) p);
+    one_alias = λ x i n m p _. absurd (no_edge (alias_edge x.0 n.0 i) p);
     one_source = λ n x y i j p q. absurd (no_edge (alias_edge x.0 n.0 i) p);
     one_import = λ name n x p _. absurd (no_import name n p);
+    one_definition = λ kind n x p _. absurd (no_definition kind n p);
+    one_export = λ name i j n m p _. absurd (no_export i name n p);
+    one_package = λ key id other (p, at, _) _. absurd (no_package a.slots.items id p slots at);
     packages = λ id p at. absurd (no_package a.slots.items id p slots at);
   };
   marked = λ source target position stands. absurd (no_edge (argument_edge source target position) stands);
@@ -81,6 +90,12 @@ invariant_empty a nodes edges imports exports keys slots = record {
   vacant : (n : NodeId) → map.get (nodes_of a.nodes.slots) n.0 ≡ None
   vacant n = get-nodes_of a.nodes.slots n.0 ∙ ap (λ (xs : List (Option Node)). option_map node_of (get_or xs n.0 None)) nodes
 
+  no_export : (i : ℕ) (name : Name) (n : NodeId) → slice_get {X = Name × NodeId} (map_list (λ e. (string_bytes e.0, e.1)) a.exports.entries) i ≡ Some (name, n) → ⊥
+  no_export i name n at = no_entry (map_list (λ e. (string_bytes e.0, e.1)) a.exports.entries) i (name, n) (ap (map_list (λ e. (string_bytes e.0, e.1))) exports) at
+
+  no_definition : (kind : ItemKind) (n : NodeId) → IsSomeAnd (map.get (nodes_of a.nodes.slots) n.0) (λ x. (x.kind ≡ graph.definition) × (x.item_kind ≡ kind)) → ⊥
+  no_definition kind n h = subst (λ o. IsSomeAnd o (λ x. (x.kind ≡ graph.definition) × (x.item_kind ≡ kind))) (vacant n) h
+
   no_import : (name : Name) (n : NodeId) → ImportIn (nodes_of a.nodes.slots) name n → ⊥
   no_import name n h = subst (λ o. IsSomeAnd o (λ x. x.kind ≡ graph.import name)) (vacant n) h
 
@@ -92,8 +107,8 @@ invariant_empty a nodes edges imports exports keys slots = record {
 
 module _ (a : Inside) (v : Invariant a) where
   -- types more
-  pub invariant_types : (c : Collection) → Extends a.types c → Invariant (record a { types = c })
-  invariant_types c more = record { sound = sound_types (graph_of a) v.sound c more; marked = v.marked; edged = v.edged; keyed = v.keyed; found = v.found; named = v.named; importing = v.importing }
+  pub invariant_types : (c : Collection) → IsWellFormed a.types → Extends a.types c → Invariant (record a { types = c })
+  invariant_types c well more = record { sound = sound_types (graph_of a) v.sound c well more; marked = v.marked; edged = v.edged; keyed = v.keyed; found = v.found; named = v.named; importing = v.importing }
 
   -- what was grown, or written again as it was
   pub invariant_same : (slots : Vec Slot Global) (names : HashMap Key PackageId (BuildHasherDefault FoldHasher)) → slots.items ≡ a.slots.items → names.entries ≡ a.package_map.entries → Invariant (record a { slots = slots; package_map = names })
@@ -211,10 +226,10 @@ module _ (a : Inside) (v : Invariant a) where
         }
 
     pub invariant_alias : (edges : set.FinSet edge_cmp) (instance : NodeId) (source : GraphNode) (position : ℕ) (name : Name) (kind : ItemKind) → node_of node ≡ alias_node source kind
-        → node_at (graph_of a) instance ≡ Some source → slice_get (exports_of (graph_of a) source) position ≡ Some (name, kind) → holds_type a.types (kind_type kind) ≡ true → edges ≡ set.insert a.edges (alias_edge instance.0 n position)
+        → node_at (graph_of a) instance ≡ Some source → slice_get (exports_of (graph_of a) source) position ≡ Some (name, kind) → holds_type a.types (kind_type kind) ≡ true → ((other : NodeId) → IsAliasOf (graph_of a) instance position other → ⊥) → edges ≡ set.insert a.edges (alias_edge instance.0 n position)
         → Invariant (record a { nodes = nodes; edges = edges })
-    invariant_alias edges instance source position name kind shape there exported held added =
-        let more = sound_alias (graph_of a) v.sound (record { 0 = n }) (alias_node source kind) nodes.vacant_key vacant_in_graph held instance source position name refl there exported in
+    invariant_alias edges instance source position name kind shape there exported held free added =
+        let more = sound_alias (graph_of a) v.sound (record { 0 = n }) (alias_node source kind) nodes.vacant_key vacant_in_graph held instance source position name refl refl there exported free in
         let shown : nodes_of nodes.slots ≡ map.insert (nodes_of a.nodes.slots) n (alias_node source kind) = nodes_of-insert a.nodes nodes n node u ∙ ap (map.insert (nodes_of a.nodes.slots) n) shape in
         record {
           sound = subst (λ ns. IsSound (record (graph_of a) { nodes = ns; next = nodes.vacant_key; edges = edges })) (sym shown)
@@ -233,11 +248,11 @@ module _ (a : Inside) (v : Invariant a) where
   -- the same nodes but for the satisfied positions, of which one is more, with its edge
   pub invariant_argument : (nodes : Slab Node) (edges : set.FinSet edge_cmp) (source target position : ℕ) → nodes.vacant_key ≡ a.nodes.vacant_key
       → ((q : ℕ) → option_map node_of (get nodes q) ≡ option_map node_of (get a.nodes q)) → ((q i : ℕ) → satisfied_at (get nodes q) i ≡ (satisfied_at (get a.nodes q) i || (q == target && i == position)))
-      → IsSome (get a.nodes source) → IsSome (get a.nodes target) → edges ≡ set.insert a.edges (argument_edge source target position)
+      → CanBeGiven (graph_of a) (record { 0 = target }) position (record { 0 = source }) → edges ≡ set.insert a.edges (argument_edge source target position)
       → Invariant (record a { nodes = nodes; edges = edges })
-  invariant_argument nodes edges source target position next same satisfied_now from to added =
+  invariant_argument nodes edges source target position next same satisfied_now can added =
       let shown : nodes_of nodes.slots ≡ nodes_of a.nodes.slots = nodes_of-same a.nodes.slots nodes.slots same in
-      let more = sound_argument (graph_of a) v.sound source target position (in_graph source from) (in_graph target to) in
+      let more = sound_argument (graph_of a) v.sound source target position can.given can.consumer can.there can.here can.joins can.unset in
       record {
         sound = subst (λ k. IsSound (record (graph_of a) { nodes = nodes_of nodes.slots; next = k; edges = edges })) (sym next)
             (subst (λ ns. IsSound (record (graph_of a) { nodes = ns; edges = edges })) (sym shown)
@@ -249,9 +264,6 @@ module _ (a : Inside) (v : Invariant a) where
         named = λ name n h. v.named name n (subst (λ ns. ImportIn ns name n) shown h);
         importing = λ name n at. subst (λ ns. ImportIn ns name n) (sym shown) (v.importing name n at);
       } where
-        in_graph : (q : ℕ) → IsSome (get a.nodes q) → IsSome (map.get (nodes_of a.nodes.slots) q)
-        in_graph q h = ap is_some (get-nodes_of a.nodes.slots q) ∙ is_some-node_of (get a.nodes q) ∙ h
-
         or_yes : (b : Bool) → (b || true) ≡ true
         or_yes true = refl
         or_yes false = refl
@@ -275,11 +287,11 @@ module _ (a : Inside) (v : Invariant a) where
 
   -- a node is exported by a further name
   pub invariant_export : (nodes : Slab Node) (exports : List (Name × NodeId)) (id : NodeId) (before after : Node) (name : Name) → get a.nodes id.0 ≡ Some before → Updates a.nodes nodes id.0 (Some after) → node_of after ≡ record (node_of before) { export_name = Some name } → after.kind ≡ before.kind
-      → nodes.vacant_key ≡ a.nodes.vacant_key → exports ≡ (graph_of a).exports ++ (name, id) ∷ [] → (names : HashMap (String Global) NodeId (BuildHasherDefault FoldHasher)) → map_list (λ e. (string_bytes e.0, e.1)) names.entries ≡ exports
+      → nodes.vacant_key ≡ a.nodes.vacant_key → find_name (names_of a.exports.entries) name ≡ None → exports ≡ (graph_of a).exports ++ (name, id) ∷ [] → (names : HashMap (String Global) NodeId (BuildHasherDefault FoldHasher)) → map_list (λ e. (string_bytes e.0, e.1)) names.entries ≡ exports
       → Invariant (record a { nodes = nodes; exports = names })
-  invariant_export nodes exports id before after name had u shape kept next added names listed =
+  invariant_export nodes exports id before after name had u shape kept next absent added names listed =
       let there : node_at (graph_of a) id ≡ Some (node_of before) = get-nodes_of a.nodes.slots id.0 ∙ ap (option_map node_of) had in
-      let more = sound_export (graph_of a) v.sound id (node_of before) name there in
+      let more = sound_export (graph_of a) v.sound id (node_of before) name there absent in
       let shown : nodes_of nodes.slots ≡ map.insert (nodes_of a.nodes.slots) id.0 (record (node_of before) { export_name = Some name }) = nodes_of-insert a.nodes nodes id.0 after u ∙ ap (map.insert (nodes_of a.nodes.slots) id.0) shape in
       record {
         sound = subst (λ es. IsSound (record (graph_of a) { nodes = nodes_of nodes.slots; next = nodes.vacant_key; exports = es })) (sym (listed ∙ added))
@@ -323,7 +335,7 @@ module _ (a : Inside) (v : Invariant a) where
       → slots.items ≡ a.slots.items ++ record { generation = 0; «package» = Some p } ∷ [] → id ≡ record { slot = length a.slots.items; generation = 0 } → HoldsPackage a.types p
       → Invariant (record a { package_map = names; slots = slots })
   invariant_register p key id slots names is absent added grown new holds =
-      let more = sound_slot (graph_of a) v.sound (record { generation = 0; «package» = Some p }) (λ other q at. subst (λ x. HoldsPackage a.types x) (only other q at) holds) in
+      let more = sound_slot (graph_of a) v.sound (record { generation = 0; «package» = Some p }) (λ other q at. (subst (λ x. HoldsPackage a.types x) (only other q at) holds, λ id r. free id (subst (λ x. IsRegistered (graph_of a) (key_of x) id) (sym (only other q at)) r))) in
       record {
         sound = subst (λ xs. IsSound (record (graph_of a) { slots = xs })) (sym grown) more;
         marked = v.marked;
@@ -333,6 +345,12 @@ module _ (a : Inside) (v : Invariant a) where
         importing = v.importing;
         found = λ k other at. found k other (same_key k key) refl (sym (look-insert k key id a.package_map.entries absent) ∙ ap (lookup (same_key k)) (sym added) ∙ at);
       } where
+        none_some : (o : Option PackageId) (x : PackageId) → o ≡ None → o ≡ Some x → ⊥
+        none_some o x p q = cc
+
+        free : (other : PackageId) → IsRegistered (graph_of a) (key_of p) other → ⊥
+        free other (q, there, same) = none_some (lookup (same_key key) a.package_map.entries) other absent (ap (λ (k : Key). lookup (same_key k) a.package_map.entries) (is ∙ sym same) ∙ v.keyed other q there)
+
         only_generation : (b : Bool) (q : PackageParts) → cond b (Some p) None ≡ Some q → (b ≡ true) × (p ≡ q)
         only_generation true q at = (refl, cc)
         only_generation false q at = cc
@@ -344,9 +362,7 @@ module _ (a : Inside) (v : Invariant a) where
         keyed other q (inl was) = split (same_key (key_of q) key) refl where
           split : (b : Bool) → same_key (key_of q) key ≡ b → cond b (Some id) (lookup (same_key (key_of q)) a.package_map.entries) ≡ Some other
           split false _ = v.keyed other q was
-          split true same = absurd (none_some (lookup (same_key key) a.package_map.entries) absent (ap (λ (k : Key). lookup (same_key k) a.package_map.entries) (sym (same_key-true (key_of q) key same)) ∙ v.keyed other q was)) where
-            none_some : (o : Option PackageId) → o ≡ None → o ≡ Some other → ⊥
-            none_some o x y = cc
+          split true same = absurd (none_some (lookup (same_key key) a.package_map.entries) other absent (ap (λ (k : Key). lookup (same_key k) a.package_map.entries) (sym (same_key-true (key_of q) key same)) ∙ v.keyed other q was))
         keyed other q (inr (at_slot, now)) =
             let (of_first, same) = only_generation (0 == other.generation) q now in
             let generation : 0 ≡ other.generation = eqb-true 0 other.generation of_first in

@@ -1,12 +1,17 @@
 pub mod MeaningLemmas
+pub mod MeantLemmas
 pub mod ThingLemmas
 pub mod WrittenLemmas
 pub mod EncodeLemmas
+pub mod Added
+pub mod JoinLemmas
 pub mod SoundLemmas
+pub mod PartLemmas
 pub mod NodeLemmas
 pub mod InvariantLemmas
 pub mod ExtendsLemmas
 pub mod StepLemmas
+pub mod StaysLemmas
 pub mod AliasLemmas
 pub mod HeldLemmas
 pub mod ExternNameLemmas
@@ -16,6 +21,7 @@ pub mod SatisfyLemmas
 pub mod ArgumentLemmas
 pub mod EncodingLemmas
 pub mod MeansLemmas
+pub mod StandsLemmas
 pub mod CauseLemmas
 pub mod ConflictLemmas
 pub mod WriteAliasLemmas

@@ -20,13 +20,15 @@ use Rattle.wac_graph.specs.Inside.{graph_of, Invariant}
 use Rattle.wac_graph.specs.Sound.{IsSound}
 use Rattle.wac_edges.specs.Order.{Writes, IsOnCycle, IsAcyclic, IsLowestOnCycle}
 use Rattle.wac_graph.specs.Means.{node_number, is_there, is_written, is_import, IsThing, sort_of_kind, export_item_of, Means}
-use Rattle.wac_graph.specs.Encoding.{Adds, Progress, WroteAll, index_in}
+use Rattle.wac_graph.specs.Encoding.{WritesNode, Progress, WroteAll, index_in}
 use Rattle.wac_graph.specs.NotYet.{AllWritable, IsNotYet, unset, defined, imported, undefined_components, processed}
 use Rattle.wac_edges.proofs.WrittenOrder.{has, written_left, minus-push, minus-true, split_writes, slice_get-middle}
 use Rattle.wac_graph.proofs.ThingLemmas.{IsPlain, is_written-node, node_of_written, all_things}
 use Rattle.wac_graph.proofs.EncodingLemmas.{node_is, none_past, by_lt}
 use Rattle.wac_edges.proofs.ReachLemmas.{ordered_acyclic}
-use Rattle.wac_graph.proofs.WrittenLemmas.{Counted, Earlier}
+use Rattle.std.proofs.lemmas.Option.{slice_get_within}
+use Rattle.wac_graph.proofs.MeantLemmas.{IsAmong}
+use Rattle.wac_graph.proofs.WrittenLemmas.{Counted, Earlier, slice_get-prefix}
 use Rattle.wac_graph.proofs.EncodeLemmas.{AllSet, Done, adds_more, nothing_done, Exported, no_exports, export_more, means}
 
 pub plain : (g : Graph) → AllWritable g → IsPlain g
@@ -53,6 +55,15 @@ length_kept xs n i = length-set xs n i
 abbrev pub HasRoom : Graph → List ℕ → Type 0
 HasRoom g indexes = (n : ℕ) → IsSome (node_at g (node_number n)) → n < length indexes
 
+-- an export's name is none of those before it
+new_export : (g : Graph) → IsSound g → (es : List (Name × NodeId)) (x : Name × NodeId) (rest : List (Name × NodeId)) → g.exports ≡ es ++ x ∷ rest → IsAmong es x.0 → ⊥
+new_export g sound es x rest here (i, n, at) =
+    let first : slice_get g.exports i ≡ Some (x.0, n) = ap (λ xs. slice_get xs i) here ∙ slice_get-prefix es (x ∷ rest) i (x.0, n) at in
+    let last : slice_get g.exports (length es) ≡ Some (x.0, x.1) = ap (λ xs. slice_get xs (length es)) here ∙ slice_get-middle es x rest in
+    let same : i ≡ length es = sound.one_export x.0 i (length es) n x.1 first last in
+    let within : i < length es = slice_get_within es i (x.0, n) at in
+    omega (arith, same, within)
+
 module _ (counted : Counted) (earlier : Earlier) (g : Graph) (sound : IsSound g) (all : AllWritable g) (order : List ℕ) (writes : Writes g.edges (is_written g) order) where
   module _ (at : ℕ → Thing) (is_thing : (n : ℕ) (node : GraphNode) → node_at g (node_number n) ≡ Some node → IsThing g at order n node) where
     abbrev IsDone : List ℕ → Progress → Type 0
@@ -63,7 +74,7 @@ module _ (counted : Counted) (earlier : Earlier) (g : Graph) (sound : IsSound g)
     all_done (n ∷ rest) done p q here room (mid, wrote, later) d =
         let (ready, further) = split_writes g.edges (is_written g) done (n ∷ rest) (subst (λ xs. Writes g.edges (is_written g) xs) here writes) in
         let (node, there) = node_of_written g sound (plain g all) n (minus-true (is_written g) done n ready.here).0 in
-        let (i, adds, now) = subst (λ o. IfSome o (λ x. (i : ℕ) × Adds g n x (index_in p.indexes) p.components mid.components p.items mid.items i × (mid.indexes ≡ slice_set p.indexes n i))) there wrote in
+        let (i, adds, now) = subst (λ o. IfSome o (λ x. (i : ℕ) × WritesNode g n x (index_in p.indexes) p.components mid.components p.items mid.items i × (mid.indexes ≡ slice_set p.indexes n i))) there wrote in
         let small : n < length p.indexes = room n (ap is_some there) in
         all_done rest (done ++ n ∷ []) mid q (here ∙ sym (append_assoc done (n ∷ []) rest)) (subst (λ xs. HasRoom g xs) (sym now) (λ m is. omega (arith, room m is, length_kept p.indexes n i))) later
         (adds_more counted earlier g sound (plain g all) order at is_thing done rest n node here ready (subst (λ l. Writes g.edges l rest) (sym (minus-push (is_written g) done n)) further) there
@@ -81,7 +92,7 @@ module _ (counted : Counted) (earlier : Earlier) (g : Graph) (sound : IsSound g)
     all_exported base index place (x ∷ rest) es items here e =
         let (node, there) = the_node (node_at g x.1) (sound.exported (length es) x.0 x.1 (ap (λ xs. slice_get xs (length es)) here ∙ slice_get-middle es x rest)) in
         let one : export_item_of g index x ≡ export_item x.0 (sort_of_kind node.item_kind) (index (x.1).0) ∷ [] = ap (λ z. option_case z [] (λ z'. export_item x.0 (sort_of_kind z'.item_kind) (index (x.1).0) ∷ [])) there in
-        let next = export_more counted earlier g sound (plain g all) order at is_thing base es items index place x.0 x.1 node there e in
+        let next = export_more counted earlier g sound (plain g all) order at is_thing base es items index place x.0 x.1 node there (new_export g sound es x rest here) e in
         subst (λ ys. IsExported base g.exports ys index place)
         (append_assoc items (export_item x.0 (sort_of_kind node.item_kind) (index (x.1).0) ∷ []) (flat_map (export_item_of g index) rest) ∙ ap (λ ys. items ++ (ys ++ flat_map (export_item_of g index) rest)) (sym one))
         (all_exported base index place rest (es ++ x ∷ []) (items ++ export_item x.0 (sort_of_kind node.item_kind) (index (x.1).0) ∷ []) (here ∙ sym (append_assoc es (x ∷ []) rest)) next)

@@ -30,6 +30,7 @@ use Rattle.wac_graph.specs.Means.{node_number}
 use Rattle.wac_edges.specs.Order.{IsAcyclic}
 use Rattle.wac_graph.specs.Search.{IsRefused}
 use Rattle.wac_graph.proofs.AskedHeld.{asking_nodes}
+use Rattle.wac_graph.proofs.StandsLemmas.{stands_implicit, stands_explicit, stands_circle}
 
 -- what holds of all holds of the one at a position
 pub all_index : {A B : Type 0} (P : B → Type 0) (f : A → B) (xs : List A) (i : ℕ) (d : A) → i < length xs → AllByRecursion P (map f xs) → P (f (get_or xs i d))
@@ -109,20 +110,7 @@ module _ (g : Graph) (o : EncodeOptions) (acyclic : IsAcyclic g.edges) (apart : 
         inr (
           explicit_merge (string_bytes import) (node_number b.node) (node_number a.node),
           refl,
-          (
-            acyclic,
-            apart,
-            record {
-              first = p;
-              second = q;
-              export = text;
-              conflict = conflict_there;
-              asked = asks;
-              name = name;
-              by_node = refl;
-              by_other = refl;
-            },
-          ),
+          stands_explicit g o (string_bytes import) (node_number b.node) (node_number a.node) acyclic apart (record { first = p; second = q; export = text; conflict = conflict_there; asked = asks; name = name; by_node = refl; by_other = refl }),
         )
 
   pub implicit_refused : (p q : ℕ) (export : String Global) (d : Disagrees by_names g.types (to_merge (asked_entries g)) p q (string_bytes export)) (a b : Entry) → slice_get (asked_entries g) p ≡ Some a → slice_get (asked_entries g) q ≡ Some b
@@ -133,17 +121,8 @@ module _ (g : Graph) (o : EncodeOptions) (acyclic : IsAcyclic g.edges) (apart : 
       inr (
         implicit_merge (string_bytes import) (node_number a.node) (node_number b.node) p q (string_bytes export),
         refl,
-        (
-          acyclic,
-          apart,
-          record {
-            conflict = conflict_there p q (string_bytes export) d a b at_a at_b;
-            asked = asks;
-            name = name;
-            by_first = refl;
-            by_second = refl;
-          },
-        ),
+        stands_implicit g o (string_bytes import) (node_number a.node) (node_number b.node) p q (string_bytes export) acyclic apart
+            (record { conflict = conflict_there p q (string_bytes export) d a b at_a at_b; asked = asks; name = name; by_first = refl; by_second = refl }),
       )
 
   -- a fault that names a circle
@@ -152,7 +131,7 @@ module _ (g : Graph) (o : EncodeOptions) (acyclic : IsAcyclic g.edges) (apart : 
   circle_refused import (inr (disagree p q x, names, has)) = cc
   circle_refused import (inr (use_each_other name, names, has)) =
       let same : string_bytes import ≡ name = cc in
-      inr (import_circle (string_bytes import), refl, (acyclic, apart, record { agree = has.0; circle = subst (λ n. UseEachOther by_names g.types (to_merge (asked_entries g)) n) (sym same) has.1 }))
+      inr (import_circle (string_bytes import), refl, stands_circle g o (string_bytes import) acyclic apart has.0 (subst (λ n. UseEachOther by_names g.types (to_merge (asked_entries g)) n) (sym same) has.1))
 
 -- a fault that names a disagreement
 pub pair_there : (g : Graph) (p q : ℕ) (export : String Global) → IsFault g.types (to_merge (asked_entries g)) (fault.Disagree p q export) → Disagrees by_names g.types (to_merge (asked_entries g)) p q (string_bytes export)

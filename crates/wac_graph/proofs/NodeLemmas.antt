@@ -15,7 +15,7 @@ use Rattle.slab.specs.Slab.{Slab, entries_from, get, Updates}
 use Rattle.wac_graph.specs.declared.node.Node.{Node}
 use Rattle.wac_shapes.specs.Name.{Name, same_name, find_name}
 use Rattle.wac_graph.specs.Inside.{nodes_of, node_of}
-use Rattle.wac_graph.proofs.SoundLemmas.{by_eq}
+use Rattle.wac_graph.proofs.Added.{by_eq}
 
 module _ {X Y : Type 0} (f : X → Y) where
   abbrev listed : ℕ → List (Option X) → List (ℕ × Y)

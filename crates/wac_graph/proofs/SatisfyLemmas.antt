@@ -3,7 +3,7 @@ use Rattle.std.proofs.Common.{◌≡◌, ℕ, ap, ◌∙◌, sym, Option, Some, 
 use Rattle.slab.specs.Slab.{Slab, get, with_value}
 use Rattle.slab.proofs.SlabLemmas.{Updates-with_value}
 use Rattle.wac_graph.specs.declared.node.Node.{Node}
-use Rattle.wac_graph.proofs.SoundLemmas.{by_eq}
+use Rattle.wac_graph.proofs.Added.{by_eq}
 
 -- what a write to one node keeps
 pub kept_at : {A : Type 0} (f : Option Node → A) (old : Slab Node) (number : ℕ) (n m : Node) → get old number ≡ Some n → f (Some m) ≡ f (Some n) → (q : ℕ) → f (get (with_value old number m) q) ≡ f (get old q)

@@ -25,7 +25,7 @@ use Rattle.wac_graph.specs.Graph as graph
 use Rattle.wac_graph.specs.Graph.{Graph, GraphNode, node_at, exports_of}
 use Rattle.wac_graph.specs.Inside.{node_of, kind_of, graph_of, Invariant}
 use Rattle.wac_graph.specs.Means.{node_number, sort_of_kind, export_item_of}
-use Rattle.wac_graph.specs.Encoding.{Adds, adds_alias}
+use Rattle.wac_graph.specs.Encoding.{WritesNode, writes_alias}
 use Rattle.wac_graph.proofs.NodeLemmas.{there, text_pair}
 use Rattle.wac_graph.proofs.EncodingLemmas.{node_is, some_node, if_node}
 use Rattle.wac_graph.proofs.AliasLemmas.{exports_are}
@@ -143,15 +143,15 @@ module _ (a : Inside) (v : Invariant a) (n : ℕ) (h : IsSomeAnd (node_at (graph
           → (t : Sort) → t ≡ sort_of_kind m.item_kind → (f : ℕ → ℕ) (index : ℕ) → index ≡ f source
           → (components components' : List (PackageId × ℕ)) → components' ≡ components
           → (items items' : List Item) → items' ≡ items ++ alias_item (export_alias t index text) ∷ [] → (place : ℕ) → place ≡ indexes (space t) items
-          → IfSome (node_at (graph_of a) (node_number n)) (λ x. Adds (graph_of a) n x f components components' items items' place)
+          → IfSome (node_at (graph_of a) (node_number n)) (λ x. WritesNode (graph_of a) n x f components components' items items' place)
       alias_added m at text named t sorted f index placed components components' kept items items' added place counted =
           let (other, found, kind) = some_node a n (λ x. x.kind ≡ graph.alias) h in
           let k : other ≡ m = one (sym found ∙ at) in
           let (name, here) = exported_at m at in
           let same_name : name ≡ text = text_is (sym (ap (option_map (λ e. e.0)) here) ∙ named) in
           let first : exports_of (graph_of a) (node_of s) ≡ it.exports = exports_are a s i it is held in
-          if_node a n m (λ x. Adds (graph_of a) n x f components components' items items' place) at
-          (adds_alias (node_number source) (node_of s) position text
+          if_node a n m (λ x. WritesNode (graph_of a) n x f components components' items items' place) at
+          (writes_alias (node_number source) (node_of s) position text
           (ap (λ x. kind_of x.kind) (sym k) ∙ kind) stands (node_is a source (Some s) had)
           (ap (λ es. slice_get es position) first ∙ here ∙ ap (λ (x : Name). Some (x, m.item_kind)) same_name)
           kept

@@ -29,7 +29,7 @@ use Rattle.wac_graph.specs.Graph as graph
 use Rattle.wac_graph.specs.Graph.{Graph, GraphNode, node_at, imports_of, package_in}
 use Rattle.wac_graph.specs.Inside.{node_of, kind_of, graph_of, Invariant}
 use Rattle.wac_graph.specs.Means.{node_number, sort_of_kind, package_bytes}
-use Rattle.wac_graph.specs.Encoding.{IsArgumentItem, AreArgumentItems, index_in, HasComponent, Adds, adds_instantiation, Progress, Wrote, WroteAll}
+use Rattle.wac_graph.specs.Encoding.{IsArgumentItem, AreArgumentItems, index_in, HasComponent, WritesNode, writes_instantiation, Progress, Wrote, WroteAll}
 use Rattle.wac_graph.specs.EncoderView.{progress}
 use Rattle.wac_graph.specs.NotYet.{IsWritable}
 use Rattle.wac_graph.proofs.NodeLemmas.{there}
@@ -113,33 +113,33 @@ pub added_instantiation : (a : Inside) (g : Graph) → graph_of a ≡ g → (n :
     → get a.nodes n ≡ Some node → IsSomeAnd (node_at g (node_number n)) (λ x. x.kind ≡ graph.instantiation) → node.«package» ≡ Some id → Some p ≡ package_in (slice_get a.slots.items id.slot) id → bytes ≡ p.bytes → read ≡ places → given ≡ args
     → IfSome (node_at g (node_number n)) (λ x. AreArgumentItems g (index_in read) n 0 (imports_of g x) (arguments_of args))
     → HasComponent bytes id c components components' items mid → items' ≡ mid ++ instantiate c (arguments_of given) ∷ [] → i ≡ indexes (space sort.Instance) mid
-    → IfSome (node_at g (node_number n)) (λ x. Adds g n x (index_in places) components components' items items' i)
+    → IfSome (node_at g (node_number n)) (λ x. WritesNode g n x (index_in places) components components' items items' i)
 added_instantiation a g e n node id p bytes places read args given c components components' items mid items' i had one owned there content placed same are has grown counted =
-    subst (λ h. IsSomeAnd (node_at h (node_number n)) (λ x. x.kind ≡ graph.instantiation) → IfSome (node_at h (node_number n)) (λ x. AreArgumentItems h (index_in read) n 0 (imports_of h x) (arguments_of args)) → IfSome (node_at h (node_number n)) (λ x. Adds h n x (index_in places) components components' items items' i)) e inner one are where
+    subst (λ h. IsSomeAnd (node_at h (node_number n)) (λ x. x.kind ≡ graph.instantiation) → IfSome (node_at h (node_number n)) (λ x. AreArgumentItems h (index_in read) n 0 (imports_of h x) (arguments_of args)) → IfSome (node_at h (node_number n)) (λ x. WritesNode h n x (index_in places) components components' items items' i)) e inner one are where
       at : node_at (graph_of a) (node_number n) ≡ Some (node_of node)
       at = node_is a n (Some node) had
 
       its : HasComponent (package_bytes (graph_of a) id) id c components components' items mid
       its = subst (λ b. HasComponent b id c components components' items mid) (content ∙ ap (λ (o : Option PackageParts). option_case o [] (λ it. it.bytes)) there) has
 
-      inner : IsSomeAnd (node_at (graph_of a) (node_number n)) (λ x. x.kind ≡ graph.instantiation) → IfSome (node_at (graph_of a) (node_number n)) (λ x. AreArgumentItems (graph_of a) (index_in read) n 0 (imports_of (graph_of a) x) (arguments_of args)) → IfSome (node_at (graph_of a) (node_number n)) (λ x. Adds (graph_of a) n x (index_in places) components components' items items' i)
+      inner : IsSomeAnd (node_at (graph_of a) (node_number n)) (λ x. x.kind ≡ graph.instantiation) → IfSome (node_at (graph_of a) (node_number n)) (λ x. AreArgumentItems (graph_of a) (index_in read) n 0 (imports_of (graph_of a) x) (arguments_of args)) → IfSome (node_at (graph_of a) (node_number n)) (λ x. WritesNode (graph_of a) n x (index_in places) components components' items items' i)
       inner one_ are_ =
           let set : AreArgumentItems (graph_of a) (index_in read) n 0 (imports_of (graph_of a) (node_of node)) (arguments_of args) = subst (λ o. IfSome o (λ x. AreArgumentItems (graph_of a) (index_in read) n 0 (imports_of (graph_of a) x) (arguments_of args))) at are_ in
           let here : AreArgumentItems (graph_of a) (index_in places) n 0 (imports_of (graph_of a) (node_of node)) (arguments_of args) = subst (λ r. AreArgumentItems (graph_of a) (index_in r) n 0 (imports_of (graph_of a) (node_of node)) (arguments_of args)) placed set in
           let last : items' ≡ mid ++ instantiate c (arguments_of args) ∷ [] = grown ∙ ap (λ xs. mid ++ instantiate c (arguments_of xs) ∷ []) same in
-          subst (λ o. IfSome o (λ x. Adds (graph_of a) n x (index_in places) components components' items items' i)) (sym at)
-          (adds_instantiation id c mid (arguments_of args) (of_node a n node (λ x. x.kind ≡ graph.instantiation) one_ had) owned its here last counted)
+          subst (λ o. IfSome o (λ x. WritesNode (graph_of a) n x (index_in places) components components' items items' i)) (sym at)
+          (writes_instantiation id c mid (arguments_of args) (of_node a n node (λ x. x.kind ≡ graph.instantiation) one_ had) owned its here last counted)
 
 -- a node's index is noted
-pub noted : (g : Graph) (n : ℕ) (old new last : Encoder) (i k : ℕ) → last ≡ new → k ≡ i → IfSome (node_at g (node_number n)) (λ x. Adds g n x (index_in old.indexes.items) old.components.items new.components.items old.builder new.builder i) → new.indexes ≡ old.indexes
+pub noted : (g : Graph) (n : ℕ) (old new last : Encoder) (i k : ℕ) → last ≡ new → k ≡ i → IfSome (node_at g (node_number n)) (λ x. WritesNode g n x (index_in old.indexes.items) old.components.items new.components.items old.builder new.builder i) → new.indexes ≡ old.indexes
     → Wrote g n (progress old) (record { items = last.builder; components = last.components.items; indexes = slice_set last.indexes.items n k })
 noted g n old new last i k same placed added kept = by_node (node_at g (node_number n)) added where
-  by_node : (o : Option GraphNode) → IfSome o (λ x. Adds g n x (index_in old.indexes.items) old.components.items new.components.items old.builder new.builder i)
-      → IfSome o (λ x. (j : ℕ) × Adds g n x (index_in old.indexes.items) old.components.items last.components.items old.builder last.builder j × (slice_set last.indexes.items n k ≡ slice_set old.indexes.items n j))
+  by_node : (o : Option GraphNode) → IfSome o (λ x. WritesNode g n x (index_in old.indexes.items) old.components.items new.components.items old.builder new.builder i)
+      → IfSome o (λ x. (j : ℕ) × WritesNode g n x (index_in old.indexes.items) old.components.items last.components.items old.builder last.builder j × (slice_set last.indexes.items n k ≡ slice_set old.indexes.items n j))
   by_node None h = tt
   by_node (Some x) h = (
     i,
-    subst (λ (e : Encoder). Adds g n x (index_in old.indexes.items) old.components.items e.components.items old.builder e.builder i) (sym same) h,
+    subst (λ (e : Encoder). WritesNode g n x (index_in old.indexes.items) old.components.items e.components.items old.builder e.builder i) (sym same) h,
     ap (λ (e : Encoder). slice_set e.indexes.items n k) same ∙ ap (λ v. slice_set v.items n k) kept ∙ ap (λ j. slice_set old.indexes.items n j) placed,
   )
 

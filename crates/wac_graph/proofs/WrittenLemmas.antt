@@ -1,6 +1,6 @@
 -- What is written of a graph after some of its nodes.
 use Rattle.std.proofs.Common.{◌≡◌, ℕ, zero, suc, ◌<◌, Bool, true, false, not, ◌||◌, cond, List, [], ◌∷◌, ◌++◌, length, map, refl, ap, ◌∙◌, sym, subst, arith, append_assoc, eqb, Option, Some, None, ◌⊎◌, inl, inr}
-use Rattle.std.specs.List.{list_any, filter}
+use Rattle.std.specs.List.{AllByRecursion, list_any, filter}
 use Rattle.std.specs.Prelude.{slice_get}
 use Rattle.std.specs.FinSet as set
 use Rattle.std.proofs.lemmas.List.{append-nil, length-append, map-append, length-map}
@@ -14,6 +14,7 @@ use Rattle.wac_binary.specs.declared.sorts.Sort.TheVariants as sort
 use Rattle.wac_binary.specs.Items.{Item, nested, instantiate, alias_item, export_alias}
 use Rattle.wac_binary.specs.Indexes.{space, indexes, is_in, adds, sort_added}
 use Rattle.wac_binary.specs.Meaning.{Thing, instance_at, component_at, projection, projected, Instantiation, things, stands_for, meaning}
+use Rattle.wac_binary.specs.HasMeaning.{HasMeaning, IsSomething}
 use Rattle.wac_edges.specs.declared.edges.Edge.{Edge}
 use Rattle.wac_graph.specs.declared.node.NodeId.{NodeId}
 use Rattle.wac_graph.specs.declared.packages.PackageId.{PackageId}
@@ -26,6 +27,7 @@ use Rattle.wac_graph.specs.Means.{node_number, node_is, is_import, is_instantiat
 use Rattle.wac_graph.specs.Encoding.{HasComponent, IsArgumentItem, AreArgumentItems}
 use Rattle.wac_edges.proofs.WrittenOrder.{has, minus, minus-true, eqb_same, apart, in_push, now_in, slice_get-middle, written_left, only_place, has-filter}
 use Rattle.wac_graph.proofs.ThingLemmas.{IsPlain, ready_sources}
+use Rattle.wac_graph.proofs.MeantLemmas.{meant-push, AreUnknown, unknown-nested, unknown-instance, unknown-alias, alias_meant, something}
 use Rattle.wac_graph.proofs.MeaningLemmas.{alias_stands, alias_rest, nested_bytes_more, nested_stands, instantiations_more, instance_stands, made_of, indexes-push}
 
 -- how the laws of items are passed
@@ -120,6 +122,8 @@ module _ (counted : Counted) (earlier : Earlier) (g : Graph) (sound : IsSound g)
   -- these items and indexes say what the nodes written so far stand for; `used` are the packages whose components are written
   pub record Written (done : List ℕ) (used : List PackageId) (items : List Item) (components : List (PackageId × ℕ)) (index : ℕ → ℕ) : Type 0 where
     pub nodes : (n : ℕ) → has done n ≡ true → is_written g n ≡ true
+    pub meant : HasMeaning items
+    pub unknown : AreUnknown items
     pub imports : (meaning items).imports ≡ []
     pub customs : (meaning items).customs ≡ []
     pub exports : (meaning items).exports ≡ []
@@ -155,6 +159,8 @@ module _ (counted : Counted) (earlier : Earlier) (g : Graph) (sound : IsSound g)
         let many : length (meaning items).nested_bytes ≡ length components = ap length w.bytes ∙ length-map used (package_bytes g) ∙ ap length (sym w.packages) ∙ length-map components (λ e. e.0) in
         record {
           nodes = w.nodes;
+          meant = meant-push items (nested (package_bytes g id)) w.meant tt;
+          unknown = unknown-nested items w.unknown (package_bytes g id);
           imports = ap (λ r. r.imports) more ∙ w.imports;
           customs = ap (λ r. r.customs) more ∙ w.customs;
           exports = ap (λ r. r.exports) more ∙ w.exports;
@@ -308,6 +314,8 @@ module _ (counted : Counted) (earlier : Earlier) (g : Graph) (sound : IsSound g)
         let (place, own, in_place) = placed used items components w x (ap (λ q. is_own_item q x) kind) refl counts in
         record {
           nodes = λ m within. nodes m (in_push done n m within);
+          meant = meant-push items x w.meant (alias_meant items w.unknown t (index instance.0) name (subst IsSomething (sym of_instance) (something g at order instance.0 source (is_thing instance.0 source source_there))));
+          unknown = unknown-alias items w.unknown t (index instance.0) name;
           imports = ap (λ r. r.imports) more ∙ w.imports;
           customs = ap (λ r. r.customs) more ∙ w.customs;
           exports = ap (λ r. r.exports) more ∙ w.exports;
@@ -359,12 +367,16 @@ module _ (counted : Counted) (earlier : Earlier) (g : Graph) (sound : IsSound g)
               let names : name ≡ other_name = first_of (slice_get (exports_of g source) k) name other_name node.item_kind node.item_kind exported (ap (λ z. slice_get (exports_of g z) k) sources ∙ ap (slice_get (exports_of g other_source)) at_same ∙ other_exported) in
               is ∙ ap (λ z. projection (at z.0) other_name) (sym same) ∙ ap (projection (at instance.0)) (sym names)
 
+          -- the instance is written
+          of_instance : stands_for (meaning items) sort.Instance (index instance.0) ≡ at instance.0
+          of_instance =
+              let s = w.stand instance.0 source (source_done (alias_edge instance.0 n k) aliased refl) source_there in
+              ap (λ q. stands_for (meaning items) q (index instance.0)) (sym (instance_sort source.item_kind source refl exported)) ∙ s.1
+
           here_stands : (indexes (space (sort_of_kind node.item_kind)) items < indexes (space (sort_of_kind node.item_kind)) (items ++ alias_item (export_alias (sort_of_kind node.item_kind) (index instance.0) name) ∷ []))
               × (stands_for (meaning (items ++ alias_item (export_alias (sort_of_kind node.item_kind) (index instance.0) name) ∷ [])) (sort_of_kind node.item_kind) (indexes (space (sort_of_kind node.item_kind)) items) ≡ at n)
           here_stands =
-              let t : Sort = sort_of_kind node.item_kind in
-              let s = w.stand instance.0 source (source_done (alias_edge instance.0 n k) aliased refl) source_there in
-              let of_instance : stands_for (meaning items) sort.Instance (index instance.0) ≡ at instance.0 = ap (λ q. stands_for (meaning items) q (index instance.0)) (sym (instance_sort source.item_kind source refl exported)) ∙ s.1 in (
+              let t : Sort = sort_of_kind node.item_kind in (
                 counted_up t items (alias_item (export_alias t (index instance.0) name)) refl,
                 alias_stands items t (index instance.0) name (indexes (space t) items) (sym (counted items t))
                     ∙ ap (λ z. projected z name) of_instance
@@ -392,6 +404,8 @@ module _ (counted : Counted) (earlier : Earlier) (g : Graph) (sound : IsSound g)
         let (place, own, in_place) = placed used items components w x (ap (λ q. is_own_item q x) kind) (ap Some (sym typed)) (counts ∙ ap (λ t. indexes (space t) items) (sym typed)) in
         record {
           nodes = λ m within. nodes m (in_push done n m within);
+          meant = meant-push items x w.meant (subst IsSomething (sym stands) tt, arguments_meant 0 (imports_of g node) arguments given_items);
+          unknown = unknown-instance items w.unknown c arguments;
           imports = ap (λ r. r.imports) more ∙ w.imports;
           customs = ap (λ r. r.customs) more ∙ w.customs;
           exports = ap (λ r. r.exports) more ∙ w.exports;
@@ -427,11 +441,22 @@ module _ (counted : Counted) (earlier : Earlier) (g : Graph) (sound : IsSound g)
           are_many (m ∷ ns) [] h = absurd h
           are_many (m ∷ ns) (y ∷ its) h = ap suc (are_many ns its h.1)
 
-          argument_thing : (j : ℕ) (name : Name) (a : Name × Sort × ℕ) → IsArgumentItem g index n j name a → IsArgument g at n j name (stands_for (meaning items) a.1 a.2)
-          argument_thing j name a h =
+          argument_is : (j : ℕ) (name : Name) (a : Name × Sort × ℕ) (h : IsArgumentItem g index n j name a) → stands_for (meaning items) a.1 a.2 ≡ at (h.source).0
+          argument_is j name a h =
               let s = w.stand (h.source).0 h.node (source_done (argument_edge (h.source).0 n j) h.given refl) h.there in
-              let is : at (h.source).0 ≡ stands_for (meaning items) a.1 a.2 = sym (ap (λ t. stands_for (meaning items) t a.2) h.of_sort ∙ ap (stands_for (meaning items) (sort_of_kind (h.node).item_kind)) h.placed ∙ s.1) in
-              subst (λ t. IsArgument g at n j name t) is (given h.source h.given)
+              ap (λ t. stands_for (meaning items) t a.2) h.of_sort ∙ ap (stands_for (meaning items) (sort_of_kind (h.node).item_kind)) h.placed ∙ s.1
+
+          argument_thing : (j : ℕ) (name : Name) (a : Name × Sort × ℕ) → IsArgumentItem g index n j name a → IsArgument g at n j name (stands_for (meaning items) a.1 a.2)
+          argument_thing j name a h = subst (λ t. IsArgument g at n j name t) (sym (argument_is j name a h)) (given h.source h.given)
+
+          arguments_meant : (j : ℕ) (imports : List (Name × ItemKind)) (as_ : List (Name × Sort × ℕ)) → AreArgumentItems g index n j imports as_ → AllByRecursion (λ a. IsSomething (stands_for (meaning items) a.1 a.2)) as_
+          arguments_meant j [] [] h = tt
+          arguments_meant j [] (a ∷ as_) h = absurd h
+          arguments_meant j (e ∷ imports) [] h = absurd h
+          arguments_meant j (e ∷ imports) (a ∷ as_) h = (
+            subst IsSomething (sym (argument_is j e.0 a h.0)) (something g at order (h.0.source).0 h.0.node (is_thing (h.0.source).0 h.0.node h.0.there)),
+            arguments_meant (suc j) imports as_ h.1,
+          )
 
           are_arguments : (j : ℕ) (imports : List (Name × ItemKind)) (as_ : List (Name × Sort × ℕ)) → AreArgumentItems g index n j imports as_ → AreArguments g at n j imports (map (λ a. (a.0, stands_for (meaning items) a.1 a.2)) as_)
           are_arguments j [] [] h = tt

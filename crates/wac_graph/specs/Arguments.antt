@@ -4,7 +4,9 @@ use Rattle.wac_shapes.specs.Name.{Name}
 use Rattle.wac_types.specs.Subtype.{IsSubtype}
 use Rattle.wac_shapes.specs.declared.component.ItemKind.{ItemKind}
 use Rattle.wac_graph.specs.declared.node.NodeId.{NodeId}
-use Rattle.wac_graph.specs.Graph.{Graph, node_at, instantiation, IsUnsatisfied}
+use Rattle.wac_edges.specs.declared.edges.Label.TheVariants.{Argument}
+use Rattle.wac_graph.specs.Graph.{Graph, GraphNode, node_at, instantiation, IsUnsatisfied}
+use Rattle.wac_graph.specs.Sound.{Joins}
 use Rattle.wac_graph.specs.Steps.{import_named}
 
 abbrev pub IsInstantiation : Graph → NodeId → Type 0
@@ -17,3 +19,12 @@ HasImport g id name position kind = IsSomeAnd (node_at g id) (λ n. (n.kind ≡ 
 -- nothing is given for the import, and the node's item is a subtype of its kind
 abbrev pub Fits : Graph → NodeId → ℕ → ItemKind → NodeId → Type 0
 Fits g id position kind argument = IsUnsatisfied g id position × IfSome (node_at g argument) (λ given. IsSubtype g.types given.item_kind g.types kind)
+
+-- the node can be the argument for an import for which nothing is given
+pub record CanBeGiven (g : Graph) (id : NodeId) (position : ℕ) (argument : NodeId) : Type 0 where
+  pub given : GraphNode
+  pub consumer : GraphNode
+  pub there : node_at g argument ≡ Some given
+  pub here : node_at g id ≡ Some consumer
+  pub joins : Joins g (Argument position) given consumer
+  pub unset : IsUnsatisfied g id position

@@ -1,9 +1,11 @@
 -- Why `encode` is refused.
-use Rattle.std.specs.Prelude.{ℕ, ◌≡◌, ◌≤◌, [], Option, Some, None, IsSomeAnd, slice_get, string_bytes}
+use Rattle.std.specs.Prelude.{ℕ, ◌≡◌, ◌<◌, ◌≤◌, [], Option, Some, None, IsSomeAnd, slice_get, string_bytes}
 use Rattle.wac_shapes.specs.Name.{Name}
 use Rattle.wac_collection.specs.Package.{Key}
 use Rattle.wac_shapes.specs.declared.component.ItemKind.{ItemKind}
+use Rattle.wac_entries.specs.Agreement.{IsDisagreement}
 use Rattle.wac_entries.specs.Classes.{by_names}
+use Rattle.wac_terms.specs.ClassOrder.{IsOnCircle}
 use Rattle.wac_agreement.specs.Faults.{Disagrees, HasNoCircle, UseEachOther}
 use Rattle.wac_terms.specs.NoDisagreement.{HasNoDisagreement}
 use Rattle.wac_agreement.specs.declared.fault.MergeFault.{MergeFault}
@@ -14,7 +16,7 @@ use Rattle.wac_graph.specs.declared.errors.EncodeError.TheVariants as error
 use Rattle.wac_graph.specs.declared.node.NodeId.{NodeId}
 use Rattle.wac_graph.specs.Graph as graph
 use Rattle.wac_graph.specs.Graph.{Graph, GraphNode, node_at, imports_of, package_of, IsUnsatisfied, IsImportOf}
-use Rattle.wac_edges.specs.Order.{IsAcyclic, IsLowestOnCycle}
+use Rattle.wac_edges.specs.Order.{IsOnCycle, IsLowestOnCycle}
 use Rattle.wac_graph.specs.Asked.{Entry}
 use Rattle.wac_graph.specs.Entries.{asked_entries, to_merge}
 use Rattle.wac_graph.specs.NotYet.{IsNotYet}
@@ -85,9 +87,8 @@ pub record IsExplicitMerge (g : Graph) (import : Name) (node other : NodeId) : T
   pub by_other : other.0 ≡ (conflict.earlier).node
 
 -- imports that use each other in a circle: the canonical name of the one that is asked for first
-pub record IsImportCircle (g : Graph) (import : Name) : Type 0 where
-  pub agree : HasNoDisagreement by_names g.types (to_merge (asked_entries g))
-  pub circle : UseEachOther by_names g.types (to_merge (asked_entries g)) import
+abbrev pub IsImportCircle : Graph → Name → Type 0
+IsImportCircle g import = UseEachOther by_names g.types (to_merge (asked_entries g)) import
 
 -- what a refusal can name
 pub data Cause : Type 0 where
@@ -98,14 +99,54 @@ pub data Cause : Type 0 where
   import_circle : Name → Cause
   not_yet : Cause
 
--- the cause stands, and none that comes before it
+-- the kinds of causes
+pub data CauseKind : Type 0 where
+  a_cycle : CauseKind
+  a_conflict : CauseKind
+  a_disagreement : CauseKind
+  a_circle : CauseKind
+  unwritten : CauseKind
+
+abbrev pub kind_of_cause : Cause → CauseKind
+kind_of_cause (cycle node) = a_cycle
+kind_of_cause (conflict import instantiation key name) = a_conflict
+kind_of_cause (implicit_merge import first second p q export) = a_disagreement
+kind_of_cause (explicit_merge import node other) = a_disagreement
+kind_of_cause (import_circle import) = a_circle
+kind_of_cause not_yet = unwritten
+
+-- their order
+abbrev pub rank : CauseKind → ℕ
+rank a_cycle = 0
+rank a_conflict = 1
+rank a_disagreement = 2
+rank a_circle = 3
+rank unwritten = 4
+
+-- a cause of this kind is there
+abbrev pub Occurs : Graph → EncodeOptions → CauseKind → Type 0
+Occurs g o a_cycle = (n : ℕ) × IsOnCycle g.edges n
+Occurs g o a_conflict = (import : NodeId) × (instantiation : NodeId) × (position : ℕ) × (name : Name) × IsConflict g import instantiation position name
+Occurs g o a_disagreement = (first : ℕ) × (second : ℕ) × IsDisagreement by_names g.types (to_merge (asked_entries g)) first second
+Occurs g o a_circle = (class : ℕ) × IsOnCircle by_names g.types (to_merge (asked_entries g)) class
+Occurs g o unwritten = IsNotYet g o
+
+-- a cause of this kind is there, and none of a kind below it
+abbrev pub IsFirstKind : Graph → EncodeOptions → CauseKind → Type 0
+IsFirstKind g o kind = Occurs g o kind × ((below : CauseKind) → rank below < rank kind → Occurs g o below → ⊥)
+
+-- of the causes of its kind this is the one that is named: the lowest node on a cycle, the first conflict, the first entry that disagrees ..
+abbrev pub IsNamed : Graph → Cause → Type 0
+IsNamed g (cycle node) = IsLowestOnCycle g.edges node.0
+IsNamed g (conflict import instantiation key name) = IsFirstConflict g import instantiation key name
+IsNamed g (implicit_merge import first second p q export) = IsImplicitMerge g import first second p q export
+IsNamed g (explicit_merge import node other) = IsExplicitMerge g import node other
+IsNamed g (import_circle import) = IsImportCircle g import
+IsNamed g not_yet = Unit {0}
+
+-- the cause stands: its kind is the first that is there, and of that kind it is the one that is named
 abbrev pub Stands : Graph → EncodeOptions → Cause → Type 0
-Stands g o (cycle node) = IsLowestOnCycle g.edges node.0
-Stands g o (conflict import instantiation key name) = IsAcyclic g.edges × IsFirstConflict g import instantiation key name
-Stands g o (implicit_merge import first second p q export) = IsAcyclic g.edges × HasNoConflict g × IsImplicitMerge g import first second p q export
-Stands g o (explicit_merge import node other) = IsAcyclic g.edges × HasNoConflict g × IsExplicitMerge g import node other
-Stands g o (import_circle import) = IsAcyclic g.edges × HasNoConflict g × IsImportCircle g import
-Stands g o not_yet = IsAcyclic g.edges × HasNoConflict g × HasMerge g × IsNotYet g o
+Stands g o cause = IsFirstKind g o (kind_of_cause cause) × IsNamed g cause
 
 -- the cause that a fault is where imports are asked for implicitly; one that is no disagreement names an entry twice, which never stands
 abbrev pub implicit_cause : Name → NodeId → NodeId → MergeFault → Option Cause

@@ -38,17 +38,17 @@ AreArgumentItems g index n i (e ∷ imports) (a ∷ arguments) = IsArgumentItem 
 AreArgumentItems g index n i _ _ = ⊥
 
 -- node n is written, and stands at index i
-pub data Adds (g : Graph) (n : ℕ) (node : GraphNode) (index : ℕ → ℕ) (components components' : List (PackageId × ℕ)) (items items' : List Item) (i : ℕ) : Type 0 where
-  adds_instantiation : (id : PackageId) (c : ℕ) (mid : List Item) (arguments : List (Name × Sort × ℕ))
+pub data WritesNode (g : Graph) (n : ℕ) (node : GraphNode) (index : ℕ → ℕ) (components components' : List (PackageId × ℕ)) (items items' : List Item) (i : ℕ) : Type 0 where
+  writes_instantiation : (id : PackageId) (c : ℕ) (mid : List Item) (arguments : List (Name × Sort × ℕ))
       → node.kind ≡ graph.instantiation → node.owner ≡ Some id → HasComponent (package_bytes g id) id c components components' items mid
       → AreArgumentItems g index n 0 (imports_of g node) arguments
       → items' ≡ mid ++ instantiate c arguments ∷ [] → i ≡ indexes (space sort.Instance) mid
-      → Adds g n node index components components' items items' i
-  adds_alias : (instance : NodeId) (source : GraphNode) (k : ℕ) (name : Name)
+      → WritesNode g n node index components components' items items' i
+  writes_alias : (instance : NodeId) (source : GraphNode) (k : ℕ) (name : Name)
       → node.kind ≡ graph.alias → IsAliasOf g instance k (node_number n) → node_at g instance ≡ Some source → slice_get (exports_of g source) k ≡ Some (name, node.item_kind)
       → components' ≡ components
       → items' ≡ items ++ alias_item (export_alias (sort_of_kind node.item_kind) (index instance.0) name) ∷ [] → i ≡ indexes (space (sort_of_kind node.item_kind)) items
-      → Adds g n node index components components' items items' i
+      → WritesNode g n node index components components' items items' i
 
 -- what is written so far: the items, the components by package, and the index of each node
 pub record Progress : Type 0 where
@@ -63,7 +63,7 @@ index_in indexes n = slice_index_or indexes n 0
 -- a node is written
 abbrev pub Wrote : Graph → ℕ → Progress → Progress → Type 0
 Wrote g n p q =
-    IfSome (node_at g (node_number n)) (λ node. (i : ℕ) × Adds g n node (index_in p.indexes) p.components q.components p.items q.items i × (q.indexes ≡ slice_set p.indexes n i))
+    IfSome (node_at g (node_number n)) (λ node. (i : ℕ) × WritesNode g n node (index_in p.indexes) p.components q.components p.items q.items i × (q.indexes ≡ slice_set p.indexes n i))
 
 -- these nodes are written, in this order
 abbrev pub WroteAll : Graph → List ℕ → Progress → Progress → Type 0

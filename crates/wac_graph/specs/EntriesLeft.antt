@@ -59,7 +59,7 @@ AreSettled c seen [] = Unit {0}
 AreSettled c seen (x ∷ xs) = HasAll seen (map (by_node x.node) (used_by c x.kind)) × AreSettled c (seen ++ x ∷ []) xs
 
 -- whatever comes behind them, two lists ask for the same, and are settled alike
-pub record StandsFor (c : Collection) (a b : List Entry) : Type 0 where
+pub record AsksAlike (c : Collection) (a b : List Entry) : Type 0 where
   pub same : (tail : List Entry) → once (a ++ tail) ≡ once (b ++ tail)
   pub settled : (tail : List Entry) → AreSettled c [] (a ++ tail) → AreSettled c [] (b ++ tail)
 
@@ -137,7 +137,7 @@ pub data Did (c : Collection) (n : ℕ) (t : Task) (old new : List Entry) (left 
 
 -- while tasks are done: what was asked for with what was wanted, and what is with what is left
 pub record IsUnderWay (c : Collection) (n : ℕ) (wanted : List Entry) (now : List Entry) (tasks : List Task) : Type 0 where
-  pub stands : StandsFor c wanted (now ++ tasks_entries c n tasks)
+  pub stands : AsksAlike c wanted (now ++ tasks_entries c n tasks)
   pub settled : AreSettled c [] (now ++ tasks_entries c n tasks)
   pub held : AllByRecursion (IsHeldTask c) tasks
 

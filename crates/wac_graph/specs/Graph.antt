@@ -58,6 +58,10 @@ import_name alias = None
 abbrev pub IsImportOf : Graph → Name → NodeId → Type 0
 IsImportOf g name n = IsSomeAnd (node_at g n) (λ node. node.kind ≡ import name)
 
+-- the node defines this type
+abbrev pub IsDefinitionOf : Graph → ItemKind → NodeId → Type 0
+IsDefinitionOf g kind n = IsSomeAnd (node_at g n) (λ node. (node.kind ≡ definition) × (node.item_kind ≡ kind))
+
 -- the package that a slot holds, where the id is of its generation
 abbrev pub package_in : Option Slot → PackageId → Option PackageParts
 package_in None id = None

@@ -19,3 +19,4 @@ pub mod Search
 pub mod EncoderView
 pub mod Faults
 pub mod Gives
+pub mod Stays

@@ -9,6 +9,7 @@ use Rattle.wac_binary.specs.declared.sorts.Sort.TheVariants as sort
 use Rattle.wac_binary.specs.Items.{Item, instantiate, alias_item, export_alias, export_item}
 use Rattle.wac_binary.specs.Indexes.{space, indexes, sort_added}
 use Rattle.wac_binary.specs.Meaning.{Thing, import_at, projection, instance_at, component_at, Instantiation, Export, meaning, stands_for}
+use Rattle.wac_binary.specs.HasMeaning.{HasMeaning}
 use Rattle.wac_graph.specs.declared.node.NodeId.{NodeId}
 use Rattle.wac_graph.specs.declared.packages.PackageId.{PackageId}
 use Rattle.wac_graph.specs.Graph.{Graph, GraphNode, Kind, import, instantiation, alias, node_at, package_at, imports_of, exports_of, IsAliasOf, IsArgumentOf, IsUnsatisfied}
@@ -138,6 +139,8 @@ pub record Means (items : List Item) (g : Graph) : Type 0 where
   pub in_order : Writes g.edges (is_written g) order
   pub at : ℕ → Thing
   pub index : ℕ → ℕ
+  -- each index that an item uses is there, and no name is imported or exported twice
+  pub meant : HasMeaning items
   -- the imports are the classes of what is asked for, under their canonical names with their merged items
   pub imports : AreOuterImports g (meaning items).imports
   -- the components are the instantiated packages' bytes, in order of first use

@@ -5,7 +5,7 @@ ghost use Rattle.std.specs.Option.{option_map};
 ghost use Rattle.slab.specs.Slab.{get};
 ghost use Rattle.wac_collection.specs.Collection.{holds_type};
 ghost use Rattle.wac_shapes.specs.Kinds.{kind_type};
-ghost use Rattle.wac_graph.specs.Arguments.{IsInstantiation, HasImport, Fits};
+ghost use Rattle.wac_graph.specs.Arguments.{HasImport, Fits, CanBeGiven};
 ghost use Rattle.wac_edges.specs.Edge.{argument_edge as labelled};
 ghost use Rattle.wac_graph.specs.Graph.{node_at, IsArgumentOf};
 ghost use Rattle.wac_graph.specs.Inside.{IsInstantiationAt, satisfied_at, node_of};
@@ -113,16 +113,14 @@ impl CompositionGraph {
         }
     }
 
-    /// Gives a node as the argument for an import; where memory runs out nothing has changed.
+    /// Gives a node as the argument for an import that it fits; where memory runs out nothing has changed.
     pub(crate) fn give_argument(
         &mut self,
         instantiation: NodeId,
         position: usize,
         argument: NodeId,
     ) -> Result<(), AllocError>
-        requires instantiation { IsInstantiation self.old instantiation }
-        requires argument { IsSome (node_at self.old argument) }
-        requires other { IsArgumentOf self.old instantiation position argument → ⊥ }
+        requires { CanBeGiven self.old instantiation position argument }
         ensures given { OnOk result (self.new ≡ record self.old { edges = set.insert self.old.edges (labelled argument.0 instantiation.0 position) }) }
         ensures kept { OnErr result (self.new ≡ self.old) }
     {

@@ -8,7 +8,7 @@ ghost use Rattle.wac_shapes.specs.declared.component.ItemKind.TheVariants.{Insta
 ghost use Rattle.wac_graph.specs.declared.asked.Task.{Task as ATask};
 ghost use Rattle.wac_graph.specs.declared.asked.Task.TheVariants.{Open, Close};
 ghost use Rattle.wac_graph.specs.Entries.{used_by, with_used, asked_entries};
-ghost use Rattle.wac_graph.specs.EntriesLeft.{entry_view, entries_of, IsRight, IsHeldTask, IsHeldKind, AreSettled, StandsFor, Did, has, added, by_node, instance_under, openings, asked_at, all_with_used, all_asked_by, all_imported_by};
+ghost use Rattle.wac_graph.specs.EntriesLeft.{entry_view, entries_of, IsRight, IsHeldTask, IsHeldKind, AreSettled, AsksAlike, Did, has, added, by_node, instance_under, openings, asked_at, all_with_used, all_asked_by, all_imported_by};
 
 use crate::graph::CompositionGraph;
 use std::alloc::{AllocError, Global};
@@ -159,7 +159,7 @@ impl<'a> Asking<'a> {
         requires right { IsRight self.old }
         requires settled { AreSettled types.now [] (entries_of self.old) }
         ensures right { OnOk result (IsRight self.new) }
-        ensures stands { OnOk result (StandsFor types.now (entries_of self.old ++ map (by_node node) (used_by types.now (Instance id))) (entries_of self.new)) }
+        ensures stands { OnOk result (AsksAlike types.now (entries_of self.old ++ map (by_node node) (used_by types.now (Instance id))) (entries_of self.new)) }
     {
         types.law();
         let mut tasks = Vec::new(self.alloc);
@@ -177,7 +177,7 @@ impl<'a> Asking<'a> {
         requires settled { AreSettled types.now [] (entries_of self.old) }
         ensures right { OnOk result (IsRight self.new) }
         ensures settled { OnOk result (AreSettled types.now [] (entries_of self.new)) }
-        ensures stands { OnOk result (StandsFor types.now (entries_of self.old ++ with_used types.now (entry_view asked.entry)) (entries_of self.new)) }
+        ensures stands { OnOk result (AsksAlike types.now (entries_of self.old ++ with_used types.now (entry_view asked.entry)) (entries_of self.new)) }
     {
         types.law();
         let ItemKind::Instance(id) = asked.kind else {
@@ -208,7 +208,7 @@ impl CompositionGraph {
         requires settled { AreSettled self.now.types [] (entries_of asking.old) }
         ensures right { OnOk result (IsRight asking.new) }
         ensures settled { OnOk result (AreSettled self.now.types [] (entries_of asking.new)) }
-        ensures stands { OnOk result (StandsFor self.now.types (entries_of asking.old ++ all_with_used self.now.types (all_asked_by self.now)) (entries_of asking.new)) }
+        ensures stands { OnOk result (AsksAlike self.now.types (entries_of asking.old ++ all_with_used self.now.types (all_asked_by self.now)) (entries_of asking.new)) }
     {
         for n in 0..self.nodes.capacity() {
             self.ask_unset(asking, n)?;
@@ -222,7 +222,7 @@ impl CompositionGraph {
         requires settled { AreSettled self.now.types [] (entries_of asking.old) }
         ensures right { OnOk result (IsRight asking.new) }
         ensures settled { OnOk result (AreSettled self.now.types [] (entries_of asking.new)) }
-        ensures stands { OnOk result (StandsFor self.now.types (entries_of asking.old ++ all_with_used self.now.types (asked_at self.now n)) (entries_of asking.new)) }
+        ensures stands { OnOk result (AsksAlike self.now.types (entries_of asking.old ++ all_with_used self.now.types (asked_at self.now n)) (entries_of asking.new)) }
     {
         self.types.law();
         let mut from = 0;
@@ -246,7 +246,7 @@ impl CompositionGraph {
         requires settled { AreSettled self.now.types [] (entries_of asking.old) }
         ensures right { OnOk result (IsRight asking.new) }
         ensures settled { OnOk result (AreSettled self.now.types [] (entries_of asking.new)) }
-        ensures stands { OnOk result (StandsFor self.now.types (entries_of asking.old ++ all_with_used self.now.types (all_imported_by self.now)) (entries_of asking.new)) }
+        ensures stands { OnOk result (AsksAlike self.now.types (entries_of asking.old ++ all_with_used self.now.types (all_imported_by self.now)) (entries_of asking.new)) }
     {
         for node in 0..self.nodes.capacity() {
             if let Some((name, kind)) = self.import_node_at(node) {

@@ -10,12 +10,11 @@ ghost use Rattle.wac_binary.specs.Views.{arguments_of};
 ghost use Rattle.wac_edges.specs.Edge.{is_left};
 ghost use Rattle.wac_graph.specs.Graph.{node_at, imports_of, instantiation, alias};
 ghost use Rattle.wac_graph.specs.Means.{Means, node_number, is_there, same_package, sort_of_kind, export_item_of};
-ghost use Rattle.wac_graph.specs.Encoding.{Adds, AreArgumentItems, Wrote, WroteAll, index_in};
+ghost use Rattle.wac_graph.specs.Encoding.{WritesNode, AreArgumentItems, Wrote, WroteAll, index_in};
 ghost use Rattle.std.specs.Result.{IsErrAnd};
 ghost use Rattle.wac_graph.specs.Cause.{Cause, cause_of, Stands};
 ghost use Rattle.wac_graph.specs.Search.{IsRefused};
 ghost use Rattle.wac_graph.specs.NotYet.{IsNotYet, IsWritable, AllWritable};
-ghost use Rattle.wac_graph.specs.Sound.{IsSound};
 ghost use Rattle.wac_edges.specs.Order.{Writes, IsOnCycle, IsAcyclic};
 ghost use Rattle.wac_graph.specs.declared.encode.EncodeOptions.{EncodeOptions as Asked};
 
@@ -89,7 +88,7 @@ impl CompositionGraph {
     {
         wac_binary::law();
         fault_law();
-        self.sound_law();
+        self.law();
         let order = self.ordered()?;
         self.check_conflicts()?;
         self.check_merge()?;
@@ -100,13 +99,6 @@ impl CompositionGraph {
         self.write_nodes(&mut encoder, &order)?;
         self.write_exports(&mut encoder)?;
         Ok(encoder.builder.into_bytes()?)
-    }
-
-    /// The law of all graphs: each is sound.
-    pub(crate) fn sound_law(&self)
-        ensures { IsSound self.now }
-    {
-        let _ = &self.edges;
     }
 
     /// The nodes, each the lowest of those that are left to which no edge leads from one that is left.
@@ -231,7 +223,7 @@ impl CompositionGraph {
     fn write_instantiation(&self, encoder: &mut Encoder, n: usize) -> Result<u32, EncodeError>
         requires instantiation { IsSomeAnd (node_at self.now (node_number n)) (λ node. node.kind ≡ instantiation) }
         requires set { IsSomeAnd (node_at self.now (node_number n)) (IsWritable self.now n) }
-        ensures written { IfOk result (λ i. IfSome (node_at self.now (node_number n)) (λ node. Adds self.now n node (index_in encoder.old.indexes.items) encoder.old.components.items encoder.new.components.items encoder.old.builder encoder.new.builder i)) }
+        ensures written { IfOk result (λ i. IfSome (node_at self.now (node_number n)) (λ node. WritesNode self.now n node (index_in encoder.old.indexes.items) encoder.old.components.items encoder.new.components.items encoder.old.builder encoder.new.builder i)) }
         ensures kept { encoder.new.indexes ≡ encoder.old.indexes }
         ensures fault { IfErr result (λ e. cause_of e ≡ None) }
     {
@@ -268,7 +260,7 @@ impl CompositionGraph {
     /// Writes an alias, and answers its index.
     fn write_alias(&self, encoder: &mut Encoder, n: usize) -> Result<u32, EncodeError>
         requires { IsSomeAnd (node_at self.now (node_number n)) (λ node. node.kind ≡ alias) }
-        ensures written { IfOk result (λ i. IfSome (node_at self.now (node_number n)) (λ node. Adds self.now n node (index_in encoder.old.indexes.items) encoder.old.components.items encoder.new.components.items encoder.old.builder encoder.new.builder i)) }
+        ensures written { IfOk result (λ i. IfSome (node_at self.now (node_number n)) (λ node. WritesNode self.now n node (index_in encoder.old.indexes.items) encoder.old.components.items encoder.new.components.items encoder.old.builder encoder.new.builder i)) }
         ensures kept { encoder.new.indexes ≡ encoder.old.indexes }
         ensures fault { IfErr result (λ e. cause_of e ≡ None) }
     {

@@ -3,13 +3,15 @@ ghost use Rattle.std.specs.Prelude.{◌≡◌, ◌≢◌, ◌↔◌, ◌⊎◌, 
 ghost use Rattle.std.specs.Option.{option_map, option_and_then, option_copied};
 ghost use Rattle.slab.specs.Slab.{ContainsKey, get, with_value};
 ghost use Rattle.semver.specs.Identifiers.{parts_of};
-ghost use Rattle.wac_collection.specs.Collection.{holds_type, item_at, resource_mentions, func_mentions, defined_mentions, with_resource, with_func, with_defined, with_interface, with_world, with_module};
+ghost use Rattle.wac_collection.specs.Collection.{IsWellFormed, holds_type, item_at, resource_mentions, func_mentions, defined_mentions, with_resource, with_func, with_defined, with_interface, with_world, with_module};
 ghost use Rattle.wac_shapes.specs.Kinds.{kind_type};
 ghost use Rattle.wac_collection.specs.Package.{HoldsPackage, with_instance_of, package_fault};
 ghost use Rattle.wac_collection.specs.Uses.{AnswersBy, mention_fault, interface_fault, world_fault};
+ghost use Rattle.wac_types.specs.TreeLaws.{GrowthKeepsTrees};
 ghost use Rattle.wac_shapes.specs.Named.{named_at};
 ghost use Rattle.wac_shapes.specs.declared.component.«Type».TheVariants.{World as world_type};
 ghost use Rattle.wac_graph.specs.Graph.{node_at, package_at, export_at, package_in, import_name, IsRegistered};
+ghost use Rattle.wac_graph.specs.Sound.{IsSound};
 ghost use Rattle.wac_graph.specs.Steps.{IsEmpty, Adds, Registers, Imports, Instantiates, Aliases, SetsArgument, Exports};
 
 use crate::arguments::argument_edge;
@@ -27,6 +29,7 @@ use std::collections::BTreeSet;
 use std::marker::Model;
 use std::ops::Index;
 use wac_edges::edges::{Edge, Edges, Label};
+use wac_types::laws::growth_keeps_trees;
 use wac_types::{
     AddTypeError, DefinedType, DefinedTypeId, FuncType, FuncTypeId, Interface, InterfaceId,
     ItemKind, ModuleType, ModuleTypeId, Package, PackageKey, Resource, ResourceId, Types, World,
@@ -94,6 +97,16 @@ impl CompositionGraph {
         }
     }
 
+    /// The law of graphs, which every graph value keeps: an import of an instantiation has one argument at most, an export of an
+    /// instance one alias; an import name, an export name and a defined type are those of one node at most, and a package's key of
+    /// one package; edges join nodes that are there, as their labels say; each alias's source is there and each instance's package
+    /// is registered.
+    pub fn law(&self)
+        ensures { IsSound self.now }
+    {
+        let _ = &self.edges;
+    }
+
     /// The graph's collection of types.
     pub fn types(&self) -> &Types
         ensures { result.now ≡ self.now.types }
@@ -123,6 +136,7 @@ impl CompositionGraph {
         ensures added { Adds self.old result self.new (λ id types. (id.0 ≡ length self.old.types.resources) × (types ≡ with_resource self.old.types resource)) }
         ensures fault { AnswersBy (mention_fault self.old.types (resource_mentions resource)) result }
     {
+        growth_law(&self.types);
         self.types.add_resource(resource)
     }
 
@@ -131,6 +145,7 @@ impl CompositionGraph {
         ensures added { Adds self.old result self.new (λ id types. (id.0 ≡ length self.old.types.funcs) × (types ≡ with_func self.old.types func)) }
         ensures fault { AnswersBy (mention_fault self.old.types (func_mentions func)) result }
     {
+        growth_law(&self.types);
         self.types.add_func_type(func)
     }
 
@@ -139,6 +154,7 @@ impl CompositionGraph {
         ensures added { Adds self.old result self.new (λ id types. (id.0 ≡ length self.old.types.defined) × (types ≡ with_defined self.old.types defined)) }
         ensures fault { AnswersBy (mention_fault self.old.types (defined_mentions defined)) result }
     {
+        growth_law(&self.types);
         self.types.add_defined_type(defined)
     }
 
@@ -147,6 +163,7 @@ impl CompositionGraph {
         ensures added { Adds self.old result self.new (λ id types. (id.0 ≡ length self.old.types.interfaces) × (types ≡ with_interface self.old.types interface)) }
         ensures fault { AnswersBy (interface_fault self.old.types interface) result }
     {
+        growth_law(&self.types);
         self.types.add_interface(interface)
     }
 
@@ -155,6 +172,7 @@ impl CompositionGraph {
         ensures added { Adds self.old result self.new (λ id types. (id.0 ≡ length self.old.types.worlds) × (types ≡ with_world self.old.types world)) }
         ensures fault { AnswersBy (world_fault self.old.types world) result }
     {
+        growth_law(&self.types);
         self.types.add_world(world)
     }
 
@@ -163,6 +181,7 @@ impl CompositionGraph {
         ensures added { Adds self.old result self.new (λ id types. (id.0 ≡ length self.old.types.modules) × (types ≡ with_module self.old.types module_type)) }
         ensures fault { AnswersBy (None) result }
     {
+        growth_law(&self.types);
         self.types.add_module_type(module_type)
     }
 
@@ -186,6 +205,7 @@ impl CompositionGraph {
         ensures held { IfOk result (λ p. HoldsPackage self.new.types p) }
         ensures fault { AnswersBy (package_fault self.old.types world) result }
     {
+        growth_law(&self.types);
         Package::new(name, version, bytes, world, &mut self.types)
     }
 
@@ -423,6 +443,15 @@ impl Index<PackageId> for CompositionGraph {
             None => unreachable!(),
         }
     }
+}
+
+/// What a collection holds has the same trees when something is added, and mentions what it holds.
+fn growth_law(types: &Types)
+    ensures trees { GrowthKeepsTrees types.now }
+    ensures formed { IsWellFormed types.now }
+{
+    growth_keeps_trees(types);
+    types.law();
 }
 
 /// The package of an id, where the slot holds one of the id's generation.

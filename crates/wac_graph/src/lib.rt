@@ -9,6 +9,7 @@ mod encode;
 mod errors;
 mod graph;
 mod imports;
+pub mod laws;
 mod merging;
 mod names;
 mod node;

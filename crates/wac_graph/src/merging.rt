@@ -26,7 +26,7 @@ impl CompositionGraph {
         ensures merges { OnOk result (HasMerge self.now) }
         ensures refused { IfErr result (λ e. (o : Asked) → IsRefused self.now o e) }
     {
-        self.sound_law();
+        self.law();
         self.types.law();
         let entries = self.asked_entries()?;
         let aggregator = self.aggregated(entries.as_slice())?;
@@ -86,7 +86,7 @@ impl CompositionGraph {
         requires disagree { Disagrees by_names self.now.types (to_merge (asked_entries self.now)) first second (string_bytes export) }
         ensures { IfOk result (λ e. (o : Asked) → IsRefused self.now o e) }
     {
-        self.sound_law();
+        self.law();
         let earlier = NodeId(entries[first].node);
         let later = entries[second];
         let import = String::from_str(self.alloc, later.name)?;

@@ -23,7 +23,7 @@ returns-in-Some-alias-clause-step c =
 pub invariant_of-self-2 : goal.invariant_of-self-2
 invariant_of-self-2 c =
     invariant_aliased c.self.inside c.self.invariant c.law.ensures c.args.instance c.index-node.result.now c.in-Instance.interface c.index.result.now c.in-Some.position c.vacant_key-number.result c.in-Some.item_kind.now c.args.export.now c.insert_reserved.new.self c.add.new.self _
-    c.index-node.ensures c.in-Instance.is c.index.ensures c.in-Some.ensures
+    c.index-node.ensures c.in-Instance.is c.index.ensures c.in-Some.ensures c.in_default-alias.ensures.none
     (vacant_before c.self.inside c.reserve.new.self c.vacant_key-number.result c.in_ok-reserve.ensures.rest_kept c.vacant_key-number.ensures.vacant)
     (before_reserve c.self.inside c.reserve.new.self c.insert_reserved.new.self c.vacant_key-number.result c.insert_reserved.result _ c.in_ok-reserve.ensures.rest_kept c.vacant_key-number.ensures.value c.insert_reserved.ensures.key c.insert_reserved.ensures.updates)
     (λ j. refl) c.in_ok-add.ensures.ok refl

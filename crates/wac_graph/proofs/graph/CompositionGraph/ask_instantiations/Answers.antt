@@ -1,7 +1,7 @@
 use Rattle.std.proofs.Common.{◌≡◌, ◌++◌, sym, subst, arith}
 use Rattle.std.specs.List.{flat_map, range_with_len}
 use Rattle.wac_graph.specs.Graph.{Graph}
-use Rattle.wac_graph.specs.EntriesLeft.{entries_of, asked_at, all_asked_by, all_with_used, StandsFor}
+use Rattle.wac_graph.specs.EntriesLeft.{entries_of, asked_at, all_asked_by, all_with_used, AsksAlike}
 use Rattle.wac_graph.proofs.AskingWalk.{nothing_asked, number_asked, all_asked}
 use Rattle.wac_graph.proofs.graph.CompositionGraph.ask_instantiations.Goals as goal
 
@@ -22,4 +22,4 @@ returns-clause-stands c =
     let g = c.args.self.now in
     let old = entries_of c.args.asking.now in
     let all = subst (λ (h : Graph). all_asked_by h ≡ flat_map (asked_at h) (range_with_len 0 c.loop-n.n)) c.self.view_is (all_asked c.self.inside c.loop-n.n (omega (arith, c.loop-n-test.false, c.capacity-n-end.ensures.slots))) in
-    subst (λ es. StandsFor g.types (old ++ all_with_used g.types es) (entries_of c.loop-n.asking)) (sym all) c.loop-n.invariant.stands
+    subst (λ es. AsksAlike g.types (old ++ all_with_used g.types es) (entries_of c.loop-n.asking)) (sym all) c.loop-n.invariant.stands

@@ -5,7 +5,7 @@ use Rattle.wac_graph.specs.declared.asked.Asking.{Asking}
 use Rattle.wac_graph.specs.Asked.{Entry}
 use Rattle.wac_graph.specs.Entries.{with_used}
 use Rattle.wac_graph.specs.Graph.{Graph}
-use Rattle.wac_graph.specs.EntriesLeft.{entries_of, imported_at, all_imported_by, all_with_used, IsRight, IsHeldKind, AreSettled, StandsFor}
+use Rattle.wac_graph.specs.EntriesLeft.{entries_of, imported_at, all_imported_by, all_with_used, IsRight, IsHeldKind, AreSettled, AsksAlike}
 use Rattle.wac_graph.specs.Sound.{IsSound}
 use Rattle.wac_graph.proofs.AskingWalk.{nothing_asked, number_asked, number_passed, one_number, asked_node, no_node, all_imported}
 use Rattle.wac_graph.proofs.graph.CompositionGraph.ask_nodes.Goals as goal
@@ -29,13 +29,13 @@ loop-node-preserved c =
     let mid = entries_of c.loop-node.asking in
     let sound : IsSound g = subst (λ (h : Graph). IsSound h) c.self.view_is c.self.invariant.sound in
     let types : c.self.inside.types ≡ g.types = ap (λ (h : Graph). h.types) c.self.view_is in
-    let Goal : Asking → Type 0 = λ a. IsRight a × AreSettled g.types [] (entries_of a) × StandsFor g.types (old ++ all_with_used g.types (flat_map (imported_at g) (range_with_len 0 (n + 1)))) (entries_of a) in
+    let Goal : Asking → Type 0 = λ a. IsRight a × AreSettled g.types [] (entries_of a) × AsksAlike g.types (old ++ all_with_used g.types (flat_map (imported_at g) (range_with_len 0 (n + 1)))) (entries_of a) in
     let h : Goal c.match-import_node_at.asking = elim c.match-import_node_at.branch [
       | in-Some+in_ok-ask w ↦
           let e : Entry = record { name = w.in-Some.name.now; kind = w.in-Some.kind; node = n } in
           let new = entries_of w.ask.new.self in
           let (is, _) = asked_node g n sound w.in-Some.name.now w.in-Some.kind w.in-Some.ensures in
-          let stands = subst (λ (t : Collection). StandsFor t (mid ++ with_used t e) new) types w.in_ok-ask.ensures.stands in
+          let stands = subst (λ (t : Collection). AsksAlike t (mid ++ with_used t e) new) types w.in_ok-ask.ensures.stands in
           subst Goal (sym w.asking-is) (
             w.in_ok-ask.ensures.right,
             subst (λ (t : Collection). AreSettled t [] new) types w.in_ok-ask.ensures.settled,
@@ -51,4 +51,4 @@ returns-clause-stands c =
     let g = c.args.self.now in
     let old = entries_of c.args.asking.now in
     let all = subst (λ (h : Graph). all_imported_by h ≡ flat_map (imported_at h) (range_with_len 0 c.loop-node.node)) c.self.view_is (all_imported c.self.inside c.loop-node.node (omega (arith, c.loop-node-test.false, c.capacity-node-end.ensures.slots))) in
-    subst (λ es. StandsFor g.types (old ++ all_with_used g.types es) (entries_of c.loop-node.asking)) (sym all) c.loop-node.invariant.stands
+    subst (λ es. AsksAlike g.types (old ++ all_with_used g.types es) (entries_of c.loop-node.asking)) (sym all) c.loop-node.invariant.stands

@@ -5,7 +5,7 @@ use Rattle.wac_graph.specs.Graph.{Graph, node_at}
 use Rattle.wac_graph.specs.Means.{node_number}
 use Rattle.wac_graph.specs.Asked.{Entry}
 use Rattle.wac_graph.specs.Entries.{with_used}
-use Rattle.wac_graph.specs.EntriesLeft.{entries_of, row_entry, left_entries, asked_at, all_with_used, IsHeldKind, StandsFor}
+use Rattle.wac_graph.specs.EntriesLeft.{entries_of, row_entry, left_entries, asked_at, all_with_used, IsHeldKind, AsksAlike}
 use Rattle.wac_graph.proofs.EntryLists.{stands_itself}
 use Rattle.wac_graph.proofs.AskingWalk.{first_entries, first_held, one_asked}
 use Rattle.wac_graph.proofs.graph.CompositionGraph.ask_unset.Goals as goal
@@ -20,7 +20,7 @@ loop-behind-init c =
       right = c.requires.right;
       settled = c.requires.settled;
       held = first_held g n wf (node_at g (node_number n));
-      stands = subst (λ es. StandsFor g.types (old ++ all_with_used g.types (asked_at g n)) (old ++ all_with_used g.types es)) (first_entries g n (node_at g (node_number n))) (stands_itself g.types (old ++ all_with_used g.types (asked_at g n)));
+      stands = subst (λ es. AsksAlike g.types (old ++ all_with_used g.types (asked_at g n)) (old ++ all_with_used g.types es)) (first_entries g n (node_at g (node_number n))) (stands_itself g.types (old ++ all_with_used g.types (asked_at g n)));
     }
 
 pub loop-behind-preserved : goal.loop-behind-preserved
@@ -39,5 +39,5 @@ loop-behind-preserved c =
       settled = rw types at c.in_ok-ask.ensures.settled;
       held = held.1;
       stands = one_asked g.types (old ++ all_with_used g.types (asked_at g n)) mid new e (left_entries g n c.loop-behind.from) left (ap (map (row_entry n)) c.in-Some.ensures) c.loop-behind.invariant.stands
-          (subst (λ (t : Collection). StandsFor t (mid ++ with_used t e) new) types c.in_ok-ask.ensures.stands);
+          (subst (λ (t : Collection). AsksAlike t (mid ++ with_used t e) new) types c.in_ok-ask.ensures.stands);
     }

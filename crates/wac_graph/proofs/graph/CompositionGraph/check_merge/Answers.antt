@@ -18,19 +18,19 @@ use Rattle.wac_graph.proofs.graph.CompositionGraph.check_merge.Goals as goal
 pub aggregated-requires : goal.aggregated-requires
 aggregated-requires c =
     let g = c.args.self.now in
-    let wf : IsWellFormed g.types = subst (λ (h : Graph). IsWellFormed h.types) c.self.view_is c.law.ensures in
+    let wf : IsWellFormed g.types = subst (λ (h : Graph). IsWellFormed h.types) c.self.view_is c.law-2.ensures in
     let same : map entry_view c.as_slice.result.now ≡ asked_entries g = ap (map entry_view) c.as_slice.ensures.value ∙ c.in_ok-entries.ensures in
-    subst (AllByRecursion (λ (e : Entry). IsHeldKind g.types e.kind)) (sym same) (held_entries g c.sound_law.ensures wf)
+    subst (AllByRecursion (λ (e : Entry). IsHeldKind g.types e.kind)) (sym same) (held_entries g c.law.ensures wf)
 
 pub finish-requires : goal.finish-requires
 finish-requires c =
     let g = c.args.self.now in
-    let wf : IsWellFormed g.types = subst (λ (h : Graph). IsWellFormed h.types) c.self.view_is c.law.ensures in
+    let wf : IsWellFormed g.types = subst (λ (h : Graph). IsWellFormed h.types) c.self.view_is c.law-2.ensures in
     let types : c.self.inside.types ≡ g.types = ap (λ (h : Graph). h.types) c.self.view_is in
     let same : map entry_view c.as_slice.result.now ≡ asked_entries g = ap (map entry_view) c.as_slice.ensures.value ∙ c.in_ok-entries.ensures in
     let entries : c.in_ok-aggregator.aggregator.entries ≡ to_merge (asked_entries g) = c.in_ok-aggregator.ensures ∙ ap to_merge same in
     subst (λ (t : Collection). AreHeld t c.in_ok-aggregator.aggregator.entries) (sym types)
-    (subst (λ (es : List merge.Entry). AreHeld g.types es) (sym entries) (merge_held g.types (asked_entries g) (held_entries g c.sound_law.ensures wf)))
+    (subst (λ (es : List merge.Entry). AreHeld g.types es) (sym entries) (merge_held g.types (asked_entries g) (held_entries g c.law.ensures wf)))
 
 pub returns-in-Ok-clause-merges : goal.returns-in-Ok-clause-merges
 returns-in-Ok-clause-merges c =

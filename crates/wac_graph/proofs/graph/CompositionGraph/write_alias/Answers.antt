@@ -1,5 +1,5 @@
 use Rattle.std.proofs.Common.{refl, ap, ◌∙◌, subst, IfSome}
-use Rattle.wac_graph.specs.Encoding.{Adds, index_in}
+use Rattle.wac_graph.specs.Encoding.{WritesNode, index_in}
 use Rattle.wac_graph.specs.Graph.{node_at}
 use Rattle.wac_graph.specs.Means.{node_number}
 use Rattle.wac_graph.proofs.AliasLemmas.{interface_there}
@@ -29,7 +29,7 @@ index-requires-3 c =
 
 pub returns-clause-written : goal.returns-clause-written
 returns-clause-written c =
-    subst (λ g. IfSome (node_at g (node_number c.args.n)) (λ node. Adds g c.args.n node (index_in c.args.encoder.now.indexes.items) c.args.encoder.now.components.items c.args.encoder.now.components.items c.args.encoder.now.builder c.alias_export.new.self c.in_ok-alias_export.field-0)) c.self.view_is
+    subst (λ g. IfSome (node_at g (node_number c.args.n)) (λ node. WritesNode g c.args.n node (index_in c.args.encoder.now.indexes.items) c.args.encoder.now.components.items c.args.encoder.now.components.items c.args.encoder.now.builder c.alias_export.new.self c.in_ok-alias_export.field-0)) c.self.view_is
     (alias_added c.self.inside c.self.invariant c.args.n (rw (← c.self.view_is) at c.requires) c.in-Some.source c.in-Some.position c.in-Some.ensures.some c.index.result.now c.in-Instance.interface c.index-2.result.now c.index.ensures c.in-Instance.is c.index-2.ensures
     c.index-3.result.now c.index-3.ensures c.name_at-name.result.now c.name_at-name.ensures c.sort_of-sort.result c.sort_of-sort.ensures
     (index_in c.args.encoder.now.indexes.items) c.index_of-instance.result (c.index_of-instance.ensures ∙ ap (λ xs. index_in xs c.in-Some.source) c.deref.ensures.value)
