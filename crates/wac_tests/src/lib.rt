@@ -8,6 +8,8 @@ mod binary;
 #[cfg(test)]
 mod collection;
 #[cfg(test)]
+mod edges;
+#[cfg(test)]
 mod names;
 #[cfg(test)]
 mod subtyping;
