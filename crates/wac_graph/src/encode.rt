@@ -109,6 +109,13 @@ impl CompositionGraph {
         let _ = &self.edges;
     }
 
+    /// The law of all graphs: each is sound.
+    pub fn law(&self)
+        ensures { IsSound self.now }
+    {
+        let _ = &self.edges;
+    }
+
     /// The nodes, each the lowest of those that are left to which no edge leads from one that is left.
     fn ordered(&self) -> Result<Vec<usize>, EncodeError>
         ensures whole { IfOk result (λ ns. Writes self.now.edges (is_there self.now) ns.items) }
