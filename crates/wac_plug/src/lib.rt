@@ -5,8 +5,6 @@
 mod errors;
 mod matching;
 mod plugging;
-#[cfg(test)]
-mod tests;
 mod wiring;
 
 pub use errors::{PlugError, PlugFault};
