@@ -1,0 +1,16 @@
+mod Firsts
+mod Targets
+mod Worlds
+mod Steps
+mod Order
+mod Made
+mod Each
+mod Listing
+mod Nothing
+mod Wired
+mod Deciding
+mod Wirable
+mod Weaker
+mod Twice
+mod Passing
+mod Never

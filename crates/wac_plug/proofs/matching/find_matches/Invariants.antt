@@ -1,0 +1,6 @@
+use Rattle.std.proofs.Common.{List, drop, ◌++◌}
+use Rattle.wac_plug.specs.Matching.{Match, AreMatches}
+use Rattle.wac_plug.proofs.matching.find_matches.Given as goal
+
+abbrev pub invariant-loop-i : goal.invariant-loop-i
+invariant-loop-i l = (ms : List Match) → AreMatches l.types l.imports (drop l.i l.exports) ms → AreMatches l.types l.imports l.exports (l.matches.items ++ ms)

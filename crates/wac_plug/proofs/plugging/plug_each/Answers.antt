@@ -1,0 +1,28 @@
+use Rattle.std.proofs.Common.{◌≡◌, ◌||◌, Ok, ap, sym, ◌∙◌, inr}
+use Rattle.std.proofs.lemmas.Option.{slice_get-get_or}
+use Rattle.wac_plug.specs.Naming.{PlugsNamed}
+use Rattle.wac_plug.proofs.Order.{one-more, all-made}
+use Rattle.wac_plug.proofs.Steps.{keeps-trans}
+use Rattle.wac_plug.proofs.Each.{matched-more, matched-all}
+use Rattle.wac_plug.proofs.plugging.plug_each.Goals as goal
+use Rattle.wac_plug.proofs.plugging.plug_each.Goals.{then-has_match, else-has_match}
+
+pub loop-i-preserved : goal.loop-i-preserved
+loop-i-preserved c =
+    let one = c.in_ok-is_plugged.ensures.plugged in
+    let has : c.if-has_match.has_match ≡ (c.loop-i.has_match || c.in_ok-is_plugged.is_plugged) = elim c.if-has_match.branch [
+      | then-has_match w ↦ w.has_match-is ∙ (w.if-has_match.true ∙ sym (ap (λ a. a || c.in_ok-is_plugged.is_plugged) w.if-has_match.true))
+      | else-has_match w ↦ w.has_match-is ∙ sym (ap (λ a. a || c.in_ok-is_plugged.is_plugged) w.if-has_match.false)
+    ] in
+    record {
+      kept = keeps-trans c.args.graph.now c.loop-i.graph c.plug_one.new.graph c.loop-i.invariant.kept one.0;
+      plugged = λ answer new h. c.loop-i.invariant.plugged answer new (one-more (PlugsNamed c.args.socket c.args.node) c.args.plugs.now c.loop-i.i _ c.loop-i.graph (slice_get-get_or c.args.plugs.now c.loop-i.i _ c.loop-i-test.true) c.plug_one.new.graph (inr (one.1, (one.2.0, one.2.1, one.2.2))) answer new h);
+      matched = rw has (matched-more c.args.graph.now c.loop-i.graph c.args.socket _ c.args.plugs.now c.loop-i.i one.2.0 c.loop-i.has_match c.in_ok-is_plugged.is_plugged (slice_get-get_or c.args.plugs.now c.loop-i.i _ c.loop-i-test.true) c.loop-i.invariant.kept one.2.1 one.2.3 c.loop-i.invariant.matched);
+    }
+
+pub returns-clause-plugged : goal.returns-clause-plugged
+returns-clause-plugged c = (
+  c.loop-i.invariant.plugged (Ok tt) c.loop-i.graph (all-made (PlugsNamed c.args.socket c.args.node) c.args.plugs.now c.loop-i.i c.loop-i.graph c.loop-i-test.false),
+  c.loop-i.invariant.kept,
+  matched-all c.args.graph.now c.args.socket c.args.plugs.now c.loop-i.i c.loop-i.has_match c.loop-i-test.false c.loop-i.invariant.matched,
+)

@@ -1,0 +1,10 @@
+use Rattle.std.proofs.Common.{drop}
+use Rattle.wac_graph.specs.Graph.{Graph}
+use Rattle.wac_plug.specs.Plugging.{Answer, InOrder, Wires, Keeps}
+use Rattle.wac_plug.proofs.wiring.plug_in.Given as goal
+
+abbrev pub invariant-loop-i : goal.invariant-loop-i
+invariant-loop-i l = record {
+  kept : Keeps l.initial.graph l.graph;
+  wired : (answer : Answer) (new : Graph) → InOrder (Wires l.node l.socket) l.graph (drop l.i l.matches) answer new → InOrder (Wires l.node l.socket) l.initial.graph l.matches answer new;
+}

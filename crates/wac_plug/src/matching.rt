@@ -1,0 +1,161 @@
+//! Which exports of a plug match which imports of a socket.
+ghost use Rattle.std.specs.Prelude.{◌≡◌, ◌<◌, ℕ, true, length, slice_get, string_bytes, IfOk, OnOk, IsSomeAnd, MatchOption};
+ghost use Rattle.wac_collection.specs.Collection.{holds_type, holds_all, kind_types, world_imports, world_exports};
+ghost use Rattle.wac_shapes.specs.Kinds.{kind_type};
+ghost use Rattle.wac_shapes.specs.Name.{Name};
+ghost use Rattle.wac_shapes.specs.Named.{NoNameTwice};
+ghost use Rattle.wac_shapes.specs.declared.component.ItemKind.{ItemKind as AnItem};
+ghost use Rattle.wac_shapes.specs.declared.component.«Type».TheVariants.{World as world_type};
+ghost use Rattle.wac_plug.specs.Matching.{IsTarget, IsMatch, HasNoMatch, AreMatches};
+ghost use Rattle.wac_plug.specs.Tracks.{track_key, PutsFirst, AreFirsts};
+
+use std::alloc::{AllocError, Global};
+use std::marker::Model;
+use wac_graph::types::{ItemKind, Named, ShapeError, SubtypeChecker, TypeFault, Types, WorldId};
+use wac_names::Track;
+
+/// An export of a plug, and the import of the socket that it goes to.
+#[derive(Drop)]
+pub struct Match {
+    export: String,
+    import: String,
+}
+
+impl Model for Match {
+    ghost use Rattle.std.specs.Prelude.{string_bytes};
+    ghost use Rattle.wac_plug.specs.Matching.{Match};
+
+    ghost Value = { Match };
+
+    ghost view = { λ m. record { export = string_bytes m.export; import = string_bytes m.import } };
+}
+
+impl Match {
+    /// The match of an export and an import of these names.
+    fn new(alloc: Global, export: &str, import: &str) -> Result<Match, AllocError>
+        ensures { IfOk result (λ m. m ≡ record { export = export.now; import = import.now }) }
+    {
+        let export = String::from_str(alloc, export)?;
+        let import = String::from_str(alloc, import)?;
+        Ok(Match { export, import })
+    }
+
+    /// The name of the export.
+    pub fn export(&self) -> &str
+        ensures { result.now ≡ self.now.export }
+    {
+        self.export.as_str()
+    }
+
+    /// The name of the import.
+    pub fn import(&self) -> &str
+        ensures { result.now ≡ self.now.import }
+    {
+        self.import.as_str()
+    }
+}
+
+/// The text that names share exactly where they are on one track.
+fn track_key(alloc: Global, name: &str) -> Result<String, AllocError>
+    ensures { IfOk result (λ key. string_bytes key ≡ track_key name.now) }
+{
+    Track::new(alloc, name)?.to_key(alloc)
+}
+
+/// Puts a position under a key, unless there is one.
+fn put_first(
+    alloc: Global,
+    firsts: &mut Named<usize>,
+    key: &str,
+    position: usize,
+) -> Result<(), AllocError>
+    ensures { OnOk result (PutsFirst firsts.old key.now position firsts.new) }
+{
+    match firsts.insert(alloc, key, position) {
+        Ok(()) => Ok(()),
+        Err(ShapeError::NameTwice) => Ok(()),
+        Err(ShapeError::OutOfMemory) => Err(AllocError),
+    }
+}
+
+/// The position of the first import on each track, under the track's key.
+pub fn first_on_tracks(alloc: Global, imports: &Named<ItemKind>) -> Result<Named<usize>, AllocError>
+    ensures { IfOk result (λ firsts. AreFirsts imports.now firsts) }
+{
+    let mut firsts = Named::new(alloc);
+    for i in 0..imports.len() {
+        let key = track_key(alloc, imports.name_at(i))?;
+        put_first(alloc, &mut firsts, key.as_str(), i)?;
+    }
+    Ok(firsts)
+}
+
+/// The position of the import that an export of this name goes to: the one of its name, else the first on one track with
+/// it.
+fn target(
+    alloc: Global,
+    imports: &Named<ItemKind>,
+    firsts: &Named<usize>,
+    name: &str,
+) -> Result<Option<usize>, AllocError>
+    requires { AreFirsts imports.now firsts.now }
+    ensures { IfOk result (λ o. MatchOption o ((t : Name × AnItem) → IsTarget imports.now name.now t → ⊥) (λ i. IsSomeAnd (slice_get imports.now i) (IsTarget imports.now name.now))) }
+{
+    if let Some((position, _)) = imports.get_full(name) {
+        return Ok(Some(position));
+    }
+    let key = track_key(alloc, name)?;
+    Ok(firsts.get(key.as_str()).copied())
+}
+
+/// The match of an export of this name and kind, where it has one.
+fn find_match(
+    types: &Types,
+    imports: &Named<ItemKind>,
+    firsts: &Named<usize>,
+    name: &str,
+    kind: ItemKind,
+) -> Result<Option<Match>, AllocError>
+    requires firsts { AreFirsts imports.now firsts.now }
+    requires imports { holds_all types.now (kind_types imports.now) ≡ true }
+    requires kind { holds_type types.now (kind_type kind) ≡ true }
+    ensures { IfOk result (λ o. MatchOption o (HasNoMatch types.now imports.now (name.now, kind)) (IsMatch types.now imports.now (name.now, kind))) }
+{
+    let alloc = types.allocator();
+    let Some(position) = target(alloc, imports, firsts, name)? else {
+        return Ok(None);
+    };
+    let (import, wanted) = imports.entry_at(position);
+    match SubtypeChecker::new().is_subtype(kind, types, *wanted, types) {
+        Ok(()) => Ok(Some(Match::new(alloc, name, import)?)),
+        Err(TypeFault::Mismatch) => Ok(None),
+        Err(TypeFault::OutOfMemory) => Err(AllocError),
+    }
+}
+
+/// The matches of the exports of a plug's world, in order.
+pub fn find_matches(
+    types: &Types,
+    plug: WorldId,
+    socket: WorldId,
+    firsts: &Named<usize>,
+) -> Result<Vec<Match>, AllocError>
+    requires plug { holds_type types.now (world_type plug) ≡ true }
+    requires socket { holds_type types.now (world_type socket) ≡ true }
+    requires firsts { AreFirsts (world_imports types.now socket) firsts.now }
+    ensures matches { IfOk result (λ ms. AreMatches types.now (world_imports types.now socket) (world_exports types.now plug) ms.items) }
+    ensures named { OnOk result (NoNameTwice (world_exports types.now plug)) }
+{
+    types.law();
+    let exports = &types[plug].exports;
+    exports.law();
+    let imports = &types[socket].imports;
+    let mut matches = Vec::new(types.allocator());
+    for i in 0..exports.len() {
+        let (name, kind) = exports.entry_at(i);
+        if let Some(found) = find_match(types, imports, firsts, name, *kind)? {
+            matches.push(found)?;
+        }
+    }
+    Ok(matches)
+}

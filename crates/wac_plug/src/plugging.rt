@@ -1,0 +1,125 @@
+//! The call that plugs components together.
+ghost use Rattle.std.specs.Prelude.{◌≡◌, ◌⊎◌, ℕ, List, [], Some, IsSome, IfOk, IfErr, OnOk, slice_get, Ok, Err};
+ghost use Rattle.wac_graph.specs.Graph.{node_at, package_at};
+ghost use Rattle.wac_graph.specs.declared.errors.AliasError.{AliasError as AnAliasFault};
+ghost use Rattle.wac_graph.specs.declared.errors.InstantiationArgumentError.{InstantiationArgumentError as AFault};
+ghost use Rattle.wac_graph.specs.declared.packages.PackageId.{PackageId as AnId};
+ghost use Rattle.wac_shapes.specs.Named.{NoNameTwice};
+ghost use Rattle.wac_plug.specs.Matching.{Match, AreMatchesOf, AreAllMatches, imports_of_package, exports_of_package};
+ghost use Rattle.wac_plug.specs.Naming.{PlugsNamed, PlugsAllNamed};
+ghost use Rattle.wac_plug.specs.Outcome.{IsMatchedTwice, IsAlreadyPassed};
+ghost use Rattle.wac_plug.specs.Plugging.{InOrder, PlugsAll, PlugsIn, Keeps, has_any};
+ghost use Rattle.wac_plug.specs.Tracks.{AreFirsts};
+
+use crate::errors::{PlugError, PlugFault};
+use crate::matching::{find_matches, first_on_tracks};
+use crate::wiring::{pass_on_all, plug_in};
+use std::alloc::AllocError;
+use wac_graph::types::Named;
+use wac_graph::{CompositionGraph, NodeId, PackageId};
+
+/// Finds the matches of a plug, and plugs it in by them. Answers whether there are any.
+fn plug_one(
+    graph: &mut CompositionGraph,
+    plug: PackageId,
+    socket: PackageId,
+    node: NodeId,
+    firsts: &Named<usize>,
+) -> Result<bool, PlugError>
+    requires plug { IsSome (package_at graph.old plug) }
+    requires socket { IsSome (package_at graph.old socket) }
+    requires node { IsSome (node_at graph.old node) }
+    requires firsts { AreFirsts (imports_of_package graph.old socket) firsts.now }
+    ensures plugged { IfOk result (λ has_match. Keeps graph.old graph.new × NoNameTwice (exports_of_package graph.old plug) × ((ms : List Match) × AreMatchesOf graph.old socket plug ms × PlugsIn plug node graph.old ms (Ok tt) graph.new × (has_match ≡ has_any ms))) }
+    ensures refused { IfErr result (λ e. PlugsNamed socket node graph.old plug (Err e) graph.new) }
+{
+    graph.law();
+    let matches = find_matches(graph.types(), graph[plug].ty(), graph[socket].ty(), firsts)?;
+    plug_in(graph, plug, node, &matches)?;
+    Ok(!matches.is_empty())
+}
+
+/// Plugs in each plug that matches, in order. Answers whether one does.
+fn plug_each(
+    graph: &mut CompositionGraph,
+    plugs: &[PackageId],
+    socket: PackageId,
+    node: NodeId,
+    firsts: &Named<usize>,
+) -> Result<bool, PlugError>
+    requires plugs { (i : ℕ) (id : AnId) → slice_get plugs.now i ≡ Some id → IsSome (package_at graph.old id) }
+    requires socket { IsSome (package_at graph.old socket) }
+    requires node { IsSome (node_at graph.old node) }
+    requires firsts { AreFirsts (imports_of_package graph.old socket) firsts.now }
+    ensures plugged { IfOk result (λ has_match. InOrder (PlugsNamed socket node) graph.old plugs.now (Ok tt) graph.new × Keeps graph.old graph.new × ((ms : List Match) × AreAllMatches graph.old socket plugs.now ms × (has_match ≡ has_any ms))) }
+    ensures refused { IfErr result (λ e. InOrder (PlugsNamed socket node) graph.old plugs.now (Err e) graph.new) }
+{
+    let mut has_match = false;
+    for i in 0..plugs.len() {
+        let is_plugged = plug_one(graph, plugs[i], socket, node, firsts)?;
+        has_match = has_match || is_plugged;
+    }
+    Ok(has_match)
+}
+
+/// The position of the first import of a socket on each track, under the track's key.
+fn import_tracks(graph: &CompositionGraph, socket: PackageId) -> Result<Named<usize>, AllocError>
+    requires { IsSome (package_at graph.now socket) }
+    ensures firsts { IfOk result (λ firsts. AreFirsts (imports_of_package graph.now socket) firsts) }
+    ensures named { OnOk result (NoNameTwice (imports_of_package graph.now socket)) }
+{
+    graph.law();
+    let world = graph[socket].ty();
+    let imports = &graph.types()[world].imports;
+    imports.law();
+    first_on_tracks(graph.types().allocator(), imports)
+}
+
+/// Plugs packages into a socket, as [`plug`] says.
+fn plug_all(
+    graph: &mut CompositionGraph,
+    plugs: &[PackageId],
+    socket: PackageId,
+) -> Result<(), PlugError>
+    requires plugs { (i : ℕ) (id : AnId) → slice_get plugs.now i ≡ Some id → IsSome (package_at graph.old id) }
+    requires socket { IsSome (package_at graph.old socket) }
+    ensures { PlugsAllNamed graph.old plugs.now socket result graph.new }
+{
+    graph.law();
+    let firsts = import_tracks(graph, socket)?;
+    let world = graph[socket].ty();
+    let node = graph.instantiate(socket)?;
+    let has_match = plug_each(graph, plugs, socket, node, &firsts)?;
+    if !has_match {
+        return Err(PlugError::NoPlugHappened);
+    }
+    pass_on_all(graph, world, node)
+}
+
+/// Plugs packages into a socket, a package too.
+///
+/// The socket is instantiated. Then for each plug in order each export of its world is matched, in order: with the
+/// socket's import of its name, or, where there is none, with the first on one track with it, where the export's kind is a
+/// subtype of the import's. A plug with a match is instantiated once, and each export that matches is aliased and set as the
+/// argument. At last each export of the socket's world is aliased and exported by its name, in order.
+///
+/// Answers `NoPlugHappened` where nothing matches, `GraphError` where an import is matched twice (`ArgumentAlreadyPassed`)
+/// or an export of the socket may not be exported (the error of `export`), and `OutOfMemory` where memory ran out. What the
+/// steps before a refusal made stays, and nothing else has changed.
+pub fn plug(
+    graph: &mut CompositionGraph,
+    plugs: Vec<PackageId>,
+    socket: PackageId,
+) -> Result<(), PlugError>
+    requires plugs { (i : ℕ) (id : AnId) → slice_get plugs.items i ≡ Some id → IsSome (package_at graph.old id) }
+    requires socket { IsSome (package_at graph.old socket) }
+    ensures step { PlugsAll graph.old plugs.items socket result graph.new }
+    ensures twice { (ms : List Match) → AreAllMatches graph.old socket plugs.items ms → IsMatchedTwice ms → IsAlreadyPassed result ⊎ (result ≡ Err PlugError.OutOfMemory) }
+    ensures only_twice { (e : AFault) → result ≡ Err (PlugError.GraphError (PlugFault.Argument e)) → IsAlreadyPassed result × ((ms : List Match) → AreAllMatches graph.old socket plugs.items ms → IsMatchedTwice ms) }
+    ensures no_alias { (e : AnAliasFault) → result ≡ Err (PlugError.GraphError (PlugFault.Alias e)) → ⊥ }
+    ensures nothing { AreAllMatches graph.old socket plugs.items [] → (result ≡ Err PlugError.NoPlugHappened) ⊎ (result ≡ Err PlugError.OutOfMemory) }
+    ensures only_nothing { result ≡ Err PlugError.NoPlugHappened → AreAllMatches graph.old socket plugs.items [] }
+{
+    graph.law();
+    plug_all(graph, &plugs, socket)
+}

@@ -1,0 +1,80 @@
+//! What plugging adds to a graph.
+ghost use Rattle.std.specs.Prelude.{◌≡◌, true, IsSome, OnOk};
+ghost use Rattle.wac_collection.specs.Collection.{holds_type, world_exports};
+ghost use Rattle.wac_shapes.specs.Named.{names_of};
+ghost use Rattle.wac_shapes.specs.declared.component.«Type».TheVariants.{World as world_type};
+ghost use Rattle.wac_graph.specs.Graph.{node_at, package_at};
+ghost use Rattle.wac_plug.specs.Plugging.{InOrder, Wires, PlugsIn, PassesOn, Keeps};
+
+use crate::errors::PlugError;
+use crate::matching::Match;
+use wac_graph::types::WorldId;
+use wac_graph::{CompositionGraph, NodeId, PackageId};
+
+/// Gives the export of a plug's node to the socket's node: its alias becomes the argument for the import.
+fn wire(
+    graph: &mut CompositionGraph,
+    plug: NodeId,
+    socket: NodeId,
+    found: &Match,
+) -> Result<(), PlugError>
+    requires plug { IsSome (node_at graph.old plug) }
+    requires socket { IsSome (node_at graph.old socket) }
+    ensures step { Wires plug socket graph.old found.now result graph.new }
+    ensures kept { OnOk result (Keeps graph.old graph.new) }
+{
+    let alias = graph.alias_instance_export(plug, found.export())?;
+    graph.set_instantiation_argument(socket, found.import(), alias)?;
+    Ok(())
+}
+
+/// Plugs in one plug by its matches; without a match it is left out.
+pub fn plug_in(
+    graph: &mut CompositionGraph,
+    plug: PackageId,
+    socket: NodeId,
+    matches: &[Match],
+) -> Result<(), PlugError>
+    requires plug { IsSome (package_at graph.old plug) }
+    requires socket { IsSome (node_at graph.old socket) }
+    ensures step { PlugsIn plug socket graph.old matches.now result graph.new }
+    ensures kept { OnOk result (Keeps graph.old graph.new) }
+{
+    if matches.is_empty() {
+        return Ok(());
+    }
+    let node = graph.instantiate(plug)?;
+    for i in 0..matches.len() {
+        wire(graph, node, socket, &matches[i])?;
+    }
+    Ok(())
+}
+
+/// Exports the socket's export of this name by its name.
+fn pass_on(graph: &mut CompositionGraph, socket: NodeId, name: &str) -> Result<(), PlugError>
+    requires { IsSome (node_at graph.old socket) }
+    ensures step { PassesOn socket graph.old name.now result graph.new }
+    ensures kept { OnOk result (Keeps graph.old graph.new) }
+{
+    let alias = graph.alias_instance_export(socket, name)?;
+    graph.export(alias, name)?;
+    Ok(())
+}
+
+/// Exports each export of the socket, an instance of a package of this world, by its name, in order.
+pub fn pass_on_all(
+    graph: &mut CompositionGraph,
+    world: WorldId,
+    socket: NodeId,
+) -> Result<(), PlugError>
+    requires world { holds_type graph.old.types (world_type world) ≡ true }
+    requires socket { IsSome (node_at graph.old socket) }
+    ensures { InOrder (PassesOn socket) graph.old (names_of (world_exports graph.old.types world)) result graph.new }
+{
+    let alloc = graph.types().allocator();
+    for i in 0..graph.types()[world].exports.len() {
+        let name = String::from_str(alloc, graph.types()[world].exports.name_at(i))?;
+        pass_on(graph, socket, name.as_str())?;
+    }
+    Ok(())
+}
