@@ -174,11 +174,10 @@ impl TypeAggregator {
         requires { self.now.is_finished ≡ true }
         ensures { (q : AResource) → (result ≡ Some q) ↔ IsBoundAs by_names self.now.entries self.now.merge id.now name.now q }
     {
-        if self.binds(id, name) {
-            self.own_resource(id, name)
-        } else {
-            None
+        if !self.binds(id, name) {
+            return None;
         }
+        self.own_resource(id, name)
     }
 
     /// Of a finished aggregator, whether the class of a name binds a resource under another.
