@@ -2,3 +2,4 @@ pub mod Links
 pub mod MergedRows
 pub mod FaultLemmas
 pub mod OrderOnce
+pub mod BoundLookups

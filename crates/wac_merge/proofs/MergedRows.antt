@@ -228,7 +228,7 @@ id_under_label = refl
 pub no_id : class_id simple without_ids one_label (5 ∷ []) ≡ None
 no_id = refl
 
--- of a finished merge: the import of an id binds its own resources under their names, and nothing else
+-- of a finished merge: the import of an id lists its own resources under their names, and nothing else
 abbrev finished : Merged
 finished = record {
   types = record {
@@ -266,6 +266,35 @@ other_id_binds_nothing = refl
 
 pub label_binds_nothing : bound_resource finished (5 ∷ []) r ≡ None
 label_binds_nothing = refl
+
+-- a second member without an id adds an own resource to the import, which the class does not bind
+abbrev with_addition : Collection
+with_addition = record {
+  resources = resource_called r ∷ resource_called g ∷ [];
+  funcs = [];
+  defined = [];
+  interfaces = interface_of (Some (1 ∷ 0 ∷ [])) [] ((r, of_resource 0) ∷ []) ∷ interface_of None [] ((g, of_resource 1) ∷ []) ∷ [];
+  worlds = [];
+  modules = [];
+}
+
+abbrev addition_asked : List Entry
+addition_asked = record { name = 1 ∷ 0 ∷ []; kind = of_interface 0 } ∷ record { name = 1 ∷ 0 ∷ []; kind = of_interface 1 } ∷ []
+
+abbrev addition_finished : Merged
+addition_finished = record {
+  types = record with_addition { interfaces = interface_of (Some (1 ∷ 0 ∷ [])) [] ((r, of_resource 0) ∷ (g, of_resource 1) ∷ []) ∷ [] };
+  imports = record { name = 1 ∷ 0 ∷ []; kind = of_interface 0 } ∷ [];
+}
+
+pub addition_is_listed : bound_resource addition_finished (1 ∷ 0 ∷ []) g ≡ Some (record { 0 = 1 })
+addition_is_listed = refl
+
+pub addition_is_not_bound : class_binds simple with_addition addition_asked (1 ∷ 0 ∷ []) (record { 0 = 1 }) ≡ None
+addition_is_not_bound = refl
+
+pub first_own_is_bound : class_binds simple with_addition addition_asked (1 ∷ 0 ∷ []) (record { 0 = 0 }) ≡ Some (named r ∷ [])
+first_own_is_bound = refl
 
 -- a whole merge: the two versions are one import, of an interface with both functions
 abbrev two_finished : Merged

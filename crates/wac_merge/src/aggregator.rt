@@ -11,8 +11,10 @@ ghost use Rattle.wac_terms.specs.ClassOrder.{IsWrittenOrder};
 ghost use Rattle.wac_entries.specs.Classes.{AreClasses, by_names, canonical, class_names, imported_as};
 ghost use Rattle.wac_agreement.specs.Faults.{Fault as AFault, HasFault, HasNoCircle, fault_of, use_each_other};
 ghost use Rattle.wac_terms.specs.NoDisagreement.{HasNoDisagreement};
+ghost use Rattle.wac_terms.specs.Merge.{IsMerge, bound_resource, import_entries, listed_resource, own_resource};
+ghost use Rattle.wac_unions.specs.MergedScope.{BindsAsClasses, BindsUnder, IsBoundAs};
 ghost use Rattle.wac_types.specs.TreeLaws.{IsKeptBy, KeepsTrees};
-ghost use Rattle.wac_terms.specs.Merge.{AreBound, IsMerge, bound_resource, import_entries, listed_resource, own_resource};
+ghost use Rattle.wac_shapes.specs.declared.component.ResourceId.{ResourceId as AResource};
 
 use std::alloc::{AllocError, Global};
 use std::marker::Model;
@@ -26,12 +28,14 @@ use wac_entries::classes::Classes;
 use wac_entries::entry::Entry;
 use wac_entries::nodes::Nodes;
 use wac_types::{ItemKind, Named, ResourceId, Type, Types};
+use wac_unions::bound::class_binds;
 use wac_unions::merged::Merged;
 
-/// The classes of entries, and their merge.
+/// The classes of entries, what they bind, and their merge.
 #[derive(Drop)]
 struct Finished {
     classes: Classes,
+    bindings: Bindings,
     merged: Merged,
 }
 
@@ -56,14 +60,13 @@ impl Drop for TypeAggregator {
 impl Model for TypeAggregator {
     ghost use Rattle.std.specs.Prelude.{is_some, IfSome};
     ghost use Rattle.wac_shapes.specs.Name.{option_case};
-    ghost use Rattle.wac_merge.specs.Aggregate.{Aggregate, nothing};
-    ghost use Rattle.wac_entries.specs.Classes.{AreClasses, by_names};
+    ghost use Rattle.wac_merge.specs.Aggregate.{Aggregate, AreKnown, nothing};
 
     ghost Value = { Aggregate };
 
     ghost view = { λ a. record { entries = a.entries.items; is_finished = is_some a.finished; merge = option_case a.finished nothing (λ f. f.merged) } };
 
-    ghost invariant = { λ a. IfSome a.finished (λ f. AreClasses by_names a.entries.items f.classes.numbers.items f.classes.positions.items f.classes.names) };
+    ghost invariant = { λ a. IfSome a.finished (λ f. AreKnown f.merged a.entries.items f.classes.numbers.items f.classes.positions.items f.classes.names f.bindings) };
 }
 
 impl TypeAggregator {
@@ -111,7 +114,7 @@ impl TypeAggregator {
         requires { AreHeld types.now self.entries }
         ensures finished { IfOk result (λ a. (a.entries ≡ self.entries) × (a.is_finished ≡ true)) }
         ensures merged { IfOk result (λ a. IsMerge by_names types.now self.entries a.merge) }
-        ensures bound { IfOk result (λ a. AreBound by_names types.now self.entries a.merge) }
+        ensures bound { IfOk result (λ a. BindsAsClasses by_names types.now self.entries a.merge) }
         ensures kept { IfOk result (λ a. IsKeptBy types.now a.merge.types) }
         ensures meant { IfOk result (λ a. KeepsTrees types.now a.merge.types) }
         ensures held { IfOk result (λ a. AreHeld a.merge.types a.merge.imports) }
@@ -133,7 +136,11 @@ impl TypeAggregator {
         Ok(TypeAggregator {
             alloc,
             entries,
-            finished: Some(Finished { classes, merged }),
+            finished: Some(Finished {
+                classes,
+                bindings,
+                merged,
+            }),
         })
     }
 
@@ -161,10 +168,38 @@ impl TypeAggregator {
         &finished.merged.types
     }
 
-    /// Of a finished aggregator, the resource of a name that the import of an interface's id binds: its own of that name; none
-    /// where there is none. Of a class's import it answers one under each name under which the class of entries binds a
-    /// resource, and none where no entry of the class lists an own resource of that name.
+    /// Of a finished aggregator, the resource that the import of an interface's id binds under a name: the own one of the
+    /// merged interface, where the class that is imported under the id binds a resource under the name; else none.
     pub fn resource(&self, id: &str, name: &str) -> Option<ResourceId>
+        requires { self.now.is_finished ≡ true }
+        ensures { (q : AResource) → (result ≡ Some q) ↔ IsBoundAs by_names self.now.entries self.now.merge id.now name.now q }
+    {
+        if !self.binds(id, name) {
+            return None;
+        }
+        self.own_resource(id, name)
+    }
+
+    /// Of a finished aggregator, whether the class of a name binds a resource under another.
+    fn binds(&self, id: &str, name: &str) -> bool
+        requires { self.now.is_finished ≡ true }
+        ensures { (result ≡ true) ↔ BindsUnder by_names self.now.merge.types self.now.entries id.now name.now }
+    {
+        let Some(finished) = &self.finished else {
+            unreachable!()
+        };
+        class_binds(
+            &finished.merged.types,
+            self.entries.as_slice(),
+            &finished.classes,
+            &finished.bindings,
+            id,
+            name,
+        )
+    }
+
+    /// Of a finished aggregator, the own resource of a name that the interface of an id's import lists.
+    fn own_resource(&self, id: &str, name: &str) -> Option<ResourceId>
         requires { self.now.is_finished ≡ true }
         ensures { result ≡ bound_resource self.now.merge id.now name.now }
     {

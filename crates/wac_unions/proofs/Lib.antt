@@ -10,4 +10,6 @@ pub mod AssembledItems
 pub mod AssembledSubtypes
 pub mod AssembledMerge
 pub mod AssembledHeld
+pub mod KeptBindings
+pub mod BoundNames
 pub mod AssembledBound

@@ -1,2 +1,4 @@
 pub mod MergedClasses
 pub mod WritingSteps
+pub mod BoundNames
+pub mod MergedScope

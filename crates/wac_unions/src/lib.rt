@@ -3,5 +3,6 @@
 //! Stands beside `wac_agreement`, below `wac_merge`, whose crate is the door.
 #![tactic(auto)]
 
+pub mod bound;
 pub mod merged;
 mod writing;

@@ -10,7 +10,8 @@ ghost use Rattle.wac_terms.specs.Became.{AreFresh};
 ghost use Rattle.wac_entries.specs.Bindings.{AreBindings, AreHeld};
 ghost use Rattle.wac_terms.specs.ClassOrder.{IsWrittenOrder};
 ghost use Rattle.wac_entries.specs.Classes.{AreClasses, Entry as AnEntry, by_names, class_names, same_class};
-ghost use Rattle.wac_terms.specs.Merge.{AreBound, IsMerge, import_entries, is_on_track};
+ghost use Rattle.wac_terms.specs.Merge.{IsMerge, import_entries, is_on_track};
+ghost use Rattle.wac_unions.specs.MergedScope.{BindsAsClasses};
 ghost use Rattle.wac_unions.specs.MergedClasses.{AreClassUnions, AreIds, AreImports, AreOnTrack, AreRoots, AreWrittenImports, IsClassKind, IsUnionId, first_id, with_root};
 ghost use Rattle.wac_terms.specs.MergedKinds.{AreListedOnce};
 ghost use Rattle.wac_renaming.specs.RenamedTypes.{CanRenameAll};
@@ -358,9 +359,10 @@ impl Merged {
         requires each { (k : ℕ) → (Contains order.now k ↔ k < length (class_names by_names entries.now)) }
         requires once { (i j k : ℕ) → slice_get order.now i ≡ Some k → slice_get order.now j ≡ Some k → i ≡ j }
         ensures merged { IfOk result (λ m. IsMerge by_names types.now entries.now m) }
-        ensures bound { IfOk result (λ m. AreBound by_names types.now entries.now m) }
+        ensures bound { IfOk result (λ m. BindsAsClasses by_names types.now entries.now m) }
         ensures begins { IfOk result (λ m. IsExtended types.now m.types) }
         ensures holds { IfOk result (λ m. AreHeld m.types m.imports) }
+        ensures asked { IfOk result (λ m. AreHeld m.types entries.now) }
     {
         types.law();
         types.uses_law();

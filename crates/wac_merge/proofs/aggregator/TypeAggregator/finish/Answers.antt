@@ -1,12 +1,13 @@
 use Rattle.std.proofs.Common.{ℕ, ◌≡◌, ◌<◌, List, length, Contains, refl, ap, sym, ◌∙◌, subst, Some, IfSome, ◌⊎◌, inr}
 use Rattle.std.specs.Prelude.{◌↔◌}
 use Rattle.wac_entries.specs.Bindings.{AreHeld}
-use Rattle.wac_merge.specs.Aggregate.{Aggregate, IsFault}
+use Rattle.wac_merge.specs.Aggregate.{Aggregate, AreKnown, IsFault}
 use Rattle.wac_entries.specs.Classes.{Entry, by_names, class_names}
 use Rattle.wac_agreement.specs.Faults.{HasFault, HasNoCircle, fault_of}
 use Rattle.wac_terms.specs.NoDisagreement.{HasNoDisagreement}
 use Rattle.wac_agreement.specs.declared.fault.MergeFault.{MergeFault}
 use Rattle.wac_agreement.specs.declared.fault.MergeFault.TheVariants.{OutOfMemory}
+use Rattle.wac_merge.proofs.BoundLookups.{bindings-kept}
 use Rattle.wac_merge.proofs.FaultLemmas.{exit_cause, exit_refused, names_fault, no_fault, refused_for}
 use Rattle.wac_merge.proofs.aggregator.TypeAggregator.finish.Goals as goal
 
@@ -74,3 +75,14 @@ returns-clause-meant c = c.in_ok-merged.ensures.begins.trees
 
 pub returns-clause-held : goal.returns-clause-held
 returns-clause-held c = c.in_ok-merged.ensures.holds
+
+pub invariant_of-result : goal.invariant_of-result
+invariant_of-result c =
+    let m = c.in_ok-merged.merged in
+    let k = c.in_ok-classes.classes in
+    let b = c.in_ok-bindings.bindings in
+    subst (λ (xs : List Entry). AreKnown m xs k.numbers.items k.positions.items k.names b) c.as_slice-asked.ensures.value (record {
+      held = c.in_ok-merged.ensures.asked;
+      classes = c.in_ok-classes.ensures;
+      bindings = bindings-kept c.args.types.now m.types c.as_slice-asked.result.now c.in_ok-merged.ensures.bound.same b c.in_ok-bindings.ensures;
+    })

@@ -1,14 +1,14 @@
-use Rattle.std.proofs.Common.{sym, ap, ◌∙◌}
-use Rattle.wac_terms.specs.Merge.{own_resource}
-use Rattle.wac_terms.proofs.OwnResources.{bound-nowhere, bound-there}
+use Rattle.wac_merge.proofs.BoundLookups.{bound-nothing, bound-own}
 use Rattle.wac_merge.proofs.aggregator.TypeAggregator.resource.Goals as goal
 
-pub returns-in_err-kind : goal.returns-in_err-kind
-returns-in_err-kind c =
-    c.from_residual.ensures ∙ sym (bound-nowhere c.args.self.now.merge c.args.id.now c.args.name.now c.imports.result.now c.imports.ensures c.get.result c.get.ensures c.in_err-kind.was)
-
 pub returns : goal.returns
-returns c =
+returns c q =
     let m = c.args.self.now.merge in
-    c.own_resource.ensures ∙ (ap (λ t. own_resource t c.args.id.now c.args.name.now c.in_ok-kind.kind.now) c.types.ensures
-    ∙ sym (bound-there m c.args.id.now c.args.name.now c.imports.result.now c.imports.ensures c.get.result c.in_ok-kind.kind c.get.ensures c.in_ok-kind.was))
+    let es = c.args.self.now.entries in
+    bound-own es m c.args.id.now c.args.name.now c.binds.result c.binds.ensures c.if-not-binds.false c.own_resource.result c.own_resource.ensures q
+
+pub returns-then-not-binds : goal.returns-then-not-binds
+returns-then-not-binds c q =
+    let m = c.args.self.now.merge in
+    let es = c.args.self.now.entries in
+    bound-nothing es m c.args.id.now c.args.name.now c.binds.result c.binds.ensures c.if-not-binds.true q

@@ -8,7 +8,8 @@ use Rattle.wac_unions.proofs.Assembled.{AreAssembled, AreDeep}
 use Rattle.wac_unions.proofs.AssembledBound.{bound-is}
 use Rattle.wac_unions.proofs.AssembledHeld.{imports-held}
 use Rattle.wac_unions.proofs.AssembledMerge.{agreed-pairs, can-rename-all, merge-is}
-use Rattle.wac_renaming.proofs.Extending.{extended_twice, still_fresh}
+use Rattle.wac_shapes.specs.Kinds.{kind_type}
+use Rattle.wac_renaming.proofs.Extending.{extended_twice, still_fresh, still_holds}
 use Rattle.wac_unions.proofs.merged.Merged.new.Goals as goal
 
 pub write_imports-requires-clause-each : goal.write_imports-requires-clause-each
@@ -76,5 +77,6 @@ returns c =
       merged = merge-is t m es u.roots us ps bs f w.ids w.ws c.args.order.now (import_entries c.in_ok-imports.imports) all deep c.requires.agreed;
       bound = bound-is t m es u.roots us ps bs f w.ids w.ws c.args.order.now (import_entries c.in_ok-imports.imports) all;
       begins = all.extended;
+      asked = λ i e at. still_holds t m all.extended (kind_type e.kind) (c.requires.held i e at);
       holds = imports-held t m es u.roots us ps bs f w.ids w.ws c.args.order.now (import_entries c.in_ok-imports.imports) all;
     }

@@ -1,0 +1,19 @@
+-- How a class binds a resource under a name, as it is looked up. Private functions alone cite this.
+use Rattle.std.specs.Prelude.{ℕ, ◌≡◌, List, [], ◌∷◌, Some, Contains}
+use Rattle.wac_shapes.specs.Name.{Name}
+use Rattle.wac_collection.specs.Tree.{named}
+use Rattle.wac_collection.specs.Collection.{Collection, interface_exports}
+use Rattle.wac_shapes.specs.declared.component.ResourceId.{ResourceId}
+use Rattle.wac_shapes.specs.declared.component.ItemKind.{ItemKind}
+use Rattle.wac_shapes.specs.declared.component.ItemKind.TheVariants as kind
+use Rattle.wac_shapes.specs.declared.component.«Type».TheVariants as ty
+use Rattle.wac_entries.specs.Bindings.{ClassBindings, path_in}
+
+-- the item is a resource that the class of this number binds under the name
+abbrev pub ItemBinds : ClassBindings → ℕ → Name → ItemKind → Type 0
+ItemBinds b k n x = (r : ResourceId) × (x ≡ kind.TypeItem (ty.Resource r)) × (path_in b k r ≡ Some (named n ∷ []))
+
+-- the item is an instance that lists such a resource under that name
+abbrev pub MemberBinds : Collection → ClassBindings → ℕ → Name → ItemKind → Type 0
+MemberBinds c b k n (kind.Instance i) = (x : ItemKind) × Contains (interface_exports c i) (n, x) × ItemBinds b k n x
+MemberBinds c b k n x = ⊥
