@@ -1,21 +1,18 @@
 -- What the compositions are.
-use Rattle.std.specs.Prelude.{◌≡◌, ℕ, List, [], Some, None, IsSomeAnd, true, false, codes, ◌⊎◌}
-use Rattle.std.specs.FinSet as set
+use Rattle.std.specs.Prelude.{◌≡◌, ℕ, List, [], Some, None, IsSomeAnd, false, codes, ◌⊎◌}
 use Rattle.wac_shapes.specs.Name.{Name}
 use Rattle.wac_collection.specs.Collection.{Collection, item_at, world_imports, world_exports}
 use Rattle.wac_collection.specs.Package.{PackageParts}
-use Rattle.wac_shapes.specs.declared.component.Interface.{Interface}
 use Rattle.wac_shapes.specs.declared.component.ItemKind.{ItemKind}
 use Rattle.wac_shapes.specs.declared.component.ItemKind.TheVariants as kind
-use Rattle.wac_shapes.specs.declared.component.World.{World}
 use Rattle.wac_binary.specs.Items.{Item}
 use Rattle.wac_binary.specs.Bytes.{preamble, bytes_of}
-use Rattle.wac_edges.specs.declared.edges.Edge.{Edge}
 use Rattle.wac_graph.specs.declared.node.NodeId.{NodeId}
 use Rattle.wac_graph.specs.declared.packages.PackageId.{PackageId}
-use Rattle.wac_graph.specs.Graph.{Graph, GraphNode, node_at, package_at, IsAliasOf, IsArgumentOf}
+use Rattle.wac_graph.specs.Graph.{Graph, node_at, package_at}
 use Rattle.wac_graph.specs.Means.{Means}
-use Rattle.wac_graph.specs.Steps.{IsEmpty, instance_node, export_named, import_named}
+use Rattle.wac_graph.specs.Steps.{IsEmpty, instance_node}
+use Rattle.wac_graph.specs.Stays.{IsAliasBy, IsArgumentBy}
 
 -- the bytes are those of items that mean such a graph
 abbrev pub Compose : List ℕ → (Graph → Type 0) → Type 0
@@ -24,14 +21,6 @@ Compose bytes P = (items : List Item) × (graph : Graph) × (bytes ≡ bytes_of 
 -- an instance of a package of this name
 abbrev pub IsInstanceOf : Graph → Name → NodeId → Type 0
 IsInstanceOf g name n = (id : PackageId) × (p : PackageParts) × (node_at g n ≡ Some (instance_node id p)) × (package_at g id ≡ Some p) × (p.name ≡ name)
-
--- the node is the alias of an instance's export of this name
-abbrev pub IsAliasBy : Graph → NodeId → Name → NodeId → Type 0
-IsAliasBy g instance name node = (n : GraphNode) × (e : ℕ × ItemKind) × (node_at g instance ≡ Some n) × (export_named g n name ≡ Some e) × IsAliasOf g instance e.0 node
-
--- the node is the argument for an instantiation's import of this name
-abbrev pub IsArgumentBy : Graph → NodeId → Name → NodeId → Type 0
-IsArgumentBy g consumer name node = (n : GraphNode) × (e : ℕ × ItemKind) × (node_at g consumer ≡ Some n) × (import_named g n name ≡ Some e) × IsArgumentOf g consumer e.0 node
 
 -- the export of an instance of the first package is the argument for an import of an instance of the second
 abbrev pub GivesExport : Graph → Name → Name → Name → Name → Type 0
@@ -52,14 +41,6 @@ IsEmptyPackage g id name imports exports =
 abbrev pub IsPlainFunction : Collection → ItemKind → Type 0
 IsPlainFunction types (kind.Func f) = item_at types.funcs f.0 ≡ Some (record { params = []; result = None; is_async = false })
 IsPlainFunction types _ = ⊥
-
--- what was in the graph is in it still
-pub record Stays (old new : Graph) : Type 0 where
-  pub nodes : (n : NodeId) (node : GraphNode) → node_at old n ≡ Some node → node_at new n ≡ Some node
-  pub edges : (e : Edge) → set.contains old.edges e ≡ true → set.contains new.edges e ≡ true
-  pub packages : (id : PackageId) (p : PackageParts) → package_at old id ≡ Some p → package_at new id ≡ Some p
-  pub interfaces : (i : ℕ) (interface : Interface) → item_at old.types.interfaces i ≡ Some interface → item_at new.types.interfaces i ≡ Some interface
-  pub worlds : (i : ℕ) (world : World) → item_at old.types.worlds i ≡ Some world → item_at new.types.worlds i ≡ Some world
 
 -- the words of the compositions
 abbrev pub empty_word : List ℕ

@@ -37,7 +37,7 @@ use Rattle.wac_edges.specs.Cycles.{step, further}
 use Rattle.wac_terms.specs.NoDisagreement.{HasNoDisagreement}
 use Rattle.wac_agreement.specs.Faults.{Disagrees, UseEachOther}
 use Rattle.wac_edges.specs.declared.edges.Edge.{Edge}
-use Rattle.wac_graph.specs.declared.encode.EncodeOptions.{EncodeOptions}
+use Rattle.wac_graph.specs.declared.options.EncodeOptions.{EncodeOptions}
 use Rattle.wac_graph.specs.Graph as graph
 use Rattle.wac_graph.specs.Graph.{Graph, GraphNode, node_at}
 use Rattle.wac_edges.specs.Order.{Edges, Leads, IsAcyclic}

@@ -1,8 +1,10 @@
 -- What the fields say of the nodes that are written.
-use Rattle.std.proofs.Common.{◌≡◌, ℕ, zero, suc, ◌<◌, ◌≤◌, Bool, true, false, List, [], ◌∷◌, length, refl, ap, ◌∙◌, sym, subst, arith, Option, Some, None, IfSome, IsSome, IsSomeAnd, is_some, inl, inr, get_or, String, Global, string_bytes}
+use Rattle.std.proofs.Common.{◌≡◌, ℕ, zero, suc, ◌<◌, ◌≤◌, Bool, true, false, List, [], ◌∷◌, ◌++◌, ◌+◌, length, refl, ap, ◌∙◌, sym, subst, arith, Option, Some, None, IfSome, IsSome, IsSomeAnd, IsTrue, is_some, inl, inr, get_or, String, Global, string_bytes}
 use Rattle.std.proofs.lemmas.Bool.Decides.{nat_tests}
 use Rattle.std.specs.Prelude.{slice_get, nat_lt}
-use Rattle.std.specs.Option.{option_map}
+use Rattle.std.proofs.lemmas.List.{get_or_append_left}
+use Rattle.std.proofs.Math.Seq.{get_or-append_seam}
+use Rattle.std.specs.Option.{option_map, option_and_then}
 use Rattle.std.specs.BTreeSet as positions
 use Rattle.std.specs.BTreeSet.{BTreeSet}
 use Rattle.std.specs.Ordering.{nat_cmp}
@@ -17,7 +19,7 @@ use Rattle.wac_graph.specs.declared.node.NodeKind.{NodeKind}
 use Rattle.wac_graph.specs.declared.node.NodeKind.TheVariants as code
 use Rattle.wac_graph.specs.declared.packages.PackageId.{PackageId}
 use Rattle.wac_graph.specs.declared.graph.CompositionGraph.TheInside.{Inside}
-use Rattle.wac_graph.specs.declared.encode.EncodeOptions.{EncodeOptions}
+use Rattle.wac_graph.specs.declared.options.EncodeOptions.{EncodeOptions}
 use Rattle.wac_edges.specs.Edge.{is_left}
 use Rattle.wac_graph.specs.Graph as graph
 use Rattle.wac_graph.specs.Graph.{Graph, GraphNode, Kind, node_at, package_at, package_in, package_of, imports_of}
@@ -26,7 +28,8 @@ use Rattle.wac_graph.specs.Means.{node_number, is_there}
 use Rattle.wac_graph.specs.Gives.{GivesNode}
 use Rattle.wac_graph.specs.NotYet.{IsNotYet, IsWritable, AllWritable, unset, defined, imported}
 use Rattle.wac_graph.proofs.NodeLemmas.{get-nodes_of}
-use Rattle.wac_graph.proofs.ArgumentLemmas.{owned, registered, world_there, package_is, imports_are}
+use Rattle.wac_graph.proofs.ArgumentLemmas.{owned, registered}
+use Rattle.wac_graph.proofs.JoinLemmas.{imports_of_package}
 
 -- the node of a number, as the fields have it
 pub node_is : (a : Inside) (n : ℕ) (o : Option Node) → get a.nodes n ≡ o → node_at (graph_of a) (node_number n) ≡ option_map node_of o
@@ -74,15 +77,35 @@ module _ (a : Inside) (v : Invariant a) (n : ℕ) (node : Node) (had : get a.nod
   pub registered_at : (o : PackageId) → node.«package» ≡ Some o → None ≡ package_in (slice_get a.slots.items o.slot) o → ⊥
   registered_at = let (s, is) = set_of in registered a v (node_number n) node s [] had is
 
-  pub world_at : (o : PackageId) (p : PackageParts) → node.«package» ≡ Some o → Some p ≡ package_in (slice_get a.slots.items o.slot) o → (p.world).0 < length (a.types).worlds
-  world_at o p some there = let (s, is) = set_of in world_there a v (node_number n) node s [] had is o p some there
+-- the world of a registered package is held
+pub world_registered : (a : Inside) → Invariant a → (id : PackageId) (p : PackageParts) → package_at (graph_of a) id ≡ Some p → (p.world).0 < length (a.types).worlds
+world_registered a v id p there = lt_of (p.world).0 (length (a.types).worlds) ((v.sound).packages id p there).0 where
+  lt_of : (k m : ℕ) → nat_lt k m ≡ true → k < m
+  lt_of k m h = grind (arith, nat_tests)
 
-  pub imports_at : (o : PackageId) (p : PackageParts) → node.«package» ≡ Some o → Some p ≡ package_in (slice_get a.slots.items o.slot) o → (w : World) → item_at (a.types).worlds (p.world).0 ≡ Some w
-      → IfSome (node_at (graph_of a) (node_number n)) (λ x. w.imports ≡ imports_of (graph_of a) x)
-  imports_at o p some there w at = let (s, is) = set_of in if_node a n node (λ x. w.imports ≡ imports_of (graph_of a) x) had (sym (imports_are a v (node_number n) node s [] had is o p some there w at))
+-- the package of a node, by its owner
+pub package_now : (g : Graph) (n : ℕ) (id : PackageId) (p : PackageParts) → IfSome (node_at g (node_number n)) (λ x. x.owner ≡ Some id) → package_at g id ≡ Some p → IfSome (node_at g (node_number n)) (λ x. package_of g x ≡ Some p)
+package_now g n id p owner there = by_node (node_at g (node_number n)) owner where
+  by_node : (o : Option GraphNode) → IfSome o (λ x. x.owner ≡ Some id) → IfSome o (λ x. package_of g x ≡ Some p)
+  by_node None h = tt
+  by_node (Some x) h = ap (option_and_then (package_at g)) h ∙ there
 
-  pub package_at_is : (o : PackageId) (p : PackageParts) → node.«package» ≡ Some o → Some p ≡ package_in (slice_get a.slots.items o.slot) o → IfSome (node_at (graph_of a) (node_number n)) (λ x. package_of (graph_of a) x ≡ Some p)
-  package_at_is o p some there = let (s, is) = set_of in if_node a n node (λ x. package_of (graph_of a) x ≡ Some p) had (package_is a v (node_number n) node s [] had is o p some there)
+-- and what it imports
+pub imports_now : (g : Graph) (n : ℕ) (id : PackageId) (p : PackageParts) (w : World) → IfSome (node_at g (node_number n)) (λ x. x.owner ≡ Some id) → package_at g id ≡ Some p → item_at (g.types).worlds (p.world).0 ≡ Some w
+    → IfSome (node_at g (node_number n)) (λ x. w.imports ≡ imports_of g x)
+imports_now g n id p w owner there at = by_node (node_at g (node_number n)) (package_now g n id p owner there) where
+  by_node : (o : Option GraphNode) → IfSome o (λ x. package_of g x ≡ Some p) → IfSome o (λ x. w.imports ≡ imports_of g x)
+  by_node None h = tt
+  by_node (Some x) h = sym (imports_of_package g x p h ∙ ap (λ y. option_case y [] (λ z. z.imports)) at)
+
+-- whether a node is there
+pub there_now : (g : Graph) (n : ℕ) (b : Bool) → (IsTrue b → IsSome (node_at g (node_number n))) × (IsSome (node_at g (node_number n)) → IsTrue b) → b ≡ is_there g n
+there_now g n b h = by_node b (node_at g (node_number n)) h where
+  by_node : (t : Bool) (o : Option GraphNode) → (IsTrue t → IsSome o) × (IsSome o → IsTrue t) → t ≡ option_case o false (λ x. true)
+  by_node true None h = sym (h.0 refl)
+  by_node true (Some x) h = refl
+  by_node false None h = refl
+  by_node false (Some x) h = h.1 refl
 
 -- no node is past the slots
 pub none_past : (a : Inside) (n : ℕ) → length a.nodes.slots ≤ n → get a.nodes n ≡ None
@@ -103,6 +126,12 @@ flag_past (b ∷ flags) (suc m) h = flag_past flags m (omega arith)
 -- flags for all nodes
 pub all_flags : (a : Inside) (flags : List Bool) (k : ℕ) → length flags ≡ k → length a.nodes.slots ≤ k → ((m : ℕ) → m < k → is_left flags m ≡ is_there (graph_of a) m) → (m : ℕ) → is_left flags m ≡ is_there (graph_of a) m
 all_flags a flags k many slots below m = by_lt m k (below m) (λ above. flag_past flags m (omega arith) ∙ sym (there_is a m ∙ ap is_some (none_past a m (omega arith))))
+
+-- one flag more
+pub next_flag : (g : Graph) (flags : List Bool) (k : ℕ) (b : Bool) → length flags ≡ k → ((m : ℕ) → m < k → is_left flags m ≡ is_there g m) → b ≡ is_there g k → (m : ℕ) → m < k + 1 → is_left (flags ++ b ∷ []) m ≡ is_there g m
+next_flag g flags k b many below now m small = by_lt m k
+    (λ under. get_or_append_left flags (b ∷ []) false m (omega (arith, many, under)) ∙ below m under)
+    (λ over. let same : m ≡ length flags = omega (arith, many, over, small) in let last : k ≡ m = omega (arith, over, small) in ap (is_left (flags ++ b ∷ [])) same ∙ get_or-append_seam flags b [] false ∙ now ∙ ap (is_there g) last)
 
 -- all nodes are writable where those below the capacity are
 pub all_writable : (a : Inside) (k : ℕ) → length a.nodes.slots ≤ k → ((m : ℕ) → m < k → IfSome (node_at (graph_of a) (node_number m)) (IsWritable (graph_of a) m)) → AllWritable (graph_of a)

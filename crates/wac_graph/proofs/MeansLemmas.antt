@@ -11,7 +11,7 @@ use Rattle.wac_binary.specs.Items.{Item, export_item}
 use Rattle.wac_binary.specs.Meaning.{Thing}
 use Rattle.wac_edges.specs.declared.edges.Edge.{Edge}
 use Rattle.wac_graph.specs.declared.node.NodeId.{NodeId}
-use Rattle.wac_graph.specs.declared.encode.EncodeOptions.{EncodeOptions}
+use Rattle.wac_graph.specs.declared.options.EncodeOptions.{EncodeOptions}
 use Rattle.wac_graph.specs.declared.graph.CompositionGraph.TheInside.{Inside}
 use Rattle.wac_edges.specs.Edge.{is_left}
 use Rattle.wac_graph.specs.Graph as graph
@@ -20,7 +20,7 @@ use Rattle.wac_graph.specs.Inside.{graph_of, Invariant}
 use Rattle.wac_graph.specs.Sound.{IsSound}
 use Rattle.wac_edges.specs.Order.{Writes, IsOnCycle, IsAcyclic, IsLowestOnCycle}
 use Rattle.wac_graph.specs.Means.{node_number, is_there, is_written, is_import, IsThing, sort_of_kind, export_item_of, Means}
-use Rattle.wac_graph.specs.Encoding.{WritesNode, Progress, WroteAll, index_in}
+use Rattle.wac_graph.specs.Encoding.{WritesNode, Progress, WroteAll, HasRoom, index_in}
 use Rattle.wac_graph.specs.NotYet.{AllWritable, IsNotYet, unset, defined, imported, undefined_components, processed}
 use Rattle.wac_edges.proofs.WrittenOrder.{has, written_left, minus-push, minus-true, split_writes, slice_get-middle}
 use Rattle.wac_graph.proofs.ThingLemmas.{IsPlain, is_written-node, node_of_written, all_things}
@@ -50,10 +50,6 @@ others_kept xs n i m other = get_or-set_other xs n m i 0 (λ same. grind (arith,
 
 length_kept : (xs : List ℕ) (n i : ℕ) → length (slice_set xs n i) ≡ length xs
 length_kept xs n i = length-set xs n i
-
--- there is an index for each node
-abbrev pub HasRoom : Graph → List ℕ → Type 0
-HasRoom g indexes = (n : ℕ) → IsSome (node_at g (node_number n)) → n < length indexes
 
 -- an export's name is none of those before it
 new_export : (g : Graph) → IsSound g → (es : List (Name × NodeId)) (x : Name × NodeId) (rest : List (Name × NodeId)) → g.exports ≡ es ++ x ∷ rest → IsAmong es x.0 → ⊥

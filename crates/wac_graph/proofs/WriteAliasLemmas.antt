@@ -1,5 +1,5 @@
 -- What the fields say of aliases and exports that are written.
-use Rattle.std.proofs.Common.{refl, ◌≡◌, ℕ, zero, suc, ◌+◌, ◌<◌, ◌≤◌, true, false, List, [], ◌∷◌, ◌++◌, length, take, ap, ◌∙◌, sym, subst, arith, Some, IfSome, IsSomeAnd, is_some, String, Global, string_bytes}
+use Rattle.std.proofs.Common.{refl, ◌≡◌, ℕ, zero, suc, ◌+◌, ◌<◌, ◌≤◌, true, false, List, [], ◌∷◌, ◌++◌, length, take, ap, ◌∙◌, sym, subst, arith, Some, IfSome, IsSome, IsSomeAnd, is_some, String, Global, string_bytes}
 use Rattle.std.specs.Prelude.{slice_get}
 use Rattle.std.specs.List.{flat_map}
 use Rattle.std.specs.Option.{option_map}
@@ -25,7 +25,7 @@ use Rattle.wac_graph.specs.Graph as graph
 use Rattle.wac_graph.specs.Graph.{Graph, GraphNode, node_at, exports_of}
 use Rattle.wac_graph.specs.Inside.{node_of, kind_of, graph_of, Invariant}
 use Rattle.wac_graph.specs.Means.{node_number, sort_of_kind, export_item_of}
-use Rattle.wac_graph.specs.Encoding.{WritesNode, writes_alias}
+use Rattle.wac_graph.specs.Encoding.{WritesNode, HasRoom, writes_alias}
 use Rattle.wac_graph.proofs.NodeLemmas.{there, text_pair}
 use Rattle.wac_graph.proofs.EncodingLemmas.{node_is, some_node, if_node}
 use Rattle.wac_graph.proofs.AliasLemmas.{exports_are}
@@ -42,6 +42,10 @@ entry_at a i name id h = slice_get-map (λ e. text_pair e) a.exports.entries i �
 -- an exported node is there
 pub exported_there : (a : Inside) → Invariant a → (i : ℕ) (name : String Global) (id : NodeId) → Some (name, id) ≡ slice_get a.exports.entries i → ContainsKey a.nodes id.0
 exported_there a v i name id h = there a.nodes.slots id.0 ((v.sound).exported i (string_bytes name) id (entry_at a i name id h))
+
+-- and has an index
+pub export_noted : (a : Inside) → Invariant a → (g : Graph) → graph_of a ≡ g → (xs : List ℕ) → HasRoom g xs → (i : ℕ) (name : String Global) (id : NodeId) → Some (name, id) ≡ slice_get a.exports.entries i → id.0 < length xs
+export_noted a v g is xs room i name id h = room id.0 (subst (λ x. IsSome (node_at x id)) is ((v.sound).exported i (string_bytes name) id (entry_at a i name id h)))
 
 -- one more export is written
 one_more : (a : Inside) (f : ℕ → ℕ) (i : ℕ) (name : String Global) (id : NodeId) (node : Node) (old mid : List Item)

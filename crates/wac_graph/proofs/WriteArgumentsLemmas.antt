@@ -1,11 +1,12 @@
 -- Steps of writing arguments, instantiations and nodes.
-use Rattle.std.proofs.Common.{◌≡◌, ℕ, zero, suc, ◌+◌, ◌<◌, ◌≤◌, Bool, true, false, List, [], ◌∷◌, ◌++◌, length, take, drop, refl, ap, ◌∙◌, sym, subst, arith, Option, Some, None, IfSome, IsSomeAnd, ◌⊎◌, inl, inr, String, Global, string_bytes}
+use Rattle.std.proofs.Common.{◌≡◌, ℕ, zero, suc, ◌+◌, ◌<◌, ◌≤◌, Bool, true, false, List, [], ◌∷◌, ◌++◌, length, take, drop, refl, ap, ◌∙◌, sym, subst, arith, Option, Some, None, IfSome, IsSome, IsSomeAnd, ◌⊎◌, inl, inr, String, Global, string_bytes}
 use Rattle.std.specs.Borrow.{Bor}
 use Rattle.std.specs.Prelude.{slice_get, slice_set, slice_index_or, nat_eq}
 use Rattle.std.specs.List.{list_any}
 use Rattle.std.proofs.lemmas.List.Folds.{list_any_at}
 use Rattle.std.proofs.lemmas.Option.{slice_get-get_or}
 use Rattle.std.proofs.lemmas.Bool.Decides.{nat_tests}
+use Rattle.std.proofs.lemmas.Grind.{get_or_default_zero}
 use Rattle.std.specs.Option.{option_map}
 use Rattle.std.specs.FinSet as set
 use Rattle.std.proofs.Math.Seq.{take-length}
@@ -24,12 +25,13 @@ use Rattle.wac_graph.specs.declared.node.NodeKind.TheVariants as code
 use Rattle.wac_graph.specs.declared.packages.PackageId.{PackageId}
 use Rattle.wac_graph.specs.declared.encode.Encoder.{Encoder}
 use Rattle.wac_graph.specs.declared.graph.CompositionGraph.TheInside.{Inside}
+use Rattle.wac_edges.specs.declared.edges.Edge.{Edge}
 use Rattle.wac_edges.specs.Edge.{argument_edge}
 use Rattle.wac_graph.specs.Graph as graph
-use Rattle.wac_graph.specs.Graph.{Graph, GraphNode, node_at, imports_of, package_in}
+use Rattle.wac_graph.specs.Graph.{Graph, GraphNode, node_at, imports_of, package_at}
 use Rattle.wac_graph.specs.Inside.{node_of, kind_of, graph_of, Invariant}
 use Rattle.wac_graph.specs.Means.{node_number, sort_of_kind, package_bytes}
-use Rattle.wac_graph.specs.Encoding.{IsArgumentItem, AreArgumentItems, index_in, HasComponent, WritesNode, writes_instantiation, Progress, Wrote, WroteAll}
+use Rattle.wac_graph.specs.Encoding.{IsArgumentItem, AreArgumentItems, index_in, HasComponent, HasRoom, WritesNode, writes_instantiation, Progress, Wrote, WroteAll}
 use Rattle.wac_graph.specs.EncoderView.{progress}
 use Rattle.wac_graph.specs.NotYet.{IsWritable}
 use Rattle.wac_graph.proofs.NodeLemmas.{there}
@@ -109,26 +111,22 @@ all_arguments g index n i imports args end are items = by_node (node_at g (node_
   by_node (Some x) h = subst (λ xs. AreArgumentItems g index n 0 xs (arguments_of args)) h whole
 
 -- an instantiation is written behind its package's component
-pub added_instantiation : (a : Inside) (g : Graph) → graph_of a ≡ g → (n : ℕ) (node : Node) (id : PackageId) (p : PackageParts) (bytes : List ℕ) (places read : List ℕ) (args given : List (Bor (List ℕ) × Sort × ℕ)) (c : ℕ) (components components' : List (PackageId × ℕ)) (items mid items' : List Item) (i : ℕ)
-    → get a.nodes n ≡ Some node → IsSomeAnd (node_at g (node_number n)) (λ x. x.kind ≡ graph.instantiation) → node.«package» ≡ Some id → Some p ≡ package_in (slice_get a.slots.items id.slot) id → bytes ≡ p.bytes → read ≡ places → given ≡ args
+pub added_instantiation : (g : Graph) (n : ℕ) (id : PackageId) (p : PackageParts) (bytes : List ℕ) (places read : List ℕ) (args given : List (Bor (List ℕ) × Sort × ℕ)) (c : ℕ) (components components' : List (PackageId × ℕ)) (items mid items' : List Item) (i : ℕ)
+    → IsSomeAnd (node_at g (node_number n)) (λ x. x.kind ≡ graph.instantiation) → IfSome (node_at g (node_number n)) (λ x. x.owner ≡ Some id) → package_at g id ≡ Some p → bytes ≡ p.bytes → read ≡ places → given ≡ args
     → IfSome (node_at g (node_number n)) (λ x. AreArgumentItems g (index_in read) n 0 (imports_of g x) (arguments_of args))
     → HasComponent bytes id c components components' items mid → items' ≡ mid ++ instantiate c (arguments_of given) ∷ [] → i ≡ indexes (space sort.Instance) mid
     → IfSome (node_at g (node_number n)) (λ x. WritesNode g n x (index_in places) components components' items items' i)
-added_instantiation a g e n node id p bytes places read args given c components components' items mid items' i had one owned there content placed same are has grown counted =
-    subst (λ h. IsSomeAnd (node_at h (node_number n)) (λ x. x.kind ≡ graph.instantiation) → IfSome (node_at h (node_number n)) (λ x. AreArgumentItems h (index_in read) n 0 (imports_of h x) (arguments_of args)) → IfSome (node_at h (node_number n)) (λ x. WritesNode h n x (index_in places) components components' items items' i)) e inner one are where
-      at : node_at (graph_of a) (node_number n) ≡ Some (node_of node)
-      at = node_is a n (Some node) had
+added_instantiation g n id p bytes places read args given c components components' items mid items' i one owner there content placed same are has grown counted = by_node (node_at g (node_number n)) one owner are where
+  its : HasComponent (package_bytes g id) id c components components' items mid
+  its = subst (λ b. HasComponent b id c components components' items mid) (content ∙ ap (λ (o : Option PackageParts). option_case o [] (λ it. it.bytes)) (sym there)) has
 
-      its : HasComponent (package_bytes (graph_of a) id) id c components components' items mid
-      its = subst (λ b. HasComponent b id c components components' items mid) (content ∙ ap (λ (o : Option PackageParts). option_case o [] (λ it. it.bytes)) there) has
+  last : items' ≡ mid ++ instantiate c (arguments_of args) ∷ []
+  last = grown ∙ ap (λ xs. mid ++ instantiate c (arguments_of xs) ∷ []) same
 
-      inner : IsSomeAnd (node_at (graph_of a) (node_number n)) (λ x. x.kind ≡ graph.instantiation) → IfSome (node_at (graph_of a) (node_number n)) (λ x. AreArgumentItems (graph_of a) (index_in read) n 0 (imports_of (graph_of a) x) (arguments_of args)) → IfSome (node_at (graph_of a) (node_number n)) (λ x. WritesNode (graph_of a) n x (index_in places) components components' items items' i)
-      inner one_ are_ =
-          let set : AreArgumentItems (graph_of a) (index_in read) n 0 (imports_of (graph_of a) (node_of node)) (arguments_of args) = subst (λ o. IfSome o (λ x. AreArgumentItems (graph_of a) (index_in read) n 0 (imports_of (graph_of a) x) (arguments_of args))) at are_ in
-          let here : AreArgumentItems (graph_of a) (index_in places) n 0 (imports_of (graph_of a) (node_of node)) (arguments_of args) = subst (λ r. AreArgumentItems (graph_of a) (index_in r) n 0 (imports_of (graph_of a) (node_of node)) (arguments_of args)) placed set in
-          let last : items' ≡ mid ++ instantiate c (arguments_of args) ∷ [] = grown ∙ ap (λ xs. mid ++ instantiate c (arguments_of xs) ∷ []) same in
-          subst (λ o. IfSome o (λ x. WritesNode (graph_of a) n x (index_in places) components components' items items' i)) (sym at)
-          (writes_instantiation id c mid (arguments_of args) (of_node a n node (λ x. x.kind ≡ graph.instantiation) one_ had) owned its here last counted)
+  by_node : (o : Option GraphNode) → IsSomeAnd o (λ x. x.kind ≡ graph.instantiation) → IfSome o (λ x. x.owner ≡ Some id) → IfSome o (λ x. AreArgumentItems g (index_in read) n 0 (imports_of g x) (arguments_of args))
+      → IfSome o (λ x. WritesNode g n x (index_in places) components components' items items' i)
+  by_node None k w h = tt
+  by_node (Some x) k w h = writes_instantiation id c mid (arguments_of args) k w its (subst (λ r. AreArgumentItems g (index_in r) n 0 (imports_of g x) (arguments_of args)) placed h) last counted
 
 -- a node's index is noted
 pub noted : (g : Graph) (n : ℕ) (old new last : Encoder) (i k : ℕ) → last ≡ new → k ≡ i → IfSome (node_at g (node_number n)) (λ x. WritesNode g n x (index_in old.indexes.items) old.components.items new.components.items old.builder new.builder i) → new.indexes ≡ old.indexes
@@ -172,3 +170,15 @@ is_listed xs i small = list_any_at (nat_eq (slice_index_or xs i 0)) xs i 0 small
 
 pub element : (xs : List ℕ) (i : ℕ) → i < length xs → slice_get xs i ≡ Some (slice_index_or xs i 0)
 element xs i small = slice_get-get_or xs i 0 small
+
+-- the source of an edge has an index
+pub source_noted : (a : Inside) → Invariant a → (g : Graph) → graph_of a ≡ g → (xs : List ℕ) → HasRoom g xs → (e : Edge) → set.contains a.edges e ≡ true → e.source < length xs
+source_noted a v g is xs room e stands = room e.source (subst (λ h. IsSome (node_at h (node_number e.source))) is ((v.sound).ends e stands).0)
+
+-- where the indexes are as many there is as much room
+pub room_kept : (g : Graph) (xs ys : List ℕ) → length ys ≡ length xs → HasRoom g xs → HasRoom g ys
+room_kept g xs ys same room n there = subst (λ k. n < k) (sym same) (room n there)
+
+-- what is read there is the index that is noted
+pub index_is : (xs : List ℕ) (n x : ℕ) → n < length xs → x ≡ slice_index_or xs n x → x ≡ index_in xs n
+index_is xs n x small e = e ∙ get_or_default_zero xs n x small

@@ -1,5 +1,5 @@
 -- What a node adds to the items that are written so far: the components by package, and the index of each node.
-use Rattle.std.specs.Prelude.{ℕ, suc, ◌≡◌, false, List, [], ◌∷◌, ◌++◌, Some, IfSome, slice_get, slice_set, slice_index_or, ◌⊎◌}
+use Rattle.std.specs.Prelude.{ℕ, suc, ◌≡◌, ◌<◌, false, length, IsSome, List, [], ◌∷◌, ◌++◌, Some, IfSome, slice_get, slice_set, slice_index_or, ◌⊎◌}
 use Rattle.std.specs.List.{list_any}
 use Rattle.wac_shapes.specs.Name.{Name}
 use Rattle.wac_shapes.specs.declared.component.ItemKind.{ItemKind}
@@ -59,6 +59,10 @@ pub record Progress : Type 0 where
 -- the index of a node
 abbrev pub index_in : List ℕ → ℕ → ℕ
 index_in indexes n = slice_index_or indexes n 0
+
+-- there is room for the index of each node
+abbrev pub HasRoom : Graph → List ℕ → Type 0
+HasRoom g indexes = (n : ℕ) → IsSome (node_at g (node_number n)) → n < length indexes
 
 -- a node is written
 abbrev pub Wrote : Graph → ℕ → Progress → Progress → Type 0

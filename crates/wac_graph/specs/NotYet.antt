@@ -1,6 +1,6 @@
 -- What is not written yet.
 use Rattle.std.specs.Prelude.{ℕ, ◌≡◌, ◌<◌, false, Some, IsSome, length, ◌⊎◌}
-use Rattle.wac_graph.specs.declared.encode.EncodeOptions.{EncodeOptions}
+use Rattle.wac_graph.specs.declared.options.EncodeOptions.{EncodeOptions}
 use Rattle.wac_shapes.specs.Name.{Name}
 use Rattle.wac_graph.specs.Graph as graph
 use Rattle.wac_graph.specs.Graph.{Graph, GraphNode, node_at, imports_of, IsSatisfied, IsUnsatisfied}

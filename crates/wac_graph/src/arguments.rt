@@ -13,7 +13,7 @@ ghost use Rattle.wac_graph.specs.Steps.{SetsArgument};
 ghost use Rattle.wac_graph.specs.declared.node.NodeId.{NodeId as AnId};
 
 use crate::errors::InstantiationArgumentError;
-use crate::graph::{CompositionGraph, package_in_slots};
+use crate::graph::CompositionGraph;
 use crate::node::{Node, NodeId, NodeKind};
 use slab::Slab;
 use std::alloc::AllocError;
@@ -53,12 +53,7 @@ impl CompositionGraph {
                 node: instantiation,
             });
         };
-        let Some(id) = node.package else {
-            unreachable!()
-        };
-        let Some(package) = package_in_slots(&self.slots, id) else {
-            unreachable!()
-        };
+        let (_, package) = self.package_of(instantiation.0);
         let world = &self.types[package.ty()];
         let Some((position, kind)) = world.imports.get_full(name) else {
             let name = String::from_str(self.alloc, name)?;

@@ -1,25 +1,25 @@
 //! Imports of instantiations that are not satisfied, under the name of an import node.
-ghost use Rattle.std.specs.Prelude.{◌≡◌, ◌<◌, ℕ, IsSomeAnd, OnOk, IfOk, IfErr, IfSome, IfNone, Some, length};
+ghost use Rattle.std.specs.Prelude.{◌≡◌, ◌<◌, ℕ, OnOk, IfOk, IfErr, IfSome, IfNone, Some, length};
 ghost use Rattle.std.specs.BTreeSet as positions;
 ghost use Rattle.std.specs.Ordering.{nat_cmp};
 ghost use Rattle.wac_shapes.specs.Name.{Name as AName};
 ghost use Rattle.wac_collection.specs.Package.{Key};
 ghost use Rattle.wac_graph.specs.Cause.{IsConflict, IsFirstConflict, HasNoConflict, cause_of, conflict as conflict_cause};
 ghost use Rattle.wac_graph.specs.Search.{Clashes, IsFirstOf, IsLowest, IsRefused};
-ghost use Rattle.wac_graph.specs.Graph.{node_at, package_of, instantiation};
+ghost use Rattle.wac_graph.specs.Graph.{node_at};
 ghost use Rattle.wac_graph.specs.Inside.{names_of};
 ghost use Rattle.wac_graph.specs.Means.{node_number};
 ghost use Rattle.wac_edges.specs.Order.{IsAcyclic};
-ghost use Rattle.wac_graph.specs.declared.encode.EncodeOptions.{EncodeOptions as Asked};
+ghost use Rattle.wac_graph.specs.declared.options.EncodeOptions.{EncodeOptions as Asked};
 ghost use Rattle.wac_graph.specs.declared.node.NodeId.{NodeId as AnId};
 
 use crate::errors::EncodeError;
-use crate::graph::{CompositionGraph, package_in_slots};
+use crate::graph::CompositionGraph;
 use crate::node::{NodeId, NodeKind};
 use indexmap::IndexMap;
 use std::alloc::AllocError;
 use std::collections::BTreeSet;
-use wac_types::{ItemKind, Named, Package};
+use wac_types::{ItemKind, Named};
 
 impl CompositionGraph {
     /// Refuses a graph with a conflict, by the first.
@@ -54,7 +54,8 @@ impl CompositionGraph {
         requires lowest { IsLowest self.now n }
         ensures { IfOk result (λ e. (key : Key) × (name : AName) × (cause_of e ≡ Some (conflict_cause import (node_number n) key name)) × IsFirstConflict self.now import (node_number n) key name) }
     {
-        let package = self.package_of(n).key()?;
+        let (_, package) = self.package_of(n);
+        let package = package.key()?;
         let name = String::from_str(self.alloc, self.imports_at(n).name_at(position))?;
         Ok(EncodeError::ImplicitImportConflict {
             import,
@@ -62,20 +63,6 @@ impl CompositionGraph {
             package,
             name,
         })
-    }
-
-    /// The package of an instantiation.
-    fn package_of(&self, n: usize) -> &Package
-        requires { IsSomeAnd (node_at self.now (node_number n)) (λ node. node.kind ≡ instantiation) }
-        ensures { IfSome (node_at self.now (node_number n)) (λ node. package_of self.now node ≡ Some result.now) }
-    {
-        let Some(id) = self.nodes[n].package else {
-            unreachable!()
-        };
-        match package_in_slots(&self.slots, id) {
-            Some(package) => package,
-            None => unreachable!(),
-        }
     }
 }
 

@@ -10,54 +10,25 @@ ghost use Rattle.wac_binary.specs.Views.{arguments_of};
 ghost use Rattle.wac_edges.specs.Edge.{is_left};
 ghost use Rattle.wac_graph.specs.Graph.{node_at, imports_of, instantiation, alias};
 ghost use Rattle.wac_graph.specs.Means.{Means, node_number, is_there, same_package, sort_of_kind, export_item_of};
-ghost use Rattle.wac_graph.specs.Encoding.{WritesNode, AreArgumentItems, Wrote, WroteAll, index_in};
+ghost use Rattle.wac_graph.specs.Encoding.{WritesNode, AreArgumentItems, Wrote, WroteAll, HasRoom, index_in};
 ghost use Rattle.std.specs.Result.{IsErrAnd};
 ghost use Rattle.wac_graph.specs.Cause.{Cause, cause_of, Stands};
 ghost use Rattle.wac_graph.specs.Search.{IsRefused};
 ghost use Rattle.wac_graph.specs.NotYet.{IsNotYet, IsWritable, AllWritable};
 ghost use Rattle.wac_edges.specs.Order.{Writes, IsOnCycle, IsAcyclic};
-ghost use Rattle.wac_graph.specs.declared.encode.EncodeOptions.{EncodeOptions as Asked};
+ghost use Rattle.wac_graph.specs.declared.options.EncodeOptions.{EncodeOptions as Asked};
 
 use crate::errors::EncodeError;
-use crate::graph::{CompositionGraph, package_in_slots};
+use crate::graph::CompositionGraph;
 use crate::node::{NodeId, NodeKind};
+use crate::options::EncodeOptions;
 use crate::packages::PackageId;
 use std::alloc::{AllocError, Global};
 use std::collections::BTreeSet;
 use wac_binary::{ComponentBuilder, Sort};
 use wac_edges::order::order;
 use wac_merge::laws::fault_law;
-use wac_types::{ItemKind, Named};
-
-/// What is named in the component as its processor.
-#[derive(Clone, Copy, Debug, PartialEq, Eq)]
-pub struct Processor<'a> {
-    /// The processor's name.
-    pub name: &'a str,
-    /// The processor's version.
-    pub version: &'a str,
-}
-
-/// How a graph is encoded.
-#[derive(Clone, Copy, Debug, PartialEq, Eq)]
-pub struct EncodeOptions<'a> {
-    /// Whether packages are defined in the component, rather than imported.
-    pub define_components: bool,
-    /// Whether the outer names are validated.
-    pub validate: bool,
-    /// The processor to be named, if any.
-    pub processor: Option<Processor<'a>>,
-}
-
-impl Default for EncodeOptions<'_> {
-    fn default() -> Self {
-        EncodeOptions {
-            define_components: true,
-            validate: true,
-            processor: None,
-        }
-    }
-}
+use wac_types::ItemKind;
 
 /// A component that is being written: its items, the component index of each package, and the index of each node.
 #[derive(Drop)]
@@ -156,42 +127,22 @@ impl CompositionGraph {
         }
     }
 
-    /// What the world of an instantiation's package imports.
-    pub(crate) fn imports_at(&self, n: usize) -> &Named<ItemKind>
-        requires { IsSomeAnd (node_at self.now (node_number n)) (λ node. node.kind ≡ instantiation) }
-        ensures { IfSome (node_at self.now (node_number n)) (λ node. result.now ≡ imports_of self.now node) }
-    {
-        let Some(id) = self.nodes[n].package else {
-            unreachable!()
-        };
-        let Some(package) = package_in_slots(&self.slots, id) else {
-            unreachable!()
-        };
-        &self.types[package.ty()].imports
-    }
-
     /// Which numbers are those of nodes.
     fn there(&self) -> Result<Vec<bool>, AllocError>
         ensures { IfOk result (λ there. (n : ℕ) → is_left there.items n ≡ is_there self.now n) }
     {
         let mut there = Vec::new(self.alloc);
         for n in 0..self.nodes.capacity() {
-            there.push(self.is_there(n))?;
+            there.push(self.has_node(NodeId(n)))?;
         }
         Ok(there)
-    }
-
-    fn is_there(&self, n: usize) -> bool
-        ensures { result ≡ is_there self.now n }
-    {
-        self.nodes.contains(n)
     }
 
     /// Writes these nodes one after another.
     fn write_nodes(&self, encoder: &mut Encoder, order: &[usize]) -> Result<(), EncodeError>
         requires writable { AllWritable self.now }
         requires nodes { (n : ℕ) → list_any (nat_eq n) order.now ≡ true → IsSome (node_at self.now (node_number n)) }
-        requires room { (n : ℕ) → IsSome (node_at self.now (node_number n)) → n < length encoder.old.indexes.items }
+        requires room { HasRoom self.now encoder.old.indexes.items }
         ensures written { OnOk result (WroteAll self.now order.now (progress encoder.old) (progress encoder.new)) }
         ensures kept { length encoder.new.indexes.items ≡ length encoder.old.indexes.items }
         ensures fault { IfErr result (λ e. cause_of e ≡ None) }
@@ -205,7 +156,8 @@ impl CompositionGraph {
     /// Writes a node, and notes the index at which it stands.
     fn write_node(&self, encoder: &mut Encoder, n: usize) -> Result<(), EncodeError>
         requires writable { IsSomeAnd (node_at self.now (node_number n)) (IsWritable self.now n) }
-        requires room { n < length encoder.old.indexes.items }
+        requires room { HasRoom self.now encoder.old.indexes.items }
+        requires noted { n < length encoder.old.indexes.items }
         ensures written { OnOk result (Wrote self.now n (progress encoder.old) (progress encoder.new)) }
         ensures kept { length encoder.new.indexes.items ≡ length encoder.old.indexes.items }
         ensures fault { IfErr result (λ e. cause_of e ≡ None) }
@@ -223,16 +175,12 @@ impl CompositionGraph {
     fn write_instantiation(&self, encoder: &mut Encoder, n: usize) -> Result<u32, EncodeError>
         requires instantiation { IsSomeAnd (node_at self.now (node_number n)) (λ node. node.kind ≡ instantiation) }
         requires set { IsSomeAnd (node_at self.now (node_number n)) (IsWritable self.now n) }
+        requires room { HasRoom self.now encoder.old.indexes.items }
         ensures written { IfOk result (λ i. IfSome (node_at self.now (node_number n)) (λ node. WritesNode self.now n node (index_in encoder.old.indexes.items) encoder.old.components.items encoder.new.components.items encoder.old.builder encoder.new.builder i)) }
         ensures kept { encoder.new.indexes ≡ encoder.old.indexes }
         ensures fault { IfErr result (λ e. cause_of e ≡ None) }
     {
-        let Some(id) = self.nodes[n].package else {
-            unreachable!()
-        };
-        let Some(package) = package_in_slots(&self.slots, id) else {
-            unreachable!()
-        };
+        let (id, package) = self.package_of(n);
         let arguments = self.arguments(&encoder.indexes, n)?;
         let component = encoder.component(id, package.bytes())?;
         Ok(encoder.builder.instantiate(component, &arguments)?)
@@ -243,6 +191,7 @@ impl CompositionGraph {
     fn arguments(&self, indexes: &[u32], n: usize) -> Result<Vec<(&str, Sort, u32)>, AllocError>
         requires instantiation { IsSomeAnd (node_at self.now (node_number n)) (λ node. node.kind ≡ instantiation) }
         requires set { IsSomeAnd (node_at self.now (node_number n)) (IsWritable self.now n) }
+        requires room { HasRoom self.now indexes.now }
         ensures { IfOk result (λ v. IfSome (node_at self.now (node_number n)) (λ node. AreArgumentItems self.now (index_in indexes.now) n 0 (imports_of self.now node) (arguments_of v.items))) }
     {
         let imports = self.imports_at(n);
@@ -252,14 +201,15 @@ impl CompositionGraph {
                 unreachable!()
             };
             let sort = sort_of(self.nodes[source].item_kind);
-            arguments.push((imports.name_at(i), sort, index_of(indexes, source)))?;
+            arguments.push((imports.name_at(i), sort, indexes[source]))?;
         }
         Ok(arguments)
     }
 
     /// Writes an alias, and answers its index.
     fn write_alias(&self, encoder: &mut Encoder, n: usize) -> Result<u32, EncodeError>
-        requires { IsSomeAnd (node_at self.now (node_number n)) (λ node. node.kind ≡ alias) }
+        requires alias { IsSomeAnd (node_at self.now (node_number n)) (λ node. node.kind ≡ alias) }
+        requires room { HasRoom self.now encoder.old.indexes.items }
         ensures written { IfOk result (λ i. IfSome (node_at self.now (node_number n)) (λ node. WritesNode self.now n node (index_in encoder.old.indexes.items) encoder.old.components.items encoder.new.components.items encoder.old.builder encoder.new.builder i)) }
         ensures kept { encoder.new.indexes ≡ encoder.old.indexes }
         ensures fault { IfErr result (λ e. cause_of e ≡ None) }
@@ -272,12 +222,13 @@ impl CompositionGraph {
         };
         let name = self.types[interface].exports.name_at(position);
         let sort = sort_of(self.nodes[n].item_kind);
-        let instance = index_of(&encoder.indexes, source);
+        let instance = encoder.indexes[source];
         Ok(encoder.builder.alias_export(sort, instance, name)?)
     }
 
     /// Writes the graph's exports, in its order.
     fn write_exports(&self, encoder: &mut Encoder) -> Result<(), EncodeError>
+        requires { HasRoom self.now encoder.old.indexes.items }
         ensures written { OnOk result (encoder.new.builder ≡ encoder.old.builder ++ flat_map (export_item_of self.now (index_in encoder.old.indexes.items)) self.now.exports) }
         ensures fault { IfErr result (λ e. cause_of e ≡ None) }
     {
@@ -286,7 +237,7 @@ impl CompositionGraph {
                 unreachable!()
             };
             let sort = sort_of(self.nodes[id.0].item_kind);
-            let index = index_of(&encoder.indexes, id.0);
+            let index = encoder.indexes[id.0];
             encoder.builder.export(name.as_str(), sort, index)?;
         }
         Ok(())
@@ -350,16 +301,6 @@ fn has_gap(satisfied: &BTreeSet<usize>, count: usize) -> bool
         }
     }
     false
-}
-
-/// The index of a node; 0 where none is noted.
-fn index_of(indexes: &[u32], n: usize) -> u32
-    ensures { result ≡ index_in indexes.now n }
-{
-    match indexes.get(n) {
-        Some(index) => *index,
-        None => 0,
-    }
 }
 
 /// The sort of an item's index.

@@ -10,12 +10,13 @@ mod errors;
 mod graph;
 mod imports;
 pub mod laws;
+mod lookups;
 mod merging;
 mod names;
 mod node;
+mod options;
 mod packages;
 
-pub use encode::{EncodeOptions, Processor};
 pub use errors::{
     AliasError, EncodeError, ExportError, ImportError, InstantiationArgumentError,
     RegisterPackageError,
@@ -24,6 +25,7 @@ pub use graph::CompositionGraph;
 pub use imports::Imports;
 pub use names::one_export_answer;
 pub use node::{Node, NodeId, NodeKind};
+pub use options::{EncodeOptions, Processor};
 pub use packages::PackageId;
 pub use wac_merge::MergeFault;
 pub use wac_names::NameFault;

@@ -9,7 +9,7 @@ ghost use Rattle.wac_graph.specs.Entries.{asked_entries, to_merge};
 ghost use Rattle.wac_graph.specs.EntriesLeft.{entry_view, IsHeldKind};
 ghost use Rattle.wac_edges.specs.Order.{IsAcyclic};
 ghost use Rattle.wac_graph.specs.Search.{IsRefused};
-ghost use Rattle.wac_graph.specs.declared.encode.EncodeOptions.{EncodeOptions as Asked};
+ghost use Rattle.wac_graph.specs.declared.options.EncodeOptions.{EncodeOptions as Asked};
 
 use crate::asked::AskedEntry;
 use crate::errors::EncodeError;
@@ -29,6 +29,9 @@ impl CompositionGraph {
         self.law();
         self.types.law();
         let entries = self.asked_entries()?;
+        if entries.is_empty() {
+            return Ok(());
+        }
         let aggregator = self.aggregated(entries.as_slice())?;
         match aggregator.finish(&self.types) {
             Ok(_) => Ok(()),

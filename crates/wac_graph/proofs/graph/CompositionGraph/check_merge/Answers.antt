@@ -1,4 +1,5 @@
-use Rattle.std.proofs.Common.{◌≡◌, List, map, ap, sym, ◌∙◌, subst}
+use Rattle.std.specs.Prelude.{◌==◌}
+use Rattle.std.proofs.Common.{◌≡◌, true, List, map, ap, sym, ◌∙◌, subst}
 use Rattle.std.specs.List.{AllByRecursion}
 use Rattle.wac_collection.specs.Collection.{Collection, IsWellFormed}
 use Rattle.wac_merge.specs.Aggregate.{IsFault}
@@ -12,7 +13,7 @@ use Rattle.wac_graph.specs.Entries.{asked_entries, to_merge}
 use Rattle.wac_graph.specs.EntriesLeft.{entry_view, IsHeldKind}
 use Rattle.wac_graph.specs.Graph.{Graph}
 use Rattle.wac_graph.proofs.AskedHeld.{held_entries}
-use Rattle.wac_graph.proofs.MergeLemmas.{is_fault, merge_held}
+use Rattle.wac_graph.proofs.MergeLemmas.{is_fault, merge_held, none_asked, nothing_merges}
 use Rattle.wac_graph.proofs.graph.CompositionGraph.check_merge.Goals as goal
 
 pub aggregated-requires : goal.aggregated-requires
@@ -51,3 +52,6 @@ merge_error-requires-clause-fault c =
     let f : MergeFault = c.in-Err.fault in
     subst (λ (t : Collection). IsFault t (to_merge (asked_entries g)) f) types
     (subst (λ (es : List merge.Entry). IsFault c.self.inside.types es f) entries (is_fault c.self.inside.types c.in_ok-aggregator.aggregator.entries f c.in-Err.ensures.fault))
+
+pub returns-then-is_empty-clause-merges : goal.returns-then-is_empty-clause-merges
+returns-then-is_empty-clause-merges c = nothing_merges c.args.self.now (none_asked c.in_ok-entries.entries.items c.args.self.now (subst (λ k. (k == 0) ≡ true) c.in_ok-entries.entries.ok.0 (sym c.is_empty.ensures ∙ c.if-is_empty.true)) c.in_ok-entries.ensures)

@@ -6,6 +6,7 @@ use Rattle.wac_graph.specs.Cause.{Stands, cause_of}
 use Rattle.wac_graph.specs.Encoding.{WroteAll}
 use Rattle.wac_graph.specs.EncoderView.{progress}
 use Rattle.wac_graph.proofs.MeansLemmas.{writes_all, has_room, in_order, means_all}
+use Rattle.wac_graph.proofs.WriteArgumentsLemmas.{room_kept}
 use Rattle.wac_graph.proofs.StandsLemmas.{stands_not_yet}
 use Rattle.wac_graph.proofs.CauseLemmas.{names_cause, refused_for, none_stands, at_not_yet, exit_cause, exit_refused}
 use Rattle.wac_graph.proofs.graph.CompositionGraph.encode.Goals as goal
@@ -83,3 +84,7 @@ returns-clause-means c =
           c.write_exports.new.encoder.builder
           c.in_ok-write_exports.ensures.written,
     )
+
+pub write_exports-requires : goal.write_exports-requires
+write_exports-requires c = room_kept c.args.self.now c.in_ok-encoder.encoder.indexes.items c.write_nodes.new.encoder.indexes.items c.in_ok-write_nodes.ensures.kept
+    (λ n h. let small = has_room c.self.inside c.self.invariant c.args.self.now c.self.view_is c.capacity.result (omega (arith, c.capacity.ensures.slots)) n h in omega (arith, small, c.in_ok-encoder.ensures.indexes))

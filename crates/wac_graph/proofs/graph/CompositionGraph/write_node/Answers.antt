@@ -13,8 +13,8 @@ pub write_instantiation-requires-clause-instantiation :
     goal.write_instantiation-requires-clause-instantiation
 write_instantiation-requires-clause-instantiation c = rw (← c.self.view_is) (some_and c.self.inside c.args.n c.index.result.now (λ node. node.kind ≡ instantiation) c.index.ensures (ap kind_of c.in-Instantiation.is))
 
-pub write_alias-requires : goal.write_alias-requires
-write_alias-requires c = rw (← c.self.view_is) (some_and c.self.inside c.args.n c.index.result.now (λ node. node.kind ≡ alias) c.index.ensures (ap kind_of c.in-Alias.is))
+pub write_alias-requires-clause-alias : goal.write_alias-requires-clause-alias
+write_alias-requires-clause-alias c = rw (← c.self.view_is) (some_and c.self.inside c.args.n c.index.result.now (λ node. node.kind ≡ alias) c.index.ensures (ap kind_of c.in-Alias.is))
 
 pub unreachable-requires : goal.unreachable-requires
 unreachable-requires c = not_writable c.self.inside c.args.n c.index.result.now c.index.ensures (rw (← c.self.view_is) at c.requires.writable) c.in-Definition.is

@@ -1,14 +1,17 @@
 use Rattle.std.proofs.Common.{◌<◌, ◌∙◌, refl, sym, subst, arith, slice_index_or}
 use Rattle.wac_graph.specs.Encoding.{WroteAll}
 use Rattle.wac_graph.specs.EncoderView.{progress}
-use Rattle.wac_graph.proofs.WriteArgumentsLemmas.{wrote_next, dropped_all, is_listed, element}
+use Rattle.wac_graph.proofs.WriteArgumentsLemmas.{wrote_next, dropped_all, is_listed, element, room_kept}
 use Rattle.wac_graph.proofs.graph.CompositionGraph.write_nodes.Goals as goal
 
 pub loop-n-init : goal.loop-n-init
 loop-n-init c = (λ ends written. written, refl)
 
 pub write_node-requires-clause-room : goal.write_node-requires-clause-room
-write_node-requires-clause-room c = subst (λ k. slice_index_or c.args.order.now c.loop-n.n-index 0 < k) (sym c.loop-n.invariant.1) (c.requires.room (slice_index_or c.args.order.now c.loop-n.n-index 0) (c.requires.nodes (slice_index_or c.args.order.now c.loop-n.n-index 0) (is_listed c.args.order.now c.loop-n.n-index c.loop-n-test.true)))
+write_node-requires-clause-room c = room_kept c.args.self.now c.args.encoder.now.indexes.items c.loop-n.encoder.indexes.items c.loop-n.invariant.1 c.requires.room
+
+pub write_node-requires-clause-noted : goal.write_node-requires-clause-noted
+write_node-requires-clause-noted c = subst (λ k. slice_index_or c.args.order.now c.loop-n.n-index 0 < k) (sym c.loop-n.invariant.1) (c.requires.room (slice_index_or c.args.order.now c.loop-n.n-index 0) (c.requires.nodes (slice_index_or c.args.order.now c.loop-n.n-index 0) (is_listed c.args.order.now c.loop-n.n-index c.loop-n-test.true)))
 
 pub returns-in_err-write_node-clause-kept : goal.returns-in_err-write_node-clause-kept
 returns-in_err-write_node-clause-kept c = c.in_err-write_node.ensures.kept ∙ c.loop-n.invariant.1
