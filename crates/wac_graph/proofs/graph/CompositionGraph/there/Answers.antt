@@ -15,5 +15,5 @@ pub loop-n-preserved : goal.loop-n-preserved
 loop-n-preserved c = (
   ap length c.in_ok-push.ensures.items ∙ length-append c.loop-n.there.items (c.has_node.result ∷ []) ∙ ap (λ k. k + 1) c.loop-n.invariant.0,
   subst (λ xs. (m : ℕ) → m < c.loop-n.n + 1 → is_left xs m ≡ is_there c.args.self.now m) (sym c.in_ok-push.ensures.items)
-  (next_flag c.args.self.now c.loop-n.there.items c.loop-n.n c.has_node.result c.loop-n.invariant.0 c.loop-n.invariant.1 (there_now c.args.self.now c.loop-n.n c.has_node.result c.has_node.ensures)),
+      (next_flag c.args.self.now c.loop-n.there.items c.loop-n.n c.has_node.result c.loop-n.invariant.0 c.loop-n.invariant.1 (there_now c.args.self.now c.loop-n.n c.has_node.result c.has_node.ensures)),
 )
