@@ -1,0 +1,15 @@
+pub mod Unfolded
+pub mod Moved
+pub mod Meant
+pub mod Grow
+pub mod Steps
+pub mod Values
+pub mod StepLaws
+pub mod Lists
+pub mod Whole
+pub mod Instances
+pub mod Roots
+pub mod Inside
+pub mod Sample
+pub mod Modules
+pub mod SampleWorld

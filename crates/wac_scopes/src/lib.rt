@@ -1,0 +1,8 @@
+//! The open scopes of a type encoder: what each step keeps and gives.
+#![tactic(auto)]
+
+pub mod laws;
+
+pub use laws::{
+    closing_law, inside_law, instance_law, listing_law, module_law, root_law, step_law,
+};
