@@ -13,3 +13,4 @@ pub mod Inside
 pub mod Sample
 pub mod Modules
 pub mod SampleWorld
+pub mod ScopedLaws

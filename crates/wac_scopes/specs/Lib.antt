@@ -7,3 +7,5 @@ pub mod Listed
 pub mod Instances
 pub mod Inside
 pub mod Modules
+pub mod Faults
+pub mod Scoped
