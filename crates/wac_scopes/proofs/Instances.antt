@@ -22,6 +22,7 @@ use Rattle.wac_scopes.specs.Scopes.{at_export, env, envs, bind_at, remember_at, 
 use Rattle.wac_scopes.specs.Good.{Stands, IsHeld, Carries, top}
 use Rattle.wac_scopes.specs.Instances.{BindsInstance, Stood, BindsOwn, HasExported, HeldFurtherIn, CalledInside, NamesType}
 use Rattle.wac_scopes.specs.Listed.{FreshInInterface, CallsOwn}
+use Rattle.wac_scopes.proofs.HeldValues.{holds-value}
 use Rattle.wac_scopes.proofs.Grow.{kept-refl}
 use Rattle.wac_scopes.proofs.Steps.{good-bind_at, good-remember_at, good-name_at, top-onward}
 use Rattle.wac_scopes.proofs.Moved.{on, changed, own_leaf, taken, held-taken, held-here, held-moves, moved-moved}
@@ -126,8 +127,8 @@ far-value c wf m m' i it side path f listed b x natural v n found =
     inner = ap type_in (sym (item m') ∙ ap (λ (t : Tree). items_in t n) (sym (interface-step c wf i it listed m') ∙ natural f m' x ∙ ap (moved f) (interface-step c wf i it listed m)) ∙ ap (moved (inside f)) (item m))
 
 pub has-exported : HasExported
-has-exported c wf m ms o os i it j v n g h b f value =
-    (held, stands, top-onward c m ms o (remember_at v (at_export j n) o) os g (good-remember_at c m (top ms) o (envs os) v (at_export j n) (held_tree c m (ty.Value v)) g.0 held value stands) (kept-refl (env o (envs os))))
+has-exported c wf m ms o os i it j v n g h b f holds =
+    (held, stands, top-onward c m ms o (remember_at v (at_export j n) o) os g (good-remember_at c m (top ms) o (envs os) v (at_export j n) (held_tree c m (ty.Value v)) g.0 held (holds-value c wf m v (held_tree c m (ty.Value v)) holds held) stands) (kept-refl (env o (envs os))))
   where
     held : IsHeld c m (ty.Value v) (held_tree c m (ty.Value v))
     held k m' x = far-value c wf m m' i it h.bound.side h.bound.path k h.listed b x (λ y z q. h.type y z q ∙ ap (moved y) (sym (held-here c m (ty.Interface i) h.bound.type h.type))) v n f

@@ -14,3 +14,5 @@ pub mod Sample
 pub mod Modules
 pub mod SampleWorld
 pub mod ScopedLaws
+pub mod Besides
+pub mod HeldValues

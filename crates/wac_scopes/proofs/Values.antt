@@ -87,7 +87,7 @@ written-tree c m e (def.Stream v) (stream_def x) h f m' k = ap stream_of (maybe-
 written-tree c m e (def.Future v) (future_def x) h f m' k = ap future_of (maybe-val c m e v x h f m' k)
 written-tree c m e d x h f m' k = absurd h
 
-defined-step : (c : Collection) → IsWellFormed c → (d : DefinedTypeId) (x : DefinedType) → item_at c.defined d.0 ≡ Some x → (m : Bindings) → held_value c m (val.Defined d) ≡ defined_tree (held_value c m) x
+pub defined-step : (c : Collection) → IsWellFormed c → (d : DefinedTypeId) (x : DefinedType) → item_at c.defined d.0 ≡ Some x → (m : Bindings) → held_value c m (val.Defined d) ≡ defined_tree (held_value c m) x
 unfolding held_tree
 defined-step c wf d x at m =
     let h = held_item (slice_get c.defined d.0) x at in

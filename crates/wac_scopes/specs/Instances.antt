@@ -1,5 +1,5 @@
 -- What an instance in scope binds and has, what the root's imports give, and what is held further out.
-use Rattle.std.specs.Prelude.{ℕ, ◌≡◌, List, [], ◌∷◌, ◌++◌, length, map, Some, None}
+use Rattle.std.specs.Prelude.{ℕ, ◌≡◌, true, List, [], ◌∷◌, ◌++◌, length, map, Some, None}
 use Rattle.wac_shapes.specs.Name.{Name, find_name, option_case}
 use Rattle.wac_shapes.specs.declared.component.ResourceId.{ResourceId}
 use Rattle.wac_shapes.specs.declared.component.InterfaceId.{InterfaceId}
@@ -9,7 +9,7 @@ use Rattle.wac_shapes.specs.declared.component.«Type».{«Type» as AnyType}
 use Rattle.wac_shapes.specs.declared.component.«Type».TheVariants as ty
 use Rattle.wac_shapes.specs.declared.component.ItemKind.TheVariants as kind
 use Rattle.wac_collection.specs.Tree.{Side, imported, Place, position, named, Tree, resource, out_by, seen_from}
-use Rattle.wac_collection.specs.Collection.{Collection, IsWellFormed, item_at}
+use Rattle.wac_collection.specs.Collection.{Collection, IsWellFormed, item_at, holds_value}
 use Rattle.wac_collection.specs.Bound.{Bindings, own_name, inside_interface, held_tree}
 use Rattle.wac_binary.specs.declared.sorts.Description.TheVariants as e
 use Rattle.wac_binary.specs.Items.{Item, import_item}
@@ -44,9 +44,13 @@ BindsOwn = (c : Collection) → IsWellFormed c → (m : Bindings) (ms : List Bin
 abbrev pub HasExported : Type 0
 HasExported = (c : Collection) → IsWellFormed c → (m : Bindings) (ms : List Bindings) (o : Open) (os : Stack) (i : InterfaceId) (it : Interface) (j : ℕ) (v : ValueType) (n : Name)
     → Good c (m ∷ ms) (o ∷ os) → (h : Stood c m (env o (envs os)) i it j)
-    → BindsInstance c it h.bound.side h.bound.path m → find_name it.exports n ≡ Some (kind.TypeItem (ty.Value v)) → IsValue (held_tree c m (ty.Value v))
+    → BindsInstance c it h.bound.side h.bound.path m → find_name it.exports n ≡ Some (kind.TypeItem (ty.Value v)) → holds_value c v ≡ true
     → IsHeld c m (ty.Value v) (held_tree c m (ty.Value v)) × Stands (env o (envs os)) (held_tree c m (ty.Value v)) (at_export j n)
     × Onward c (m ∷ ms) (o ∷ os) (remember_at v (at_export j n) o ∷ os)
+
+-- what is held as a value type is one
+abbrev pub HoldsValue : Type 0
+HoldsValue = (c : Collection) → IsWellFormed c → (m : Bindings) (v : ValueType) (t : Tree) → holds_value c v ≡ true → IsHeld c m (ty.Value v) t → IsValue t
 
 -- what is held so many scopes further out, under bindings that are called here as there, is held here
 abbrev pub HeldFurtherIn : Type 0

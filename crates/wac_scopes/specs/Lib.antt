@@ -9,3 +9,4 @@ pub mod Inside
 pub mod Modules
 pub mod Faults
 pub mod Scoped
+pub mod Beside

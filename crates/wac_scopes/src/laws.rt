@@ -2,8 +2,9 @@
 
 ghost use Rattle.wac_scopes.specs.Laws.{DefinesValue, DefinesFunc, DefinesPrimitive, DefinesHandles, Reaches, BringsResource, BringsType, SettlesResource, SettlesValue, GoesOnAround, Follows, StaysIs, IsRecorded, IsItsTree};
 ghost use Rattle.wac_scopes.specs.Listed.{ListsEqual, ListsFresh, ListsFunc, ListsComponent, ListsModule, ListsInstance, ListsOneMore, ListsInAnyOrder, OpensInterface, ClosesInstance, HoldsInterface, OpensWorld, TurnsToExports, ClosesComponent, HoldsWorld, FreshInInterface, CallsOwn};
-ghost use Rattle.wac_scopes.specs.Instances.{BindsOwn, HasExported, HeldFurtherIn, CalledInside, NamesType, ImportsInstance, ImportsType, ImportsFresh};
+ghost use Rattle.wac_scopes.specs.Instances.{BindsOwn, HasExported, HeldFurtherIn, CalledInside, HoldsValue, NamesType, ImportsInstance, ImportsType, ImportsFresh};
 ghost use Rattle.wac_scopes.specs.Inside.{ByStep, ByItem, ByBoth, KeepsIs, SettlesThere, HasIndexHere, HasIndexAround, StartsRoot, RootGoesOn, RootBindsMore};
+ghost use Rattle.wac_scopes.specs.Beside.{GoesOnBeside};
 ghost use Rattle.wac_scopes.specs.Reads.{Reads};
 ghost use Rattle.wac_scopes.specs.Modules.{DefinesModule, HoldsModule, HeldUnderMore};
 
@@ -75,6 +76,7 @@ pub fn instance_law()
     ensures held_further_in { HeldFurtherIn }
     ensures called_inside { CalledInside }
     ensures names_type { NamesType }
+    ensures holds_value { HoldsValue }
 {
     binary_laws();
 }
@@ -112,3 +114,8 @@ pub fn module_law()
 {
     binary_laws();
 }
+
+/// Types of two collections in the same scopes.
+pub fn beside_law()
+    ensures goes_on_beside { GoesOnBeside }
+{}

@@ -7,6 +7,6 @@ pub mod scope;
 
 pub use fault::{EncodeFault, WriteFault};
 pub use laws::{
-    closing_law, inside_law, instance_law, listing_law, module_law, root_law, step_law,
+    beside_law, closing_law, inside_law, instance_law, listing_law, module_law, root_law, step_law,
 };
 pub use scope::Scope;
