@@ -59,6 +59,9 @@ impl Scope {
     }
 
     /// Writes this definition of a held value type, and records it. Answers its type index.
+    ///
+    /// Answers `TooLarge` exactly where the declarations do not fit, and `OutOfMemory` where memory was refused; then the definition
+    /// may stand without being recorded.
     pub fn define(
         &mut self,
         id: DefinedTypeId,
@@ -86,6 +89,9 @@ impl Scope {
     }
 
     /// Writes this function type, which is a held one. Answers its type index.
+    ///
+    /// Answers `TooLarge` exactly where the declarations do not fit, and `OutOfMemory` where memory was refused; then it has
+    /// written nothing.
     pub fn define_func(&mut self, f: &FuncType<'_>) -> Result<u32, EncodeFault>
         ensures stands { IfOk result (λ k. AddsFunc self.old self.new (func_of f.now) k) }
         ensures refused { OnErr result (self.new ≡ self.old) }
