@@ -17,15 +17,15 @@ use Rattle.wac_binary.specs.Bytes.{preamble}
 use Rattle.wac_binary.specs.Items.{Item, nested, instantiate, alias_item, export_alias, export_item}
 use Rattle.wac_binary.specs.Meaning.{meaning, projection, instance_at, stands_for, Thing}
 use Rattle.wac_edges.specs.declared.edges.Edge.{Edge}
-use Rattle.wac_graph.specs.declared.packages.PackageId.{PackageId}
+use Rattle.wac_nodes.specs.declared.packages.PackageId.{PackageId}
 use Rattle.wac_edges.specs.Edge.{edge_cmp, alias_edge, argument_edge}
-use Rattle.wac_graph.specs.Graph as graph
-use Rattle.wac_graph.specs.Graph.{Graph, GraphNode, node_at, imports_of, IsSatisfied}
+use Rattle.wac_nodes.specs.Graph as graph
+use Rattle.wac_nodes.specs.Graph.{Graph, GraphNode, node_at, imports_of, IsSatisfied, node_number}
 use Rattle.wac_edges.specs.Order.{Edges, Writes, IsLowestReady, without}
-use Rattle.wac_graph.specs.OuterImports.{AreOuterImports}
-use Rattle.wac_graph.specs.Means.{Means, is_import, is_written, node_number, instantiations, used_after, used_packages, package_bytes, sort_of_kind, AreInstantiations, IsThing, as_instantiation, as_alias, given, HasItem, shown, export_of, export_item_of}
-use Rattle.wac_graph.proofs.ThingLemmas.{IsPlain}
-use Rattle.wac_graph.proofs.EncodeLemmas.{AllSet, no_imports, asked_none}
+use Rattle.wac_nodes.specs.OuterImports.{AreOuterImports}
+use Rattle.wac_meaning.specs.Means.{Means, is_import, is_written, instantiations, used_after, used_packages, package_bytes, sort_of_kind, AreInstantiations, IsThing, as_instantiation, as_alias, given, HasItem, shown, export_of, export_item_of}
+use Rattle.wac_meaning.proofs.ThingLemmas.{IsPlain}
+use Rattle.wac_meaning.proofs.EncodeLemmas.{AllSet, no_imports, asked_none}
 use Rattle.wac_examples.proofs.Ordered.{edge_cmp_total, exact_edges}
 
 -- two packages of the same bytes: the first exports the function `a`, the second imports the function `b`

@@ -9,11 +9,11 @@ use Rattle.wac_binary.specs.Items.{Item}
 use Rattle.wac_binary.specs.Meaning.{meaning, projection, instance_at, component_at, Instantiation, Thing}
 use Rattle.wac_edges.specs.declared.edges.Edge.{Edge}
 use Rattle.wac_edges.specs.declared.edges.Label.TheVariants.{Alias, Argument}
-use Rattle.wac_graph.specs.declared.packages.PackageId.{PackageId}
+use Rattle.wac_nodes.specs.declared.packages.PackageId.{PackageId}
 use Rattle.wac_edges.specs.Edge.{alias_edge, argument_edge}
-use Rattle.wac_graph.specs.Graph as graph
-use Rattle.wac_graph.specs.Graph.{GraphNode, node_at, imports_of, exports_of}
-use Rattle.wac_graph.specs.Means.{Means, is_written, node_number, instantiations, used_packages, package_bytes, IsArgument, given, asked, AreArguments, IsInstantiationOf, AreInstantiations, IsThing, as_import, as_instantiation, as_alias, shown}
+use Rattle.wac_nodes.specs.Graph as graph
+use Rattle.wac_nodes.specs.Graph.{GraphNode, node_at, imports_of, exports_of, node_number}
+use Rattle.wac_meaning.specs.Means.{Means, is_written, instantiations, used_packages, package_bytes, IsArgument, given, asked, AreArguments, IsInstantiationOf, AreInstantiations, IsThing, as_import, as_instantiation, as_alias, shown}
 use Rattle.wac_examples.proofs.Ordered.{by_edge, one_order}
 use Rattle.wac_examples.proofs.Rows.{of_function, first, second, instance_of_first, alias_of_first, instance_of_second}
 use Rattle.wac_examples.proofs.TwinRows.{twins, edge_list, numbers, first_bytes, second_bytes, node_0, node_1, node_2, node_3, node_4, stands, twins_at, twins_in_order, twins_instantiations, twins_packages}

@@ -17,13 +17,13 @@ use Rattle.wac_binary.specs.Items.{Item, nested, instantiate, alias_item, export
 use Rattle.wac_binary.specs.Meaning.{meaning, projection, instance_at, stands_for, Thing}
 use Rattle.wac_edges.specs.declared.edges.Edge.{Edge}
 use Rattle.wac_edges.specs.Edge.{edge_cmp, alias_edge, argument_edge}
-use Rattle.wac_graph.specs.Graph as graph
-use Rattle.wac_graph.specs.Graph.{Graph, GraphNode, node_at, imports_of, IsSatisfied}
+use Rattle.wac_nodes.specs.Graph as graph
+use Rattle.wac_nodes.specs.Graph.{Graph, GraphNode, node_at, imports_of, IsSatisfied, node_number}
 use Rattle.wac_edges.specs.Order.{Writes}
-use Rattle.wac_graph.specs.OuterImports.{AreOuterImports}
-use Rattle.wac_graph.specs.Means.{Means, is_import, is_written, node_number, instantiations, used_after, used_packages, package_bytes, sort_of_kind, AreInstantiations, IsThing, as_instantiation, as_alias, given, HasItem, shown, export_of, export_item_of}
-use Rattle.wac_graph.proofs.ThingLemmas.{IsPlain}
-use Rattle.wac_graph.proofs.EncodeLemmas.{AllSet, no_imports, asked_none}
+use Rattle.wac_nodes.specs.OuterImports.{AreOuterImports}
+use Rattle.wac_meaning.specs.Means.{Means, is_import, is_written, instantiations, used_after, used_packages, package_bytes, sort_of_kind, AreInstantiations, IsThing, as_instantiation, as_alias, given, HasItem, shown, export_of, export_item_of}
+use Rattle.wac_meaning.proofs.ThingLemmas.{IsPlain}
+use Rattle.wac_meaning.proofs.EncodeLemmas.{AllSet, no_imports, asked_none}
 use Rattle.wac_examples.proofs.Ordered.{edge_cmp_total, by_edge, by_number, Range}
 use Rattle.wac_examples.proofs.Rows.{of_function, first, second, instance_of_first, alias_of_first, instance_of_second}
 

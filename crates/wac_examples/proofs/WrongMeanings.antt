@@ -5,7 +5,7 @@ use Rattle.std.proofs.lemmas.Bool.Decides.{nat_tests}
 use Rattle.wac_shapes.specs.Name.{Name}
 use Rattle.wac_binary.specs.Items.{Item, nested, instantiate}
 use Rattle.wac_binary.specs.Meaning.{Instantiation, Thing, instance_at, projection}
-use Rattle.wac_graph.specs.Means.{Means}
+use Rattle.wac_meaning.specs.Means.{Means}
 use Rattle.wac_examples.proofs.TwinRows.{twins, first_bytes, second_bytes, alias_of, given_both, exported}
 use Rattle.wac_examples.proofs.TwinMeaning.{one_meaning}
 

@@ -1,0 +1,6 @@
+pub mod MeaningLemmas
+pub mod MeantLemmas
+pub mod ThingLemmas
+pub mod WrittenLemmas
+pub mod EncodeLemmas
+pub mod OuterOrder
