@@ -1,5 +1,5 @@
 -- What the fields of a graph mean, and what is always true of them.
-use Rattle.std.specs.Prelude.{◌≡◌, ℕ, Bool, true, false, List, Option, Some, None, String, map, string_bytes}
+use Rattle.std.specs.Prelude.{◌≡◌, ℕ, Bool, true, false, List, [], Option, Some, None, String, map, string_bytes}
 use Rattle.std.specs.Global.{Global}
 use Rattle.std.specs.Option.{option_map}
 use Rattle.std.specs.Ordering.{nat_cmp}
@@ -34,6 +34,7 @@ node_of n = record {
   owner = n.«package»;
   name = option_map string_bytes n.name;
   export_name = option_map string_bytes n.export_name;
+  first_name = None;
 }
 
 -- the nodes under their numbers
@@ -52,6 +53,7 @@ graph_of a = record {
   edges = a.edges;
   exports = names_of a.exports.entries;
   slots = a.slots.items;
+  vacant = [];
 }
 
 -- the satisfied positions of an instantiation

@@ -10,6 +10,7 @@ pub mod Imports
 pub mod Entries
 pub mod EntriesLeft
 pub mod OuterImports
+pub mod Definition
 pub mod Means
 pub mod ImportsLeft
 pub mod Encoding
