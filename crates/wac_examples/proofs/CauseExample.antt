@@ -213,7 +213,7 @@ version_types = record {
 
 -- an import node of an interface
 abbrev import_of : Name → ℕ → GraphNode
-import_of name i = record { kind = graph.import name; item_kind = instance_of i; owner = None; name = None; export_name = None }
+import_of name i = record { kind = graph.import name; item_kind = instance_of i; owner = None; name = None; export_name = None; first_name = None }
 
 abbrev earlier_import : GraphNode
 earlier_import = import_of (codes "a:b/c@0.2.0") 0
