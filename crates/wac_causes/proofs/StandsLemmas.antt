@@ -6,7 +6,7 @@ use Rattle.wac_collection.specs.Package.{Key}
 use Rattle.wac_entries.specs.Classes.{by_names}
 use Rattle.wac_agreement.specs.Faults.{HasNoCircle}
 use Rattle.wac_terms.specs.NoDisagreement.{HasNoDisagreement}
-use Rattle.wac_causes.specs.declared.options.EncodeOptions.{EncodeOptions}
+use Rattle.wac_nodes.specs.declared.options.EncodeOptions.{EncodeOptions}
 use Rattle.wac_nodes.specs.declared.node.NodeId.{NodeId}
 use Rattle.wac_nodes.specs.Graph.{Graph}
 use Rattle.wac_edges.specs.Order.{IsAcyclic, IsLowestOnCycle}

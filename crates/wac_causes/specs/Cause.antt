@@ -10,7 +10,7 @@ use Rattle.wac_agreement.specs.Faults.{Disagrees, HasNoCircle, UseEachOther}
 use Rattle.wac_terms.specs.NoDisagreement.{HasNoDisagreement}
 use Rattle.wac_agreement.specs.declared.fault.MergeFault.{MergeFault}
 use Rattle.wac_agreement.specs.declared.fault.MergeFault.TheVariants as merge
-use Rattle.wac_causes.specs.declared.options.EncodeOptions.{EncodeOptions}
+use Rattle.wac_nodes.specs.declared.options.EncodeOptions.{EncodeOptions}
 use Rattle.wac_causes.specs.declared.errors.EncodeError.{EncodeError}
 use Rattle.wac_causes.specs.declared.errors.EncodeError.TheVariants as error
 use Rattle.wac_nodes.specs.declared.node.NodeId.{NodeId}

@@ -2,7 +2,7 @@
 use Rattle.std.specs.Prelude.{ℕ, ◌≡◌, ◌≤◌, Bool, false, List, Some, slice_get, ◌⊎◌}
 use Rattle.wac_shapes.specs.Name.{Name, find_name}
 use Rattle.wac_shapes.specs.declared.component.ItemKind.{ItemKind}
-use Rattle.wac_causes.specs.declared.options.EncodeOptions.{EncodeOptions}
+use Rattle.wac_nodes.specs.declared.options.EncodeOptions.{EncodeOptions}
 use Rattle.wac_causes.specs.declared.errors.EncodeError.{EncodeError}
 use Rattle.wac_causes.specs.declared.errors.EncodeError.TheVariants.{OutOfMemory}
 use Rattle.wac_nodes.specs.declared.node.NodeId.{NodeId}

@@ -4,7 +4,5 @@
 #![tactic(auto)]
 
 mod errors;
-mod options;
 
 pub use errors::EncodeError;
-pub use options::{EncodeOptions, Processor};

@@ -12,7 +12,7 @@ use Rattle.wac_shapes.specs.Name.{Name, find_name}
 use Rattle.wac_collection.specs.Package.{Key, PackageParts}
 use Rattle.wac_shapes.specs.declared.component.ItemKind.{ItemKind}
 use Rattle.wac_causes.specs.declared.errors.EncodeError.{EncodeError}
-use Rattle.wac_causes.specs.declared.options.EncodeOptions.{EncodeOptions}
+use Rattle.wac_nodes.specs.declared.options.EncodeOptions.{EncodeOptions}
 use Rattle.wac_nodes.specs.declared.node.Node.{Node}
 use Rattle.wac_nodes.specs.declared.node.NodeId.{NodeId}
 use Rattle.wac_nodes.specs.declared.node.NodeKind.TheVariants as code

@@ -71,6 +71,9 @@ invariant_empty a nodes edges imports exports keys slots = record {
     one_definition = λ kind n x p _. absurd (no_definition kind n p);
     one_export = λ name i j n m p _. absurd (no_export i name n p);
     one_package = λ key id other (p, at, _) _. absurd (no_package a.slots.items id p slots at);
+    first_names = λ n node name there _. absurd (no_node n node there);
+    vacant = λ i k at. absurd (no_number at);
+    vacant_once = λ i j k at _. absurd (no_number at);
     packages = λ id p at. absurd (no_package a.slots.items id p slots at);
   };
   marked = λ source target position stands. absurd (no_edge (argument_edge source target position) stands);
@@ -102,6 +105,9 @@ invariant_empty a nodes edges imports exports keys slots = record {
 
   no_name : (n : NodeId) → None ≡ Some n → ⊥
   no_name n h = cc
+
+  no_number : {k : ℕ} → None ≡ Some k → ⊥
+  no_number h = cc
 
   nothing : (id : PackageId) → None ≡ Some id → ⊥
   nothing id h = cc
@@ -177,7 +183,7 @@ module _ (a : Inside) (v : Invariant a) where
     pub invariant_import : (name : Name) (kind : ItemKind) (names : HashMap (String Global) NodeId (BuildHasherDefault FoldHasher)) → node_of node ≡ import_node name kind → holds_type a.types (kind_type kind) ≡ true → find_name (names_of a.imports.entries) name ≡ None
         → names_of names.entries ≡ names_of a.imports.entries ++ (name, record { 0 = n }) ∷ [] → Invariant (record a { nodes = nodes; imports = names })
     invariant_import name kind names shape held absent listed =
-        let more = sound_import (graph_of a) v.sound (record { 0 = n }) (import_node name kind) nodes.vacant_key vacant_in_graph held name refl free in
+        let more = sound_import (graph_of a) v.sound (record { 0 = n }) (import_node name kind) nodes.vacant_key vacant_in_graph held refl name refl free in
         let shown : nodes_of nodes.slots ≡ map.insert (nodes_of a.nodes.slots) n (import_node name kind) = nodes_of-insert a.nodes nodes n node u ∙ ap (map.insert (nodes_of a.nodes.slots) n) shape in
         record {
           sound = subst (λ ns. IsSound (record (graph_of a) { nodes = ns; next = nodes.vacant_key })) (sym shown) more;
@@ -213,7 +219,7 @@ module _ (a : Inside) (v : Invariant a) where
     pub invariant_instance : (id : PackageId) (p : PackageParts) → node_of node ≡ instance_node id p → package_at (graph_of a) id ≡ Some p → Invariant (record a { nodes = nodes })
     invariant_instance id p shape registered =
         let holds = v.sound.packages id p registered in
-        let more = sound_node (graph_of a) v.sound (record { 0 = n }) (instance_node id p) nodes.vacant_key vacant_in_graph holds.1 refl
+        let more = sound_node (graph_of a) v.sound (record { 0 = n }) (instance_node id p) nodes.vacant_key vacant_in_graph holds.1 refl refl
         (record { id = id; parts = p; owned = refl; registered = registered; typed = refl }) in
         let shown : nodes_of nodes.slots ≡ map.insert (nodes_of a.nodes.slots) n (instance_node id p) = nodes_of-insert a.nodes nodes n node u ∙ ap (map.insert (nodes_of a.nodes.slots) n) shape in
         record {
@@ -230,7 +236,7 @@ module _ (a : Inside) (v : Invariant a) where
         → node_at (graph_of a) instance ≡ Some source → slice_get (exports_of (graph_of a) source) position ≡ Some (name, kind) → holds_type a.types (kind_type kind) ≡ true → ((other : NodeId) → IsAliasOf (graph_of a) instance position other → ⊥) → edges ≡ set.insert a.edges (alias_edge instance.0 n position)
         → Invariant (record a { nodes = nodes; edges = edges })
     invariant_alias edges instance source position name kind shape there exported held free added =
-        let more = sound_alias (graph_of a) v.sound (record { 0 = n }) (alias_node source kind) nodes.vacant_key vacant_in_graph held instance source position name refl refl there exported free in
+        let more = sound_alias (graph_of a) v.sound (record { 0 = n }) (alias_node source kind) nodes.vacant_key vacant_in_graph held refl instance source position name refl refl there exported free in
         let shown : nodes_of nodes.slots ≡ map.insert (nodes_of a.nodes.slots) n (alias_node source kind) = nodes_of-insert a.nodes nodes n node u ∙ ap (map.insert (nodes_of a.nodes.slots) n) shape in
         record {
           sound = subst (λ ns. IsSound (record (graph_of a) { nodes = ns; next = nodes.vacant_key; edges = edges })) (sym shown)

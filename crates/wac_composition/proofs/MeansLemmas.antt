@@ -11,7 +11,7 @@ use Rattle.wac_binary.specs.Items.{Item, export_item}
 use Rattle.wac_binary.specs.Meaning.{Thing}
 use Rattle.wac_edges.specs.declared.edges.Edge.{Edge}
 use Rattle.wac_nodes.specs.declared.node.NodeId.{NodeId}
-use Rattle.wac_causes.specs.declared.options.EncodeOptions.{EncodeOptions}
+use Rattle.wac_nodes.specs.declared.options.EncodeOptions.{EncodeOptions}
 use Rattle.wac_composition.specs.declared.graph.CompositionGraph.TheInside.{Inside}
 use Rattle.wac_edges.specs.Edge.{is_left}
 use Rattle.wac_nodes.specs.Graph as graph
@@ -21,7 +21,7 @@ use Rattle.wac_nodes.specs.Sound.{IsSound}
 use Rattle.wac_edges.specs.Order.{Writes, IsOnCycle, IsAcyclic, IsLowestOnCycle}
 use Rattle.wac_meaning.specs.Means.{is_there, is_written, is_import, IsThing, sort_of_kind, export_item_of, Means}
 use Rattle.wac_meaning.specs.Encoding.{WritesNode, Progress, WroteAll, HasRoom, index_in}
-use Rattle.wac_causes.specs.NotYet.{AllWritable, IsNotYet, unset, defined, imported, undefined_components, processed}
+use Rattle.wac_causes.specs.NotYet.{AllWritable, IsNotYet, unset, defined, imported, undefined_components, processed, named}
 use Rattle.wac_edges.proofs.WrittenOrder.{has, written_left, minus-push, minus-true, split_writes, slice_get-middle}
 use Rattle.wac_meaning.proofs.ThingLemmas.{IsPlain, is_written-node, node_of_written, all_things}
 use Rattle.wac_composition.proofs.EncodingLemmas.{node_is, none_past, by_lt}
@@ -30,6 +30,7 @@ use Rattle.std.proofs.lemmas.Option.{slice_get_within}
 use Rattle.wac_meaning.proofs.MeantLemmas.{IsAmong}
 use Rattle.wac_meaning.proofs.WrittenLemmas.{Counted, Earlier, slice_get-prefix}
 use Rattle.wac_meaning.proofs.EncodeLemmas.{AllSet, Done, adds_more, nothing_done, Exported, no_exports, export_more, means}
+use Rattle.wac_composition.proofs.DefinedLemmas.{HasNoFirst}
 
 pub plain : (g : Graph) → AllWritable g → IsPlain g
 plain g all n node there = (all n node there).plain
@@ -40,6 +41,17 @@ all_set g all n node there is i small = (all n node there).set is i small
 the_node : (o : Option GraphNode) → IsSome o → (node : GraphNode) × (o ≡ Some node)
 the_node None h = cc
 the_node (Some node) h = (node, refl)
+
+-- a node that is no definition has no first name
+no_first : (g : Graph) → IsSound g → IsPlain g → HasNoFirst g
+no_first g sound plain n node there = split node.first_name refl where
+  no_definition : {k : Kind} → (k ≡ graph.instantiation) ⊎ (k ≡ graph.alias) → k ≡ graph.definition → ⊥
+  no_definition (inl p) q = cc
+  no_definition (inr p) q = cc
+
+  split : (o : Option Name) → node.first_name ≡ o → o ≡ None
+  split None is = refl
+  split (Some name) is = absurd (no_definition (plain n.0 node there) (sound.first_names n node name there is).0)
 
 -- a node's index, once noted
 noted : (xs : List ℕ) (n i : ℕ) → n < length xs → index_in (slice_set xs n i) n ≡ i
@@ -93,19 +105,19 @@ module _ (counted : Counted) (earlier : Earlier) (g : Graph) (sound : IsSound g)
         (append_assoc items (export_item x.0 (sort_of_kind node.item_kind) (index (x.1).0) ∷ []) (flat_map (export_item_of g index) rest) ∙ ap (λ ys. items ++ (ys ++ flat_map (export_item_of g index) rest)) (sym one))
         (all_exported base index place rest (es ++ x ∷ []) (items ++ export_item x.0 (sort_of_kind node.item_kind) (index (x.1).0) ∷ []) (here ∙ sym (append_assoc es (x ∷ []) rest)) next)
 
-    means_written : (indexes : List ℕ) → HasRoom g indexes → (q : Progress) → WroteAll g order (record { items = []; components = []; indexes = indexes }) q
-        → Means (q.items ++ flat_map (export_item_of g (index_in q.indexes)) g.exports) g
-    means_written indexes room q wrote =
+    means_written : (o : EncodeOptions) → o.define_components ≡ true → o.processor ≡ None → (indexes : List ℕ) → HasRoom g indexes → (q : Progress) → WroteAll g order (record { items = []; components = []; indexes = indexes }) q
+        → Means (q.items ++ flat_map (export_item_of g (index_in q.indexes)) g.exports) g o
+    means_written o define no_processor indexes room q wrote =
         let d = all_done order [] (record { items = []; components = []; indexes = indexes }) q refl room wrote (nothing_done counted earlier g sound (plain g all) order at is_thing (index_in indexes)) in
         let e = all_exported q.items (index_in q.indexes) d.place g.exports [] q.items refl (no_exports counted earlier g sound (plain g all) order at is_thing q.items q.components (index_in q.indexes) writes d) in
-        means counted earlier g sound (plain g all) order at is_thing q.items (q.items ++ flat_map (export_item_of g (index_in q.indexes)) g.exports) (index_in q.indexes) d.place writes (all_set g all) e d.in_place
+        means counted earlier g sound (plain g all) order at is_thing o define no_processor (no_first g sound (plain g all)) (λ n node there. (all n node there).unnamed) q.items (q.items ++ flat_map (export_item_of g (index_in q.indexes)) g.exports) (index_in q.indexes) d.place writes (all_set g all) e d.in_place
 
   -- all nodes are written, and the exports behind them
-  pub means_all : (indexes : List ℕ) → HasRoom g indexes → (p q : Progress) → p ≡ record { items = []; components = []; indexes = indexes } → WroteAll g order p q
-      → (items : List Item) → items ≡ q.items ++ flat_map (export_item_of g (index_in q.indexes)) g.exports → Means items g
-  means_all indexes room p q start wrote items end =
+  pub means_all : (o : EncodeOptions) → o.define_components ≡ true → o.processor ≡ None → (indexes : List ℕ) → HasRoom g indexes → (p q : Progress) → p ≡ record { items = []; components = []; indexes = indexes } → WroteAll g order p q
+      → (items : List Item) → items ≡ q.items ++ flat_map (export_item_of g (index_in q.indexes)) g.exports → Means items g o
+  means_all o define no_processor indexes room p q start wrote items end =
       let (at, is_thing) = all_things g sound (plain g all) order writes in
-      subst (λ its. Means its g) (sym end) (means_written at is_thing indexes room q (subst (λ x. WroteAll g order x q) start wrote))
+      subst (λ its. Means its g o) (sym end) (means_written at is_thing o define no_processor indexes room q (subst (λ x. WroteAll g order x q) start wrote))
 
 -- where all nodes can be written and the options ask for no more, nothing is left for later
 pub none_left : (g : Graph) → AllWritable g → (o : EncodeOptions) → o.define_components ≡ true → (IsSome o.processor → ⊥) → IsNotYet g o → ⊥
@@ -118,6 +130,10 @@ none_left g all o define none (imported n node name there is) = not_plain ((all 
   not_plain : {k : Kind} → (k ≡ graph.instantiation) ⊎ (k ≡ graph.alias) → k ≡ graph.import name → ⊥
   not_plain (inl p) q = cc
   not_plain (inr p) q = cc
+none_left g all o define none (named n node there is) = unnamed node.name ((all n node there).unnamed) is where
+  unnamed : {A : Type 0} (x : Option A) → x ≡ None → IsSome x → ⊥
+  unnamed None _ h = cc
+  unnamed (Some y) h _ = cc
 none_left g all o define none (undefined_components is) = clash o.define_components define is where
   clash : (b : Bool) → b ≡ true → b ≡ false → ⊥
   clash true _ h = cc

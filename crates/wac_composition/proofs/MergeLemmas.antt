@@ -20,7 +20,7 @@ use Rattle.wac_terms.specs.ClassOrder.{RestsOn, by_use, by_resource}
 use Rattle.wac_agreement.specs.Faults.{Disagrees, HasFault, HasNoCircle, UseEachOther, disagree, fault_of, use_each_other}
 use Rattle.wac_agreement.specs.declared.fault.MergeFault.{MergeFault}
 use Rattle.wac_agreement.specs.declared.fault.MergeFault.TheVariants as fault
-use Rattle.wac_causes.specs.declared.options.EncodeOptions.{EncodeOptions}
+use Rattle.wac_nodes.specs.declared.options.EncodeOptions.{EncodeOptions}
 use Rattle.wac_asking.specs.declared.asked.AskedEntry.{AskedEntry}
 use Rattle.wac_causes.specs.declared.errors.EncodeError.TheVariants as error
 use Rattle.wac_nodes.specs.declared.node.NodeId.{NodeId}

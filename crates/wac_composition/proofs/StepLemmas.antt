@@ -18,7 +18,7 @@ use Rattle.wac_nodes.specs.Graph as graph
 use Rattle.wac_nodes.specs.Graph.{Graph, GraphNode, node_at, package_at, package_in, exports_of, IsRegistered}
 use Rattle.wac_nodes.specs.Nodes.{node_of}
 use Rattle.wac_composition.specs.Inside.{graph_of, Invariant, key_of}
-use Rattle.wac_nodes.specs.Steps.{AddsNode, Instantiates, instance_node, Registers}
+use Rattle.wac_nodes.specs.Steps.{AddsNode, Instantiates, instance_node, Registers, added}
 use Rattle.wac_nodes.proofs.NodeLemmas.{get-nodes_of, nodes_of-insert}
 
 -- a slab with one node more is a graph with one node more
@@ -31,7 +31,7 @@ adds_node a nodes n node next vacant u = (
 )
 
 abbrev pub instance_with : PackageId → InterfaceId → GraphNode
-instance_with id i = record { kind = graph.instantiation; item_kind = Instance i; owner = Some id; name = None; export_name = None }
+instance_with id i = record { kind = graph.instantiation; item_kind = Instance i; owner = Some id; name = None; export_name = None; first_name = None }
 
 pub instance_shape : (id : PackageId) (i : InterfaceId) (p : PackageParts) → i ≡ p.instance_type → instance_with id i ≡ instance_node id p
 instance_shape id i p is = ap (instance_with id) is
@@ -49,8 +49,7 @@ pub registered : (a : Inside) (v : Invariant a) (p : PackageParts) (names : Hash
     → Registers (graph_of a) p (Ok id) (graph_of (record a { package_map = names; slots = slots }))
 registered a v p names slots id absent grown new = (
   λ other (q, at, same). none_some (lookup (same_key (key_of p)) a.package_map.entries) other absent (ap (λ (k : Key). lookup (same_key k) a.package_map.entries) (sym same) ∙ v.keyed other q at),
-  new,
-  ap (λ (xs : List Slot). record (graph_of a) { slots = xs }) grown,
+  added refl new (ap (λ (xs : List Slot). record (graph_of a) { slots = xs }) grown),
 ) where
   none_some : (o : Option PackageId) (x : PackageId) → o ≡ None → o ≡ Some x → ⊥
   none_some o x p q = cc

@@ -1,5 +1,5 @@
 -- What the fields of a graph mean, and what is always true of them.
-use Rattle.std.specs.Prelude.{◌≡◌, ℕ, true, Some}
+use Rattle.std.specs.Prelude.{◌≡◌, ℕ, true, [], Some}
 use Rattle.std.specs.Map.{lookup}
 use Rattle.std.specs.FinSet as set
 use Rattle.slab.specs.Slab.{get}
@@ -21,6 +21,7 @@ graph_of a = record {
   edges = a.edges;
   exports = names_of a.exports.entries;
   slots = a.slots.items;
+  vacant = [];
 }
 
 abbrev pub key_of : PackageParts → Key

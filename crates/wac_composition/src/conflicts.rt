@@ -9,7 +9,7 @@ ghost use Rattle.wac_causes.specs.Search.{Clashes, IsFirstOf, IsLowest, IsRefuse
 ghost use Rattle.wac_nodes.specs.Graph.{node_at, node_number};
 ghost use Rattle.wac_nodes.specs.Nodes.{names_of};
 ghost use Rattle.wac_edges.specs.Order.{IsAcyclic};
-ghost use Rattle.wac_causes.specs.declared.options.EncodeOptions.{EncodeOptions as Asked};
+ghost use Rattle.wac_nodes.specs.declared.options.EncodeOptions.{EncodeOptions as Asked};
 ghost use Rattle.wac_nodes.specs.declared.node.NodeId.{NodeId as AnId};
 
 use crate::graph::CompositionGraph;

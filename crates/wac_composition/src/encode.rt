@@ -16,16 +16,16 @@ ghost use Rattle.wac_causes.specs.Cause.{Cause, cause_of, Stands};
 ghost use Rattle.wac_causes.specs.Search.{IsRefused};
 ghost use Rattle.wac_causes.specs.NotYet.{IsNotYet, IsWritable, AllWritable};
 ghost use Rattle.wac_edges.specs.Order.{Writes, IsOnCycle, IsAcyclic};
-ghost use Rattle.wac_causes.specs.declared.options.EncodeOptions.{EncodeOptions as Asked};
+ghost use Rattle.wac_nodes.specs.declared.options.EncodeOptions.{EncodeOptions as Asked};
 
 use crate::graph::CompositionGraph;
 use std::alloc::{AllocError, Global};
 use std::collections::BTreeSet;
 use wac_binary::{ComponentBuilder, Sort};
-use wac_causes::{EncodeError, EncodeOptions};
+use wac_causes::EncodeError;
 use wac_edges::order::order;
 use wac_merge::laws::fault_law;
-use wac_nodes::{NodeId, NodeKind, PackageId};
+use wac_nodes::{EncodeOptions, NodeId, NodeKind, PackageId};
 use wac_types::ItemKind;
 
 /// A component that is being written: its items, the component index of each package, and the index of each node.
@@ -48,10 +48,10 @@ impl CompositionGraph {
     /// agree, with the first that does not agree with an earlier one and the first that it does not agree with,
     /// `ImportTypeMergeConflict` where an instantiation asks for it and `ExplicitImportMergeConflict` where it is an import
     /// node; else `ImportsUseEachOther` where imports rest on each other in a circle; else `NotYet` where an argument is not
-    /// set, a node is an import, or the options ask for imported components or a processor; else `TooLarge` where a size
+    /// set, a node is an import or has a name, or the options ask for imported components or a processor; else `TooLarge` where a size
     /// does not fit 32 bits. Where memory ran out it answers `OutOfMemory`.
     pub fn encode(&self, options: EncodeOptions<'_>) -> Result<Vec<u8>, EncodeError>
-        ensures means { IfOk result (λ bytes. (items : List AnItem) × (bytes.items ≡ bytes_of items) × Means items self.now) }
+        ensures means { IfOk result (λ bytes. (items : List AnItem) × (bytes.items ≡ bytes_of items) × Means items self.now options.entry) }
         ensures cause { IfErr result (λ e. IfSome (cause_of e) (Stands self.now options.entry)) }
         ensures refused { (cause : Cause) → Stands self.now options.entry cause → IsErrAnd result (λ e. (cause_of e ≡ Some cause) ⊎ (e ≡ EncodeError.OutOfMemory)) }
     {
@@ -96,7 +96,7 @@ impl CompositionGraph {
         Ok(EncodeError::GraphContainsCycle { node: NodeId(n) })
     }
 
-    /// Whether a node is a definition or an import, or an instantiation of which an argument is not set.
+    /// Whether a node has a name, is a definition or an import, or an instantiation of which an argument is not set.
     fn holds_unwritten(&self) -> bool
         ensures unwritten { OnTrue result ((o : Asked) → IsNotYet self.now o) }
         ensures writable { OnFalse result (AllWritable self.now) }
@@ -117,6 +117,9 @@ impl CompositionGraph {
         let Some(node) = self.nodes.get(n) else {
             return false;
         };
+        if node.name.is_some() {
+            return true;
+        }
         match &node.kind {
             NodeKind::Definition => true,
             NodeKind::Import(_) => true,

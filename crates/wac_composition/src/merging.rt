@@ -9,7 +9,7 @@ ghost use Rattle.wac_nodes.specs.Entries.{asked_entries, to_merge};
 ghost use Rattle.wac_asking.specs.EntriesLeft.{entry_view, IsHeldKind};
 ghost use Rattle.wac_edges.specs.Order.{IsAcyclic};
 ghost use Rattle.wac_causes.specs.Search.{IsRefused};
-ghost use Rattle.wac_causes.specs.declared.options.EncodeOptions.{EncodeOptions as Asked};
+ghost use Rattle.wac_nodes.specs.declared.options.EncodeOptions.{EncodeOptions as Asked};
 
 use crate::graph::CompositionGraph;
 use std::alloc::AllocError;

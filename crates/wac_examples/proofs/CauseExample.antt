@@ -37,7 +37,7 @@ use Rattle.wac_edges.specs.Cycles.{step, further}
 use Rattle.wac_terms.specs.NoDisagreement.{HasNoDisagreement}
 use Rattle.wac_agreement.specs.Faults.{Disagrees, UseEachOther}
 use Rattle.wac_edges.specs.declared.edges.Edge.{Edge}
-use Rattle.wac_causes.specs.declared.options.EncodeOptions.{EncodeOptions}
+use Rattle.wac_nodes.specs.declared.options.EncodeOptions.{EncodeOptions}
 use Rattle.wac_nodes.specs.Graph as graph
 use Rattle.wac_nodes.specs.Graph.{Graph, GraphNode, node_at, node_number}
 use Rattle.wac_edges.specs.Order.{Edges, Leads, IsAcyclic}
@@ -212,7 +212,7 @@ version_types = record {
 
 -- an import node of an interface
 abbrev import_of : Name → ℕ → GraphNode
-import_of name i = record { kind = graph.import name; item_kind = instance_of i; owner = None; name = None; export_name = None }
+import_of name i = record { kind = graph.import name; item_kind = instance_of i; owner = None; name = None; export_name = None; first_name = None }
 
 abbrev earlier_import : GraphNode
 earlier_import = import_of (codes "a:b/c@0.2.0") 0

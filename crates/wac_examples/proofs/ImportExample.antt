@@ -15,7 +15,7 @@ use Rattle.wac_examples.proofs.Ordered.{edge_cmp_total}
 use Rattle.wac_examples.proofs.Rows.{of_function, instance_of_second, readme_graph}
 
 abbrev import_of_x : GraphNode
-import_of_x = record { kind = graph.import (120 ∷ []); item_kind = of_function; owner = None; name = None; export_name = None }
+import_of_x = record { kind = graph.import (120 ∷ []); item_kind = of_function; owner = None; name = None; export_name = None; first_name = None }
 
 abbrev nodes : List (ℕ × GraphNode)
 nodes = (0, import_of_x) ∷ (1, instance_of_second) ∷ []

@@ -4,13 +4,13 @@
 //! The crates below hold what is re-exported here, and this one nothing else.
 #![tactic(auto)]
 
-pub use wac_causes::{EncodeError, EncodeOptions, Processor};
+pub use wac_causes::EncodeError;
 pub use wac_composition::{CompositionGraph, Imports};
 pub use wac_merge::MergeFault;
 pub use wac_names::NameFault;
 pub use wac_nodes::{
-    AliasError, ExportError, ImportError, InstantiationArgumentError, Node, NodeId, NodeKind,
-    PackageId, RegisterPackageError, laws, one_export_answer,
+    AliasError, EncodeOptions, ExportError, ImportError, InstantiationArgumentError, Node, NodeId,
+    NodeKind, PackageId, Processor, RegisterPackageError, laws, one_export_answer,
 };
 pub use wac_plug::{PlugError, PlugFault, plug};
 pub use wac_types as types;

@@ -29,7 +29,7 @@ use Rattle.wac_edges.specs.Order.{Writes, IsLowestReady}
 use Rattle.wac_nodes.specs.Asked.{is_argument, is_satisfied, unsatisfied, asked_by, imported_by, asked}
 use Rattle.wac_nodes.specs.Entries.{with_used, once, to_merge}
 use Rattle.wac_nodes.specs.OuterImports.{AreOuterImports}
-use Rattle.wac_meaning.specs.Means.{node_is, is_instantiation, is_written, instantiations, IsThing, sort_of_kind, with_package, used_after, used_packages, package_bytes, AreInstantiations, HasItem, shown, export_of, export_item_of, Means}
+use Rattle.wac_meaning.specs.Means.{node_is, is_instantiation, is_written, instantiations, IsThing, sort_of_kind, with_package, used_after, used_packages, package_bytes, HasItem, shown, export_of, export_item_of, Means, further_exports, processor_customs, custom_item}
 use Rattle.wac_meaning.specs.Encoding.{WritesNode, writes_instantiation, writes_alias}
 use Rattle.wac_edges.proofs.EdgeLemmas.{exact_edges}
 use Rattle.wac_edges.proofs.WrittenOrder.{minus, eqb_same, all_in}
@@ -37,6 +37,8 @@ use Rattle.wac_meaning.proofs.ThingLemmas.{IsPlain, is_written-node}
 use Rattle.wac_meaning.proofs.MeantLemmas.{meant-push, something, IsAmong, new_name}
 use Rattle.wac_meaning.proofs.MeaningLemmas.{export_shown, export_others, indexes-push}
 use Rattle.wac_meaning.proofs.WrittenLemmas.{Counted, Earlier, Written, with_component, instance_more, alias_more, used-append, HasItem-push, used_prefix}
+use Rattle.wac_composition.proofs.DefinedLemmas.{AreMade, defined_components, no_package_imports, made_instantiations, HasNoFirst, further_all, no_first_exports, no_names}
+use Rattle.wac_nodes.specs.declared.options.EncodeOptions.{EncodeOptions}
 
 -- where nothing is asked for there are no imports
 pub no_imports : (g : Graph) → asked g ≡ [] → AreOuterImports g []
@@ -167,7 +169,7 @@ module _ (counted : Counted) (earlier : Earlier) (g : Graph) (sound : IsSound g)
     pub imports : (meaning items).imports ≡ []
     pub customs : (meaning items).customs ≡ []
     pub bytes : (meaning items).nested_bytes ≡ map (package_bytes g) (used_packages g order)
-    pub made : AreInstantiations g at order (instantiations g order) (meaning items).instantiations
+    pub made : AreMade g at order (instantiations g order) (meaning items).instantiations
     pub exports : map shown (meaning items).exports ≡ flat_map (export_of g at) es
     pub stand : (n : ℕ) (node : GraphNode) → node_at g (node_number n) ≡ Some node
         → (index n < indexes (space (sort_of_kind node.item_kind)) items) × (stands_for (meaning items) (sort_of_kind node.item_kind) (index n) ≡ at n)
@@ -201,7 +203,7 @@ module _ (counted : Counted) (earlier : Earlier) (g : Graph) (sound : IsSound g)
         meant = meant-push items x e.meant (new_name g at items es name e.exports new, subst IsSomething (sym (e.stand id.0 node there).1) (something g at order id.0 node (is_thing id.0 node there)));
         imports = o.0 ∙ e.imports;
         bytes = o.1 ∙ e.bytes;
-        made = subst (λ made. AreInstantiations g at order (instantiations g order) made) (sym o.2) e.made;
+        made = subst (λ made. AreMade g at order (instantiations g order) made) (sym o.2) e.made;
         customs = o.3 ∙ e.customs;
         exports = export_shown items t (index id.0) name ∙ ap (λ xs. xs ++ (name, t, stands_for (meaning items) t (index id.0)) ∷ []) e.exports
             ∙ ap (λ z. flat_map (export_of g at) es ++ (name, t, z) ∷ []) (e.stand id.0 node there).1
@@ -215,24 +217,30 @@ module _ (counted : Counted) (earlier : Earlier) (g : Graph) (sound : IsSound g)
         indexes_rise k its x j small = omega (arith, indexes-push k its x)
 
   -- the items mean the graph
-  pub means : (base items : List Item) (index place : ℕ → ℕ) → Writes g.edges (is_written g) order → AllSet g → Exported base g.exports items index place
-      → ((i j n m : ℕ) → i < j → slice_get order i ≡ Some n → slice_get order j ≡ Some m → place n < place m) → Means items g
-  means base items index place writes all e in_place = record {
+  pub means : (o : EncodeOptions) → o.define_components ≡ true → o.processor ≡ None → HasNoFirst g → ((n : ℕ) (node : GraphNode) → node_at g (node_number n) ≡ Some node → node.name ≡ None)
+      → (base items : List Item) (index place : ℕ → ℕ) → Writes g.edges (is_written g) order → AllSet g → Exported base g.exports items index place
+      → ((i j n m : ℕ) → i < j → slice_get order i ≡ Some n → slice_get order j ≡ Some m → place n < place m) → Means items g o
+  means o define no_processor no_first unnamed base items index place writes all e in_place = record {
     order = order;
     in_order = writes;
     at = at;
     index = index;
     meant = e.meant;
-    imports = subst (AreOuterImports g) (sym e.imports) (no_imports g (asked_none g plain all));
-    components = e.bytes;
-    instances = e.made;
+    classes = [];
+    outer = no_imports g (asked_none g plain all);
+    imports = e.imports ∙ sym (no_package_imports g o define order);
+    components = e.bytes ∙ sym (defined_components g o define order);
+    instances = made_instantiations g o define 0 at order (instantiations g order) (meaning items).instantiations e.made;
     things = is_thing;
     stand = λ n node there. (e.stand n node there).1;
-    exports = e.exports;
+    exports = e.exports ∙ ap (flat_map (export_of g at)) (sym (further_all g no_first)) ∙ ap (λ xs. xs ++ flat_map (export_of g at) (further_exports g)) (sym (no_first_exports g no_first at order));
     place = place;
     own_items = λ n node there written. e.own n node there;
     in_place = in_place;
+    names = [];
+    named = no_names g index unnamed;
+    customs = e.customs ∙ ap processor_customs (sym no_processor);
     body = base;
-    last = e.split;
-    customs = e.customs;
+    last = e.split ∙ ap (λ es. base ++ flat_map (export_item_of g index) es) (sym (further_all g no_first)) ∙ sym (append-nil (base ++ flat_map (export_item_of g index) (further_exports g)))
+        ∙ ap (λ cs. base ++ flat_map (export_item_of g index) (further_exports g) ++ map custom_item cs) (sym e.customs);
   }

@@ -1,5 +1,6 @@
 pub mod MeaningLemmas
 pub mod MeantLemmas
+pub mod DefinedLemmas
 pub mod ThingLemmas
 pub mod WrittenLemmas
 pub mod EncodeLemmas

@@ -13,7 +13,7 @@ use Rattle.wac_binary.specs.Meaning.{Thing, Root, Export, start, stands_for, wit
 use Rattle.wac_binary.specs.HasMeaning.{ItemHasMeaning, AllHaveMeaning, HasMeaning, IsSomething, HasExport, IsNew}
 use Rattle.wac_nodes.specs.declared.node.NodeId.{NodeId}
 use Rattle.wac_nodes.specs.Graph.{Graph, GraphNode, node_at}
-use Rattle.wac_meaning.specs.Means.{IsThing, as_import, as_instantiation, as_alias, sort_of_kind, shown, export_of}
+use Rattle.wac_meaning.specs.Means.{IsThing, as_import, as_instantiation, as_alias, sort_of_kind, shown, export_of, as_definition}
 use Rattle.wac_meaning.proofs.MeaningLemmas.{meaning-push}
 
 -- one more item that has a meaning
@@ -93,6 +93,7 @@ module _ (items : List Item) (unknown : AreUnknown items) where
 pub something : (g : Graph) (at : ℕ → Thing) (order : List ℕ) (n : ℕ) (node : GraphNode) → IsThing g at order n node → IsSomething (at n)
 something g at order n node (as_import name p kind place is) = subst IsSomething (sym is) tt
 something g at order n node (as_instantiation k kind place is) = subst IsSomething (sym is) tt
+something g at order n node (as_definition t kind item is) = subst IsSomething (sym is) tt
 something g at order n node (as_alias instance source i name kind aliased there exported is) = subst IsSomething (sym is) tt
 
 -- a name that is not among those of these exports is new

@@ -13,7 +13,7 @@ use Rattle.wac_nodes.specs.Graph as graph
 use Rattle.wac_nodes.specs.Graph.{Graph, GraphNode, Kind, node_at, node_number}
 use Rattle.wac_nodes.specs.Sound.{IsSound}
 use Rattle.wac_edges.specs.Order.{Writes, IsLowestReady}
-use Rattle.wac_meaning.specs.Means.{node_is, is_import, is_instantiation, is_written, instantiations, IsThing, as_import, as_instantiation, as_alias}
+use Rattle.wac_meaning.specs.Means.{node_is, is_import, is_instantiation, is_written, instantiations, IsThing, as_import, as_instantiation, as_alias, as_definition}
 use Rattle.wac_edges.proofs.WrittenOrder.{has, minus, minus-push, minus-false, minus-true, eqb_same, apart, in_push, still_in, all_in, slice_get-middle}
 
 -- every node is an instantiation or an alias
@@ -66,6 +66,7 @@ module _ (g : Graph) (sound : IsSound g) (plain : IsPlain g) where
     kept : (done : List ℕ) (at : ℕ → Thing) (n : ℕ) (t : Thing) → Good done at → has done n ≡ false → (m : ℕ) (node : GraphNode) → has done m ≡ true → IsThing g at order m node → IsThing g (put_at at n t) order m node
     kept done at n t good absent m node here (as_import name p k place is) = as_import name p k place (put_other at n t m (apart done m n here absent) ∙ is)
     kept done at n t good absent m node here (as_instantiation j k place is) = as_instantiation j k place (put_other at n t m (apart done m n here absent) ∙ is)
+    kept done at n t good absent m node here (as_definition d k item is) = as_definition d k item (put_other at n t m (apart done m n here absent) ∙ is)
     kept done at n t good absent m node here (as_alias instance source i name k aliased there exported is) =
         let before : has done instance.0 ≡ true = good.closed (alias_edge instance.0 m i) aliased here in
         as_alias instance source i name k aliased there exported

@@ -23,12 +23,13 @@ use Rattle.wac_nodes.specs.Graph as graph
 use Rattle.wac_nodes.specs.Graph.{Graph, GraphNode, Kind, node_at, package_at, imports_of, exports_of, IsAliasOf, IsArgumentOf, node_number}
 use Rattle.wac_nodes.specs.Sound.{IsSound}
 use Rattle.wac_edges.specs.Order.{Writes, IsLowestReady}
-use Rattle.wac_meaning.specs.Means.{node_is, is_import, is_instantiation, is_written, instantiations, IsThing, as_import, as_instantiation, as_alias, sort_of_kind, same_package, with_package, used_after, used_packages, package_bytes, IsArgument, given, AreArguments, IsInstantiationOf, AreInstantiations, HasItem, is_own_item}
+use Rattle.wac_meaning.specs.Means.{node_is, is_import, is_instantiation, is_written, instantiations, IsThing, as_import, as_instantiation, as_alias, sort_of_kind, same_package, with_package, used_after, used_packages, package_bytes, IsArgument, given, AreArguments, HasItem, is_own_item, as_definition}
 use Rattle.wac_meaning.specs.Encoding.{HasComponent, IsArgumentItem, AreArgumentItems}
 use Rattle.wac_edges.proofs.WrittenOrder.{has, minus, minus-true, eqb_same, apart, in_push, now_in, slice_get-middle, written_left, only_place, has-filter}
 use Rattle.wac_meaning.proofs.ThingLemmas.{IsPlain, ready_sources}
 use Rattle.wac_meaning.proofs.MeantLemmas.{meant-push, AreUnknown, unknown-nested, unknown-instance, unknown-alias, alias_meant, something}
 use Rattle.wac_meaning.proofs.MeaningLemmas.{alias_stands, alias_rest, nested_bytes_more, nested_stands, instantiations_more, instance_stands, made_of, indexes-push}
+use Rattle.wac_composition.proofs.DefinedLemmas.{IsMadeOf, AreMade}
 
 -- how the laws of items are passed
 abbrev pub Counted : Type 0
@@ -130,7 +131,7 @@ module _ (counted : Counted) (earlier : Earlier) (g : Graph) (sound : IsSound g)
     pub bytes : (meaning items).nested_bytes ≡ map (package_bytes g) used
     pub packages : map (λ e. e.0) components ≡ used
     pub numbers : (k : ℕ) (e : PackageId × ℕ) → slice_get components k ≡ Some e → (e.1 < indexes (space sort.Component) items) × (stands_for (meaning items) sort.Component e.1 ≡ component_at k)
-    pub made : AreInstantiations g at order (instantiations g done) (meaning items).instantiations
+    pub made : AreMade g at order (instantiations g done) (meaning items).instantiations
     pub stand : (n : ℕ) (node : GraphNode) → has done n ≡ true → node_at g (node_number n) ≡ Some node
         → (index n < indexes (space (sort_of_kind node.item_kind)) items) × (stands_for (meaning items) (sort_of_kind node.item_kind) (index n) ≡ at n)
     pub place : ℕ → ℕ
@@ -167,7 +168,7 @@ module _ (counted : Counted) (earlier : Earlier) (g : Graph) (sound : IsSound g)
           bytes = ap (λ r. r.nested_bytes) more ∙ ap (λ bs. bs ++ package_bytes g id ∷ []) w.bytes ∙ sym (map-append (package_bytes g) used (id ∷ []));
           packages = map-append (λ e. e.0) components ((id, indexes (space sort.Component) items) ∷ []) ∙ ap (λ us. us ++ id ∷ []) w.packages;
           numbers = λ k e at_k. numbers many k e (slice_get-push components (id, indexes (space sort.Component) items) k e at_k);
-          made = subst (λ made. AreInstantiations g at order (instantiations g done) made) (sym (ap (λ r. r.instantiations) more)) w.made;
+          made = subst (λ made. AreMade g at order (instantiations g done) made) (sym (ap (λ r. r.instantiations) more)) w.made;
           stand = stand-push (nested (package_bytes g id));
           place = w.place;
           own = λ n node here there. HasItem-push items (nested (package_bytes g id)) node (index n) (w.place n) (w.own n node here there);
@@ -216,6 +217,7 @@ module _ (counted : Counted) (earlier : Earlier) (g : Graph) (sound : IsSound g)
   projected_thing : (m : ℕ) (node : GraphNode) (name : Name) → IsThing g at order m node → projected (at m) name ≡ projection (at m) name
   projected_thing m node name (as_import n p k place is) = rw is refl
   projected_thing m node name (as_instantiation j k place is) = rw is refl
+  projected_thing m node name (as_definition t k item is) = rw is refl
   projected_thing m node name (as_alias instance source i n k aliased there exported is) = rw is refl
 
   -- the next node, with the index at which it stands
@@ -262,7 +264,7 @@ module _ (counted : Counted) (earlier : Earlier) (g : Graph) (sound : IsSound g)
       or_yes false = refl
 
     -- the last item is the node's own, and stands after the others
-    placed : (used : List PackageId) (items : List Item) (components : List (PackageId × ℕ)) → Written done used items components index → (x : Item) → is_own_item node.kind x ≡ true → sort_added x ≡ Some (sort_of_kind node.item_kind) → i ≡ indexes (space (sort_of_kind node.item_kind)) items
+    placed : (used : List PackageId) (items : List Item) (components : List (PackageId × ℕ)) → Written done used items components index → (x : Item) → is_own_item node node.kind x ≡ true → sort_added x ≡ Some (sort_of_kind node.item_kind) → i ≡ indexes (space (sort_of_kind node.item_kind)) items
         → (place : ℕ → ℕ)
         × ((m : ℕ) (other : GraphNode) → has (done ++ n ∷ []) m ≡ true → node_at g (node_number m) ≡ Some other → HasItem (items ++ x ∷ []) other (index' m) (place m))
         × ((a b k m : ℕ) → a < b → slice_get (done ++ n ∷ []) a ≡ Some k → slice_get (done ++ n ∷ []) b ≡ Some m → place k < place m)
@@ -311,7 +313,7 @@ module _ (counted : Counted) (earlier : Earlier) (g : Graph) (sound : IsSound g)
         let t : Sort = sort_of_kind node.item_kind in
         let x : Item = alias_item (export_alias t (index instance.0) name) in
         let more = alias_rest items t (index instance.0) name in
-        let (place, own, in_place) = placed used items components w x (ap (λ q. is_own_item q x) kind) refl counts in
+        let (place, own, in_place) = placed used items components w x (ap (λ q. is_own_item node q x) kind) refl counts in
         record {
           nodes = λ m within. nodes m (in_push done n m within);
           meant = meant-push items x w.meant (alias_meant items w.unknown t (index instance.0) name (subst IsSomething (sym of_instance) (something g at order instance.0 source (is_thing instance.0 source source_there))));
@@ -322,8 +324,8 @@ module _ (counted : Counted) (earlier : Earlier) (g : Graph) (sound : IsSound g)
           bytes = ap (λ r. r.nested_bytes) more ∙ w.bytes;
           packages = w.packages;
           numbers = kept_number done used items components index w x;
-          made = subst (λ ns. AreInstantiations g at order ns (meaning (items ++ x ∷ [])).instantiations) (sym (instantiations-push false (kind_test false (ap is_instantiation kind)) ∙ rw append-nil refl))
-              (subst (λ made. AreInstantiations g at order (instantiations g done) made) (sym (ap (λ r. r.instantiations) more)) w.made);
+          made = subst (λ ns. AreMade g at order ns (meaning (items ++ x ∷ [])).instantiations) (sym (instantiations-push false (kind_test false (ap is_instantiation kind)) ∙ rw append-nil refl))
+              (subst (λ made. AreMade g at order (instantiations g done) made) (sym (ap (λ r. r.instantiations) more)) w.made);
           stand = each (λ m other. (index' m < indexes (space (sort_of_kind other.item_kind)) (items ++ x ∷ [])) × (stands_for (meaning (items ++ x ∷ [])) (sort_of_kind other.item_kind) (index' m) ≡ at m))
               (λ m other was other_there.
               let s = stand-push done used items components index w x m other was other_there in
@@ -360,6 +362,9 @@ module _ (counted : Counted) (earlier : Earlier) (g : Graph) (sound : IsSound g)
             two_kinds a b = cc
           is_projection (as_instantiation j other_kind at_j is) = absurd (two_kinds kind other_kind) where
             two_kinds : {q : Kind} → q ≡ graph.alias → q ≡ graph.instantiation → ⊥
+            two_kinds a b = cc
+          is_projection (as_definition t other_kind _ _) = absurd (two_kinds kind other_kind) where
+            two_kinds : {q : Kind} → q ≡ graph.alias → q ≡ graph.definition → ⊥
             two_kinds a b = cc
           is_projection (as_alias other other_source j other_name _ other_aliased other_there other_exported is) =
               let (same, at_same) = sound.one_source (node_number n) instance other k j aliased other_aliased in
@@ -401,7 +406,7 @@ module _ (counted : Counted) (earlier : Earlier) (g : Graph) (sound : IsSound g)
     instance_more used items components id c k arguments w kind owned first stands typed given_items counts =
         let x : Item = instantiate c arguments in
         let more = instantiations_more items c arguments in
-        let (place, own, in_place) = placed used items components w x (ap (λ q. is_own_item q x) kind) (ap Some (sym typed)) (counts ∙ ap (λ t. indexes (space t) items) (sym typed)) in
+        let (place, own, in_place) = placed used items components w x (ap (λ q. is_own_item node q x) kind) (ap Some (sym typed)) (counts ∙ ap (λ t. indexes (space t) items) (sym typed)) in
         record {
           nodes = λ m within. nodes m (in_push done n m within);
           meant = meant-push items x w.meant (subst IsSomething (sym stands) tt, arguments_meant 0 (imports_of g node) arguments given_items);
@@ -412,8 +417,8 @@ module _ (counted : Counted) (earlier : Earlier) (g : Graph) (sound : IsSound g)
           bytes = ap (λ r. r.nested_bytes) more ∙ w.bytes;
           packages = w.packages;
           numbers = kept_number done used items components index w x;
-          made = subst (λ ns. AreInstantiations g at order ns (meaning (items ++ x ∷ [])).instantiations) (sym (instantiations-push true (kind_test true (ap is_instantiation kind))))
-              (subst (λ made. AreInstantiations g at order (instantiations g done ++ n ∷ []) made) (sym (ap (λ r. r.instantiations) more))
+          made = subst (λ ns. AreMade g at order ns (meaning (items ++ x ∷ [])).instantiations) (sym (instantiations-push true (kind_test true (ap is_instantiation kind))))
+              (subst (λ made. AreMade g at order (instantiations g done ++ n ∷ []) made) (sym (ap (λ r. r.instantiations) more))
               (are_push (instantiations g done) (meaning items).instantiations w.made this));
           stand = each (λ m other. (index' m < indexes (space (sort_of_kind other.item_kind)) (items ++ x ∷ [])) × (stands_for (meaning (items ++ x ∷ [])) (sort_of_kind other.item_kind) (index' m) ≡ at m))
               (λ m other was other_there.
@@ -429,13 +434,13 @@ module _ (counted : Counted) (earlier : Earlier) (g : Graph) (sound : IsSound g)
           nodes m (inl same) = ap (is_written g) same ∙ (minus-true (is_written g) done n ready.here).0
           nodes m (inr was) = w.nodes m was
 
-          are_push : (ns : List ℕ) (its : List Instantiation) → AreInstantiations g at order ns its → IsInstantiationOf g at order n (made_of (meaning items) c arguments) → AreInstantiations g at order (ns ++ n ∷ []) (its ++ made_of (meaning items) c arguments ∷ [])
+          are_push : (ns : List ℕ) (its : List Instantiation) → AreMade g at order ns its → IsMadeOf g at order n (made_of (meaning items) c arguments) → AreMade g at order (ns ++ n ∷ []) (its ++ made_of (meaning items) c arguments ∷ [])
           are_push [] [] h it = (it, tt)
           are_push [] (y ∷ its) h it = absurd h
           are_push (m ∷ ns) [] h it = absurd h
           are_push (m ∷ ns) (y ∷ its) h it = (h.0, are_push ns its h.1 it)
 
-          are_many : (ns : List ℕ) (its : List Instantiation) → AreInstantiations g at order ns its → length its ≡ length ns
+          are_many : (ns : List ℕ) (its : List Instantiation) → AreMade g at order ns its → length its ≡ length ns
           are_many [] [] h = refl
           are_many [] (y ∷ its) h = absurd h
           are_many (m ∷ ns) [] h = absurd h
@@ -464,7 +469,7 @@ module _ (counted : Counted) (earlier : Earlier) (g : Graph) (sound : IsSound g)
           are_arguments j (e ∷ imports) [] h = absurd h
           are_arguments j (e ∷ imports) (a ∷ as_) h = (h.0.named, argument_thing j e.0 a h.0, are_arguments (suc j) imports as_ h.1)
 
-          this : IsInstantiationOf g at order n (made_of (meaning items) c arguments)
+          this : IsMadeOf g at order n (made_of (meaning items) c arguments)
           this = record { node = node; there = there; owner = id; owned = owned; place = k; used = first; component = stands; arguments = are_arguments 0 (imports_of g node) arguments given_items }
 
           is_instance : IsThing g at order n node → at n ≡ instance_at (length (instantiations g done))
@@ -472,6 +477,9 @@ module _ (counted : Counted) (earlier : Earlier) (g : Graph) (sound : IsSound g)
             two_kinds : {q : Kind} {m : Name} → q ≡ graph.instantiation → q ≡ graph.import m → ⊥
             two_kinds a b = cc
           is_instance (as_instantiation j _ at_j is) = is ∙ ap instance_at (only_instance j kind at_j)
+          is_instance (as_definition t other_kind _ _) = absurd (two_kinds kind other_kind) where
+            two_kinds : {q : Kind} → q ≡ graph.instantiation → q ≡ graph.definition → ⊥
+            two_kinds a b = cc
           is_instance (as_alias other other_source j other_name other_kind _ _ _ _) = absurd (two_kinds kind other_kind) where
             two_kinds : {q : Kind} → q ≡ graph.instantiation → q ≡ graph.alias → ⊥
             two_kinds a b = cc

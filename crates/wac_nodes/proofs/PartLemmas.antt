@@ -17,7 +17,7 @@ use Rattle.wac_nodes.specs.declared.node.NodeId.{NodeId}
 use Rattle.wac_nodes.specs.declared.packages.PackageId.{PackageId}
 use Rattle.wac_nodes.specs.declared.packages.Slot.{Slot}
 use Rattle.wac_nodes.specs.Graph as graph
-use Rattle.wac_nodes.specs.Graph.{Graph, GraphNode, node_at, package_at, exports_of, imports_of, IsAliasOf, IsRegistered}
+use Rattle.wac_nodes.specs.Graph.{Graph, GraphNode, node_at, package_at, exports_of, imports_of, IsAliasOf, IsRegistered, export_at}
 use Rattle.wac_nodes.specs.Sound.{IsSound, IsInstance, IsAlias, Joins}
 use Rattle.wac_nodes.proofs.JoinLemmas.{AreAlike, alike_exports, joins_kept, imports_of_instance}
 
@@ -36,6 +36,9 @@ pub record IsClosed (g h : Graph) : Type 0 where
   pub exported : (i : ℕ) (name : Name) (n : NodeId) → slice_get h.exports i ≡ Some (name, n) → IsSome (node_at h n)
   pub aliases : (n : NodeId) (node : GraphNode) → node_at h n ≡ Some node → node.kind ≡ graph.alias → (instance : NodeId) (i : ℕ) → IsAliasOf g instance i n → IsAliasOf h instance i n
   pub instances : (n : NodeId) (node : GraphNode) → node_at h n ≡ Some node → node.kind ≡ graph.instantiation → (id : PackageId) (p : PackageParts) → node.owner ≡ Some id → package_at g id ≡ Some p → package_at h id ≡ Some p
+  pub first_names : (n : NodeId) (node : GraphNode) (name : Name) → node_at h n ≡ Some node → node.first_name ≡ Some name → (node.kind ≡ graph.definition) × (export_at h name ≡ Some n)
+  pub vacant : (i s : ℕ) → slice_get h.vacant i ≡ Some s → IsSomeAnd (slice_get h.slots s) (λ slot. slot.«package» ≡ None)
+  pub vacant_once : (i j s : ℕ) → slice_get h.vacant i ≡ Some s → slice_get h.vacant j ≡ Some s → i ≡ j
 
 the_some : (o : Option GraphNode) → IsSome o → (x : GraphNode) × (o ≡ Some x)
 the_some None h = cc
@@ -51,9 +54,9 @@ some_is (Some x) P h = (x, refl, h)
 some_same : (o : Option GraphNode) (a b : GraphNode) → o ≡ Some a → o ≡ Some b → a ≡ b
 some_same o a b p q = cc
 
-module _ (g : Graph) (s : IsSound g) (nodes : map.FinMap nat_cmp GraphNode) (next : ℕ) (edges : set.FinSet edge_cmp) (exports : List (Name × NodeId)) (slots : List Slot) where
+module _ (g : Graph) (s : IsSound g) (nodes : map.FinMap nat_cmp GraphNode) (next : ℕ) (edges : set.FinSet edge_cmp) (exports : List (Name × NodeId)) (slots : List Slot) (vacant : List ℕ) where
   abbrev part : Graph
-  part = record { types = g.types; nodes = nodes; next = next; edges = edges; exports = exports; slots = slots }
+  part = record { types = g.types; nodes = nodes; next = next; edges = edges; exports = exports; slots = slots; vacant = vacant }
 
   module _ (p : IsPart g part) (c : IsClosed g part) where
     -- what is so of a node of a kind, item and owner was so
@@ -120,6 +123,9 @@ module _ (g : Graph) (s : IsSound g) (nodes : map.FinMap nat_cmp GraphNode) (nex
       one_definition = λ kind n m a b. s.one_definition kind n m (defined kind n a) (defined kind m b);
       one_export = λ name i j n m a b. p.apart i j (s.one_export name (p.place i) (p.place j) n m (p.exports i (name, n) a) (p.exports j (name, m) b));
       one_package = λ key id other (x, a, is) (y, b, same). s.one_package key id other (x, p.packages id x a, is) (y, p.packages other y b, same);
+      first_names = c.first_names;
+      vacant = c.vacant;
+      vacant_once = c.vacant_once;
     } where
       imported : (name : Name) (n : NodeId) → IsSomeAnd (map.get nodes n.0) (λ x. x.kind ≡ graph.import name) → IsSomeAnd (map.get g.nodes n.0) (λ x. x.kind ≡ graph.import name)
       imported name n h = was (λ x. x.kind ≡ graph.import name) (λ a b like is. sym like.kind ∙ is) n h

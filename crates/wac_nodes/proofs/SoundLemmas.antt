@@ -5,7 +5,7 @@ use Rattle.std.specs.Ordering.{nat_cmp}
 use Rattle.std.specs.FinMap as map
 use Rattle.std.specs.FinSet as set
 use Rattle.std.proofs.lemmas.Bool.{eqb-true}
-use Rattle.wac_shapes.specs.Name.{Name}
+use Rattle.wac_shapes.specs.Name.{Name, same_name, find_name}
 use Rattle.wac_collection.specs.Collection.{Collection, holds_type, IsWellFormed}
 use Rattle.wac_shapes.specs.Kinds.{kind_type}
 use Rattle.wac_collection.specs.Package.{PackageParts, Key, HoldsPackage}
@@ -92,6 +92,14 @@ pub one_alias-argument : (edges : set.FinSet edge_cmp) (source target position :
 one_alias-argument edges source target position one instance i n m p q =
     one_edge (λ k. alias_edge instance.0 k.0 i) edges (argument_edge source target position) n (λ k is. absurd (argument_is_no_alias source target position instance.0 k.0 i (sym is))) (one instance i) n m p q
 
+-- what stands under a name still does in a longer list
+find_name-prefix : (es more : List (Name × NodeId)) (name : Name) (n : NodeId) → find_name es name ≡ Some n → find_name (es ++ more) name ≡ Some n
+find_name-prefix [] more name n at = cc
+find_name-prefix (e ∷ es) more name n at = split (same_name name e.0) (find_name-prefix es more name n) at where
+  split : (b : Bool) → (find_name es name ≡ Some n → find_name (es ++ more) name ≡ Some n) → cond b (Some e.1) (find_name es name) ≡ Some n → cond b (Some e.1) (find_name (es ++ more) name) ≡ Some n
+  split true rest h = h
+  split false rest h = rest h
+
 module _ (g : Graph) (s : IsSound g) where
   -- types more
   pub sound_types : (c : Collection) → IsWellFormed g.types → Extends g.types c → IsSound (record g { types = c })
@@ -123,6 +131,9 @@ module _ (g : Graph) (s : IsSound g) where
     one_definition = s.one_definition;
     one_export = s.one_export;
     one_package = s.one_package;
+    first_names = s.first_names;
+    vacant = s.vacant;
+    vacant_once = s.vacant_once;
   }
 
   -- a slot more
@@ -160,9 +171,16 @@ module _ (g : Graph) (s : IsSound g) where
     one_definition = s.one_definition;
     one_export = s.one_export;
     one_package = λ key id other p q. one_more (IsRegistered g key) (IsRegistered more key) (record { slot = length g.slots; generation = slot.generation }) (cases key) (s.one_package key) id other p q;
+    first_names = s.first_names;
+    vacant = λ i k at. some_grown k (slice_get g.slots k) refl (s.vacant i k at);
+    vacant_once = s.vacant_once;
   } where
     more : Graph
     more = record g { slots = g.slots ++ slot ∷ [] }
+
+    some_grown : (k : ℕ) (o : Option Slot) → slice_get g.slots k ≡ o → IsSomeAnd o (λ x. x.«package» ≡ None) → IsSomeAnd (slice_get (g.slots ++ slot ∷ []) k) (λ x. x.«package» ≡ None)
+    some_grown k None is h = absurd h
+    some_grown k (Some x) is h = subst (λ o. IsSomeAnd o (λ y. y.«package» ≡ None)) (sym (get_grown g.slots slot k x is)) h
 
     still : (node : GraphNode) → IsInstance g node → IsInstance (record g { slots = g.slots ++ slot ∷ [] }) node
     still node i = record { id = i.id; parts = i.parts; owned = i.owned; registered = package_before slot i.id i.parts i.registered; typed = i.typed }
@@ -214,6 +232,9 @@ module _ (g : Graph) (s : IsSound g) where
     one_definition = s.one_definition;
     one_export = s.one_export;
     one_package = s.one_package;
+    first_names = s.first_names;
+    vacant = s.vacant;
+    vacant_once = s.vacant_once;
   } where
     more : Graph
     more = record g { edges = set.insert g.edges (argument_edge source target position) }
@@ -237,7 +258,7 @@ module _ (g : Graph) (s : IsSound g) where
     old_alias n x i (inr was) = was
 
   -- a node more, and perhaps one edge that makes it an alias
-  module _ (n : NodeId) (node : GraphNode) (next : ℕ) (vacant : node_at g n ≡ None) (held : holds_type g.types (kind_type node.item_kind) ≡ true) where
+  module _ (n : NodeId) (node : GraphNode) (next : ℕ) (vacant : node_at g n ≡ None) (held : holds_type g.types (kind_type node.item_kind) ≡ true) (first : node.first_name ≡ None) where
     abbrev with_node : set.FinSet edge_cmp → Graph
     with_node edges = record g { nodes = map.insert g.nodes n.0 node; next = next; edges = edges }
 
@@ -258,6 +279,12 @@ module _ (g : Graph) (s : IsSound g) where
         let is : node ≡ other = let e : map.get (map.insert g.nodes n.0 node) n.0 ≡ Some other = ap (map.get (map.insert g.nodes n.0 node)) (sym same) ∙ there in some_same (map.get (map.insert g.nodes n.0 node) n.0) node other (insert_same g.nodes n.0 node) e in
         subst (λ k. P k other) (sym (same_id m n same)) (subst (λ x. P n x) is new))
         (λ differ. old m other differ (sym (insert_other g.nodes n.0 m.0 node differ) ∙ there))
+
+    -- a first name is a definition's that was there
+    old_first_names : (m : NodeId) (other : GraphNode) (name : Name) → map.get (map.insert g.nodes n.0 node) m.0 ≡ Some other → other.first_name ≡ Some name → (other.kind ≡ graph.definition) × (export_at g name ≡ Some m)
+    old_first_names m other name there = each_node (λ k x. x.first_name ≡ Some name → (x.kind ≡ graph.definition) × (export_at g name ≡ Some k)) (λ is. absurd (no_name (sym first ∙ is))) (λ k x _ at is. s.first_names k x name at is) m other there where
+      no_name : None ≡ Some name → ⊥
+      no_name h = cc
 
     old_instance : (edges : set.FinSet edge_cmp) (other : GraphNode) → IsInstance g other → IsInstance (with_node edges) other
     old_instance edges other i = record { id = i.id; parts = i.parts; owned = i.owned; registered = i.registered; typed = i.typed }
@@ -315,6 +342,9 @@ module _ (g : Graph) (s : IsSound g) where
       one_definition = old_definition (λ wrong. no_definition kind wrong);
       one_export = s.one_export;
       one_package = s.one_package;
+      first_names = old_first_names;
+      vacant = s.vacant;
+      vacant_once = s.vacant_once;
     } where
       two_kinds : {k : graph.Kind} → k ≡ graph.instantiation → k ≡ graph.alias → ⊥
       two_kinds a b = cc
@@ -342,6 +372,9 @@ module _ (g : Graph) (s : IsSound g) where
       one_definition = old_definition (λ wrong. no_definition wrong kind);
       one_export = s.one_export;
       one_package = s.one_package;
+      first_names = old_first_names;
+      vacant = s.vacant;
+      vacant_once = s.vacant_once;
     } where
       no_instance : {k : graph.Kind} → k ≡ graph.instantiation → k ≡ graph.import name → ⊥
       no_instance a b = cc
@@ -393,6 +426,9 @@ module _ (g : Graph) (s : IsSound g) where
           one_definition = old_definition (λ wrong. no_definition wrong kind);
           one_export = s.one_export;
           one_package = s.one_package;
+          first_names = old_first_names;
+          vacant = s.vacant;
+          vacant_once = s.vacant_once;
         } where
           two_kinds : {k : graph.Kind} → k ≡ graph.instantiation → k ≡ graph.alias → ⊥
           two_kinds a b = cc
@@ -460,6 +496,12 @@ module _ (g : Graph) (s : IsSound g) where
     one_definition = λ kind m o p q. s.one_definition kind m o (was_definition kind m p) (was_definition kind o q);
     one_export = one_name g.exports name n absent s.one_export;
     one_package = s.one_package;
+    first_names = λ m other text at is.
+        let (was, had, same_kind, same_first) = first_before m other at in
+        let (kind, exported) = s.first_names m was text had (sym same_first ∙ is) in
+        (same_kind ∙ kind, find_name-prefix g.exports ((name, n) ∷ []) text m exported);
+    vacant = s.vacant;
+    vacant_once = s.vacant_once;
   } where
     named : GraphNode
     named = record node { export_name = Some name }
@@ -476,6 +518,14 @@ module _ (g : Graph) (s : IsSound g) where
 
     still : (m : NodeId) → IsSome (node_at g m) → IsSome (map.get (map.insert g.nodes n.0 (record node { export_name = Some name })) m.0)
     still m at = by_eq m.0 n.0 (λ same. ap is_some (ap (map.get (map.insert g.nodes n.0 named)) same ∙ insert_same g.nodes n.0 named)) (λ differ. ap is_some (insert_other g.nodes n.0 m.0 named differ) ∙ at)
+
+    -- its kind and its first name are what they were
+    first_before : (m : NodeId) (other : GraphNode) → map.get (map.insert g.nodes n.0 (record node { export_name = Some name })) m.0 ≡ Some other → (was : GraphNode) × (node_at g m ≡ Some was) × (other.kind ≡ was.kind) × (other.first_name ≡ was.first_name)
+    first_before m other at = by_eq m.0 n.0
+        (λ same.
+        let is : other ≡ named = some_same (map.get (map.insert g.nodes n.0 named) n.0) other named (ap (map.get (map.insert g.nodes n.0 named)) (sym same) ∙ at) (insert_same g.nodes n.0 named) in
+        (node, ap (map.get g.nodes) same ∙ there, ap (λ (x : GraphNode). x.kind) is, ap (λ (x : GraphNode). x.first_name) is))
+        (λ differ. (other, sym (insert_other g.nodes n.0 m.0 named differ) ∙ at, refl, refl))
 
     like_named : AreAlike (record node { export_name = Some name }) node
     like_named = record { kind = refl; item = refl; owner = refl }

@@ -1,5 +1,5 @@
 -- What was in a graph is in it still after a step that adds something.
-use Rattle.std.proofs.Common.{◌≡◌, ℕ, zero, suc, List, [], ◌∷◌, ◌++◌, length, slice_get, refl, ap, ◌∙◌, sym, subst, Option, Some, None, Result, Ok, Err, IfSome, inl, inr}
+use Rattle.std.proofs.Common.{◌≡◌, ℕ, zero, suc, List, [], ◌∷◌, ◌++◌, length, slice_get, refl, ap, ◌∙◌, sym, subst, Option, Some, None, Result, Ok, Err, IfSome, inl, inr, ◌≢◌, ◌==◌, Bool, false, cond, slice_set}
 use Rattle.std.specs.Prelude.{IsSomeAnd}
 use Rattle.std.specs.FinMap as map
 use Rattle.std.specs.FinSet as set
@@ -29,7 +29,7 @@ use Rattle.wac_nodes.specs.declared.node.NodeId.{NodeId}
 use Rattle.wac_nodes.specs.declared.packages.PackageId.{PackageId}
 use Rattle.wac_nodes.specs.declared.packages.Slot.{Slot}
 use Rattle.wac_nodes.specs.Graph.{Graph, GraphNode, node_at, package_at, package_in}
-use Rattle.wac_nodes.specs.Steps.{Adds, AddsNode, Registers, Imports, import_node, Instantiates, instance_node, Aliases, AliasesOf, GivesAlias, export_named, alias_node, SetsArgument, SetsOn, GivesArgument, import_named}
+use Rattle.wac_nodes.specs.Steps.{Adds, AddsNode, Registers, Imports, import_node, Instantiates, instance_node, Aliases, AliasesOf, GivesAlias, export_named, alias_node, SetsArgument, SetsOn, GivesArgument, import_named, TakesSlot, freed, added}
 use Rattle.wac_nodes.specs.Stays.{Stays, IsAliasBy, IsArgumentBy}
 use Rattle.wac_nodes.proofs.Added.{by_eq, insert_same, insert_other, new_edge, kept_edge}
 
@@ -38,6 +38,13 @@ item-prefix : {A : Type 0} (xs ys : List (Held A)) (i : ℕ) (x : A) → item_at
 item-prefix [] ys i x h = cc
 item-prefix (y ∷ xs) ys zero x h = h
 item-prefix (y ∷ xs) ys (suc i) x h = item-prefix xs ys i x h
+
+slice_get-set_other : (xs : List Slot) (s k : ℕ) (with : Slot) → k ≢ s → slice_get (slice_set xs s with) k ≡ slice_get xs k
+slice_get-set_other [] s k with differ = refl
+slice_get-set_other (x ∷ xs) zero zero with differ = absurd (differ refl)
+slice_get-set_other (x ∷ xs) zero (suc k) with differ = refl
+slice_get-set_other (x ∷ xs) (suc s) zero with differ = refl
+slice_get-set_other (x ∷ xs) (suc s) (suc k) with differ = slice_get-set_other xs s k with (λ same. differ (ap suc same))
 
 package-prefix : (xs ys : List Slot) (k : ℕ) (id : PackageId) (p : PackageParts) → package_in (slice_get xs k) id ≡ Some p → package_in (slice_get (xs ++ ys) k) id ≡ Some p
 package-prefix [] ys k id p h = cc
@@ -101,11 +108,32 @@ module-stays old new x r step = types-stay old new (λ (id : ModuleTypeId) types
 pub made-stays : (old new : Graph) (world : WorldId) (r : Result PackageParts AddTypeError) → Adds old r new (λ p types. types ≡ with_instance_of old.types world) → Stays old new
 made-stays old new world r step = types-stay old new (λ (p : PackageParts) types. types ≡ with_instance_of old.types world) (record { item = _; before = _ } ∷ []) [] r (λ p c h. (ap (λ t. t.interfaces) h, ap (λ t. t.worlds) h ∙ sym (append-nil old.types.worlds))) step
 
+-- a slot that held no package was no package's
+slot-keeps : (xs : List Slot) (s generation : ℕ) (with : Slot) (id : PackageId) (p : PackageParts) → slice_get xs s ≡ Some (record { generation = generation; «package» = None })
+    → package_in (slice_get xs id.slot) id ≡ Some p → package_in (slice_get (slice_set xs s with) id.slot) id ≡ Some p
+slot-keeps xs s generation with id p empty at = by_eq id.slot s
+    (λ same. absurd (no_package (generation == id.generation) (sym (ap (λ o. package_in o id) (ap (slice_get xs) same ∙ empty)) ∙ at)))
+    (λ differ. ap (λ o. package_in o id) (slice_get-set_other xs s id.slot with differ) ∙ at)
+  where
+    no_package : (b : Bool) → cond b None None ≡ Some p → ⊥
+    no_package true h = cc
+    no_package false h = cc
+
+slot-stays : (old new : Graph) (p : PackageParts) (id : PackageId) → TakesSlot old p id new → Stays old new
+slot-stays old new p id (freed s generation rest vacant empty _ is) = record {
+  nodes = λ n node h. ap (λ g. map.get g.nodes n.0) is ∙ h;
+  edges = λ e h. ap (λ g. set.contains g.edges e) is ∙ h;
+  packages = λ other q h. ap (λ g. package_in (slice_get g.slots other.slot) other) is ∙ slot-keeps old.slots s generation (record { generation = generation; «package» = Some p }) other q empty h;
+  interfaces = λ i x h. ap (λ g. item_at g.types.interfaces i) is ∙ h;
+  worlds = λ i x h. ap (λ g. item_at g.types.worlds i) is ∙ h;
+}
+slot-stays old new p id (added _ _ is) = grown old new [] [] (record { generation = 0; «package» = Some p } ∷ [])
+    (ap (λ g. g.nodes) is) (ap (λ g. g.edges) is) (ap (λ g. g.slots) is)
+    (ap (λ g. g.types.interfaces) is ∙ sym (append-nil old.types.interfaces)) (ap (λ g. g.types.worlds) is ∙ sym (append-nil old.types.worlds))
+
 -- a package is registered
 pub registered-stays : (old new : Graph) (p : PackageParts) (r : Result PackageId RegisterPackageError) → Registers old p r new → Stays old new
-registered-stays old new p (Ok id) h = grown old new [] [] (record { generation = 0; «package» = Some p } ∷ [])
-    (ap (λ g. g.nodes) h.2) (ap (λ g. g.edges) h.2) (ap (λ g. g.slots) h.2)
-    (ap (λ g. g.types.interfaces) h.2 ∙ sym (append-nil old.types.interfaces)) (ap (λ g. g.types.worlds) h.2 ∙ sym (append-nil old.types.worlds))
+registered-stays old new p (Ok id) h = slot-stays old new p id h.1
 registered-stays old new p (Err (register.PackageAlreadyRegistered key)) h = stays-same old new h.0
 registered-stays old new p (Err register.OutOfMemory) h = stays-same old new h
 

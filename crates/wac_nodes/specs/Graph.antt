@@ -22,13 +22,15 @@ pub data Kind : Type 0 where
   instantiation : Kind
   alias : Kind
 
--- a node: what it is, the item that it stands for, the package that it is of, its name, the name by which it was exported last
+-- a node: what it is, the item that it stands for, the package that it is of, its name, the name by which it was exported last, and
+-- that by which a definition was exported first
 pub record GraphNode : Type 0 where
   pub kind : Kind
   pub item_kind : ItemKind
   pub owner : Option PackageId
   pub name : Option Name
   pub export_name : Option Name
+  pub first_name : Option Name
 
 pub record Graph : Type 0 where
   pub types : Collection
@@ -38,6 +40,8 @@ pub record Graph : Type 0 where
   pub edges : set.FinSet edge_cmp
   pub exports : List (Name × NodeId)
   pub slots : List Slot
+  -- the slots that hold no package and may be used again, the one freed last at the head
+  pub vacant : List ℕ
 
 abbrev pub node_number : ℕ → NodeId
 node_number n = record { 0 = n }

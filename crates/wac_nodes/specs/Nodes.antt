@@ -27,6 +27,7 @@ node_of n = record {
   owner = n.«package»;
   name = option_map string_bytes n.name;
   export_name = option_map string_bytes n.export_name;
+  first_name = None;
 }
 
 -- the nodes under their numbers

@@ -1,5 +1,5 @@
 -- The law of graphs: what is true of every graph that a caller can have.
-use Rattle.std.specs.Prelude.{ℕ, ◌≡◌, true, Some, IsSome, IsSomeAnd, slice_get}
+use Rattle.std.specs.Prelude.{ℕ, ◌≡◌, true, Some, None, IsSome, IsSomeAnd, slice_get}
 use Rattle.std.specs.FinSet as set
 use Rattle.wac_shapes.specs.Name.{Name}
 use Rattle.wac_collection.specs.Package.{PackageParts, Key, HoldsPackage}
@@ -13,7 +13,7 @@ use Rattle.wac_edges.specs.declared.edges.Label.{Label}
 use Rattle.wac_edges.specs.declared.edges.Label.TheVariants.{Alias, Argument, Dependency}
 use Rattle.wac_nodes.specs.declared.node.NodeId.{NodeId}
 use Rattle.wac_nodes.specs.declared.packages.PackageId.{PackageId}
-use Rattle.wac_nodes.specs.Graph.{Graph, GraphNode, definition, instantiation, alias, node_at, package_at, exports_of, imports_of, IsAliasOf, IsArgumentOf, IsImportOf, IsDefinitionOf, IsRegistered}
+use Rattle.wac_nodes.specs.Graph.{Graph, GraphNode, definition, instantiation, alias, node_at, package_at, exports_of, imports_of, IsAliasOf, IsArgumentOf, IsImportOf, IsDefinitionOf, IsRegistered, export_at}
 
 -- the node is an instance of a registered package
 pub record IsInstance (g : Graph) (node : GraphNode) : Type 0 where
@@ -62,5 +62,10 @@ pub record IsSound (g : Graph) : Type 0 where
   pub one_definition : (kind : ItemKind) (n other : NodeId) → IsDefinitionOf g kind n → IsDefinitionOf g kind other → n ≡ other
   -- a name is exported once at most
   pub one_export : (name : Name) (i j : ℕ) (n other : NodeId) → slice_get g.exports i ≡ Some (name, n) → slice_get g.exports j ≡ Some (name, other) → i ≡ j
+  -- only a definition has a first name, and it is exported by it
+  pub first_names : (n : NodeId) (node : GraphNode) (name : Name) → node_at g n ≡ Some node → node.first_name ≡ Some name → (node.kind ≡ definition) × (export_at g name ≡ Some n)
   -- a key is that of one registered package at most
   pub one_package : (key : Key) (id other : PackageId) → IsRegistered g key id → IsRegistered g key other → id ≡ other
+  -- a vacant slot is there and holds no package, and is vacant once
+  pub vacant : (i s : ℕ) → slice_get g.vacant i ≡ Some s → IsSomeAnd (slice_get g.slots s) (λ slot. slot.«package» ≡ None)
+  pub vacant_once : (i j s : ℕ) → slice_get g.vacant i ≡ Some s → slice_get g.vacant j ≡ Some s → i ≡ j

@@ -1,5 +1,5 @@
 -- The calls as steps from graph to graph.
-use Rattle.std.specs.Prelude.{◌≡◌, ℕ, Option, Some, None, Result, Ok, Err, IfSome, IsSome, IsSomeAnd, [], ◌∷◌, ◌++◌, string_bytes, length, ◌⊎◌}
+use Rattle.std.specs.Prelude.{◌≡◌, ℕ, Option, Some, None, Result, Ok, Err, IfSome, IsSome, IsSomeAnd, List, [], ◌∷◌, ◌++◌, string_bytes, length, slice_get, slice_set, ◌⊎◌}
 use Rattle.std.specs.FinMap as map
 use Rattle.std.specs.FinSet as set
 use Rattle.std.specs.declared.alloc.AllocError.{AllocError}
@@ -33,7 +33,7 @@ use Rattle.wac_nodes.specs.Graph.{Graph, GraphNode, node_at, package_at, export_
 
 -- no types, nodes, edges, exports and packages; numbers begin with 0
 abbrev pub IsEmpty : Graph → Type 0
-IsEmpty g = g ≡ record { types = empty; nodes = map.empty; next = 0; edges = set.empty; exports = []; slots = [] }
+IsEmpty g = g ≡ record { types = empty; nodes = map.empty; next = 0; edges = set.empty; exports = []; slots = []; vacant = [] }
 
 -- an id for the item, where the collection changes as this says; nothing else changes
 abbrev pub Adds : {Id : Type 0} → Graph → Result Id AddTypeError → Graph → (Id → Collection → Type 0) → Type 0
@@ -47,7 +47,7 @@ AddsNode old id node new =
     × (new ≡ record old { nodes = map.insert old.nodes id.0 node; next = new.next })
 
 abbrev pub import_node : Name → ItemKind → GraphNode
-import_node name kind = record { kind = graph.import name; item_kind = kind; owner = None; name = None; export_name = None }
+import_node name kind = record { kind = graph.import name; item_kind = kind; owner = None; name = None; export_name = None; first_name = None }
 
 -- no node imports the name
 abbrev pub IsFreeImport : Graph → Name → Type 0
@@ -62,18 +62,25 @@ Imports old name kind (Err (import_error.InvalidImportName text source)) new =
     (new ≡ old) × (string_bytes text ≡ name) × IsFreeImport old name × HasFault name source
 Imports old name kind (Err import_error.OutOfMemory) new = new ≡ old
 
--- the package has a new slot, behind the others, unless one of its key is registered
+-- the package takes the slot that was freed last, which is of its generation since; where none is vacant a new one, behind the others
+pub data TakesSlot (old : Graph) (p : PackageParts) (id : PackageId) (new : Graph) : Type 0 where
+  freed : (s generation : ℕ) (rest : List ℕ) → old.vacant ≡ s ∷ rest → slice_get old.slots s ≡ Some (record { generation = generation; «package» = None })
+      → id ≡ record { slot = s; generation = generation }
+      → new ≡ record old { slots = slice_set old.slots s (record { generation = generation; «package» = Some p }); vacant = rest } → TakesSlot old p id new
+  added : old.vacant ≡ [] → id ≡ record { slot = length old.slots; generation = 0 }
+      → new ≡ record old { slots = old.slots ++ (record { generation = 0; «package» = Some p }) ∷ [] } → TakesSlot old p id new
+
+-- the package has a slot, unless one of its key is registered
 abbrev pub Registers : Graph → PackageParts → Result PackageId RegisterPackageError → Graph → Type 0
 Registers old p (Ok id) new =
     ((other : PackageId) → IsRegistered old (p.name, p.version) other → ⊥)
-    × (id ≡ record { slot = length old.slots; generation = 0 })
-    × (new ≡ record old { slots = old.slots ++ (record { generation = 0; «package» = Some p }) ∷ [] })
+    × TakesSlot old p id new
 Registers old p (Err (register.PackageAlreadyRegistered key)) new =
     (new ≡ old) × (key ≡ (p.name, p.version)) × ((other : PackageId) × IsRegistered old key other)
 Registers old p (Err register.OutOfMemory) new = new ≡ old
 
 abbrev pub instance_node : PackageId → PackageParts → GraphNode
-instance_node id p = record { kind = graph.instantiation; item_kind = Instance p.instance_type; owner = Some id; name = None; export_name = None }
+instance_node id p = record { kind = graph.instantiation; item_kind = Instance p.instance_type; owner = Some id; name = None; export_name = None; first_name = None }
 
 -- an instance of the package, with no argument set
 abbrev pub Instantiates : Graph → PackageId → Result NodeId AllocError → Graph → Type 0
@@ -81,7 +88,7 @@ Instantiates old id (Ok n) new = IfSome (package_at old id) (λ p. AddsNode old 
 Instantiates old id (Err _) new = new ≡ old
 
 abbrev pub alias_node : GraphNode → ItemKind → GraphNode
-alias_node source kind = record { kind = graph.alias; item_kind = kind; owner = source.owner; name = None; export_name = None }
+alias_node source kind = record { kind = graph.alias; item_kind = kind; owner = source.owner; name = None; export_name = None; first_name = None }
 
 -- the alias that is there, or a new one that carries the source's package
 abbrev pub GivesAlias : Graph → NodeId → GraphNode → ℕ → ItemKind → NodeId → Graph → Type 0

@@ -8,6 +8,7 @@ mod errors;
 pub mod laws;
 mod names;
 mod node;
+mod options;
 mod packages;
 
 pub use errors::{
@@ -15,4 +16,5 @@ pub use errors::{
 };
 pub use names::{export_fault, import_fault, one_export_answer};
 pub use node::{Node, NodeId, NodeKind};
+pub use options::{EncodeOptions, Processor};
 pub use packages::{BorrowedPackageKey, PackageId, Slot};

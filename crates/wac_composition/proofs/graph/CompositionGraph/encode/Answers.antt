@@ -1,4 +1,4 @@
-use Rattle.std.proofs.Common.{◌≡◌, ◌⊎◌, Some, IfSome, [], arith, ap, ◌∙◌, sym, subst, nat_eq}
+use Rattle.std.proofs.Common.{◌≡◌, ◌⊎◌, Option, Some, None, is_some, false, refl, IfSome, [], arith, ap, ◌∙◌, sym, subst, nat_eq}
 use Rattle.std.specs.List.{list_any}
 use Rattle.wac_causes.specs.declared.errors.EncodeError.TheVariants.{NotYet, OutOfMemory}
 use Rattle.wac_causes.specs.NotYet.{undefined_components, processed}
@@ -11,6 +11,10 @@ use Rattle.wac_causes.proofs.StandsLemmas.{stands_not_yet}
 use Rattle.wac_composition.proofs.CauseLemmas.{names_cause, refused_for, none_stands, at_not_yet, exit_cause, exit_refused}
 use Rattle.wac_composition.proofs.graph.CompositionGraph.encode.Goals as goal
 use Rattle.wac_composition.proofs.graph.CompositionGraph.encode.Goals.{then-not-options-via-then-not-options, then-not-options-via-else-not-options+then-is_some, then-not-options-via-else-not-options+else-is_some+then-holds_unwritten}
+
+none_there : {A : Type 0} (x : Option A) → is_some x ≡ false → x ≡ None
+none_there None h = refl
+none_there (Some y) h = cc
 
 pub returns-in_err-order-clause-cause : goal.returns-in_err-order-clause-cause
 returns-in_err-order-clause-cause c = exit_cause (λ e. IfSome (cause_of e) (Stands c.args.self.now c.args.options)) c.from_residual.result (c.in_err-order.field-0).0 c.from_residual.ensures.1
@@ -75,6 +79,7 @@ returns-clause-means c =
       c.in_ok-into_bytes.ensures.bytes,
       means_all c.law.ensures.counted c.law.ensures.earlier c.args.self.now sound c.if-holds_unwritten.ensures.writable c.in_ok-order.order.items
           (writes_all c.args.self.now sound c.if-holds_unwritten.ensures.writable c.in_ok-order.order.items c.in_ok-order.ensures.whole)
+          c.args.options c.if-not-options.false (none_there c.args.options.processor (sym c.is_some.ensures ∙ c.if-is_some.false))
           c.in_ok-encoder.encoder.indexes.items
           (λ n h. let small = has_room c.self.inside c.self.invariant c.args.self.now c.self.view_is c.capacity.result (omega (arith, c.capacity.ensures.slots)) n h in omega (arith, small, c.in_ok-encoder.ensures.indexes))
           (progress c.in_ok-encoder.encoder) (progress c.write_nodes.new.encoder)
