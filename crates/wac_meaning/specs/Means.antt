@@ -24,7 +24,7 @@ use Rattle.wac_nodes.specs.declared.packages.PackageId.{PackageId}
 use Rattle.wac_nodes.specs.Graph.{Graph, GraphNode, Kind, import, instantiation, alias, node_number, node_at, package_at, imports_of, exports_of, IsAliasOf, IsArgumentOf, IsUnsatisfied, definition}
 use Rattle.wac_edges.specs.Order.{Writes}
 use Rattle.wac_nodes.specs.OuterImports.{AreOuterImports, IsImportPlace}
-use Rattle.wac_nodes.specs.Definition.{definition_tree}
+use Rattle.wac_meaning.specs.Definition.{definition_tree}
 use Rattle.wac_nodes.specs.declared.options.EncodeOptions.{EncodeOptions}
 use Rattle.wac_nodes.specs.declared.options.Processor.{Processor}
 

@@ -1,5 +1,5 @@
 -- What was in a graph is in it still after a step that adds something.
-use Rattle.std.proofs.Common.{◌≡◌, ℕ, zero, suc, List, [], ◌∷◌, ◌++◌, length, slice_get, refl, ap, ◌∙◌, sym, subst, Option, Some, None, Result, Ok, Err, IfSome, inl, inr, ◌≢◌, ◌==◌, Bool, false, cond, slice_set}
+use Rattle.std.proofs.Common.{◌≡◌, ℕ, zero, suc, List, [], ◌∷◌, ◌++◌, length, slice_get, refl, ap, ◌∙◌, sym, subst, Option, Some, None, Result, Ok, Err, IfSome, inl, inr, ◌≢◌, ◌==◌, Bool, false, cond, slice_set, true}
 use Rattle.std.specs.Prelude.{IsSomeAnd}
 use Rattle.std.specs.FinMap as map
 use Rattle.std.specs.FinSet as set
