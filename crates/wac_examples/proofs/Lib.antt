@@ -7,3 +7,5 @@ pub mod ImportExample
 pub mod EntryExample
 pub mod CauseExample
 pub mod NameRows
+pub mod OptionRows
+pub mod DefinitionRows

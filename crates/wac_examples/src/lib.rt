@@ -1,4 +1,4 @@
-//! Computed examples of the definitions of `wac_graph`, as proofs alone; no crate stands on this one.
+//! Computed examples of the definitions of graphs, as proofs alone; no crate stands on this one.
 //!
 //! They show which items mean a graph, and that items which differ from those in one thing do not mean it (an instantiation
 //! that two instances share, arguments swapped, a component written twice, exports permuted, an alias of the other
