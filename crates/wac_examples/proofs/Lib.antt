@@ -7,3 +7,4 @@ pub mod ImportExample
 pub mod EntryExample
 pub mod CauseExample
 pub mod NameRows
+pub mod PlugExample
