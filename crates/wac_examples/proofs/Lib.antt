@@ -9,3 +9,4 @@ pub mod CauseExample
 pub mod NameRows
 pub mod OptionRows
 pub mod DefinitionRows
+pub mod PlugExample
