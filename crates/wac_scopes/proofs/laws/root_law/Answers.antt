@@ -1,0 +1,13 @@
+use Rattle.wac_scopes.proofs.Roots.{imports-instance, imports-type, imports-fresh}
+use Rattle.wac_scopes.proofs.Inside.{starts-root, root-goes-on, root-binds-more}
+use Rattle.wac_scopes.proofs.laws.root_law.Goals as goal
+
+pub returns : goal.returns
+returns c = record {
+  imports_instance = imports-instance c.binary_laws.ensures.reads;
+  imports_type = imports-type c.binary_laws.ensures.reads;
+  imports_fresh = imports-fresh c.binary_laws.ensures.reads;
+  starts_root = starts-root;
+  root_goes_on = root-goes-on c.binary_laws.ensures.reads;
+  root_binds_more = root-binds-more;
+}

@@ -1,0 +1,9 @@
+use Rattle.std.proofs.Common.{sym}
+use Rattle.wac_scopes.proofs.ScopedLaws.{there-primitive, there-index}
+use Rattle.wac_scopes.proofs.scope.Scope.value.Goals as goal
+
+pub returns-in-Primitive : goal.returns-in-Primitive
+returns-in-Primitive c = record { stands = there-primitive c.args.self.now c.args.value c.in-Primitive.p c.in-Primitive.is }
+
+pub returns-in-Some : goal.returns-in-Some
+returns-in-Some c = record { stands = there-index c.args.self.now c.args.value c.in-Defined.id c.in-Some.index.now c.in-Defined.is c.step_law.ensures.is_recorded (sym c.in-Some.ensures.value) }

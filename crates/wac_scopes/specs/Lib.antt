@@ -1,0 +1,12 @@
+pub mod Reads
+pub mod Scopes
+pub mod Good
+pub mod Parts
+pub mod Laws
+pub mod Listed
+pub mod Instances
+pub mod Inside
+pub mod Modules
+pub mod Faults
+pub mod Scoped
+pub mod Beside

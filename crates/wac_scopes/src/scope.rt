@@ -1,0 +1,98 @@
+//! An instance type that is open, and the value types that are written there.
+
+ghost use Rattle.std.specs.Prelude.{◌≡◌, ◌++◌, ◌∷◌, [], ℕ, List, IfOk, OnOk, OnErr, Some, None};
+ghost use Rattle.wac_binary.specs.Items.{Decl, type_decl, value_def};
+ghost use Rattle.wac_binary.specs.Fits.{DeclarationsFit};
+ghost use Rattle.wac_binary.specs.Views.{defined_of, func_of};
+ghost use Rattle.wac_scopes.specs.Scoped.{IfThere, IsThere, AddsValue, AddsFunc, HasToo, value_index, WritesUnlessTooLarge};
+
+use crate::fault::EncodeFault;
+use crate::laws::step_law;
+use std::alloc::{AllocError, Global};
+use std::collections::HashMap;
+use wac_binary::{ComponentValType, DefinedType, FuncType, InstanceType};
+use wac_collection::{DefinedTypeId, ValueType};
+
+/// An instance type that is open, and the value types that are written there.
+pub struct Scope {
+    /// What is declared.
+    declarations: InstanceType,
+    /// The type index of each definition that is written.
+    values: HashMap<DefinedTypeId, u32>,
+}
+
+/// What is written is let go of here, and not anew at each place where a scope goes out of scope.
+impl Drop for Scope {
+    fn drop(self) {
+        let Scope {
+            declarations: _,
+            values: _,
+        } = self;
+    }
+}
+
+impl Scope {
+    /// A scope in which nothing is written.
+    pub fn new(alloc: Global) -> Scope
+        ensures declarations { result.declarations ≡ [] }
+        ensures values { (id : DefinedTypeId) → value_index result id ≡ None }
+    {
+        Scope {
+            declarations: InstanceType::new(alloc),
+            values: HashMap::new(alloc),
+        }
+    }
+
+    /// The value type in use that says this held one, where it is primitive or is written here.
+    pub fn value(&self, value: ValueType) -> Option<ComponentValType>
+        ensures stands { IfThere result (λ x. IsThere self.now value x) }
+    {
+        step_law();
+        match value {
+            ValueType::Primitive(p) => Some(ComponentValType::Primitive(p)),
+            ValueType::Defined(id) => match self.values.get(&id) {
+                Some(index) => Some(ComponentValType::Index(*index)),
+                None => None,
+            },
+            ValueType::Own(_) | ValueType::Borrow(_) => None,
+        }
+    }
+
+    /// Writes this definition of a held value type, and records it. Answers its type index.
+    pub fn define(
+        &mut self,
+        id: DefinedTypeId,
+        definition: &DefinedType<'_>,
+    ) -> Result<u32, EncodeFault>
+        ensures stands { IfOk result (λ k. AddsValue self.old self.new id (defined_of definition.now) k) }
+        ensures refused { OnErr result ((more : List Decl) × (self.new.declarations ≡ self.old.declarations ++ more)) }
+        ensures too_large { WritesUnlessTooLarge result (DeclarationsFit (self.old.declarations ++ type_decl (value_def (defined_of definition.now)) ∷ [])) }
+    {
+        step_law();
+        let index = self.declarations.defined_type(definition)?;
+        self.record_value(id, index)?;
+        Ok(index)
+    }
+
+    /// Records that a definition is written at a type index.
+    fn record_value(&mut self, id: DefinedTypeId, index: u32) -> Result<(), AllocError>
+        ensures recorded { OnOk result (HasToo self.old id index self.new) }
+        ensures kept { self.new.declarations ≡ self.old.declarations }
+    {
+        match self.values.insert(id, index) {
+            Ok(_) => Ok(()),
+            Err(_) => Err(AllocError),
+        }
+    }
+
+    /// Writes this function type, which is a held one. Answers its type index.
+    pub fn define_func(&mut self, f: &FuncType<'_>) -> Result<u32, EncodeFault>
+        ensures stands { IfOk result (λ k. AddsFunc self.old self.new (func_of f.now) k) }
+        ensures refused { OnErr result (self.new ≡ self.old) }
+        ensures too_large { WritesUnlessTooLarge result (DeclarationsFit (self.old.declarations ++ type_decl (func_of f.now) ∷ [])) }
+    {
+        step_law();
+        let index = self.declarations.func_type(f)?;
+        Ok(index)
+    }
+}
