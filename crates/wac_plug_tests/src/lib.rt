@@ -1,4 +1,4 @@
-//! Tests of `plug`, through what `wac_plug` and `wac_graph` make public.
+//! Tests of `plug`, through what `wac_graph` makes public.
 #![tactic(auto)]
 
 #[cfg(test)]

@@ -3,8 +3,7 @@ use crate::graphs::{Item, Items, asked, encoded, first_nodes, register, register
 use std::alloc::Global;
 use std::process::Abort;
 use std::test::Fail;
-use wac_graph::{CompositionGraph, ExportError, PackageId};
-use wac_plug::{PlugError, PlugFault, plug};
+use wac_graph::{CompositionGraph, ExportError, PackageId, PlugError, PlugFault, plug};
 
 // Plugs with these exports are plugged into a socket with these imports and exports.
 #[derive(Clone, Copy)]
