@@ -134,14 +134,14 @@ pub no_lost_export : Means (type_item (value_def (primitive_def prim.Bool)) ∷ 
 no_lost_export m = two_are_not_one (m.exports ∙ ap (λ ns. flat_map (first_export defining_bool m.at) ns ++ flat_map (export_of defining_bool m.at) (further_exports defining_bool)) order_is
     ∙ ap (λ xs. xs ++ flat_map (export_of defining_bool m.at) (further_exports defining_bool)) (bool_first m.at)
     ∙ ap (λ es. (codes "foo", s.«Type», m.at 0) ∷ flat_map (export_of defining_bool m.at) es) bool_further ∙ other) where
-  other : (codes "foo", s.«Type», m.at 0) ∷ flat_map (export_of defining_bool m.at) ((codes "bar", node_number 0) ∷ []) ≡ (codes "foo", s.«Type», m.at 0) ∷ (codes "bar", s.«Type», m.at 0) ∷ []
-  other = rw (node_0 base defined) refl
+      other : (codes "foo", s.«Type», m.at 0) ∷ flat_map (export_of defining_bool m.at) ((codes "bar", node_number 0) ∷ []) ≡ (codes "foo", s.«Type», m.at 0) ∷ (codes "bar", s.«Type», m.at 0) ∷ []
+      other = rw (node_0 base defined) refl
 
-  order_is : m.order ≡ 0 ∷ []
-  order_is = one_order defining_bool.edges (is_written defining_bool) m.order (0 ∷ []) m.in_order (one_in_order base defined refl)
+      order_is : m.order ≡ 0 ∷ []
+      order_is = one_order defining_bool.edges (is_written defining_bool) m.order (0 ∷ []) m.in_order (one_in_order base defined refl)
 
-  two_are_not_one : {A : Type 0} {x y z : A} → x ∷ [] ≡ y ∷ z ∷ [] → ⊥
-  two_are_not_one h = cc
+      two_are_not_one : {A : Type 0} {x y z : A} → x ∷ [] ≡ y ∷ z ∷ [] → ⊥
+      two_are_not_one h = cc
 
 -- ---- an interface that uses an enum of another, and lists it: the other is imported, without its function
 abbrev using : Collection
