@@ -30,7 +30,7 @@ use Rattle.std.proofs.lemmas.Option.{slice_get_within}
 use Rattle.wac_meaning.proofs.MeantLemmas.{IsAmong}
 use Rattle.wac_meaning.proofs.WrittenLemmas.{Counted, Earlier, slice_get-prefix}
 use Rattle.wac_meaning.proofs.EncodeLemmas.{AllSet, Done, adds_more, nothing_done, Exported, no_exports, export_more, means}
-use Rattle.wac_composition.proofs.DefinedLemmas.{HasNoFirst}
+use Rattle.wac_meaning.proofs.DefinedLemmas.{HasNoFirst}
 
 pub plain : (g : Graph) → AllWritable g → IsPlain g
 plain g all n node there = (all n node there).plain

@@ -28,7 +28,7 @@ use Rattle.wac_meaning.specs.Means.{Means, is_import, is_written, instantiations
 use Rattle.wac_meaning.proofs.ThingLemmas.{IsPlain}
 use Rattle.wac_meaning.proofs.EncodeLemmas.{AllSet, no_imports, asked_none}
 use Rattle.wac_examples.proofs.Ordered.{edge_cmp_total, exact_edges}
-use Rattle.wac_composition.proofs.DefinedLemmas.{no_names}
+use Rattle.wac_meaning.proofs.DefinedLemmas.{no_names}
 use Rattle.wac_nodes.specs.declared.options.EncodeOptions.{EncodeOptions}
 
 -- two packages of the same bytes: the first exports the function `a`, the second imports the function `b`

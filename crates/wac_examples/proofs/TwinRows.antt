@@ -27,7 +27,7 @@ use Rattle.wac_meaning.proofs.ThingLemmas.{IsPlain}
 use Rattle.wac_meaning.proofs.EncodeLemmas.{AllSet, no_imports, asked_none}
 use Rattle.wac_examples.proofs.Ordered.{edge_cmp_total, by_edge, by_number, Range}
 use Rattle.wac_examples.proofs.Rows.{defining, of_function, first, second, instance_of_first, alias_of_first, instance_of_second}
-use Rattle.wac_composition.proofs.DefinedLemmas.{no_names}
+use Rattle.wac_meaning.proofs.DefinedLemmas.{no_names}
 
 -- ---- the graph
 -- the first package exports the functions `a` and `b`, the second imports the functions `x` and `y`

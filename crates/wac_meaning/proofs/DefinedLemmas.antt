@@ -9,8 +9,8 @@ use Rattle.wac_binary.specs.Meaning.{Thing, component_at, Instantiation}
 use Rattle.wac_nodes.specs.declared.node.NodeId.{NodeId}
 use Rattle.wac_nodes.specs.declared.options.EncodeOptions.{EncodeOptions}
 use Rattle.wac_nodes.specs.declared.packages.PackageId.{PackageId}
-use Rattle.wac_nodes.specs.Graph.{Graph, GraphNode, node_at, imports_of}
-use Rattle.wac_meaning.specs.Means.{node_number, used_packages, package_bytes, package_components, package_imports, package_thing, AreArguments, IsInstantiationOf, AreInstantiations, is_first, first_export, further_exports, IsNameOf, AreNames}
+use Rattle.wac_nodes.specs.Graph.{Graph, GraphNode, node_at, imports_of, node_number}
+use Rattle.wac_meaning.specs.Means.{used_packages, package_bytes, package_components, package_imports, package_thing, AreArguments, IsInstantiationOf, AreInstantiations, is_first, first_export, further_exports, IsNameOf, AreNames}
 
 -- the instantiation is that of node n: of its package's component among those that are defined
 pub record IsMadeOf (g : Graph) (at : ℕ → Thing) (order : List ℕ) (n : ℕ) (it : Instantiation) : Type 0 where

@@ -37,7 +37,7 @@ use Rattle.wac_meaning.proofs.ThingLemmas.{IsPlain, is_written-node}
 use Rattle.wac_meaning.proofs.MeantLemmas.{meant-push, something, IsAmong, new_name}
 use Rattle.wac_meaning.proofs.MeaningLemmas.{export_shown, export_others, indexes-push}
 use Rattle.wac_meaning.proofs.WrittenLemmas.{Counted, Earlier, Written, with_component, instance_more, alias_more, used-append, HasItem-push, used_prefix}
-use Rattle.wac_composition.proofs.DefinedLemmas.{AreMade, defined_components, no_package_imports, made_instantiations, HasNoFirst, further_all, no_first_exports, no_names}
+use Rattle.wac_meaning.proofs.DefinedLemmas.{AreMade, defined_components, no_package_imports, made_instantiations, HasNoFirst, further_all, no_first_exports, no_names}
 use Rattle.wac_nodes.specs.declared.options.EncodeOptions.{EncodeOptions}
 
 -- where nothing is asked for there are no imports

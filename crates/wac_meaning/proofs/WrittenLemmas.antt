@@ -29,7 +29,7 @@ use Rattle.wac_edges.proofs.WrittenOrder.{has, minus, minus-true, eqb_same, apar
 use Rattle.wac_meaning.proofs.ThingLemmas.{IsPlain, ready_sources}
 use Rattle.wac_meaning.proofs.MeantLemmas.{meant-push, AreUnknown, unknown-nested, unknown-instance, unknown-alias, alias_meant, something}
 use Rattle.wac_meaning.proofs.MeaningLemmas.{alias_stands, alias_rest, nested_bytes_more, nested_stands, instantiations_more, instance_stands, made_of, indexes-push}
-use Rattle.wac_composition.proofs.DefinedLemmas.{IsMadeOf, AreMade}
+use Rattle.wac_meaning.proofs.DefinedLemmas.{IsMadeOf, AreMade}
 
 -- how the laws of items are passed
 abbrev pub Counted : Type 0
