@@ -1,7 +1,7 @@
 -- The ends of aliases, as the collection grows.
 use Rattle.std.proofs.Common.{ℕ, zero, suc, Bool, true, false, List, [], ◌∷◌, ◌++◌, ◌≡◌, ◌<◌, ◌≤◌, length, refl, ap, sym, ◌∙◌, subst, Option, Some, None, arith, length-append, nat_lt, slice_get, inl, inr}
 use Rattle.std.proofs.Math.ListN.{get_or}
-use Rattle.std.proofs.lemmas.Option.{slice_get-get_or}
+use Rattle.std.proofs.lemmas.Option.{slice_get-get_or, slice_get_past}
 use Rattle.wac_shapes.specs.Name.{option_case}
 use Rattle.wac_collection.specs.declared.collection.Held.{Held}
 use Rattle.wac_shapes.specs.declared.component.Resource.{Resource}
@@ -17,14 +17,14 @@ use Rattle.wac_shapes.specs.declared.component.DefinedType.TheVariants as def
 use Rattle.wac_shapes.specs.declared.component.DefinedTypeId.{DefinedTypeId}
 use Rattle.wac_shapes.specs.declared.component.ValueType.{ValueType}
 use Rattle.wac_shapes.specs.declared.component.ValueType.TheVariants as val
-use Rattle.wac_collection.specs.Collection.{Collection, size, IsWellFormed, IsValueBefore, holds_value, holds_all, resource_mentions, defined_mentions, alias_types, value_types, func_mentions, with_resource, with_defined, with_func, with_interface, with_world, with_module, item_of}
+use Rattle.wac_collection.specs.Collection.{Collection, size, IsWellFormed, IsValueBefore, IsSourceBelow, holds_value, holds_all, resource_mentions, defined_mentions, alias_types, value_types, func_mentions, with_resource, with_defined, with_func, with_interface, with_world, with_module, item_of}
 use Rattle.wac_collection.specs.Held.{resolved, resolved_in, source_of}
 use Rattle.wac_collection.specs.Aliases.{aliased, target_of, value_resolved, value_resolved_in}
 use Rattle.wac_collection.specs.Ends.{AreEnds, HasEnds}
 use Rattle.wac_collection.proofs.Growth.{Grows, get_where, get_new, grows_resource, grows_defined, grows_func, grows_interface, grows_world, grows_module, value_before}
 use Rattle.wac_collection.proofs.Steady.{resource_same, resource_same_in, value_same, value_same_in}
 use Rattle.wac_collection.proofs.Adding.{resource_added, defined_added, func_added, interface_added, world_added, module_added}
-use Rattle.wac_collection.proofs.Chains.{leads, no_target, value_ends, alias_is}
+use Rattle.wac_collection.proofs.Chains.{leads, no_target, resource_ends, value_ends, alias_is}
 
 there : {A : Type 0} (xs : List A) (i : ℕ) (x : A) → slice_get xs i ≡ Some x → i < length xs
 there [] i x h = cc
@@ -36,6 +36,9 @@ is_less i n h = grind arith
 
 less_is : (i n : ℕ) → nat_lt i n ≡ true → i < n
 less_is i n h = grind arith
+
+pub past : (i n : ℕ) → false ≡ nat_lt i n → n ≤ i
+past i n h = grind arith
 
 module _ (c d : Collection) (wf : IsWellFormed c) (g : Grows c d) (rs : List ResourceId) (vs : List ValueType) (are : AreEnds c rs vs) where
   old_resource : (i : ℕ) (e : ResourceId) → slice_get rs i ≡ Some e → e ≡ resolved d (record { 0 = i })
@@ -185,6 +188,42 @@ end_is_held c wf v false h =
     clash : false ≡ true → ⊥
     clash e = cc
 
+-- the source of an alias of a resource is before it
+source_below : (c : Collection) → IsWellFormed c → (r q : ResourceId) (o : Option (Held Resource)) → slice_get c.resources r.0 ≡ o → source_of o ≡ Some q → q.0 < r.0
+source_below c wf r q None at e = cc
+source_below c wf r q (Some h) at e = by h.item.alias (wf.sources r.0 h at) e
+  where
+    by : (a : Option ResourceAlias) → IsSourceBelow r.0 a → option_case a None (λ x. Some x.source) ≡ Some q → q.0 < r.0
+    by None b e = cc
+    by (Some a) b e = let same : a.source ≡ q = cc in let i = ap (λ x. x.0) same in omega (arith, b, i)
+
+-- a resource that is held, and no alias
+abbrev IsSource : Collection → ResourceId → Type 0
+IsSource c r = (r.0 < length c.resources) × (source_of (slice_get c.resources r.0) ≡ None)
+
+source_by : (c : Collection) → IsWellFormed c → (n : ℕ) (r : ResourceId) (s : Option ResourceId) → source_of (slice_get c.resources r.0) ≡ s → r.0 < length c.resources
+    → ((q : ResourceId) → q.0 < r.0 → IsSource c (resolved_in n c q)) → IsSource c (option_case s r (λ q. resolved_in n c q))
+source_by c wf n r None e lt rest = (lt, e)
+source_by c wf n r (Some q) e lt rest = rest q (source_below c wf r q _ refl e)
+
+-- what is at the end of the aliases of a resource is held, and no alias
+source_in : (c : Collection) → IsWellFormed c → (n : ℕ) (r : ResourceId) → r.0 < n → r.0 < length c.resources → IsSource c (resolved_in n c r)
+source_in c wf zero r below lt = absurd (omega (arith, below))
+source_in c wf (suc n) r below lt = source_by c wf n r _ refl lt (λ q less. source_in c wf n q (omega (arith, less, below)) (omega (arith, less, lt)))
+
+unheld_resource : (c : Collection) (r : ResourceId) → nat_lt r.0 (length c.resources) ≡ false → source_of (slice_get c.resources r.0) ≡ None
+unheld_resource c r h = ap source_of (slice_get_past c.resources r.0 (past r.0 (length c.resources) (sym h)))
+
+pub resource_end_no_alias : (c : Collection) → IsWellFormed c → (r : ResourceId) → (b : Bool) → nat_lt r.0 (length c.resources) ≡ b → source_of (slice_get c.resources (resolved c r).0) ≡ None
+resource_end_no_alias c wf r true h = let lt = less_is r.0 (length c.resources) h in (source_in c wf (length c.resources) r lt lt).1
+resource_end_no_alias c wf r false h =
+    let none = unheld_resource c r h in
+    ap (λ q. source_of (slice_get c.resources q.0)) (resource_ends (length c.resources) c r none) ∙ none
+
+pub resource_end_is_held : (c : Collection) → IsWellFormed c → (r : ResourceId) → (b : Bool) → nat_lt r.0 (length c.resources) ≡ b → nat_lt (resolved c r).0 (length c.resources) ≡ nat_lt r.0 (length c.resources)
+resource_end_is_held c wf r true h = let lt = less_is r.0 (length c.resources) h in is_less _ _ (source_in c wf (length c.resources) r lt lt).0 ∙ sym h
+resource_end_is_held c wf r false h = ap (λ q. nat_lt q.0 (length c.resources)) (resource_ends (length c.resources) c r (unheld_resource c r h))
+
 pub no_alias : (x : DefinedType) → ((v : ValueType) → x ≡ def.Alias v → ⊥) → aliased x ≡ None
 no_alias (def.Alias v) not = absurd (not v refl)
 no_alias (def.Tuple vs) not = refl
@@ -247,9 +286,6 @@ pub definition_past : (c s : Collection) (rs : List ResourceId) (vs ws : List Va
 definition_past c s rs vs ws i has same read past =
     let count : length ws ≡ length vs = ap length read in
     sym (unheld_value c has.lawful.ordered i (omega (arith, past, count, has.ends.values_counted))) ∙ ap (λ x. value_resolved x (val.Defined (record { 0 = i }))) same
-
-pub past : (i n : ℕ) → false ≡ nat_lt i n → n ≤ i
-past i n h = grind arith
 
 pub func_kept : (c s : Collection) (x : FuncType) (n : ℕ) (xs : List (Held FuncType)) (rs : List ResourceId) (vs : List ValueType) → HasEnds c rs vs → c ≡ s → n ≡ size s → holds_all s (func_mentions x) ≡ true
     → xs ≡ c.funcs ++ record { item = x; before = n } ∷ [] → HasEnds (record c { funcs = xs }) rs vs

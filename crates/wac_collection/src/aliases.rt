@@ -1,17 +1,21 @@
 //! The types at the ends of aliases.
-ghost use Rattle.std.specs.Prelude.{◌≡◌, None};
-ghost use Rattle.wac_collection.specs.Collection.{holds_value};
-ghost use Rattle.wac_collection.specs.Held.{resolved};
+ghost use Rattle.std.specs.Prelude.{◌≡◌, None, slice_get};
+ghost use Rattle.wac_collection.specs.Collection.{holds_type, holds_value};
+ghost use Rattle.wac_collection.specs.Held.{resolved, source_of};
+ghost use Rattle.wac_shapes.specs.declared.component.«Type».TheVariants as ty;
 ghost use Rattle.wac_collection.specs.Aliases.{target_of, value_resolved, handle_resolved, type_resolved};
 
 use crate::collection::Types;
 use wac_shapes::{ResourceId, Type, ValueType};
 
 impl Types {
-    /// The resource at the end of the aliases; the resource itself where it is none.
+    /// The resource at the end of the aliases: held where the first is, and never an alias.
     pub fn resolve_resource(&self, id: ResourceId) -> ResourceId
-        ensures { result ≡ resolved self.now id }
+        ensures end { result ≡ resolved self.now id }
+        ensures held { holds_type self.now (ty.Resource result) ≡ holds_type self.now (ty.Resource id) }
+        ensures no_alias { source_of (slice_get self.now.resources result.0) ≡ None }
     {
+        self.law();
         self.resource_end(id)
     }
 

@@ -11,15 +11,15 @@ use Rattle.wac_shapes.specs.declared.component.Interface.{Interface}
 use Rattle.wac_shapes.specs.declared.component.ItemKind.{ItemKind}
 use Rattle.wac_shapes.specs.declared.component.World.{World}
 use Rattle.wac_shapes.specs.declared.component.WorldId.{WorldId}
-use Rattle.wac_graph.specs.declared.node.NodeId.{NodeId}
-use Rattle.wac_graph.specs.declared.packages.PackageId.{PackageId}
-use Rattle.wac_graph.specs.declared.packages.Slot.{Slot}
+use Rattle.wac_nodes.specs.declared.node.NodeId.{NodeId}
+use Rattle.wac_nodes.specs.declared.packages.PackageId.{PackageId}
+use Rattle.wac_nodes.specs.declared.packages.Slot.{Slot}
 use Rattle.wac_edges.specs.Edge.{alias_edge}
-use Rattle.wac_graph.specs.Graph.{Graph, GraphNode, node_at, package_at, package_in}
-use Rattle.wac_graph.specs.Steps.{Adds, Registers, Instantiates, instance_node, Aliases, export_named, SetsArgument}
+use Rattle.wac_nodes.specs.Graph.{Graph, GraphNode, node_at, package_at, package_in}
+use Rattle.wac_nodes.specs.Steps.{Adds, Registers, Instantiates, instance_node, Aliases, export_named, SetsArgument}
 use Rattle.wac_binary.specs.Bytes.{preamble}
-use Rattle.wac_graph.specs.Stays.{Stays, IsAliasBy}
-use Rattle.wac_graph.proofs.StaysLemmas.{stays-trans, instance-stays, alias-stays, argument-stays}
+use Rattle.wac_nodes.specs.Stays.{Stays, IsAliasBy}
+use Rattle.wac_nodes.proofs.StaysLemmas.{stays-trans, instance-stays, alias-stays, argument-stays}
 use Rattle.wac_demo.specs.Composed.{IsInstanceOf, GivesExport, IsEmptyPackage}
 
 item-last : {A : Type 0} (xs : List (Held A)) (x : Held A) → item_at (xs ++ x ∷ []) (length xs) ≡ Some x.item

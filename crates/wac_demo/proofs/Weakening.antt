@@ -2,7 +2,7 @@
 use Rattle.std.proofs.Common.{◌≡◌, ℕ, nat_eq, List, length, ap, subst, arith, Option, Result, Ok, Err, IfOk, inl, inr}
 use Rattle.std.proofs.lemmas.Bool.{false≢true}
 use Rattle.std.specs.Io.KnownBytes.{Appends}
-use Rattle.wac_graph.specs.Graph.{Graph}
+use Rattle.wac_nodes.specs.Graph.{Graph}
 use Rattle.wac_demo.specs.Composed.{Compose, IsComposed, empty_word, readme_word}
 use Rattle.wac_demo.specs.Printed.{hex_line, Prints}
 

@@ -7,12 +7,12 @@ use Rattle.wac_shapes.specs.declared.component.ItemKind.{ItemKind}
 use Rattle.wac_shapes.specs.declared.component.ItemKind.TheVariants as kind
 use Rattle.wac_binary.specs.Items.{Item}
 use Rattle.wac_binary.specs.Bytes.{preamble, bytes_of}
-use Rattle.wac_graph.specs.declared.node.NodeId.{NodeId}
-use Rattle.wac_graph.specs.declared.packages.PackageId.{PackageId}
-use Rattle.wac_graph.specs.Graph.{Graph, node_at, package_at}
-use Rattle.wac_graph.specs.Means.{Means}
-use Rattle.wac_graph.specs.Steps.{IsEmpty, instance_node}
-use Rattle.wac_graph.specs.Stays.{IsAliasBy, IsArgumentBy}
+use Rattle.wac_nodes.specs.declared.node.NodeId.{NodeId}
+use Rattle.wac_nodes.specs.declared.packages.PackageId.{PackageId}
+use Rattle.wac_nodes.specs.Graph.{Graph, node_at, package_at}
+use Rattle.wac_meaning.specs.Means.{Means}
+use Rattle.wac_nodes.specs.Steps.{IsEmpty, instance_node}
+use Rattle.wac_nodes.specs.Stays.{IsAliasBy, IsArgumentBy}
 
 -- the bytes are those of items that mean such a graph
 abbrev pub Compose : List ℕ → (Graph → Type 0) → Type 0

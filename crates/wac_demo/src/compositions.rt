@@ -2,10 +2,10 @@
 
 ghost use Rattle.std.specs.Prelude.{◌≡◌, IfOk, IsSome};
 ghost use Rattle.wac_shapes.specs.Named.{named_pairs};
-ghost use Rattle.wac_graph.specs.Graph.{package_at};
-ghost use Rattle.wac_graph.specs.Steps.{IsEmpty};
+ghost use Rattle.wac_nodes.specs.Graph.{package_at};
+ghost use Rattle.wac_nodes.specs.Steps.{IsEmpty};
 ghost use Rattle.wac_demo.specs.Composed.{Compose, IsReadme, IsPlainFunction, IsEmptyPackage};
-ghost use Rattle.wac_graph.specs.Stays.{Stays};
+ghost use Rattle.wac_nodes.specs.Stays.{Stays};
 
 use anyhow::Result;
 use std::alloc::Global;

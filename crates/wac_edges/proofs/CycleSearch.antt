@@ -1,4 +1,4 @@
--- Steps between numbers: what a walk reaches, and that ranks which ascend leave no cycle.
+-- Steps between numbers: what a walk reaches, and which numbers their ranks keep off every cycle.
 use Rattle.std.proofs.Common.{◌≡◌, ℕ, zero, suc, ◌+◌, ◌<◌, ◌≤◌, Bool, true, false, if◌then◌else◌, List, [], ◌∷◌, ◌++◌, length, replicate, Some, refl, ap, sym, ◌∙◌, ◌⊎◌, inl, inr, subst, arith, fold}
 use Rattle.std.proofs.Math.ListN.{set, length-set, length-replicate}
 use Rattle.std.specs.Prelude.{slice_get, slice_set, slice_index, nat_lt}
@@ -7,7 +7,7 @@ use Rattle.std.specs.Ordering.{nat_cmp}
 use Rattle.std.proofs.lemmas.Bool.Decides.{nat_tests}
 use Rattle.wac_edges.specs.Cycles.{Path, step, further, IsStep, AreWithin, LeadsBack, HasNoCycle, HasLowestOnCycle}
 use Rattle.wac_edges.specs.Numbers.{AreBelow, Has}
-use Rattle.wac_edges.specs.CycleSearch.{Ascends, AreAbove, is_reached, marked, IsWalk}
+use Rattle.wac_edges.specs.CycleSearch.{Descends, AreUpTo, is_reached, marked, IsWalk}
 use Rattle.wac_edges.proofs.Numbers.{has_head, has_tail, has_split, has_front, has_last, has_either}
 
 -- ---- numbers that are below a bound
@@ -32,6 +32,13 @@ below_popped k b ns all is low n h = low n (subst (λ l. Has l n) (sym is) (has_
 pub popped_below : (k b : ℕ) (ns all : List ℕ) → all ≡ ns ++ b ∷ [] → AreBelow k all → b < k
 popped_below k b ns all is low = low b (subst (λ l. Has l b) (sym is) (has_last ns b))
 
+pub below_joined : (k : ℕ) (ns ms : List ℕ) → AreBelow k ns → AreBelow k ms → AreBelow k (ns ++ ms)
+below_joined k [] ms low more m h = more m h
+below_joined k (n ∷ ns) ms low more m h = split (has_split m n (ns ++ ms) h) (below_joined k ns ms (λ q g. low q (has_tail q n ns g)) more m) where
+  split : (m ≡ n) ⊎ Has (ns ++ ms) m → (Has (ns ++ ms) m → m < k) → m < k
+  split (inl e) _ = low m (has_head m n ns e)
+  split (inr w) rest = rest w
+
 pub below_next : (k j b : ℕ) (rest ns : List ℕ) → ns ≡ b ∷ rest → j ≡ k → AreBelow k ns → AreBelow j rest
 below_next k j b rest ns is same low n h = let less : n < k = below_rest k b rest ns is low n h in omega (arith, same)
 
@@ -39,33 +46,51 @@ pub below_kept : (k j : ℕ) (ns : List ℕ) → j ≡ k → AreBelow k ns → A
 below_kept k j ns same low n h = let less : n < k = low n h in omega (arith, same)
 
 -- ---- ranks
-pub above_next : (ranks : List ℕ) (rank b : ℕ) (rest ns all : List ℕ) → ns ≡ b ∷ rest → rank < slice_index ranks b
-    → ((n : ℕ) → Has all n → Has ns n ⊎ (rank < slice_index ranks n)) → (n : ℕ) → Has all n → Has rest n ⊎ (rank < slice_index ranks n)
-above_next ranks rank b rest ns all is here old n h = split (old n h) where
-  first : (n ≡ b) ⊎ Has rest n → Has rest n ⊎ (rank < slice_index ranks n)
-  first (inl e) = inr (subst (λ k. rank < slice_index ranks k) (sym e) here)
+pub under_next : (ranks : List ℕ) (old new b : ℕ) (rest ns all : List ℕ) → ns ≡ b ∷ rest → old ≤ new → slice_index ranks b ≤ new
+    → ((n : ℕ) → Has all n → Has ns n ⊎ (slice_index ranks n ≤ old)) → (n : ℕ) → Has all n → Has rest n ⊎ (slice_index ranks n ≤ new)
+under_next ranks old new b rest ns all is more here was n h = split (was n h) where
+  first : (n ≡ b) ⊎ Has rest n → Has rest n ⊎ (slice_index ranks n ≤ new)
+  first (inl e) = inr (subst (λ k. slice_index ranks k ≤ new) (sym e) here)
   first (inr w) = inl w
 
-  split : Has ns n ⊎ (rank < slice_index ranks n) → Has rest n ⊎ (rank < slice_index ranks n)
+  split : Has ns n ⊎ (slice_index ranks n ≤ old) → Has rest n ⊎ (slice_index ranks n ≤ new)
   split (inl w) = first (has_split n b rest (subst (λ l. Has l n) is w))
-  split (inr r) = inr r
+  split (inr r) = inr (omega (arith, r, more))
 
-pub above_all : (ranks : List ℕ) (rank : ℕ) (ns all : List ℕ) → ns ≡ [] → ((n : ℕ) → Has all n → Has ns n ⊎ (rank < slice_index ranks n)) → AreAbove ranks rank all
-above_all ranks rank ns all is old n h = split (old n h) where
-  split : Has ns n ⊎ (rank < slice_index ranks n) → rank < slice_index ranks n
+pub under_all : (ranks : List ℕ) (rank : ℕ) (ns all : List ℕ) → ns ≡ [] → ((n : ℕ) → Has all n → Has ns n ⊎ (slice_index ranks n ≤ rank)) → AreUpTo ranks rank all
+under_all ranks rank ns all is old n h = split (old n h) where
+  split : Has ns n ⊎ (slice_index ranks n ≤ rank) → slice_index ranks n ≤ rank
   split (inl w) = let wrong : Has [] n = subst (λ l. Has l n) is w in cc
   split (inr r) = r
 
--- ranks ascend along a path
-ascends_on : (targets : List (BTreeSet ℕ)) (ranks : List ℕ) → Ascends targets ranks → (a b : ℕ) → Path (IsStep targets) a b → slice_index ranks a < slice_index ranks b
-ascends_on targets ranks up a b (step x y l) = up x y l
-ascends_on targets ranks up a b (further x y z l p) =
-    let first : slice_index ranks x < slice_index ranks y = up x y l in
-    let rest : slice_index ranks y < slice_index ranks z = ascends_on targets ranks up y z p in
+-- ranks do not rise along a path
+descends_on : (targets : List (BTreeSet ℕ)) (ranks : List ℕ) → Descends targets ranks → (a b : ℕ) → Path (IsStep targets) a b → slice_index ranks b ≤ slice_index ranks a
+descends_on targets ranks down a b (step x y l) = down x y l
+descends_on targets ranks down a b (further x y z l p) =
+    let first : slice_index ranks y ≤ slice_index ranks x = down x y l in
+    let rest : slice_index ranks z ≤ slice_index ranks y = descends_on targets ranks down y z p in
     omega arith
 
-pub ascending : (targets : List (BTreeSet ℕ)) (ranks : List ℕ) → Ascends targets ranks → HasNoCycle targets
-ascending targets ranks up n on = let wrong : slice_index ranks n < slice_index ranks n = ascends_on targets ranks up n n on in omega arith
+-- and a number whose steps lead to lower ranks is of a greater one than all to which steps lead from it
+falls_on : (targets : List (BTreeSet ℕ)) (ranks : List ℕ) → Descends targets ranks → (a b : ℕ) → Path (IsStep targets) a b
+    → ((n : ℕ) → IsStep targets a n → slice_index ranks n < slice_index ranks a) → slice_index ranks b < slice_index ranks a
+falls_on targets ranks down a b (step x y l) falls = falls y l
+falls_on targets ranks down a b (further x y z l p) falls =
+    let first : slice_index ranks y < slice_index ranks x = falls y l in
+    let rest : slice_index ranks z ≤ slice_index ranks y = descends_on targets ranks down y z p in
+    omega arith
+
+same_set : (targets : List (BTreeSet ℕ)) (i : ℕ) (s t : BTreeSet ℕ) → slice_get targets i ≡ Some s → slice_get targets i ≡ Some t → t ≡ s
+same_set targets i s t is at = cc
+
+pub ruled_out : (targets : List (BTreeSet ℕ)) (ranks : List ℕ) (n rank : ℕ) (s : BTreeSet ℕ) → Descends targets ranks → slice_get targets n ≡ Some s → AreUpTo ranks rank s.keys
+    → rank < slice_index ranks n → LeadsBack targets n → ⊥
+ruled_out targets ranks n rank s down is under low on =
+    let wrong : slice_index ranks n < slice_index ranks n = falls_on targets ranks down n n on falls in omega arith where
+      falls : (b : ℕ) → IsStep targets n b → slice_index ranks b < slice_index ranks n
+      falls b (t, at, h) =
+          let here : slice_index ranks b ≤ rank = under b (subst (λ k. contains nat_cmp k b ≡ true) (same_set targets n s t is at) h) in
+          omega (arith, here, low)
 
 -- ---- what is marked
 pub marked_long : (s : List Bool × List ℕ) (b : ℕ) → length (marked s b).0 ≡ length s.0
@@ -354,20 +379,19 @@ empty_is [] h = refl
 empty_is (n ∷ ns) h = cc
 
 -- ---- all ranks
-pub ascends_more : (targets : List (BTreeSet ℕ)) (ranks : List ℕ) (i : ℕ) (s : BTreeSet ℕ) → slice_get targets i ≡ Some s → AreAbove ranks (slice_index ranks i) s.keys
-    → ((a b : ℕ) → a < i → IsStep targets a b → slice_index ranks a < slice_index ranks b) → (a b : ℕ) → a < i + 1 → IsStep targets a b → slice_index ranks a < slice_index ranks b
-ascends_more targets ranks i s is above old a b low l = by_lt a i (λ small. old a b small l) (λ high. here a (omega arith) l) where
-  one : (t : BTreeSet ℕ) → slice_get targets i ≡ Some t → t ≡ s
-  one t at = cc
+pub descends_more : (targets : List (BTreeSet ℕ)) (ranks : List ℕ) (i rank : ℕ) (s : BTreeSet ℕ) → slice_get targets i ≡ Some s → AreUpTo ranks rank s.keys → rank ≤ slice_index ranks i
+    → ((a b : ℕ) → a < i → IsStep targets a b → slice_index ranks b ≤ slice_index ranks a) → (a b : ℕ) → a < i + 1 → IsStep targets a b → slice_index ranks b ≤ slice_index ranks a
+descends_more targets ranks i rank s is under most old a b low l = by_lt a i (λ small. old a b small l) (λ high. here a (omega arith) l) where
+  at_i : IsStep targets i b → slice_index ranks b ≤ slice_index ranks i
+  at_i (t, at, h) =
+      let own : slice_index ranks b ≤ rank = under b (subst (λ k. contains nat_cmp k b ≡ true) (same_set targets i s t is at) h) in
+      omega (arith, own, most)
 
-  at_i : IsStep targets i b → slice_index ranks i < slice_index ranks b
-  at_i (t, at, h) = above b (subst (λ k. contains nat_cmp k b ≡ true) (one t at) h)
+  here : (x : ℕ) → x ≡ i → IsStep targets x b → slice_index ranks b ≤ slice_index ranks x
+  here x e m = subst (λ k. slice_index ranks b ≤ slice_index ranks k) (sym e) (at_i (subst (λ k. IsStep targets k b) e m))
 
-  here : (x : ℕ) → x ≡ i → IsStep targets x b → slice_index ranks x < slice_index ranks b
-  here x e m = subst (λ k. slice_index ranks k < slice_index ranks b) (sym e) (at_i (subst (λ k. IsStep targets k b) e m))
-
-pub ascends_all : (targets : List (BTreeSet ℕ)) (ranks : List ℕ) (k : ℕ) → length targets ≤ k → ((a b : ℕ) → a < k → IsStep targets a b → slice_index ranks a < slice_index ranks b) → Ascends targets ranks
-ascends_all targets ranks k all old a b (s, is, h) = let low : a < length targets = get_within targets a s is in old a b (omega arith) (s, is, h)
+pub descends_all : (targets : List (BTreeSet ℕ)) (ranks : List ℕ) (k : ℕ) → length targets ≤ k → ((a b : ℕ) → a < k → IsStep targets a b → slice_index ranks b ≤ slice_index ranks a) → Descends targets ranks
+descends_all targets ranks k all old a b (s, is, h) = let low : a < length targets = get_within targets a s is in old a b (omega arith) (s, is, h)
 
 -- ---- another relation
 pub along : (R S : ℕ → ℕ → Type 0) → ((a b : ℕ) → R a b → S a b) → (a b : ℕ) → Path R a b → Path S a b

@@ -1,16 +1,16 @@
 -- How the lowest number on a cycle is found. Private functions alone cite this.
-use Rattle.std.specs.Prelude.{ℕ, ◌≡◌, ◌<◌, Bool, true, false, if◌then◌else◌, ◌⊎◌, List, [], ◌∷◌, ◌++◌, length, slice_set, slice_index, slice_index_or}
+use Rattle.std.specs.Prelude.{ℕ, ◌≡◌, ◌≤◌, Bool, true, false, if◌then◌else◌, ◌⊎◌, List, [], ◌∷◌, ◌++◌, length, slice_set, slice_index, slice_index_or}
 use Rattle.std.specs.BTreeSet.{BTreeSet}
 use Rattle.wac_edges.specs.Cycles.{IsStep, Path}
 use Rattle.wac_edges.specs.Numbers.{AreBelow, Has}
 
--- each step leads to a number of a greater rank
-abbrev pub Ascends : List (BTreeSet ℕ) → List ℕ → Type 0
-Ascends targets ranks = (a b : ℕ) → IsStep targets a b → slice_index ranks a < slice_index ranks b
+-- no step leads to a number of a greater rank
+abbrev pub Descends : List (BTreeSet ℕ) → List ℕ → Type 0
+Descends targets ranks = (a b : ℕ) → IsStep targets a b → slice_index ranks b ≤ slice_index ranks a
 
--- each of the numbers is of a greater rank than this
-abbrev pub AreAbove : List ℕ → ℕ → List ℕ → Type 0
-AreAbove ranks rank ns = (n : ℕ) → Has ns n → rank < slice_index ranks n
+-- none of the numbers is of a greater rank than this
+abbrev pub AreUpTo : List ℕ → ℕ → List ℕ → Type 0
+AreUpTo ranks rank ns = (n : ℕ) → Has ns n → slice_index ranks n ≤ rank
 
 -- which numbers are reached, by their flags
 abbrev pub is_reached : List Bool → ℕ → Bool

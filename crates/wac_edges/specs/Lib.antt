@@ -6,3 +6,4 @@ pub mod Numbers
 pub mod Cycles
 pub mod CycleSearch
 pub mod Ready
+pub mod RankSearch

@@ -1,10 +1,11 @@
 //! Cycles of steps between numbers.
-ghost use Rattle.std.specs.Prelude.{◌≡◌, ◌<◌, ◌↔◌, ◌⊎◌, ℕ, true, length, fold, slice_index, IfOk, OnOk, MatchOption};
+ghost use Rattle.std.specs.Prelude.{◌≡◌, ◌<◌, ◌≤◌, ◌↔◌, ◌⊎◌, ℕ, true, length, fold, slice_index, IfOk, OnOk, MatchOption};
 ghost use Rattle.std.specs.Bool.{OnTrue, OnFalse};
-ghost use Rattle.wac_edges.specs.CycleSearch.{AreAbove, Ascends, marked};
+ghost use Rattle.wac_edges.specs.CycleSearch.{AreUpTo, Descends, marked};
 ghost use Rattle.wac_edges.specs.Numbers.{AreBelow};
 ghost use Rattle.wac_edges.specs.Cycles.{AreWithin, HasNoCycle, HasLowestOnCycle, IsStep, LeadsBack};
 
+use crate::ranks::ranks;
 use std::alloc::{AllocError, Global};
 use std::collections::BTreeSet;
 
@@ -41,10 +42,11 @@ pub fn lowest_on_cycle(
     ensures { IfOk result (λ o. MatchOption o (HasNoCycle targets.now) (λ n. HasLowestOnCycle targets.now n)) }
 {
     let ranks = ranks(alloc, targets)?;
-    if ascends(targets, ranks.as_slice()) {
-        return Ok(None);
-    }
+    let descends = descends(targets, ranks.as_slice());
     for n in 0..targets.len() {
+        if is_ruled_out(targets, ranks.as_slice(), descends, n) {
+            continue;
+        }
         if is_on_cycle(alloc, targets, n)? {
             return Ok(Some(n));
         }
@@ -52,128 +54,54 @@ pub fn lowest_on_cycle(
     Ok(None)
 }
 
-/// For each number, how many were taken away before it, where one is taken away once no step leads to it from one that is left.
-fn ranks(alloc: Global, targets: &[BTreeSet<usize>]) -> Result<Vec<usize>, AllocError>
-    requires { AreWithin targets.now }
-    ensures { IfOk result (λ r. length r.items ≡ length targets.now) }
-{
-    let mut blocking = blocking(alloc, targets)?;
-    let mut ready = free(alloc, blocking.as_slice())?;
-    let mut ranks = vec![in alloc; 0; targets.len()]?;
-    for rank in 0..targets.len() {
-        let Some(a) = ready.pop() else {
-            break;
-        };
-        ranks[a] = rank;
-        release(&targets[a], &mut blocking, &mut ready)?;
-    }
-    Ok(ranks)
-}
-
-/// For each number, how many steps lead to it.
-fn blocking(alloc: Global, targets: &[BTreeSet<usize>]) -> Result<Vec<usize>, AllocError>
-    requires { AreWithin targets.now }
-    ensures { IfOk result (λ r. length r.items ≡ length targets.now) }
-{
-    let mut blocking = vec![in alloc; 0; targets.len()]?;
-    for steps in targets {
-        block(steps, &mut blocking);
-    }
-    Ok(blocking)
-}
-
-/// Counts the steps to some numbers.
-fn block(steps: &BTreeSet<usize>, blocking: &mut [usize])
-    requires { AreBelow (length blocking.old) steps.now.keys }
-{
-    for b in steps.iter() {
-        block_one(blocking, *b);
-    }
-}
-
-/// Counts a step to a number.
-fn block_one(blocking: &mut [usize], b: usize)
-    requires { b < length blocking.old }
-{
-    blocking[b] = blocking[b].saturating_add(1);
-}
-
-/// The numbers to which no step leads.
-fn free(alloc: Global, blocking: &[usize]) -> Result<Vec<usize>, AllocError>
-    ensures { IfOk result (λ r. AreBelow (length blocking.now) r.items) }
-{
-    let mut ready = Vec::new(alloc);
-    for b in 0..blocking.len() {
-        if blocking[b] == 0 {
-            ready.push(b)?;
-        }
-    }
-    Ok(ready)
-}
-
-/// Takes the steps to some numbers away. Those to which no step is left are ready.
-fn release(
-    steps: &BTreeSet<usize>,
-    blocking: &mut [usize],
-    ready: &mut Vec<usize>,
-) -> Result<(), AllocError>
-    requires steps { AreBelow (length blocking.old) steps.now.keys }
-    requires ready { AreBelow (length blocking.old) ready.old.items }
-    ensures { OnOk result (AreBelow (length blocking.old) ready.new.items) }
-{
-    for b in steps.iter() {
-        release_one(*b, blocking, ready)?;
-    }
-    Ok(())
-}
-
-/// Takes a step to a number away. If no step to it is left it is ready.
-fn release_one(b: usize, blocking: &mut [usize], ready: &mut Vec<usize>) -> Result<(), AllocError>
-    requires low { b < length blocking.old }
-    requires ready { AreBelow (length blocking.old) ready.old.items }
-    ensures { OnOk result (AreBelow (length blocking.old) ready.new.items) }
-{
-    let left = blocking[b].saturating_sub(1);
-    blocking[b] = left;
-    if left == 0 {
-        ready.push(b)?;
-    }
-    Ok(())
-}
-
-/// Whether each step leads to a number of a greater rank.
-fn ascends(targets: &[BTreeSet<usize>], ranks: &[usize]) -> bool
+/// Whether no step leads to a number of a greater rank.
+fn descends(targets: &[BTreeSet<usize>], ranks: &[usize]) -> bool
     requires long { length ranks.now ≡ length targets.now }
     requires within { AreWithin targets.now }
-    ensures { OnTrue result (Ascends targets.now ranks.now) }
+    ensures { OnTrue result (Descends targets.now ranks.now) }
 {
     for a in 0..targets.len() {
-        if !are_above(&targets[a], ranks, ranks[a]) {
+        if ranks[a] < highest(&targets[a], ranks) {
             return false;
         }
     }
     true
 }
 
-/// Whether each of these numbers is of a greater rank than this.
-fn are_above(steps: &BTreeSet<usize>, ranks: &[usize], rank: usize) -> bool
+/// The highest rank of these numbers, zero where there are none.
+fn highest(steps: &BTreeSet<usize>, ranks: &[usize]) -> usize
     requires { AreBelow (length ranks.now) steps.now.keys }
-    ensures { OnTrue result (AreAbove ranks.now rank steps.now.keys) }
+    ensures { AreUpTo ranks.now result steps.now.keys }
 {
+    let mut highest = 0;
     for b in steps.iter() {
-        if !is_above(ranks, rank, *b) {
-            return false;
-        }
+        highest = higher(ranks, highest, *b);
     }
-    true
+    highest
 }
 
-/// Whether a number is of a greater rank than this.
-fn is_above(ranks: &[usize], rank: usize, b: usize) -> bool
+/// The higher of a rank and that of a number.
+fn higher(ranks: &[usize], rank: usize, b: usize) -> usize
     requires { b < length ranks.now }
-    ensures { OnTrue result (rank < slice_index ranks.now b) }
+    ensures other { rank ≤ result }
+    ensures own { slice_index ranks.now b ≤ result }
 {
-    rank < ranks[b]
+    if rank < ranks[b] { ranks[b] } else { rank }
+}
+
+/// Whether ranks tell that a number is on no cycle: no step leads to a greater rank, and those from the number lead to
+/// lower ones.
+fn is_ruled_out(targets: &[BTreeSet<usize>], ranks: &[usize], descends: bool, n: usize) -> bool
+    requires small { n < length targets.now }
+    requires long { length ranks.now ≡ length targets.now }
+    requires within { AreWithin targets.now }
+    requires descends { OnTrue descends (Descends targets.now ranks.now) }
+    ensures { OnTrue result (LeadsBack targets.now n → ⊥) }
+{
+    if !descends {
+        return false;
+    }
+    highest(&targets[n], ranks) < ranks[n]
 }
 
 /// Whether a path of one step or more leads from a number back to it.

@@ -110,8 +110,8 @@ impl Edges {
         Ok(())
     }
 
-    /// Whether the edge is in the set. This reads no more than two records for each edge at the one of its ends that has
-    /// fewer.
+    /// Whether the edge is in the set. This reads at most two records for each edge at the one of its ends that has fewer,
+    /// and one more.
     pub fn contains(&self, edge: Edge) -> bool
         ensures { result ≡ set.contains self.now edge }
     {

@@ -4,5 +4,6 @@
 pub mod cycles;
 pub mod edges;
 pub mod order;
+mod ranks;
 mod records;
 pub mod walk;

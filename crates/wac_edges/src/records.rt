@@ -197,7 +197,8 @@ pub(crate) fn make_firsts(firsts: &mut Vec<Firsts>, node: usize) -> Result<(), A
     Ok(())
 }
 
-/// The key of an edge's record. It reads no more than two records for each edge at the one of its ends that has fewer.
+/// The key of an edge's record. This reads at most two records for each edge at the one of its ends that has fewer, and
+/// one more.
 pub(crate) fn find(records: &Slab<Record>, firsts: &[Firsts], edge: Edge) -> Option<usize>
     requires { AreListed (get records.now) firsts.now }
     ensures some { IfSome result (λ k. edge_at (get records.now) k ≡ Some edge) }

@@ -37,15 +37,14 @@ use Rattle.wac_edges.specs.Cycles.{step, further}
 use Rattle.wac_terms.specs.NoDisagreement.{HasNoDisagreement}
 use Rattle.wac_agreement.specs.Faults.{Disagrees, UseEachOther}
 use Rattle.wac_edges.specs.declared.edges.Edge.{Edge}
-use Rattle.wac_graph.specs.declared.options.EncodeOptions.{EncodeOptions}
-use Rattle.wac_graph.specs.Graph as graph
-use Rattle.wac_graph.specs.Graph.{Graph, GraphNode, node_at}
+use Rattle.wac_nodes.specs.declared.options.EncodeOptions.{EncodeOptions}
+use Rattle.wac_nodes.specs.Graph as graph
+use Rattle.wac_nodes.specs.Graph.{Graph, GraphNode, node_at, node_number}
 use Rattle.wac_edges.specs.Order.{Edges, Leads, IsAcyclic}
-use Rattle.wac_graph.specs.Means.{node_number}
-use Rattle.wac_graph.specs.Asked.{Entry, asked_by, imported_by}
-use Rattle.wac_graph.specs.Entries.{once, with_used, asked_entries, to_merge}
-use Rattle.wac_graph.specs.Cause.{HasNoConflict, IsMergeConflict, Stands, implicit_merge, explicit_merge, import_circle}
-use Rattle.wac_graph.proofs.StandsLemmas.{stands_implicit, stands_explicit, stands_circle}
+use Rattle.wac_nodes.specs.Asked.{Entry, asked_by, imported_by}
+use Rattle.wac_nodes.specs.Entries.{once, with_used, asked_entries, to_merge}
+use Rattle.wac_causes.specs.Cause.{HasNoConflict, IsMergeConflict, Stands, implicit_merge, explicit_merge, import_circle}
+use Rattle.wac_causes.proofs.StandsLemmas.{stands_implicit, stands_explicit, stands_circle}
 use Rattle.wac_examples.proofs.Ordered.{edge_cmp_total}
 use Rattle.wac_examples.proofs.ImportExample.{no_entries, no_items}
 use Rattle.wac_examples.proofs.Rows.{readme_graph, instance_of_first, instance_of_second, by_two}
@@ -213,7 +212,7 @@ version_types = record {
 
 -- an import node of an interface
 abbrev import_of : Name → ℕ → GraphNode
-import_of name i = record { kind = graph.import name; item_kind = instance_of i; owner = None; name = None; export_name = None }
+import_of name i = record { kind = graph.import name; item_kind = instance_of i; owner = None; name = None; export_name = None; first_name = None }
 
 abbrev earlier_import : GraphNode
 earlier_import = import_of (codes "a:b/c@0.2.0") 0

@@ -16,11 +16,10 @@ use Rattle.wac_shapes.specs.declared.component.PrimitiveType.TheVariants as prim
 use Rattle.wac_shapes.specs.declared.component.UsedType.{UsedType}
 use Rattle.wac_shapes.specs.declared.component.ValueType.TheVariants as val
 use Rattle.wac_shapes.specs.declared.component.«Type».TheVariants as ty
-use Rattle.wac_graph.specs.Graph as graph
-use Rattle.wac_graph.specs.Graph.{Graph, GraphNode, node_at}
-use Rattle.wac_graph.specs.Means.{node_number}
-use Rattle.wac_graph.specs.Asked.{Entry, asked_by, imported_by}
-use Rattle.wac_graph.specs.Entries.{once, with_used, asked_entries}
+use Rattle.wac_nodes.specs.Graph as graph
+use Rattle.wac_nodes.specs.Graph.{Graph, GraphNode, node_at, node_number}
+use Rattle.wac_nodes.specs.Asked.{Entry, asked_by, imported_by}
+use Rattle.wac_nodes.specs.Entries.{once, with_used, asked_entries}
 use Rattle.wac_examples.proofs.ImportExample.{no_entries}
 use Rattle.wac_examples.proofs.Rows.{readme_graph}
 
@@ -61,14 +60,14 @@ pub used_before : once (with_used types (asked_as (codes "a:b/c") 2)) ≡ all_th
 used_before = refl
 
 abbrev import_of_c : GraphNode
-import_of_c = record { kind = graph.import (codes "a:b/c"); item_kind = kind.Instance (record { 0 = 2 }); owner = None; name = None; export_name = None }
+import_of_c = record { kind = graph.import (codes "a:b/c"); item_kind = kind.Instance (record { 0 = 2 }); owner = None; name = None; export_name = None; first_name = None }
 
 abbrev nodes : List (ℕ × GraphNode)
 nodes = (0, import_of_c) ∷ []
 
 -- an import node `a:b/c`
 abbrev asking : Graph
-asking = record readme_graph { types = types; nodes = finite.from_entries nodes; next = 1; edges = set.from_list []; slots = [] }
+asking = record readme_graph { types = types; nodes = finite.from_entries nodes; next = 1; edges = set.from_list []; slots = []; vacant = [] }
 
 entries_are : finite.entries (finite.from_entries {R = nat_cmp} nodes) ≡ nodes
 entries_are =

@@ -8,15 +8,14 @@ use Rattle.std.specs.Ordering.{nat_cmp, eq_by_cmp, is_eq}
 use Rattle.std.specs.Cmp.{nat_cmp_total, tied_itself}
 use Rattle.wac_edges.specs.declared.edges.Edge.{Edge}
 use Rattle.wac_edges.specs.Edge.{edge_cmp}
-use Rattle.wac_graph.specs.Graph as graph
-use Rattle.wac_graph.specs.Graph.{Graph, GraphNode, node_at}
-use Rattle.wac_graph.specs.Means.{node_number}
-use Rattle.wac_graph.specs.Imports.{unset_rows, node_rows, asked_rows}
+use Rattle.wac_nodes.specs.Graph as graph
+use Rattle.wac_nodes.specs.Graph.{Graph, GraphNode, node_at, node_number}
+use Rattle.wac_nodes.specs.Imports.{unset_rows, node_rows, asked_rows}
 use Rattle.wac_examples.proofs.Ordered.{edge_cmp_total}
 use Rattle.wac_examples.proofs.Rows.{of_function, instance_of_second, readme_graph}
 
 abbrev import_of_x : GraphNode
-import_of_x = record { kind = graph.import (120 ∷ []); item_kind = of_function; owner = None; name = None; export_name = None }
+import_of_x = record { kind = graph.import (120 ∷ []); item_kind = of_function; owner = None; name = None; export_name = None; first_name = None }
 
 abbrev nodes : List (ℕ × GraphNode)
 nodes = (0, import_of_x) ∷ (1, instance_of_second) ∷ []

@@ -7,3 +7,6 @@ pub mod ImportExample
 pub mod EntryExample
 pub mod CauseExample
 pub mod NameRows
+pub mod OptionRows
+pub mod DefinitionRows
+pub mod PlugExample

@@ -4,7 +4,7 @@ use Rattle.wac_names.specs.Text.{has}
 use Rattle.wac_names.specs.Kind.{label, url, joined}
 use Rattle.wac_names.specs.Grammar.{IsKind}
 use Rattle.wac_names.specs.declared.fault.NameFault.TheVariants.{NotExportable, Empty}
-use Rattle.wac_graph.specs.ExternName.{IsExportName, HasExportFault, unnamed, unexportable}
+use Rattle.wac_nodes.specs.ExternName.{IsExportName, HasExportFault, unnamed, unexportable}
 
 -- a label
 pub export_of_a_label : IsExportName (codes "a")

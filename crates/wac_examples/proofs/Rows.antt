@@ -8,6 +8,7 @@ use Rattle.std.specs.Ordering.{nat_cmp, eq_by_cmp}
 use Rattle.std.specs.Cmp.{nat_cmp_total}
 use Rattle.std.specs.Prelude.{slice_get}
 use Rattle.std.proofs.lemmas.Bool.Decides.{nat_tests}
+use Rattle.std.proofs.lemmas.List.{append-nil}
 use Rattle.wac_shapes.specs.Name.{option_case}
 use Rattle.wac_collection.specs.Collection.{Collection}
 use Rattle.wac_shapes.specs.declared.component.ItemKind.{ItemKind}
@@ -17,16 +18,18 @@ use Rattle.wac_binary.specs.Bytes.{preamble}
 use Rattle.wac_binary.specs.Items.{Item, nested, instantiate, alias_item, export_alias, export_item}
 use Rattle.wac_binary.specs.Meaning.{meaning, projection, instance_at, stands_for, Thing}
 use Rattle.wac_edges.specs.declared.edges.Edge.{Edge}
-use Rattle.wac_graph.specs.declared.packages.PackageId.{PackageId}
+use Rattle.wac_nodes.specs.declared.packages.PackageId.{PackageId}
 use Rattle.wac_edges.specs.Edge.{edge_cmp, alias_edge, argument_edge}
-use Rattle.wac_graph.specs.Graph as graph
-use Rattle.wac_graph.specs.Graph.{Graph, GraphNode, node_at, imports_of, IsSatisfied}
+use Rattle.wac_nodes.specs.Graph as graph
+use Rattle.wac_nodes.specs.Graph.{Graph, GraphNode, node_at, imports_of, IsSatisfied, node_number}
 use Rattle.wac_edges.specs.Order.{Edges, Writes, IsLowestReady, without}
-use Rattle.wac_graph.specs.OuterImports.{AreOuterImports}
-use Rattle.wac_graph.specs.Means.{Means, is_import, is_written, node_number, instantiations, used_after, used_packages, package_bytes, sort_of_kind, AreInstantiations, IsThing, as_instantiation, as_alias, given, HasItem, shown, export_of, export_item_of}
-use Rattle.wac_graph.proofs.ThingLemmas.{IsPlain}
-use Rattle.wac_graph.proofs.EncodeLemmas.{AllSet, no_imports, asked_none}
+use Rattle.wac_nodes.specs.OuterImports.{AreOuterImports}
+use Rattle.wac_meaning.specs.Means.{Means, is_import, is_written, instantiations, used_after, used_packages, package_bytes, sort_of_kind, AreInstantiations, IsThing, as_instantiation, as_alias, given, HasItem, shown, export_of, export_item_of, first_export, further_exports, custom_item}
+use Rattle.wac_meaning.proofs.ThingLemmas.{IsPlain}
+use Rattle.wac_meaning.proofs.EncodeLemmas.{AllSet, no_imports, asked_none}
 use Rattle.wac_examples.proofs.Ordered.{edge_cmp_total, exact_edges}
+use Rattle.wac_meaning.proofs.DefinedLemmas.{no_names}
+use Rattle.wac_nodes.specs.declared.options.EncodeOptions.{EncodeOptions}
 
 -- two packages of the same bytes: the first exports the function `a`, the second imports the function `b`
 abbrev pub of_function : ItemKind
@@ -50,13 +53,13 @@ second = record { slot = 1; generation = 0 }
 
 -- the three nodes
 abbrev pub instance_of_first : GraphNode
-instance_of_first = record { kind = graph.instantiation; item_kind = item.Instance (record { 0 = 0 }); owner = Some first; name = None; export_name = None }
+instance_of_first = record { kind = graph.instantiation; item_kind = item.Instance (record { 0 = 0 }); owner = Some first; name = None; export_name = None; first_name = None }
 
 abbrev pub alias_of_first : GraphNode
-alias_of_first = record { kind = graph.alias; item_kind = of_function; owner = Some first; name = None; export_name = None }
+alias_of_first = record { kind = graph.alias; item_kind = of_function; owner = Some first; name = None; export_name = None; first_name = None }
 
 abbrev pub instance_of_second : GraphNode
-instance_of_second = record { kind = graph.instantiation; item_kind = item.Instance (record { 0 = 1 }); owner = Some second; name = None; export_name = None }
+instance_of_second = record { kind = graph.instantiation; item_kind = item.Instance (record { 0 = 1 }); owner = Some second; name = None; export_name = None; first_name = None }
 
 abbrev entries : List (ℕ × GraphNode)
 entries = (0, instance_of_first) ∷ (1, alias_of_first) ∷ (2, instance_of_second) ∷ []
@@ -75,7 +78,12 @@ readme_graph = record {
   slots =
       record { generation = 0; «package» = Some (record { name = 112 ∷ []; version = None; bytes = preamble; world = record { 0 = 0 }; instance_type = record { 0 = 0 } }) }
       ∷ record { generation = 0; «package» = Some (record { name = 113 ∷ []; version = None; bytes = preamble; world = record { 0 = 1 }; instance_type = record { 0 = 1 } }) } ∷ [];
+  vacant = [];
 }
+
+-- components are defined, and no processor is named
+abbrev pub defining : EncodeOptions
+defining = record { define_components = true; validate = true; processor = None }
 
 abbrev readme : List Item
 readme = nested preamble ∷ instantiate 0 [] ∷ alias_item (export_alias s.Func 0 (97 ∷ [])) ∷ nested preamble ∷ instantiate 1 ((98 ∷ [], s.Func, 0) ∷ []) ∷ []
@@ -268,8 +276,8 @@ readme_imports : AreOuterImports readme_graph (meaning readme).imports
 readme_imports = no_imports readme_graph (asked_none readme_graph readme_plain all_given)
 
 -- the two instantiations, the second with the alias as `b`
-readme_instances : AreInstantiations readme_graph readme_at (0 ∷ 1 ∷ 2 ∷ []) (instantiations readme_graph (0 ∷ 1 ∷ 2 ∷ [])) (meaning readme).instantiations
-readme_instances = subst (λ ns. AreInstantiations readme_graph readme_at (0 ∷ 1 ∷ 2 ∷ []) ns (meaning readme).instantiations) (sym readme_instantiations) (
+readme_instances : AreInstantiations readme_graph defining 0 readme_at (0 ∷ 1 ∷ 2 ∷ []) (instantiations readme_graph (0 ∷ 1 ∷ 2 ∷ [])) (meaning readme).instantiations
+readme_instances = subst (λ ns. AreInstantiations readme_graph defining 0 readme_at (0 ∷ 1 ∷ 2 ∷ []) ns (meaning readme).instantiations) (sym readme_instantiations) (
   record { node = instance_of_first; there = node_0; owner = first; owned = refl; place = 0; used = ap (λ ps. slice_get ps 0) readme_packages; component = refl; arguments = tt },
   (record { node = instance_of_second; there = node_2; owner = second; owned = refl; place = 1; used = ap (λ ps. slice_get ps 1) readme_packages; component = refl; arguments = (refl, given (node_number 1) stands_argument, tt) }, tt),
 )
@@ -325,25 +333,29 @@ readme_in_place i j n m less first_is second_is =
     subst (λ k. readme_place k < readme_place m) a (subst (λ k. readme_place i < readme_place k) b (rises i j less small))
 
 -- the items mean the graph
-pub readme_means : Means readme readme_graph
+pub readme_means : Means readme readme_graph defining
 readme_means = record {
   order = 0 ∷ 1 ∷ 2 ∷ [];
   in_order = readme_in_order;
   at = readme_at;
   index = readme_index;
   meant = (tt, ((tt, tt), ((tt, tt), (tt, ((tt, (tt, tt)), tt)))));
-  imports = readme_imports;
+  classes = [];
+  outer = readme_imports;
+  imports = refl;
   components = readme_components;
   instances = readme_instances;
   things = readme_things;
   stand = readme_stand;
-  exports = refl;
+  exports = rw (node_0, node_1, node_2) refl;
   place = readme_place;
   own_items = λ n node there _. readme_items n node there;
   in_place = readme_in_place;
+  names = [];
+  named = no_names readme_graph readme_index (by_node (λ _ node. node.name ≡ None) refl refl refl);
+  customs = refl;
   body = readme;
   last = refl;
-  customs = refl;
 }
 
 -- of graphs with two nodes
@@ -441,8 +453,8 @@ twice_imports = no_imports twice_graph (asked_none twice_graph plain all) where
   all : AllSet twice_graph
   all = by_twice (λ n node. node.kind ≡ graph.instantiation → (i : ℕ) → i < length (imports_of twice_graph node) → IsSatisfied twice_graph (node_number n) i) (λ _ i small. absurd (not_below_0 i small)) (λ _ i small. absurd (not_below_0 i small))
 
-twice_instances : AreInstantiations twice_graph twice_at (0 ∷ 1 ∷ []) (instantiations twice_graph (0 ∷ 1 ∷ [])) (meaning twice).instantiations
-twice_instances = subst (λ ns. AreInstantiations twice_graph twice_at (0 ∷ 1 ∷ []) ns (meaning twice).instantiations) (sym twice_instantiations) (
+twice_instances : AreInstantiations twice_graph defining 0 twice_at (0 ∷ 1 ∷ []) (instantiations twice_graph (0 ∷ 1 ∷ [])) (meaning twice).instantiations
+twice_instances = subst (λ ns. AreInstantiations twice_graph defining 0 twice_at (0 ∷ 1 ∷ []) ns (meaning twice).instantiations) (sym twice_instantiations) (
   record { node = instance_of_first; there = twice_0; owner = first; owned = refl; place = 0; used = ap (λ ps. slice_get ps 0) twice_packages; component = refl; arguments = tt },
   (record { node = instance_of_first; there = twice_1; owner = first; owned = refl; place = 0; used = ap (λ ps. slice_get ps 0) twice_packages; component = refl; arguments = tt }, tt),
 )
@@ -454,30 +466,34 @@ twice_in_place i j n m less first_is second_is =
     omega (arith, less, a, b)
 
 -- the items mean the graph: each instance is one of its own
-pub twice_means : Means twice twice_graph
+pub twice_means : Means twice twice_graph defining
 twice_means = record {
   order = 0 ∷ 1 ∷ [];
   in_order = twice_in_order;
   at = twice_at;
   index = λ n. n;
   meant = (tt, ((tt, tt), ((tt, tt), tt)));
-  imports = twice_imports;
+  classes = [];
+  outer = twice_imports;
+  imports = refl;
   components = ap (map (package_bytes twice_graph)) (sym twice_packages);
   instances = twice_instances;
   things = by_twice (λ n node. IsThing twice_graph twice_at (0 ∷ 1 ∷ []) n node)
       (as_instantiation 0 refl (ap (λ ns. slice_get ns 0) twice_instantiations) refl)
       (as_instantiation 1 refl (ap (λ ns. slice_get ns 1) twice_instantiations) refl);
   stand = by_twice (λ n node. stands_for (meaning twice) (sort_of_kind node.item_kind) n ≡ twice_at n) refl refl;
-  exports = refl;
+  exports = rw (twice_0, twice_1) refl;
   place = twice_place;
   own_items = λ n node there _. by_twice (λ k x. HasItem twice x k (twice_place k))
       (record { it = instantiate 0 []; before = nested preamble ∷ []; after = instantiate 0 [] ∷ []; split = refl; here = refl; own = refl; adds = refl; counted = refl })
       (record { it = instantiate 0 []; before = nested preamble ∷ instantiate 0 [] ∷ []; after = []; split = refl; here = refl; own = refl; adds = refl; counted = refl })
       n node there;
   in_place = twice_in_place;
+  names = [];
+  named = no_names twice_graph (λ n. n) (by_twice (λ _ node. node.name ≡ None) refl refl);
+  customs = refl;
   body = twice;
   last = refl;
-  customs = refl;
 }
 
 -- an instance of the first package, and its alias `a`, exported as `x`
@@ -549,8 +565,8 @@ exporting_imports = no_imports exporting_graph (asked_none exporting_graph plain
   all : AllSet exporting_graph
   all = by_exporting (λ n node. node.kind ≡ graph.instantiation → (i : ℕ) → i < length (imports_of exporting_graph node) → IsSatisfied exporting_graph (node_number n) i) (λ _ i small. absurd (not_below_0 i small)) (λ wrong. absurd (alias_differs wrong))
 
-exporting_instances : AreInstantiations exporting_graph readme_at (0 ∷ 1 ∷ []) (instantiations exporting_graph (0 ∷ 1 ∷ [])) (meaning exporting).instantiations
-exporting_instances = subst (λ ns. AreInstantiations exporting_graph readme_at (0 ∷ 1 ∷ []) ns (meaning exporting).instantiations) (sym exporting_instantiations) (
+exporting_instances : AreInstantiations exporting_graph defining 0 readme_at (0 ∷ 1 ∷ []) (instantiations exporting_graph (0 ∷ 1 ∷ [])) (meaning exporting).instantiations
+exporting_instances = subst (λ ns. AreInstantiations exporting_graph defining 0 readme_at (0 ∷ 1 ∷ []) ns (meaning exporting).instantiations) (sym exporting_instantiations) (
   record { node = instance_of_first; there = exporting_0; owner = first; owned = refl; place = 0; used = ap (λ ps. slice_get ps 0) exporting_packages; component = refl; arguments = tt },
   tt,
 )
@@ -562,22 +578,37 @@ exporting_in_place i j n m less first_is second_is =
     subst (λ k. readme_place k < readme_place m) a (subst (λ k. readme_place i < readme_place k) b (rises i j less (omega (arith, small))))
 
 -- what is exported is the alias
-exporting_exports : map shown (meaning exporting).exports ≡ flat_map (export_of exporting_graph readme_at) exporting_graph.exports
-exporting_exports = sym (ap (λ (o : Option GraphNode). option_case o [] (λ node. (120 ∷ [], sort_of_kind node.item_kind, projection (instance_at 0) (97 ∷ [])) ∷ []) ++ []) exporting_1)
+-- no export is a definition's
+exporting_further : further_exports exporting_graph ≡ exporting_graph.exports
+exporting_further = rw exporting_1 refl
+
+exporting_first : flat_map (first_export exporting_graph readme_at) (0 ∷ 1 ∷ []) ≡ []
+exporting_first = rw (exporting_0, exporting_1) refl
+
+exporting_exports : map shown (meaning exporting).exports ≡ flat_map (first_export exporting_graph readme_at) (0 ∷ 1 ∷ []) ++ flat_map (export_of exporting_graph readme_at) (further_exports exporting_graph)
+exporting_exports =
+    sym (ap (λ (o : Option GraphNode). option_case o [] (λ node. (120 ∷ [], sort_of_kind node.item_kind, projection (instance_at 0) (97 ∷ [])) ∷ []) ++ []) exporting_1)
+    ∙ ap (flat_map (export_of exporting_graph readme_at)) (sym exporting_further)
+    ∙ ap (λ xs. xs ++ flat_map (export_of exporting_graph readme_at) (further_exports exporting_graph)) (sym exporting_first)
 
 -- the export comes last
-exporting_last : exporting ≡ exporting_body ++ flat_map (export_item_of exporting_graph readme_index) exporting_graph.exports
-exporting_last = sym (ap (λ (o : Option GraphNode). exporting_body ++ (option_case o [] (λ node. export_item (120 ∷ []) (sort_of_kind node.item_kind) 0 ∷ []) ++ [])) exporting_1)
+exporting_last : exporting ≡ exporting_body ++ flat_map (export_item_of exporting_graph readme_index) (further_exports exporting_graph) ++ map custom_item (meaning exporting).customs
+exporting_last =
+    sym (ap (λ (o : Option GraphNode). exporting_body ++ (option_case o [] (λ node. export_item (120 ∷ []) (sort_of_kind node.item_kind) 0 ∷ []) ++ [])) exporting_1)
+    ∙ ap (λ es. exporting_body ++ flat_map (export_item_of exporting_graph readme_index) es) (sym exporting_further)
+    ∙ sym (append-nil (exporting_body ++ flat_map (export_item_of exporting_graph readme_index) (further_exports exporting_graph)))
 
 -- the items mean the graph
-pub exporting_means : Means exporting exporting_graph
+pub exporting_means : Means exporting exporting_graph defining
 exporting_means = record {
   order = 0 ∷ 1 ∷ [];
   in_order = exporting_in_order;
   at = readme_at;
   index = readme_index;
   meant = (tt, ((tt, tt), ((tt, tt), ((refl, tt), tt))));
-  imports = exporting_imports;
+  classes = [];
+  outer = exporting_imports;
+  imports = refl;
   components = ap (map (package_bytes exporting_graph)) (sym exporting_packages);
   instances = exporting_instances;
   things = by_exporting (λ n node. IsThing exporting_graph readme_at (0 ∷ 1 ∷ []) n node)
@@ -591,7 +622,9 @@ exporting_means = record {
       (record { it = alias_item (export_alias s.Func 0 (97 ∷ [])); before = nested preamble ∷ instantiate 0 [] ∷ []; after = export_item (120 ∷ []) s.Func 0 ∷ []; split = refl; here = refl; own = refl; adds = refl; counted = refl })
       n node there;
   in_place = exporting_in_place;
+  names = [];
+  named = no_names exporting_graph readme_index (by_exporting (λ _ node. node.name ≡ None) refl refl);
+  customs = refl;
   body = exporting_body;
   last = exporting_last;
-  customs = refl;
 }

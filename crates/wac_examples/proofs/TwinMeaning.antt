@@ -1,6 +1,7 @@
 -- What all items say that mean the graph of two instances of one package: its components, instantiations and exports.
-use Rattle.std.proofs.Common.{◌≡◌, ℕ, zero, suc, true, List, [], ◌∷◌, map, Some, None, codes, refl, ap, sym, ◌∙◌, subst, arith}
+use Rattle.std.proofs.Common.{◌≡◌, ℕ, zero, suc, true, List, [], ◌∷◌, ◌++◌, length, map, Some, None, codes, refl, ap, sym, ◌∙◌, subst, arith}
 use Rattle.std.specs.FinSet as set
+use Rattle.std.specs.List.{flat_map}
 use Rattle.std.specs.Prelude.{slice_get}
 use Rattle.wac_shapes.specs.Name.{Name}
 use Rattle.wac_shapes.specs.declared.component.ItemKind.{ItemKind}
@@ -9,14 +10,14 @@ use Rattle.wac_binary.specs.Items.{Item}
 use Rattle.wac_binary.specs.Meaning.{meaning, projection, instance_at, component_at, Instantiation, Thing}
 use Rattle.wac_edges.specs.declared.edges.Edge.{Edge}
 use Rattle.wac_edges.specs.declared.edges.Label.TheVariants.{Alias, Argument}
-use Rattle.wac_graph.specs.declared.packages.PackageId.{PackageId}
+use Rattle.wac_nodes.specs.declared.packages.PackageId.{PackageId}
 use Rattle.wac_edges.specs.Edge.{alias_edge, argument_edge}
-use Rattle.wac_graph.specs.Graph as graph
-use Rattle.wac_graph.specs.Graph.{GraphNode, node_at, imports_of, exports_of}
-use Rattle.wac_graph.specs.Means.{Means, is_written, node_number, instantiations, used_packages, package_bytes, IsArgument, given, asked, AreArguments, IsInstantiationOf, AreInstantiations, IsThing, as_import, as_instantiation, as_alias, shown}
+use Rattle.wac_nodes.specs.Graph as graph
+use Rattle.wac_nodes.specs.Graph.{GraphNode, node_at, imports_of, exports_of, node_number}
+use Rattle.wac_meaning.specs.Means.{Means, is_written, instantiations, used_packages, package_bytes, IsArgument, given, asked, AreArguments, IsInstantiationOf, AreInstantiations, IsThing, as_import, as_instantiation, as_alias, shown, as_definition, export_of, first_export, further_exports}
 use Rattle.wac_examples.proofs.Ordered.{by_edge, one_order}
-use Rattle.wac_examples.proofs.Rows.{of_function, first, second, instance_of_first, alias_of_first, instance_of_second}
-use Rattle.wac_examples.proofs.TwinRows.{twins, edge_list, numbers, first_bytes, second_bytes, node_0, node_1, node_2, node_3, node_4, stands, twins_at, twins_in_order, twins_instantiations, twins_packages}
+use Rattle.wac_examples.proofs.Rows.{defining, of_function, first, second, instance_of_first, alias_of_first, instance_of_second}
+use Rattle.wac_examples.proofs.TwinRows.{twins, edge_list, numbers, first_bytes, second_bytes, node_0, node_1, node_2, node_3, node_4, stands, twins_at, twins_in_order, twins_instantiations, twins_packages, twins_further, twins_first}
 
 -- the `a` of an instance
 abbrev pub function_of : ℕ → Thing
@@ -130,7 +131,10 @@ not_alias k a b = cc
 not_import : (k : graph.Kind) (name : Name) → k ≡ graph.import name → (k ≡ graph.instantiation → ⊥) × (k ≡ graph.alias → ⊥)
 not_import k name a = (λ b. cc, λ b. cc)
 
-module _ (items : List Item) (means : Means items twins) where
+not_definition : (k : graph.Kind) → k ≡ graph.definition → (k ≡ graph.instantiation → ⊥) × (k ≡ graph.alias → ⊥)
+not_definition k a = (λ b. cc, λ b. cc)
+
+module _ (items : List Item) (means : Means items twins defining) where
   order_is : means.order ≡ numbers
   order_is = one_order twins.edges (is_written twins) means.order numbers means.in_order twins_in_order
 
@@ -144,12 +148,14 @@ module _ (items : List Item) (means : Means items twins) where
   of_instance : (n : ℕ) (node : GraphNode) → node.kind ≡ graph.instantiation → IsThing twins means.at means.order n node → means.at n ≡ twins_at n
   of_instance n node kind (as_import name p is _ _) = absurd ((not_import node.kind name is).0 kind)
   of_instance n node kind (as_instantiation k _ placed is) = is ∙ instance_placed k n (ap (λ ns. slice_get ns k) (sym instances_are) ∙ placed)
+  of_instance n node kind (as_definition t is _ _) = absurd ((not_definition node.kind is).0 kind)
   of_instance n node kind (as_alias instance source p name is _ _ _ _) = absurd (not_alias node.kind kind is)
 
   of_alias : (n j : ℕ) (node : GraphNode) → node.kind ≡ graph.alias → ((k p : ℕ) → set.contains twins.edges (alias_edge k n p) ≡ true → (k ≡ j) × (p ≡ 0)) → node_at twins (node_number j) ≡ Some instance_of_first
       → IsThing twins means.at means.order n node → means.at n ≡ projection (means.at j) (codes "a")
   of_alias n j node kind only there (as_import name p is _ _) = absurd ((not_import node.kind name is).1 kind)
   of_alias n j node kind only there (as_instantiation k is _ _) = absurd (not_alias node.kind is kind)
+  of_alias n j node kind only there (as_definition t is _ _) = absurd ((not_definition node.kind is).1 kind)
   of_alias n j node kind only there (as_alias instance source p name _ edge source_there listed is) =
       let (k_is, p_is) = only instance.0 p edge in
       let source_is : source ≡ instance_of_first = some_same (sym source_there ∙ ap (λ k. node_at twins (node_number k)) k_is ∙ there) in
@@ -171,7 +177,7 @@ module _ (items : List Item) (means : Means items twins) where
 
   -- ---- the instantiations
   of_package : (n component : ℕ) (node : GraphNode) (owner : PackageId) → node_at twins (node_number n) ≡ Some node → node.owner ≡ Some owner → ((k : ℕ) → slice_get (first ∷ second ∷ []) k ≡ Some owner → k ≡ component)
-      → (it : Instantiation) → IsInstantiationOf twins means.at means.order n it → (it.component ≡ component_at component) × AreArguments twins means.at n 0 (imports_of twins node) it.arguments
+      → (it : Instantiation) → IsInstantiationOf twins defining (length means.classes) means.at means.order n it → (it.component ≡ component_at component) × AreArguments twins means.at n 0 (imports_of twins node) it.arguments
   of_package n component node owner there owned only it is =
       let same : is.node ≡ node = some_same (sym is.there ∙ there) in
       let owner_is : Some is.owner ≡ Some owner = sym is.owned ∙ ap (λ (x : GraphNode). x.owner) same ∙ owned in
@@ -182,7 +188,7 @@ module _ (items : List Item) (means : Means items twins) where
   none n [] _ = refl
   none n (a ∷ more) wrong = absurd wrong
 
-  of_first : (n : ℕ) → node_at twins (node_number n) ≡ Some instance_of_first → (it : Instantiation) → IsInstantiationOf twins means.at means.order n it → it ≡ record { component = component_at 0; arguments = [] }
+  of_first : (n : ℕ) → node_at twins (node_number n) ≡ Some instance_of_first → (it : Instantiation) → IsInstantiationOf twins defining (length means.classes) means.at means.order n it → it ≡ record { component = component_at 0; arguments = [] }
   of_first n there it is =
       let (component, arguments) = of_package n 0 instance_of_first first there refl first_placed it is in
       let nothing : it.arguments ≡ [] = none n it.arguments arguments in
@@ -201,13 +207,13 @@ module _ (items : List Item) (means : Means items twins) where
       let y_thing : y.1 ≡ function_of 1 = argument 1 3 (codes "y") y.1 argument_y (stands (argument_edge 3 4 1) refl) y_is ∙ at_3 in
       λ i. (x_name i, x_thing i) ∷ (y_name i, y_thing i) ∷ []
 
-  of_second : (it : Instantiation) → IsInstantiationOf twins means.at means.order 4 it → it ≡ record { component = component_at 1; arguments = (codes "x", function_of 0) ∷ (codes "y", function_of 1) ∷ [] }
+  of_second : (it : Instantiation) → IsInstantiationOf twins defining (length means.classes) means.at means.order 4 it → it ≡ record { component = component_at 1; arguments = (codes "x", function_of 0) ∷ (codes "y", function_of 1) ∷ [] }
   of_second it is =
       let (component, arguments) = of_package 4 1 instance_of_second second node_4 refl second_placed it is in
       let both : it.arguments ≡ (codes "x", function_of 0) ∷ (codes "y", function_of 1) ∷ [] = two it.arguments arguments in
       λ i. record { component = component i; arguments = both i }
 
-  three : (its : List Instantiation) → AreInstantiations twins means.at means.order (0 ∷ 1 ∷ 4 ∷ []) its
+  three : (its : List Instantiation) → AreInstantiations twins defining (length means.classes) means.at means.order (0 ∷ 1 ∷ 4 ∷ []) its
       → its ≡ record { component = component_at 0; arguments = [] } ∷ record { component = component_at 0; arguments = [] } ∷ record { component = component_at 1; arguments = (codes "x", function_of 0) ∷ (codes "y", function_of 1) ∷ [] } ∷ []
   three [] wrong = absurd wrong
   three (a ∷ []) (_, wrong) = absurd wrong
@@ -217,12 +223,16 @@ module _ (items : List Item) (means : Means items twins) where
 
   -- ---- the exports
   exports_are : map shown (meaning items).exports ≡ (codes "p", s.Func, function_of 0) ∷ (codes "q", s.Func, function_of 1) ∷ []
-  exports_are = means.exports ∙ rw (node_2, node_3) (λ i. (codes "p", s.Func, at_2 i) ∷ (codes "q", s.Func, at_3 i) ∷ [])
+  exports_are =
+      means.exports ∙ ap (λ ns. flat_map (first_export twins means.at) ns ++ flat_map (export_of twins means.at) (further_exports twins)) order_is
+      ∙ ap (λ xs. xs ++ flat_map (export_of twins means.at) (further_exports twins)) (twins_first means.at)
+      ∙ ap (flat_map (export_of twins means.at)) twins_further
+      ∙ rw (node_2, node_3) (λ i. (codes "p", s.Func, at_2 i) ∷ (codes "q", s.Func, at_3 i) ∷ [])
 
   -- all items that mean the graph say the same
   pub one_meaning : Says items
   one_meaning = record {
     components = means.components ∙ ap (map (package_bytes twins)) packages_are;
-    instances = three (meaning items).instantiations (subst (λ ns. AreInstantiations twins means.at means.order ns (meaning items).instantiations) instances_are means.instances);
+    instances = three (meaning items).instantiations (subst (λ ns. AreInstantiations twins defining (length means.classes) means.at means.order ns (meaning items).instantiations) instances_are means.instances);
     exports = exports_are;
   }

@@ -8,6 +8,7 @@ use Rattle.std.specs.Ordering.{nat_cmp, eq_by_cmp}
 use Rattle.std.specs.Cmp.{nat_cmp_total}
 use Rattle.std.specs.Prelude.{slice_get}
 use Rattle.std.proofs.lemmas.Bool.Decides.{nat_tests}
+use Rattle.std.proofs.lemmas.List.{append-nil}
 use Rattle.wac_shapes.specs.Name.{Name, option_case}
 use Rattle.wac_collection.specs.Collection.{Collection}
 use Rattle.wac_shapes.specs.declared.component.ItemKind.{ItemKind}
@@ -17,15 +18,16 @@ use Rattle.wac_binary.specs.Items.{Item, nested, instantiate, alias_item, export
 use Rattle.wac_binary.specs.Meaning.{meaning, projection, instance_at, stands_for, Thing}
 use Rattle.wac_edges.specs.declared.edges.Edge.{Edge}
 use Rattle.wac_edges.specs.Edge.{edge_cmp, alias_edge, argument_edge}
-use Rattle.wac_graph.specs.Graph as graph
-use Rattle.wac_graph.specs.Graph.{Graph, GraphNode, node_at, imports_of, IsSatisfied}
+use Rattle.wac_nodes.specs.Graph as graph
+use Rattle.wac_nodes.specs.Graph.{Graph, GraphNode, node_at, imports_of, IsSatisfied, node_number}
 use Rattle.wac_edges.specs.Order.{Writes}
-use Rattle.wac_graph.specs.OuterImports.{AreOuterImports}
-use Rattle.wac_graph.specs.Means.{Means, is_import, is_written, node_number, instantiations, used_after, used_packages, package_bytes, sort_of_kind, AreInstantiations, IsThing, as_instantiation, as_alias, given, HasItem, shown, export_of, export_item_of}
-use Rattle.wac_graph.proofs.ThingLemmas.{IsPlain}
-use Rattle.wac_graph.proofs.EncodeLemmas.{AllSet, no_imports, asked_none}
+use Rattle.wac_nodes.specs.OuterImports.{AreOuterImports}
+use Rattle.wac_meaning.specs.Means.{Means, is_import, is_written, instantiations, used_after, used_packages, package_bytes, sort_of_kind, AreInstantiations, IsThing, as_instantiation, as_alias, given, HasItem, shown, export_of, export_item_of, first_export, further_exports, custom_item}
+use Rattle.wac_meaning.proofs.ThingLemmas.{IsPlain}
+use Rattle.wac_meaning.proofs.EncodeLemmas.{AllSet, no_imports, asked_none}
 use Rattle.wac_examples.proofs.Ordered.{edge_cmp_total, by_edge, by_number, Range}
-use Rattle.wac_examples.proofs.Rows.{of_function, first, second, instance_of_first, alias_of_first, instance_of_second}
+use Rattle.wac_examples.proofs.Rows.{defining, of_function, first, second, instance_of_first, alias_of_first, instance_of_second}
+use Rattle.wac_meaning.proofs.DefinedLemmas.{no_names}
 
 -- ---- the graph
 -- the first package exports the functions `a` and `b`, the second imports the functions `x` and `y`
@@ -67,6 +69,7 @@ twins = record {
   slots =
       record { generation = 0; «package» = Some (record { name = codes "one"; version = None; bytes = first_bytes; world = record { 0 = 0 }; instance_type = record { 0 = 0 } }) }
       ∷ record { generation = 0; «package» = Some (record { name = codes "two"; version = None; bytes = second_bytes; world = record { 0 = 1 }; instance_type = record { 0 = 1 } }) } ∷ [];
+  vacant = [];
 }
 
 -- ---- the items that mean it
@@ -220,8 +223,8 @@ twins_imports = no_imports twins (asked_none twins plain all) where
       (λ _ i small. of_second i small)
 
 -- the three instantiations, the last with the aliases as `x` and `y`
-twins_instances : AreInstantiations twins twins_at numbers (instantiations twins numbers) (meaning right).instantiations
-twins_instances = subst (λ ns. AreInstantiations twins twins_at numbers ns (meaning right).instantiations) (sym twins_instantiations) (
+twins_instances : AreInstantiations twins defining 0 twins_at numbers (instantiations twins numbers) (meaning right).instantiations
+twins_instances = subst (λ ns. AreInstantiations twins defining 0 twins_at numbers ns (meaning right).instantiations) (sym twins_instantiations) (
   record { node = instance_of_first; there = node_0; owner = first; owned = refl; place = 0; used = ap (λ ps. slice_get ps 0) twins_packages; component = refl; arguments = tt },
   (
     record { node = instance_of_first; there = node_1; owner = first; owned = refl; place = 0; used = ap (λ ps. slice_get ps 0) twins_packages; component = refl; arguments = tt },
@@ -279,22 +282,41 @@ twins_in_place i j n m less first_is second_is =
     omega (arith, less, a, b, place_before n early, place_behind m)
 
 -- what is exported is the two aliases
-twins_exports : map shown (meaning right).exports ≡ flat_map (export_of twins twins_at) twins.exports
-twins_exports = rw (node_2, node_3) refl
+-- no export is a definition's
+pub twins_further : further_exports twins ≡ twins.exports
+twins_further = rw (node_2, node_3) refl
+
+pub twins_first : (at : ℕ → Thing) → flat_map (first_export twins at) numbers ≡ []
+twins_first at = rw (node_0, node_1, node_2, node_3, node_4) refl
+
+twins_shown : map shown (meaning right).exports ≡ flat_map (export_of twins twins_at) twins.exports
+twins_shown = rw (node_2, node_3) refl
+
+twins_exports : map shown (meaning right).exports ≡ flat_map (first_export twins twins_at) numbers ++ flat_map (export_of twins twins_at) (further_exports twins)
+twins_exports =
+    twins_shown ∙ ap (flat_map (export_of twins twins_at)) (sym twins_further)
+    ∙ ap (λ xs. xs ++ flat_map (export_of twins twins_at) (further_exports twins)) (sym (twins_first twins_at))
 
 -- the exports come last
-twins_last : right ≡ body ++ flat_map (export_item_of twins twins_index) twins.exports
-twins_last = rw (node_2, node_3) refl
+twins_written : right ≡ body ++ flat_map (export_item_of twins twins_index) twins.exports
+twins_written = rw (node_2, node_3) refl
+
+twins_last : right ≡ body ++ flat_map (export_item_of twins twins_index) (further_exports twins) ++ map custom_item (meaning right).customs
+twins_last =
+    twins_written ∙ ap (λ es. body ++ flat_map (export_item_of twins twins_index) es) (sym twins_further)
+    ∙ sym (append-nil (body ++ flat_map (export_item_of twins twins_index) (further_exports twins)))
 
 -- the items mean the graph
-pub twins_mean : Means right twins
+pub twins_mean : Means right twins defining
 twins_mean = record {
   order = numbers;
   in_order = twins_in_order;
   at = twins_at;
   index = twins_index;
   meant = (tt, ((tt, tt), ((tt, tt), ((tt, tt), ((tt, tt), (tt, ((tt, (tt, (tt, tt))), ((refl, tt), ((refl, tt), tt)))))))));
-  imports = twins_imports;
+  classes = [];
+  outer = twins_imports;
+  imports = refl;
   components = ap (map (package_bytes twins)) (sym twins_packages);
   instances = twins_instances;
   things = twins_things;
@@ -303,7 +325,9 @@ twins_mean = record {
   place = twins_place;
   own_items = λ n node there _. twins_items n node there;
   in_place = twins_in_place;
+  names = [];
+  named = no_names twins twins_index (by_node (λ _ node. node.name ≡ None) refl refl refl refl refl);
+  customs = refl;
   body = body;
   last = twins_last;
-  customs = refl;
 }

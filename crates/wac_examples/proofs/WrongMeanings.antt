@@ -5,9 +5,10 @@ use Rattle.std.proofs.lemmas.Bool.Decides.{nat_tests}
 use Rattle.wac_shapes.specs.Name.{Name}
 use Rattle.wac_binary.specs.Items.{Item, nested, instantiate}
 use Rattle.wac_binary.specs.Meaning.{Instantiation, Thing, instance_at, projection}
-use Rattle.wac_graph.specs.Means.{Means}
+use Rattle.wac_meaning.specs.Means.{Means}
 use Rattle.wac_examples.proofs.TwinRows.{twins, first_bytes, second_bytes, alias_of, given_both, exported}
 use Rattle.wac_examples.proofs.TwinMeaning.{one_meaning}
+use Rattle.wac_examples.proofs.Rows.{defining}
 
 -- ---- what tells two meanings apart
 -- the instance whose export a thing is
@@ -40,61 +41,61 @@ abbrev shared : List Item
 shared = nested first_bytes ∷ instantiate 0 [] ∷ alias_of 0 (codes "a") ∷ alias_of 0 (codes "a") ∷ nested second_bytes ∷ given_both 1 0 1 ∷ exported (codes "p") 0 ∷ exported (codes "q") 1 ∷ []
 
 -- two instances that share one instantiation
-pub no_shared_instantiation : Means shared twins → ⊥
+pub no_shared_instantiation : Means shared twins defining → ⊥
 no_shared_instantiation means = two_numbers 2 3 refl (ap length (one_meaning shared means).instances)
 
 abbrev swapped : List Item
 swapped = nested first_bytes ∷ instantiate 0 [] ∷ instantiate 0 [] ∷ alias_of 0 (codes "a") ∷ alias_of 1 (codes "a") ∷ nested second_bytes ∷ given_both 1 1 0 ∷ exported (codes "p") 0 ∷ exported (codes "q") 1 ∷ []
 
 -- two arguments swapped
-pub no_swapped_arguments : Means swapped twins → ⊥
+pub no_swapped_arguments : Means swapped twins defining → ⊥
 no_swapped_arguments means = two_lists 1 0 (0 ∷ []) (1 ∷ []) refl (ap (flat_map givers) (one_meaning swapped means).instances)
 
 abbrev doubled : List Item
 doubled = nested first_bytes ∷ instantiate 0 [] ∷ nested first_bytes ∷ instantiate 1 [] ∷ alias_of 0 (codes "a") ∷ alias_of 1 (codes "a") ∷ nested second_bytes ∷ given_both 2 0 1 ∷ exported (codes "p") 0 ∷ exported (codes "q") 1 ∷ []
 
 -- a component written twice, once for each of its instances
-pub no_component_twice : Means doubled twins → ⊥
+pub no_component_twice : Means doubled twins defining → ⊥
 no_component_twice means = two_numbers 3 2 refl (ap length (one_meaning doubled means).components)
 
 abbrev permuted : List Item
 permuted = nested first_bytes ∷ instantiate 0 [] ∷ instantiate 0 [] ∷ alias_of 0 (codes "a") ∷ alias_of 1 (codes "a") ∷ nested second_bytes ∷ given_both 1 0 1 ∷ exported (codes "q") 1 ∷ exported (codes "p") 0 ∷ []
 
 -- exports in another order
-pub no_permuted_exports : Means permuted twins → ⊥
+pub no_permuted_exports : Means permuted twins defining → ⊥
 no_permuted_exports means = two_lists 113 112 (112 ∷ []) (113 ∷ []) refl (ap (flat_map (λ e. e.0)) (one_meaning permuted means).exports)
 
 abbrev renamed : List Item
 renamed = nested first_bytes ∷ instantiate 0 [] ∷ instantiate 0 [] ∷ alias_of 0 (codes "a") ∷ alias_of 1 (codes "a") ∷ nested second_bytes ∷ given_both 1 0 1 ∷ exported (codes "p") 1 ∷ exported (codes "q") 0 ∷ []
 
 -- exports under each other's names
-pub no_exports_under_other_names : Means renamed twins → ⊥
+pub no_exports_under_other_names : Means renamed twins defining → ⊥
 no_exports_under_other_names means = two_lists 1 0 (0 ∷ []) (1 ∷ []) refl (ap (map (λ e. instance_of e.2)) (one_meaning renamed means).exports)
 
 abbrev crossed : List Item
 crossed = nested first_bytes ∷ instantiate 0 [] ∷ instantiate 0 [] ∷ alias_of 1 (codes "a") ∷ alias_of 1 (codes "a") ∷ nested second_bytes ∷ given_both 1 0 1 ∷ exported (codes "p") 0 ∷ exported (codes "q") 1 ∷ []
 
 -- an alias of the other instance of the same package
-pub no_alias_of_the_other_instance : Means crossed twins → ⊥
+pub no_alias_of_the_other_instance : Means crossed twins defining → ⊥
 no_alias_of_the_other_instance means = two_lists 1 0 (1 ∷ []) (1 ∷ []) refl (ap (map (λ e. instance_of e.2)) (one_meaning crossed means).exports)
 
 abbrev mistaken : List Item
 mistaken = nested first_bytes ∷ instantiate 0 [] ∷ instantiate 0 [] ∷ alias_of 0 (codes "b") ∷ alias_of 1 (codes "a") ∷ nested second_bytes ∷ given_both 1 0 1 ∷ exported (codes "p") 0 ∷ exported (codes "q") 1 ∷ []
 
 -- an alias of another export of its instance
-pub no_alias_of_another_export : Means mistaken twins → ⊥
+pub no_alias_of_another_export : Means mistaken twins defining → ⊥
 no_alias_of_another_export means = two_lists 98 97 (97 ∷ []) (97 ∷ []) refl (ap (flat_map (λ e. export_of e.2)) (one_meaning mistaken means).exports)
 
 abbrev foreign : List Item
 foreign = nested second_bytes ∷ instantiate 0 [] ∷ instantiate 0 [] ∷ alias_of 0 (codes "a") ∷ alias_of 1 (codes "a") ∷ nested second_bytes ∷ given_both 1 0 1 ∷ exported (codes "p") 0 ∷ exported (codes "q") 1 ∷ []
 
 -- another package's bytes
-pub no_bytes_of_another_package : Means foreign twins → ⊥
+pub no_bytes_of_another_package : Means foreign twins defining → ⊥
 no_bytes_of_another_package means = two_lists 11 8 (11 ∷ []) (11 ∷ []) refl (ap (map length) (one_meaning foreign means).components)
 
 abbrev dangling : List Item
 dangling = nested first_bytes ∷ instantiate 0 [] ∷ instantiate 0 [] ∷ alias_of 0 (codes "a") ∷ alias_of 1 (codes "a") ∷ nested second_bytes ∷ given_both 1 0 1 ∷ alias_of 9 (codes "a") ∷ exported (codes "p") 0 ∷ exported (codes "q") 1 ∷ []
 
 -- an alias, which nothing uses, of an instance that is not there
-pub no_alias_of_nothing : Means dangling twins → ⊥
+pub no_alias_of_nothing : Means dangling twins defining → ⊥
 no_alias_of_nothing means = means.meant.1.1.1.1.1.1.1.0.0

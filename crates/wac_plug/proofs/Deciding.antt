@@ -9,10 +9,10 @@ use Rattle.wac_shapes.specs.declared.component.ItemKind.{ItemKind}
 use Rattle.wac_collection.specs.Collection.{Collection, interface_exports, world_imports}
 use Rattle.wac_collection.specs.Package.{PackageParts}
 use Rattle.wac_types.specs.Subtype.{IsSubtype}
-use Rattle.wac_graph.specs.declared.node.NodeId.{NodeId}
-use Rattle.wac_graph.specs.declared.packages.PackageId.{PackageId}
-use Rattle.wac_graph.specs.Graph.{Graph, node_at, package_at, IsAliasOf, IsSatisfied}
-use Rattle.wac_graph.specs.Steps.{instance_node, import_named}
+use Rattle.wac_nodes.specs.declared.node.NodeId.{NodeId}
+use Rattle.wac_nodes.specs.declared.packages.PackageId.{PackageId}
+use Rattle.wac_nodes.specs.Graph.{Graph, node_at, package_at, IsAliasOf, IsSatisfied}
+use Rattle.wac_nodes.specs.Steps.{instance_node, import_named}
 use Rattle.wac_plug.specs.declared.errors.PlugError.TheVariants.{OutOfMemory}
 use Rattle.wac_plug.specs.Matching.{Match}
 use Rattle.wac_plug.specs.Plugging.{Answer, InOrder, Wires}

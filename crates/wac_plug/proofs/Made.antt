@@ -2,12 +2,12 @@
 use Rattle.std.proofs.Common.{◌≡◌, refl, subst, Ok, Err, IsSome, inl, inr}
 use Rattle.std.specs.Prelude.{IsErrAnd}
 use Rattle.wac_shapes.specs.Name.{Name}
-use Rattle.wac_graph.specs.declared.errors.AliasError.TheVariants as alias_error
-use Rattle.wac_graph.specs.declared.errors.ExportError.{ExportError}
-use Rattle.wac_graph.specs.declared.errors.InstantiationArgumentError.{InstantiationArgumentError}
-use Rattle.wac_graph.specs.declared.node.NodeId.{NodeId}
-use Rattle.wac_graph.specs.Graph.{Graph, node_at}
-use Rattle.wac_graph.specs.Steps.{Aliases, SetsArgument, Exports}
+use Rattle.wac_nodes.specs.declared.errors.AliasError.TheVariants as alias_error
+use Rattle.wac_nodes.specs.declared.errors.ExportError.{ExportError}
+use Rattle.wac_nodes.specs.declared.errors.InstantiationArgumentError.{InstantiationArgumentError}
+use Rattle.wac_nodes.specs.declared.node.NodeId.{NodeId}
+use Rattle.wac_nodes.specs.Graph.{Graph, node_at}
+use Rattle.wac_nodes.specs.Steps.{Aliases, SetsArgument, Exports}
 use Rattle.wac_plug.specs.Matching.{Match}
 use Rattle.wac_plug.specs.Plugging.{Answer, Wires, PassesOn, Keeps}
 use Rattle.wac_plug.specs.declared.errors.PlugError.TheVariants.{OutOfMemory}

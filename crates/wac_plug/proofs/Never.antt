@@ -4,11 +4,11 @@ use Rattle.std.specs.List.{AllByRecursion}
 use Rattle.wac_shapes.specs.Named.{named_at, names_of}
 use Rattle.wac_collection.specs.Collection.{Collection, interface_exports}
 use Rattle.wac_collection.specs.Package.{PackageParts}
-use Rattle.wac_graph.specs.declared.errors.AliasError.{AliasError}
-use Rattle.wac_graph.specs.declared.packages.PackageId.{PackageId}
-use Rattle.wac_graph.specs.Graph.{Graph, package_at}
-use Rattle.wac_graph.specs.Steps.{instance_node}
-use Rattle.wac_graph.specs.Sound.{IsSound}
+use Rattle.wac_nodes.specs.declared.errors.AliasError.{AliasError}
+use Rattle.wac_nodes.specs.declared.packages.PackageId.{PackageId}
+use Rattle.wac_nodes.specs.Graph.{Graph, package_at}
+use Rattle.wac_nodes.specs.Steps.{instance_node}
+use Rattle.wac_nodes.specs.Sound.{IsSound}
 use Rattle.wac_plug.specs.declared.errors.PlugError.TheVariants.{GraphError, NoPlugHappened, OutOfMemory}
 use Rattle.wac_plug.specs.declared.errors.PlugFault.TheVariants.{Alias}
 use Rattle.wac_plug.specs.Matching.{Match, AreAllMatches, exports_of_package}

@@ -7,10 +7,10 @@ use Rattle.std.specs.Option.{option_map}
 use Rattle.wac_shapes.specs.Name.{Name}
 use Rattle.wac_shapes.specs.Named.{names_of}
 use Rattle.wac_shapes.proofs.Loops.{drop_at}
-use Rattle.wac_graph.specs.declared.node.NodeId.{NodeId}
-use Rattle.wac_graph.specs.declared.packages.PackageId.{PackageId}
-use Rattle.wac_graph.specs.Graph.{Graph}
-use Rattle.wac_graph.specs.Steps.{Instantiates}
+use Rattle.wac_nodes.specs.declared.node.NodeId.{NodeId}
+use Rattle.wac_nodes.specs.declared.packages.PackageId.{PackageId}
+use Rattle.wac_nodes.specs.Graph.{Graph}
+use Rattle.wac_nodes.specs.Steps.{Instantiates}
 use Rattle.wac_plug.specs.declared.errors.PlugError.{PlugError}
 use Rattle.wac_plug.specs.Matching.{Match}
 use Rattle.wac_plug.specs.Plugging.{Answer, InOrder, Wires, PlugsIn, has_any}

@@ -11,13 +11,13 @@ use Rattle.wac_shapes.specs.declared.component.InterfaceId.{InterfaceId}
 use Rattle.wac_shapes.specs.declared.component.ItemKind.{ItemKind}
 use Rattle.wac_shapes.specs.declared.component.ItemKind.TheVariants.{Instance}
 use Rattle.wac_collection.specs.Collection.{Collection, interface_exports}
-use Rattle.wac_graph.specs.declared.errors.AliasError.{AliasError}
-use Rattle.wac_graph.specs.declared.errors.AliasError.TheVariants as alias_error
-use Rattle.wac_graph.specs.declared.errors.ExportError.{ExportError}
-use Rattle.wac_graph.specs.declared.errors.ExportError.TheVariants as export_error
-use Rattle.wac_graph.specs.declared.node.NodeId.{NodeId}
-use Rattle.wac_graph.specs.Graph.{Graph, GraphNode, node_at, interface_of, exports_of}
-use Rattle.wac_graph.specs.Steps.{Aliases, AliasesOf, GivesAlias, alias_node, export_named, Exports}
+use Rattle.wac_nodes.specs.declared.errors.AliasError.{AliasError}
+use Rattle.wac_nodes.specs.declared.errors.AliasError.TheVariants as alias_error
+use Rattle.wac_nodes.specs.declared.errors.ExportError.{ExportError}
+use Rattle.wac_nodes.specs.declared.errors.ExportError.TheVariants as export_error
+use Rattle.wac_nodes.specs.declared.node.NodeId.{NodeId}
+use Rattle.wac_nodes.specs.Graph.{Graph, GraphNode, node_at, interface_of, exports_of}
+use Rattle.wac_nodes.specs.Steps.{Aliases, AliasesOf, GivesAlias, alias_node, export_named, Exports}
 use Rattle.wac_plug.specs.declared.errors.PlugError.{PlugError}
 use Rattle.wac_plug.specs.declared.errors.PlugError.TheVariants.{GraphError}
 use Rattle.wac_plug.specs.declared.errors.PlugFault.TheVariants.{Alias}

@@ -10,16 +10,16 @@ use Rattle.wac_collection.specs.Collection.{Collection, interface_exports, world
 use Rattle.wac_collection.specs.Package.{PackageParts, HoldsPackage}
 use Rattle.wac_edges.specs.declared.edges.Edge.{Edge}
 use Rattle.wac_edges.specs.Edge.{alias_edge, argument_edge}
-use Rattle.wac_graph.specs.declared.node.NodeId.{NodeId}
-use Rattle.wac_graph.specs.declared.packages.PackageId.{PackageId}
-use Rattle.wac_graph.specs.Graph.{Graph, node_at, package_at}
-use Rattle.wac_graph.specs.Sound.{IsSound}
-use Rattle.wac_graph.specs.Steps.{AddsNode, Instantiates, instance_node}
-use Rattle.wac_graph.specs.declared.errors.AliasError.{AliasError}
-use Rattle.wac_graph.specs.declared.errors.AliasError.TheVariants as alias_error
-use Rattle.wac_graph.specs.declared.errors.ExportError.{ExportError}
-use Rattle.wac_graph.specs.declared.errors.ExportError.TheVariants as export_error
-use Rattle.wac_graph.specs.declared.errors.InstantiationArgumentError.{InstantiationArgumentError}
+use Rattle.wac_nodes.specs.declared.node.NodeId.{NodeId}
+use Rattle.wac_nodes.specs.declared.packages.PackageId.{PackageId}
+use Rattle.wac_nodes.specs.Graph.{Graph, node_at, package_at}
+use Rattle.wac_nodes.specs.Sound.{IsSound}
+use Rattle.wac_nodes.specs.Steps.{AddsNode, Instantiates, instance_node}
+use Rattle.wac_nodes.specs.declared.errors.AliasError.{AliasError}
+use Rattle.wac_nodes.specs.declared.errors.AliasError.TheVariants as alias_error
+use Rattle.wac_nodes.specs.declared.errors.ExportError.{ExportError}
+use Rattle.wac_nodes.specs.declared.errors.ExportError.TheVariants as export_error
+use Rattle.wac_nodes.specs.declared.errors.InstantiationArgumentError.{InstantiationArgumentError}
 use Rattle.wac_plug.specs.declared.errors.PlugError.{PlugError}
 use Rattle.wac_plug.specs.declared.errors.PlugError.TheVariants.{GraphError, NoPlugHappened, OutOfMemory}
 use Rattle.wac_plug.specs.declared.errors.PlugFault.TheVariants.{Argument}

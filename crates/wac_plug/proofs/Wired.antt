@@ -15,13 +15,13 @@ use Rattle.wac_edges.specs.declared.edges.Edge.{Edge}
 use Rattle.wac_edges.specs.declared.edges.Label.TheVariants.{Alias, Argument}
 use Rattle.wac_edges.specs.Edge.{edge_cmp, alias_edge, argument_edge}
 use Rattle.wac_edges.proofs.EdgeLemmas.{edge_cmp_total, exact_edges}
-use Rattle.wac_graph.specs.declared.errors.AliasError.{AliasError}
-use Rattle.wac_graph.specs.declared.errors.AliasError.TheVariants as alias_error
-use Rattle.wac_graph.specs.declared.errors.InstantiationArgumentError.{InstantiationArgumentError}
-use Rattle.wac_graph.specs.declared.errors.InstantiationArgumentError.TheVariants as argument_error
-use Rattle.wac_graph.specs.declared.node.NodeId.{NodeId}
-use Rattle.wac_graph.specs.Graph.{Graph, GraphNode, node_at, interface_of, instantiation, IsAliasOf, IsArgumentOf, IsSatisfied, IsUnsatisfied}
-use Rattle.wac_graph.specs.Steps.{Aliases, AliasesOf, GivesAlias, alias_node, export_named, SetsArgument, SetsOn, GivesArgument, import_named}
+use Rattle.wac_nodes.specs.declared.errors.AliasError.{AliasError}
+use Rattle.wac_nodes.specs.declared.errors.AliasError.TheVariants as alias_error
+use Rattle.wac_nodes.specs.declared.errors.InstantiationArgumentError.{InstantiationArgumentError}
+use Rattle.wac_nodes.specs.declared.errors.InstantiationArgumentError.TheVariants as argument_error
+use Rattle.wac_nodes.specs.declared.node.NodeId.{NodeId}
+use Rattle.wac_nodes.specs.Graph.{Graph, GraphNode, node_at, interface_of, instantiation, IsAliasOf, IsArgumentOf, IsSatisfied, IsUnsatisfied}
+use Rattle.wac_nodes.specs.Steps.{Aliases, AliasesOf, GivesAlias, alias_node, export_named, SetsArgument, SetsOn, GivesArgument, import_named}
 use Rattle.wac_plug.specs.declared.errors.PlugError.TheVariants.{OutOfMemory}
 use Rattle.wac_plug.specs.Matching.{Match}
 use Rattle.wac_plug.specs.Plugging.{Answer, answered, Wires}

@@ -10,9 +10,9 @@ use Rattle.wac_collection.specs.Collection.{Collection, IsWellFormed, holds_type
 use Rattle.wac_collection.specs.declared.collection.Held.{Held}
 use Rattle.wac_shapes.specs.declared.component.WorldId.{WorldId}
 use Rattle.wac_collection.specs.Package.{PackageParts}
-use Rattle.wac_graph.specs.declared.packages.PackageId.{PackageId}
-use Rattle.wac_graph.specs.Graph.{Graph, package_at}
-use Rattle.wac_graph.specs.Sound.{IsSound}
+use Rattle.wac_nodes.specs.declared.packages.PackageId.{PackageId}
+use Rattle.wac_nodes.specs.Graph.{Graph, package_at}
+use Rattle.wac_nodes.specs.Sound.{IsSound}
 use Rattle.wac_collection.proofs.Growth.{all_within}
 use Rattle.wac_collection.proofs.Mentioned.{all_append}
 

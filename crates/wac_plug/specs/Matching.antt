@@ -5,8 +5,8 @@ use Rattle.wac_shapes.specs.Name.{Name, find_name, option_case}
 use Rattle.wac_shapes.specs.declared.component.ItemKind.{ItemKind}
 use Rattle.wac_collection.specs.Collection.{Collection, world_imports, world_exports}
 use Rattle.wac_types.specs.Subtype.{IsSubtype}
-use Rattle.wac_graph.specs.declared.packages.PackageId.{PackageId}
-use Rattle.wac_graph.specs.Graph.{Graph, package_at}
+use Rattle.wac_nodes.specs.declared.packages.PackageId.{PackageId}
+use Rattle.wac_nodes.specs.Graph.{Graph, package_at}
 
 -- an export of a plug and the import of the socket that it goes to, by their names
 pub record Match : Type 0 where

@@ -1,10 +1,10 @@
 -- What plugging adds, with what is known of the names in worlds. Private functions alone cite this.
 use Rattle.std.specs.Prelude.{◌≡◌, ◌⊎◌, List, Ok, Err, IsErr}
 use Rattle.wac_shapes.specs.Named.{names_of, NoNameTwice}
-use Rattle.wac_graph.specs.declared.node.NodeId.{NodeId}
-use Rattle.wac_graph.specs.declared.packages.PackageId.{PackageId}
-use Rattle.wac_graph.specs.Graph.{Graph}
-use Rattle.wac_graph.specs.Steps.{Instantiates}
+use Rattle.wac_nodes.specs.declared.node.NodeId.{NodeId}
+use Rattle.wac_nodes.specs.declared.packages.PackageId.{PackageId}
+use Rattle.wac_nodes.specs.Graph.{Graph}
+use Rattle.wac_nodes.specs.Steps.{Instantiates}
 use Rattle.wac_plug.specs.declared.errors.PlugError.TheVariants.{OutOfMemory}
 use Rattle.wac_plug.specs.Matching.{Match, AreMatchesOf, AreAllMatches, imports_of_package, exports_of_package}
 use Rattle.wac_plug.specs.Plugging.{Answer, InOrder, PlugsIn, Ends}

@@ -1,7 +1,7 @@
 -- When `plug` is refused, by the matches.
 use Rattle.std.specs.Prelude.{◌≡◌, ◌⊎◌, List, [], ◌∷◌, Err}
 use Rattle.wac_shapes.specs.Name.{Name}
-use Rattle.wac_graph.specs.declared.errors.InstantiationArgumentError.TheVariants.{ArgumentAlreadyPassed}
+use Rattle.wac_nodes.specs.declared.errors.InstantiationArgumentError.TheVariants.{ArgumentAlreadyPassed}
 use Rattle.wac_plug.specs.declared.errors.PlugError.TheVariants.{GraphError}
 use Rattle.wac_plug.specs.declared.errors.PlugFault.TheVariants.{Argument}
 use Rattle.wac_plug.specs.Matching.{Match}

@@ -2,13 +2,13 @@
 use Rattle.std.specs.Prelude.{◌≡◌, ◌⊎◌, Bool, true, false, List, [], ◌∷◌, Result, Ok, Err, IsErr, IsSome}
 use Rattle.wac_shapes.specs.Name.{Name}
 use Rattle.wac_shapes.specs.Named.{names_of}
-use Rattle.wac_graph.specs.declared.errors.AliasError.{AliasError}
-use Rattle.wac_graph.specs.declared.errors.ExportError.{ExportError}
-use Rattle.wac_graph.specs.declared.errors.InstantiationArgumentError.{InstantiationArgumentError}
-use Rattle.wac_graph.specs.declared.node.NodeId.{NodeId}
-use Rattle.wac_graph.specs.declared.packages.PackageId.{PackageId}
-use Rattle.wac_graph.specs.Graph.{Graph, node_at}
-use Rattle.wac_graph.specs.Steps.{Instantiates, Aliases, SetsArgument, Exports}
+use Rattle.wac_nodes.specs.declared.errors.AliasError.{AliasError}
+use Rattle.wac_nodes.specs.declared.errors.ExportError.{ExportError}
+use Rattle.wac_nodes.specs.declared.errors.InstantiationArgumentError.{InstantiationArgumentError}
+use Rattle.wac_nodes.specs.declared.node.NodeId.{NodeId}
+use Rattle.wac_nodes.specs.declared.packages.PackageId.{PackageId}
+use Rattle.wac_nodes.specs.Graph.{Graph, node_at}
+use Rattle.wac_nodes.specs.Steps.{Instantiates, Aliases, SetsArgument, Exports}
 use Rattle.wac_plug.specs.declared.errors.PlugError.{PlugError}
 use Rattle.wac_plug.specs.declared.errors.PlugError.TheVariants.{NoPlugHappened, OutOfMemory}
 use Rattle.wac_plug.specs.Matching.{Match, AreMatchesOf, AreAllMatches, exports_of_package}

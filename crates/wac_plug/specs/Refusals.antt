@@ -1,10 +1,10 @@
 -- A refused call on the graph as what `plug` answers: the refusal itself, but for want of memory.
-use Rattle.wac_graph.specs.declared.errors.AliasError.{AliasError}
-use Rattle.wac_graph.specs.declared.errors.AliasError.TheVariants as alias_error
-use Rattle.wac_graph.specs.declared.errors.ExportError.{ExportError}
-use Rattle.wac_graph.specs.declared.errors.ExportError.TheVariants as export_error
-use Rattle.wac_graph.specs.declared.errors.InstantiationArgumentError.{InstantiationArgumentError}
-use Rattle.wac_graph.specs.declared.errors.InstantiationArgumentError.TheVariants as argument_error
+use Rattle.wac_nodes.specs.declared.errors.AliasError.{AliasError}
+use Rattle.wac_nodes.specs.declared.errors.AliasError.TheVariants as alias_error
+use Rattle.wac_nodes.specs.declared.errors.ExportError.{ExportError}
+use Rattle.wac_nodes.specs.declared.errors.ExportError.TheVariants as export_error
+use Rattle.wac_nodes.specs.declared.errors.InstantiationArgumentError.{InstantiationArgumentError}
+use Rattle.wac_nodes.specs.declared.errors.InstantiationArgumentError.TheVariants as argument_error
 use Rattle.wac_plug.specs.declared.errors.PlugError.{PlugError}
 use Rattle.wac_plug.specs.declared.errors.PlugError.TheVariants.{GraphError, OutOfMemory}
 use Rattle.wac_plug.specs.declared.errors.PlugFault.TheVariants.{Alias, Argument, Export}

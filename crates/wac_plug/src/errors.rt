@@ -3,7 +3,7 @@ ghost use Rattle.std.specs.Prelude.{◌≡◌};
 
 use std::alloc::{AllocError, AllocFailed};
 use thiserror::Error;
-use wac_graph::{AliasError, ExportError, InstantiationArgumentError};
+use wac_nodes::{AliasError, ExportError, InstantiationArgumentError};
 
 /// The call on the graph that was refused while components were plugged together, with its refusal.
 #[derive(Debug, Drop, Error)]

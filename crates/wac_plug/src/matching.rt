@@ -11,8 +11,8 @@ ghost use Rattle.wac_plug.specs.Tracks.{track_key, PutsFirst, AreFirsts};
 
 use std::alloc::{AllocError, Global};
 use std::marker::Model;
-use wac_graph::types::{ItemKind, Named, ShapeError, SubtypeChecker, TypeFault, Types, WorldId};
 use wac_names::Track;
+use wac_types::{ItemKind, Named, ShapeError, SubtypeChecker, TypeFault, Types, WorldId};
 
 /// An export of a plug, and the import of the socket that it goes to.
 #[derive(Drop)]

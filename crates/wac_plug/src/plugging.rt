@@ -1,9 +1,9 @@
 //! The call that plugs components together.
 ghost use Rattle.std.specs.Prelude.{◌≡◌, ◌⊎◌, ℕ, List, [], Some, IsSome, IfOk, IfErr, OnOk, slice_get, Ok, Err};
-ghost use Rattle.wac_graph.specs.Graph.{node_at, package_at};
-ghost use Rattle.wac_graph.specs.declared.errors.AliasError.{AliasError as AnAliasFault};
-ghost use Rattle.wac_graph.specs.declared.errors.InstantiationArgumentError.{InstantiationArgumentError as AFault};
-ghost use Rattle.wac_graph.specs.declared.packages.PackageId.{PackageId as AnId};
+ghost use Rattle.wac_nodes.specs.Graph.{node_at, package_at};
+ghost use Rattle.wac_nodes.specs.declared.errors.AliasError.{AliasError as AnAliasFault};
+ghost use Rattle.wac_nodes.specs.declared.errors.InstantiationArgumentError.{InstantiationArgumentError as AFault};
+ghost use Rattle.wac_nodes.specs.declared.packages.PackageId.{PackageId as AnId};
 ghost use Rattle.wac_shapes.specs.Named.{NoNameTwice};
 ghost use Rattle.wac_plug.specs.Matching.{Match, AreMatchesOf, AreAllMatches, imports_of_package, exports_of_package};
 ghost use Rattle.wac_plug.specs.Naming.{PlugsNamed, PlugsAllNamed};
@@ -15,8 +15,9 @@ use crate::errors::{PlugError, PlugFault};
 use crate::matching::{find_matches, first_on_tracks};
 use crate::wiring::{pass_on_all, plug_in};
 use std::alloc::AllocError;
-use wac_graph::types::Named;
-use wac_graph::{CompositionGraph, NodeId, PackageId};
+use wac_composition::CompositionGraph;
+use wac_nodes::{NodeId, PackageId};
+use wac_types::Named;
 
 /// Finds the matches of a plug, and plugs it in by them. Answers whether there are any.
 fn plug_one(

@@ -3,13 +3,14 @@ ghost use Rattle.std.specs.Prelude.{◌≡◌, true, IsSome, OnOk};
 ghost use Rattle.wac_collection.specs.Collection.{holds_type, world_exports};
 ghost use Rattle.wac_shapes.specs.Named.{names_of};
 ghost use Rattle.wac_shapes.specs.declared.component.«Type».TheVariants.{World as world_type};
-ghost use Rattle.wac_graph.specs.Graph.{node_at, package_at};
+ghost use Rattle.wac_nodes.specs.Graph.{node_at, package_at};
 ghost use Rattle.wac_plug.specs.Plugging.{InOrder, Wires, PlugsIn, PassesOn, Keeps};
 
 use crate::errors::PlugError;
 use crate::matching::Match;
-use wac_graph::types::WorldId;
-use wac_graph::{CompositionGraph, NodeId, PackageId};
+use wac_composition::CompositionGraph;
+use wac_nodes::{NodeId, PackageId};
+use wac_types::WorldId;
 
 /// Gives the export of a plug's node to the socket's node: its alias becomes the argument for the import.
 fn wire(

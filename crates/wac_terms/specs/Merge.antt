@@ -1,10 +1,10 @@
 -- What a finished merge holds.
-use Rattle.std.specs.Prelude.{ℕ, suc, ◌≡◌, ◌==◌, Bool, false, if◌then◌else◌, List, [], ◌∷◌, ◌++◌, map, length, Option, Some, None, IsSome, slice_get, Contains}
+use Rattle.std.specs.Prelude.{ℕ, suc, ◌≡◌, ◌==◌, Bool, false, if◌then◌else◌, List, [], ◌∷◌, ◌++◌, map, length, Option, Some, None, slice_get}
 use Rattle.std.specs.List.{AllByRecursion, list_any}
 use Rattle.wac_shapes.specs.Name.{Name, same_name, find_name, option_case}
-use Rattle.wac_collection.specs.Tree.{imported, position, named}
+use Rattle.wac_collection.specs.Tree.{imported, position}
 use Rattle.wac_collection.specs.Collection.{Collection, item_at, interface_exports}
-use Rattle.wac_collection.specs.Bound.{held_item, is_alias, own_name}
+use Rattle.wac_collection.specs.Bound.{held_item, is_alias}
 use Rattle.wac_shapes.specs.declared.component.Interface.{Interface}
 use Rattle.wac_shapes.specs.declared.component.InterfaceId.{InterfaceId}
 use Rattle.wac_shapes.specs.declared.component.ResourceId.{ResourceId}
@@ -13,7 +13,7 @@ use Rattle.wac_shapes.specs.declared.component.ItemKind.TheVariants as kind
 use Rattle.wac_shapes.specs.declared.component.«Type».TheVariants as ty
 use Rattle.wac_types.specs.Subtype.{IsSubtype}
 use Rattle.wac_entries.specs.Classes.{Entry, NameRules, same_track, members, class_names, canonical}
-use Rattle.wac_entries.specs.Binding.{class_binds, root_bindings}
+use Rattle.wac_entries.specs.Binding.{root_bindings}
 use Rattle.wac_terms.specs.Union.{merged}
 use Rattle.wac_terms.specs.ClassOrder.{IsWrittenOrder}
 
@@ -103,28 +103,12 @@ abbrev pub listed_resource : Collection → ItemKind → Option ResourceId
 listed_resource m (kind.TypeItem (ty.Resource q)) = if is_alias m q then None else Some q
 listed_resource m k = None
 
--- the resource that an item binds under a name: its own of that name, where it is an instance whose interface has this id
+-- the own resource that an item lists under a name, where it is an instance whose interface has this id
 abbrev pub own_resource : Collection → Name → Name → ItemKind → Option ResourceId
 own_resource c id n (kind.Instance i) = option_case (item_at c.interfaces i.0) None (λ it. option_case it.id None (λ text.
     if same_name id text then option_case (find_name it.exports n) None (listed_resource c) else None))
 own_resource c id n k = None
 
--- the resource that the import of an id binds under a name
+-- the own resource that the import of an id lists under a name
 abbrev pub bound_resource : Merged → Name → Name → Option ResourceId
 bound_resource m id n = option_case (import_under m.imports id) None (own_resource m.types id n)
-
--- an entry is an instance whose interface lists a resource as its own, under a name
-pub record ListsOwn (c : Collection) (n : Name) (e : Entry) : Type 0 where
-  pub interface : InterfaceId
-  pub is : e.kind ≡ kind.Instance interface
-  pub held : Interface
-  pub there : item_at c.interfaces interface.0 ≡ Some held
-  pub resource : ResourceId
-  pub own : own_name c held.uses held.exports resource ≡ Some n
-
--- The import of a class binds a resource under each name under which the class binds one, and under none under which no member lists an own resource.
-pub record AreBound (rules : NameRules) (c : Collection) (es : List Entry) (m : Merged) : Type 0 where
-  pub binds : (k : ℕ) (class n : Name) (r : ResourceId) → slice_get (class_names rules es) k ≡ Some class → class_binds rules c es class r ≡ Some (named n ∷ [])
-      → IsSome (bound_resource m (canonical rules es class) n)
-  pub listed : (k : ℕ) (class n : Name) (q : ResourceId) → slice_get (class_names rules es) k ≡ Some class → bound_resource m (canonical rules es class) n ≡ Some q
-      → (e : Entry) × Contains (members rules es class) e × ListsOwn c n e

@@ -1,6 +1,12 @@
-//! The set of edges beside a plain list.
+//! The set of edges beside a plain list, and the lowest number on a cycle of steps.
+ghost use Rattle.std.specs.Prelude.{OnOk};
+ghost use Rattle.wac_edges.specs.Cycles.{AreWithin};
+
+use std::alloc::{AllocError, Global};
+use std::collections::BTreeSet;
 use std::process::Abort;
 use std::test::Fail;
+use wac_edges::cycles::{add_step, empty_sets, lowest_on_cycle};
 use wac_edges::edges::{Edge, Edges, End, Label};
 
 /// An edge between four nodes.
@@ -66,5 +72,91 @@ fn adds_and_removes(rt: HostRuntime) -> Result<(), Fail> {
         change(&rt, &mut edges, &mut list, number / 8589934592)?;
     }
     assert!(rt; !list.is_empty());
+    Ok(())
+}
+
+/// Adds a step between numbers that have sets.
+fn add(targets: &mut [BTreeSet<usize>], from: usize, to: usize) -> Result<(), AllocError>
+    requires { AreWithin targets.old }
+    ensures { OnOk result (AreWithin targets.new) }
+{
+    if from < targets.len() && to < targets.len() {
+        return add_step(targets, from, to);
+    }
+    Ok(())
+}
+
+/// The lowest number on a cycle of these steps between so many numbers.
+fn lowest(
+    alloc: Global,
+    count: usize,
+    steps: &[(usize, usize)],
+) -> Result<Option<usize>, AllocError> {
+    let mut targets = empty_sets(alloc, count)?;
+    for step in steps {
+        add(&mut targets, step.0, step.1)?;
+    }
+    lowest_on_cycle(alloc, targets.as_slice())
+}
+
+#[test]
+fn finds_the_lowest_on_a_cycle(rt: HostRuntime) -> Result<(), Fail> {
+    let alloc = rt.alloc();
+    assert_eq!(rt; lowest(alloc, 3, &[])?, None);
+    assert_eq!(rt; lowest(alloc, 3, &[(0, 1), (0, 2), (1, 2)])?, None);
+    assert_eq!(rt; lowest(alloc, 3, &[(2, 2), (1, 0)])?, Some(2));
+    // 0 is fed by a cycle of 1 and 2, or leads to it, or both.
+    assert_eq!(rt; lowest(alloc, 3, &[(1, 2), (2, 1), (1, 0)])?, Some(1));
+    assert_eq!(rt; lowest(alloc, 3, &[(1, 2), (2, 1), (0, 2)])?, Some(1));
+    assert_eq!(rt;
+        lowest(alloc, 3, &[(1, 2), (2, 1), (0, 1), (2, 0)])?,
+        Some(0)
+    );
+    // Between two cycles; and two cycles that share a number.
+    assert_eq!(rt;
+        lowest(alloc, 5, &[(3, 4), (4, 3), (3, 0), (0, 1), (1, 2), (2, 1)])?,
+        Some(1)
+    );
+    assert_eq!(rt;
+        lowest(alloc, 5, &[(4, 3), (3, 4), (3, 1), (1, 3), (2, 1), (1, 0)])?,
+        Some(1)
+    );
+    Ok(())
+}
+
+/// A step from each number to the next, so many from this one on.
+fn chain(alloc: Global, first: usize, count: usize) -> Result<Vec<(usize, usize)>, AllocError> {
+    let mut steps = Vec::new(alloc);
+    for n in first..first.saturating_add(count) {
+        steps.push((n, n.saturating_add(1)))?;
+    }
+    Ok(steps)
+}
+
+/// Steps between 100,000 numbers: the lower half lead up, the upper half are cycles of four, each of which leads to the next.
+fn cycles_above(alloc: Global) -> Result<Vec<(usize, usize)>, AllocError> {
+    let mut steps = chain(alloc, 0, 99_999)?;
+    for n in 0..50_000 {
+        steps.push((n, n * 2 + 1))?;
+    }
+    for n in 12_500..25_000 {
+        steps.push((n * 4 + 3, n * 4))?;
+    }
+    Ok(steps)
+}
+
+#[test]
+fn takes_no_walk_from_each_number(rt: HostRuntime) -> Result<(), Fail> {
+    let alloc = rt.alloc();
+    let mut ring = chain(alloc, 0, 99_999)?;
+    assert_eq!(rt; lowest(alloc, 100_000, ring.as_slice())?, None);
+    ring.push((99_999, 0))?;
+    assert_eq!(rt; lowest(alloc, 100_000, ring.as_slice())?, Some(0));
+    // All others lead to a cycle of the last two.
+    let mut tail = chain(alloc, 0, 99_999)?;
+    tail.push((99_999, 99_998))?;
+    assert_eq!(rt; lowest(alloc, 100_000, tail.as_slice())?, Some(99_998));
+    let above = cycles_above(alloc)?;
+    assert_eq!(rt; lowest(alloc, 100_000, above.as_slice())?, Some(50_000));
     Ok(())
 }

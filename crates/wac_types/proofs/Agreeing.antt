@@ -4,7 +4,7 @@ use Rattle.std.specs.Result.{IsErrAnd}
 use Rattle.std.specs.Option.{option_map}
 use Rattle.std.specs.List.{AllByRecursion}
 use Rattle.wac_shapes.specs.Name.{Name}
-use Rattle.wac_types.specs.declared.questions.Question.{Question}
+use Rattle.wac_types.specs.declared.questions.Asked.{Asked}
 use Rattle.wac_shapes.specs.declared.component.ValueType.{ValueType}
 use Rattle.wac_shapes.specs.declared.component.«Type».{«Type» as AnyType}
 use Rattle.wac_shapes.specs.declared.component.«Type».TheVariants as ty
@@ -13,7 +13,7 @@ use Rattle.wac_collection.specs.Collection.{Collection, seconds, and_maybe, case
 use Rattle.wac_shapes.specs.Kinds.{kind_type}
 use Rattle.wac_types.specs.Compare.{entry_in, case_in}
 use Rattle.wac_types.proofs.Below.{AgreeBelow}
-use Rattle.wac_types.specs.Questions.{Asks}
+use Rattle.wac_types.specs.Settling.{Asks}
 use Rattle.wac_types.proofs.Values.{asks_now, asks_iff, asks_then}
 
 pub same_some : {A : Type 0} (a b : A) → Some a ≡ Some b → a ≡ b
@@ -106,11 +106,11 @@ module _ (P : AnyType → Type 0) where
   case_among (w ∷ es) (suc i) n v e h = case_among es i n v e (maybe_rest w.1 (case_values es) h)
 
 module _ {t : Bool} {x y : Collection} {ps qs : List AnyType} where
-  pub agree_none : {A : Type 0} (xs ys : List A) {o : List Question} → Asks t x y ps qs o o (AgreeBelow 0 xs ys)
+  pub agree_none : {A : Type 0} (xs ys : List A) {o : Asked} → Asks t x y ps qs o o (AgreeBelow 0 xs ys)
   agree_none xs ys = asks_now (λ k lt. absurd (omega (arith, lt)))
 
   -- one position more
-  pub agree_more : {A : Type 0} (i : ℕ) (xs ys : List A) (a b : A) {o l k : List Question} → slice_get xs i ≡ Some a → slice_get ys i ≡ Some b
+  pub agree_more : {A : Type 0} (i : ℕ) (xs ys : List A) (a b : A) {o l k : Asked} → slice_get xs i ≡ Some a → slice_get ys i ≡ Some b
       → Asks t x y ps qs o l (AgreeBelow i xs ys) → Asks t x y ps qs l k (a ≡ b) → Asks t x y ps qs o k (AgreeBelow (i + 1) xs ys)
   agree_more i xs ys a b sa sb s r = asks_iff
       (λ e. below_more _ _ e.0 (sa ∙ ap Some e.1 ∙ sym sb))
@@ -118,12 +118,12 @@ module _ {t : Bool} {x y : Collection} {ps qs : List AnyType} where
       (asks_then s r)
 
   -- all of them
-  pub agree_maps : {A B C : Type 0} (f : A → C) (g : B → C) (i : ℕ) (xs : List A) (ys : List B) {o k : List Question} → length xs ≡ length ys → length xs ≤ i
+  pub agree_maps : {A B C : Type 0} (f : A → C) (g : B → C) (i : ℕ) (xs : List A) (ys : List B) {o k : Asked} → length xs ≡ length ys → length xs ≤ i
       → Asks t x y ps qs o k (AgreeBelow i (map f xs) (map g ys)) → Asks t x y ps qs o k (map f xs ≡ map g ys)
   agree_maps f g i xs ys e le s = asks_iff (maps_agree f g i xs ys e le) (maps_below i (map f xs) (map g ys)) s
 
   -- under the same name
-  pub under_name : {A : Type 0} (m n : Name) (a b : A) {o k : List Question} → m ≡ n → Asks t x y ps qs o k (a ≡ b) → Asks t x y ps qs o k (let u : Name × A = (m, a) in u ≡ (n, b))
+  pub under_name : {A : Type 0} (m n : Name) (a b : A) {o k : Asked} → m ≡ n → Asks t x y ps qs o k (a ≡ b) → Asks t x y ps qs o k (let u : Name × A = (m, a) in u ≡ (n, b))
   under_name m n a b e s = asks_iff (λ p i. (e i, p i)) (λ p. ap (λ u. u.1) p) s
 
 pub differ_at : {A : Type 0} (i : ℕ) (xs ys : List A) (a b : A) → slice_get xs i ≡ Some a → slice_get ys i ≡ Some b → (a ≡ b → ⊥) → xs ≡ ys → ⊥

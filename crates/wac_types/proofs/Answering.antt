@@ -1,7 +1,7 @@
 -- What the answers for two value types rest on.
 use Rattle.std.proofs.Common.{ℕ, zero, suc, Bool, true, List, [], ◌∷◌, ◌≡◌, ◌+◌, length, refl, ap, sym, ◌∙◌, subst, Option, Some, None, ◌⊎◌, inl, inr, arith, nat_lt}
 use Rattle.wac_shapes.specs.Name.{Name, option_case}
-use Rattle.wac_types.specs.declared.questions.Question.{Question}
+use Rattle.wac_types.specs.declared.questions.Asked.{Asked}
 use Rattle.wac_collection.specs.declared.collection.Held.{Held}
 use Rattle.wac_shapes.specs.declared.component.ResourceId.{ResourceId}
 use Rattle.wac_shapes.specs.declared.component.PrimitiveType.{PrimitiveType}
@@ -11,15 +11,18 @@ use Rattle.wac_shapes.specs.declared.component.DefinedType.TheVariants as def
 use Rattle.wac_shapes.specs.declared.component.ValueType.{ValueType}
 use Rattle.wac_shapes.specs.declared.component.ValueType.TheVariants as val
 use Rattle.wac_shapes.specs.declared.component.«Type».TheVariants as ty
-use Rattle.wac_collection.specs.Collection.{Collection, size, IsWellFormed, IsValueBefore, defined_mentions, holds_type, item_at}
+use Rattle.wac_collection.specs.Collection.{Collection, size, IsWellFormed, IsValueBefore, defined_mentions, holds_value, holds_type, item_at}
 use Rattle.wac_collection.specs.Tree.{TypeTree, absent, primitive, own, borrow, resource}
 use Rattle.wac_collection.specs.Held.{resolved, defined_tree}
-use Rattle.wac_collection.specs.Aliases.{target_of, value_resolved_in, value_resolved}
+use Rattle.wac_collection.specs.Aliases.{aliased, target_of, value_resolved_in, value_resolved}
 use Rattle.wac_types.specs.Subtype.{resource_names, type_tree}
-use Rattle.wac_types.specs.Compare.{value_in, defined_in, aliased, alias_in}
-use Rattle.wac_types.specs.Questions.{in_order, type_rank, Settles, Asks, Refutes}
+use Rattle.wac_types.specs.Compare.{value_in, defined_in}
+use Rattle.wac_types.specs.Questions.{Refutes}
+use Rattle.wac_types.specs.Weights.{type_rank, weight}
+use Rattle.wac_types.specs.Settling.{Asks, HasEnd, RestsOn}
 use Rattle.wac_types.proofs.Unfolding.{Opens, opens_defined, held_at_rank, before_rank, value_more, primitive_in}
-use Rattle.wac_types.proofs.Asking.{settles_more, settles_iff, settles_opened}
+use Rattle.wac_types.proofs.Lighter.{lowers_defined, own_in, borrow_in}
+use Rattle.wac_types.proofs.Asking.{rests_on}
 use Rattle.wac_types.proofs.Sorts.{are_there, name_of_resource}
 
 pub aliased_is : (x : DefinedType) (a : ValueType) → aliased x ≡ Some a → x ≡ def.Alias a
@@ -27,7 +30,7 @@ aliased_is (def.Alias v) a e = let s : v ≡ a = cc in ap def.Alias s
 aliased_is _ a e = cc
 
 -- an alias of a value type has the tree of what it names
-pub alias_opens : (c : Collection) → IsWellFormed c → (v a : ValueType) → alias_in c v ≡ Some a → Opens c (ty.Value v) (ty.Value a ∷ []) (value_in c a)
+pub alias_opens : (c : Collection) → IsWellFormed c → (v a : ValueType) → target_of c v ≡ Some a → Opens c (ty.Value v) (ty.Value a ∷ []) (value_in c a)
 alias_opens c wf (val.Primitive p) a e = cc
 alias_opens c wf (val.Own p) a e = cc
 alias_opens c wf (val.Borrow p) a e = cc
@@ -59,54 +62,27 @@ module _ (c : Collection) (wf : IsWellFormed c) where
       let P : ValueType → Type 0 = λ u. IsValueBefore c (type_rank c (ty.Value v)) u × (value_in c v ≡ value_in c u) in
       subst P (sym e) (end_in (size c) (type_rank c (ty.Value v)) v (held_at_rank c (ty.Value v) h))
 
-  opens_by : (k : ℕ) (v : ValueType) (o : Option ValueType) → target_of c v ≡ o → (let e = option_case o v (λ u. value_resolved_in k c u) in (e ≡ v → ⊥) → Opens c (ty.Value v) (ty.Value e ∷ []) (value_in c e))
-  opens_by k v None e n = absurd (n refl)
-  opens_by k v (Some u) e n =
-      let oa = alias_opens c wf v u e in
-      let s = end_in k oa.before u oa.held.0 in
-      record { before = oa.before; rank = oa.rank; held = (s.0, tt); is = oa.is ∙ s.1 }
+-- the end of the aliases of a type
+pub value_end : (c : Collection) → IsWellFormed c → (v a : ValueType) → a ≡ value_resolved c v → target_of c a ≡ None → holds_value c a ≡ holds_value c v → HasEnd c (ty.Value v) (ty.Value a)
+value_end c wf v a e none held = record {
+  end = none;
+  held = λ h. held ∙ h;
+  is = λ h. (end_keeps c wf v a e h).1;
+  weight = λ h. ap weight (end_keeps c wf v a e h).1;
+}
 
-  opens_in : (k : ℕ) (v : ValueType) → (value_resolved_in k c v ≡ v → ⊥) → Opens c (ty.Value v) (ty.Value (value_resolved_in k c v) ∷ []) (value_in c (value_resolved_in k c v))
-  opens_in zero v n = absurd (n refl)
-  opens_in (suc k) v n = opens_by k v _ refl n
-
-  -- what is not its own end has the tree of its end
-  pub end_opens : (v a : ValueType) → a ≡ value_resolved c v → (a ≡ v → ⊥) → Opens c (ty.Value v) (ty.Value a ∷ []) (value_in c a)
-  end_opens v a e n =
-      let P : ValueType → Type 0 = λ u. (u ≡ v → ⊥) → Opens c (ty.Value v) (ty.Value u ∷ []) (value_in c u) in
-      subst P (sym e) (opens_in (size c) v) n
-
-module _ (t : Bool) (x y : Collection) (o k : List Question) where
-  pub ends_settle : IsWellFormed x → IsWellFormed y → (v w a b : ValueType) → holds_type x (ty.Value v) ≡ true → holds_type y (ty.Value w) ≡ true → a ≡ value_resolved x v → b ≡ value_resolved y w → (a ≡ v → ⊥) ⊎ (b ≡ w → ⊥)
-      → Asks t x y (ty.Value a ∷ []) (ty.Value b ∷ []) o k (value_in x a ≡ value_in y b)
-      → Settles (in_order t x y) (type_rank x (ty.Value v) + type_rank y (ty.Value w)) o k (value_in x v ≡ value_in y w)
-  ends_settle wx wy v w a b hv hw ea eb (inl n) asks =
-      let oa = end_opens x wx v a ea n in
-      let kb = end_keeps y wy w b eb hw in
-      let s = asks.settles oa.before (type_rank y (ty.Value w)) oa.held (kb.0, tt) in
-      let r = oa.rank in
-      settles_more _ _ _ o k (omega (arith, r)) (settles_iff _ _ o k (λ h. oa.is ∙ h ∙ sym kb.1) (λ h. sym oa.is ∙ h ∙ kb.1) s)
-  ends_settle wx wy v w a b hv hw ea eb (inr n) asks =
-      let ka = end_keeps x wx v a ea hv in
-      let ob = end_opens y wy w b eb n in
-      let s = asks.settles (type_rank x (ty.Value v)) ob.before (ka.0, tt) ob.held in
-      let r = ob.rank in
-      settles_more _ _ _ o k (omega (arith, r)) (settles_iff _ _ o k (λ h. ka.1 ∙ h ∙ sym ob.is) (λ h. sym ka.1 ∙ h ∙ ob.is) s)
-
-  pub plain_defined : IsWellFormed x → IsWellFormed y → (v w : ValueType) (d e : DefinedTypeId) (D E : DefinedType) → v ≡ val.Defined d → w ≡ val.Defined e → item_at x.defined d.0 ≡ Some D → item_at y.defined e.0 ≡ Some E
+module _ (t : Bool) (x y : Collection) (o k : Asked) where
+  pub plain_defined : IsWellFormed x → IsWellFormed y → (v w : ValueType) (d e : DefinedTypeId) (D E : DefinedType) → v ≡ val.Defined d → w ≡ val.Defined e → item_at x.defined d.0 ≡ Some D → item_at y.defined e.0 ≡ Some E → target_of x v ≡ None → target_of y w ≡ None
       → Asks t x y (defined_mentions D) (defined_mentions E) o k (defined_in x D ≡ defined_in y E)
-      → Settles (in_order t x y) (type_rank x (ty.Value v) + type_rank y (ty.Value w)) o k (value_in x v ≡ value_in y w)
-  plain_defined wx wy v w d e D E p q a b asks =
-      let oa = opens_defined x wx d D a in
-      let ob = opens_defined y wy e E b in
-      let P : ValueType → Type 0 = λ u. Settles (in_order t x y) (type_rank x (ty.Value u) + type_rank y (ty.Value w)) o k (value_in x u ≡ value_in y w) in
-      let Q : ValueType → Type 0 = λ u. Settles (in_order t x y) (type_rank x (ty.Value (val.Defined d)) + type_rank y (ty.Value u)) o k (value_in x (val.Defined d) ≡ value_in y u) in
-      subst P (sym p) (subst Q (sym q) (settles_opened t x y _ _ _ _ _ _ o k oa ob (λ h. oa.is ∙ h ∙ sym ob.is) (λ h. sym oa.is ∙ h ∙ ob.is) asks))
+      → RestsOn t x y (ty.Value v) (ty.Value w) o k (value_in x v ≡ value_in y w)
+  plain_defined wx wy v w d e D E p q a b av aw asks =
+      let la = lowers_defined x wx d D a (sym (ap (λ o. option_case o None aliased) a) ∙ sym (ap (target_of x) p) ∙ av) in
+      let lb = lowers_defined y wy e E b (sym (ap (λ o. option_case o None aliased) b) ∙ sym (ap (target_of y) q) ∙ aw) in
+      let P : ValueType → Type 0 = λ u. RestsOn t x y (ty.Value u) (ty.Value w) o k (value_in x u ≡ value_in y w) in
+      let Q : ValueType → Type 0 = λ u. RestsOn t x y (ty.Value (val.Defined d)) (ty.Value u) o k (value_in x (val.Defined d) ≡ value_in y u) in
+      subst P (sym p) (subst Q (sym q) (rests_on t x y _ _ _ _ _ _ o k la lb (λ h. la.is ∙ h ∙ sym lb.is) (λ h. sym la.is ∙ h ∙ lb.is) asks))
 
 module _ (x y : Collection) where
-  pub ends_differ : IsWellFormed x → IsWellFormed y → (v w a b : ValueType) → holds_type x (ty.Value v) ≡ true → holds_type y (ty.Value w) ≡ true → a ≡ value_resolved x v → b ≡ value_resolved y w → (value_in x a ≡ value_in y b → ⊥) → value_in x v ≡ value_in y w → ⊥
-  ends_differ wx wy v w a b hv hw ea eb n h = n (sym (end_keeps x wx v a ea hv).1 ∙ h ∙ (end_keeps y wy w b eb hw).1)
-
   pub defined_differ : IsWellFormed x → IsWellFormed y → (v w : ValueType) (d e : DefinedTypeId) (D E : DefinedType) → v ≡ val.Defined d → w ≡ val.Defined e → item_at x.defined d.0 ≡ Some D → item_at y.defined e.0 ≡ Some E
       → Refutes x y (defined_mentions D) (defined_mentions E) (defined_in x D ≡ defined_in y E) → value_in x v ≡ value_in y w → ⊥
   defined_differ wx wy v w d e D E p q a b n h =
@@ -114,18 +90,6 @@ module _ (x y : Collection) where
       let ob = opens_defined y wy e E b in
       n.refutes (are_there x wx oa.before (defined_mentions D) oa.held) (are_there y wy ob.before (defined_mentions E) ob.held)
       (sym oa.is ∙ sym (ap (value_in x) p) ∙ h ∙ ap (value_in y) q ∙ ob.is)
-
-pub own_in : (c : Collection) (r : ResourceId) → value_in c (val.Own r) ≡ option_case (resource_names c (resolved c r)) absent own
-unfolding type_tree
-own_in c r = refl
-
-pub borrow_in : (c : Collection) (r : ResourceId) → value_in c (val.Borrow r) ≡ option_case (resource_names c (resolved c r)) absent borrow
-unfolding type_tree
-borrow_in c r = refl
-
-pub resource_in : (c : Collection) (r : ResourceId) → type_tree c (ty.Resource r) ≡ option_case (resource_names c (resolved c r)) absent resource
-unfolding type_tree
-resource_in c r = refl
 
 own_inj : (o p : Option Name) → (let f : Option Name → TypeTree Name = λ q. option_case q absent own in f o ≡ f p) → o ≡ p
 own_inj None None e = refl
@@ -191,7 +155,7 @@ there_at [] i h = absurd (grind arith)
 there_at (x ∷ xs) zero h = (x.item, refl)
 there_at (x ∷ xs) (suc i) h = there_at xs i (grind arith)
 
-shape_of : (c : Collection) → IsWellFormed c → (v : ValueType) → holds_type c (ty.Value v) ≡ true → alias_in c v ≡ None → shape (value_in c v) ≡ value_shape v
+shape_of : (c : Collection) → IsWellFormed c → (v : ValueType) → holds_type c (ty.Value v) ≡ true → target_of c v ≡ None → shape (value_in c v) ≡ value_shape v
 unfolding shape value_shape
 shape_of c wf (val.Primitive p) h e = ap shape (primitive_in c p)
 shape_of c wf (val.Own r) h e = ap shape (own_in c r) ∙ name_of_resource c wf r (λ o. shape (option_case o absent own) ≡ 2) (λ n. refl) h
@@ -200,7 +164,7 @@ shape_of c wf (val.Defined d) h e =
     let x = there_at c.defined d.0 h in
     ap shape (opens_defined c wf d x.0 x.1).is ∙ defined_shape (value_in c) x.0 (sym (ap (λ o. option_case o None aliased) x.1) ∙ e)
 
-module _ (x y : Collection) (wx : IsWellFormed x) (wy : IsWellFormed y) (v w : ValueType) (hv : holds_type x (ty.Value v) ≡ true) (hw : holds_type y (ty.Value w) ≡ true) (av : alias_in x v ≡ None) (aw : alias_in y w ≡ None) where
+module _ (x y : Collection) (wx : IsWellFormed x) (wy : IsWellFormed y) (v w : ValueType) (hv : holds_type x (ty.Value v) ≡ true) (hw : holds_type y (ty.Value w) ≡ true) (av : target_of x v ≡ None) (aw : target_of y w ≡ None) where
   shapes : value_in x v ≡ value_in y w → value_shape v ≡ value_shape w
   shapes e = sym (shape_of x wx v hv av) ∙ ap shape e ∙ shape_of y wy w hw aw
 

@@ -1,7 +1,7 @@
 -- What is asked of definitions and of function types, part by part.
 use Rattle.std.proofs.Common.{ℕ, suc, Bool, false, List, [], ◌∷◌, map, ◌≡◌, length, refl, ap, sym, ◌∙◌, subst, Option}
 use Rattle.wac_shapes.specs.Name.{Name}
-use Rattle.wac_types.specs.declared.questions.Question.{Question}
+use Rattle.wac_types.specs.declared.questions.Asked.{Asked}
 use Rattle.wac_shapes.specs.declared.component.ValueType.{ValueType}
 use Rattle.wac_shapes.specs.declared.component.Variant.{Variant}
 use Rattle.wac_shapes.specs.declared.component.Record.{Record}
@@ -11,11 +11,12 @@ use Rattle.wac_shapes.specs.declared.component.DefinedType.{DefinedType}
 use Rattle.wac_shapes.specs.declared.component.DefinedType.TheVariants as def
 use Rattle.wac_shapes.specs.declared.component.FuncType.{FuncType}
 use Rattle.wac_shapes.specs.declared.component.«Type».TheVariants as ty
-use Rattle.wac_collection.specs.Collection.{Collection, seconds, and_maybe, case_values, value_types, func_mentions, defined_mentions, IsBefore}
+use Rattle.wac_collection.specs.Collection.{Collection, seconds, and_maybe, case_values, value_types, func_mentions, defined_mentions}
 use Rattle.wac_collection.specs.Tree.{TypeTree, absent, record_of, variant_of, list_of, fixed_list_of, tuple_of, flags_of, enum_of, option_of, result_of, stream_of, future_of, function}
 use Rattle.wac_collection.specs.Held.{part_at}
 use Rattle.wac_types.specs.Compare.{value_in, optional_in, func_in, defined_in, entry_in, case_in}
-use Rattle.wac_types.specs.Questions.{Asks, Refutes}
+use Rattle.wac_types.specs.Questions.{Refutes}
+use Rattle.wac_types.specs.Settling.{Asks}
 use Rattle.wac_types.proofs.Values.{asks_now, asks_iff, asks_of, asks_then}
 use Rattle.wac_types.proofs.Agreeing.{length-map, maybe_both, maybe_rest}
 
@@ -165,7 +166,7 @@ module _ {L : Type 0} where
   result_inj : (a b c d : TypeTree L) → result_of a b ≡ result_of c d → (a ≡ c) × (b ≡ d)
   result_inj a b c d e = let f : a ≡ c = cc in let g : b ≡ d = cc in (f, g)
 
-module _ {t : Bool} {x y : Collection} {o k : List Question} where
+module _ {t : Bool} {x y : Collection} {o k : Asked} where
   -- along definitions that are equal
   along : (d e D E : DefinedType) → d ≡ D → e ≡ E → Asks t x y (defined_mentions D) (defined_mentions E) o k (defined_in x D ≡ defined_in y E)
       → Asks t x y (defined_mentions d) (defined_mentions e) o k (defined_in x d ≡ defined_in y e)
@@ -216,7 +217,7 @@ module _ {t : Bool} {x y : Collection} {o k : List Question} where
       (asks_iff (λ h. let b = entries_parts (value_in x) (value_in y) v.fields w.fields h in (λ i. record_of (b.0 i) (b.1 i)))
       (λ h. let b = record_inj _ _ _ _ h in entries_from (value_in x) (value_in y) v.fields w.fields b.0 b.1) s)
 
-module _ {t : Bool} {x y : Collection} {o l k : List Question} where
+module _ {t : Bool} {x y : Collection} {o l k : Asked} where
   pub asks_results : (d e : DefinedType) (v w f g : Option ValueType) → d ≡ def.Result v f → e ≡ def.Result w g
       → Asks t x y (value_types (and_maybe v [])) (value_types (and_maybe w [])) o l (optional_in x v ≡ optional_in y w)
       → Asks t x y (value_types (and_maybe f [])) (value_types (and_maybe g [])) l k (optional_in x f ≡ optional_in y g)
@@ -224,8 +225,8 @@ module _ {t : Bool} {x y : Collection} {o l k : List Question} where
   asks_results d e v w f g p q s r = along d e (def.Result v f) (def.Result w g) p q
       (asks_iff (λ h i. result_of (h.0 i) (h.1 i)) (result_inj _ _ _ _)
       (asks_then
-      (asks_of (value_types (and_maybe v (and_maybe f []))) (value_types (and_maybe w (and_maybe g []))) (λ m h. (maybe_both (IsBefore x m) v (and_maybe f []) h).0) (λ m h. (maybe_both (IsBefore y m) w (and_maybe g []) h).0) s)
-      (asks_of (value_types (and_maybe v (and_maybe f []))) (value_types (and_maybe w (and_maybe g []))) (λ m h. maybe_rest (IsBefore x m) v (and_maybe f []) h) (λ m h. maybe_rest (IsBefore y m) w (and_maybe g []) h) r)))
+      (asks_of (value_types (and_maybe v (and_maybe f []))) (value_types (and_maybe w (and_maybe g []))) (λ P h. (maybe_both P v (and_maybe f []) h).0) (λ P h. (maybe_both P w (and_maybe g []) h).0) s)
+      (asks_of (value_types (and_maybe v (and_maybe f []))) (value_types (and_maybe w (and_maybe g []))) (λ P h. maybe_rest P v (and_maybe f []) h) (λ P h. maybe_rest P w (and_maybe g []) h) r)))
 
   pub asks_funcs : (f g : FuncType) → f.is_async ≡ g.is_async
       → Asks t x y (value_types (and_maybe f.result [])) (value_types (and_maybe g.result [])) o l (optional_in x f.result ≡ optional_in y g.result)
@@ -236,10 +237,10 @@ module _ {t : Bool} {x y : Collection} {o l k : List Question} where
       (λ h. let b = entries_parts (value_in x) (value_in y) f.params g.params h.1 in (λ i. function (a i) (b.0 i) (b.1 i) (h.0 i)))
       (λ h. let b = function_inj _ _ _ _ _ _ _ _ h in (b.3, entries_from (value_in x) (value_in y) f.params g.params b.1 b.2))
       (asks_then
-      (asks_of (func_mentions f) (func_mentions g) (λ m h. (maybe_both (IsBefore x m) f.result (seconds f.params) h).0) (λ m h. (maybe_both (IsBefore y m) g.result (seconds g.params) h).0) s)
-      (asks_of (func_mentions f) (func_mentions g) (λ m h. maybe_rest (IsBefore x m) f.result (seconds f.params) h) (λ m h. maybe_rest (IsBefore y m) g.result (seconds g.params) h) r)))
+      (asks_of (func_mentions f) (func_mentions g) (λ P h. (maybe_both P f.result (seconds f.params) h).0) (λ P h. (maybe_both P g.result (seconds g.params) h).0) s)
+      (asks_of (func_mentions f) (func_mentions g) (λ P h. maybe_rest P f.result (seconds f.params) h) (λ P h. maybe_rest P g.result (seconds g.params) h) r)))
 
-module _ {t : Bool} {x y : Collection} {o : List Question} where
+module _ {t : Bool} {x y : Collection} {o : Asked} where
   pub asks_flags : (d e : DefinedType) (v w : Flags) → d ≡ def.Flags v → e ≡ def.Flags w → v.0 ≡ w.0 → Asks t x y (defined_mentions d) (defined_mentions e) o o (defined_in x d ≡ defined_in y e)
   asks_flags d e v w p q h = along d e (def.Flags v) (def.Flags w) p q (asks_now (ap flags_of h))
 

@@ -1,4 +1,5 @@
 pub mod Unfolding
+pub mod Lighter
 pub mod Asking
 pub mod QuestionKeys
 pub mod Sorts
@@ -9,6 +10,7 @@ pub mod Definitions
 pub mod Answering
 pub mod Typing
 pub mod Opening
+pub mod Joining
 pub mod Universe
 pub mod Comparing
 pub mod Relation

@@ -8,6 +8,8 @@ use Rattle.wac_shapes.specs.contracts.component.PrimitiveType.{the_type}
 use Rattle.wac_shapes.specs.contracts.component.ValueTypePartialEq.TheImpl as ValueEq
 use Rattle.wac_shapes.specs.contracts.component.TypePartialEq.TheImpl as TypeEq
 use Rattle.wac_types.specs.contracts.questions.QuestionPartialEq.TheImpl as QuestionEq
+use Rattle.wac_types.specs.contracts.classes.NodePartialEq.TheImpl as NodeEq
+use Rattle.wac_types.specs.declared.classes.Node.{Node}
 use Rattle.wac_types.specs.declared.questions.Question.{Question}
 use Rattle.wac_shapes.specs.declared.component.ValueType.{ValueType}
 use Rattle.wac_shapes.specs.declared.component.ValueType.TheVariants as val
@@ -48,6 +50,13 @@ same_question a b e =
     let f = same_type a.first b.first k.0 in
     let s = same_type a.second b.second k.1 in
     (λ i. record { turned = t i; first = f i; second = s i })
+
+pub same_node : (a b : Node) → (NodeEq.eq-value).it a b ≡ true → a ≡ b
+same_node a b e =
+    let h = both (beq a.turned b.turned) _ e in
+    let t = same_flag a.turned b.turned h.0 in
+    let f = same_type a.ty b.ty h.1 in
+    (λ i. record { turned = t i; ty = f i })
 
 value_itself : (v : ValueType) → (ValueEq.ghosts).eq v v ≡ true
 value_itself (val.Primitive p) = true_same the_type p p refl

@@ -1,10 +1,10 @@
 -- Subtyping of items from that of their types, and of what is listed name by name.
-use Rattle.std.proofs.Common.{ℕ, suc, not, Bool, true, false, cond, List, [], ◌∷◌, ◌≡◌, ◌≢◌, ◌≤◌, ◌+◌, length, refl, ap, sym, ◌∙◌, subst, Option, Some, None, arith, slice_get, inl, inr, below_more}
+use Rattle.std.proofs.Common.{ℕ, suc, not, Bool, true, false, cond, List, [], ◌∷◌, ◌≡◌, ◌≢◌, ◌≤◌, ◌+◌, length, refl, ap, sym, ◌∙◌, subst, Option, Some, None, arith, slice_get, ◌⊎◌, inl, inr, below_more}
 use Rattle.std.proofs.lemmas.Bool.{cases_Bool}
 use Rattle.std.specs.List.{AllByRecursion}
 use Rattle.wac_shapes.specs.Name.{Name, same_name, find_name}
 use Rattle.wac_shapes.specs.Named.{NoNameTwice}
-use Rattle.wac_types.specs.declared.questions.Question.{Question}
+use Rattle.wac_types.specs.declared.questions.Asked.{Asked}
 use Rattle.wac_collection.specs.declared.collection.Held.{Held}
 use Rattle.wac_shapes.specs.declared.component.World.{World}
 use Rattle.wac_shapes.specs.declared.component.FuncType.{FuncType}
@@ -17,14 +17,15 @@ use Rattle.wac_shapes.specs.declared.component.«Type».{«Type» as AnyType}
 use Rattle.wac_shapes.specs.declared.component.«Type».TheVariants as ty
 use Rattle.wac_shapes.specs.declared.component.ItemKind.{ItemKind}
 use Rattle.wac_shapes.specs.declared.component.ItemKind.TheVariants as kind
-use Rattle.wac_collection.specs.Collection.{Collection, size, kind_types, used_types, world_mentions, IsBefore, AreBefore}
+use Rattle.wac_collection.specs.Collection.{Collection, size, kind_types, used_types, world_mentions}
 use Rattle.wac_shapes.specs.Kinds.{kind_type}
 use Rattle.wac_collection.specs.Tree.{TypeTree, absent, instance, component, type_equal, function_item, instance_item, component_item, module_item, value_item}
 use Rattle.wac_collection.specs.Held.{of_held, func_tree, unfolded_to}
 use Rattle.wac_types.specs.Subtype.{Sub, IsPlain, by_name, resource_names, type_tree, kind_tree}
 use Rattle.wac_types.specs.Compare.{value_in, listed_in, world_in, Offers}
 use Rattle.wac_types.proofs.Below.{OffersBelow}
-use Rattle.wac_types.specs.Questions.{Settles, Asks}
+use Rattle.wac_types.specs.Questions.{AreBelow}
+use Rattle.wac_types.specs.Settling.{Asks}
 use Rattle.wac_shapes.proofs.Names.{find_name-at, find_position}
 use Rattle.wac_types.proofs.Unfolding.{all_left, all_right}
 use Rattle.wac_types.proofs.Values.{plain_sub, plain_same, asks_now, asks_iff, asks_of, asks_then}
@@ -70,7 +71,7 @@ unfolding type_tree
 func_plain c f = plain_func (func_tree (λ v. unfolded_to by_name c (size c) (resource_names c) (ty.Value v))) (λ g. tt) (slice_get c.funcs f.0)
 
 -- the other way round
-pub asks_turned : (t s : Bool) (x y u v : Collection) (ps qs : List AnyType) (o k : List Question) (E : Collection → Collection → Type 0) → s ≡ not t → u ≡ y → v ≡ x
+pub asks_turned : (t s : Bool) (x y u v : Collection) (ps qs : List AnyType) (o k : Asked) (E : Collection → Collection → Type 0) → s ≡ not t → u ≡ y → v ≡ x
     → Asks s u v qs ps o k (E u v) → Asks t x y ps qs o k (E y x)
 asks_turned t s x y u v ps qs o k E a b c h =
     let P : Bool → Type 0 = λ r. Asks r u v qs ps o k (E u v) in
@@ -78,14 +79,15 @@ asks_turned t s x y u v ps qs o k E a b c h =
     let R : Collection → Type 0 = λ r. Asks (not t) y r qs ps o k (E y r) in
     by t (subst R c (subst Q b (subst P a h)))
   where
-    along : (p : Collection × Collection) (m n : ℕ) → Settles p (suc (n + m)) o k (E y x) → Settles p (suc (m + n)) o k (E y x)
-    along p m n w = let S : ℕ → Type 0 = λ r. Settles p r o k (E y x) in let e : suc (n + m) ≡ suc (m + n) = omega arith in subst S e w
+    around : (n : ℕ) → AreBelow x n ps ⊎ AreBelow y n qs → AreBelow y n qs ⊎ AreBelow x n ps
+    around n (inl h) = inr h
+    around n (inr h) = inl h
 
     by : (t : Bool) → Asks (not t) y x qs ps o k (E y x) → Asks t x y ps qs o k (E y x)
-    by false w = record { settles = λ m n hp hq. along (x, y) m n (w.settles n m hq hp) }
-    by true w = record { settles = λ m n hp hq. along (y, x) m n (w.settles n m hq hp) }
+    by false w = record { settles = λ n hp hq b. w.settles n hq hp (around n b) }
+    by true w = record { settles = λ n hp hq b. w.settles n hq hp (around n b) }
 
-module _ {t : Bool} {x y : Collection} {o k : List Question} where
+module _ {t : Bool} {x y : Collection} {o k : Asked} where
   along : (a b A B : ItemKind) → a ≡ A → b ≡ B → Asks t x y (kind_type A ∷ []) (kind_type B ∷ []) o k (Sub (kind_tree x A) (kind_tree y B)) → Asks t x y (kind_type a ∷ []) (kind_type b ∷ []) o k (Sub (kind_tree x a) (kind_tree y b))
   along a b A B p q s =
       let P : ItemKind → Type 0 = λ u. Asks t x y (kind_type u ∷ []) (kind_type b ∷ []) o k (Sub (kind_tree x u) (kind_tree y b)) in
@@ -120,7 +122,7 @@ module _ {t : Bool} {x y : Collection} {o k : List Question} where
       → Asks t x y (kind_type a ∷ []) (kind_type b ∷ []) o k (Sub (kind_tree x a) (kind_tree y b))
   asks_module_items a b f g p q s = along a b (kind.Module f) (kind.Module g) p q (asks_iff (Sub.module_items _ _) (of_module_items _ _) s)
 
-module _ {t : Bool} {x y : Collection} {o l k : List Question} where
+module _ {t : Bool} {x y : Collection} {o l k : Asked} where
   pub asks_type_items : (a b : ItemKind) (f g : AnyType) → a ≡ kind.TypeItem f → b ≡ kind.TypeItem g → Asks t x y (f ∷ []) (g ∷ []) o l (Sub (type_tree x f) (type_tree y g))
       → (s : Bool) (u v : Collection) → s ≡ not t → u ≡ y → v ≡ x → Asks s u v (g ∷ []) (f ∷ []) l k (Sub (type_tree u g) (type_tree v f))
       → Asks t x y (kind_type a ∷ []) (kind_type b ∷ []) o k (Sub (kind_tree x a) (kind_tree y b))
@@ -212,26 +214,26 @@ module _ (c d : Collection) (xs ys : List (Name × ItemKind)) where
 pub found_among : (P : AnyType → Type 0) (es : List (Name × ItemKind)) (n : Name) (v : ItemKind) → find_name es n ≡ Some v → AllByRecursion P (kind_types es) → AllByRecursion P (kind_type v ∷ [])
 found_among P es n v f h = let p = find_position es n v f in kind_among P es p.0 n v p.2 h
 
-module _ {t : Bool} {x y : Collection} {o l k : List Question} (xs ys : List (Name × ItemKind)) where
+module _ {t : Bool} {x y : Collection} {o l k : Asked} (xs ys : List (Name × ItemKind)) where
   pub asks_offer : (i : ℕ) (n : Name) (a b : ItemKind) → slice_get ys i ≡ Some (n, b) → find_name xs n ≡ Some a
       → Asks t x y (kind_types xs) (kind_types ys) o l (OffersBelow i x xs y ys) → Asks t x y (kind_type a ∷ []) (kind_type b ∷ []) l k (Sub (kind_tree x a) (kind_tree y b))
       → Asks t x y (kind_types xs) (kind_types ys) o k (OffersBelow (i + 1) x xs y ys)
   asks_offer i n a b at found s r = asks_iff (λ h. offers_more x y xs ys i n a b at found h.0 h.1) (offers_less x y xs ys i n a b at found)
-      (asks_then s (asks_of (kind_types xs) (kind_types ys) (λ m. found_among (IsBefore x m) xs n a found) (λ m. kind_among (IsBefore y m) ys i n b at) r))
+      (asks_then s (asks_of (kind_types xs) (kind_types ys) (λ P. found_among P xs n a found) (λ P. kind_among P ys i n b at) r))
 
-module _ {t : Bool} {x y : Collection} {o k : List Question} (xs ys : List (Name × ItemKind)) where
+module _ {t : Bool} {x y : Collection} {o k : Asked} (xs ys : List (Name × ItemKind)) where
   pub asks_offers : (i : ℕ) → NoNameTwice ys → length ys ≤ i → Asks t x y (kind_types xs) (kind_types ys) o k (OffersBelow i x xs y ys) → Asks t x y (kind_types xs) (kind_types ys) o k (Offers x xs y ys)
   asks_offers i once le s = asks_iff (offers_to x y xs ys i le) (λ h. offers_below x y xs ys once h i) s
 
-pub asks_no_offer : {t : Bool} {x y : Collection} {o : List Question} (xs ys : List (Name × ItemKind)) → Asks t x y (kind_types xs) (kind_types ys) o o (OffersBelow 0 x xs y ys)
+pub asks_no_offer : {t : Bool} {x y : Collection} {o : Asked} (xs ys : List (Name × ItemKind)) → Asks t x y (kind_types xs) (kind_types ys) o o (OffersBelow 0 x xs y ys)
 asks_no_offer {x = x} {y = y} xs ys = asks_now (offers_none x y xs ys)
 
-world_parts : (c : Collection) (w : World) (m : ℕ) → AreBefore c m (world_mentions w) → AreBefore c m (kind_types w.imports) × AreBefore c m (kind_types w.exports)
-world_parts c w m h =
-    let r = all_right (IsBefore c m) (used_types w.uses) _ h in
-    (all_left (IsBefore c m) (kind_types w.imports) (kind_types w.exports) r, all_right (IsBefore c m) (kind_types w.imports) (kind_types w.exports) r)
+world_parts : (P : AnyType → Type 0) (w : World) → AllByRecursion P (world_mentions w) → AllByRecursion P (kind_types w.imports) × AllByRecursion P (kind_types w.exports)
+world_parts P w h =
+    let r = all_right P (used_types w.uses) _ h in
+    (all_left P (kind_types w.imports) (kind_types w.exports) r, all_right P (kind_types w.imports) (kind_types w.exports) r)
 
-module _ {t : Bool} {x y : Collection} {o l k : List Question} where
+module _ {t : Bool} {x y : Collection} {o l k : Asked} where
   pub asks_worlds : (w v : World) (s : Bool) (u z : Collection) → s ≡ not t → u ≡ y → z ≡ x → Asks s u z (kind_types v.imports) (kind_types w.imports) o l (Offers u v.imports z w.imports)
       → Asks t x y (kind_types w.exports) (kind_types v.exports) l k (Offers x w.exports y v.exports)
       → Asks t x y (world_mentions w) (world_mentions v) o k (Sub (world_in x w) (world_in y v))
@@ -239,8 +241,8 @@ module _ {t : Bool} {x y : Collection} {o l k : List Question} where
       let i = asks_turned t s x y u z (kind_types w.imports) (kind_types v.imports) o l (λ c d. Offers c v.imports d w.imports) a b c r in
       asks_iff (λ h. Sub.components _ _ _ _ h.0 h.1) (of_components _ _ _ _)
       (asks_then
-      (asks_of (world_mentions w) (world_mentions v) (λ m h. (world_parts x w m h).0) (λ m h. (world_parts y v m h).0) i)
-      (asks_of (world_mentions w) (world_mentions v) (λ m h. (world_parts x w m h).1) (λ m h. (world_parts y v m h).1) q))
+      (asks_of (world_mentions w) (world_mentions v) (λ P h. (world_parts P w h).0) (λ P h. (world_parts P v h).0) i)
+      (asks_of (world_mentions w) (world_mentions v) (λ P h. (world_parts P w h).1) (λ P h. (world_parts P v h).1) q))
 
 module _ (x y : Collection) (w v : World) where
   pub imports_refuse : (u z : Collection) → u ≡ y → z ≡ x → (Offers u v.imports z w.imports → ⊥) → Sub (world_in x w) (world_in y v) → ⊥

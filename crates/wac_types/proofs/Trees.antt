@@ -11,7 +11,7 @@ use Rattle.wac_collection.specs.Collection.{Collection, size, IsWellFormed, item
 use Rattle.wac_collection.specs.Held.{Naming, Names, of_held, defined_tree, unfolded}
 use Rattle.wac_collection.specs.Bound.{by_place, held_tree}
 use Rattle.wac_types.specs.Subtype.{by_name, resource_names, type_tree}
-use Rattle.wac_types.specs.Compare.{aliased, alias_in}
+use Rattle.wac_collection.specs.Aliases.{aliased, target_of}
 use Rattle.wac_types.specs.TreeLaws.{IsDeepEnough, AliasesAgree}
 use Rattle.wac_types.proofs.Unfolding.{type_before, before_more, unfold_same, unfolded_step, held_item, within}
 use Rattle.wac_types.proofs.Answering.{aliased_is}
@@ -22,7 +22,7 @@ deep_enough naming c wf (suc n) lt m t h =
     let at = type_before c wf t h in
     unfold_same naming c wf n (size c) m t (before_more c (size c) n t (omega (arith, lt)) at) at
 
-alias_unfolded : {L : Type 0} (naming : Naming L) (c : Collection) → IsWellFormed c → (m : Names L) (v w : ValueType) → alias_in c v ≡ Some w → unfolded naming c m (ty.Value v) ≡ unfolded naming c m (ty.Value w)
+alias_unfolded : {L : Type 0} (naming : Naming L) (c : Collection) → IsWellFormed c → (m : Names L) (v w : ValueType) → target_of c v ≡ Some w → unfolded naming c m (ty.Value v) ≡ unfolded naming c m (ty.Value w)
 alias_unfolded naming c wf m (val.Primitive p) w e = cc
 alias_unfolded naming c wf m (val.Own p) w e = cc
 alias_unfolded naming c wf m (val.Borrow p) w e = cc

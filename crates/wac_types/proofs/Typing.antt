@@ -1,7 +1,7 @@
 -- What the answer to a question rests on, by the sort of its types.
 use Rattle.std.proofs.Common.{Bool, true, false, IsTrue, List, ◌≡◌, ◌+◌, ◌↔◌, refl, ap, sym, ◌∙◌, subst, Option, Some, None}
 use Rattle.wac_shapes.specs.Name.{Name, option_case}
-use Rattle.wac_types.specs.declared.questions.Question.{Question}
+use Rattle.wac_types.specs.declared.questions.Asked.{Asked}
 use Rattle.wac_shapes.specs.declared.component.ResourceId.{ResourceId}
 use Rattle.wac_shapes.specs.declared.component.FuncTypeId.{FuncTypeId}
 use Rattle.wac_shapes.specs.declared.component.FuncType.{FuncType}
@@ -19,14 +19,16 @@ use Rattle.wac_collection.specs.Tree.{TypeTree, absent, resource}
 use Rattle.wac_collection.specs.Held.{resolved, module_tree}
 use Rattle.wac_types.specs.Subtype.{Sub, IsPlain, resource_names, type_tree}
 use Rattle.wac_types.specs.Compare.{value_in, func_in, listed_in, world_in, Offers, OffersCore, OffersModules}
-use Rattle.wac_types.specs.Questions.{in_order, type_rank, Settles, Asks, Refutes}
+use Rattle.wac_types.specs.Questions.{Refutes}
+use Rattle.wac_types.specs.Settling.{Asks, RestsOn}
 use Rattle.wac_types.proofs.Unfolding.{Opens, opens_func, opens_interface, opens_world, opens_module}
-use Rattle.wac_types.proofs.Asking.{settles_now, settles_iff, settles_opened, differ}
+use Rattle.wac_types.proofs.Lighter.{Lowers, lowers_func, lowers_interface, lowers_world, resource_in}
+use Rattle.wac_types.proofs.Asking.{rests_now, rests_iff, rests_on, differ}
 use Rattle.wac_types.proofs.Values.{plain_sub, plain_same, value_plain}
 use Rattle.wac_types.proofs.Sorts.{type_sort, sorts_differ, are_there}
 use Rattle.wac_types.proofs.Subtyping.{of_instances}
 use Rattle.wac_types.proofs.CoreItems.{modules_from, modules_back}
-use Rattle.wac_types.proofs.Answering.{resource_in, resource_inj}
+use Rattle.wac_types.proofs.Answering.{resource_inj}
 
 pub sub_to : {L : Type 0} (a b u v : TypeTree L) → a ≡ u → b ≡ v → Sub u v → Sub a b
 sub_to a b u v e f s =
@@ -34,52 +36,52 @@ sub_to a b u v e f s =
     let R : TypeTree _ → Type 0 = λ z. Sub a z in
     subst R (sym f) (subst Q (sym e) s)
 
-plain_resource : {L : Type 0} (o : Option L) → IsPlain (option_case o absent resource)
+pub plain_resource : {L : Type 0} (o : Option L) → IsPlain (option_case o absent resource)
 plain_resource None = tt
 plain_resource (Some l) = tt
 
-module _ (t : Bool) (x y : Collection) (o k : List Question) where
-  along : (a b A B : AnyType) → a ≡ A → b ≡ B → Settles (in_order t x y) (type_rank x A + type_rank y B) o k (Sub (type_tree x A) (type_tree y B)) → Settles (in_order t x y) (type_rank x a + type_rank y b) o k (Sub (type_tree x a) (type_tree y b))
+module _ (t : Bool) (x y : Collection) (o k : Asked) where
+  along : (a b A B : AnyType) → a ≡ A → b ≡ B → RestsOn t x y A B o k (Sub (type_tree x A) (type_tree y B)) → RestsOn t x y a b o k (Sub (type_tree x a) (type_tree y b))
   along a b A B p q s =
-      let P : AnyType → Type 0 = λ u. Settles (in_order t x y) (type_rank x u + type_rank y b) o k (Sub (type_tree x u) (type_tree y b)) in
-      let Q : AnyType → Type 0 = λ u. Settles (in_order t x y) (type_rank x A + type_rank y u) o k (Sub (type_tree x A) (type_tree y u)) in
+      let P : AnyType → Type 0 = λ u. RestsOn t x y u b o k (Sub (type_tree x u) (type_tree y b)) in
+      let Q : AnyType → Type 0 = λ u. RestsOn t x y A u o k (Sub (type_tree x A) (type_tree y u)) in
       subst P (sym p) (subst Q (sym q) s)
 
-  opened : {E : Type 0} (a b A B : AnyType) (ps qs : List AnyType) (u v : TypeTree Name) → a ≡ A → b ≡ B → Opens x A ps u → Opens y B qs v → (E → Sub u v) → (Sub u v → E) → Asks t x y ps qs o k E
-      → Settles (in_order t x y) (type_rank x a + type_rank y b) o k (Sub (type_tree x a) (type_tree y b))
-  opened a b A B ps qs u v p q oa ob f g asks = along a b A B p q (settles_opened t x y A B ps qs u v o k oa ob (λ e. sub_to _ _ u v oa.is ob.is (f e)) (λ s. g (sub_to u v _ _ (sym oa.is) (sym ob.is) s)) asks)
+  opened : {E : Type 0} (a b A B : AnyType) (ps qs : List AnyType) (u v : TypeTree Name) → a ≡ A → b ≡ B → Lowers x A ps u → Lowers y B qs v → (E → Sub u v) → (Sub u v → E) → Asks t x y ps qs o k E
+      → RestsOn t x y a b o k (Sub (type_tree x a) (type_tree y b))
+  opened a b A B ps qs u v p q oa ob f g asks = along a b A B p q (rests_on t x y A B ps qs u v o k oa ob (λ e. sub_to _ _ u v oa.is ob.is (f e)) (λ s. g (sub_to u v _ _ (sym oa.is) (sym ob.is) s)) asks)
 
-  pub answer_values : (a b : AnyType) (v w : ValueType) → a ≡ ty.Value v → b ≡ ty.Value w → Settles (in_order t x y) (type_rank x (ty.Value v) + type_rank y (ty.Value w)) o k (value_in x v ≡ value_in y w)
-      → Settles (in_order t x y) (type_rank x a + type_rank y b) o k (Sub (type_tree x a) (type_tree y b))
-  answer_values a b v w p q s = along a b (ty.Value v) (ty.Value w) p q (settles_iff _ _ o k (plain_same (value_in x v) (value_in y w) (value_plain x v)) (plain_sub (value_in x v) (value_in y w) (value_plain x v)) s)
+  pub answer_values : (a b : AnyType) (v w : ValueType) → a ≡ ty.Value v → b ≡ ty.Value w → RestsOn t x y (ty.Value v) (ty.Value w) o k (value_in x v ≡ value_in y w)
+      → RestsOn t x y a b o k (Sub (type_tree x a) (type_tree y b))
+  answer_values a b v w p q s = along a b (ty.Value v) (ty.Value w) p q (rests_iff t x y _ _ o k (plain_same (value_in x v) (value_in y w) (value_plain x v)) (plain_sub (value_in x v) (value_in y w) (value_plain x v)) s)
 
   module _ (wx : IsWellFormed x) (wy : IsWellFormed y) where
     pub answer_funcs : (a b : AnyType) (f g : FuncTypeId) (F G : FuncType) → a ≡ ty.Func f → b ≡ ty.Func g → item_at x.funcs f.0 ≡ Some F → item_at y.funcs g.0 ≡ Some G → Asks t x y (func_mentions F) (func_mentions G) o k (func_in x F ≡ func_in y G)
-        → Settles (in_order t x y) (type_rank x a + type_rank y b) o k (Sub (type_tree x a) (type_tree y b))
-    answer_funcs a b f g F G p q i j = opened a b (ty.Func f) (ty.Func g) _ _ _ _ p q (opens_func x wx f F i) (opens_func y wy g G j) (plain_same (func_in x F) (func_in y G) tt) (plain_sub (func_in x F) (func_in y G) tt)
+        → RestsOn t x y a b o k (Sub (type_tree x a) (type_tree y b))
+    answer_funcs a b f g F G p q i j = opened a b (ty.Func f) (ty.Func g) _ _ _ _ p q (lowers_func x wx f F i) (lowers_func y wy g G j) (plain_same (func_in x F) (func_in y G) tt) (plain_sub (func_in x F) (func_in y G) tt)
 
     pub answer_interfaces : (a b : AnyType) (f g : InterfaceId) (F G : Interface) → a ≡ ty.Interface f → b ≡ ty.Interface g → item_at x.interfaces f.0 ≡ Some F → item_at y.interfaces g.0 ≡ Some G
         → Asks t x y (kind_types F.exports) (kind_types G.exports) o k (Offers x F.exports y G.exports)
-        → Settles (in_order t x y) (type_rank x a + type_rank y b) o k (Sub (type_tree x a) (type_tree y b))
-    answer_interfaces a b f g F G p q i j = opened a b (ty.Interface f) (ty.Interface g) _ _ _ _ p q (opens_interface x wx f F i) (opens_interface y wy g G j) (Sub.instances (listed_in x F.exports) (listed_in y G.exports)) (of_instances (listed_in x F.exports) (listed_in y G.exports))
+        → RestsOn t x y a b o k (Sub (type_tree x a) (type_tree y b))
+    answer_interfaces a b f g F G p q i j = opened a b (ty.Interface f) (ty.Interface g) _ _ _ _ p q (lowers_interface x f _ _ (opens_interface x wx f F i)) (lowers_interface y g _ _ (opens_interface y wy g G j)) (Sub.instances (listed_in x F.exports) (listed_in y G.exports)) (of_instances (listed_in x F.exports) (listed_in y G.exports))
 
     pub answer_worlds : (a b : AnyType) (f g : WorldId) (F G : World) → a ≡ ty.World f → b ≡ ty.World g → item_at x.worlds f.0 ≡ Some F → item_at y.worlds g.0 ≡ Some G → Asks t x y (world_mentions F) (world_mentions G) o k (Sub (world_in x F) (world_in y G))
-        → Settles (in_order t x y) (type_rank x a + type_rank y b) o k (Sub (type_tree x a) (type_tree y b))
-    answer_worlds a b f g F G p q i j = opened a b (ty.World f) (ty.World g) _ _ _ _ p q (opens_world x wx f F i) (opens_world y wy g G j) (λ s. s) (λ s. s)
+        → RestsOn t x y a b o k (Sub (type_tree x a) (type_tree y b))
+    answer_worlds a b f g F G p q i j = opened a b (ty.World f) (ty.World g) _ _ _ _ p q (lowers_world x f _ _ (opens_world x wx f F i)) (lowers_world y g _ _ (opens_world y wy g G j)) (λ s. s) (λ s. s)
 
-module _ (t : Bool) (x y : Collection) (o : List Question) where
+module _ (t : Bool) (x y : Collection) (o : Asked) where
   pub answer_resources : (a b : AnyType) (r s : ResourceId) → a ≡ ty.Resource r → b ≡ ty.Resource s → resource_names x (resolved x r) ≡ resource_names y (resolved y s)
-      → Settles (in_order t x y) (type_rank x a + type_rank y b) o o (Sub (type_tree x a) (type_tree y b))
+      → RestsOn t x y a b o o (Sub (type_tree x a) (type_tree y b))
   answer_resources a b r s p q e =
       let u = ap (type_tree x) p ∙ resource_in x r in
       let v = ap (type_tree y) q ∙ resource_in y s in
-      settles_now _ _ o (sub_to _ _ _ _ u v (plain_same _ _ (plain_resource (resource_names x (resolved x r))) (ap (λ o. option_case o absent resource) e)))
+      rests_now t x y _ _ o (sub_to _ _ _ _ u v (plain_same _ _ (plain_resource (resource_names x (resolved x r))) (ap (λ o. option_case o absent resource) e)))
 
   pub answer_modules : IsWellFormed x → IsWellFormed y → (a b : AnyType) (f g : ModuleTypeId) (F G : ModuleType) → a ≡ ty.Module f → b ≡ ty.Module g → item_at x.modules f.0 ≡ Some F → item_at y.modules g.0 ≡ Some G
       → (r : Bool) → (IsTrue r ↔ (OffersModules G.imports F.imports × OffersCore F.exports G.exports)) → r ≡ true
-      → Settles (in_order t x y) (type_rank x a + type_rank y b) o o (Sub (type_tree x a) (type_tree y b))
+      → RestsOn t x y a b o o (Sub (type_tree x a) (type_tree y b))
   answer_modules wx wy a b f g F G p q i j r h e =
-      settles_now _ _ o (sub_to _ _ (module_tree F) (module_tree G) (ap (type_tree x) p ∙ opens_module x wx f F i) (ap (type_tree y) q ∙ opens_module y wy g G j) (modules_from F G (h.0 e)))
+      rests_now t x y _ _ o (sub_to _ _ (module_tree F) (module_tree G) (ap (type_tree x) p ∙ opens_module x wx f F i) (ap (type_tree y) q ∙ opens_module y wy g G j) (modules_from F G (h.0 e)))
 
 module _ (x y : Collection) where
   pub resources_refuse : (a b : AnyType) (r s : ResourceId) → a ≡ ty.Resource r → b ≡ ty.Resource s → (resource_names x (resolved x r) ≡ resource_names y (resolved y s) → ⊥) → Sub (type_tree x a) (type_tree y b) → ⊥

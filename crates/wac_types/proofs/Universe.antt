@@ -13,7 +13,7 @@ use Rattle.wac_shapes.specs.declared.component.ValueType.TheVariants as val
 use Rattle.wac_shapes.specs.declared.component.«Type».{«Type» as AnyType}
 use Rattle.wac_shapes.specs.declared.component.«Type».TheVariants as ty
 use Rattle.wac_collection.specs.Collection.{Collection, holds_type}
-use Rattle.wac_types.specs.Questions.{first_of_pair, second_of_pair, IsHeldQuestion}
+use Rattle.wac_types.specs.Questions.{first_of_pair, second_of_pair, IsAskableQuestion}
 use Rattle.wac_types.proofs.Asking.{all_at}
 use Rattle.wac_types.proofs.QuestionKeys.{same_question, question_laws}
 
@@ -118,9 +118,9 @@ in_pairs t a b (x ∷ xs) ys (inr r) k = in_right _ (map (λ b. record { turned 
 pub universe : Collection × Collection → List Question
 universe p = pairs false (types_of p.0) (types_of p.1) ++ pairs true (types_of p.1) (types_of p.0)
 
-in_universe : (p : Collection × Collection) (q : Question) → IsHeldQuestion p q → In q (universe p)
+in_universe : (p : Collection × Collection) (q : Question) → IsAskableQuestion p q → In q (universe p)
 unfolding universe
-in_universe p q h = by q.turned q.first q.second h.0 h.1
+in_universe p q h = by q.turned q.first q.second h.0.0 h.1.0
   where
     by : (t : Bool) (a b : AnyType) → holds_type (first_of_pair t p) a ≡ true → holds_type (second_of_pair t p) b ≡ true → In (let q : Question = record { turned = t; first = a; second = b } in q) (universe p)
     by false a b f s = in_left _ (pairs false (types_of p.0) (types_of p.1)) _ (in_pairs false a b (types_of p.0) (types_of p.1) (in_types p.0 a f) (in_types p.1 b s))
@@ -137,5 +137,5 @@ member_in q (r ∷ qs) (inr h) = by ((QuestionEq.eq-value).it q r) (member_in q 
     by false h = h
 
 -- no more are asked
-pub asked_few : (p : Collection × Collection) (qs : List Question) → IsDistinct (QuestionEq.eq-value).it qs → AllByRecursion (IsHeldQuestion p) qs → length qs ≤ length (universe p)
-asked_few p qs d h = length-le_from_is_member question_laws qs (universe p) d (λ q m. member_in q (universe p) (in_universe p q (all_at (IsHeldQuestion p) qs q h (Contains-list_any (QuestionEq.eq-value).it same_question qs q m))))
+pub asked_few : (p : Collection × Collection) (qs : List Question) → IsDistinct (QuestionEq.eq-value).it qs → AllByRecursion (IsAskableQuestion p) qs → length qs ≤ length (universe p)
+asked_few p qs d h = length-le_from_is_member question_laws qs (universe p) d (λ q m. member_in q (universe p) (in_universe p q (all_at (IsAskableQuestion p) qs q h (Contains-list_any (QuestionEq.eq-value).it same_question qs q m))))

@@ -1,7 +1,8 @@
 -- Trees of value types, and what is asked of them.
-use Rattle.std.proofs.Common.{ℕ, zero, suc, Bool, List, [], ◌∷◌, ◌≡◌, refl, ap, sym, ◌∙◌, subst, Option, Some, None, slice_get}
+use Rattle.std.proofs.Common.{ℕ, zero, suc, Bool, true, ◌<◌, ◌⊎◌, inl, inr, List, [], ◌∷◌, ◌≡◌, refl, ap, sym, ◌∙◌, subst, Option, Some, None, slice_get}
+use Rattle.std.specs.List.{AllByRecursion}
 use Rattle.wac_shapes.specs.Name.{Name, option_case}
-use Rattle.wac_types.specs.declared.questions.Question.{Question}
+use Rattle.wac_types.specs.declared.questions.Asked.{Asked}
 use Rattle.wac_collection.specs.declared.collection.Held.{Held}
 use Rattle.wac_shapes.specs.declared.component.PrimitiveType.{PrimitiveType}
 use Rattle.wac_shapes.specs.declared.component.ValueType.{ValueType}
@@ -10,12 +11,14 @@ use Rattle.wac_shapes.specs.declared.component.DefinedType.{DefinedType}
 use Rattle.wac_shapes.specs.declared.component.DefinedType.TheVariants as def
 use Rattle.wac_shapes.specs.declared.component.«Type».{«Type» as AnyType}
 use Rattle.wac_shapes.specs.declared.component.«Type».TheVariants as ty
-use Rattle.wac_collection.specs.Collection.{Collection, size, and_maybe, value_types, AreBefore}
+use Rattle.wac_collection.specs.Collection.{Collection, size, and_maybe, value_types, holds_type}
 use Rattle.wac_collection.specs.Tree.{TypeTree, absent, primitive, own, borrow}
 use Rattle.wac_collection.specs.Held.{defined_tree, of_held, resolved, unfolded_to}
 use Rattle.wac_types.specs.Subtype.{Sub, IsPlain, by_name, resource_names, type_tree}
 use Rattle.wac_types.specs.Compare.{value_in, optional_in}
-use Rattle.wac_types.specs.Questions.{Asks, Refutes, AreThere}
+use Rattle.wac_types.specs.Questions.{AreBelow, AreThere, Refutes}
+use Rattle.wac_types.specs.Weights.{type_weight}
+use Rattle.wac_types.specs.Settling.{Asks}
 use Rattle.wac_types.proofs.Unfolding.{primitive_in}
 use Rattle.wac_types.proofs.Asking.{settles_now, settles_then, settles_iff}
 
@@ -75,29 +78,33 @@ unfolding type_tree
 value_plain c v = plain_to c (suc (size c)) v
 
 module _ {t : Bool} {x y : Collection} where
-  pub asks_now : {E : Type 0} {ps qs : List AnyType} {o : List Question} → E → Asks t x y ps qs o o E
-  asks_now e = record { settles = λ m n hp hq. settles_now _ _ _ e }
+  pub asks_now : {E : Type 0} {ps qs : List AnyType} {o : Asked} → E → Asks t x y ps qs o o E
+  asks_now e = record { settles = λ n hp hq b. settles_now _ _ _ e }
 
-  pub asks_iff : {E F : Type 0} {ps qs : List AnyType} {o k : List Question} → (E → F) → (F → E) → Asks t x y ps qs o k E → Asks t x y ps qs o k F
-  asks_iff f g s = record { settles = λ m n hp hq. settles_iff _ _ _ _ f g (s.settles m n hp hq) }
+  pub asks_iff : {E F : Type 0} {ps qs : List AnyType} {o k : Asked} → (E → F) → (F → E) → Asks t x y ps qs o k E → Asks t x y ps qs o k F
+  asks_iff f g s = record { settles = λ n hp hq b. settles_iff _ _ _ _ f g (s.settles n hp hq b) }
 
   -- of parts of what is mentioned
-  pub asks_of : {E : Type 0} {ps0 qs0 : List AnyType} (ps qs : List AnyType) {o k : List Question} → ((m : ℕ) → AreBefore x m ps → AreBefore x m ps0) → ((m : ℕ) → AreBefore y m qs → AreBefore y m qs0)
+  pub asks_of : {E : Type 0} {ps0 qs0 : List AnyType} (ps qs : List AnyType) {o k : Asked} → ((P : AnyType → Type 0) → AllByRecursion P ps → AllByRecursion P ps0) → ((P : AnyType → Type 0) → AllByRecursion P qs → AllByRecursion P qs0)
       → Asks t x y ps0 qs0 o k E → Asks t x y ps qs o k E
-  asks_of ps qs f g s = record { settles = λ m n hp hq. s.settles m n (f m hp) (g n hq) }
+  asks_of {ps0 = ps0} {qs0 = qs0} ps qs f g s = record { settles = λ n hp hq b. s.settles n (f (λ a. holds_type x a ≡ true) hp) (g (λ a. holds_type y a ≡ true) hq) (by n b) }
+    where
+      by : (n : ℕ) → AreBelow x n ps ⊎ AreBelow y n qs → AreBelow x n ps0 ⊎ AreBelow y n qs0
+      by n (inl h) = inl (f (λ a. type_weight x a < n) h)
+      by n (inr h) = inr (g (λ a. type_weight y a < n) h)
 
   -- two in turn
-  pub asks_then : {E F : Type 0} {ps qs : List AnyType} {o l k : List Question} → Asks t x y ps qs o l E → Asks t x y ps qs l k F → Asks t x y ps qs o k (E × F)
-  asks_then s r = record { settles = λ m n hp hq. settles_then _ _ _ _ _ (s.settles m n hp hq) (r.settles m n hp hq) }
+  pub asks_then : {E F : Type 0} {ps qs : List AnyType} {o l k : Asked} → Asks t x y ps qs o l E → Asks t x y ps qs l k F → Asks t x y ps qs o k (E × F)
+  asks_then s r = record { settles = λ n hp hq b. settles_then _ _ _ _ _ (s.settles n hp hq b) (r.settles n hp hq b) }
 
-  pub asks_values : (v w : ValueType) {o k : List Question} → Asks t x y (ty.Value v ∷ []) (ty.Value w ∷ []) o k (Sub (value_in x v) (value_in y w)) → Asks t x y (ty.Value v ∷ []) (ty.Value w ∷ []) o k (value_in x v ≡ value_in y w)
+  pub asks_values : (v w : ValueType) {o k : Asked} → Asks t x y (ty.Value v ∷ []) (ty.Value w ∷ []) o k (Sub (value_in x v) (value_in y w)) → Asks t x y (ty.Value v ∷ []) (ty.Value w ∷ []) o k (value_in x v ≡ value_in y w)
   asks_values v w s = asks_iff (plain_sub (value_in x v) (value_in y w) (value_plain x v)) (plain_same (value_in x v) (value_in y w) (value_plain x v)) s
 
-pub optionals_none : (t : Bool) (x y : Collection) (v w : Option ValueType) (o : List Question) → v ≡ None → w ≡ None
+pub optionals_none : (t : Bool) (x y : Collection) (v w : Option ValueType) (o : Asked) → v ≡ None → w ≡ None
     → Asks t x y (value_types (and_maybe v [])) (value_types (and_maybe w [])) o o (optional_in x v ≡ optional_in y w)
 optionals_none t x y v w o e f = asks_now (ap (optional_in x) e ∙ sym (ap (optional_in y) f))
 
-pub optionals_some : (t : Bool) (x y : Collection) (v w : Option ValueType) (a b : ValueType) (o k : List Question) → v ≡ Some a → w ≡ Some b
+pub optionals_some : (t : Bool) (x y : Collection) (v w : Option ValueType) (a b : ValueType) (o k : Asked) → v ≡ Some a → w ≡ Some b
     → Asks t x y (ty.Value a ∷ []) (ty.Value b ∷ []) o k (value_in x a ≡ value_in y b)
     → Asks t x y (value_types (and_maybe v [])) (value_types (and_maybe w [])) o k (optional_in x v ≡ optional_in y w)
 optionals_some t x y v w a b o k e f s =

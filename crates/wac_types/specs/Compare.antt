@@ -40,20 +40,10 @@ entry_in c e = (e.0, value_in c e.1)
 abbrev pub case_in : Collection → Name × Option ValueType → Name × TypeTree Name
 case_in c e = (e.0, optional_in c e.1)
 
--- what a definition is an alias of
-abbrev pub aliased : DefinedType → Option ValueType
-aliased (def.Alias v) = Some v
-aliased _ = None
-
 -- the definition of a value type
 abbrev pub definition_in : Collection → ValueType → Option DefinedType
 definition_in c (val.Defined d) = item_at c.defined d.0
 definition_in c v = None
-
--- what a value type is an alias of
-abbrev pub alias_in : Collection → ValueType → Option ValueType
-alias_in c (val.Defined d) = option_case (item_at c.defined d.0) None aliased
-alias_in c v = None
 
 abbrev pub world_in : Collection → World → TypeTree Name
 world_in c w = component (listed_in c w.imports) (listed_in c w.exports)

@@ -1,5 +1,8 @@
 pub mod Called
 pub mod Subtype
 pub mod Compare
+pub mod Weights
 pub mod Questions
+pub mod Classes
+pub mod Settling
 pub mod TreeLaws

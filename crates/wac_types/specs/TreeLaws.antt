@@ -4,7 +4,7 @@ use Rattle.wac_collection.specs.Collection.{Collection, size, holds_type, with_r
 use Rattle.wac_collection.specs.Held.{Naming, Names, unfolded, unfolded_to}
 use Rattle.wac_collection.specs.Bound.{Bindings, held_tree}
 use Rattle.wac_types.specs.Subtype.{type_tree}
-use Rattle.wac_types.specs.Compare.{alias_in}
+use Rattle.wac_collection.specs.Aliases.{target_of}
 use Rattle.wac_types.specs.Called.{Called, by_binding}
 use Rattle.wac_collection.specs.declared.collection.Held.{Held}
 use Rattle.wac_shapes.specs.declared.component.Resource.{Resource}
@@ -23,7 +23,7 @@ IsDeepEnough naming c = (n : ℕ) → size c < n → (m : Names _) (t : AnyType)
 
 -- an alias has the trees of what it names
 abbrev pub AliasesAgree : Collection → Type 0
-AliasesAgree c = (v w : ValueType) → alias_in c v ≡ Some w → (type_tree c (ty.Value v) ≡ type_tree c (ty.Value w)) × ((m : Bindings) → held_tree c m (ty.Value v) ≡ held_tree c m (ty.Value w))
+AliasesAgree c = (v w : ValueType) → target_of c v ≡ Some w → (type_tree c (ty.Value v) ≡ type_tree c (ty.Value w)) × ((m : Bindings) → held_tree c m (ty.Value v) ≡ held_tree c m (ty.Value w))
 
 -- what the one holds stands in the other, at the same positions
 pub record IsKeptBy (c d : Collection) : Type 0 where

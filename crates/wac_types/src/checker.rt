@@ -5,7 +5,7 @@ ghost use Rattle.wac_shapes.specs.Kinds.{kind_type};
 ghost use Rattle.wac_types.specs.Subtype.{IsSubtype};
 
 use crate::comparison::Comparison;
-use indexmap::IndexSet;
+use crate::questions::Asked;
 use thiserror::Error;
 use wac_collection::{ItemKind, Types};
 
@@ -50,11 +50,11 @@ impl SubtypeChecker {
             first: at,
             second: bt,
         };
-        let mut asked = IndexSet::new(at.allocator());
+        let mut asked = Asked::new(at.allocator());
         comparison.ask_kinds(&mut asked, a, b)?;
         let mut next = 0;
-        while next < asked.len() {
-            let question = asked.as_slice()[next];
+        while next < asked.questions.len() {
+            let question = asked.questions.as_slice()[next];
             if question.turned {
                 comparison
                     .turned()

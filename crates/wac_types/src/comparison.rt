@@ -6,15 +6,16 @@ ghost use Rattle.wac_collection.specs.Collection.{kind_types, value_types, and_m
 ghost use Rattle.wac_shapes.specs.Kinds.{kind_type};
 ghost use Rattle.wac_collection.specs.Held.{resolved};
 ghost use Rattle.wac_types.specs.Subtype.{Sub, type_tree, kind_tree, resource_names};
-ghost use Rattle.wac_types.specs.Compare.{value_in, optional_in, func_in, defined_in, world_in, entry_in, case_in, aliased, alias_in, Offers};
-ghost use Rattle.wac_types.specs.Questions.{in_order, type_rank, Settles, Asks, Refutes};
+ghost use Rattle.wac_collection.specs.Aliases.{aliased};
+ghost use Rattle.wac_types.specs.Compare.{value_in, optional_in, func_in, defined_in, world_in, entry_in, case_in, Offers};
+ghost use Rattle.wac_types.specs.Questions.{IsEnd, IsPlainType, Refutes};
+ghost use Rattle.wac_types.specs.Settling.{Asks, RestsOn, HasEnd};
 ghost use Rattle.wac_shapes.specs.declared.component.«Type».TheVariants as ty;
 
 use crate::checker::TypeFault;
 use crate::core_modules::is_module_subtype;
-use crate::questions::{Question, put};
+use crate::questions::{Asked, Question};
 use crate::small::has_small_parts;
-use indexmap::IndexSet;
 use wac_collection::{
     DefinedType, FuncType, FuncTypeId, ItemKind, Labels, Named, PrimitiveType, ResourceId, Type,
     Types, ValueType, World,
@@ -46,28 +47,31 @@ impl<'a> Comparison<'a> {
     }
 
     // Asks whether one type is a subtype of another.
-    fn ask_type(self, asked: &mut IndexSet<Question>, a: Type, b: Type) -> Result<(), TypeFault>
-        ensures asked { IfOk result (λ _. Asks self.entry.turned self.entry.first.now self.entry.second.now (a ∷ []) (b ∷ []) asked.old.keys asked.new.keys (Sub (type_tree self.entry.first.now a) (type_tree self.entry.second.now b))) }
+    fn ask_type(self, asked: &mut Asked, a: Type, b: Type) -> Result<(), TypeFault>
+        ensures asked { IfOk result (λ _. Asks self.entry.turned self.entry.first.now self.entry.second.now (a ∷ []) (b ∷ []) asked.old asked.new (Sub (type_tree self.entry.first.now a) (type_tree self.entry.second.now b))) }
         ensures no_mismatch { result ≢ Err TypeFault.Mismatch }
     {
-        put(
-            asked,
-            Question {
-                turned: self.turned,
-                first: a,
-                second: b,
-            },
-        )
+        let first = end(self.first, a);
+        let second = end(self.second, b);
+        let question = Question {
+            turned: self.turned,
+            first,
+            second,
+        };
+        if are_plain(first, second) {
+            return asked.put_plain(question);
+        }
+        asked.put(question)
     }
 
     /// Asks whether one value type is another, which is a question of its own unless both are primitives.
     pub(crate) fn ask_part(
         self,
-        asked: &mut IndexSet<Question>,
+        asked: &mut Asked,
         v: ValueType,
         w: ValueType,
     ) -> Result<(), TypeFault>
-        ensures asked { IfOk result (λ _. Asks self.entry.turned self.entry.first.now self.entry.second.now (ty.Value v ∷ []) (ty.Value w ∷ []) asked.old.keys asked.new.keys (value_in self.entry.first.now v ≡ value_in self.entry.second.now w)) }
+        ensures asked { IfOk result (λ _. Asks self.entry.turned self.entry.first.now self.entry.second.now (ty.Value v ∷ []) (ty.Value w ∷ []) asked.old asked.new (value_in self.entry.first.now v ≡ value_in self.entry.second.now w)) }
         ensures mismatch { result ≡ Err TypeFault.Mismatch → value_in self.entry.first.now v ≡ value_in self.entry.second.now w → ⊥ }
     {
         match (v, w) {
@@ -76,31 +80,14 @@ impl<'a> Comparison<'a> {
         }
     }
 
-    // Asks whether one value type is another.
-    #[inline(always)]
-    fn ask_value(
-        self,
-        asked: &mut IndexSet<Question>,
-        v: ValueType,
-        w: ValueType,
-    ) -> Result<(), TypeFault>
-        ensures asked { IfOk result (λ _. Asks self.entry.turned self.entry.first.now self.entry.second.now (ty.Value v ∷ []) (ty.Value w ∷ []) asked.old.keys asked.new.keys (value_in self.entry.first.now v ≡ value_in self.entry.second.now w)) }
-        ensures mismatch { result ≡ Err TypeFault.Mismatch → value_in self.entry.first.now v ≡ value_in self.entry.second.now w → ⊥ }
-    {
-        match (v, w) {
-            (ValueType::Primitive(p), ValueType::Primitive(q)) => same_primitive(p, q),
-            _ => self.ask_opened(asked, v, w),
-        }
-    }
-
     // Asks whether both are there and one is the other, or neither is there.
     fn ask_optional(
         self,
-        asked: &mut IndexSet<Question>,
+        asked: &mut Asked,
         v: Option<ValueType>,
         w: Option<ValueType>,
     ) -> Result<(), TypeFault>
-        ensures asked { IfOk result (λ _. Asks self.entry.turned self.entry.first.now self.entry.second.now (value_types (and_maybe v [])) (value_types (and_maybe w [])) asked.old.keys asked.new.keys (optional_in self.entry.first.now v ≡ optional_in self.entry.second.now w)) }
+        ensures asked { IfOk result (λ _. Asks self.entry.turned self.entry.first.now self.entry.second.now (value_types (and_maybe v [])) (value_types (and_maybe w [])) asked.old asked.new (optional_in self.entry.first.now v ≡ optional_in self.entry.second.now w)) }
         ensures mismatch { result ≡ Err TypeFault.Mismatch → Refutes self.entry.first.now self.entry.second.now (value_types (and_maybe v [])) (value_types (and_maybe w [])) (optional_in self.entry.first.now v ≡ optional_in self.entry.second.now w) }
     {
         match (v, w) {
@@ -113,11 +100,11 @@ impl<'a> Comparison<'a> {
     // Asks whether the value types of one list are those of the other.
     fn ask_values(
         self,
-        asked: &mut IndexSet<Question>,
+        asked: &mut Asked,
         vs: &[ValueType],
         ws: &[ValueType],
     ) -> Result<(), TypeFault>
-        ensures asked { IfOk result (λ _. Asks self.entry.turned self.entry.first.now self.entry.second.now (value_types vs.now) (value_types ws.now) asked.old.keys asked.new.keys (map (value_in self.entry.first.now) vs.now ≡ map (value_in self.entry.second.now) ws.now)) }
+        ensures asked { IfOk result (λ _. Asks self.entry.turned self.entry.first.now self.entry.second.now (value_types vs.now) (value_types ws.now) asked.old asked.new (map (value_in self.entry.first.now) vs.now ≡ map (value_in self.entry.second.now) ws.now)) }
         ensures mismatch { result ≡ Err TypeFault.Mismatch → map (value_in self.entry.first.now) vs.now ≡ map (value_in self.entry.second.now) ws.now → ⊥ }
     {
         if vs.len() != ws.len() {
@@ -132,11 +119,11 @@ impl<'a> Comparison<'a> {
     // Asks whether the names of one list are those of the other, and the value types under them.
     fn ask_named(
         self,
-        asked: &mut IndexSet<Question>,
+        asked: &mut Asked,
         vs: &Named<ValueType>,
         ws: &Named<ValueType>,
     ) -> Result<(), TypeFault>
-        ensures asked { IfOk result (λ _. Asks self.entry.turned self.entry.first.now self.entry.second.now (value_types (seconds vs.now)) (value_types (seconds ws.now)) asked.old.keys asked.new.keys (map (entry_in self.entry.first.now) vs.now ≡ map (entry_in self.entry.second.now) ws.now)) }
+        ensures asked { IfOk result (λ _. Asks self.entry.turned self.entry.first.now self.entry.second.now (value_types (seconds vs.now)) (value_types (seconds ws.now)) asked.old asked.new (map (entry_in self.entry.first.now) vs.now ≡ map (entry_in self.entry.second.now) ws.now)) }
         ensures mismatch { result ≡ Err TypeFault.Mismatch → map (entry_in self.entry.first.now) vs.now ≡ map (entry_in self.entry.second.now) ws.now → ⊥ }
     {
         if vs.len() != ws.len() {
@@ -156,11 +143,11 @@ impl<'a> Comparison<'a> {
     // Asks whether the cases of one variant are those of the other.
     fn ask_cases(
         self,
-        asked: &mut IndexSet<Question>,
+        asked: &mut Asked,
         cs: &Named<Option<ValueType>>,
         ds: &Named<Option<ValueType>>,
     ) -> Result<(), TypeFault>
-        ensures asked { IfOk result (λ _. Asks self.entry.turned self.entry.first.now self.entry.second.now (value_types (case_values cs.now)) (value_types (case_values ds.now)) asked.old.keys asked.new.keys (map (case_in self.entry.first.now) cs.now ≡ map (case_in self.entry.second.now) ds.now)) }
+        ensures asked { IfOk result (λ _. Asks self.entry.turned self.entry.first.now self.entry.second.now (value_types (case_values cs.now)) (value_types (case_values ds.now)) asked.old asked.new (map (case_in self.entry.first.now) cs.now ≡ map (case_in self.entry.second.now) ds.now)) }
         ensures mismatch { result ≡ Err TypeFault.Mismatch → Refutes self.entry.first.now self.entry.second.now (value_types (case_values cs.now)) (value_types (case_values ds.now)) (map (case_in self.entry.first.now) cs.now ≡ map (case_in self.entry.second.now) ds.now) }
     {
         if cs.len() != ds.len() {
@@ -176,13 +163,8 @@ impl<'a> Comparison<'a> {
     }
 
     // Asks whether one function type is the other.
-    fn ask_func(
-        self,
-        asked: &mut IndexSet<Question>,
-        f: &FuncType,
-        g: &FuncType,
-    ) -> Result<(), TypeFault>
-        ensures asked { IfOk result (λ _. Asks self.entry.turned self.entry.first.now self.entry.second.now (func_mentions f.now) (func_mentions g.now) asked.old.keys asked.new.keys (func_in self.entry.first.now f.now ≡ func_in self.entry.second.now g.now)) }
+    fn ask_func(self, asked: &mut Asked, f: &FuncType, g: &FuncType) -> Result<(), TypeFault>
+        ensures asked { IfOk result (λ _. Asks self.entry.turned self.entry.first.now self.entry.second.now (func_mentions f.now) (func_mentions g.now) asked.old asked.new (func_in self.entry.first.now f.now ≡ func_in self.entry.second.now g.now)) }
         ensures mismatch { result ≡ Err TypeFault.Mismatch → Refutes self.entry.first.now self.entry.second.now (func_mentions f.now) (func_mentions g.now) (func_in self.entry.first.now f.now ≡ func_in self.entry.second.now g.now) }
     {
         if f.is_async != g.is_async {
@@ -193,13 +175,8 @@ impl<'a> Comparison<'a> {
     }
 
     // Asks whether one function type is the other. Those of few parameters under short names are looked into at once.
-    fn ask_func_type(
-        self,
-        asked: &mut IndexSet<Question>,
-        i: FuncTypeId,
-        j: FuncTypeId,
-    ) -> Result<(), TypeFault>
-        ensures asked { IfOk result (λ _. Asks self.entry.turned self.entry.first.now self.entry.second.now (ty.Func i ∷ []) (ty.Func j ∷ []) asked.old.keys asked.new.keys (Sub (type_tree self.entry.first.now (ty.Func i)) (type_tree self.entry.second.now (ty.Func j)))) }
+    fn ask_func_type(self, asked: &mut Asked, i: FuncTypeId, j: FuncTypeId) -> Result<(), TypeFault>
+        ensures asked { IfOk result (λ _. Asks self.entry.turned self.entry.first.now self.entry.second.now (ty.Func i ∷ []) (ty.Func j ∷ []) asked.old asked.new (Sub (type_tree self.entry.first.now (ty.Func i)) (type_tree self.entry.second.now (ty.Func j)))) }
         ensures mismatch { result ≡ Err TypeFault.Mismatch → Sub (type_tree self.entry.first.now (ty.Func i)) (type_tree self.entry.second.now (ty.Func j)) → ⊥ }
     {
         self.first.law();
@@ -218,13 +195,13 @@ impl<'a> Comparison<'a> {
     // Asks whether one definition is the other; neither is an alias.
     fn ask_defined(
         self,
-        asked: &mut IndexSet<Question>,
+        asked: &mut Asked,
         d: &DefinedType,
         e: &DefinedType,
     ) -> Result<(), TypeFault>
         requires first { aliased d.now ≡ None }
         requires second { aliased e.now ≡ None }
-        ensures asked { IfOk result (λ _. Asks self.entry.turned self.entry.first.now self.entry.second.now (defined_mentions d.now) (defined_mentions e.now) asked.old.keys asked.new.keys (defined_in self.entry.first.now d.now ≡ defined_in self.entry.second.now e.now)) }
+        ensures asked { IfOk result (λ _. Asks self.entry.turned self.entry.first.now self.entry.second.now (defined_mentions d.now) (defined_mentions e.now) asked.old asked.new (defined_in self.entry.first.now d.now ≡ defined_in self.entry.second.now e.now)) }
         ensures mismatch { result ≡ Err TypeFault.Mismatch → Refutes self.entry.first.now self.entry.second.now (defined_mentions d.now) (defined_mentions e.now) (defined_in self.entry.first.now d.now ≡ defined_in self.entry.second.now e.now) }
     {
         match (d, e) {
@@ -274,11 +251,11 @@ impl<'a> Comparison<'a> {
     /// Asks whether one item is a subtype of the other.
     pub(crate) fn ask_kinds(
         self,
-        asked: &mut IndexSet<Question>,
+        asked: &mut Asked,
         x: ItemKind,
         y: ItemKind,
     ) -> Result<(), TypeFault>
-        ensures asked { IfOk result (λ _. Asks self.entry.turned self.entry.first.now self.entry.second.now (kind_type x ∷ []) (kind_type y ∷ []) asked.old.keys asked.new.keys (Sub (kind_tree self.entry.first.now x) (kind_tree self.entry.second.now y))) }
+        ensures asked { IfOk result (λ _. Asks self.entry.turned self.entry.first.now self.entry.second.now (kind_type x ∷ []) (kind_type y ∷ []) asked.old asked.new (Sub (kind_tree self.entry.first.now x) (kind_tree self.entry.second.now y))) }
         ensures mismatch { result ≡ Err TypeFault.Mismatch → Sub (kind_tree self.entry.first.now x) (kind_tree self.entry.second.now y) → ⊥ }
     {
         match (x, y) {
@@ -304,11 +281,11 @@ impl<'a> Comparison<'a> {
     // Asks whether each item of the second list is offered by the first.
     fn ask_items(
         self,
-        asked: &mut IndexSet<Question>,
+        asked: &mut Asked,
         xs: &Named<ItemKind>,
         ys: &Named<ItemKind>,
     ) -> Result<(), TypeFault>
-        ensures asked { IfOk result (λ _. Asks self.entry.turned self.entry.first.now self.entry.second.now (kind_types xs.now) (kind_types ys.now) asked.old.keys asked.new.keys (Offers self.entry.first.now xs.now self.entry.second.now ys.now)) }
+        ensures asked { IfOk result (λ _. Asks self.entry.turned self.entry.first.now self.entry.second.now (kind_types xs.now) (kind_types ys.now) asked.old asked.new (Offers self.entry.first.now xs.now self.entry.second.now ys.now)) }
         ensures mismatch { result ≡ Err TypeFault.Mismatch → Offers self.entry.first.now xs.now self.entry.second.now ys.now → ⊥ }
     {
         ys.law();
@@ -322,53 +299,21 @@ impl<'a> Comparison<'a> {
     }
 
     // Asks whether one world is a subtype of the other.
-    fn ask_worlds(
-        self,
-        asked: &mut IndexSet<Question>,
-        w: &World,
-        v: &World,
-    ) -> Result<(), TypeFault>
-        ensures asked { IfOk result (λ _. Asks self.entry.turned self.entry.first.now self.entry.second.now (world_mentions w.now) (world_mentions v.now) asked.old.keys asked.new.keys (Sub (world_in self.entry.first.now w.now) (world_in self.entry.second.now v.now))) }
+    fn ask_worlds(self, asked: &mut Asked, w: &World, v: &World) -> Result<(), TypeFault>
+        ensures asked { IfOk result (λ _. Asks self.entry.turned self.entry.first.now self.entry.second.now (world_mentions w.now) (world_mentions v.now) asked.old asked.new (Sub (world_in self.entry.first.now w.now) (world_in self.entry.second.now v.now))) }
         ensures mismatch { result ≡ Err TypeFault.Mismatch → Sub (world_in self.entry.first.now w.now) (world_in self.entry.second.now v.now) → ⊥ }
     {
         self.turned().ask_items(asked, &v.imports, &w.imports)?;
         self.ask_items(asked, &w.exports, &v.exports)
     }
 
-    // Asks what the answer for two value types rests on: for aliases, on the types at their ends.
-    fn answer_value(
-        self,
-        asked: &mut IndexSet<Question>,
-        v: ValueType,
-        w: ValueType,
-    ) -> Result<(), TypeFault>
+    // Asks what the answer for two value types rests on; neither is an alias.
+    fn answer_value(self, asked: &mut Asked, v: ValueType, w: ValueType) -> Result<(), TypeFault>
         requires first { holds_type self.first.now (ty.Value v) ≡ true }
         requires second { holds_type self.second.now (ty.Value w) ≡ true }
-        ensures settled { IfOk result (λ _. Settles (in_order self.entry.turned self.entry.first.now self.entry.second.now) (type_rank self.entry.first.now (ty.Value v) + type_rank self.entry.second.now (ty.Value w)) asked.old.keys asked.new.keys (value_in self.entry.first.now v ≡ value_in self.entry.second.now w)) }
-        ensures mismatch { result ≡ Err TypeFault.Mismatch → value_in self.entry.first.now v ≡ value_in self.entry.second.now w → ⊥ }
-    {
-        self.first.law();
-        self.second.law();
-        let first = self.first.resolve_value_type(v);
-        let second = self.second.resolve_value_type(w);
-        if first != v || second != w {
-            return self.ask_value(asked, first, second);
-        }
-        self.answer_plain(asked, v, w)
-    }
-
-    // The same of two value types that are no aliases.
-    fn answer_plain(
-        self,
-        asked: &mut IndexSet<Question>,
-        v: ValueType,
-        w: ValueType,
-    ) -> Result<(), TypeFault>
-        requires first { holds_type self.first.now (ty.Value v) ≡ true }
-        requires second { holds_type self.second.now (ty.Value w) ≡ true }
-        requires first_plain { alias_in self.first.now v ≡ None }
-        requires second_plain { alias_in self.second.now w ≡ None }
-        ensures settled { IfOk result (λ _. Settles (in_order self.entry.turned self.entry.first.now self.entry.second.now) (type_rank self.entry.first.now (ty.Value v) + type_rank self.entry.second.now (ty.Value w)) asked.old.keys asked.new.keys (value_in self.entry.first.now v ≡ value_in self.entry.second.now w)) }
+        requires first_end { IsEnd self.first.now (ty.Value v) }
+        requires second_end { IsEnd self.second.now (ty.Value w) }
+        ensures settled { IfOk result (λ _. RestsOn self.entry.turned self.entry.first.now self.entry.second.now (ty.Value v) (ty.Value w) asked.old asked.new (value_in self.entry.first.now v ≡ value_in self.entry.second.now w)) }
         ensures mismatch { result ≡ Err TypeFault.Mismatch → value_in self.entry.first.now v ≡ value_in self.entry.second.now w → ⊥ }
     {
         self.first.law();
@@ -385,15 +330,12 @@ impl<'a> Comparison<'a> {
     }
 
     /// Asks what the answer to a question rests on.
-    pub(crate) fn answer(
-        self,
-        asked: &mut IndexSet<Question>,
-        a: Type,
-        b: Type,
-    ) -> Result<(), TypeFault>
-        requires first { holds_type self.first.now (a) ≡ true }
-        requires second { holds_type self.second.now (b) ≡ true }
-        ensures settled { IfOk result (λ _. Settles (in_order self.entry.turned self.entry.first.now self.entry.second.now) (type_rank self.entry.first.now (a) + type_rank self.entry.second.now (b)) asked.old.keys asked.new.keys (Sub (type_tree self.entry.first.now a) (type_tree self.entry.second.now b))) }
+    pub(crate) fn answer(self, asked: &mut Asked, a: Type, b: Type) -> Result<(), TypeFault>
+        requires first { holds_type self.first.now a ≡ true }
+        requires second { holds_type self.second.now b ≡ true }
+        requires first_end { IsEnd self.first.now a }
+        requires second_end { IsEnd self.second.now b }
+        ensures settled { IfOk result (λ _. RestsOn self.entry.turned self.entry.first.now self.entry.second.now a b asked.old asked.new (Sub (type_tree self.entry.first.now a) (type_tree self.entry.second.now b))) }
         ensures mismatch { result ≡ Err TypeFault.Mismatch → Sub (type_tree self.entry.first.now a) (type_tree self.entry.second.now b) → ⊥ }
     {
         self.first.law();
@@ -420,6 +362,34 @@ impl<'a> Comparison<'a> {
             _ => Err(TypeFault::Mismatch),
         }
     }
+}
+
+// The type at the end of the aliases.
+fn end(types: &Types, ty: Type) -> Type
+    ensures { HasEnd types.now ty result }
+{
+    types.law();
+    match ty {
+        Type::Value(value) => Type::Value(types.resolve_value_type(value)),
+        _ => ty,
+    }
+}
+
+// Whether a type is a subtype of its equal alone.
+fn is_plain(ty: Type) -> bool
+    ensures { IsTrue result → IsPlainType ty }
+{
+    match ty {
+        Type::Resource(_) | Type::Func(_) | Type::Value(_) => true,
+        _ => false,
+    }
+}
+
+// Whether each is a subtype of its equal alone.
+fn are_plain(a: Type, b: Type) -> bool
+    ensures { IsTrue result → IsPlainType a × IsPlainType b }
+{
+    is_plain(a) && is_plain(b)
 }
 
 // Whether the names are the same, in the same order.

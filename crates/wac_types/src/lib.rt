@@ -2,6 +2,7 @@
 #![tactic(auto)]
 
 mod checker;
+mod classes;
 mod comparison;
 mod core_modules;
 pub mod laws;

@@ -1,9 +1,12 @@
 //! The questions of a comparison.
-ghost use Rattle.std.specs.Prelude.{◌≢◌, Err, IfOk};
+ghost use Rattle.std.specs.Prelude.{◌≡◌, ◌≢◌, [], Err, IfOk, OnOk};
 ghost use Rattle.wac_types.specs.Questions.{Puts};
+ghost use Rattle.wac_types.specs.Settling.{PutsPlain};
 
 use crate::checker::TypeFault;
+use crate::classes::{Classes, Node};
 use indexmap::IndexSet;
+use std::alloc::Global;
 use wac_collection::Type;
 
 /// Whether the first type is a subtype of the second.
@@ -17,13 +20,56 @@ pub(crate) struct Question {
     pub(crate) second: Type,
 }
 
-/// Adds a question, unless it was asked before.
-pub(crate) fn put(asked: &mut IndexSet<Question>, question: Question) -> Result<(), TypeFault>
-    ensures put { IfOk result (λ _. Puts asked.old.keys asked.new.keys question) }
-    ensures no_mismatch { result ≢ Err TypeFault.Mismatch }
-{
-    match asked.insert(question) {
-        Ok(_) => Ok(()),
-        Err(_) => Err(TypeFault::OutOfMemory),
+/// The questions that were asked, and which types are the same where their answers are yes.
+#[derive(Drop)]
+pub(crate) struct Asked {
+    /// The questions, each once, in the order in which they were first asked.
+    pub(crate) questions: IndexSet<Question>,
+    /// Which types are the same.
+    pub(crate) classes: Classes,
+}
+
+impl Asked {
+    /// Nothing was asked.
+    pub(crate) fn new(alloc: Global) -> Asked
+        ensures questions { result.questions.keys ≡ [] }
+        ensures classes { result.classes.links.entries ≡ [] }
+    {
+        Asked {
+            questions: IndexSet::new(alloc),
+            classes: Classes::new(alloc),
+        }
+    }
+
+    /// Adds a question, unless it was asked before.
+    pub(crate) fn put(&mut self, question: Question) -> Result<(), TypeFault>
+        ensures put { OnOk result (Puts self.old.questions.keys self.new.questions.keys question) }
+        ensures classes { self.new.classes ≡ self.old.classes }
+        ensures no_mismatch { result ≢ Err TypeFault.Mismatch }
+    {
+        match self.questions.insert(question) {
+            Ok(_) => Ok(()),
+            Err(_) => Err(TypeFault::OutOfMemory),
+        }
+    }
+
+    /// Adds a question whether two types are the same, unless that follows from those that were asked before.
+    pub(crate) fn put_plain(&mut self, question: Question) -> Result<(), TypeFault>
+        ensures put { OnOk result (PutsPlain self.old self.new question) }
+        ensures no_mismatch { result ≢ Err TypeFault.Mismatch }
+    {
+        let first = Node {
+            turned: question.turned,
+            ty: question.first,
+        };
+        let second = Node {
+            turned: !question.turned,
+            ty: question.second,
+        };
+        match self.classes.join(first, second) {
+            Ok(true) => self.put(question),
+            Ok(false) => Ok(()),
+            Err(_) => Err(TypeFault::OutOfMemory),
+        }
     }
 }

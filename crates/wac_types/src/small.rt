@@ -2,13 +2,12 @@
 ghost use Rattle.std.specs.Prelude.{◌≡◌, ◌≤◌, [], ◌∷◌, length, slice_get, map, Err, EachIndex, IfSome, IfOk, IsTrue};
 ghost use Rattle.std.specs.Option.{option_copied};
 ghost use Rattle.wac_types.specs.Compare.{definition_in, value_in, entry_in};
-ghost use Rattle.wac_types.specs.Questions.{Asks};
+ghost use Rattle.wac_types.specs.Settling.{Asks};
 ghost use Rattle.wac_shapes.specs.declared.component.«Type».TheVariants as ty;
 
 use crate::checker::TypeFault;
 use crate::comparison::Comparison;
-use crate::questions::Question;
-use indexmap::IndexSet;
+use crate::questions::Asked;
 use wac_collection::{DefinedType, Named, Types, ValueType};
 
 /// How many parameters or fields a type may have that is looked into wherever it is mentioned.
@@ -64,14 +63,14 @@ impl<'a> Comparison<'a> {
         true
     }
 
-    /// The same, where lists, options and small records are looked into at once, which takes no longer than a question does.
-    pub(crate) fn ask_opened(
+    /// Asks whether one value type is another. Lists, options and small records are looked into at once, which takes no longer than a question does.
+    pub(crate) fn ask_value(
         self,
-        asked: &mut IndexSet<Question>,
+        asked: &mut Asked,
         v: ValueType,
         w: ValueType,
     ) -> Result<(), TypeFault>
-        ensures asked { IfOk result (λ _. Asks self.entry.turned self.entry.first.now self.entry.second.now (ty.Value v ∷ []) (ty.Value w ∷ []) asked.old.keys asked.new.keys (value_in self.entry.first.now v ≡ value_in self.entry.second.now w)) }
+        ensures asked { IfOk result (λ _. Asks self.entry.turned self.entry.first.now self.entry.second.now (ty.Value v ∷ []) (ty.Value w ∷ []) asked.old asked.new (value_in self.entry.first.now v ≡ value_in self.entry.second.now w)) }
         ensures mismatch { result ≡ Err TypeFault.Mismatch → value_in self.entry.first.now v ≡ value_in self.entry.second.now w → ⊥ }
     {
         self.first.law();

@@ -1,5 +1,5 @@
 use Rattle.std.proofs.Common.{◌∙◌, sym, inl, inr}
-use Rattle.wac_graph.specs.Steps.{IsEmpty}
+use Rattle.wac_nodes.specs.Steps.{IsEmpty}
 use Rattle.wac_demo.specs.Composed.{IsReadme, IsOfWord}
 use Rattle.wac_demo.proofs.Weakening.{weaken, distinct}
 use Rattle.wac_demo.proofs.run.compose.Goals as goal

@@ -1,5 +1,5 @@
 use Rattle.std.proofs.Common.{List, sym, subst}
-use Rattle.wac_graph.specs.declared.packages.PackageId.{PackageId}
+use Rattle.wac_nodes.specs.declared.packages.PackageId.{PackageId}
 use Rattle.wac_plug.specs.Plugging.{Answer, PlugsAll}
 use Rattle.wac_plug.specs.Outcome.{IsAlreadyPassed}
 use Rattle.wac_plug.specs.Naming.{PlugsAllNamed}

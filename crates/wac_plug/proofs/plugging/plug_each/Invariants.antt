@@ -1,5 +1,5 @@
 use Rattle.std.proofs.Common.{◌≡◌, ◌||◌, List, drop}
-use Rattle.wac_graph.specs.Graph.{Graph}
+use Rattle.wac_nodes.specs.Graph.{Graph}
 use Rattle.wac_plug.specs.Matching.{Match, AreAllMatches}
 use Rattle.wac_plug.specs.Plugging.{Answer, InOrder, Keeps, has_any}
 use Rattle.wac_plug.specs.Naming.{PlugsNamed}

@@ -1,5 +1,5 @@
 use Rattle.std.proofs.Common.{drop}
-use Rattle.wac_graph.specs.Graph.{Graph}
+use Rattle.wac_nodes.specs.Graph.{Graph}
 use Rattle.wac_plug.specs.Plugging.{Answer, InOrder, Wires, Keeps}
 use Rattle.wac_plug.proofs.wiring.plug_in.Given as goal
 

@@ -25,7 +25,7 @@ returns-in-Some-place c =
     ∙ ap (or_itself r) (c.at.ensures ∙ ap (λ path. new_at b.fresh.now x.union (path_view path)) c.as_slice-path.ensures.value)
     ∙ sym (around-bound t b.parts.now b.bound.now b.bindings.now b.fresh.now c.requires.bound c.in-Some.start c.outward.position r x c.index-self-position.result
     (slice_get-get_or b.parts.now c.outward.position no-part c.outward.invariant.near) c.index-self-position.is c.outward.invariant c.in-Some-place.place.now found)
-    ∙ (λ i. became t b.parts.now b.bindings.now b.fresh.now (sym c.in-Some.is i) (c.resolve_resource-resource.ensures i))
+    ∙ (λ i. became t b.parts.now b.bindings.now b.fresh.now (sym c.in-Some.is i) (c.resolve_resource-resource.ensures.end i))
 
 pub returns-in_default-outer : goal.returns-in_default-outer
 returns-in_default-outer c =
@@ -36,7 +36,7 @@ returns-in_default-outer c =
     c.in_class.ensures
     ∙ sym (around-past t b.parts.now b.bound.now b.bindings.now b.fresh.now c.requires.bound c.in-Some.start c.outward.position r x c.index-self-position.result
     (slice_get-get_or b.parts.now c.outward.position no-part c.outward.invariant.near) c.index-self-position.is c.outward.invariant c.in_default-outer.is (ap (λ y. find_resource y r) c.index-self-position.is ∙ sym c.in_default-place.ensures))
-    ∙ (λ i. became t b.parts.now b.bindings.now b.fresh.now (sym c.in-Some.is i) (c.resolve_resource-resource.ensures i))
+    ∙ (λ i. became t b.parts.now b.bindings.now b.fresh.now (sym c.in-Some.is i) (c.resolve_resource-resource.ensures.end i))
 
 pub outward-smaller : goal.outward-smaller
 outward-smaller c =

@@ -1,5 +1,5 @@
 use Rattle.std.proofs.Common.{arith, length, ap, subst, ◌+◌, ◌∙◌, sym, ◌<◌, ◌≤◌, List, slice_get}
-use Rattle.wac_types.specs.declared.questions.Question.{Question}
+use Rattle.wac_types.specs.declared.questions.Asked.{Asked}
 use Rattle.wac_types.proofs.Agreeing.{get_read}
 use Rattle.wac_types.proofs.Universe.{universe, asked_few}
 use Rattle.wac_types.proofs.Comparing.{Compares, compares_first, compares_next, compares_last, ahead, turned_round}
@@ -7,11 +7,11 @@ use Rattle.wac_types.proofs.checker.SubtypeChecker.is_subtype.Goals as goal
 use Rattle.wac_types.proofs.checker.SubtypeChecker.is_subtype.Goals.{then-question+in_ok-answer, else-question+in_ok-answer-2}
 
 pub loop-next-init : goal.loop-next-init
-loop-next-init c = compares_first c.args.at.now c.args.bt.now c.args.a c.args.b _ _ c.new-asked.ensures.empty c.requires.first c.requires.second c.in_ok-ask_kinds.ensures.asked
+loop-next-init c = compares_first c.args.at.now c.args.bt.now c.args.a c.args.b _ _ c.new-asked.ensures.questions c.new-asked.ensures.classes c.requires.first c.requires.second c.in_ok-ask_kinds.ensures.asked
 
 pub loop-next-smaller : goal.loop-next-smaller
 loop-next-smaller c =
-    let few : length c.loop-next.asked.keys ≤ length (universe (c.args.at.now, c.args.bt.now)) = asked_few (c.args.at.now, c.args.bt.now) c.loop-next.asked.keys c.len.ensures.unique c.loop-next.invariant.held in
+    let few : length c.loop-next.asked.questions.keys ≤ length (universe (c.args.at.now, c.args.bt.now)) = asked_few (c.args.at.now, c.args.bt.now) c.loop-next.asked.questions.keys c.len.ensures.unique c.loop-next.invariant.held in
     let l = c.len.ensures.len in
     let t = c.loop-next-test.true in
     omega (arith, few, l, t)
@@ -21,17 +21,17 @@ loop-next-preserved c =
     let lt : c.loop-next.next < length c.as_slice.result.now = let l = c.len.ensures.len in let t = c.loop-next-test.true in let k = ap length c.as_slice.ensures.keys in omega (arith, l, t, k) in
     let read = get_read c.as_slice.result.now c.loop-next.next _ lt in
     let at = ap (λ x. slice_get x c.loop-next.next) (sym c.as_slice.ensures.keys) ∙ read in
-    let less : c.loop-next.next < length c.loop-next.asked.keys = let k = ap length c.as_slice.ensures.keys in omega (arith, lt, k) in
+    let less : c.loop-next.next < length c.loop-next.asked.questions.keys = let k = ap length c.as_slice.ensures.keys in omega (arith, lt, k) in
     elim c.if-question.branch [
       | then-question+in_ok-answer w ↦
-          let P : List Question → Type 0 = λ x. Compares c.args.at.now c.args.bt.now c.args.a c.args.b x (c.loop-next.next + 1) in
-          subst P (λ i. (sym w.asked-is i).keys) (compares_next c.args.at.now c.args.bt.now c.args.a c.args.b c.loop-next.asked.keys w.answer.new.asked.keys c.loop-next.next _ at less c.loop-next.invariant
+          let P : Asked → Type 0 = λ x. Compares c.args.at.now c.args.bt.now c.args.a c.args.b x (c.loop-next.next + 1) in
+          subst P (sym w.asked-is) (compares_next c.args.at.now c.args.bt.now c.args.a c.args.b c.loop-next.asked w.answer.new.asked c.loop-next.next _ at less c.loop-next.invariant
           (turned_round c.args.at.now c.args.bt.now _ _ _ _ _ _ w.if-question.true w.turned.ensures.turned w.turned.ensures.first w.turned.ensures.second w.in_ok-answer.ensures.settled))
       | else-question+in_ok-answer-2 w ↦
-          let P : List Question → Type 0 = λ x. Compares c.args.at.now c.args.bt.now c.args.a c.args.b x (c.loop-next.next + 1) in
-          subst P (λ i. (sym w.asked-is i).keys) (compares_next c.args.at.now c.args.bt.now c.args.a c.args.b c.loop-next.asked.keys w.answer-else-question.new.asked.keys c.loop-next.next _ at less c.loop-next.invariant
+          let P : Asked → Type 0 = λ x. Compares c.args.at.now c.args.bt.now c.args.a c.args.b x (c.loop-next.next + 1) in
+          subst P (sym w.asked-is) (compares_next c.args.at.now c.args.bt.now c.args.a c.args.b c.loop-next.asked w.answer-else-question.new.asked c.loop-next.next _ at less c.loop-next.invariant
           (ahead c.args.at.now c.args.bt.now _ _ _ w.if-question.false w.in_ok-answer-2.ensures.settled))
     ]
 
 pub returns-clause-subtype : goal.returns-clause-subtype
-returns-clause-subtype c = compares_last c.args.at.now c.args.bt.now c.args.a c.args.b c.loop-next.asked.keys c.loop-next.next (omega (arith, c.len.ensures.len, c.loop-next-test.false)) c.loop-next.invariant
+returns-clause-subtype c = compares_last c.args.at.now c.args.bt.now c.args.a c.args.b c.loop-next.asked c.loop-next.next (omega (arith, c.len.ensures.len, c.loop-next-test.false)) c.loop-next.invariant

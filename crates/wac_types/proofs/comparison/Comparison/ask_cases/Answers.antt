@@ -1,5 +1,5 @@
 use Rattle.std.proofs.Common.{arith, map, ◌≢◌}
-use Rattle.wac_collection.specs.Collection.{IsBefore, value_types, case_values}
+use Rattle.wac_collection.specs.Collection.{value_types, case_values}
 use Rattle.wac_collection.specs.Tree.{absent}
 use Rattle.wac_types.specs.Subtype.{type_tree}
 use Rattle.wac_types.specs.Compare.{optional_in, case_in}
@@ -38,7 +38,7 @@ loop-i-preserved c =
     c.loop-i.invariant
     (under_name c.name_at.result.now c.name_at-in-loop-i.result.now (optional_in c.args.self.first.now c.value_at.result.now) (optional_in c.args.self.second.now c.value_at-in-loop-i.result.now) (ne-false _ _ _ c.ne.ensures c.if-ne.false)
     (asks_of (value_types (case_values c.args.cs.now)) (value_types (case_values c.args.ds.now))
-    (λ m. case_among (IsBefore c.args.self.first.now m) c.args.cs.now c.loop-i.i _ _ v) (λ m. case_among (IsBefore c.args.self.second.now m) c.args.ds.now c.loop-i.i _ _ w)
+    (λ P. case_among P c.args.cs.now c.loop-i.i _ _ v) (λ P. case_among P c.args.ds.now c.loop-i.i _ _ w)
     c.in_ok-ask_optional.ensures.asked))
 
 pub returns-clause-asked : goal.returns-clause-asked

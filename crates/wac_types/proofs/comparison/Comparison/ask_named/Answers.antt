@@ -1,6 +1,6 @@
 use Rattle.std.proofs.Common.{arith, map, ap}
 use Rattle.std.specs.Option.{option_map}
-use Rattle.wac_collection.specs.Collection.{IsBefore, value_types, seconds}
+use Rattle.wac_collection.specs.Collection.{value_types, seconds}
 use Rattle.wac_types.specs.Compare.{value_in, entry_in}
 use Rattle.wac_shapes.proofs.Names.{ne-true, ne-false}
 use Rattle.wac_types.proofs.Values.{asks_of}
@@ -31,7 +31,7 @@ loop-i-preserved c =
     c.loop-i.invariant
     (under_name c.entry_at.result.0.now c.entry_at-in-loop-i.result.0.now (value_in c.args.self.first.now c.entry_at.result.1.now) (value_in c.args.self.second.now c.entry_at-in-loop-i.result.1.now) (ne-false _ _ _ c.ne.ensures c.if-ne.false)
     (asks_of (value_types (seconds c.args.vs.now)) (value_types (seconds c.args.ws.now))
-    (λ m. second_among (IsBefore c.args.self.first.now m) c.args.vs.now c.loop-i.i _ _ v) (λ m. second_among (IsBefore c.args.self.second.now m) c.args.ws.now c.loop-i.i _ _ w)
+    (λ P. second_among P c.args.vs.now c.loop-i.i _ _ v) (λ P. second_among P c.args.ws.now c.loop-i.i _ _ w)
     c.in_ok-ask_value.ensures.asked))
 
 pub returns-clause-asked : goal.returns-clause-asked

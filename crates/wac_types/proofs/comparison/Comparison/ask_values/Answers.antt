@@ -1,5 +1,5 @@
 use Rattle.std.proofs.Common.{arith, map}
-use Rattle.wac_collection.specs.Collection.{IsBefore, value_types}
+use Rattle.wac_collection.specs.Collection.{value_types}
 use Rattle.wac_types.specs.Compare.{value_in}
 use Rattle.wac_types.proofs.Values.{asks_of}
 use Rattle.wac_types.proofs.Agreeing.{get_map, get_read, handed_on, agree_none, agree_more, agree_maps, value_among, differ_at}
@@ -24,7 +24,7 @@ loop-i-preserved c =
     (get_map (value_in c.args.self.first.now) c.args.vs.now c.loop-i.i _ v) (get_map (value_in c.args.self.second.now) c.args.ws.now c.loop-i.i _ w)
     c.loop-i.invariant
     (asks_of (value_types c.args.vs.now) (value_types c.args.ws.now)
-    (λ m. value_among (IsBefore c.args.self.first.now m) c.args.vs.now c.loop-i.i _ v) (λ m. value_among (IsBefore c.args.self.second.now m) c.args.ws.now c.loop-i.i _ w)
+    (λ P. value_among P c.args.vs.now c.loop-i.i _ v) (λ P. value_among P c.args.ws.now c.loop-i.i _ w)
     c.in_ok-ask_value.ensures.asked)
 
 pub returns-clause-asked : goal.returns-clause-asked

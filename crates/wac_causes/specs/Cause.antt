@@ -1,0 +1,165 @@
+-- Why `encode` is refused.
+use Rattle.std.specs.Prelude.{ℕ, ◌≡◌, ◌<◌, ◌≤◌, [], Option, Some, None, IsSomeAnd, slice_get, string_bytes}
+use Rattle.wac_shapes.specs.Name.{Name}
+use Rattle.wac_collection.specs.Package.{Key}
+use Rattle.wac_shapes.specs.declared.component.ItemKind.{ItemKind}
+use Rattle.wac_entries.specs.Agreement.{IsDisagreement}
+use Rattle.wac_entries.specs.Classes.{by_names}
+use Rattle.wac_terms.specs.ClassOrder.{IsOnCircle}
+use Rattle.wac_agreement.specs.Faults.{Disagrees, HasNoCircle, UseEachOther}
+use Rattle.wac_terms.specs.NoDisagreement.{HasNoDisagreement}
+use Rattle.wac_agreement.specs.declared.fault.MergeFault.{MergeFault}
+use Rattle.wac_agreement.specs.declared.fault.MergeFault.TheVariants as merge
+use Rattle.wac_nodes.specs.declared.options.EncodeOptions.{EncodeOptions}
+use Rattle.wac_causes.specs.declared.errors.EncodeError.{EncodeError}
+use Rattle.wac_causes.specs.declared.errors.EncodeError.TheVariants as error
+use Rattle.wac_nodes.specs.declared.node.NodeId.{NodeId}
+use Rattle.wac_nodes.specs.Graph as graph
+use Rattle.wac_nodes.specs.Graph.{Graph, GraphNode, node_at, imports_of, package_of, IsUnsatisfied, IsImportOf}
+use Rattle.wac_edges.specs.Order.{IsOnCycle, IsLowestOnCycle}
+use Rattle.wac_nodes.specs.Asked.{Entry}
+use Rattle.wac_nodes.specs.Entries.{asked_entries, to_merge}
+use Rattle.wac_causes.specs.NotYet.{IsNotYet}
+
+-- an import of an instantiation is not satisfied, and an import node has its name
+pub record IsConflict (g : Graph) (import instantiation : NodeId) (position : ℕ) (name : Name) : Type 0 where
+  pub node : GraphNode
+  pub kind : ItemKind
+  pub there : node_at g instantiation ≡ Some node
+  pub instantiated : node.kind ≡ graph.instantiation
+  pub asked : slice_get (imports_of g node) position ≡ Some (name, kind)
+  pub unset : IsUnsatisfied g instantiation position
+  pub imported : IsImportOf g name import
+
+-- there is no conflict
+abbrev pub HasNoConflict : Graph → Type 0
+HasNoConflict g = (import instantiation : NodeId) (position : ℕ) (name : Name) → IsConflict g import instantiation position name → ⊥
+
+-- the conflict of the lowest instantiation that has one, there of the first import, with the key of the instantiation's package
+pub record IsFirstConflict (g : Graph) (import instantiation : NodeId) (key : Key) (name : Name) : Type 0 where
+  pub position : ℕ
+  pub conflict : IsConflict g import instantiation position name
+  pub owned : IsSomeAnd (package_of g conflict.node) (λ p. (p.name, p.version) ≡ key)
+  pub lowest : (other n : NodeId) (i : ℕ) (text : Name) → IsConflict g other n i text → instantiation.0 ≤ n.0
+  pub first : (other : NodeId) (i : ℕ) (text : Name) → IsConflict g other instantiation i text → position ≤ i
+
+-- what is asked for can be merged: no entry disagrees with another of its class, and no imports use each other
+abbrev pub HasMerge : Graph → Type 0
+HasMerge g = HasNoDisagreement by_names g.types (to_merge (asked_entries g)) × HasNoCircle by_names g.types (to_merge (asked_entries g))
+
+-- the first entry that disagrees with an earlier one of its class, the first that it disagrees with, and the names of the exports that lead to where they do
+pub record IsMergeConflict (g : Graph) (first second : ℕ) (export : Name) : Type 0 where
+  pub disagree : Disagrees by_names g.types (to_merge (asked_entries g)) first second export
+  pub earlier : Entry
+  pub later : Entry
+  pub at_first : slice_get (asked_entries g) first ≡ Some earlier
+  pub at_second : slice_get (asked_entries g) second ≡ Some later
+
+-- the node asks as an instantiation, and as an import
+pub record AsksImplicitly (g : Graph) (n : NodeId) : Type 0 where
+  pub node : GraphNode
+  pub there : node_at g n ≡ Some node
+  pub instantiated : node.kind ≡ graph.instantiation
+
+pub record AsksExplicitly (g : Graph) (n : NodeId) : Type 0 where
+  pub node : GraphNode
+  pub name : Name
+  pub there : node_at g n ≡ Some node
+  pub imported : node.kind ≡ graph.import name
+
+-- the later entry is asked for by an instantiation: its name, and the nodes that ask for both
+pub record IsImplicitMerge (g : Graph) (import : Name) (first second : NodeId) (p q : ℕ) (export : Name) : Type 0 where
+  pub conflict : IsMergeConflict g p q export
+  pub asked : AsksImplicitly g second
+  pub name : import ≡ (conflict.later).name
+  pub by_first : first.0 ≡ (conflict.earlier).node
+  pub by_second : second.0 ≡ (conflict.later).node
+
+-- it is an import node: its name, and the nodes
+pub record IsExplicitMerge (g : Graph) (import : Name) (node other : NodeId) : Type 0 where
+  pub first : ℕ
+  pub second : ℕ
+  pub export : Name
+  pub conflict : IsMergeConflict g first second export
+  pub asked : AsksExplicitly g node
+  pub name : import ≡ (conflict.later).name
+  pub by_node : node.0 ≡ (conflict.later).node
+  pub by_other : other.0 ≡ (conflict.earlier).node
+
+-- imports that use each other in a circle: the canonical name of the one that is asked for first
+abbrev pub IsImportCircle : Graph → Name → Type 0
+IsImportCircle g import = UseEachOther by_names g.types (to_merge (asked_entries g)) import
+
+-- what a refusal can name
+pub data Cause : Type 0 where
+  cycle : NodeId → Cause
+  conflict : NodeId → NodeId → Key → Name → Cause
+  implicit_merge : Name → NodeId → NodeId → ℕ → ℕ → Name → Cause
+  explicit_merge : Name → NodeId → NodeId → Cause
+  import_circle : Name → Cause
+  not_yet : Cause
+
+-- the kinds of causes
+pub data CauseKind : Type 0 where
+  a_cycle : CauseKind
+  a_conflict : CauseKind
+  a_disagreement : CauseKind
+  a_circle : CauseKind
+  unwritten : CauseKind
+
+abbrev pub kind_of_cause : Cause → CauseKind
+kind_of_cause (cycle node) = a_cycle
+kind_of_cause (conflict import instantiation key name) = a_conflict
+kind_of_cause (implicit_merge import first second p q export) = a_disagreement
+kind_of_cause (explicit_merge import node other) = a_disagreement
+kind_of_cause (import_circle import) = a_circle
+kind_of_cause not_yet = unwritten
+
+-- their order
+abbrev pub rank : CauseKind → ℕ
+rank a_cycle = 0
+rank a_conflict = 1
+rank a_disagreement = 2
+rank a_circle = 3
+rank unwritten = 4
+
+-- a cause of this kind is there
+abbrev pub Occurs : Graph → EncodeOptions → CauseKind → Type 0
+Occurs g o a_cycle = (n : ℕ) × IsOnCycle g.edges n
+Occurs g o a_conflict = (import : NodeId) × (instantiation : NodeId) × (position : ℕ) × (name : Name) × IsConflict g import instantiation position name
+Occurs g o a_disagreement = (first : ℕ) × (second : ℕ) × IsDisagreement by_names g.types (to_merge (asked_entries g)) first second
+Occurs g o a_circle = (class : ℕ) × IsOnCircle by_names g.types (to_merge (asked_entries g)) class
+Occurs g o unwritten = IsNotYet g o
+
+-- a cause of this kind is there, and none of a kind below it
+abbrev pub IsFirstKind : Graph → EncodeOptions → CauseKind → Type 0
+IsFirstKind g o kind = Occurs g o kind × ((below : CauseKind) → rank below < rank kind → Occurs g o below → ⊥)
+
+-- of the causes of its kind this is the one that is named: the lowest node on a cycle, the first conflict, the first entry that disagrees ..
+abbrev pub IsNamed : Graph → Cause → Type 0
+IsNamed g (cycle node) = IsLowestOnCycle g.edges node.0
+IsNamed g (conflict import instantiation key name) = IsFirstConflict g import instantiation key name
+IsNamed g (implicit_merge import first second p q export) = IsImplicitMerge g import first second p q export
+IsNamed g (explicit_merge import node other) = IsExplicitMerge g import node other
+IsNamed g (import_circle import) = IsImportCircle g import
+IsNamed g not_yet = Unit {0}
+
+-- the cause stands: its kind is the first that is there, and of that kind it is the one that is named
+abbrev pub Stands : Graph → EncodeOptions → Cause → Type 0
+Stands g o cause = IsFirstKind g o (kind_of_cause cause) × IsNamed g cause
+
+-- the cause that a fault is where imports are asked for implicitly; one that is no disagreement names an entry twice, which never stands
+abbrev pub implicit_cause : Name → NodeId → NodeId → MergeFault → Option Cause
+implicit_cause import first second (merge.Disagree p q export) = Some (implicit_merge import first second p q (string_bytes export))
+implicit_cause import first second fault = Some (implicit_merge import first second 0 0 [])
+
+-- the cause that a refusal names; sizes and memory name none
+abbrev pub cause_of : EncodeError → Option Cause
+cause_of (error.GraphContainsCycle node) = Some (cycle node)
+cause_of (error.ImplicitImportConflict import instantiation key name) = Some (conflict import instantiation key (string_bytes name))
+cause_of (error.ImportTypeMergeConflict import first second fault) = implicit_cause (string_bytes import) first second fault
+cause_of (error.ExplicitImportMergeConflict import node other) = Some (explicit_merge (string_bytes import) node other)
+cause_of (error.ImportsUseEachOther import) = Some (import_circle (string_bytes import))
+cause_of error.TooLarge = None
+cause_of error.OutOfMemory = None
+cause_of error.NotYet = Some not_yet

@@ -1,0 +1,4 @@
+pub mod NotYet
+pub mod Cause
+pub mod Search
+pub mod Faults

@@ -1,0 +1,32 @@
+-- How causes are found; cited by private functions alone, nothing public rests on it.
+use Rattle.std.specs.Prelude.{ℕ, ◌≡◌, ◌≤◌, Bool, false, List, Some, slice_get, ◌⊎◌}
+use Rattle.wac_shapes.specs.Name.{Name, find_name}
+use Rattle.wac_shapes.specs.declared.component.ItemKind.{ItemKind}
+use Rattle.wac_nodes.specs.declared.options.EncodeOptions.{EncodeOptions}
+use Rattle.wac_causes.specs.declared.errors.EncodeError.{EncodeError}
+use Rattle.wac_causes.specs.declared.errors.EncodeError.TheVariants.{OutOfMemory}
+use Rattle.wac_nodes.specs.declared.node.NodeId.{NodeId}
+use Rattle.wac_nodes.specs.Graph.{Graph}
+use Rattle.wac_causes.specs.Cause.{IsConflict, Cause, Stands, cause_of}
+
+-- the import at position i is not satisfied, and this node has its name
+pub record Clashes (satisfied : ℕ → Bool) (imports : List (Name × ItemKind)) (nodes : List (Name × NodeId)) (i : ℕ) (node : NodeId) : Type 0 where
+  pub name : Name
+  pub kind : ItemKind
+  pub asked : slice_get imports i ≡ Some (name, kind)
+  pub unset : satisfied i ≡ false
+  pub imported : find_name nodes name ≡ Some node
+
+-- the conflict at this position is the instantiation's first
+pub record IsFirstOf (g : Graph) (instantiation : NodeId) (position : ℕ) (import : NodeId) : Type 0 where
+  pub name : Name
+  pub here : IsConflict g import instantiation position name
+  pub first : (other : NodeId) (i : ℕ) (text : Name) → IsConflict g other instantiation i text → position ≤ i
+
+-- no lower instantiation has a conflict
+abbrev pub IsLowest : Graph → ℕ → Type 0
+IsLowest g n = (import m : NodeId) (i : ℕ) (name : Name) → IsConflict g import m i name → n ≤ m.0
+
+-- memory ran out, or the cause that the refusal names stands
+abbrev pub IsRefused : Graph → EncodeOptions → EncodeError → Type 0
+IsRefused g o e = (e ≡ OutOfMemory) ⊎ ((cause : Cause) × (cause_of e ≡ Some cause) × Stands g o cause)

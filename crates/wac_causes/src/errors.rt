@@ -1,0 +1,91 @@
+//! Why a graph is not encoded.
+ghost use Rattle.std.specs.Prelude.{◌≡◌};
+
+use std::alloc::{AllocError, AllocFailed};
+use thiserror::Error;
+use wac_agreement::fault::MergeFault;
+use wac_binary::BinaryFault;
+use wac_nodes::NodeId;
+use wac_types::PackageKey;
+
+/// Why `encode` is refused.
+#[derive(Debug, Drop, Error)]
+pub enum EncodeError {
+    /// Edges form a cycle; the lowest node on one.
+    #[error("the graph contains a cycle and cannot be encoded")]
+    GraphContainsCycle {
+        node: NodeId,
+    },
+    /// An import of an instantiation is not satisfied, and an import node has its name.
+    #[error("an instantiation of package `{package}` implicitly imports an item named `{name}`, but it conflicts with an explicit import of the same name")]
+    ImplicitImportConflict {
+        import: NodeId,
+        instantiation: NodeId,
+        package: PackageKey,
+        name: String,
+    },
+    /// An import that an instantiation asks for does not agree with an earlier one of its class: its name, the node that asks
+    /// for the earlier, the instantiation, and where they do not agree.
+    #[error("failed to merge the type definition for implicit import `{import}` due to conflicting types")]
+    ImportTypeMergeConflict {
+        import: String,
+        first: NodeId,
+        second: NodeId,
+        source: MergeFault,
+    },
+    /// An import node does not agree with an earlier import of its class: its name, the node, and the node that asks for the
+    /// earlier.
+    #[error("failed to merge the type definition for explicit import `{import}` due to conflicting types")]
+    ExplicitImportMergeConflict {
+        import: String,
+        node: NodeId,
+        other: NodeId,
+    },
+    /// Imports rest on each other in a circle: the name of the one that is asked for first.
+    #[error("import `{import}` rests on itself through other imports")]
+    ImportsUseEachOther {
+        import: String,
+    },
+    /// An index, a count or a size does not fit 32 bits.
+    #[error("an index or a size does not fit 32 bits")]
+    TooLarge,
+    /// There was no memory.
+    #[error("out of memory")]
+    OutOfMemory,
+    /// An argument is not set, a node is an import, or the options ask for what is not written yet.
+    #[error("the graph holds something that is not written yet")]
+    NotYet,
+}
+
+impl From<AllocError> for EncodeError {
+    ghost use Rattle.wac_causes.specs.declared.errors.EncodeError.TheVariants.{OutOfMemory};
+
+    ghost from_gives = { λ _ e. e ≡ OutOfMemory };
+
+    fn from(_e: AllocError) -> EncodeError {
+        EncodeError::OutOfMemory
+    }
+}
+
+impl From<BinaryFault> for EncodeError {
+    ghost use Rattle.wac_causes.specs.Faults.{encode_error};
+
+    ghost from_gives = { λ fault e. e ≡ encode_error fault };
+
+    fn from(fault: BinaryFault) -> EncodeError {
+        match fault {
+            BinaryFault::TooLarge => EncodeError::TooLarge,
+            BinaryFault::OutOfMemory => EncodeError::OutOfMemory,
+        }
+    }
+}
+
+impl<T: Drop> From<AllocFailed<T>> for EncodeError {
+    ghost use Rattle.wac_causes.specs.declared.errors.EncodeError.TheVariants.{OutOfMemory};
+
+    ghost from_gives = { λ _ e. e ≡ OutOfMemory };
+
+    fn from(_e: AllocFailed<T>) -> EncodeError {
+        EncodeError::OutOfMemory
+    }
+}

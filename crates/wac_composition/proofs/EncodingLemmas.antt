@@ -1,0 +1,210 @@
+-- What the fields say of the nodes that are written.
+use Rattle.std.proofs.Common.{◌≡◌, ℕ, zero, suc, ◌<◌, ◌≤◌, Bool, true, false, List, [], ◌∷◌, ◌++◌, ◌+◌, length, refl, ap, ◌∙◌, sym, subst, arith, Option, Some, None, IfSome, IsSome, IsSomeAnd, IsTrue, is_some, inl, inr, get_or, String, Global, string_bytes}
+use Rattle.std.proofs.lemmas.Bool.Decides.{nat_tests}
+use Rattle.std.specs.Prelude.{slice_get, nat_lt}
+use Rattle.std.proofs.lemmas.List.{get_or_append_left}
+use Rattle.std.proofs.Math.Seq.{get_or-append_seam}
+use Rattle.std.specs.Option.{option_map, option_and_then}
+use Rattle.std.specs.BTreeSet as positions
+use Rattle.std.specs.BTreeSet.{BTreeSet}
+use Rattle.std.specs.Ordering.{nat_cmp}
+use Rattle.slab.specs.Slab.{get, ContainsKey}
+use Rattle.wac_shapes.specs.Name.{option_case}
+use Rattle.wac_collection.specs.Collection.{item_at}
+use Rattle.wac_collection.specs.Package.{PackageParts}
+use Rattle.wac_shapes.specs.declared.component.World.{World}
+use Rattle.wac_nodes.specs.declared.node.Node.{Node}
+use Rattle.wac_nodes.specs.declared.node.NodeId.{NodeId}
+use Rattle.wac_nodes.specs.declared.node.NodeKind.{NodeKind}
+use Rattle.wac_nodes.specs.declared.node.NodeKind.TheVariants as code
+use Rattle.wac_nodes.specs.declared.packages.PackageId.{PackageId}
+use Rattle.wac_composition.specs.declared.graph.CompositionGraph.TheInside.{Inside}
+use Rattle.wac_nodes.specs.declared.options.EncodeOptions.{EncodeOptions}
+use Rattle.wac_edges.specs.Edge.{is_left}
+use Rattle.wac_nodes.specs.Graph as graph
+use Rattle.wac_nodes.specs.Graph.{Graph, GraphNode, Kind, node_at, package_at, package_in, package_of, imports_of, node_number}
+use Rattle.wac_nodes.specs.Nodes.{node_of, kind_of, satisfied, satisfied_at}
+use Rattle.wac_composition.specs.Inside.{graph_of, Invariant}
+use Rattle.wac_meaning.specs.Means.{is_there}
+use Rattle.wac_nodes.specs.Gives.{GivesNode}
+use Rattle.wac_causes.specs.NotYet.{IsNotYet, IsWritable, AllWritable, unset, defined, imported, named}
+use Rattle.wac_nodes.proofs.NodeLemmas.{get-nodes_of}
+use Rattle.wac_composition.proofs.ArgumentLemmas.{owned, registered}
+use Rattle.wac_nodes.proofs.JoinLemmas.{imports_of_package}
+
+-- the node of a number, as the fields have it
+pub node_is : (a : Inside) (n : ℕ) (o : Option Node) → get a.nodes n ≡ o → node_at (graph_of a) (node_number n) ≡ option_map node_of o
+node_is a n o had = get-nodes_of a.nodes.slots n ∙ ap (option_map node_of) had
+
+-- whether a node of the number is there
+pub there_is : (a : Inside) (n : ℕ) → is_there (graph_of a) n ≡ is_some (get a.nodes n)
+there_is a n = ap (λ o. option_case o false (λ x. true)) (get-nodes_of a.nodes.slots n) ∙ decide (get a.nodes n) where
+  decide : (o : Option Node) → option_case (option_map node_of o) false (λ x. true) ≡ is_some o
+  decide None = refl
+  decide (Some x) = refl
+
+-- a node that a fact speaks of is in the fields
+the_node : (o : Option Node) (P : GraphNode → Type 0) → IsSomeAnd (option_map node_of o) P → (n : Node) × (o ≡ Some n) × P (node_of n)
+the_node None P h = absurd h
+the_node (Some n) P h = (n, refl, h)
+
+pub some_node : (a : Inside) (n : ℕ) (P : GraphNode → Type 0) → IsSomeAnd (node_at (graph_of a) (node_number n)) P → (node : Node) × (get a.nodes n ≡ Some node) × P (node_of node)
+some_node a n P h = the_node (get a.nodes n) P (subst (λ o. IsSomeAnd o P) (get-nodes_of a.nodes.slots n) h)
+
+pub contains_node : (a : Inside) (n : ℕ) (P : GraphNode → Type 0) → IsSomeAnd (node_at (graph_of a) (node_number n)) P → ContainsKey a.nodes n
+contains_node a n P h = let (node, had, _) = some_node a n P h in ap is_some had
+
+pub of_node : (a : Inside) (n : ℕ) (node : Node) (P : GraphNode → Type 0) → IsSomeAnd (node_at (graph_of a) (node_number n)) P → get a.nodes n ≡ Some node → P (node_of node)
+of_node a n node P h had = let (other, is, p) = some_node a n P h in let e : other ≡ node = let f : Some other ≡ Some node = sym is ∙ had in cc in subst (λ x. P (node_of x)) e p
+
+pub if_node : (a : Inside) (n : ℕ) (node : Node) (P : GraphNode → Type 0) → get a.nodes n ≡ Some node → P (node_of node) → IfSome (node_at (graph_of a) (node_number n)) P
+if_node a n node P had p = subst (λ o. IfSome o P) (sym (node_is a n (Some node) had)) p
+
+-- the kind of an instantiation is one
+pub the_set : (k : NodeKind) → kind_of k ≡ graph.instantiation → (s : BTreeSet ℕ) × (k ≡ code.Instantiation s)
+the_set code.Definition h = cc
+the_set (code.Import name) h = cc
+the_set (code.Instantiation s) h = (s, refl)
+the_set code.Alias h = cc
+
+-- an instantiation's package and imports
+module _ (a : Inside) (v : Invariant a) (n : ℕ) (node : Node) (had : get a.nodes n ≡ Some node) (h : IsSomeAnd (node_at (graph_of a) (node_number n)) (λ x. x.kind ≡ graph.instantiation)) where
+  set_of : (s : BTreeSet ℕ) × (node.kind ≡ code.Instantiation s)
+  set_of = the_set node.kind (of_node a n node (λ x. x.kind ≡ graph.instantiation) h had)
+
+  pub owned_at : node.«package» ≡ None → ⊥
+  owned_at = let (s, is) = set_of in owned a v (node_number n) node s [] had is
+
+  pub registered_at : (o : PackageId) → node.«package» ≡ Some o → None ≡ package_in (slice_get a.slots.items o.slot) o → ⊥
+  registered_at = let (s, is) = set_of in registered a v (node_number n) node s [] had is
+
+-- the world of a registered package is held
+pub world_registered : (a : Inside) → Invariant a → (id : PackageId) (p : PackageParts) → package_at (graph_of a) id ≡ Some p → (p.world).0 < length (a.types).worlds
+world_registered a v id p there = lt_of (p.world).0 (length (a.types).worlds) ((v.sound).packages id p there).0 where
+  lt_of : (k m : ℕ) → nat_lt k m ≡ true → k < m
+  lt_of k m h = grind (arith, nat_tests)
+
+-- the package of a node, by its owner
+pub package_now : (g : Graph) (n : ℕ) (id : PackageId) (p : PackageParts) → IfSome (node_at g (node_number n)) (λ x. x.owner ≡ Some id) → package_at g id ≡ Some p → IfSome (node_at g (node_number n)) (λ x. package_of g x ≡ Some p)
+package_now g n id p owner there = by_node (node_at g (node_number n)) owner where
+  by_node : (o : Option GraphNode) → IfSome o (λ x. x.owner ≡ Some id) → IfSome o (λ x. package_of g x ≡ Some p)
+  by_node None h = tt
+  by_node (Some x) h = ap (option_and_then (package_at g)) h ∙ there
+
+-- and what it imports
+pub imports_now : (g : Graph) (n : ℕ) (id : PackageId) (p : PackageParts) (w : World) → IfSome (node_at g (node_number n)) (λ x. x.owner ≡ Some id) → package_at g id ≡ Some p → item_at (g.types).worlds (p.world).0 ≡ Some w
+    → IfSome (node_at g (node_number n)) (λ x. w.imports ≡ imports_of g x)
+imports_now g n id p w owner there at = by_node (node_at g (node_number n)) (package_now g n id p owner there) where
+  by_node : (o : Option GraphNode) → IfSome o (λ x. package_of g x ≡ Some p) → IfSome o (λ x. w.imports ≡ imports_of g x)
+  by_node None h = tt
+  by_node (Some x) h = sym (imports_of_package g x p h ∙ ap (λ y. option_case y [] (λ z. z.imports)) at)
+
+-- whether a node is there
+pub there_now : (g : Graph) (n : ℕ) (b : Bool) → (IsTrue b → IsSome (node_at g (node_number n))) × (IsSome (node_at g (node_number n)) → IsTrue b) → b ≡ is_there g n
+there_now g n b h = by_node b (node_at g (node_number n)) h where
+  by_node : (t : Bool) (o : Option GraphNode) → (IsTrue t → IsSome o) × (IsSome o → IsTrue t) → t ≡ option_case o false (λ x. true)
+  by_node true None h = sym (h.0 refl)
+  by_node true (Some x) h = refl
+  by_node false None h = refl
+  by_node false (Some x) h = h.1 refl
+
+-- no node is past the slots
+pub none_past : (a : Inside) (n : ℕ) → length a.nodes.slots ≤ n → get a.nodes n ≡ None
+none_past a n far = past a.nodes.slots n far where
+  past : (xs : List (Option Node)) (k : ℕ) → length xs ≤ k → get_or xs k None ≡ None
+  past [] k h = refl
+  past (x ∷ xs) zero h = absurd (omega arith)
+  past (x ∷ xs) (suc k) h = past xs k (omega arith)
+
+pub by_lt : {P : Type 0} (m n : ℕ) → (m < n → P) → (n ≤ m → P) → P
+by_lt {P} m n below above = elim (nat_lt m n) as (λ b. nat_lt m n ≡ b → P) [ true ↦ λ e. below (grind (arith, nat_tests)) | false ↦ λ e. above (grind (arith, nat_tests)) ] refl
+
+flag_past : (flags : List Bool) (m : ℕ) → length flags ≤ m → is_left flags m ≡ false
+flag_past [] m h = refl
+flag_past (b ∷ flags) zero h = absurd (omega arith)
+flag_past (b ∷ flags) (suc m) h = flag_past flags m (omega arith)
+
+-- flags for all nodes
+pub all_flags : (a : Inside) (flags : List Bool) (k : ℕ) → length flags ≡ k → length a.nodes.slots ≤ k → ((m : ℕ) → m < k → is_left flags m ≡ is_there (graph_of a) m) → (m : ℕ) → is_left flags m ≡ is_there (graph_of a) m
+all_flags a flags k many slots below m = by_lt m k (below m) (λ above. flag_past flags m (omega arith) ∙ sym (there_is a m ∙ ap is_some (none_past a m (omega arith))))
+
+-- one flag more
+pub next_flag : (g : Graph) (flags : List Bool) (k : ℕ) (b : Bool) → length flags ≡ k → ((m : ℕ) → m < k → is_left flags m ≡ is_there g m) → b ≡ is_there g k → (m : ℕ) → m < k + 1 → is_left (flags ++ b ∷ []) m ≡ is_there g m
+next_flag g flags k b many below now m small = by_lt m k
+    (λ under. get_or_append_left flags (b ∷ []) false m (omega (arith, many, under)) ∙ below m under)
+    (λ over. let same : m ≡ length flags = omega (arith, many, over, small) in let last : k ≡ m = omega (arith, over, small) in ap (is_left (flags ++ b ∷ [])) same ∙ get_or-append_seam flags b [] false ∙ now ∙ ap (is_there g) last)
+
+-- all nodes are writable where those below the capacity are
+pub all_writable : (a : Inside) (k : ℕ) → length a.nodes.slots ≤ k → ((m : ℕ) → m < k → IfSome (node_at (graph_of a) (node_number m)) (IsWritable (graph_of a) m)) → AllWritable (graph_of a)
+all_writable a k slots below m node there = by_lt m k
+    (λ small. subst (λ o. IfSome o (IsWritable (graph_of a) m)) there (below m small))
+    (λ above. absurd (nothing (node_at (graph_of a) (node_number m)) (node_is a m None (none_past a m (omega arith))) there)) where
+      nothing : (o : Option GraphNode) → o ≡ None → o ≡ Some node → ⊥
+      nothing o p q = cc
+
+pub some_and : (a : Inside) (n : ℕ) (node : Node) (P : GraphNode → Type 0) → get a.nodes n ≡ Some node → P (node_of node) → IsSomeAnd (node_at (graph_of a) (node_number n)) P
+some_and a n node P had p = subst (λ o. IsSomeAnd o P) (sym (node_is a n (Some node) had)) p
+
+pub if_none : (a : Inside) (n : ℕ) (P : GraphNode → Type 0) → get a.nodes n ≡ None → IfSome (node_at (graph_of a) (node_number n)) P
+if_none a n P had = subst (λ o. IfSome o P) (sym (node_is a n None had)) tt
+
+pub a_definition : (a : Inside) (n : ℕ) (node : Node) (o : EncodeOptions) → get a.nodes n ≡ Some node → node.kind ≡ code.Definition → IsNotYet (graph_of a) o
+a_definition a n node o had is = defined n (node_of node) (node_is a n (Some node) had) (ap kind_of is)
+
+pub a_name : (a : Inside) (n : ℕ) (node : Node) (o : EncodeOptions) → get a.nodes n ≡ Some node → IsSome node.name → IsNotYet (graph_of a) o
+a_name a n node o had is = named n (node_of node) (node_is a n (Some node) had) (of_some node.name is) where
+  of_some : (name : Option (String Global)) → IsSome name → IsSome (option_map string_bytes name)
+  of_some None h = h
+  of_some (Some name) h = refl
+
+-- a node without a name has none in the graph
+no_name : (node : Node) → node.name ≡ None → (node_of node).name ≡ None
+no_name node is = ap (option_map string_bytes) is
+
+pub an_import : (a : Inside) (n : ℕ) (node : Node) (name : String Global) (o : EncodeOptions) → get a.nodes n ≡ Some node → node.kind ≡ code.Import name → IsNotYet (graph_of a) o
+an_import a n node name o had is = imported n (node_of node) (string_bytes name) (node_is a n (Some node) had) (ap kind_of is)
+
+module _ (a : Inside) (v : Invariant a) (n : ℕ) (node : Node) (s : BTreeSet ℕ) (had : get a.nodes n ≡ Some node) (is : node.kind ≡ code.Instantiation s) where
+  marked : (i : ℕ) (b : Bool) → positions.contains nat_cmp s i ≡ b → satisfied_at (get a.nodes n) i ≡ b
+  marked i b h = ap (λ x. satisfied_at x i) had ∙ ap (λ k. satisfied k i) is ∙ h
+
+  pub a_gap : (i : ℕ) (count : ℕ) (o : EncodeOptions) → count ≡ length (imports_of (graph_of a) (node_of node)) → i < count → positions.contains nat_cmp s i ≡ false → IsNotYet (graph_of a) o
+  a_gap i count o many small gap =
+      unset n (node_of node) i (node_is a n (Some node) had) (ap kind_of is) (omega (arith, many))
+      (λ source stands. clash (satisfied_at (get a.nodes n) i) (v.marked source.0 n i stands) (marked i false gap)) where
+        clash : (b : Bool) → b ≡ true → b ≡ false → ⊥
+        clash true _ h = cc
+        clash false h _ = cc
+
+  pub no_gap : (count : ℕ) → count ≡ length (imports_of (graph_of a) (node_of node)) → ((i : ℕ) → i < count → positions.contains nat_cmp s i ≡ true) → node.name ≡ None → IfSome (node_at (graph_of a) (node_number n)) (IsWritable (graph_of a) n)
+  no_gap count many full unnamed = if_node a n node (IsWritable (graph_of a) n) had (record {
+    unnamed = no_name node unnamed;
+    plain = inl (ap kind_of is);
+    set = λ _ i small. let (source, stands) = v.edged n i (marked i true (full i (omega (arith, many)))) in (record { 0 = source }, stands);
+  })
+
+pub an_alias : (a : Inside) (n : ℕ) (node : Node) → get a.nodes n ≡ Some node → node.kind ≡ code.Alias → node.name ≡ None → IfSome (node_at (graph_of a) (node_number n)) (IsWritable (graph_of a) n)
+an_alias a n node had is unnamed = if_node a n node (IsWritable (graph_of a) n) had (record {
+  unnamed = no_name node unnamed;
+  plain = inr (ap kind_of is);
+  set = λ wrong. absurd (two_kinds (ap kind_of is) wrong);
+}) where
+  two_kinds : {k : Kind} → k ≡ graph.alias → k ≡ graph.instantiation → ⊥
+  two_kinds a b = cc
+
+pub of_if : (a : Inside) (n : ℕ) (node : Node) (P : GraphNode → Type 0) → IfSome (node_at (graph_of a) (node_number n)) P → get a.nodes n ≡ Some node → P (node_of node)
+of_if a n node P h had = subst (λ o. IfSome o P) (node_is a n (Some node) had) h
+
+pub has_number : (a : Inside) (n : ℕ) → IsSome (node_at (graph_of a) (node_number n)) → ContainsKey a.nodes n
+has_number a n h = some_of (get a.nodes n) (subst (λ o. IsSome o) (get-nodes_of a.nodes.slots n) h) where
+  some_of : (o : Option Node) → IsSome (option_map node_of o) → is_some o ≡ true
+  some_of None h = h
+  some_of (Some x) h = refl
+
+-- the fields of a node say of it what the graph does
+pub gives_node : (a : Inside) → Invariant a → (id : NodeId) (node : Node) → get a.nodes id.0 ≡ Some node → GivesNode (graph_of a) id node
+gives_node a v id node had = record {
+  there = node_is a id.0 (Some node) had;
+  set = λ i h. let (source, stands) = v.edged id.0 i (ap (λ o. satisfied_at o i) had ∙ h) in (record { 0 = source }, stands);
+  only = λ i (source, stands). sym (ap (λ o. satisfied_at o i) had) ∙ v.marked source.0 id.0 i stands;
+}

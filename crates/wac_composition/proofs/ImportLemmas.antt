@@ -1,0 +1,71 @@
+-- The step of `import`.
+use Rattle.std.proofs.Common.{◌≡◌, ℕ, ap, ◌∙◌, sym, subst, refl, Option, Some, None, IfSome, IsSome, is_some, true, Ok, String, Global, string_bytes, [], ◌∷◌, ◌++◌}
+use Rattle.std.specs.Map.{lookup}
+use Rattle.std.specs.Str.{bytes_eq}
+use Rattle.std.specs.String.{string_eq}
+use Rattle.std.specs.Option.{option_map}
+use Rattle.std.specs.HashMap.{HashMap}
+use Rattle.std.specs.declared.hash.FoldHasher.{FoldHasher}
+use Rattle.std.specs.declared.hash.BuildHasherDefault.{BuildHasherDefault}
+use Rattle.indexmap.specs.IndexMap.{insert_entry}
+use Rattle.slab.specs.Slab.{Slab, get, Updates}
+use Rattle.wac_shapes.specs.Name.{Name, find_name}
+use Rattle.wac_collection.specs.Collection.{holds_type}
+use Rattle.wac_shapes.specs.Kinds.{kind_type}
+use Rattle.wac_shapes.specs.declared.component.ItemKind.{ItemKind}
+use Rattle.wac_nodes.specs.declared.node.Node.{Node}
+use Rattle.wac_nodes.specs.declared.node.NodeId.{NodeId}
+use Rattle.wac_nodes.specs.declared.node.NodeKind.TheVariants as code
+use Rattle.wac_composition.specs.declared.graph.CompositionGraph.TheInside.{Inside}
+use Rattle.wac_nodes.specs.Graph.{node_at, import_name, IsImportOf}
+use Rattle.wac_nodes.specs.ExternName.{IsImportName}
+use Rattle.wac_nodes.specs.Nodes.{node_of, names_of, kind_of}
+use Rattle.wac_composition.specs.Inside.{graph_of, Invariant}
+use Rattle.wac_nodes.specs.Steps.{Imports, IsFreeImport, AddsNode, import_node}
+use Rattle.wac_nodes.proofs.NodeLemmas.{get-nodes_of, lookup_text, text_last}
+use Rattle.wac_composition.proofs.InvariantLemmas.{invariant_import}
+use Rattle.wac_composition.proofs.StepLemmas.{adds_node}
+
+abbrev Names : Type 0
+Names = HashMap (String Global) NodeId (BuildHasherDefault FoldHasher)
+
+-- the node of a new import
+abbrev pub new_import : String Global → ItemKind → Node
+new_import own kind = record { kind = code.Import own; «package» = None; item_kind = kind; name = None; export_name = None }
+
+module _ (a : Inside) (v : Invariant a) (name : Name) where
+  -- the name is that of the node that is found
+  pub imported_already : (n : NodeId) → Some n ≡ lookup (λ k. bytes_eq name (string_bytes k)) a.imports.entries → IsImportOf (graph_of a) name n
+  imported_already n at = v.importing name n (lookup_text a.imports.entries name ∙ sym at)
+
+  pub not_imported : lookup (λ k. bytes_eq name (string_bytes k)) a.imports.entries ≡ None → IsFreeImport (graph_of a) name
+  not_imported absent n h = some_none (lookup (λ k. bytes_eq name (string_bytes k)) a.imports.entries) n absent (sym (lookup_text a.imports.entries name) ∙ v.named name n h) where
+    some_none : (o : Option NodeId) (x : NodeId) → o ≡ None → o ≡ Some x → ⊥
+    some_none o x p q = cc
+
+  module _ (kind : ItemKind) (key own : String Global) (number : ℕ) (nodes : Slab Node) (names : Names) (key_is : string_bytes key ≡ name) (own_is : string_bytes own ≡ name)
+      (absent : lookup (λ k. bytes_eq name (string_bytes k)) a.imports.entries ≡ None) (vacant : get a.nodes number ≡ None) (u : Updates a.nodes nodes number (Some (new_import own kind))) where
+    shape : node_of (new_import own kind) ≡ import_node name kind
+    shape = ap (λ t. import_node t kind) own_is
+
+    pub imported : number ≡ a.nodes.vacant_key → IsImportName name → Imports (graph_of a) name kind (Ok (record { 0 = number })) (graph_of (record a { nodes = nodes; imports = names }))
+    imported next valid = (
+      not_imported absent,
+      valid,
+      subst (λ n. AddsNode (graph_of a) (record { 0 = number }) n (graph_of (record a { nodes = nodes; imports = names }))) shape (adds_node a nodes number (new_import own kind) next vacant u),
+    )
+
+    pub invariant_imported : holds_type a.types (kind_type kind) ≡ true → names.entries ≡ insert_entry string_eq a.imports.entries key (record { 0 = number }) → Invariant (record a { nodes = nodes; imports = names })
+    invariant_imported held last = invariant_import a v nodes number (new_import own kind) vacant u (λ i. refl) name kind names shape held (sym_lookup ∙ absent) listed where
+      sym_lookup : find_name (names_of a.imports.entries) name ≡ lookup (λ k. bytes_eq name (string_bytes k)) a.imports.entries
+      sym_lookup = lookup_text a.imports.entries name
+
+      listed : names_of names.entries ≡ names_of a.imports.entries ++ (name, record { 0 = number }) ∷ []
+      listed = ap names_of last ∙ text_last a.imports.entries key (record { 0 = number }) (rw key_is absent) ∙ ap (λ t. names_of a.imports.entries ++ (t, record { 0 = number }) ∷ []) key_is
+
+    pub import_is_there : IsSome (node_at (graph_of (record a { nodes = nodes; imports = names })) (record { 0 = number }))
+    import_is_there = ap is_some (get-nodes_of nodes.slots number ∙ ap (option_map node_of) u.changed)
+
+-- the name of a node
+pub name_there : (a : Inside) (id : NodeId) (n : Node) (name : Option Name) → get a.nodes id.0 ≡ Some n → name ≡ import_name (kind_of n.kind) → IfSome (node_at (graph_of a) id) (λ node. name ≡ import_name node.kind)
+name_there a id n name had is = subst (λ o. IfSome o (λ node. name ≡ import_name node.kind)) (sym (get-nodes_of a.nodes.slots id.0 ∙ ap (option_map node_of) had)) is

@@ -1,0 +1,390 @@
+-- What is always true of a graph's fields stays true after each call.
+use Rattle.std.proofs.Common.{◌≡◌, ◌≢◌, ℕ, Bool, true, false, cond, ◌||◌, ◌&&◌, List, [], ◌∷◌, ◌++◌, length, map as map_list, refl, ap, ◌∙◌, sym, subst, ◌==◌, Option, Some, None, IsSome, is_some, ◌⊎◌, inl, inr, get_or, String, Global, string_bytes, Vec}
+use Rattle.std.specs.Prelude.{slice_get, IsSomeAnd}
+use Rattle.std.specs.Option.{option_map}
+use Rattle.std.specs.Map.{lookup}
+use Rattle.std.specs.FinMap as map
+use Rattle.std.specs.FinSet as set
+use Rattle.std.specs.HashMap.{HashMap}
+use Rattle.std.specs.declared.hash.FoldHasher.{FoldHasher}
+use Rattle.std.specs.declared.hash.BuildHasherDefault.{BuildHasherDefault}
+use Rattle.slab.specs.Slab.{Slab, get, Updates}
+use Rattle.wac_shapes.specs.Name.{Name, find_name}
+use Rattle.wac_collection.specs.Collection.{Collection, holds_type, IsWellFormed}
+use Rattle.wac_shapes.specs.Kinds.{kind_type}
+use Rattle.wac_collection.specs.Package.{PackageParts, Key, same_key, HoldsPackage}
+use Rattle.wac_shapes.specs.declared.component.ItemKind.{ItemKind}
+use Rattle.wac_edges.specs.declared.edges.Edge.{Edge}
+use Rattle.wac_edges.specs.declared.edges.Label.TheVariants as label
+use Rattle.wac_nodes.specs.declared.node.Node.{Node}
+use Rattle.wac_nodes.specs.declared.node.NodeId.{NodeId}
+use Rattle.wac_nodes.specs.declared.packages.PackageId.{PackageId}
+use Rattle.wac_nodes.specs.declared.packages.Slot.{Slot}
+use Rattle.wac_composition.specs.declared.graph.CompositionGraph.TheInside.{Inside}
+use Rattle.wac_edges.specs.Edge.{edge_cmp, alias_edge, argument_edge}
+use Rattle.wac_nodes.specs.Graph as graph
+use Rattle.wac_nodes.specs.Graph.{GraphNode, node_at, package_at, package_in, exports_of, IsAliasOf, IsRegistered}
+use Rattle.wac_composition.specs.Arguments.{CanBeGiven}
+use Rattle.wac_nodes.specs.Sound.{IsSound}
+use Rattle.wac_nodes.specs.Nodes.{node_of, nodes_of, names_of, satisfied, satisfied_at}
+use Rattle.wac_composition.specs.Inside.{graph_of, Invariant, key_of}
+use Rattle.wac_nodes.specs.Steps.{instance_node, import_node, alias_node}
+use Rattle.wac_nodes.proofs.Added.{by_eq, insert_same, insert_other, ImportIn, import_before, import_after, added_edge, kept_edge, new_edge}
+use Rattle.wac_nodes.proofs.JoinLemmas.{Extends}
+use Rattle.wac_nodes.proofs.SoundLemmas.{sound_import, sound_types, sound_slot, sound_node, sound_alias, sound_argument, sound_export, package_before, package_after}
+use Rattle.wac_collection.specs.KeyLaws.{same_key-true, same_key_equiv}
+use Rattle.indexmap.specs.IndexMap.{insert_entry}
+use Rattle.wac_edges.proofs.WrittenOrder.{eqb_same, slice_get-middle}
+use Rattle.std.proofs.lemmas.Bool.{eqb-true}
+use Rattle.wac_nodes.proofs.NodeLemmas.{get-nodes_of, nodes_of-insert, nodes_of-same, is_some-node_of, find_kept, find_new, find_either}
+
+abbrev number : ℕ → NodeId
+number k = record { 0 = k }
+
+clash : (b : Bool) → b ≡ true → b ≡ false → ⊥
+clash true _ h = cc
+clash false h _ = cc
+
+no_package : (slots : List Slot) (id : PackageId) (p : PackageParts) → slots ≡ [] → package_in (slice_get slots id.slot) id ≡ Some p → ⊥
+no_package slots id p none at = let e : package_in (slice_get [] id.slot) id ≡ Some p = ap (λ (xs : List Slot). package_in (slice_get xs id.slot) id) (sym none) ∙ at in wrong e where
+  wrong : package_in (slice_get [] id.slot) id ≡ Some p → ⊥
+  wrong e = cc
+
+no_entry : {A : Type 0} (xs : List A) (i : ℕ) (x : A) → xs ≡ [] → slice_get xs i ≡ Some x → ⊥
+no_entry [] i x none at = cc
+no_entry (y ∷ xs) i x none at = cc
+
+-- nothing is in the empty graph
+pub invariant_empty : (a : Inside) → a.nodes.slots ≡ [] → a.edges ≡ set.empty → a.imports.entries ≡ [] → a.exports.entries ≡ [] → a.package_map.entries ≡ [] → a.slots.items ≡ [] → Invariant a
+invariant_empty a nodes edges imports exports keys slots = record {
+  sound = record {
+    ends = λ e stands. absurd (no_edge e stands);
+    joins = λ e x y stands _ _. absurd (no_edge e stands);
+    exported = λ i name n at. absurd (no_export i name n at);
+    held = λ n node there. absurd (no_node n node there);
+    instances = λ n node there _. absurd (no_node n node there);
+    aliases = λ n node there _. absurd (no_node n node there);
+    one_argument = λ n i x y p _. absurd (no_edge (argument_edge x.0 n.0 i) p);
+    one_alias = λ x i n m p _. absurd (no_edge (alias_edge x.0 n.0 i) p);
+    one_source = λ n x y i j p q. absurd (no_edge (alias_edge x.0 n.0 i) p);
+    one_import = λ name n x p _. absurd (no_import name n p);
+    one_definition = λ kind n x p _. absurd (no_definition kind n p);
+    one_export = λ name i j n m p _. absurd (no_export i name n p);
+    one_package = λ key id other (p, at, _) _. absurd (no_package a.slots.items id p slots at);
+    first_names = λ n node name there _. absurd (no_node n node there);
+    vacant = λ i k at. absurd (no_number at);
+    vacant_once = λ i j k at _. absurd (no_number at);
+    packages = λ id p at. absurd (no_package a.slots.items id p slots at);
+  };
+  marked = λ source target position stands. absurd (no_edge (argument_edge source target position) stands);
+  edged = λ target position is. absurd (clash (satisfied_at (get a.nodes target) position) is (ap (λ (xs : List (Option Node)). satisfied_at (get_or xs target None) position) nodes));
+  keyed = λ id p at. absurd (no_package a.slots.items id p slots at);
+  found = λ k id at. absurd (let e : None ≡ Some id = ap (lookup (same_key k)) (sym keys) ∙ at in nothing id e);
+  named = λ name n h. absurd (no_import name n h);
+  importing = λ name n at. absurd (let e : None ≡ Some n = ap (λ es. find_name (names_of es) name) (sym imports) ∙ at in no_name n e);
+} where
+  no_edge : (e : Edge) → set.contains a.edges e ≡ true → ⊥
+  no_edge e stands = clash (set.contains a.edges e) stands (ap (λ s. set.contains s e) edges ∙ set.contains-empty edge_cmp e)
+
+  no_node : (n : NodeId) (node : GraphNode) → map.get (nodes_of a.nodes.slots) n.0 ≡ Some node → ⊥
+  no_node n node at = wrong (sym (ap (λ (xs : List (Option Node)). option_map node_of (get_or xs n.0 None)) nodes) ∙ sym (get-nodes_of a.nodes.slots n.0) ∙ at) where
+    wrong : None ≡ Some node → ⊥
+    wrong h = cc
+
+  vacant : (n : NodeId) → map.get (nodes_of a.nodes.slots) n.0 ≡ None
+  vacant n = get-nodes_of a.nodes.slots n.0 ∙ ap (λ (xs : List (Option Node)). option_map node_of (get_or xs n.0 None)) nodes
+
+  no_export : (i : ℕ) (name : Name) (n : NodeId) → slice_get {X = Name × NodeId} (map_list (λ e. (string_bytes e.0, e.1)) a.exports.entries) i ≡ Some (name, n) → ⊥
+  no_export i name n at = no_entry (map_list (λ e. (string_bytes e.0, e.1)) a.exports.entries) i (name, n) (ap (map_list (λ e. (string_bytes e.0, e.1))) exports) at
+
+  no_definition : (kind : ItemKind) (n : NodeId) → IsSomeAnd (map.get (nodes_of a.nodes.slots) n.0) (λ x. (x.kind ≡ graph.definition) × (x.item_kind ≡ kind)) → ⊥
+  no_definition kind n h = subst (λ o. IsSomeAnd o (λ x. (x.kind ≡ graph.definition) × (x.item_kind ≡ kind))) (vacant n) h
+
+  no_import : (name : Name) (n : NodeId) → ImportIn (nodes_of a.nodes.slots) name n → ⊥
+  no_import name n h = subst (λ o. IsSomeAnd o (λ x. x.kind ≡ graph.import name)) (vacant n) h
+
+  no_name : (n : NodeId) → None ≡ Some n → ⊥
+  no_name n h = cc
+
+  no_number : {k : ℕ} → None ≡ Some k → ⊥
+  no_number h = cc
+
+  nothing : (id : PackageId) → None ≡ Some id → ⊥
+  nothing id h = cc
+
+module _ (a : Inside) (v : Invariant a) where
+  -- types more
+  pub invariant_types : (c : Collection) → IsWellFormed a.types → Extends a.types c → Invariant (record a { types = c })
+  invariant_types c well more = record { sound = sound_types (graph_of a) v.sound c well more; marked = v.marked; edged = v.edged; keyed = v.keyed; found = v.found; named = v.named; importing = v.importing }
+
+  -- what was grown, or written again as it was
+  pub invariant_same : (slots : Vec Slot Global) (names : HashMap Key PackageId (BuildHasherDefault FoldHasher)) → slots.items ≡ a.slots.items → names.entries ≡ a.package_map.entries → Invariant (record a { slots = slots; package_map = names })
+  invariant_same slots names same kept = record {
+    sound = subst (λ xs. IsSound (record (graph_of a) { slots = xs })) (sym same) v.sound;
+    marked = v.marked;
+    edged = v.edged;
+    keyed = λ id p at. ap (lookup (same_key (key_of p))) kept ∙ v.keyed id p (ap (λ (xs : List Slot). package_in (slice_get xs id.slot) id) (sym same) ∙ at);
+    found = λ k id at. let (p, there, s) = v.found k id (ap (lookup (same_key k)) (sym kept) ∙ at) in (p, ap (λ (xs : List Slot). package_in (slice_get xs id.slot) id) same ∙ there, s);
+    named = v.named;
+    importing = v.importing;
+  }
+
+  -- the same nodes, positions and edges
+  pub invariant_back : (nodes : Slab Node) (edges : set.FinSet edge_cmp) → nodes.vacant_key ≡ a.nodes.vacant_key → ((q : ℕ) → option_map node_of (get nodes q) ≡ option_map node_of (get a.nodes q)) → ((q i : ℕ) → satisfied_at (get nodes q) i ≡ satisfied_at (get a.nodes q) i) → edges ≡ a.edges
+      → Invariant (record a { nodes = nodes; edges = edges })
+  invariant_back nodes edges next same marks is =
+      let shown : nodes_of nodes.slots ≡ nodes_of a.nodes.slots = nodes_of-same a.nodes.slots nodes.slots same in
+      record {
+        sound = subst IsSound (λ i. record (graph_of a) { nodes = sym shown i; next = sym next i; edges = sym is i }) v.sound;
+        marked = λ s t i stands. marks t i ∙ v.marked s t i (ap (λ es. set.contains es (argument_edge s t i)) (sym is) ∙ stands);
+        edged = λ t i h. let (s, stands) = v.edged t i (sym (marks t i) ∙ h) in (s, ap (λ es. set.contains es (argument_edge s t i)) is ∙ stands);
+        keyed = v.keyed;
+        found = v.found;
+        named = λ name n h. v.named name n (subst (λ ns. ImportIn ns name n) shown h);
+        importing = λ name n at. subst (λ ns. ImportIn ns name n) (sym shown) (v.importing name n at);
+      }
+
+  -- a node is where an edge leads
+  target_there : (e : Edge) → set.contains a.edges e ≡ true → IsSome (get a.nodes e.target)
+  target_there e stands = sym (is_some-node_of (get a.nodes e.target)) ∙ ap is_some (sym (get-nodes_of a.nodes.slots e.target)) ∙ (v.sound.ends e stands).1
+
+  vacant_or_there : (o : Option Node) → o ≡ None → IsSome o → ⊥
+  vacant_or_there None is h = cc
+  vacant_or_there (Some n) is h = cc
+
+  -- a node more, without arguments
+  module _ (nodes : Slab Node) (n : ℕ) (node : Node) (vacant : get a.nodes n ≡ None) (u : Updates a.nodes nodes n (Some node)) (bare : (i : ℕ) → satisfied node.kind i ≡ false) where
+    other_node : (q : ℕ) → IsSome (get a.nodes q) → q ≢ n
+    other_node q h same = vacant_or_there (get a.nodes q) (ap (λ k. get a.nodes k) same ∙ vacant) h
+
+    still_marked : (source target position : ℕ) → set.contains a.edges (argument_edge source target position) ≡ true → satisfied_at (get nodes target) position ≡ true
+    still_marked source target position stands =
+        ap (λ o. satisfied_at o position) (u.others target (other_node target (target_there (argument_edge source target position) stands))) ∙ v.marked source target position stands
+
+    still_edged : (target position : ℕ) → satisfied_at (get nodes target) position ≡ true → (source : ℕ) × (set.contains a.edges (argument_edge source target position) ≡ true)
+    still_edged target position is = by_eq target n
+        (λ same. absurd (clash (satisfied_at (get nodes target) position) is (ap (λ k. satisfied_at (get nodes k) position) same ∙ ap (λ o. satisfied_at o position) u.changed ∙ bare position)))
+        (λ differ. v.edged target position (ap (λ o. satisfied_at o position) (sym (u.others target differ)) ∙ is))
+
+    pub vacant_in_graph : map.get (nodes_of a.nodes.slots) n ≡ None
+    vacant_in_graph = get-nodes_of a.nodes.slots n ∙ ap (option_map node_of) vacant
+
+    -- a node that is no import imports nothing
+    still_named : (now : GraphNode) → nodes_of nodes.slots ≡ map.insert (nodes_of a.nodes.slots) n now → ((name : Name) → now.kind ≡ graph.import name → ⊥) → (name : Name) (m : NodeId) → ImportIn (nodes_of nodes.slots) name m → find_name (names_of a.imports.entries) name ≡ Some m
+    still_named now shown other name m h = v.named name m (import_before (nodes_of a.nodes.slots) (record { 0 = n }) now name m (λ is. absurd (other name is)) (subst (λ ns. ImportIn ns name m) shown h))
+
+    was_no_import : (name : Name) → ImportIn (nodes_of a.nodes.slots) name (record { 0 = n }) → ⊥
+    was_no_import name h = subst (λ o. IsSomeAnd o (λ x. x.kind ≡ graph.import name)) vacant_in_graph h
+
+    still_importing : (now : GraphNode) → nodes_of nodes.slots ≡ map.insert (nodes_of a.nodes.slots) n now → (name : Name) (m : NodeId) → find_name (names_of a.imports.entries) name ≡ Some m → ImportIn (nodes_of nodes.slots) name m
+    still_importing now shown name m at = subst (λ ns. ImportIn ns name m) (sym shown) (import_after (nodes_of a.nodes.slots) (record { 0 = n }) now name m (λ was. absurd (was_no_import name was)) (v.importing name m at))
+
+    -- a new import, under a name that was not there
+    pub invariant_import : (name : Name) (kind : ItemKind) (names : HashMap (String Global) NodeId (BuildHasherDefault FoldHasher)) → node_of node ≡ import_node name kind → holds_type a.types (kind_type kind) ≡ true → find_name (names_of a.imports.entries) name ≡ None
+        → names_of names.entries ≡ names_of a.imports.entries ++ (name, record { 0 = n }) ∷ [] → Invariant (record a { nodes = nodes; imports = names })
+    invariant_import name kind names shape held absent listed =
+        let more = sound_import (graph_of a) v.sound (record { 0 = n }) (import_node name kind) nodes.vacant_key vacant_in_graph held refl name refl free in
+        let shown : nodes_of nodes.slots ≡ map.insert (nodes_of a.nodes.slots) n (import_node name kind) = nodes_of-insert a.nodes nodes n node u ∙ ap (map.insert (nodes_of a.nodes.slots) n) shape in
+        record {
+          sound = subst (λ ns. IsSound (record (graph_of a) { nodes = ns; next = nodes.vacant_key })) (sym shown) more;
+          marked = still_marked;
+          edged = still_edged;
+          keyed = v.keyed;
+          found = v.found;
+          named = λ other m h. ap (λ es. find_name es other) listed ∙ named other m (subst (λ ns. ImportIn ns other m) shown h);
+          importing = λ other m at. subst (λ ns. ImportIn ns other m) (sym shown) (importing other m (find_either (names_of a.imports.entries) name other (record { 0 = n }) m (ap (λ es. find_name es other) (sym listed) ∙ at)));
+        } where
+          some_none : (o : Option NodeId) (x : NodeId) → o ≡ None → o ≡ Some x → ⊥
+          some_none o x p q = cc
+
+          free : (m : NodeId) → ImportIn (nodes_of a.nodes.slots) name m → ⊥
+          free m h = some_none (find_name (names_of a.imports.entries) name) m absent (v.named name m h)
+
+          same_import : (other : Name) → graph.import name ≡ graph.import other → name ≡ other
+          same_import other e = cc
+
+          named : (other : Name) (m : NodeId) → ImportIn (map.insert (nodes_of a.nodes.slots) n (import_node name kind)) other m → find_name (names_of a.imports.entries ++ (name, record { 0 = n }) ∷ []) other ≡ Some m
+          named other m h = by_eq m.0 n
+              (λ same.
+              let is : name ≡ other = same_import other (subst (λ o. IsSomeAnd o (λ x. x.kind ≡ graph.import other)) (ap (map.get (map.insert (nodes_of a.nodes.slots) n (import_node name kind))) same ∙ insert_same (nodes_of a.nodes.slots) n (import_node name kind)) h) in
+              ap (λ k. find_name (names_of a.imports.entries ++ (name, record { 0 = n }) ∷ []) k) (sym is) ∙ find_new (names_of a.imports.entries) name (record { 0 = n }) absent ∙ ap (λ k. let x : NodeId = record { 0 = k } in Some x) (sym same))
+              (λ differ. find_kept (names_of a.imports.entries) (name, record { 0 = n }) other m
+              (v.named other m (subst (λ o. IsSomeAnd o (λ x. x.kind ≡ graph.import other)) (insert_other (nodes_of a.nodes.slots) n m.0 (import_node name kind) differ) h)))
+
+          importing : (other : Name) (m : NodeId) → (find_name (names_of a.imports.entries) other ≡ Some m) ⊎ ((other ≡ name) × (number n ≡ m)) → ImportIn (map.insert (nodes_of a.nodes.slots) n (import_node name kind)) other m
+          importing other m (inl was) = import_after (nodes_of a.nodes.slots) (record { 0 = n }) (import_node name kind) other m (λ h. absurd (was_no_import other h)) (v.importing other m was)
+          importing other m (inr (is, here)) = subst (ImportIn (map.insert (nodes_of a.nodes.slots) n (import_node name kind)) other) here
+              (subst (λ o. IsSomeAnd o (λ x. x.kind ≡ graph.import other)) (sym (insert_same (nodes_of a.nodes.slots) n (import_node name kind))) (ap graph.import (sym is)))
+
+    pub invariant_instance : (id : PackageId) (p : PackageParts) → node_of node ≡ instance_node id p → package_at (graph_of a) id ≡ Some p → Invariant (record a { nodes = nodes })
+    invariant_instance id p shape registered =
+        let holds = v.sound.packages id p registered in
+        let more = sound_node (graph_of a) v.sound (record { 0 = n }) (instance_node id p) nodes.vacant_key vacant_in_graph holds.1 refl refl
+        (record { id = id; parts = p; owned = refl; registered = registered; typed = refl }) in
+        let shown : nodes_of nodes.slots ≡ map.insert (nodes_of a.nodes.slots) n (instance_node id p) = nodes_of-insert a.nodes nodes n node u ∙ ap (map.insert (nodes_of a.nodes.slots) n) shape in
+        record {
+          sound = subst (λ ns. IsSound (record (graph_of a) { nodes = ns; next = nodes.vacant_key })) (sym shown) more;
+          marked = still_marked;
+          edged = still_edged;
+          keyed = v.keyed;
+          found = v.found;
+          named = still_named (instance_node id p) shown (λ name wrong. cc);
+          importing = still_importing (instance_node id p) shown;
+        }
+
+    pub invariant_alias : (edges : set.FinSet edge_cmp) (instance : NodeId) (source : GraphNode) (position : ℕ) (name : Name) (kind : ItemKind) → node_of node ≡ alias_node source kind
+        → node_at (graph_of a) instance ≡ Some source → slice_get (exports_of (graph_of a) source) position ≡ Some (name, kind) → holds_type a.types (kind_type kind) ≡ true → ((other : NodeId) → IsAliasOf (graph_of a) instance position other → ⊥) → edges ≡ set.insert a.edges (alias_edge instance.0 n position)
+        → Invariant (record a { nodes = nodes; edges = edges })
+    invariant_alias edges instance source position name kind shape there exported held free added =
+        let more = sound_alias (graph_of a) v.sound (record { 0 = n }) (alias_node source kind) nodes.vacant_key vacant_in_graph held refl instance source position name refl refl there exported free in
+        let shown : nodes_of nodes.slots ≡ map.insert (nodes_of a.nodes.slots) n (alias_node source kind) = nodes_of-insert a.nodes nodes n node u ∙ ap (map.insert (nodes_of a.nodes.slots) n) shape in
+        record {
+          sound = subst (λ ns. IsSound (record (graph_of a) { nodes = ns; next = nodes.vacant_key; edges = edges })) (sym shown)
+              (subst (λ es. IsSound (record (graph_of a) { nodes = map.insert (nodes_of a.nodes.slots) n (alias_node source kind); next = nodes.vacant_key; edges = es })) (sym added) more);
+          marked = λ s t i stands. still_marked s t i (old_argument s t i (added_edge a.edges (alias_edge instance.0 n position) (argument_edge s t i) (ap (λ es. set.contains es (argument_edge s t i)) (sym added) ∙ stands)));
+          edged = λ t i is. let (s, stands) = still_edged t i is in (s, ap (λ es. set.contains es (argument_edge s t i)) added ∙ kept_edge a.edges (alias_edge instance.0 n position) (argument_edge s t i) stands);
+          keyed = v.keyed;
+          found = v.found;
+          named = still_named (alias_node source kind) shown (λ name wrong. cc);
+          importing = still_importing (alias_node source kind) shown;
+        } where
+          old_argument : (s t i : ℕ) → (argument_edge s t i ≡ alias_edge instance.0 n position) ⊎ (set.contains a.edges (argument_edge s t i) ≡ true) → set.contains a.edges (argument_edge s t i) ≡ true
+          old_argument s t i (inl wrong) = absurd (let labels : label.Argument i ≡ label.Alias position = ap (λ (e : Edge). e.label) wrong in cc)
+          old_argument s t i (inr was) = was
+
+  -- the same nodes but for the satisfied positions, of which one is more, with its edge
+  pub invariant_argument : (nodes : Slab Node) (edges : set.FinSet edge_cmp) (source target position : ℕ) → nodes.vacant_key ≡ a.nodes.vacant_key
+      → ((q : ℕ) → option_map node_of (get nodes q) ≡ option_map node_of (get a.nodes q)) → ((q i : ℕ) → satisfied_at (get nodes q) i ≡ (satisfied_at (get a.nodes q) i || (q == target && i == position)))
+      → CanBeGiven (graph_of a) (record { 0 = target }) position (record { 0 = source }) → edges ≡ set.insert a.edges (argument_edge source target position)
+      → Invariant (record a { nodes = nodes; edges = edges })
+  invariant_argument nodes edges source target position next same satisfied_now can added =
+      let shown : nodes_of nodes.slots ≡ nodes_of a.nodes.slots = nodes_of-same a.nodes.slots nodes.slots same in
+      let more = sound_argument (graph_of a) v.sound source target position can.given can.consumer can.there can.here can.joins can.unset in
+      record {
+        sound = subst (λ k. IsSound (record (graph_of a) { nodes = nodes_of nodes.slots; next = k; edges = edges })) (sym next)
+            (subst (λ ns. IsSound (record (graph_of a) { nodes = ns; edges = edges })) (sym shown)
+            (subst (λ es. IsSound (record (graph_of a) { edges = es })) (sym added) more));
+        marked = λ s t i stands. satisfied_now t i ∙ marked s t i (added_edge a.edges (argument_edge source target position) (argument_edge s t i) (ap (λ es. set.contains es (argument_edge s t i)) (sym added) ∙ stands));
+        edged = λ t i is. edged t i (satisfied_at (get a.nodes t) i) refl (sym (satisfied_now t i) ∙ is);
+        keyed = v.keyed;
+        found = v.found;
+        named = λ name n h. v.named name n (subst (λ ns. ImportIn ns name n) shown h);
+        importing = λ name n at. subst (λ ns. ImportIn ns name n) (sym shown) (v.importing name n at);
+      } where
+        or_yes : (b : Bool) → (b || true) ≡ true
+        or_yes true = refl
+        or_yes false = refl
+
+        marked : (s t i : ℕ) → (argument_edge s t i ≡ argument_edge source target position) ⊎ (set.contains a.edges (argument_edge s t i) ≡ true) → (satisfied_at (get a.nodes t) i || (t == target && i == position)) ≡ true
+        marked s t i (inl is) =
+            let t_is : t ≡ target = ap (λ (e : Edge). e.target) is in
+            let i_is : i ≡ position = let labels : label.Argument i ≡ label.Argument position = ap (λ (e : Edge). e.label) is in cc in
+            ap (λ b. satisfied_at (get a.nodes t) i || b) (rw (t_is, i_is, eqb_same target) (eqb_same position)) ∙ or_yes (satisfied_at (get a.nodes t) i)
+        marked s t i (inr was) = ap (λ b. b || (t == target && i == position)) (v.marked s t i was)
+
+        edged : (t i : ℕ) (b : Bool) → satisfied_at (get a.nodes t) i ≡ b → (b || (t == target && i == position)) ≡ true → (s : ℕ) × (set.contains edges (argument_edge s t i) ≡ true)
+        edged t i true is _ = let (s, stands) = v.edged t i is in (s, ap (λ es. set.contains es (argument_edge s t i)) added ∙ kept_edge a.edges (argument_edge source target position) (argument_edge s t i) stands)
+        edged t i false is both =
+            let (t_is, i_is) = both_true (t == target) (i == position) both in
+            let same : argument_edge source t i ≡ argument_edge source target position = rw (eqb-true t target t_is, eqb-true i position i_is) refl in
+            (source, ap (λ es. set.contains es (argument_edge source t i)) added ∙ ap (set.contains (set.insert a.edges (argument_edge source target position))) same ∙ new_edge a.edges (argument_edge source target position)) where
+              both_true : (x y : Bool) → (x && y) ≡ true → (x ≡ true) × (y ≡ true)
+              both_true true y h = (refl, h)
+              both_true false y h = cc
+
+  -- a node is exported by a further name
+  pub invariant_export : (nodes : Slab Node) (exports : List (Name × NodeId)) (id : NodeId) (before after : Node) (name : Name) → get a.nodes id.0 ≡ Some before → Updates a.nodes nodes id.0 (Some after) → node_of after ≡ record (node_of before) { export_name = Some name } → after.kind ≡ before.kind
+      → nodes.vacant_key ≡ a.nodes.vacant_key → find_name (names_of a.exports.entries) name ≡ None → exports ≡ (graph_of a).exports ++ (name, id) ∷ [] → (names : HashMap (String Global) NodeId (BuildHasherDefault FoldHasher)) → map_list (λ e. (string_bytes e.0, e.1)) names.entries ≡ exports
+      → Invariant (record a { nodes = nodes; exports = names })
+  invariant_export nodes exports id before after name had u shape kept next absent added names listed =
+      let there : node_at (graph_of a) id ≡ Some (node_of before) = get-nodes_of a.nodes.slots id.0 ∙ ap (option_map node_of) had in
+      let more = sound_export (graph_of a) v.sound id (node_of before) name there absent in
+      let shown : nodes_of nodes.slots ≡ map.insert (nodes_of a.nodes.slots) id.0 (record (node_of before) { export_name = Some name }) = nodes_of-insert a.nodes nodes id.0 after u ∙ ap (map.insert (nodes_of a.nodes.slots) id.0) shape in
+      record {
+        sound = subst (λ es. IsSound (record (graph_of a) { nodes = nodes_of nodes.slots; next = nodes.vacant_key; exports = es })) (sym (listed ∙ added))
+            (subst (λ k. IsSound (record (graph_of a) { nodes = nodes_of nodes.slots; next = k; exports = (graph_of a).exports ++ (name, id) ∷ [] })) (sym next)
+            (subst (λ ns. IsSound (record (graph_of a) { nodes = ns; exports = (graph_of a).exports ++ (name, id) ∷ [] })) (sym shown) more));
+        marked = λ s t i stands. satisfied_same t i ∙ v.marked s t i stands;
+        edged = λ t i is. v.edged t i (sym (satisfied_same t i) ∙ is);
+        keyed = v.keyed;
+        found = v.found;
+        named = λ other n h. v.named other n (import_before (nodes_of a.nodes.slots) id (record (node_of before) { export_name = Some name }) other n (λ is. was other is) (subst (λ ns. ImportIn ns other n) shown h));
+        importing = λ other n at. subst (λ ns. ImportIn ns other n) (sym shown) (import_after (nodes_of a.nodes.slots) id (record (node_of before) { export_name = Some name }) other n (λ h. is_so other h) (v.importing other n at));
+      } where
+        was : (other : Name) → (node_of before).kind ≡ graph.import other → ImportIn (nodes_of a.nodes.slots) other id
+        was other is = subst (λ o. IsSomeAnd o (λ x. x.kind ≡ graph.import other)) (sym (get-nodes_of a.nodes.slots id.0 ∙ ap (option_map node_of) had)) is
+
+        is_so : (other : Name) → ImportIn (nodes_of a.nodes.slots) other id → (node_of before).kind ≡ graph.import other
+        is_so other h = subst (λ o. IsSomeAnd o (λ x. x.kind ≡ graph.import other)) (get-nodes_of a.nodes.slots id.0 ∙ ap (option_map node_of) had) h
+
+        satisfied_same : (q i : ℕ) → satisfied_at (get nodes q) i ≡ satisfied_at (get a.nodes q) i
+        satisfied_same q i = by_eq q id.0
+            (λ same. ap (λ k. satisfied_at (get nodes k) i) same ∙ ap (λ o. satisfied_at o i) u.changed ∙ ap (λ k. satisfied k i) kept ∙ sym (ap (λ k. satisfied_at (get a.nodes k) i) same ∙ ap (λ o. satisfied_at o i) had))
+            (λ differ. ap (λ o. satisfied_at o i) (u.others q differ))
+
+  look-insert : (k key : Key) (id : PackageId) (es : List (Key × PackageId)) → lookup (same_key key) es ≡ None → lookup (same_key k) (insert_entry same_key es key id) ≡ cond (same_key k key) (Some id) (lookup (same_key k) es)
+  look-insert k key id [] absent = refl
+  look-insert k key id (e ∷ es) absent = split (same_key key e.0) refl absent (λ h. look-insert k key id es h) where
+    swap : (x y : Bool) → (x ≡ true → y ≡ true → ⊥) → (o : Option PackageId) → cond x (Some e.1) (cond y (Some id) o) ≡ cond y (Some id) (cond x (Some e.1) o)
+    swap true true wrong o = absurd (wrong refl refl)
+    swap true false _ o = refl
+    swap false y _ o = refl
+
+    split : (b : Bool) → same_key key e.0 ≡ b → cond b (Some e.1) (lookup (same_key key) es) ≡ None → (lookup (same_key key) es ≡ None → lookup (same_key k) (insert_entry same_key es key id) ≡ cond (same_key k key) (Some id) (lookup (same_key k) es))
+        → lookup (same_key k) (cond b ((e.0, id) ∷ es) (e ∷ insert_entry same_key es key id)) ≡ cond (same_key k key) (Some id) (cond (same_key k e.0) (Some e.1) (lookup (same_key k) es))
+    split true is wrong _ = cc
+    split false is none more =
+        ap (cond (same_key k e.0) (Some e.1)) (more none)
+        ∙ swap (same_key k e.0) (same_key k key) (λ a b. clash (same_key key e.0) (ap (λ (x : Key). same_key x e.0) (sym (same_key-true k key b)) ∙ a) is) (lookup (same_key k) es)
+
+  -- a package more
+  pub invariant_register : (p : PackageParts) (key : Key) (id : PackageId) (slots : Vec Slot Global) (names : HashMap Key PackageId (BuildHasherDefault FoldHasher)) → key ≡ key_of p → lookup (same_key key) a.package_map.entries ≡ None → names.entries ≡ insert_entry same_key a.package_map.entries key id
+      → slots.items ≡ a.slots.items ++ record { generation = 0; «package» = Some p } ∷ [] → id ≡ record { slot = length a.slots.items; generation = 0 } → HoldsPackage a.types p
+      → Invariant (record a { package_map = names; slots = slots })
+  invariant_register p key id slots names is absent added grown new holds =
+      let more = sound_slot (graph_of a) v.sound (record { generation = 0; «package» = Some p }) (λ other q at. (subst (λ x. HoldsPackage a.types x) (only other q at) holds, λ id r. free id (subst (λ x. IsRegistered (graph_of a) (key_of x) id) (sym (only other q at)) r))) in
+      record {
+        sound = subst (λ xs. IsSound (record (graph_of a) { slots = xs })) (sym grown) more;
+        marked = v.marked;
+        edged = v.edged;
+        keyed = λ other q at. ap (lookup (same_key (key_of q))) added ∙ look-insert (key_of q) key id a.package_map.entries absent ∙ keyed other q (package_after (graph_of a) v.sound (record { generation = 0; «package» = Some p }) other q (ap (λ (xs : List Slot). package_in (slice_get xs other.slot) other) (sym grown) ∙ at));
+        named = v.named;
+        importing = v.importing;
+        found = λ k other at. found k other (same_key k key) refl (sym (look-insert k key id a.package_map.entries absent) ∙ ap (lookup (same_key k)) (sym added) ∙ at);
+      } where
+        none_some : (o : Option PackageId) (x : PackageId) → o ≡ None → o ≡ Some x → ⊥
+        none_some o x p q = cc
+
+        free : (other : PackageId) → IsRegistered (graph_of a) (key_of p) other → ⊥
+        free other (q, there, same) = none_some (lookup (same_key key) a.package_map.entries) other absent (ap (λ (k : Key). lookup (same_key k) a.package_map.entries) (is ∙ sym same) ∙ v.keyed other q there)
+
+        only_generation : (b : Bool) (q : PackageParts) → cond b (Some p) None ≡ Some q → (b ≡ true) × (p ≡ q)
+        only_generation true q at = (refl, cc)
+        only_generation false q at = cc
+
+        only : (other : PackageId) (q : PackageParts) → package_in (Some (record { generation = 0; «package» = Some p })) other ≡ Some q → p ≡ q
+        only other q at = (only_generation (0 == other.generation) q at).1
+
+        keyed : (other : PackageId) (q : PackageParts) → (package_at (graph_of a) other ≡ Some q) ⊎ ((other.slot ≡ length a.slots.items) × (package_in (Some (record { generation = 0; «package» = Some p })) other ≡ Some q)) → cond (same_key (key_of q) key) (Some id) (lookup (same_key (key_of q)) a.package_map.entries) ≡ Some other
+        keyed other q (inl was) = split (same_key (key_of q) key) refl where
+          split : (b : Bool) → same_key (key_of q) key ≡ b → cond b (Some id) (lookup (same_key (key_of q)) a.package_map.entries) ≡ Some other
+          split false _ = v.keyed other q was
+          split true same = absurd (none_some (lookup (same_key key) a.package_map.entries) other absent (ap (λ (k : Key). lookup (same_key k) a.package_map.entries) (sym (same_key-true (key_of q) key same)) ∙ v.keyed other q was))
+        keyed other q (inr (at_slot, now)) =
+            let (of_first, same) = only_generation (0 == other.generation) q now in
+            let generation : 0 ≡ other.generation = eqb-true 0 other.generation of_first in
+            let same_id : id ≡ other = new ∙ (λ i. record { slot = sym at_slot i; generation = generation i }) in
+            let keys : same_key (key_of q) key ≡ true = ap (λ (x : Key). same_key (key_of q) x) (is ∙ ap key_of same) ∙ same_key_equiv.refl (key_of q) in
+            ap (λ b. cond b (Some id) (lookup (same_key (key_of q)) a.package_map.entries)) keys ∙ ap Some same_id
+
+        found : (k : Key) (other : PackageId) (b : Bool) → same_key k key ≡ b → cond b (Some id) (lookup (same_key k) a.package_map.entries) ≡ Some other → (q : PackageParts) × (package_in (slice_get slots.items other.slot) other ≡ Some q) × (same_key k (key_of q) ≡ true)
+        found k other true same at =
+            let is_id : id ≡ other = cc in (
+              p,
+              ap (λ (x : PackageId). package_in (slice_get slots.items x.slot) x) (sym is_id ∙ new) ∙ ap (λ (xs : List Slot). package_in (slice_get xs (length a.slots.items)) (record { slot = length a.slots.items; generation = 0 })) grown
+                  ∙ ap (λ o. package_in o (record { slot = length a.slots.items; generation = 0 })) (slice_get-middle a.slots.items (record { generation = 0; «package» = Some p }) []),
+              ap (same_key k) (sym is) ∙ same,
+            )
+        found k other false differ at =
+            let (q, there, same) = v.found k other at in
+            (q, ap (λ (xs : List Slot). package_in (slice_get xs other.slot) other) grown ∙ package_before (graph_of a) v.sound (record { generation = 0; «package» = Some p }) other q there, same)

@@ -1,0 +1,17 @@
+pub mod InvariantLemmas
+pub mod StepLemmas
+pub mod AliasLemmas
+pub mod ImportLemmas
+pub mod ExportLemmas
+pub mod SatisfyLemmas
+pub mod ArgumentLemmas
+pub mod EncodingLemmas
+pub mod MeansLemmas
+pub mod CauseLemmas
+pub mod ConflictLemmas
+pub mod WriteAliasLemmas
+pub mod WriteArgumentsLemmas
+pub mod ImportRows
+pub mod AskingWalk
+pub mod AskedHeld
+pub mod MergeLemmas

@@ -1,0 +1,169 @@
+-- What the fields say of aliases and exports that are written.
+use Rattle.std.proofs.Common.{refl, ◌≡◌, ℕ, zero, suc, ◌+◌, ◌<◌, ◌≤◌, true, false, List, [], ◌∷◌, ◌++◌, length, take, ap, ◌∙◌, sym, subst, arith, Some, IfSome, IsSome, IsSomeAnd, is_some, String, Global, string_bytes}
+use Rattle.std.specs.Prelude.{slice_get}
+use Rattle.std.specs.List.{flat_map}
+use Rattle.std.specs.Option.{option_map}
+use Rattle.std.specs.FinSet as set
+use Rattle.std.proofs.lemmas.List.{flat_map_more, take_all, length-map}
+use Rattle.std.proofs.lemmas.Option.{slice_get-map, slice_get_within}
+use Rattle.slab.specs.Slab.{get, ContainsKey}
+use Rattle.wac_shapes.specs.Name.{Name, option_case}
+use Rattle.wac_collection.specs.Collection.{item_at}
+use Rattle.wac_shapes.specs.declared.component.Interface.{Interface}
+use Rattle.wac_shapes.specs.declared.component.InterfaceId.{InterfaceId}
+use Rattle.wac_shapes.specs.declared.component.ItemKind.{ItemKind}
+use Rattle.wac_shapes.specs.declared.component.ItemKind.TheVariants as item
+use Rattle.wac_binary.specs.declared.sorts.Sort.{Sort}
+use Rattle.wac_binary.specs.Items.{Item, alias_item, export_alias, export_item}
+use Rattle.wac_binary.specs.Indexes.{space, indexes}
+use Rattle.wac_nodes.specs.declared.node.Node.{Node}
+use Rattle.wac_nodes.specs.declared.node.NodeId.{NodeId}
+use Rattle.wac_nodes.specs.declared.packages.PackageId.{PackageId}
+use Rattle.wac_composition.specs.declared.graph.CompositionGraph.TheInside.{Inside}
+use Rattle.wac_edges.specs.Edge.{alias_edge}
+use Rattle.wac_nodes.specs.Graph as graph
+use Rattle.wac_nodes.specs.Graph.{Graph, GraphNode, node_at, exports_of, node_number}
+use Rattle.wac_nodes.specs.Nodes.{node_of, kind_of}
+use Rattle.wac_composition.specs.Inside.{graph_of, Invariant}
+use Rattle.wac_meaning.specs.Means.{sort_of_kind, export_item_of}
+use Rattle.wac_meaning.specs.Encoding.{WritesNode, HasRoom, writes_alias}
+use Rattle.wac_nodes.proofs.NodeLemmas.{there, text_pair}
+use Rattle.wac_composition.proofs.EncodingLemmas.{node_is, some_node, if_node}
+use Rattle.wac_composition.proofs.AliasLemmas.{exports_are}
+
+take_at : {A : Type 0} (xs : List A) (i : ℕ) (x : A) → slice_get xs i ≡ Some x → take (suc i) xs ≡ take i xs ++ x ∷ []
+take_at [] i x h = cc
+take_at (y ∷ ys) zero x h = let e : y ≡ x = cc in ap (λ z. z ∷ []) e
+take_at (y ∷ ys) (suc i) x h = ap (λ r. y ∷ r) (take_at ys i x h)
+
+-- an entry of the exports is one of the graph's
+entry_at : (a : Inside) (i : ℕ) (name : String Global) (id : NodeId) → Some (name, id) ≡ slice_get a.exports.entries i → slice_get (graph_of a).exports i ≡ Some (string_bytes name, id)
+entry_at a i name id h = slice_get-map (λ e. text_pair e) a.exports.entries i ∙ ap (option_map (λ e. text_pair e)) (sym h)
+
+-- an exported node is there
+pub exported_there : (a : Inside) → Invariant a → (i : ℕ) (name : String Global) (id : NodeId) → Some (name, id) ≡ slice_get a.exports.entries i → ContainsKey a.nodes id.0
+exported_there a v i name id h = there a.nodes.slots id.0 ((v.sound).exported i (string_bytes name) id (entry_at a i name id h))
+
+-- and has an index
+pub export_noted : (a : Inside) → Invariant a → (g : Graph) → graph_of a ≡ g → (xs : List ℕ) → HasRoom g xs → (i : ℕ) (name : String Global) (id : NodeId) → Some (name, id) ≡ slice_get a.exports.entries i → id.0 < length xs
+export_noted a v g is xs room i name id h = room id.0 (subst (λ x. IsSome (node_at x id)) is ((v.sound).exported i (string_bytes name) id (entry_at a i name id h)))
+
+-- one more export is written
+one_more : (a : Inside) (f : ℕ → ℕ) (i : ℕ) (name : String Global) (id : NodeId) (node : Node) (old mid : List Item)
+    → Some (name, id) ≡ slice_get a.exports.entries i → get a.nodes id.0 ≡ Some node
+    → mid ≡ old ++ flat_map (export_item_of (graph_of a) f) (take i (graph_of a).exports)
+    → mid ++ export_item (string_bytes name) (sort_of_kind node.item_kind) (f id.0) ∷ [] ≡ old ++ flat_map (export_item_of (graph_of a) f) (take (i + 1) (graph_of a).exports)
+one_more a f i name id node old mid h had is =
+    let g : Graph = graph_of a in
+    let F : _ = export_item_of g f in
+    let e : List ℕ × NodeId = (string_bytes name, id) in
+    let one : F e ≡ export_item (string_bytes name) (sort_of_kind node.item_kind) (f id.0) ∷ [] =
+    ap (λ o. option_case o [] (λ (x : GraphNode). export_item (string_bytes name) (sort_of_kind x.item_kind) (f id.0) ∷ [])) (node_is a id.0 (Some node) had) in
+    let next : i + 1 ≡ suc i = omega arith in
+    ap (λ xs. mid ++ xs) (sym one)
+    ∙ ap (λ xs. xs ++ F e) is
+    ∙ flat_map_more F old (take i g.exports) e
+    ∙ ap (λ xs. old ++ flat_map F xs) (sym (take_at g.exports i e (entry_at a i name id h)))
+    ∙ ap (λ k. old ++ flat_map F (take k g.exports)) (sym next)
+
+pub export_more : (a : Inside) (g : Graph) → graph_of a ≡ g → (f : ℕ → ℕ) (i : ℕ) (name : String Global) (id : NodeId) (node : Node) (text : Name) (s : Sort) (index : ℕ) (old mid new : List Item)
+    → Some (name, id) ≡ slice_get a.exports.entries i → get a.nodes id.0 ≡ Some node → text ≡ string_bytes name → s ≡ sort_of_kind node.item_kind → index ≡ f id.0
+    → mid ≡ old ++ flat_map (export_item_of g f) (take i g.exports) → new ≡ mid ++ export_item text s index ∷ []
+    → new ≡ old ++ flat_map (export_item_of g f) (take (i + 1) g.exports)
+export_more a g e f i name id node text s index old mid new h had named sorted placed =
+    subst (λ x. mid ≡ old ++ flat_map (export_item_of x f) (take i x.exports) → new ≡ mid ++ export_item text s index ∷ [] → new ≡ old ++ flat_map (export_item_of x f) (take (i + 1) x.exports)) e
+    (λ is added. added ∙ (λ j. mid ++ export_item (named j) (sorted j) (placed j) ∷ []) ∙ one_more a f i name id node old mid h had is)
+
+-- past the last export all are written
+pub export_all : (a : Inside) (g : Graph) → graph_of a ≡ g → (f : ℕ → ℕ) (i : ℕ) (old new : List Item) → length a.exports.entries ≤ i
+    → new ≡ old ++ flat_map (export_item_of g f) (take i g.exports) → new ≡ old ++ flat_map (export_item_of g f) g.exports
+export_all a g e f i old new past is =
+    let many : length g.exports ≡ length a.exports.entries = ap (λ x. length x.exports) (sym e) ∙ length-map a.exports.entries (λ e. text_pair e) in
+    is ∙ ap (λ xs. old ++ flat_map (export_item_of g f) xs) (take_all i g.exports (omega (arith, many, past)))
+
+-- a node that is an alias
+module _ (a : Inside) (v : Invariant a) (n : ℕ) (h : IsSomeAnd (node_at (graph_of a) (node_number n)) (λ x. x.kind ≡ graph.alias)) where
+  -- an alias has a source
+  pub alias_sourced : ((source position : ℕ) → set.contains a.edges (alias_edge source n position) ≡ false) → ⊥
+  alias_sourced none =
+      let (m, had, is) = some_node a n (λ x. x.kind ≡ graph.alias) h in
+      let it = (v.sound).aliases (node_number n) (node_of m) (node_is a n (Some m) had) is in
+      clash (sym (none (it.instance).0 it.position) ∙ it.aliased) where
+        clash : false ≡ true → ⊥
+        clash h = cc
+
+  module _ (source position : ℕ) (stands : set.contains a.edges (alias_edge source n position) ≡ true) where
+    pub source_there : ContainsKey a.nodes source
+    source_there = there a.nodes.slots source ((v.sound).ends (alias_edge source n position) stands).0
+
+    -- what is aliased is an export of the source
+    pub source_exports : (s m : Node) → get a.nodes source ≡ Some s → get a.nodes n ≡ Some m → (name : Name) × (slice_get (exports_of (graph_of a) (node_of s)) position ≡ Some (name, m.item_kind))
+    source_exports s m had at =
+        let (other, found, is) = some_node a n (λ x. x.kind ≡ graph.alias) h in
+        let it = (v.sound).aliases (node_number n) (node_of other) (node_is a n (Some other) found) is in
+        let (same, place) = (v.sound).one_source (node_number n) it.instance (node_number source) it.position position it.aliased stands in
+        let found_there : node_at (graph_of a) it.instance ≡ Some (node_of s) = ap (node_at (graph_of a)) same ∙ node_is a source (Some s) had in
+        let e : it.source ≡ node_of s = one (sym it.there ∙ found_there) in
+        let k : other ≡ m = one_node (sym found ∙ at) in
+        (it.name, (λ j. slice_get (exports_of (graph_of a) (sym e j)) (sym place j)) ∙ it.exported ∙ ap (λ (x : Node). Some (it.name, x.item_kind)) k) where
+          one : {x y : GraphNode} → Some x ≡ Some y → x ≡ y
+          one p = cc
+
+          one_node : {x y : Node} → Some x ≡ Some y → x ≡ y
+          one_node p = cc
+
+    pub source_is_instance : (s : Node) → get a.nodes source ≡ Some s → ((i : InterfaceId) → s.item_kind ≡ item.Instance i → ⊥) → ⊥
+    source_is_instance s had other =
+        let (m, at, _) = some_node a n (λ x. x.kind ≡ graph.alias) h in
+        let (name, exported) = source_exports s m had at in
+        nothing (sym (ap (λ (es : List (Name × ItemKind)). slice_get es position) (no_exports s.item_kind other)) ∙ exported) where
+          no_exports : (k : ItemKind) → ((i : InterfaceId) → k ≡ item.Instance i → ⊥) → exports_of (graph_of a) (record (node_of s) { item_kind = k }) ≡ []
+          no_exports (item.TypeItem t) not = refl
+          no_exports (item.Func f) not = refl
+          no_exports (item.Instance i) not = absurd (not i refl)
+          no_exports (item.Component w) not = refl
+          no_exports (item.Module m) not = refl
+          no_exports (item.Value v) not = refl
+
+          nothing : {e : Name × ItemKind} → slice_get [] position ≡ Some e → ⊥
+          nothing p = cc
+
+    -- the position is one of the interface's exports
+    module _ (s : Node) (i : InterfaceId) (it : Interface) (had : get a.nodes source ≡ Some s) (is : s.item_kind ≡ item.Instance i) (held : item_at (a.types).interfaces i.0 ≡ Some it) where
+      pub exported_at : (m : Node) → get a.nodes n ≡ Some m → (name : Name) × (slice_get it.exports position ≡ Some (name, m.item_kind))
+      exported_at m at =
+          let (name, exported) = source_exports s m had at in
+          (name, ap (λ es. slice_get es position) (sym (exports_are a s i it is held)) ∙ exported)
+
+      pub position_there : position < length it.exports
+      position_there =
+          let (m, at, _) = some_node a n (λ x. x.kind ≡ graph.alias) h in
+          let (name, exported) = exported_at m at in
+          slice_get_within it.exports position (name, m.item_kind) exported
+
+      pub alias_there : ContainsKey a.nodes n
+      alias_there = let (m, at, _) = some_node a n (λ x. x.kind ≡ graph.alias) h in ap is_some at
+
+      pub alias_added : (m : Node) → get a.nodes n ≡ Some m → (text : Name) → option_map (λ e. e.0) (slice_get it.exports position) ≡ Some text
+          → (t : Sort) → t ≡ sort_of_kind m.item_kind → (f : ℕ → ℕ) (index : ℕ) → index ≡ f source
+          → (components components' : List (PackageId × ℕ)) → components' ≡ components
+          → (items items' : List Item) → items' ≡ items ++ alias_item (export_alias t index text) ∷ [] → (place : ℕ) → place ≡ indexes (space t) items
+          → IfSome (node_at (graph_of a) (node_number n)) (λ x. WritesNode (graph_of a) n x f components components' items items' place)
+      alias_added m at text named t sorted f index placed components components' kept items items' added place counted =
+          let (other, found, kind) = some_node a n (λ x. x.kind ≡ graph.alias) h in
+          let k : other ≡ m = one (sym found ∙ at) in
+          let (name, here) = exported_at m at in
+          let same_name : name ≡ text = text_is (sym (ap (option_map (λ e. e.0)) here) ∙ named) in
+          let first : exports_of (graph_of a) (node_of s) ≡ it.exports = exports_are a s i it is held in
+          if_node a n m (λ x. WritesNode (graph_of a) n x f components components' items items' place) at
+          (writes_alias (node_number source) (node_of s) position text
+          (ap (λ x. kind_of x.kind) (sym k) ∙ kind) stands (node_is a source (Some s) had)
+          (ap (λ es. slice_get es position) first ∙ here ∙ ap (λ (x : Name). Some (x, m.item_kind)) same_name)
+          kept
+          (added ∙ (λ j. items ++ alias_item (export_alias (sorted j) (placed j) text) ∷ []))
+          (counted ∙ ap (λ x. indexes (space x) items) sorted)) where
+            one : {x y : Node} → Some x ≡ Some y → x ≡ y
+            one p = cc
+
+            text_is : {x y : Name} → Some x ≡ Some y → x ≡ y
+            text_is p = cc

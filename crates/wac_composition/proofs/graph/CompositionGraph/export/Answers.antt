@@ -1,0 +1,33 @@
+use Rattle.std.proofs.Common.{sym, refl, subst, MatchOption}
+use Rattle.wac_nodes.specs.ExternName.{IsExportName, HasExportFault}
+use Rattle.wac_nodes.proofs.NodeLemmas.{lookup_text, there}
+use Rattle.wac_composition.proofs.ExportLemmas.{exported, invariant_exported}
+use Rattle.wac_composition.proofs.graph.CompositionGraph.export.Goals as goal
+
+pub returns-in-Some : goal.returns-in-Some
+returns-in-Some c =
+    (refl, c.in_ok-name.ensures.ok, rw (← c.self.view_is, lookup_text) (sym c.in-Some.ensures.value))
+
+pub set_export_name-requires : goal.set_export_name-requires
+set_export_name-requires c = there c.self.inside.nodes.slots c.args.node.0 (rw (← c.self.view_is) at c.requires)
+
+pub invariant_of-self-2 : goal.invariant_of-self-2
+invariant_of-self-2 c =
+    invariant_exported c.self.inside c.self.invariant c.args.node c.args.name.now c.in_ok-key.key c.in_ok-own.own c.set_export_name.new.nodes c.insert.new.self
+    c.in_ok-key.ensures.ok c.in_ok-own.ensures.ok (sym c.in_default.ensures.value) c.in_ok-insert.ensures.entries
+    (there c.self.inside.nodes.slots c.args.node.0 (rw (← c.self.view_is) at c.requires)) c.set_export_name.ensures
+
+pub returns : goal.returns
+returns c =
+    rw (← c.self.view_is)
+    (exported c.self.inside c.args.node c.args.name.now c.in_ok-key.key c.in_ok-own.own c.set_export_name.new.nodes c.insert.new.self
+    c.in_ok-key.ensures.ok c.in_ok-own.ensures.ok (sym c.in_default.ensures.value) c.in_ok-insert.ensures.entries
+    (there c.self.inside.nodes.slots c.args.node.0 (rw (← c.self.view_is) at c.requires)) c.set_export_name.ensures (subst (λ o. MatchOption o (IsExportName c.args.name.now) (HasExportFault c.args.name.now)) c.in_default-2.is c.in_ok-source.ensures))
+
+pub returns-in-Some-2 : goal.returns-in-Some-2
+returns-in-Some-2 c = (
+  refl,
+  c.in_ok-name-2.ensures.ok,
+  rw (← c.self.view_is, lookup_text) (sym c.in_default.ensures.value),
+  subst (λ o. MatchOption o (IsExportName c.args.name.now) (HasExportFault c.args.name.now)) c.in-Some-2.is c.in_ok-source.ensures,
+)

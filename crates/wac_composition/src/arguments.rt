@@ -1,0 +1,147 @@
+//! What `set_instantiation_argument` looks up, tests and changes.
+ghost use Rattle.std.specs.Prelude.{◌≡◌, ◌≢◌, true, false, IsSome, OnOk, OnErr, IfOk, IfErr, Err, ◌||◌, ◌&&◌, ◌==◌, ℕ};
+ghost use Rattle.std.specs.FinSet as set;
+ghost use Rattle.std.specs.Option.{option_map};
+ghost use Rattle.slab.specs.Slab.{get};
+ghost use Rattle.wac_collection.specs.Collection.{holds_type};
+ghost use Rattle.wac_shapes.specs.Kinds.{kind_type};
+ghost use Rattle.wac_composition.specs.Arguments.{HasImport, Fits, CanBeGiven};
+ghost use Rattle.wac_edges.specs.Edge.{argument_edge as labelled};
+ghost use Rattle.wac_nodes.specs.Graph.{node_at, IsArgumentOf};
+ghost use Rattle.wac_nodes.specs.Nodes.{IsInstantiationAt, satisfied_at, node_of};
+ghost use Rattle.wac_nodes.specs.Steps.{SetsArgument};
+ghost use Rattle.wac_nodes.specs.declared.node.NodeId.{NodeId as AnId};
+
+use crate::graph::CompositionGraph;
+use slab::Slab;
+use std::alloc::AllocError;
+use wac_edges::edges::{Edge, Label};
+use wac_nodes::{InstantiationArgumentError, Node, NodeId, NodeKind};
+use wac_types::{ItemKind, SubtypeChecker, TypeFault};
+
+/// The edge of a node that is the argument for an instantiation's import at this position.
+pub fn argument_edge(instantiation: NodeId, position: usize, argument: NodeId) -> Edge
+    ensures { result ≡ labelled argument.0 instantiation.0 position }
+{
+    Edge {
+        source: argument.0,
+        target: instantiation.0,
+        label: Label::Argument(position),
+    }
+}
+
+impl CompositionGraph {
+    /// The position and the kind of an instantiation's import of this name.
+    ///
+    /// Answers `NodeIsNotAnInstantiation`, `InvalidArgumentName` where the package's world has no import of this name,
+    /// and `OutOfMemory` where memory ran out.
+    pub(crate) fn import_of(
+        &self,
+        instantiation: NodeId,
+        name: &str,
+    ) -> Result<(usize, ItemKind), InstantiationArgumentError>
+        requires { IsSome (node_at self.now instantiation) }
+        ensures found { IfOk result (λ i. HasImport self.now instantiation name.now i.0 i.1) }
+        ensures held { IfOk result (λ i. holds_type self.now.types (kind_type i.1) ≡ true) }
+        ensures refused { IfErr result (λ e. (argument : AnId) → SetsArgument self.now instantiation name.now argument (Err e) self.now) }
+    {
+        self.types.law();
+        let node = &self.nodes[instantiation.0];
+        let NodeKind::Instantiation(_) = &node.kind else {
+            return Err(InstantiationArgumentError::NodeIsNotAnInstantiation {
+                node: instantiation,
+            });
+        };
+        let (_, package) = self.package_of(instantiation.0);
+        let world = &self.types[package.ty()];
+        let Some((position, kind)) = world.imports.get_full(name) else {
+            let name = String::from_str(self.alloc, name)?;
+            let package = String::from_str(self.alloc, package.name())?;
+            return Err(InstantiationArgumentError::InvalidArgumentName {
+                node: instantiation,
+                name,
+                package,
+            });
+        };
+        Ok((position, *kind))
+    }
+
+    /// Tests whether a node fits an import for which it is not given yet.
+    ///
+    /// Answers `ArgumentAlreadyPassed` where another node is given, `ArgumentTypeMismatch` where the node's item is no
+    /// subtype of the import, and `OutOfMemory` where memory ran out.
+    pub(crate) fn check_argument(
+        &self,
+        instantiation: NodeId,
+        name: &str,
+        position: usize,
+        kind: ItemKind,
+        argument: NodeId,
+    ) -> Result<(), InstantiationArgumentError>
+        requires import { HasImport self.now instantiation name.now position kind }
+        requires held { holds_type self.now.types (kind_type kind) ≡ true }
+        requires argument { IsSome (node_at self.now argument) }
+        requires other { IsArgumentOf self.now instantiation position argument → ⊥ }
+        ensures fits { OnOk result (Fits self.now instantiation position kind argument) }
+        ensures refused { IfErr result (λ e. SetsArgument self.now instantiation name.now argument (Err e) self.now) }
+    {
+        let NodeKind::Instantiation(satisfied) = &self.nodes[instantiation.0].kind else {
+            unreachable!()
+        };
+        if satisfied.contains(&position) {
+            let name = String::from_str(self.alloc, name)?;
+            return Err(InstantiationArgumentError::ArgumentAlreadyPassed {
+                node: instantiation,
+                name,
+            });
+        }
+        let given = self.nodes[argument.0].item_kind;
+        match SubtypeChecker::new().is_subtype(given, &self.types, kind, &self.types) {
+            Ok(()) => Ok(()),
+            Err(TypeFault::OutOfMemory) => Err(InstantiationArgumentError::OutOfMemory),
+            Err(TypeFault::Mismatch) => {
+                let name = String::from_str(self.alloc, name)?;
+                let source = TypeFault::Mismatch;
+                Err(InstantiationArgumentError::ArgumentTypeMismatch { name, source })
+            }
+        }
+    }
+
+    /// Gives a node as the argument for an import that it fits; where memory runs out nothing has changed.
+    pub(crate) fn give_argument(
+        &mut self,
+        instantiation: NodeId,
+        position: usize,
+        argument: NodeId,
+    ) -> Result<(), AllocError>
+        requires { CanBeGiven self.old instantiation position argument }
+        ensures given { OnOk result (self.new ≡ record self.old { edges = set.insert self.old.edges (labelled argument.0 instantiation.0 position) }) }
+        ensures kept { OnErr result (self.new ≡ self.old) }
+    {
+        let edge = argument_edge(instantiation, position, argument);
+        self.edges.add(edge)?;
+        match satisfy(&mut self.nodes, instantiation.0, position) {
+            Ok(()) => Ok(()),
+            Err(e) => {
+                self.edges.remove(edge);
+                Err(e)
+            }
+        }
+    }
+}
+
+/// Marks the import of an instantiation at this position as satisfied.
+fn satisfy(nodes: &mut Slab<Node>, number: usize, position: usize) -> Result<(), AllocError>
+    requires { IsInstantiationAt (get nodes.old number) }
+    ensures same { (q : ℕ) → option_map node_of (get nodes.new q) ≡ option_map node_of (get nodes.old q) }
+    ensures next { nodes.new.vacant_key ≡ nodes.old.vacant_key }
+    ensures ok { OnOk result ((q i : ℕ) → satisfied_at (get nodes.new q) i ≡ (satisfied_at (get nodes.old q) i || (q == number && i == position))) }
+    ensures err { OnErr result ((q i : ℕ) → satisfied_at (get nodes.new q) i ≡ satisfied_at (get nodes.old q) i) }
+{
+    let node = &mut nodes[number];
+    let NodeKind::Instantiation(positions) = &mut node.kind else {
+        unreachable!()
+    };
+    positions.insert(position)?;
+    Ok(())
+}

@@ -1,0 +1,74 @@
+//! All that a graph asks for: with each import the interfaces that it uses, each instance once under a name.
+ghost use Rattle.std.specs.Prelude.{ℕ, ◌≡◌, ◌++◌, [], map, IfOk, OnOk};
+ghost use Rattle.wac_nodes.specs.Entries.{asked_entries};
+ghost use Rattle.wac_asking.specs.EntriesLeft.{entry_view, entries_of, IsRight, AreSettled, AsksAlike, asked_at, all_with_used, all_asked_by, all_imported_by};
+
+use crate::graph::CompositionGraph;
+use std::alloc::AllocError;
+use wac_asking::{AskedEntry, Asking};
+
+impl CompositionGraph {
+    /// What the graph asks for, the interfaces that an asked instance uses before it, each instance once under a name.
+    pub(crate) fn asked_entries(&self) -> Result<Vec<AskedEntry<'_>>, AllocError>
+        ensures { IfOk result (λ v. map entry_view v.items ≡ asked_entries self.now) }
+    {
+        let mut asking = Asking::new(self.alloc);
+        self.ask_instantiations(&mut asking)?;
+        self.ask_nodes(&mut asking)?;
+        Ok(asking.into_entries())
+    }
+
+    /// Asks for the imports of instantiations that no argument satisfies.
+    fn ask_instantiations<'a>(&'a self, asking: &mut Asking<'a>) -> Result<(), AllocError>
+        requires right { IsRight asking.old }
+        requires settled { AreSettled self.now.types [] (entries_of asking.old) }
+        ensures right { OnOk result (IsRight asking.new) }
+        ensures settled { OnOk result (AreSettled self.now.types [] (entries_of asking.new)) }
+        ensures stands { OnOk result (AsksAlike self.now.types (entries_of asking.old ++ all_with_used self.now.types (all_asked_by self.now)) (entries_of asking.new)) }
+    {
+        for n in 0..self.nodes.capacity() {
+            self.ask_unset(asking, n)?;
+        }
+        Ok(())
+    }
+
+    /// Asks for the imports of a node that no argument satisfies, where it is an instantiation.
+    fn ask_unset<'a>(&'a self, asking: &mut Asking<'a>, n: usize) -> Result<(), AllocError>
+        requires right { IsRight asking.old }
+        requires settled { AreSettled self.now.types [] (entries_of asking.old) }
+        ensures right { OnOk result (IsRight asking.new) }
+        ensures settled { OnOk result (AreSettled self.now.types [] (entries_of asking.new)) }
+        ensures stands { OnOk result (AsksAlike self.now.types (entries_of asking.old ++ all_with_used self.now.types (asked_at self.now n)) (entries_of asking.new)) }
+    {
+        self.types.law();
+        let mut from = 0;
+        while let Some((behind, name, kind)) = self.unset_at(n, from) {
+            asking.ask(
+                &self.types,
+                AskedEntry {
+                    name,
+                    kind,
+                    node: n,
+                },
+            )?;
+            from = behind;
+        }
+        Ok(())
+    }
+
+    /// Asks for the import nodes.
+    fn ask_nodes<'a>(&'a self, asking: &mut Asking<'a>) -> Result<(), AllocError>
+        requires right { IsRight asking.old }
+        requires settled { AreSettled self.now.types [] (entries_of asking.old) }
+        ensures right { OnOk result (IsRight asking.new) }
+        ensures settled { OnOk result (AreSettled self.now.types [] (entries_of asking.new)) }
+        ensures stands { OnOk result (AsksAlike self.now.types (entries_of asking.old ++ all_with_used self.now.types (all_imported_by self.now)) (entries_of asking.new)) }
+    {
+        for node in 0..self.nodes.capacity() {
+            if let Some((name, kind)) = self.import_node_at(node) {
+                asking.ask(&self.types, AskedEntry { name, kind, node })?;
+            }
+        }
+        Ok(())
+    }
+}

@@ -1,0 +1,101 @@
+//! Imports of instantiations that are not satisfied, under the name of an import node.
+ghost use Rattle.std.specs.Prelude.{◌≡◌, ◌<◌, ℕ, OnOk, IfOk, IfErr, IfSome, IfNone, Some, length};
+ghost use Rattle.std.specs.BTreeSet as positions;
+ghost use Rattle.std.specs.Ordering.{nat_cmp};
+ghost use Rattle.wac_shapes.specs.Name.{Name as AName};
+ghost use Rattle.wac_collection.specs.Package.{Key};
+ghost use Rattle.wac_causes.specs.Cause.{IsConflict, IsFirstConflict, HasNoConflict, cause_of, conflict as conflict_cause};
+ghost use Rattle.wac_causes.specs.Search.{Clashes, IsFirstOf, IsLowest, IsRefused};
+ghost use Rattle.wac_nodes.specs.Graph.{node_at, node_number};
+ghost use Rattle.wac_nodes.specs.Nodes.{names_of};
+ghost use Rattle.wac_edges.specs.Order.{IsAcyclic};
+ghost use Rattle.wac_nodes.specs.declared.options.EncodeOptions.{EncodeOptions as Asked};
+ghost use Rattle.wac_nodes.specs.declared.node.NodeId.{NodeId as AnId};
+
+use crate::graph::CompositionGraph;
+use indexmap::IndexMap;
+use std::alloc::AllocError;
+use std::collections::BTreeSet;
+use wac_causes::EncodeError;
+use wac_nodes::{NodeId, NodeKind};
+use wac_types::{ItemKind, Named};
+
+impl CompositionGraph {
+    /// Refuses a graph with a conflict, by the first.
+    pub(crate) fn check_conflicts(&self) -> Result<(), EncodeError>
+        requires { IsAcyclic self.now.edges }
+        ensures none { OnOk result (HasNoConflict self.now) }
+        ensures refused { IfErr result (λ e. (o : Asked) → IsRefused self.now o e) }
+    {
+        for n in 0..self.nodes.capacity() {
+            if let Some((position, import)) = self.conflict_at(n) {
+                return Err(self.conflict(n, position, import)?);
+            }
+        }
+        Ok(())
+    }
+
+    /// The position of a node's first import that is in conflict, with the import node of its name.
+    fn conflict_at(&self, n: usize) -> Option<(usize, NodeId)>
+        ensures some { IfSome result (λ c. IsFirstOf self.now (node_number n) c.0 c.1) }
+        ensures none { IfNone result ((import : AnId) (i : ℕ) (name : AName) → IsConflict self.now import (node_number n) i name → ⊥) }
+    {
+        let node = self.nodes.get(n)?;
+        let NodeKind::Instantiation(satisfied) = &node.kind else {
+            return None;
+        };
+        first_clash(satisfied, self.imports_at(n), &self.imports)
+    }
+
+    /// The refusal that names a conflict.
+    fn conflict(&self, n: usize, position: usize, import: NodeId) -> Result<EncodeError, AllocError>
+        requires first { IsFirstOf self.now (node_number n) position import }
+        requires lowest { IsLowest self.now n }
+        ensures { IfOk result (λ e. (key : Key) × (name : AName) × (cause_of e ≡ Some (conflict_cause import (node_number n) key name)) × IsFirstConflict self.now import (node_number n) key name) }
+    {
+        let (_, package) = self.package_of(n);
+        let package = package.key()?;
+        let name = String::from_str(self.alloc, self.imports_at(n).name_at(position))?;
+        Ok(EncodeError::ImplicitImportConflict {
+            import,
+            instantiation: NodeId(n),
+            package,
+            name,
+        })
+    }
+}
+
+/// The first import whose position is not in the set and whose name is that of a node; its position and the node.
+fn first_clash(
+    satisfied: &BTreeSet<usize>,
+    imports: &Named<ItemKind>,
+    nodes: &IndexMap<String, NodeId>,
+) -> Option<(usize, NodeId)>
+    ensures some { IfSome result (λ c. Clashes (positions.contains nat_cmp satisfied.now) imports.now (names_of nodes.now.entries) c.0 c.1) }
+    ensures first { IfSome result (λ c. (i : ℕ) (node : AnId) → i < c.0 → Clashes (positions.contains nat_cmp satisfied.now) imports.now (names_of nodes.now.entries) i node → ⊥) }
+    ensures none { IfNone result ((i : ℕ) (node : AnId) → Clashes (positions.contains nat_cmp satisfied.now) imports.now (names_of nodes.now.entries) i node → ⊥) }
+{
+    for i in 0..imports.len() {
+        if let Some(node) = clash_at(satisfied, imports, nodes, i) {
+            return Some((i, node));
+        }
+    }
+    None
+}
+
+/// The node that has the name of the import at this position, if the position is not in the set.
+fn clash_at(
+    satisfied: &BTreeSet<usize>,
+    imports: &Named<ItemKind>,
+    nodes: &IndexMap<String, NodeId>,
+    i: usize,
+) -> Option<NodeId>
+    requires { i < length imports.now }
+    ensures some { IfSome result (λ node. Clashes (positions.contains nat_cmp satisfied.now) imports.now (names_of nodes.now.entries) i node) }
+    ensures none { IfNone result ((node : AnId) → Clashes (positions.contains nat_cmp satisfied.now) imports.now (names_of nodes.now.entries) i node → ⊥) }
+{
+    if satisfied.contains(&i) {
+        return None;
+    }
+    nodes.get(imports.name_at(i)).copied()
+}

@@ -1,0 +1,477 @@
+//! The composition graph.
+ghost use Rattle.std.specs.Prelude.{◌≡◌, ◌≢◌, ◌↔◌, ◌⊎◌, ℕ, Bool, true, false, [], IsSome, IsTrue, is_some, OnOk, OnErr, IfOk, IfErr, IfSome, IfNone, Some, None, Ok, Err, ◌++◌, ◌∷◌, length, slice_get};
+ghost use Rattle.std.specs.Option.{option_map, option_and_then, option_copied};
+ghost use Rattle.slab.specs.Slab.{ContainsKey, get, with_value};
+ghost use Rattle.semver.specs.Identifiers.{parts_of};
+ghost use Rattle.wac_collection.specs.Collection.{IsWellFormed, holds_type, item_at, resource_mentions, func_mentions, defined_mentions, with_resource, with_func, with_defined, with_interface, with_world, with_module};
+ghost use Rattle.wac_shapes.specs.Kinds.{kind_type};
+ghost use Rattle.wac_collection.specs.Package.{HoldsPackage, with_instance_of, package_fault};
+ghost use Rattle.wac_collection.specs.Uses.{AnswersBy, mention_fault, interface_fault, world_fault};
+ghost use Rattle.wac_types.specs.TreeLaws.{GrowthKeepsTrees};
+ghost use Rattle.wac_shapes.specs.Named.{named_at};
+ghost use Rattle.wac_shapes.specs.declared.component.«Type».TheVariants.{World as world_type};
+ghost use Rattle.wac_nodes.specs.Graph.{node_at, package_at, export_at, package_in, import_name, IsRegistered};
+ghost use Rattle.wac_nodes.specs.Sound.{IsSound};
+ghost use Rattle.wac_nodes.specs.Steps.{IsEmpty, Adds, Registers, Imports, Instantiates, Aliases, SetsArgument, Exports};
+
+use crate::arguments::argument_edge;
+use indexmap::IndexMap;
+use semver::Version;
+use slab::Slab;
+use std::alloc::{AllocError, Global};
+use std::collections::BTreeSet;
+use std::marker::Model;
+use std::ops::Index;
+use wac_edges::edges::{Edge, Edges, Label};
+use wac_nodes::{
+    AliasError, BorrowedPackageKey, ExportError, ImportError, InstantiationArgumentError, Node,
+    NodeId, NodeKind, PackageId, RegisterPackageError, Slot, export_fault, import_fault,
+};
+use wac_types::laws::growth_keeps_trees;
+use wac_types::{
+    AddTypeError, DefinedType, DefinedTypeId, FuncType, FuncTypeId, Interface, InterfaceId,
+    ItemKind, ModuleType, ModuleTypeId, Package, PackageKey, Resource, ResourceId, Types, World,
+    WorldId,
+};
+
+/// A composition graph.
+pub struct CompositionGraph {
+    pub(crate) alloc: Global,
+    pub(crate) types: Types,
+    pub(crate) nodes: Slab<Node>,
+    pub(crate) edges: Edges,
+    pub(crate) imports: IndexMap<String, NodeId>,
+    pub(crate) exports: IndexMap<String, NodeId>,
+    pub(crate) package_map: IndexMap<PackageKey, PackageId>,
+    pub(crate) slots: Vec<Slot>,
+}
+
+/// What a graph holds is let go of here, and not anew by each program that drops one.
+impl Drop for CompositionGraph {
+    fn drop(self) {
+        let CompositionGraph {
+            alloc: _,
+            types: _,
+            nodes: _,
+            edges: _,
+            imports: _,
+            exports: _,
+            package_map: _,
+            slots: _,
+        } = self;
+    }
+}
+
+impl Model for CompositionGraph {
+    ghost use Rattle.wac_nodes.specs.Graph.{Graph};
+    ghost use Rattle.std.specs.Coded.{codes};
+    ghost use Rattle.std.specs.FinMap as map;
+
+    ghost Value = { Graph };
+
+    ghost coded = { Prim.hlevel (codes, map.code) };
+
+    ghost use Rattle.wac_composition.specs.Inside.{graph_of, Invariant};
+
+    ghost view = { graph_of };
+
+    ghost invariant = { Invariant };
+}
+
+impl CompositionGraph {
+    /// The empty graph.
+    pub fn new(alloc: Global) -> CompositionGraph
+        ensures { IsEmpty result }
+    {
+        CompositionGraph {
+            alloc,
+            types: Types::new(alloc),
+            nodes: Slab::new(alloc),
+            edges: Edges::new(alloc),
+            imports: IndexMap::new(alloc),
+            exports: IndexMap::new(alloc),
+            package_map: IndexMap::new(alloc),
+            slots: Vec::new(alloc),
+        }
+    }
+
+    /// The law of graphs, which every graph value keeps: an import of an instantiation has one argument at most, an export of an
+    /// instance one alias; an import name, an export name and a defined type are those of one node at most, and a package's key of
+    /// one package; edges join nodes that are there, as their labels say; each alias's source is there and each instance's package
+    /// is registered.
+    pub fn law(&self)
+        ensures { IsSound self.now }
+    {
+        let _ = &self.edges;
+    }
+
+    /// The graph's collection of types.
+    pub fn types(&self) -> &Types
+        ensures { result.now ≡ self.now.types }
+    {
+        &self.types
+    }
+
+    /// Whether the node is in the graph now.
+    pub fn has_node(&self, id: NodeId) -> bool
+        ensures { IsTrue result ↔ IsSome (node_at self.now id) }
+    {
+        self.nodes.contains(id.0)
+    }
+
+    /// Whether the package is registered now.
+    pub fn has_package(&self, id: PackageId) -> bool
+        ensures { IsTrue result ↔ IsSome (package_at self.now id) }
+    {
+        match self.slots.get(id.slot) {
+            Some(slot) => slot.generation == id.generation && slot.package.is_some(),
+            None => false,
+        }
+    }
+
+    /// Adds a resource to the collection; refused as by [`Types::add_resource`], and then nothing has changed.
+    pub fn add_resource(&mut self, resource: Resource) -> Result<ResourceId, AddTypeError>
+        ensures added { Adds self.old result self.new (λ id types. (id.0 ≡ length self.old.types.resources) × (types ≡ with_resource self.old.types resource)) }
+        ensures fault { AnswersBy (mention_fault self.old.types (resource_mentions resource)) result }
+    {
+        growth_law(&self.types);
+        self.types.add_resource(resource)
+    }
+
+    /// Adds a function type to the collection; refused as by [`Types::add_func_type`], and then nothing has changed.
+    pub fn add_func_type(&mut self, func: FuncType) -> Result<FuncTypeId, AddTypeError>
+        ensures added { Adds self.old result self.new (λ id types. (id.0 ≡ length self.old.types.funcs) × (types ≡ with_func self.old.types func)) }
+        ensures fault { AnswersBy (mention_fault self.old.types (func_mentions func)) result }
+    {
+        growth_law(&self.types);
+        self.types.add_func_type(func)
+    }
+
+    /// Adds a defined type to the collection; refused as by [`Types::add_defined_type`], and then nothing has changed.
+    pub fn add_defined_type(&mut self, defined: DefinedType) -> Result<DefinedTypeId, AddTypeError>
+        ensures added { Adds self.old result self.new (λ id types. (id.0 ≡ length self.old.types.defined) × (types ≡ with_defined self.old.types defined)) }
+        ensures fault { AnswersBy (mention_fault self.old.types (defined_mentions defined)) result }
+    {
+        growth_law(&self.types);
+        self.types.add_defined_type(defined)
+    }
+
+    /// Adds an interface to the collection; refused as by [`Types::add_interface`], and then nothing has changed.
+    pub fn add_interface(&mut self, interface: Interface) -> Result<InterfaceId, AddTypeError>
+        ensures added { Adds self.old result self.new (λ id types. (id.0 ≡ length self.old.types.interfaces) × (types ≡ with_interface self.old.types interface)) }
+        ensures fault { AnswersBy (interface_fault self.old.types interface) result }
+    {
+        growth_law(&self.types);
+        self.types.add_interface(interface)
+    }
+
+    /// Adds a world to the collection; refused as by [`Types::add_world`], and then nothing has changed.
+    pub fn add_world(&mut self, world: World) -> Result<WorldId, AddTypeError>
+        ensures added { Adds self.old result self.new (λ id types. (id.0 ≡ length self.old.types.worlds) × (types ≡ with_world self.old.types world)) }
+        ensures fault { AnswersBy (world_fault self.old.types world) result }
+    {
+        growth_law(&self.types);
+        self.types.add_world(world)
+    }
+
+    /// Adds the type of a core module to the collection; refused as by [`Types::add_module_type`], and then nothing has changed.
+    pub fn add_module_type(&mut self, module_type: ModuleType) -> Result<ModuleTypeId, AddTypeError>
+        ensures added { Adds self.old result self.new (λ id types. (id.0 ≡ length self.old.types.modules) × (types ≡ with_module self.old.types module_type)) }
+        ensures fault { AnswersBy (None) result }
+    {
+        growth_law(&self.types);
+        self.types.add_module_type(module_type)
+    }
+
+    /// A package of a held world, with these bytes; refused as by [`Package::new`], and then nothing has changed.
+    pub fn new_package(
+        &mut self,
+        name: &str,
+        version: Option<&Version>,
+        bytes: Vec<u8>,
+        world: WorldId,
+    ) -> Result<Package, AddTypeError>
+        requires { holds_type self.old.types (world_type world) ≡ true }
+        ensures built { IfOk result (λ p. p ≡ record {
+          name = name.now;
+          version = option_map (λ v. parts_of v.now) version.entry;
+          bytes = bytes.items;
+          world = world;
+          instance_type = record { 0 = length self.old.types.interfaces };
+        }) }
+        ensures added { Adds self.old result self.new (λ p types. types ≡ with_instance_of self.old.types world) }
+        ensures held { IfOk result (λ p. HoldsPackage self.new.types p) }
+        ensures fault { AnswersBy (package_fault self.old.types world) result }
+    {
+        growth_law(&self.types);
+        Package::new(name, version, bytes, world, &mut self.types)
+    }
+
+    /// Registers a package of a held world under a new id. Answers `PackageAlreadyRegistered` where a package of its
+    /// key is registered, and `OutOfMemory` where memory ran out; then nothing has changed.
+    pub fn register_package(&mut self, package: Package) -> Result<PackageId, RegisterPackageError>
+        requires { HoldsPackage self.old.types «package» }
+        ensures { Registers self.old «package» result self.new }
+    {
+        let key = package.key()?;
+        if let Some(_) = self.package_map.get(&key) {
+            return Err(RegisterPackageError::PackageAlreadyRegistered { key });
+        }
+        self.slots.reserve(1)?;
+        let id = PackageId {
+            slot: self.slots.len(),
+            generation: 0,
+        };
+        self.package_map.insert(key, id)?;
+        self.slots
+            .push(Slot {
+                generation: 0,
+                package: Some(package),
+            })
+            .unwrap();
+        Ok(id)
+    }
+
+    /// The registered package of this name and version, with its id; none where no package of both is registered.
+    pub fn get_package_by_name(
+        &self,
+        name: &str,
+        version: Option<&Version>,
+    ) -> Option<(PackageId, &Package)>
+        ensures registered { (id : PackageId) → (option_map (λ found. found.0) result ≡ Some id) ↔ IsRegistered self.now (name.now, option_map (λ v. parts_of v.now) version.entry) id }
+        ensures there { IfSome result (λ found. package_at self.now found.0 ≡ Some found.1.now) }
+    {
+        let key = BorrowedPackageKey::from_name_and_version(name, version);
+        let id = *self.package_map.get(key)?;
+        Some((id, &self[id]))
+    }
+
+    /// An import of an item of a held type, under a name that no node imports yet. Answers `ImportAlreadyExists` where
+    /// one does, `InvalidImportName` where the text is no component name, and `OutOfMemory` where memory ran out; then
+    /// nothing has changed.
+    pub fn import(&mut self, name: &str, kind: ItemKind) -> Result<NodeId, ImportError>
+        requires { holds_type self.old.types (kind_type kind) ≡ true }
+        ensures step { Imports self.old name.now kind result self.new }
+        ensures there { IfOk result (λ id. IsSome (node_at self.new id)) }
+    {
+        if let Some(other) = self.imports.get(name) {
+            let node = *other;
+            let name = String::from_str(self.alloc, name)?;
+            return Err(ImportError::ImportAlreadyExists { name, node });
+        }
+        if let Some(source) = import_fault(self.alloc, name)? {
+            let name = String::from_str(self.alloc, name)?;
+            return Err(ImportError::InvalidImportName { name, source });
+        }
+        let key = String::from_str(self.alloc, name)?;
+        let own = String::from_str(self.alloc, name)?;
+        self.nodes.reserve(1)?;
+        let number = self.nodes.vacant_key();
+        self.imports.insert(key, NodeId(number))?;
+        self.nodes.insert_reserved(Node {
+            kind: NodeKind::Import(own),
+            package: None,
+            item_kind: kind,
+            name: None,
+            export_name: None,
+        });
+        Ok(NodeId(number))
+    }
+
+    /// The name of a node that is an import; none of another kind of node.
+    pub fn get_import_name(&self, id: NodeId) -> Option<&str>
+        requires { IsSome (node_at self.now id) }
+        ensures { IfSome (node_at self.now id) (λ node. option_map (λ s. s.now) result ≡ import_name node.kind) }
+    {
+        self.nodes[id.0].import_name()
+    }
+
+    /// A new instance of a registered package, with no argument set. Answers want of memory; then nothing has
+    /// changed.
+    pub fn instantiate(&mut self, id: PackageId) -> Result<NodeId, AllocError>
+        requires { IsSome (package_at self.old id) }
+        ensures { Instantiates self.old id result self.new }
+    {
+        let Some(package) = package_in_slots(&self.slots, id) else {
+            unreachable!()
+        };
+        let node = Node {
+            kind: NodeKind::Instantiation(BTreeSet::new(self.alloc)),
+            package: Some(id),
+            item_kind: ItemKind::Instance(package.instance_type()),
+            name: None,
+            export_name: None,
+        };
+        let number = self.nodes.insert(node)?;
+        Ok(NodeId(number))
+    }
+
+    /// The alias of an instance's export: the one that is there, or a new one that carries the instance's package.
+    /// Answers `NodeIsNotAnInstance` where the node is no instance, `InstanceMissingExport` where it has no export of
+    /// this name, and `OutOfMemory` where memory ran out; then nothing has changed.
+    pub fn alias_instance_export(
+        &mut self,
+        instance: NodeId,
+        export: &str,
+    ) -> Result<NodeId, AliasError>
+        requires { IsSome (node_at self.old instance) }
+        ensures step { Aliases self.old instance export.now result self.new }
+        ensures there { IfOk result (λ alias. IsSome (node_at self.new alias)) }
+    {
+        self.types.law();
+        let node = &self.nodes[instance.0];
+        let package = node.package;
+        let item_kind = node.item_kind;
+        let ItemKind::Instance(interface) = item_kind else {
+            let kind = item_kind.desc(&self.types);
+            return Err(AliasError::NodeIsNotAnInstance {
+                node: instance,
+                kind,
+            });
+        };
+        let Some((position, item_kind)) = self.types[interface].exports.get_full(export) else {
+            let export = String::from_str(self.alloc, export)?;
+            return Err(AliasError::InstanceMissingExport {
+                node: instance,
+                export,
+            });
+        };
+        let item_kind = *item_kind;
+        if let Some(alias) = self.edges.alias(instance.0, position) {
+            return Ok(NodeId(alias));
+        }
+        self.nodes.reserve(1)?;
+        let number = self.nodes.vacant_key();
+        self.edges.add(Edge {
+            source: instance.0,
+            target: number,
+            label: Label::Alias(position),
+        })?;
+        self.nodes.insert_reserved(Node {
+            kind: NodeKind::Alias,
+            package,
+            item_kind,
+            name: None,
+            export_name: None,
+        });
+        Ok(NodeId(number))
+    }
+
+    /// Gives a node as the argument of this name to an instantiation; where it is given already, nothing changes.
+    /// Answers `NodeIsNotAnInstantiation`, `InvalidArgumentName` where the package's world has no import of this name,
+    /// `ArgumentAlreadyPassed` where another node is given, `ArgumentTypeMismatch` where the node's item is no subtype
+    /// of the import, and `OutOfMemory` where memory ran out; then nothing has changed.
+    pub fn set_instantiation_argument(
+        &mut self,
+        instantiation: NodeId,
+        argument_name: &str,
+        argument: NodeId,
+    ) -> Result<(), InstantiationArgumentError>
+        requires instantiation { IsSome (node_at self.old instantiation) }
+        requires argument { IsSome (node_at self.old argument) }
+        ensures { SetsArgument self.old instantiation argument_name.now argument result self.new }
+    {
+        let (position, kind) = self.import_of(instantiation, argument_name)?;
+        let edge = argument_edge(instantiation, position, argument);
+        if self.edges.contains(edge) {
+            return Ok(());
+        }
+        self.check_argument(instantiation, argument_name, position, kind, argument)?;
+        self.give_argument(instantiation, position, argument)?;
+        Ok(())
+    }
+
+    /// Exports a node by a further name, last in order. Answers `ExportAlreadyExists` where the name is taken,
+    /// `InvalidExportName` where the text is no component name or that of a hash, a url or a dependency, and
+    /// `OutOfMemory` where memory ran out; then nothing has changed.
+    pub fn export(&mut self, node: NodeId, name: &str) -> Result<(), ExportError>
+        requires { IsSome (node_at self.old node) }
+        ensures { Exports self.old node name.now result self.new }
+    {
+        if let Some(other) = self.exports.get(name) {
+            let node = *other;
+            let name = String::from_str(self.alloc, name)?;
+            return Err(ExportError::ExportAlreadyExists { name, node });
+        }
+        if let Some(source) = export_fault(self.alloc, name)? {
+            let name = String::from_str(self.alloc, name)?;
+            return Err(ExportError::InvalidExportName { name, source });
+        }
+        let key = String::from_str(self.alloc, name)?;
+        let own = String::from_str(self.alloc, name)?;
+        self.exports.insert(key, node)?;
+        set_export_name(&mut self.nodes, node.0, own);
+        Ok(())
+    }
+
+    /// The node that is exported by a name.
+    pub fn get_export(&self, name: &str) -> Option<NodeId>
+        ensures { result ≡ export_at self.now name.now }
+    {
+        self.exports.get(name).copied()
+    }
+}
+
+impl Index<NodeId> for CompositionGraph {
+    type Output = Node;
+
+    ghost use Rattle.wac_nodes.specs.Gives.{HasNode, GivesNode};
+
+    ghost can_index = { HasNode };
+
+    ghost index_gives = { GivesNode };
+
+    fn index(&self, id: NodeId) -> &Node {
+        &self.nodes[id.0]
+    }
+}
+
+impl Index<PackageId> for CompositionGraph {
+    type Output = Package;
+
+    ghost use Rattle.wac_nodes.specs.Gives.{HasPackage, GivesPackage};
+
+    ghost can_index = { HasPackage };
+
+    ghost index_gives = { GivesPackage };
+
+    fn index(&self, id: PackageId) -> &Package {
+        match package_in_slots(&self.slots, id) {
+            Some(package) => package,
+            None => unreachable!(),
+        }
+    }
+}
+
+/// What a collection holds has the same trees when something is added, and mentions what it holds.
+fn growth_law(types: &Types)
+    ensures trees { GrowthKeepsTrees types.now }
+    ensures formed { IsWellFormed types.now }
+{
+    growth_keeps_trees(types);
+    types.law();
+}
+
+/// The package of an id, where the slot holds one of the id's generation.
+pub(crate) fn package_in_slots(slots: &[Slot], id: PackageId) -> Option<&Package>
+    ensures { option_copied result ≡ package_in (slice_get slots.now id.slot) id }
+{
+    match slots.get(id.slot) {
+        Some(slot) => {
+            if slot.generation == id.generation {
+                slot.package.as_ref()
+            } else {
+                None
+            }
+        }
+        None => None,
+    }
+}
+
+fn set_export_name(nodes: &mut Slab<Node>, number: usize, name: String)
+    requires { ContainsKey nodes.old number }
+    ensures { IfSome (get nodes.old number) (λ n. nodes.new ≡ with_value nodes.old number (record n { export_name = Some name })) }
+{
+    let node = &mut nodes[number];
+    node.export_name = Some(name);
+}

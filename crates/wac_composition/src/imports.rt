@@ -1,0 +1,156 @@
+//! What a graph asks for: the imports of its instantiations that no argument satisfies, and its import nodes.
+ghost use Rattle.std.specs.Prelude.{◌≡◌, ◌<◌, ◌-◌, ◌+◌, ◌∷◌, [], IfSome, MatchOption, Some, None};
+ghost use Rattle.std.specs.BTreeSet as positions;
+ghost use Rattle.std.specs.Ordering.{nat_cmp};
+ghost use Rattle.wac_nodes.specs.Graph.{node_at, node_number};
+ghost use Rattle.wac_nodes.specs.Imports.{asked_rows, node_rows};
+ghost use Rattle.wac_asking.specs.ImportsLeft.{unset_from, node_left, instantiations_left, nodes_left};
+
+use crate::graph::CompositionGraph;
+use std::collections::BTreeSet;
+use std::marker::Model;
+use wac_nodes::{NodeId, NodeKind};
+use wac_types::{ItemKind, Named};
+
+/// The imports that a graph asks for and that are still to come, each with its name, its kind and, where it is an
+/// import node, the node's id.
+#[derive(Drop)]
+pub struct Imports<'a> {
+    graph: &'a CompositionGraph,
+    // The number of the instantiation that is looked at, and a position among its world's imports.
+    number: usize,
+    position: usize,
+    // The number from which on import nodes are still to come.
+    node: usize,
+    // All numbers are below.
+    end: usize,
+}
+
+impl<'a> Model for Imports<'a> {
+    ghost use Rattle.std.specs.Prelude.{List, Option};
+    ghost use Rattle.wac_shapes.specs.Name.{Name};
+    ghost use Rattle.wac_shapes.specs.declared.component.ItemKind.{ItemKind};
+    ghost use Rattle.wac_nodes.specs.declared.node.NodeId.{NodeId};
+    ghost use Rattle.wac_asking.specs.ImportsLeft.{left};
+
+    ghost Value = { List (Name × ItemKind × Option NodeId) };
+
+    ghost view = { λ s. left s.graph.now s.number s.position s.node s.end };
+}
+
+impl<'a> Iterator for Imports<'a> {
+    type Item = (&'a str, ItemKind, Option<NodeId>);
+
+    ghost use Rattle.std.specs.Iterator.{YieldsFirstBy, item_count};
+
+    ghost next_gives = { YieldsFirstBy (λ x. (x.0.now, x.1, x.2)) (λ s. s) };
+
+    ghost remaining = { item_count (λ s. s) };
+
+    fn next(&mut self) -> Option<(&'a str, ItemKind, Option<NodeId>)> {
+        let graph = self.graph;
+        if let Some((number, position, name, kind)) = graph.next_unset(
+            self.number,
+            self.position,
+            self.end,
+        ) {
+            self.number = number;
+            self.position = position;
+            return Some((name, kind, None));
+        }
+        self.number = self.end;
+        let Some((number, name, kind)) = graph.next_import_node(self.node, self.end) else {
+            self.node = self.end;
+            return None;
+        };
+        self.node = number + 1;
+        Some((name, kind, Some(NodeId(number))))
+    }
+}
+
+impl CompositionGraph {
+    /// What the graph asks for, each with its name and kind: first the imports of instantiations that no argument
+    /// satisfies, by the instantiations' numbers and in world order, each as often as it is asked for and without a
+    /// node; then the import nodes by number, each with its id. Takes no memory.
+    pub fn imports(&self) -> Imports<'_>
+        ensures { result ≡ asked_rows self.now }
+    {
+        Imports {
+            graph: self,
+            number: 0,
+            position: 0,
+            node: 0,
+            end: self.nodes.capacity(),
+        }
+    }
+
+    /// The first import that no argument satisfies, of the instantiations from a number on and below an end, of the
+    /// first one's imports from a position on: its instantiation, the position behind it, its name and its kind.
+    fn next_unset(
+        &self,
+        number: usize,
+        position: usize,
+        end: usize,
+    ) -> Option<(usize, usize, &str, ItemKind)>
+        ensures { MatchOption result (instantiations_left self.now number position (end - number) ≡ []) (λ r. instantiations_left self.now number position (end - number) ≡ (r.2.now, r.3, None) ∷ instantiations_left self.now r.0 r.1 (end - r.0)) }
+    {
+        let mut from = position;
+        for n in number..end {
+            if let Some((behind, name, kind)) = self.unset_at(n, from) {
+                return Some((n, behind, name, kind));
+            }
+            from = 0;
+        }
+        None
+    }
+
+    /// The first import of a node from a position on that no argument satisfies: the position behind it, its name and
+    /// its kind.
+    pub(crate) fn unset_at(&self, n: usize, from: usize) -> Option<(usize, &str, ItemKind)>
+        ensures { MatchOption result (node_left self.now n from (node_at self.now (node_number n)) ≡ []) (λ r. node_left self.now n from (node_at self.now (node_number n)) ≡ (r.1.now, r.2, None) ∷ node_left self.now n r.0 (node_at self.now (node_number n))) }
+    {
+        let node = self.nodes.get(n)?;
+        let NodeKind::Instantiation(satisfied) = &node.kind else {
+            return None;
+        };
+        first_unset(satisfied, self.imports_at(n), from)
+    }
+
+    /// The first import node from a number on and below an end: its number, its name and its kind.
+    fn next_import_node(&self, from: usize, end: usize) -> Option<(usize, &str, ItemKind)>
+        ensures below { IfSome result (λ r. r.0 < end) }
+        ensures first { MatchOption result (nodes_left self.now from (end - from) ≡ []) (λ r. nodes_left self.now from (end - from) ≡ (r.1.now, r.2, Some (node_number r.0)) ∷ nodes_left self.now (r.0 + 1) (end - (r.0 + 1))) }
+    {
+        for n in from..end {
+            if let Some((name, kind)) = self.import_node_at(n) {
+                return Some((n, name, kind));
+            }
+        }
+        None
+    }
+
+    /// The name and the kind of the node of this number, where it is an import node.
+    pub(crate) fn import_node_at(&self, n: usize) -> Option<(&str, ItemKind)>
+        ensures { MatchOption result (node_rows self.now n ≡ []) (λ r. node_rows self.now n ≡ (r.0.now, r.1, Some (node_number n)) ∷ []) }
+    {
+        let node = self.nodes.get(n)?;
+        let name = node.import_name()?;
+        Some((name, node.item_kind))
+    }
+}
+
+/// The first import from a position on whose position is not in the set: the position behind it, its name and its kind.
+fn first_unset<'a>(
+    satisfied: &BTreeSet<usize>,
+    imports: &'a Named<ItemKind>,
+    from: usize,
+) -> Option<(usize, &'a str, ItemKind)>
+    ensures { MatchOption result (unset_from (positions.contains nat_cmp satisfied.now) imports.now from ≡ []) (λ r. unset_from (positions.contains nat_cmp satisfied.now) imports.now from ≡ (r.1.now, r.2) ∷ unset_from (positions.contains nat_cmp satisfied.now) imports.now r.0) }
+{
+    for i in from..imports.len() {
+        if !satisfied.contains(&i) {
+            return Some((i + 1, imports.name_at(i), *imports.value_at(i)));
+        }
+    }
+    None
+}

@@ -1,0 +1,17 @@
+//! Composition graphs of WebAssembly components: packages, imports, instantiations, aliases, arguments and exports go
+//! into a [`CompositionGraph`], and `encode` gives the bytes of one component.
+//!
+//! A layer of `wac_graph`, whose crate is the door.
+#![tactic(auto)]
+
+mod arguments;
+mod asked;
+mod conflicts;
+mod encode;
+mod graph;
+mod imports;
+mod lookups;
+mod merging;
+
+pub use graph::CompositionGraph;
+pub use imports::Imports;

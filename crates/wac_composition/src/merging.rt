@@ -1,0 +1,114 @@
+//! Whether what a graph asks for can be merged into one import for each class.
+ghost use Rattle.std.specs.Prelude.{◌≡◌, map, IfErr, IfOk, OnOk, string_bytes};
+ghost use Rattle.std.specs.List.{AllByRecursion};
+ghost use Rattle.wac_merge.specs.Aggregate.{IsFault};
+ghost use Rattle.wac_entries.specs.Classes.{by_names};
+ghost use Rattle.wac_agreement.specs.Faults.{Disagrees};
+ghost use Rattle.wac_causes.specs.Cause.{HasMerge, HasNoConflict};
+ghost use Rattle.wac_nodes.specs.Entries.{asked_entries, to_merge};
+ghost use Rattle.wac_asking.specs.EntriesLeft.{entry_view, IsHeldKind};
+ghost use Rattle.wac_edges.specs.Order.{IsAcyclic};
+ghost use Rattle.wac_causes.specs.Search.{IsRefused};
+ghost use Rattle.wac_nodes.specs.declared.options.EncodeOptions.{EncodeOptions as Asked};
+
+use crate::graph::CompositionGraph;
+use std::alloc::AllocError;
+use wac_asking::AskedEntry;
+use wac_causes::EncodeError;
+use wac_merge::{MergeFault, TypeAggregator};
+use wac_nodes::NodeId;
+
+impl CompositionGraph {
+    /// Refuses a graph that asks for what cannot be merged.
+    pub(crate) fn check_merge(&self) -> Result<(), EncodeError>
+        requires acyclic { IsAcyclic self.now.edges }
+        requires apart { HasNoConflict self.now }
+        ensures merges { OnOk result (HasMerge self.now) }
+        ensures refused { IfErr result (λ e. (o : Asked) → IsRefused self.now o e) }
+    {
+        self.law();
+        self.types.law();
+        let entries = self.asked_entries()?;
+        if entries.is_empty() {
+            return Ok(());
+        }
+        let aggregator = self.aggregated(entries.as_slice())?;
+        match aggregator.finish(&self.types) {
+            Ok(_) => Ok(()),
+            Err(fault) => Err(self.merge_error(entries.as_slice(), fault)?),
+        }
+    }
+
+    /// The entries, collected.
+    fn aggregated(&self, entries: &[AskedEntry<'_>]) -> Result<TypeAggregator, AllocError>
+        requires { AllByRecursion (λ e. IsHeldKind self.now.types e.kind) (map entry_view entries.now) }
+        ensures { IfOk result (λ a. a.entries ≡ to_merge (map entry_view entries.now)) }
+    {
+        let mut aggregator = TypeAggregator::new(self.alloc);
+        for i in 0..entries.len() {
+            let entry = entries[i];
+            aggregator = aggregator.aggregate(entry.name, &self.types, entry.kind)?;
+        }
+        Ok(aggregator)
+    }
+
+    /// The refusal that a fault of what is asked for comes to.
+    fn merge_error(
+        &self,
+        entries: &[AskedEntry<'_>],
+        fault: MergeFault,
+    ) -> Result<EncodeError, AllocError>
+        requires acyclic { IsAcyclic self.now.edges }
+        requires apart { HasNoConflict self.now }
+        requires entries { map entry_view entries.now ≡ asked_entries self.now }
+        requires fault { IsFault self.now.types (to_merge (asked_entries self.now)) fault }
+        ensures { IfOk result (λ e. (o : Asked) → IsRefused self.now o e) }
+    {
+        match fault {
+            MergeFault::Disagree {
+                first,
+                second,
+                export,
+            } => self.disagreement(entries, first, second, export),
+            MergeFault::UseEachOther { import } => Ok(EncodeError::ImportsUseEachOther { import }),
+            MergeFault::OutOfMemory => Ok(EncodeError::OutOfMemory),
+        }
+    }
+
+    /// The refusal that names two entries that do not agree.
+    fn disagreement(
+        &self,
+        entries: &[AskedEntry<'_>],
+        first: usize,
+        second: usize,
+        export: String,
+    ) -> Result<EncodeError, AllocError>
+        requires acyclic { IsAcyclic self.now.edges }
+        requires apart { HasNoConflict self.now }
+        requires entries { map entry_view entries.now ≡ asked_entries self.now }
+        requires disagree { Disagrees by_names self.now.types (to_merge (asked_entries self.now)) first second (string_bytes export) }
+        ensures { IfOk result (λ e. (o : Asked) → IsRefused self.now o e) }
+    {
+        self.law();
+        let earlier = NodeId(entries[first].node);
+        let later = entries[second];
+        let import = String::from_str(self.alloc, later.name)?;
+        if self.import_node_at(later.node).is_some() {
+            return Ok(EncodeError::ExplicitImportMergeConflict {
+                import,
+                node: NodeId(later.node),
+                other: earlier,
+            });
+        }
+        Ok(EncodeError::ImportTypeMergeConflict {
+            import,
+            first: earlier,
+            second: NodeId(later.node),
+            source: MergeFault::Disagree {
+                first,
+                second,
+                export,
+            },
+        })
+    }
+}

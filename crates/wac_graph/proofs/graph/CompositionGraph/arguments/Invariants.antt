@@ -1,7 +1,0 @@
-use Rattle.std.proofs.Common.{take}
-use Rattle.wac_binary.specs.Views.{arguments_of}
-use Rattle.wac_graph.specs.Encoding.{AreArgumentItems, index_in}
-use Rattle.wac_graph.proofs.graph.CompositionGraph.arguments.Given as goal
-
-abbrev pub invariant-loop-i : goal.invariant-loop-i
-invariant-loop-i l = AreArgumentItems l.self (index_in l.indexes) l.n 0 (take l.i l.imports) (arguments_of l.arguments.items)

@@ -1,5 +1,0 @@
-use Rattle.wac_graph.proofs.ImportRows.{all_left}
-use Rattle.wac_graph.proofs.graph.CompositionGraph.imports.Goals as goal
-
-pub returns : goal.returns
-returns c = rw (← c.self.view_is) (all_left c.self.inside c.capacity.result c.capacity.ensures.slots)

@@ -1,7 +1,0 @@
-use Rattle.std.proofs.Common.{◌≡◌, length, drop}
-use Rattle.wac_graph.specs.Encoding.{Progress, WroteAll}
-use Rattle.wac_graph.specs.EncoderView.{progress}
-use Rattle.wac_graph.proofs.graph.CompositionGraph.write_nodes.Given as goal
-
-abbrev pub invariant-loop-n : goal.invariant-loop-n
-invariant-loop-n l = ((ends : Progress) → WroteAll l.self (drop l.n-index l.order) (progress l.encoder) ends → WroteAll l.self l.order (progress l.fn.encoder) ends) × (length l.encoder.indexes.items ≡ length l.fn.encoder.indexes.items)

@@ -1,0 +1,123 @@
+-- What one more item adds to what items mean.
+use Rattle.std.proofs.Common.{◌≡◌, ℕ, zero, suc, ◌+◌, ◌<◌, List, [], ◌∷◌, ◌++◌, length, map, refl, ap, ◌∙◌, arith}
+use Rattle.wac_shapes.specs.Name.{Name}
+use Rattle.wac_collection.specs.Tree.{Tree}
+use Rattle.wac_binary.specs.declared.sorts.Sort.{Sort}
+use Rattle.wac_binary.specs.declared.sorts.Sort.TheVariants as sort
+use Rattle.wac_binary.specs.Items.{Item, nested, instantiate, alias_item, export_alias, export_item}
+use Rattle.wac_binary.specs.Indexes.{indexes, is_in, adds}
+use Rattle.wac_binary.specs.Unfold.{Scope, with_alias, bound_at}
+use Rattle.wac_binary.specs.Meaning.{Thing, instance_at, component_at, projected, Root, Instantiation, Export, start, things, thing_at, stands_for, with_thing, read, read_all, meaning}
+use Rattle.std.proofs.lemmas.List.{map-append}
+use Rattle.wac_meaning.specs.Means.{shown}
+
+read_all-append : (r : Root) (items : List Item) (x : Item) → read_all r (items ++ x ∷ []) ≡ read (read_all r items) x
+read_all-append r [] x = refl
+read_all-append r (y ∷ items) x = read_all-append (read r y) items x
+
+-- one more item
+pub meaning-push : (items : List Item) (x : Item) → meaning (items ++ x ∷ []) ≡ read (meaning items) x
+meaning-push items x = read_all-append start items x
+
+-- all but what indexes stand for
+pub record Rest : Type 0 where
+  pub imports : List (Name × Tree)
+  pub nested_bytes : List (List ℕ)
+  pub instantiations : List Instantiation
+  pub exports : List Export
+  pub customs : List (Name × List ℕ)
+
+abbrev pub rest : Root → Rest
+rest r = record { imports = r.imports; nested_bytes = r.nested_bytes; instantiations = r.instantiations; exports = r.exports; customs = r.customs }
+
+pub rest-with_thing : (r : Root) (t : Sort) (x : Thing) → rest (with_thing r t x) ≡ rest r
+rest-with_thing r sort.CoreModule x = refl
+rest-with_thing r sort.Func x = refl
+rest-with_thing r sort.Value x = refl
+rest-with_thing r sort.«Type» x = refl
+rest-with_thing r sort.Component x = refl
+rest-with_thing r sort.Instance x = refl
+
+pub things-with_thing : (r : Root) (t : Sort) (x : Thing) → things (with_thing r t x) t ≡ things r t ++ x ∷ []
+things-with_thing r sort.CoreModule x = refl
+things-with_thing r sort.Func x = refl
+things-with_thing r sort.Value x = refl
+things-with_thing r sort.«Type» x = refl
+things-with_thing r sort.Component x = refl
+things-with_thing r sort.Instance x = refl
+
+pub things-scope : (r : Root) (c : Scope) (t : Sort) → things (record r { scope = c }) t ≡ things r t
+things-scope r c sort.CoreModule = refl
+things-scope r c sort.Func = refl
+things-scope r c sort.Value = refl
+things-scope r c sort.«Type» = refl
+things-scope r c sort.Component = refl
+things-scope r c sort.Instance = refl
+
+pub thing_at-last : (ts : List Thing) (t : Thing) → thing_at (ts ++ t ∷ []) (length ts) ≡ t
+thing_at-last [] t = refl
+thing_at-last (s ∷ ts) t = thing_at-last ts t
+
+pub thing_at-before : (ts : List Thing) (t : Thing) (i : ℕ) → i < length ts → thing_at (ts ++ t ∷ []) i ≡ thing_at ts i
+thing_at-before [] t i h = absurd (omega arith)
+thing_at-before (s ∷ ts) t zero h = refl
+thing_at-before (s ∷ ts) t (suc i) h = thing_at-before ts t i (omega arith)
+
+-- the index that an alias adds stands for the export
+pub alias_stands : (items : List Item) (t : Sort) (c : ℕ) (name : Name) (i : ℕ) → i ≡ length (things (meaning items) t)
+    → stands_for (meaning (items ++ alias_item (export_alias t c name) ∷ [])) t i ≡ projected (stands_for (meaning items) sort.Instance c) name
+alias_stands items t c name i is =
+    ap (λ r. stands_for r t i) (meaning-push items (alias_item (export_alias t c name)))
+    ∙ ap (λ ts. thing_at ts i) (things-with_thing _ t _ ∙ ap (λ ts. ts ++ projected (stands_for (meaning items) sort.Instance c) name ∷ []) (things-scope (meaning items) (with_alias (meaning items).scope t (bound_at (meaning items).scope.instances c) name) t))
+    ∙ ap (thing_at (things (meaning items) t ++ projected (stands_for (meaning items) sort.Instance c) name ∷ [])) is
+    ∙ thing_at-last (things (meaning items) t) _
+
+-- an alias adds to nothing else
+pub alias_rest : (items : List Item) (t : Sort) (c : ℕ) (name : Name) → rest (meaning (items ++ alias_item (export_alias t c name) ∷ [])) ≡ rest (meaning items)
+alias_rest items t c name = ap rest (meaning-push items (alias_item (export_alias t c name))) ∙ rest-with_thing _ t _
+
+-- what an export adds
+pub export_shown : (items : List Item) (t : Sort) (i : ℕ) (name : Name) → map shown (meaning (items ++ export_item name t i ∷ [])).exports ≡ map shown (meaning items).exports ++ (name, t, stands_for (meaning items) t i) ∷ []
+export_shown items t i name =
+    ap (λ r. map shown r.exports) (meaning-push items (export_item name t i))
+    ∙ ap (λ r. map shown r.exports) (rest-with_thing _ t (stands_for (meaning items) t i))
+    ∙ map-append shown (meaning items).exports _
+
+-- and to nothing else
+pub export_others : (items : List Item) (t : Sort) (i : ℕ) (name : Name)
+    → ((meaning (items ++ export_item name t i ∷ [])).imports ≡ (meaning items).imports)
+    × ((meaning (items ++ export_item name t i ∷ [])).nested_bytes ≡ (meaning items).nested_bytes)
+    × ((meaning (items ++ export_item name t i ∷ [])).instantiations ≡ (meaning items).instantiations)
+    × ((meaning (items ++ export_item name t i ∷ [])).customs ≡ (meaning items).customs)
+export_others items t i name =
+    let e = ap rest (meaning-push items (export_item name t i)) ∙ rest-with_thing _ t (stands_for (meaning items) t i) in
+    (ap (λ r. r.imports) e, ap (λ r. r.nested_bytes) e, ap (λ r. r.instantiations) e, ap (λ r. r.customs) e)
+
+-- what a component adds
+pub nested_bytes_more : (items : List Item) (bytes : List ℕ) → rest (meaning (items ++ nested bytes ∷ [])) ≡ record (rest (meaning items)) { nested_bytes = (meaning items).nested_bytes ++ bytes ∷ [] }
+nested_bytes_more items bytes = ap rest (meaning-push items (nested bytes))
+
+pub nested_stands : (items : List Item) (bytes : List ℕ) (i : ℕ) → i ≡ length (things (meaning items) sort.Component) → stands_for (meaning (items ++ nested bytes ∷ [])) sort.Component i ≡ component_at (length (meaning items).nested_bytes)
+nested_stands items bytes i is =
+    ap (λ r. stands_for r sort.Component i) (meaning-push items (nested bytes))
+    ∙ ap (thing_at ((meaning items).components ++ component_at (length (meaning items).nested_bytes) ∷ [])) is
+    ∙ thing_at-last (meaning items).components _
+
+-- what an instantiation of these items is
+abbrev pub made_of : Root → ℕ → List (Name × Sort × ℕ) → Instantiation
+made_of r c arguments = record { component = stands_for r sort.Component c; arguments = map (λ a. (a.0, stands_for r a.1 a.2)) arguments }
+
+pub instantiations_more : (items : List Item) (c : ℕ) (arguments : List (Name × Sort × ℕ))
+    → rest (meaning (items ++ instantiate c arguments ∷ [])) ≡ record (rest (meaning items)) { instantiations = (meaning items).instantiations ++ made_of (meaning items) c arguments ∷ [] }
+instantiations_more items c arguments = ap rest (meaning-push items (instantiate c arguments))
+
+pub instance_stands : (items : List Item) (c : ℕ) (arguments : List (Name × Sort × ℕ)) (i : ℕ) → i ≡ length (things (meaning items) sort.Instance)
+    → stands_for (meaning (items ++ instantiate c arguments ∷ [])) sort.Instance i ≡ instance_at (length (meaning items).instantiations)
+instance_stands items c arguments i is =
+    ap (λ r. stands_for r sort.Instance i) (meaning-push items (instantiate c arguments))
+    ∙ ap (thing_at ((meaning items).instances ++ instance_at (length (meaning items).instantiations) ∷ [])) is
+    ∙ thing_at-last (meaning items).instances _
+
+pub indexes-push : (k : ℕ) (items : List Item) (x : Item) → indexes k (items ++ x ∷ []) ≡ indexes k items + is_in k (adds x)
+indexes-push k [] x = omega arith
+indexes-push k (y ∷ items) x = omega (arith, indexes-push k items x)

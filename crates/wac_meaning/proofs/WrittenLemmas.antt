@@ -1,0 +1,494 @@
+-- What is written of a graph after some of its nodes.
+use Rattle.std.proofs.Common.{◌≡◌, ℕ, zero, suc, ◌<◌, Bool, true, false, not, ◌||◌, cond, List, [], ◌∷◌, ◌++◌, length, map, refl, ap, ◌∙◌, sym, subst, arith, append_assoc, eqb, Option, Some, None, ◌⊎◌, inl, inr}
+use Rattle.std.specs.List.{AllByRecursion, list_any, filter}
+use Rattle.std.specs.Prelude.{slice_get}
+use Rattle.std.specs.FinSet as set
+use Rattle.std.proofs.lemmas.List.{append-nil, length-append, map-append, length-map}
+use Rattle.std.proofs.lemmas.List.Elements.{filter-append}
+use Rattle.std.proofs.lemmas.Option.{slice_get_within}
+use Rattle.wac_shapes.specs.Name.{Name, option_case}
+use Rattle.wac_shapes.specs.declared.component.ItemKind.{ItemKind}
+use Rattle.wac_shapes.specs.declared.component.ItemKind.TheVariants as item
+use Rattle.wac_binary.specs.declared.sorts.Sort.{Sort}
+use Rattle.wac_binary.specs.declared.sorts.Sort.TheVariants as sort
+use Rattle.wac_binary.specs.Items.{Item, nested, instantiate, alias_item, export_alias}
+use Rattle.wac_binary.specs.Indexes.{space, indexes, is_in, adds, sort_added}
+use Rattle.wac_binary.specs.Meaning.{Thing, instance_at, component_at, projection, projected, Instantiation, things, stands_for, meaning}
+use Rattle.wac_binary.specs.HasMeaning.{HasMeaning, IsSomething}
+use Rattle.wac_edges.specs.declared.edges.Edge.{Edge}
+use Rattle.wac_nodes.specs.declared.node.NodeId.{NodeId}
+use Rattle.wac_nodes.specs.declared.packages.PackageId.{PackageId}
+use Rattle.wac_edges.specs.Edge.{alias_edge, argument_edge}
+use Rattle.wac_nodes.specs.Graph as graph
+use Rattle.wac_nodes.specs.Graph.{Graph, GraphNode, Kind, node_at, package_at, imports_of, exports_of, IsAliasOf, IsArgumentOf, node_number}
+use Rattle.wac_nodes.specs.Sound.{IsSound}
+use Rattle.wac_edges.specs.Order.{Writes, IsLowestReady}
+use Rattle.wac_meaning.specs.Means.{node_is, is_import, is_instantiation, is_written, instantiations, IsThing, as_import, as_instantiation, as_alias, sort_of_kind, same_package, with_package, used_after, used_packages, package_bytes, IsArgument, given, AreArguments, HasItem, is_own_item, as_definition}
+use Rattle.wac_meaning.specs.Encoding.{HasComponent, IsArgumentItem, AreArgumentItems}
+use Rattle.wac_edges.proofs.WrittenOrder.{has, minus, minus-true, eqb_same, apart, in_push, now_in, slice_get-middle, written_left, only_place, has-filter}
+use Rattle.wac_meaning.proofs.ThingLemmas.{IsPlain, ready_sources}
+use Rattle.wac_meaning.proofs.MeantLemmas.{meant-push, AreUnknown, unknown-nested, unknown-instance, unknown-alias, alias_meant, something}
+use Rattle.wac_meaning.proofs.MeaningLemmas.{alias_stands, alias_rest, nested_bytes_more, nested_stands, instantiations_more, instance_stands, made_of, indexes-push}
+use Rattle.wac_meaning.proofs.DefinedLemmas.{IsMadeOf, AreMade}
+
+-- how the laws of items are passed
+abbrev pub Counted : Type 0
+Counted = (items : List Item) (t : Sort) → length (things (meaning items) t) ≡ indexes (space t) items
+
+abbrev pub Earlier : Type 0
+Earlier = (items more : List Item) (t : Sort) (i : ℕ) → i < indexes (space t) items → stands_for (meaning (items ++ more)) t i ≡ stands_for (meaning items) t i
+
+clash : (b : Bool) → b ≡ true → b ≡ false → ⊥
+clash true _ h = cc
+clash false h _ = cc
+
+slice_get-push : {A : Type 0} (xs : List A) (x : A) (k : ℕ) (y : A) → slice_get (xs ++ x ∷ []) k ≡ Some y → (slice_get xs k ≡ Some y) ⊎ ((k ≡ length xs) × (y ≡ x))
+slice_get-push [] x zero y h = inr (refl, cc)
+slice_get-push [] x (suc k) y h = cc
+slice_get-push (z ∷ xs) x zero y h = inl h
+slice_get-push (z ∷ xs) x (suc k) y h = split (slice_get-push xs x k y h) where
+  split : (slice_get xs k ≡ Some y) ⊎ ((k ≡ length xs) × (y ≡ x)) → (slice_get xs k ≡ Some y) ⊎ ((suc k ≡ suc (length xs)) × (y ≡ x))
+  split (inl a) = inl a
+  split (inr (a, b)) = inr (ap suc a, b)
+
+pub slice_get-prefix : {A : Type 0} (xs ys : List A) (k : ℕ) (y : A) → slice_get xs k ≡ Some y → slice_get (xs ++ ys) k ≡ Some y
+slice_get-prefix [] ys k y h = cc
+slice_get-prefix (x ∷ xs) ys zero y h = h
+slice_get-prefix (x ∷ xs) ys (suc k) y h = slice_get-prefix xs ys k y h
+
+slice_get-map : {A B : Type 0} (f : A → B) (xs : List A) (k : ℕ) (y : A) → slice_get xs k ≡ Some y → slice_get (map f xs) k ≡ Some (f y)
+slice_get-map f [] k y h = cc
+slice_get-map f (x ∷ xs) zero y h = let e : x ≡ y = cc in ap (λ z. Some (f z)) e
+slice_get-map f (x ∷ xs) (suc k) y h = slice_get-map f xs k y h
+
+same_package_itself : (p : PackageId) → same_package p p ≡ true
+same_package_itself p = rw (eqb_same p.slot) (eqb_same p.generation)
+
+any_package : (id : PackageId) (xs : List PackageId) (k : ℕ) → slice_get xs k ≡ Some id → list_any (same_package id) xs ≡ true
+any_package id [] k h = cc
+any_package id (x ∷ xs) zero h = let e : x ≡ id = cc in rw e (ap (λ b. b || list_any (same_package id) xs) (same_package_itself id))
+any_package id (x ∷ xs) (suc k) h = rw (any_package id xs k h) (or_yes (same_package id x)) where
+  or_yes : (b : Bool) → (b || true) ≡ true
+  or_yes true = refl
+  or_yes false = refl
+
+any_first : (id : PackageId) (es : List (PackageId × ℕ)) → list_any (λ e. same_package id e.0) es ≡ list_any (same_package id) (map (λ e. e.0) es)
+any_first id [] = refl
+any_first id (e ∷ es) = ap (λ b. same_package id e.0 || b) (any_first id es)
+
+-- the packages of more nodes begin with those of fewer
+pub used-append : (g : Graph) (used : List PackageId) (xs ys : List ℕ) → used_after g used (xs ++ ys) ≡ used_after g (used_after g used xs) ys
+used-append g used [] ys = refl
+used-append g used (x ∷ xs) ys = used-append g (with_package used (option_case (node_at g (node_number x)) None (λ node. node.owner))) xs ys
+
+pub used_prefix : (g : Graph) (used : List PackageId) (xs : List ℕ) (k : ℕ) (p : PackageId) → slice_get used k ≡ Some p → slice_get (used_after g used xs) k ≡ Some p
+used_prefix g used [] k p h = h
+used_prefix g used (x ∷ xs) k p h = used_prefix g (with_package used (owner x)) xs k p (one used (owner x) h) where
+  owner : ℕ → Option PackageId
+  owner n = option_case (node_at g (node_number n)) None (λ node. node.owner)
+
+  one : (us : List PackageId) (o : Option PackageId) → slice_get us k ≡ Some p → slice_get (with_package us o) k ≡ Some p
+  one us None at = at
+  one us (Some q) at = split (list_any (same_package q) us) where
+    split : (b : Bool) → slice_get (cond b us (us ++ q ∷ [])) k ≡ Some p
+    split true = at
+    split false = slice_get-prefix us (q ∷ []) k p at
+
+pub HasItem-push : (items : List Item) (x : Item) (node : GraphNode) (index k : ℕ) → HasItem items node index k → HasItem (items ++ x ∷ []) node index k
+HasItem-push items x node index k h = record {
+  it = h.it;
+  before = h.before;
+  after = h.after ++ x ∷ [];
+  split = ap (λ xs. xs ++ x ∷ []) h.split ∙ append_assoc h.before (h.it ∷ h.after) (x ∷ []);
+  here = h.here;
+  own = h.own;
+  adds = h.adds;
+  counted = h.counted;
+}
+
+-- an item's place is within the items
+HasItem-within : (items : List Item) (node : GraphNode) (index k : ℕ) → HasItem items node index k → k < length items
+HasItem-within items node index k h = omega (arith, ap length h.split, length-append h.before (h.it ∷ h.after), h.here)
+
+first_of : {A B : Type 0} (o : Option (A × B)) (a b : A) (x y : B) → o ≡ Some (a, x) → o ≡ Some (b, y) → a ≡ b
+first_of {A} {B} o a b x y p q = ap (λ (z : Option (A × B)). option_case z a (λ (e : A × B). e.0)) (sym p ∙ q)
+
+-- an item that adds an index of a sort
+counted_up : (t : Sort) (items : List Item) (x : Item) → adds x ≡ Some (space t) → indexes (space t) items < indexes (space t) (items ++ x ∷ [])
+counted_up t items x is =
+    let one : is_in (space t) (adds x) ≡ 1 = ap (is_in (space t)) is ∙ ap (λ b. cond b 1 0) (eqb_same (space t)) in
+    omega (arith, indexes-push (space t) items x)
+
+module _ (counted : Counted) (earlier : Earlier) (g : Graph) (sound : IsSound g) (plain : IsPlain g) (order : List ℕ) (at : ℕ → Thing) (is_thing : (n : ℕ) (node : GraphNode) → node_at g (node_number n) ≡ Some node → IsThing g at order n node) where
+  -- these items and indexes say what the nodes written so far stand for; `used` are the packages whose components are written
+  pub record Written (done : List ℕ) (used : List PackageId) (items : List Item) (components : List (PackageId × ℕ)) (index : ℕ → ℕ) : Type 0 where
+    pub nodes : (n : ℕ) → has done n ≡ true → is_written g n ≡ true
+    pub meant : HasMeaning items
+    pub unknown : AreUnknown items
+    pub imports : (meaning items).imports ≡ []
+    pub customs : (meaning items).customs ≡ []
+    pub exports : (meaning items).exports ≡ []
+    pub bytes : (meaning items).nested_bytes ≡ map (package_bytes g) used
+    pub packages : map (λ e. e.0) components ≡ used
+    pub numbers : (k : ℕ) (e : PackageId × ℕ) → slice_get components k ≡ Some e → (e.1 < indexes (space sort.Component) items) × (stands_for (meaning items) sort.Component e.1 ≡ component_at k)
+    pub made : AreMade g at order (instantiations g done) (meaning items).instantiations
+    pub stand : (n : ℕ) (node : GraphNode) → has done n ≡ true → node_at g (node_number n) ≡ Some node
+        → (index n < indexes (space (sort_of_kind node.item_kind)) items) × (stands_for (meaning items) (sort_of_kind node.item_kind) (index n) ≡ at n)
+    pub place : ℕ → ℕ
+    pub own : (n : ℕ) (node : GraphNode) → has done n ≡ true → node_at g (node_number n) ≡ Some node → HasItem items node (index n) (place n)
+    pub in_place : (i j n m : ℕ) → i < j → slice_get done i ≡ Some n → slice_get done j ≡ Some m → place n < place m
+
+  module _ (done : List ℕ) (used : List PackageId) (items : List Item) (components : List (PackageId × ℕ)) (index : ℕ → ℕ) (w : Written done used items components index) where
+    stand-push : (x : Item) (n : ℕ) (node : GraphNode) → has done n ≡ true → node_at g (node_number n) ≡ Some node
+        → (index n < indexes (space (sort_of_kind node.item_kind)) (items ++ x ∷ [])) × (stands_for (meaning (items ++ x ∷ [])) (sort_of_kind node.item_kind) (index n) ≡ at n)
+    stand-push x n node here there =
+        let s = w.stand n node here there in
+        (omega (arith, s.0, indexes-push (space (sort_of_kind node.item_kind)) items x), earlier items (x ∷ []) (sort_of_kind node.item_kind) (index n) s.0 ∙ s.1)
+
+    -- a component keeps its index
+    kept_number : (x : Item) (k : ℕ) (e : PackageId × ℕ) → slice_get components k ≡ Some e
+        → (e.1 < indexes (space sort.Component) (items ++ x ∷ [])) × (stands_for (meaning (items ++ x ∷ [])) sort.Component e.1 ≡ component_at k)
+    kept_number x k e there =
+        let n = w.numbers k e there in
+        (omega (arith, n.0, indexes-push (space sort.Component) items x), earlier items (x ∷ []) sort.Component e.1 n.0 ∙ n.1)
+
+    -- a component more
+    component_more : (id : PackageId) → list_any (same_package id) used ≡ false
+        → Written done (used ++ id ∷ []) (items ++ nested (package_bytes g id) ∷ []) (components ++ (id, indexes (space sort.Component) items) ∷ []) index
+    component_more id absent =
+        let more = nested_bytes_more items (package_bytes g id) in
+        let many : length (meaning items).nested_bytes ≡ length components = ap length w.bytes ∙ length-map used (package_bytes g) ∙ ap length (sym w.packages) ∙ length-map components (λ e. e.0) in
+        record {
+          nodes = w.nodes;
+          meant = meant-push items (nested (package_bytes g id)) w.meant tt;
+          unknown = unknown-nested items w.unknown (package_bytes g id);
+          imports = ap (λ r. r.imports) more ∙ w.imports;
+          customs = ap (λ r. r.customs) more ∙ w.customs;
+          exports = ap (λ r. r.exports) more ∙ w.exports;
+          bytes = ap (λ r. r.nested_bytes) more ∙ ap (λ bs. bs ++ package_bytes g id ∷ []) w.bytes ∙ sym (map-append (package_bytes g) used (id ∷ []));
+          packages = map-append (λ e. e.0) components ((id, indexes (space sort.Component) items) ∷ []) ∙ ap (λ us. us ++ id ∷ []) w.packages;
+          numbers = λ k e at_k. numbers many k e (slice_get-push components (id, indexes (space sort.Component) items) k e at_k);
+          made = subst (λ made. AreMade g at order (instantiations g done) made) (sym (ap (λ r. r.instantiations) more)) w.made;
+          stand = stand-push (nested (package_bytes g id));
+          place = w.place;
+          own = λ n node here there. HasItem-push items (nested (package_bytes g id)) node (index n) (w.place n) (w.own n node here there);
+          in_place = w.in_place;
+        } where
+          numbers : length (meaning items).nested_bytes ≡ length components → (k : ℕ) (e : PackageId × ℕ)
+              → (slice_get components k ≡ Some e) ⊎ ((k ≡ length components) × (e ≡ (id, indexes (space sort.Component) items)))
+              → (e.1 < indexes (space sort.Component) (items ++ nested (package_bytes g id) ∷ [])) × (stands_for (meaning (items ++ nested (package_bytes g id) ∷ [])) sort.Component e.1 ≡ component_at k)
+          numbers many k e (inl before) = kept_number (nested (package_bytes g id)) k e before
+          numbers many k e (inr (last, is)) = (
+            subst (λ j. j < indexes (space sort.Component) (items ++ nested (package_bytes g id) ∷ [])) (sym (ap (λ x. x.1) is)) (counted_up sort.Component items (nested (package_bytes g id)) refl),
+            ap (stands_for (meaning (items ++ nested (package_bytes g id) ∷ [])) sort.Component) (ap (λ x. x.1) is)
+                ∙ nested_stands items (package_bytes g id) (indexes (space sort.Component) items) (sym (counted items sort.Component)) ∙ ap component_at (many ∙ sym last),
+          )
+
+  -- the component of a package, which is written where it was not
+  pub with_component : (done : List ℕ) (used : List PackageId) (items mid : List Item) (components after : List (PackageId × ℕ)) (index : ℕ → ℕ) (id : PackageId) (c : ℕ)
+      → Written done used items components index → HasComponent (package_bytes g id) id c components after items mid
+      → Written done (with_package used (Some id)) mid after index × ((k : ℕ) × (slice_get (with_package used (Some id)) k ≡ Some id) × (stands_for (meaning mid) sort.Component c ≡ component_at k))
+  with_component done used items mid components after index id c w (inl (k, at_k, same, kept)) =
+      let there : slice_get used k ≡ Some id = ap (λ us. slice_get us k) (sym w.packages) ∙ slice_get-map (λ e. e.0) components k (id, c) at_k in
+      let is : with_package used (Some id) ≡ used = ap (λ b. cond b used (used ++ id ∷ [])) (any_package id used k there) in
+      let n = w.numbers k (id, c) at_k in (
+        subst (λ us. Written done us mid after index) (sym is) (subst (λ cs. Written done used mid cs index) (sym same) (subst (λ its. Written done used its components index) (sym kept) w)),
+        (k, ap (λ us. slice_get us k) is ∙ there, ap (λ its. stands_for (meaning its) sort.Component c) kept ∙ n.1),
+      )
+  with_component done used items mid components after index id c w (inr (absent, number, grown, added)) =
+      let none : list_any (same_package id) used ≡ false = ap (list_any (same_package id)) (sym w.packages) ∙ sym (any_first id components) ∙ absent in
+      let is : with_package used (Some id) ≡ used ++ id ∷ [] = ap (λ b. cond b used (used ++ id ∷ [])) none in
+      let more = component_more done used items components index w id none in
+      let place = length components in
+      let last : slice_get (components ++ (id, indexes (space sort.Component) items) ∷ []) (length components) ≡ Some (id, indexes (space sort.Component) items) = slice_get-middle components (id, indexes (space sort.Component) items) [] in
+      let n = more.numbers (length components) (id, indexes (space sort.Component) items) last in
+      let long : length used ≡ length components = ap length (sym w.packages) ∙ length-map components (λ e. e.0) in (
+        subst (λ us. Written done us mid after index) (sym is)
+            (subst (λ cs. Written done (used ++ id ∷ []) mid cs index) (sym (grown ∙ ap (λ j. components ++ (id, j) ∷ []) number))
+            (subst (λ its. Written done (used ++ id ∷ []) its (components ++ (id, indexes (space sort.Component) items) ∷ []) index) (sym added) more)),
+        (
+          length components,
+          ap (λ us. slice_get us (length components)) is ∙ ap (slice_get (used ++ id ∷ [])) (sym long) ∙ slice_get-middle used id [],
+          ap (λ its. stands_for (meaning its) sort.Component c) added ∙ ap (stands_for (meaning (items ++ nested (package_bytes g id) ∷ [])) sort.Component) number ∙ n.1,
+        ),
+      )
+
+  -- what a node stands for is something
+  projected_thing : (m : ℕ) (node : GraphNode) (name : Name) → IsThing g at order m node → projected (at m) name ≡ projection (at m) name
+  projected_thing m node name (as_import n p k place is) = rw is refl
+  projected_thing m node name (as_instantiation j k place is) = rw is refl
+  projected_thing m node name (as_definition t k item is) = rw is refl
+  projected_thing m node name (as_alias instance source i n k aliased there exported is) = rw is refl
+
+  -- the next node, with the index at which it stands
+  module _ (done later : List ℕ) (n : ℕ) (node : GraphNode) (here : order ≡ done ++ n ∷ later) (ready : IsLowestReady g.edges (minus (is_written g) done) n) (writes : Writes g.edges (minus (is_written g) (done ++ n ∷ [])) later) (there : node_at g (node_number n) ≡ Some node) (index index' : ℕ → ℕ) (i : ℕ) (now : index' n ≡ i) (others : (m : ℕ) → eqb m n ≡ false → index' m ≡ index m) where
+    absent : has done n ≡ false
+    absent = (minus-true (is_written g) done n ready.here).1
+
+    source_done : (e : Edge) → set.contains g.edges e ≡ true → e.target ≡ n → has done e.source ≡ true
+    source_done e stands leads = ready_sources g sound plain done n ready e stands leads
+
+    not_later : has later n ≡ false
+    not_later = split (has later n) refl where
+      split : (b : Bool) → has later n ≡ b → b ≡ false
+      split false _ = refl
+      split true is = absurd (clash (has (done ++ n ∷ []) n) (now_in done n) ((minus-true (is_written g) (done ++ n ∷ []) n (written_left g.edges (minus (is_written g) (done ++ n ∷ [])) later writes n is)).1))
+
+    -- facts on each node written so far and the next
+    each : (P : ℕ → GraphNode → Type 0) → ((m : ℕ) (other : GraphNode) → has done m ≡ true → node_at g (node_number m) ≡ Some other → P m other) → P n node
+        → (m : ℕ) (other : GraphNode) → has (done ++ n ∷ []) m ≡ true → node_at g (node_number m) ≡ Some other → P m other
+    each P before last m other within other_there = split (in_push done n m within) where
+      split : (m ≡ n) ⊎ (has done m ≡ true) → P m other
+      split (inl same) =
+          let e : node ≡ other = let f : node_at g (node_number n) ≡ Some other = ap (λ k. node_at g (node_number k)) (sym same) ∙ other_there in cc in
+          subst (λ k. P k other) (sym same) (subst (λ x. P n x) e last)
+      split (inr was) = before m other was other_there
+
+    place' : (ℕ → ℕ) → ℕ → ℕ → ℕ
+    place' place last m = cond (eqb m n) last (place m)
+
+    place-here : (place : ℕ → ℕ) (last : ℕ) → place' place last n ≡ last
+    unfolding place'
+    place-here place last = rw (eqb_same n) refl
+
+    place-other : (place : ℕ → ℕ) (last m : ℕ) → eqb m n ≡ false → place' place last m ≡ place m
+    unfolding place'
+    place-other place last m h = rw h refl
+
+    in_list : (xs : List ℕ) (k m : ℕ) → slice_get xs k ≡ Some m → has xs m ≡ true
+    in_list [] k m h = cc
+    in_list (x ∷ xs) zero m h = let e : x ≡ m = cc in rw e (ap (λ b. b || has xs m) (eqb_same m))
+    in_list (x ∷ xs) (suc k) m h = rw (in_list xs k m h) (or_yes (eqb m x)) where
+      or_yes : (b : Bool) → (b || true) ≡ true
+      or_yes true = refl
+      or_yes false = refl
+
+    -- the last item is the node's own, and stands after the others
+    placed : (used : List PackageId) (items : List Item) (components : List (PackageId × ℕ)) → Written done used items components index → (x : Item) → is_own_item node node.kind x ≡ true → sort_added x ≡ Some (sort_of_kind node.item_kind) → i ≡ indexes (space (sort_of_kind node.item_kind)) items
+        → (place : ℕ → ℕ)
+        × ((m : ℕ) (other : GraphNode) → has (done ++ n ∷ []) m ≡ true → node_at g (node_number m) ≡ Some other → HasItem (items ++ x ∷ []) other (index' m) (place m))
+        × ((a b k m : ℕ) → a < b → slice_get (done ++ n ∷ []) a ≡ Some k → slice_get (done ++ n ∷ []) b ≡ Some m → place k < place m)
+    placed used items components w x own sorted counts = (
+      place' w.place (length items),
+      each (λ m other. HasItem (items ++ x ∷ []) other (index' m) (place' w.place (length items) m))
+          (λ m other was other_there.
+          let apart_ = apart done m n was absent in
+          subst (λ k. HasItem (items ++ x ∷ []) other (index' m) k) (sym (place-other w.place (length items) m apart_))
+          (subst (λ k. HasItem (items ++ x ∷ []) other k (w.place m)) (sym (others m apart_)) (HasItem-push items x other (index m) (w.place m) (w.own m other was other_there))))
+          (subst (λ k. HasItem (items ++ x ∷ []) node (index' n) k) (sym (place-here w.place (length items)))
+          (record { it = x; before = items; after = []; split = refl; here = refl; own = own; adds = sorted; counted = now ∙ counts })),
+      λ a b k m less at_a at_b. rising a b k m less (slice_get-push done n a k at_a) (slice_get-push done n b m at_b),
+    ) where
+      within : (k : ℕ) → has done k ≡ true → w.place k < length items
+      within k was = bound (node_at g (node_number k)) refl where
+        bound : (o : Option GraphNode) → node_at g (node_number k) ≡ o → w.place k < length items
+        bound (Some other) is = HasItem-within items other (index k) (w.place k) (w.own k other was is)
+        bound None is = absurd (clash (is_written g k) (w.nodes k was) (ap (λ o. option_case o false (λ x. not (is_import x.kind))) is))
+
+      rising : (a b k m : ℕ) → a < b → (slice_get done a ≡ Some k) ⊎ ((a ≡ length done) × (k ≡ n)) → (slice_get done b ≡ Some m) ⊎ ((b ≡ length done) × (m ≡ n)) → place' w.place (length items) k < place' w.place (length items) m
+      rising a b k m less (inl at_a) (inl at_b) =
+          let e = place-other w.place (length items) k (apart done k n (in_list done a k at_a) absent) in
+          let f = place-other w.place (length items) m (apart done m n (in_list done b m at_b) absent) in
+          let r = w.in_place a b k m less at_a at_b in
+          rw (e, f) r
+      rising a b k m less (inl at_a) (inr (last, is)) =
+          let e = place-other w.place (length items) k (apart done k n (in_list done a k at_a) absent) in
+          let f = ap (place' w.place (length items)) is ∙ place-here w.place (length items) in
+          rw (e, f) (within k (in_list done a k at_a))
+      rising a b k m less (inr (first, _)) (inl at_b) = let s = slice_get_within done b m at_b in absurd (omega arith)
+      rising a b k m less (inr (first, _)) (inr (last, _)) = absurd (omega arith)
+
+    instantiations-push : (b : Bool) → node_is g (λ x. is_instantiation x.kind) n ≡ b → instantiations g (done ++ n ∷ []) ≡ instantiations g done ++ cond b (n ∷ []) []
+    instantiations-push b is = filter-append (node_is g (λ x. is_instantiation x.kind)) done (n ∷ []) ∙ ap (λ t. instantiations g done ++ cond t (n ∷ []) []) is
+
+    kind_test : (k : Bool) → is_instantiation node.kind ≡ k → node_is g (λ x. is_instantiation x.kind) n ≡ k
+    kind_test k is = ap (λ o. option_case o false (λ x. is_instantiation x.kind)) there ∙ is
+
+    -- an alias is written
+    pub alias_more : (used : List PackageId) (items : List Item) (components : List (PackageId × ℕ)) (instance : NodeId) (source : GraphNode) (k : ℕ) (name : Name) → Written done used items components index
+        → node.kind ≡ graph.alias → IsAliasOf g instance k (node_number n) → node_at g instance ≡ Some source → slice_get (exports_of g source) k ≡ Some (name, node.item_kind)
+        → i ≡ indexes (space (sort_of_kind node.item_kind)) items
+        → Written (done ++ n ∷ []) used (items ++ alias_item (export_alias (sort_of_kind node.item_kind) (index instance.0) name) ∷ []) components index'
+    alias_more used items components instance source k name w kind aliased source_there exported counts =
+        let t : Sort = sort_of_kind node.item_kind in
+        let x : Item = alias_item (export_alias t (index instance.0) name) in
+        let more = alias_rest items t (index instance.0) name in
+        let (place, own, in_place) = placed used items components w x (ap (λ q. is_own_item node q x) kind) refl counts in
+        record {
+          nodes = λ m within. nodes m (in_push done n m within);
+          meant = meant-push items x w.meant (alias_meant items w.unknown t (index instance.0) name (subst IsSomething (sym of_instance) (something g at order instance.0 source (is_thing instance.0 source source_there))));
+          unknown = unknown-alias items w.unknown t (index instance.0) name;
+          imports = ap (λ r. r.imports) more ∙ w.imports;
+          customs = ap (λ r. r.customs) more ∙ w.customs;
+          exports = ap (λ r. r.exports) more ∙ w.exports;
+          bytes = ap (λ r. r.nested_bytes) more ∙ w.bytes;
+          packages = w.packages;
+          numbers = kept_number done used items components index w x;
+          made = subst (λ ns. AreMade g at order ns (meaning (items ++ x ∷ [])).instantiations) (sym (instantiations-push false (kind_test false (ap is_instantiation kind)) ∙ rw append-nil refl))
+              (subst (λ made. AreMade g at order (instantiations g done) made) (sym (ap (λ r. r.instantiations) more)) w.made);
+          stand = each (λ m other. (index' m < indexes (space (sort_of_kind other.item_kind)) (items ++ x ∷ [])) × (stands_for (meaning (items ++ x ∷ [])) (sort_of_kind other.item_kind) (index' m) ≡ at m))
+              (λ m other was other_there.
+              let s = stand-push done used items components index w x m other was other_there in
+              subst (λ j. (j < indexes (space (sort_of_kind other.item_kind)) (items ++ x ∷ [])) × (stands_for (meaning (items ++ x ∷ [])) (sort_of_kind other.item_kind) j ≡ at m)) (sym (others m (apart done m n was absent))) s)
+              (subst (λ j. (j < indexes (space t) (items ++ x ∷ [])) × (stands_for (meaning (items ++ x ∷ [])) t j ≡ at n)) (sym (now ∙ counts)) here_stands);
+          place = place;
+          own = own;
+          in_place = in_place;
+        } where
+          nodes : (m : ℕ) → (m ≡ n) ⊎ (has done m ≡ true) → is_written g m ≡ true
+          nodes m (inl same) = ap (is_written g) same ∙ (minus-true (is_written g) done n ready.here).0
+          nodes m (inr was) = w.nodes m was
+
+          -- what is no instance exports nothing
+          no_instance : (q : ItemKind) (z : GraphNode) → z.item_kind ≡ q → exports_of g z ≡ [] → slice_get (exports_of g z) k ≡ Some (name, node.item_kind) → sort_of_kind q ≡ sort.Instance
+          no_instance q z is none found = absurd (nothing_there (exports_of g z) none found) where
+            nothing_there : (es : List (Name × ItemKind)) → es ≡ [] → slice_get es k ≡ Some (name, node.item_kind) → ⊥
+            nothing_there [] none found = cc
+            nothing_there (e ∷ es) none found = cc
+
+          -- an instance stands where instances do
+          instance_sort : (q : ItemKind) (z : GraphNode) → z.item_kind ≡ q → slice_get (exports_of g z) k ≡ Some (name, node.item_kind) → sort_of_kind q ≡ sort.Instance
+          instance_sort (item.TypeItem t) z is found = no_instance (item.TypeItem t) z is (rw is refl) found
+          instance_sort (item.Func f) z is found = no_instance (item.Func f) z is (rw is refl) found
+          instance_sort (item.Instance j) z is found = refl
+          instance_sort (item.Component u) z is found = no_instance (item.Component u) z is (rw is refl) found
+          instance_sort (item.Module m) z is found = no_instance (item.Module m) z is (rw is refl) found
+          instance_sort (item.Value v) z is found = no_instance (item.Value v) z is (rw is refl) found
+
+          -- what the alias is
+          is_projection : IsThing g at order n node → at n ≡ projection (at instance.0) name
+          is_projection (as_import other p other_kind at_p is) = absurd (two_kinds kind other_kind) where
+            two_kinds : {q : Kind} {m : Name} → q ≡ graph.alias → q ≡ graph.import m → ⊥
+            two_kinds a b = cc
+          is_projection (as_instantiation j other_kind at_j is) = absurd (two_kinds kind other_kind) where
+            two_kinds : {q : Kind} → q ≡ graph.alias → q ≡ graph.instantiation → ⊥
+            two_kinds a b = cc
+          is_projection (as_definition t other_kind _ _) = absurd (two_kinds kind other_kind) where
+            two_kinds : {q : Kind} → q ≡ graph.alias → q ≡ graph.definition → ⊥
+            two_kinds a b = cc
+          is_projection (as_alias other other_source j other_name _ other_aliased other_there other_exported is) =
+              let (same, at_same) = sound.one_source (node_number n) instance other k j aliased other_aliased in
+              let sources : source ≡ other_source = let e : node_at g instance ≡ Some other_source = ap (node_at g) same ∙ other_there in cc in
+              let names : name ≡ other_name = first_of (slice_get (exports_of g source) k) name other_name node.item_kind node.item_kind exported (ap (λ z. slice_get (exports_of g z) k) sources ∙ ap (slice_get (exports_of g other_source)) at_same ∙ other_exported) in
+              is ∙ ap (λ z. projection (at z.0) other_name) (sym same) ∙ ap (projection (at instance.0)) (sym names)
+
+          -- the instance is written
+          of_instance : stands_for (meaning items) sort.Instance (index instance.0) ≡ at instance.0
+          of_instance =
+              let s = w.stand instance.0 source (source_done (alias_edge instance.0 n k) aliased refl) source_there in
+              ap (λ q. stands_for (meaning items) q (index instance.0)) (sym (instance_sort source.item_kind source refl exported)) ∙ s.1
+
+          here_stands : (indexes (space (sort_of_kind node.item_kind)) items < indexes (space (sort_of_kind node.item_kind)) (items ++ alias_item (export_alias (sort_of_kind node.item_kind) (index instance.0) name) ∷ []))
+              × (stands_for (meaning (items ++ alias_item (export_alias (sort_of_kind node.item_kind) (index instance.0) name) ∷ [])) (sort_of_kind node.item_kind) (indexes (space (sort_of_kind node.item_kind)) items) ≡ at n)
+          here_stands =
+              let t : Sort = sort_of_kind node.item_kind in (
+                counted_up t items (alias_item (export_alias t (index instance.0) name)) refl,
+                alias_stands items t (index instance.0) name (indexes (space t) items) (sym (counted items t))
+                    ∙ ap (λ z. projected z name) of_instance
+                    ∙ projected_thing instance.0 source name (is_thing instance.0 source source_there)
+                    ∙ sym (is_projection (is_thing n node there)),
+              )
+
+    -- where the node stands among the instantiations
+    only_instance : (k : ℕ) → node.kind ≡ graph.instantiation → slice_get (instantiations g order) k ≡ Some n → k ≡ length (instantiations g done)
+    only_instance k kind at_k =
+        let test : ℕ → Bool = node_is g (λ x. is_instantiation x.kind) in
+        only_place (filter test done) (filter test later) n k (has-filter test done n absent) (has-filter test later n not_later)
+        (ap (λ xs. slice_get xs k) (sym (ap (filter test) here ∙ filter-append test done (n ∷ later) ∙ ap (λ b. filter test done ++ cond b (n ∷ filter test later) (filter test later)) (kind_test true (ap is_instantiation kind)))) ∙ at_k)
+
+    -- an instantiation is written
+    pub instance_more : (used : List PackageId) (items : List Item) (components : List (PackageId × ℕ)) (id : PackageId) (c place : ℕ) (arguments : List (Name × Sort × ℕ)) → Written done used items components index
+        → node.kind ≡ graph.instantiation → node.owner ≡ Some id → slice_get (used_packages g order) place ≡ Some id → stands_for (meaning items) sort.Component c ≡ component_at place
+        → sort_of_kind node.item_kind ≡ sort.Instance
+        → AreArgumentItems g index n 0 (imports_of g node) arguments
+        → i ≡ indexes (space sort.Instance) items
+        → Written (done ++ n ∷ []) used (items ++ instantiate c arguments ∷ []) components index'
+    instance_more used items components id c k arguments w kind owned first stands typed given_items counts =
+        let x : Item = instantiate c arguments in
+        let more = instantiations_more items c arguments in
+        let (place, own, in_place) = placed used items components w x (ap (λ q. is_own_item node q x) kind) (ap Some (sym typed)) (counts ∙ ap (λ t. indexes (space t) items) (sym typed)) in
+        record {
+          nodes = λ m within. nodes m (in_push done n m within);
+          meant = meant-push items x w.meant (subst IsSomething (sym stands) tt, arguments_meant 0 (imports_of g node) arguments given_items);
+          unknown = unknown-instance items w.unknown c arguments;
+          imports = ap (λ r. r.imports) more ∙ w.imports;
+          customs = ap (λ r. r.customs) more ∙ w.customs;
+          exports = ap (λ r. r.exports) more ∙ w.exports;
+          bytes = ap (λ r. r.nested_bytes) more ∙ w.bytes;
+          packages = w.packages;
+          numbers = kept_number done used items components index w x;
+          made = subst (λ ns. AreMade g at order ns (meaning (items ++ x ∷ [])).instantiations) (sym (instantiations-push true (kind_test true (ap is_instantiation kind))))
+              (subst (λ made. AreMade g at order (instantiations g done ++ n ∷ []) made) (sym (ap (λ r. r.instantiations) more))
+              (are_push (instantiations g done) (meaning items).instantiations w.made this));
+          stand = each (λ m other. (index' m < indexes (space (sort_of_kind other.item_kind)) (items ++ x ∷ [])) × (stands_for (meaning (items ++ x ∷ [])) (sort_of_kind other.item_kind) (index' m) ≡ at m))
+              (λ m other was other_there.
+              let s = stand-push done used items components index w x m other was other_there in
+              subst (λ j. (j < indexes (space (sort_of_kind other.item_kind)) (items ++ x ∷ [])) × (stands_for (meaning (items ++ x ∷ [])) (sort_of_kind other.item_kind) j ≡ at m)) (sym (others m (apart done m n was absent))) s)
+              (subst (λ j. (j < indexes (space (sort_of_kind node.item_kind)) (items ++ x ∷ [])) × (stands_for (meaning (items ++ x ∷ [])) (sort_of_kind node.item_kind) j ≡ at n)) (sym (now ∙ counts))
+              (subst (λ t. (indexes (space sort.Instance) items < indexes (space t) (items ++ x ∷ [])) × (stands_for (meaning (items ++ x ∷ [])) t (indexes (space sort.Instance) items) ≡ at n)) (sym typed) here_stands));
+          place = place;
+          own = own;
+          in_place = in_place;
+        } where
+          nodes : (m : ℕ) → (m ≡ n) ⊎ (has done m ≡ true) → is_written g m ≡ true
+          nodes m (inl same) = ap (is_written g) same ∙ (minus-true (is_written g) done n ready.here).0
+          nodes m (inr was) = w.nodes m was
+
+          are_push : (ns : List ℕ) (its : List Instantiation) → AreMade g at order ns its → IsMadeOf g at order n (made_of (meaning items) c arguments) → AreMade g at order (ns ++ n ∷ []) (its ++ made_of (meaning items) c arguments ∷ [])
+          are_push [] [] h it = (it, tt)
+          are_push [] (y ∷ its) h it = absurd h
+          are_push (m ∷ ns) [] h it = absurd h
+          are_push (m ∷ ns) (y ∷ its) h it = (h.0, are_push ns its h.1 it)
+
+          are_many : (ns : List ℕ) (its : List Instantiation) → AreMade g at order ns its → length its ≡ length ns
+          are_many [] [] h = refl
+          are_many [] (y ∷ its) h = absurd h
+          are_many (m ∷ ns) [] h = absurd h
+          are_many (m ∷ ns) (y ∷ its) h = ap suc (are_many ns its h.1)
+
+          argument_is : (j : ℕ) (name : Name) (a : Name × Sort × ℕ) (h : IsArgumentItem g index n j name a) → stands_for (meaning items) a.1 a.2 ≡ at (h.source).0
+          argument_is j name a h =
+              let s = w.stand (h.source).0 h.node (source_done (argument_edge (h.source).0 n j) h.given refl) h.there in
+              ap (λ t. stands_for (meaning items) t a.2) h.of_sort ∙ ap (stands_for (meaning items) (sort_of_kind (h.node).item_kind)) h.placed ∙ s.1
+
+          argument_thing : (j : ℕ) (name : Name) (a : Name × Sort × ℕ) → IsArgumentItem g index n j name a → IsArgument g at n j name (stands_for (meaning items) a.1 a.2)
+          argument_thing j name a h = subst (λ t. IsArgument g at n j name t) (sym (argument_is j name a h)) (given h.source h.given)
+
+          arguments_meant : (j : ℕ) (imports : List (Name × ItemKind)) (as_ : List (Name × Sort × ℕ)) → AreArgumentItems g index n j imports as_ → AllByRecursion (λ a. IsSomething (stands_for (meaning items) a.1 a.2)) as_
+          arguments_meant j [] [] h = tt
+          arguments_meant j [] (a ∷ as_) h = absurd h
+          arguments_meant j (e ∷ imports) [] h = absurd h
+          arguments_meant j (e ∷ imports) (a ∷ as_) h = (
+            subst IsSomething (sym (argument_is j e.0 a h.0)) (something g at order (h.0.source).0 h.0.node (is_thing (h.0.source).0 h.0.node h.0.there)),
+            arguments_meant (suc j) imports as_ h.1,
+          )
+
+          are_arguments : (j : ℕ) (imports : List (Name × ItemKind)) (as_ : List (Name × Sort × ℕ)) → AreArgumentItems g index n j imports as_ → AreArguments g at n j imports (map (λ a. (a.0, stands_for (meaning items) a.1 a.2)) as_)
+          are_arguments j [] [] h = tt
+          are_arguments j [] (a ∷ as_) h = absurd h
+          are_arguments j (e ∷ imports) [] h = absurd h
+          are_arguments j (e ∷ imports) (a ∷ as_) h = (h.0.named, argument_thing j e.0 a h.0, are_arguments (suc j) imports as_ h.1)
+
+          this : IsMadeOf g at order n (made_of (meaning items) c arguments)
+          this = record { node = node; there = there; owner = id; owned = owned; place = k; used = first; component = stands; arguments = are_arguments 0 (imports_of g node) arguments given_items }
+
+          is_instance : IsThing g at order n node → at n ≡ instance_at (length (instantiations g done))
+          is_instance (as_import other p other_kind at_p is) = absurd (two_kinds kind other_kind) where
+            two_kinds : {q : Kind} {m : Name} → q ≡ graph.instantiation → q ≡ graph.import m → ⊥
+            two_kinds a b = cc
+          is_instance (as_instantiation j _ at_j is) = is ∙ ap instance_at (only_instance j kind at_j)
+          is_instance (as_definition t other_kind _ _) = absurd (two_kinds kind other_kind) where
+            two_kinds : {q : Kind} → q ≡ graph.instantiation → q ≡ graph.definition → ⊥
+            two_kinds a b = cc
+          is_instance (as_alias other other_source j other_name other_kind _ _ _ _) = absurd (two_kinds kind other_kind) where
+            two_kinds : {q : Kind} → q ≡ graph.instantiation → q ≡ graph.alias → ⊥
+            two_kinds a b = cc
+
+          here_stands : (indexes (space sort.Instance) items < indexes (space sort.Instance) (items ++ instantiate c arguments ∷ []))
+              × (stands_for (meaning (items ++ instantiate c arguments ∷ [])) sort.Instance (indexes (space sort.Instance) items) ≡ at n)
+          here_stands = (
+            counted_up sort.Instance items (instantiate c arguments) refl,
+            instance_stands items c arguments (indexes (space sort.Instance) items) (sym (counted items sort.Instance))
+                ∙ ap instance_at (are_many (instantiations g done) (meaning items).instantiations w.made)
+                ∙ sym (is_instance (is_thing n node there)),
+          )

@@ -1,0 +1,9 @@
+pub mod Added
+pub mod JoinLemmas
+pub mod SoundLemmas
+pub mod PartLemmas
+pub mod NodeLemmas
+pub mod ExtendsLemmas
+pub mod StaysLemmas
+pub mod HeldLemmas
+pub mod ExternNameLemmas

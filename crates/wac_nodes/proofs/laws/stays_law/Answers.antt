@@ -1,0 +1,20 @@
+use Rattle.wac_nodes.proofs.StaysLemmas.{stays-refl, stays-trans, resource-stays, func-stays, defined-stays, interface-stays, world-stays, module-stays, made-stays, registered-stays, import-stays, instance-stays, alias-stays, argument-stays}
+use Rattle.wac_nodes.proofs.laws.stays_law.Goals as goal
+
+pub returns : goal.returns
+returns c = record {
+  itself = stays-refl;
+  through = stays-trans;
+  resource = resource-stays;
+  func = func-stays;
+  defined = defined-stays;
+  interface = interface-stays;
+  world = world-stays;
+  module_type = module-stays;
+  made = made-stays;
+  registered = registered-stays;
+  imported = import-stays;
+  instantiated = instance-stays;
+  aliased = alias-stays;
+  given = argument-stays;
+}

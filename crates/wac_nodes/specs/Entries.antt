@@ -1,0 +1,50 @@
+-- All that a graph asks for: with each import the interfaces that it uses, each instance once under a name.
+use Rattle.std.specs.Prelude.{ℕ, zero, suc, Bool, false, not, ◌&&◌, ◌==◌, List, [], ◌∷◌, ◌++◌, length, map, filter}
+use Rattle.std.specs.List.{flat_map}
+use Rattle.wac_shapes.specs.Name.{Name, same_name, option_case}
+use Rattle.wac_collection.specs.Collection.{Collection, item_at}
+use Rattle.wac_shapes.specs.declared.component.InterfaceId.{InterfaceId}
+use Rattle.wac_shapes.specs.declared.component.ItemKind.{ItemKind}
+use Rattle.wac_shapes.specs.declared.component.ItemKind.TheVariants as kind
+use Rattle.wac_entries.specs.Classes as merge
+use Rattle.wac_nodes.specs.Graph.{Graph}
+use Rattle.wac_nodes.specs.Asked.{Entry, asked}
+
+-- the instance of an interface under its id
+abbrev pub under_id : Collection → InterfaceId → List (Name × ItemKind)
+under_id c i = option_case (item_at c.interfaces i.0) [] (λ it. option_case it.id [] (λ id. (id, kind.Instance i) ∷ []))
+
+-- the interfaces that an interface uses, each after those that it uses itself, so many uses deep
+abbrev pub used_to : ℕ → Collection → InterfaceId → List (Name × ItemKind)
+used_to zero c i = []
+used_to (suc k) c i = option_case (item_at c.interfaces i.0) [] (λ it. flat_map (λ u. used_to k c (u.1.interface) ++ under_id c (u.1.interface)) it.uses)
+
+-- what an item uses; no chain of uses is longer than there are interfaces
+abbrev pub used_by : Collection → ItemKind → List (Name × ItemKind)
+used_by c (kind.Instance i) = used_to (length c.interfaces) c i
+used_by c k = []
+
+-- what is asked for with an entry: what it uses, before it
+abbrev pub with_used : Collection → Entry → List Entry
+with_used c e = map (λ u. record { name = u.0; kind = u.1; node = e.node }) (used_by c e.kind) ++ e ∷ []
+
+-- the same instance under the same name
+abbrev pub same_instance : ItemKind → ItemKind → Bool
+same_instance (kind.Instance i) (kind.Instance j) = i.0 == j.0
+same_instance _ _ = false
+
+abbrev pub asks_again : Entry → Entry → Bool
+asks_again e x = same_name e.name x.name && same_instance e.kind x.kind
+
+-- an instance is asked for once under a name, by the first node that asks for it
+abbrev pub once : List Entry → List Entry
+once [] = []
+once (e ∷ es) = e ∷ filter (λ x. not (asks_again e x)) (once es)
+
+-- all that is asked for, used interfaces before what uses them
+abbrev pub asked_entries : Graph → List Entry
+asked_entries g = once (flat_map (with_used g.types) (asked g))
+
+-- entries as merging takes them
+abbrev pub to_merge : List Entry → List merge.Entry
+to_merge es = map (λ e. record { name = e.name; kind = e.kind }) es

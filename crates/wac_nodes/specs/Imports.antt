@@ -1,0 +1,29 @@
+-- What a graph asks for: a row for each import, of its name, its kind and, where it is an import node, the node.
+use Rattle.std.specs.Prelude.{ℕ, List, ◌++◌, map, Option, Some, None}
+use Rattle.std.specs.List.{flat_map}
+use Rattle.std.specs.FinMap as finite
+use Rattle.wac_shapes.specs.Name.{Name}
+use Rattle.wac_shapes.specs.declared.component.ItemKind.{ItemKind}
+use Rattle.wac_nodes.specs.declared.node.NodeId.{NodeId}
+use Rattle.wac_nodes.specs.Graph.{Graph, node_at}
+use Rattle.wac_nodes.specs.Asked.{Entry, asked_by, imported_by}
+
+-- the row of an instantiation's import
+abbrev pub unset_row : Entry → Name × ItemKind × Option NodeId
+unset_row e = (e.name, e.kind, None)
+
+-- the row of an import node
+abbrev pub node_row : Entry → Name × ItemKind × Option NodeId
+node_row e = (e.name, e.kind, Some (record { 0 = e.node }))
+
+-- the imports of the instantiation of this number that no argument satisfies, in world order
+abbrev pub unset_rows : Graph → ℕ → List (Name × ItemKind × Option NodeId)
+unset_rows g n = map unset_row (asked_by g n (node_at g (record { 0 = n })))
+
+-- the import node of this number, if there is one
+abbrev pub node_rows : Graph → ℕ → List (Name × ItemKind × Option NodeId)
+node_rows g n = map node_row (imported_by n (node_at g (record { 0 = n })))
+
+-- the rows of instantiations by number, then those of import nodes by number
+abbrev pub asked_rows : Graph → List (Name × ItemKind × Option NodeId)
+asked_rows g = flat_map (unset_rows g) (finite.keys g.nodes) ++ flat_map (node_rows g) (finite.keys g.nodes)

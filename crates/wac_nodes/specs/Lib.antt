@@ -1,0 +1,12 @@
+pub mod Graph
+pub mod Nodes
+pub mod PackageKeys
+pub mod Sound
+pub mod ExternName
+pub mod Steps
+pub mod Asked
+pub mod Imports
+pub mod Entries
+pub mod OuterImports
+pub mod Gives
+pub mod Stays

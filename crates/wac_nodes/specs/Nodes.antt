@@ -1,0 +1,54 @@
+-- What stored nodes mean.
+use Rattle.std.specs.Prelude.{◌≡◌, ℕ, Bool, false, List, Option, Some, None, String, map, string_bytes}
+use Rattle.std.specs.Global.{Global}
+use Rattle.std.specs.Option.{option_map}
+use Rattle.std.specs.Ordering.{nat_cmp}
+use Rattle.std.specs.FinMap as finite
+use Rattle.std.specs.BTreeSet as positions
+use Rattle.slab.specs.Slab.{entries_from}
+use Rattle.wac_shapes.specs.Name.{Name}
+use Rattle.wac_nodes.specs.declared.node.Node.{Node}
+use Rattle.wac_nodes.specs.declared.node.NodeId.{NodeId}
+use Rattle.wac_nodes.specs.declared.node.NodeKind.{NodeKind}
+use Rattle.wac_nodes.specs.declared.node.NodeKind.TheVariants as code
+use Rattle.wac_nodes.specs.Graph as graph
+use Rattle.wac_nodes.specs.Graph.{GraphNode, Kind}
+
+abbrev pub kind_of : NodeKind → Kind
+kind_of code.Definition = graph.definition
+kind_of (code.Import name) = graph.import (string_bytes name)
+kind_of (code.Instantiation _) = graph.instantiation
+kind_of code.Alias = graph.alias
+
+abbrev pub node_of : Node → GraphNode
+node_of n = record {
+  kind = kind_of n.kind;
+  item_kind = n.item_kind;
+  owner = n.«package»;
+  name = option_map string_bytes n.name;
+  export_name = option_map string_bytes n.export_name;
+  first_name = None;
+}
+
+-- the nodes under their numbers
+abbrev pub nodes_of : List (Option Node) → finite.FinMap nat_cmp GraphNode
+nodes_of slots = finite.from_entries (map (λ e. (e.0, node_of e.1)) (entries_from 0 slots))
+
+-- the nodes under their names, as bytes
+abbrev pub names_of : List (String Global × NodeId) → List (Name × NodeId)
+names_of entries = map (λ e. (string_bytes e.0, e.1)) entries
+
+-- the satisfied positions of an instantiation
+abbrev pub satisfied : NodeKind → ℕ → Bool
+satisfied (code.Instantiation s) i = positions.contains nat_cmp s i
+satisfied code.Definition i = false
+satisfied (code.Import _) i = false
+satisfied code.Alias i = false
+
+abbrev pub satisfied_at : Option Node → ℕ → Bool
+satisfied_at None i = false
+satisfied_at (Some n) i = satisfied n.kind i
+
+abbrev pub IsInstantiationAt : Option Node → Type 0
+IsInstantiationAt None = ⊥
+IsInstantiationAt (Some n) = kind_of n.kind ≡ graph.instantiation

@@ -1,0 +1,163 @@
+-- The calls as steps from graph to graph.
+use Rattle.std.specs.Prelude.{◌≡◌, ℕ, Option, Some, None, Result, Ok, Err, IfSome, IsSome, IsSomeAnd, List, [], ◌∷◌, ◌++◌, string_bytes, length, slice_get, slice_set, ◌⊎◌}
+use Rattle.std.specs.FinMap as map
+use Rattle.std.specs.FinSet as set
+use Rattle.std.specs.declared.alloc.AllocError.{AllocError}
+use Rattle.wac_names.specs.Faults.{HasFault}
+use Rattle.wac_shapes.specs.Name.{Name}
+use Rattle.wac_shapes.specs.Named.{named_at}
+use Rattle.wac_collection.specs.Collection.{Collection, empty}
+use Rattle.wac_collection.specs.Package.{PackageParts}
+use Rattle.wac_types.specs.Subtype.{IsSubtype}
+use Rattle.wac_shapes.specs.Words.{kind_text}
+use Rattle.wac_shapes.specs.declared.component.ItemKind.{ItemKind}
+use Rattle.wac_shapes.specs.declared.component.ItemKind.TheVariants.{Instance}
+use Rattle.wac_types.specs.declared.checker.TypeFault.TheVariants.{Mismatch}
+use Rattle.wac_collection.specs.declared.collection.AddTypeError.{AddTypeError}
+use Rattle.wac_nodes.specs.declared.errors.RegisterPackageError.{RegisterPackageError}
+use Rattle.wac_nodes.specs.declared.errors.RegisterPackageError.TheVariants as register
+use Rattle.wac_nodes.specs.declared.errors.AliasError.{AliasError}
+use Rattle.wac_nodes.specs.declared.errors.AliasError.TheVariants as alias_error
+use Rattle.wac_nodes.specs.declared.errors.ExportError.{ExportError}
+use Rattle.wac_nodes.specs.declared.errors.ExportError.TheVariants as export_error
+use Rattle.wac_nodes.specs.declared.errors.ImportError.{ImportError}
+use Rattle.wac_nodes.specs.declared.errors.ImportError.TheVariants as import_error
+use Rattle.wac_nodes.specs.declared.errors.InstantiationArgumentError.{InstantiationArgumentError}
+use Rattle.wac_nodes.specs.declared.errors.InstantiationArgumentError.TheVariants as argument_error
+use Rattle.wac_nodes.specs.declared.node.NodeId.{NodeId}
+use Rattle.wac_nodes.specs.declared.packages.PackageId.{PackageId}
+use Rattle.wac_edges.specs.Edge.{alias_edge, argument_edge}
+use Rattle.wac_nodes.specs.ExternName.{IsImportName, IsExportName, HasExportFault}
+use Rattle.wac_nodes.specs.Graph as graph
+use Rattle.wac_nodes.specs.Graph.{Graph, GraphNode, node_at, package_at, export_at, package_of, interface_of, exports_of, imports_of, IsAliasOf, IsArgumentOf, IsSatisfied, IsUnsatisfied, IsRegistered, IsImportOf}
+
+-- no types, nodes, edges, exports and packages; numbers begin with 0
+abbrev pub IsEmpty : Graph → Type 0
+IsEmpty g = g ≡ record { types = empty; nodes = map.empty; next = 0; edges = set.empty; exports = []; slots = []; vacant = [] }
+
+-- an id for the item, where the collection changes as this says; nothing else changes
+abbrev pub Adds : {Id : Type 0} → Graph → Result Id AddTypeError → Graph → (Id → Collection → Type 0) → Type 0
+Adds old (Ok id) new changes = changes id new.types × (new ≡ record old { types = new.types })
+Adds old (Err _) new changes = new ≡ old
+
+-- the node is new, under the number that comes next, which was vacant
+abbrev pub AddsNode : Graph → NodeId → GraphNode → Graph → Type 0
+AddsNode old id node new =
+    (id.0 ≡ old.next) × (node_at old id ≡ None)
+    × (new ≡ record old { nodes = map.insert old.nodes id.0 node; next = new.next })
+
+abbrev pub import_node : Name → ItemKind → GraphNode
+import_node name kind = record { kind = graph.import name; item_kind = kind; owner = None; name = None; export_name = None; first_name = None }
+
+-- no node imports the name
+abbrev pub IsFreeImport : Graph → Name → Type 0
+IsFreeImport g name = (n : NodeId) → IsImportOf g name n → ⊥
+
+-- an import under a name that no node imports yet; a text that is no component name is refused by its fault
+abbrev pub Imports : Graph → Name → ItemKind → Result NodeId ImportError → Graph → Type 0
+Imports old name kind (Ok n) new = IsFreeImport old name × IsImportName name × AddsNode old n (import_node name kind) new
+Imports old name kind (Err (import_error.ImportAlreadyExists text node)) new =
+    (new ≡ old) × (string_bytes text ≡ name) × IsImportOf old name node
+Imports old name kind (Err (import_error.InvalidImportName text source)) new =
+    (new ≡ old) × (string_bytes text ≡ name) × IsFreeImport old name × HasFault name source
+Imports old name kind (Err import_error.OutOfMemory) new = new ≡ old
+
+-- the package takes the slot that was freed last, which is of its generation since; where none is vacant a new one, behind the others
+pub data TakesSlot (old : Graph) (p : PackageParts) (id : PackageId) (new : Graph) : Type 0 where
+  freed : (s generation : ℕ) (rest : List ℕ) → old.vacant ≡ s ∷ rest → slice_get old.slots s ≡ Some (record { generation = generation; «package» = None })
+      → id ≡ record { slot = s; generation = generation }
+      → new ≡ record old { slots = slice_set old.slots s (record { generation = generation; «package» = Some p }); vacant = rest } → TakesSlot old p id new
+  added : old.vacant ≡ [] → id ≡ record { slot = length old.slots; generation = 0 }
+      → new ≡ record old { slots = old.slots ++ (record { generation = 0; «package» = Some p }) ∷ [] } → TakesSlot old p id new
+
+-- the package has a slot, unless one of its key is registered
+abbrev pub Registers : Graph → PackageParts → Result PackageId RegisterPackageError → Graph → Type 0
+Registers old p (Ok id) new =
+    ((other : PackageId) → IsRegistered old (p.name, p.version) other → ⊥)
+    × TakesSlot old p id new
+Registers old p (Err (register.PackageAlreadyRegistered key)) new =
+    (new ≡ old) × (key ≡ (p.name, p.version)) × ((other : PackageId) × IsRegistered old key other)
+Registers old p (Err register.OutOfMemory) new = new ≡ old
+
+abbrev pub instance_node : PackageId → PackageParts → GraphNode
+instance_node id p = record { kind = graph.instantiation; item_kind = Instance p.instance_type; owner = Some id; name = None; export_name = None; first_name = None }
+
+-- an instance of the package, with no argument set
+abbrev pub Instantiates : Graph → PackageId → Result NodeId AllocError → Graph → Type 0
+Instantiates old id (Ok n) new = IfSome (package_at old id) (λ p. AddsNode old n (instance_node id p) new)
+Instantiates old id (Err _) new = new ≡ old
+
+abbrev pub alias_node : GraphNode → ItemKind → GraphNode
+alias_node source kind = record { kind = graph.alias; item_kind = kind; owner = source.owner; name = None; export_name = None; first_name = None }
+
+-- the alias that is there, or a new one that carries the source's package
+abbrev pub GivesAlias : Graph → NodeId → GraphNode → ℕ → ItemKind → NodeId → Graph → Type 0
+GivesAlias old id source position kind alias new =
+    (IsAliasOf old id position alias × (new ≡ old))
+    ⊎ (((other : NodeId) → IsAliasOf old id position other → ⊥)
+    × (alias.0 ≡ old.next) × (node_at old alias ≡ None)
+    × (new ≡ record old {
+      nodes = map.insert old.nodes alias.0 (alias_node source kind);
+      edges = set.insert old.edges (alias_edge id.0 alias.0 position);
+      next = new.next;
+    }))
+
+-- the export of a node of this name: its position and kind
+abbrev pub export_named : Graph → GraphNode → Name → Option (ℕ × ItemKind)
+export_named g n name = named_at 0 name (exports_of g n)
+
+abbrev pub AliasesOf : Graph → NodeId → GraphNode → Name → Result NodeId AliasError → Graph → Type 0
+AliasesOf old id n name (Ok alias) new =
+    IsSome (interface_of n.item_kind) × IsSomeAnd (export_named old n name) (λ e. GivesAlias old id n e.0 e.1 alias new)
+AliasesOf old id n name (Err (alias_error.NodeIsNotAnInstance node kind)) new =
+    (new ≡ old) × (node ≡ id) × (kind.now ≡ kind_text n.item_kind) × (interface_of n.item_kind ≡ None)
+AliasesOf old id n name (Err (alias_error.InstanceMissingExport node text)) new =
+    (new ≡ old) × (node ≡ id) × (string_bytes text ≡ name) × IsSome (interface_of n.item_kind) × (export_named old n name ≡ None)
+AliasesOf old id n name (Err alias_error.OutOfMemory) new = new ≡ old
+
+abbrev pub Aliases : Graph → NodeId → Name → Result NodeId AliasError → Graph → Type 0
+Aliases old id name result new = IfSome (node_at old id) (λ n. AliasesOf old id n name result new)
+
+-- a further export name, last in order; a text that may not be exported is refused by its fault
+abbrev pub Exports : Graph → NodeId → Name → Result (Unit {0}) ExportError → Graph → Type 0
+Exports old id name (Ok _) new =
+    (export_at old name ≡ None) × IsExportName name
+    × IfSome (node_at old id) (λ n. new ≡ record old {
+      nodes = map.insert old.nodes id.0 (record n { export_name = Some name });
+      exports = old.exports ++ (name, id) ∷ [];
+    })
+Exports old id name (Err (export_error.ExportAlreadyExists text node)) new =
+    (new ≡ old) × (string_bytes text ≡ name) × (export_at old name ≡ Some node)
+Exports old id name (Err (export_error.InvalidExportName text source)) new =
+    (new ≡ old) × (string_bytes text ≡ name) × (export_at old name ≡ None) × HasExportFault name source
+Exports old id name (Err export_error.OutOfMemory) new = new ≡ old
+
+-- the import of an instantiation by this name: its position and kind
+abbrev pub import_named : Graph → GraphNode → Name → Option (ℕ × ItemKind)
+import_named g n name = named_at 0 name (imports_of g n)
+
+-- the edge stands already, or it is added
+abbrev pub GivesArgument : Graph → NodeId → NodeId → ItemKind → ℕ → ItemKind → Graph → Type 0
+GivesArgument old id argument given position kind new =
+    (IsArgumentOf old id position argument × (new ≡ old))
+    ⊎ (IsUnsatisfied old id position × IsSubtype old.types given old.types kind × (new ≡ record old { edges = set.insert old.edges (argument_edge argument.0 id.0 position) }))
+
+abbrev pub SetsOn : Graph → NodeId → GraphNode → Name → NodeId → GraphNode → Result (Unit {0}) InstantiationArgumentError → Graph → Type 0
+SetsOn old id n name argument given (Ok _) new =
+    (n.kind ≡ graph.instantiation) × IsSomeAnd (import_named old n name) (λ e. GivesArgument old id argument given.item_kind e.0 e.1 new)
+SetsOn old id n name argument given (Err (argument_error.NodeIsNotAnInstantiation node)) new =
+    (new ≡ old) × (node ≡ id) × (n.kind ≡ graph.instantiation → ⊥)
+SetsOn old id n name argument given (Err (argument_error.InvalidArgumentName node text of_package)) new =
+    (new ≡ old) × (node ≡ id) × (string_bytes text ≡ name) × IsSomeAnd (package_of old n) (λ p. string_bytes of_package ≡ p.name)
+    × (n.kind ≡ graph.instantiation) × (import_named old n name ≡ None)
+SetsOn old id n name argument given (Err (argument_error.ArgumentAlreadyPassed node text)) new =
+    (new ≡ old) × (node ≡ id) × (string_bytes text ≡ name) × (n.kind ≡ graph.instantiation)
+    × IsSomeAnd (import_named old n name) (λ e. (IsArgumentOf old id e.0 argument → ⊥) × IsSatisfied old id e.0)
+SetsOn old id n name argument given (Err (argument_error.ArgumentTypeMismatch text source)) new =
+    (new ≡ old) × (string_bytes text ≡ name) × (n.kind ≡ graph.instantiation) × (source ≡ Mismatch)
+    × IsSomeAnd (import_named old n name) (λ e. IsUnsatisfied old id e.0 × (IsSubtype old.types given.item_kind old.types e.1 → ⊥))
+SetsOn old id n name argument given (Err argument_error.OutOfMemory) new = new ≡ old
+
+abbrev pub SetsArgument : Graph → NodeId → Name → NodeId → Result (Unit {0}) InstantiationArgumentError → Graph → Type 0
+SetsArgument old id name argument result new =
+    IfSome (node_at old id) (λ n. IfSome (node_at old argument) (λ given. SetsOn old id n name argument given result new))

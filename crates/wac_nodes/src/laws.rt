@@ -1,0 +1,46 @@
+//! Laws over the steps of graphs, given to the caller of a call that does nothing else.
+ghost use Rattle.std.specs.Prelude.{◌≡◌, ℕ, Some, Ok, Result as AResult, length};
+ghost use Rattle.wac_shapes.specs.Name.{Name as AName};
+ghost use Rattle.wac_collection.specs.Collection.{with_resource, with_func, with_defined, with_interface, with_world, with_module};
+ghost use Rattle.wac_collection.specs.Package.{PackageParts, with_instance_of};
+ghost use Rattle.wac_collection.specs.declared.collection.AddTypeError.{AddTypeError};
+ghost use Rattle.wac_shapes.specs.declared.component.Resource.{Resource};
+ghost use Rattle.wac_shapes.specs.declared.component.FuncType.{FuncType};
+ghost use Rattle.wac_shapes.specs.declared.component.DefinedType.{DefinedType};
+ghost use Rattle.wac_shapes.specs.declared.component.Interface.{Interface};
+ghost use Rattle.wac_shapes.specs.declared.component.World.{World};
+ghost use Rattle.wac_shapes.specs.declared.core_types.ModuleType.{ModuleType};
+ghost use Rattle.wac_shapes.specs.declared.component.ResourceId.{ResourceId};
+ghost use Rattle.wac_shapes.specs.declared.component.FuncTypeId.{FuncTypeId};
+ghost use Rattle.wac_shapes.specs.declared.component.DefinedTypeId.{DefinedTypeId};
+ghost use Rattle.wac_shapes.specs.declared.component.InterfaceId.{InterfaceId};
+ghost use Rattle.wac_shapes.specs.declared.component.WorldId.{WorldId};
+ghost use Rattle.wac_shapes.specs.declared.component.ModuleTypeId.{ModuleTypeId};
+ghost use Rattle.wac_shapes.specs.declared.component.ItemKind.{ItemKind};
+ghost use Rattle.wac_nodes.specs.declared.errors.RegisterPackageError.{RegisterPackageError};
+ghost use Rattle.wac_nodes.specs.declared.node.NodeId.{NodeId};
+ghost use Rattle.wac_nodes.specs.declared.packages.PackageId.{PackageId};
+ghost use Rattle.wac_nodes.specs.Graph.{Graph, GraphNode, node_at, package_at};
+ghost use Rattle.wac_nodes.specs.Steps.{Adds, Registers, Imports, import_node, Instantiates, instance_node, Aliases, SetsArgument};
+ghost use Rattle.wac_nodes.specs.Stays.{Stays, IsAliasBy, IsArgumentBy};
+
+/// What was in a graph is in it still after each call that adds types, packages, imports, instances, aliases or arguments, and the
+/// node, the alias or the argument that the call adds is there.
+pub fn stays_law()
+    ensures itself { (g : Graph) → Stays g g }
+    ensures through { (a b c : Graph) → Stays a b → Stays b c → Stays a c }
+    // types
+    ensures resource { (old new : Graph) (x : Resource) (r : AResult ResourceId AddTypeError) → Adds old r new (λ id types. (id.0 ≡ length old.types.resources) × (types ≡ with_resource old.types x)) → Stays old new }
+    ensures func { (old new : Graph) (x : FuncType) (r : AResult FuncTypeId AddTypeError) → Adds old r new (λ id types. (id.0 ≡ length old.types.funcs) × (types ≡ with_func old.types x)) → Stays old new }
+    ensures defined { (old new : Graph) (x : DefinedType) (r : AResult DefinedTypeId AddTypeError) → Adds old r new (λ id types. (id.0 ≡ length old.types.defined) × (types ≡ with_defined old.types x)) → Stays old new }
+    ensures interface { (old new : Graph) (x : Interface) (r : AResult InterfaceId AddTypeError) → Adds old r new (λ id types. (id.0 ≡ length old.types.interfaces) × (types ≡ with_interface old.types x)) → Stays old new }
+    ensures world { (old new : Graph) (x : World) (r : AResult WorldId AddTypeError) → Adds old r new (λ id types. (id.0 ≡ length old.types.worlds) × (types ≡ with_world old.types x)) → Stays old new }
+    ensures module_type { (old new : Graph) (x : ModuleType) (r : AResult ModuleTypeId AddTypeError) → Adds old r new (λ id types. (id.0 ≡ length old.types.modules) × (types ≡ with_module old.types x)) → Stays old new }
+    ensures made { (old new : Graph) (world : WorldId) (r : AResult PackageParts AddTypeError) → Adds old r new (λ p types. types ≡ with_instance_of old.types world) → Stays old new }
+    // packages and nodes
+    ensures registered { (old new : Graph) (p : PackageParts) (r : AResult PackageId RegisterPackageError) → Registers old p r new → Stays old new }
+    ensures imported { (old new : Graph) (name : AName) (kind : ItemKind) (n : NodeId) → Imports old name kind (Ok n) new → (node_at new n ≡ Some (import_node name kind)) × Stays old new }
+    ensures instantiated { (old new : Graph) (id : PackageId) (p : PackageParts) (n : NodeId) → package_at old id ≡ Some p → Instantiates old id (Ok n) new → (node_at new n ≡ Some (instance_node id p)) × Stays old new }
+    ensures aliased { (old new : Graph) (instance : NodeId) (source : GraphNode) (name : AName) (alias : NodeId) → node_at old instance ≡ Some source → Aliases old instance name (Ok alias) new → IsAliasBy new instance name alias × Stays old new }
+    ensures given { (old new : Graph) (consumer : NodeId) (node : GraphNode) (name : AName) (argument : NodeId) (given : GraphNode) → node_at old consumer ≡ Some node → node_at old argument ≡ Some given → SetsArgument old consumer name argument (Ok tt) new → IsArgumentBy new consumer name argument × Stays old new }
+{}

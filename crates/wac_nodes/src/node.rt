@@ -1,0 +1,91 @@
+//! Nodes of a graph.
+ghost use Rattle.std.specs.Prelude.{◌≡◌, string_bytes};
+ghost use Rattle.std.specs.Option.{option_map};
+ghost use Rattle.wac_nodes.specs.Graph.{import_name};
+ghost use Rattle.wac_nodes.specs.Nodes.{kind_of};
+
+use crate::packages::PackageId;
+use std::collections::BTreeSet;
+use std::fmt;
+use wac_types::ItemKind;
+
+/// A node's number in its graph.
+#[derive(Clone, Copy, Debug, PartialEq, Eq, PartialOrd, Ord, Hash)]
+pub struct NodeId(pub usize);
+
+impl fmt::Display for NodeId {
+    fn fmt<W: fmt::Write>(&self, f: &mut fmt::Formatter<W>) -> fmt::Result {
+        fmt::Display::fmt(&self.0, f)
+    }
+}
+
+/// What a node is.
+#[derive(Debug, Drop)]
+pub enum NodeKind {
+    /// A type definition.
+    Definition,
+    /// An import of this name.
+    Import(String),
+    /// An instantiation of a package; the positions of its world's imports that an argument satisfies.
+    Instantiation(BTreeSet<usize>),
+    /// An alias of an instance's export.
+    Alias,
+}
+
+/// A node of a graph.
+#[derive(Debug, Drop)]
+pub struct Node {
+    /// What it is.
+    pub kind: NodeKind,
+    /// The package that it is an instance of, or that its alias's source carries.
+    pub package: Option<PackageId>,
+    /// What it stands for.
+    pub item_kind: ItemKind,
+    /// Its name, if it has one.
+    pub name: Option<String>,
+    /// The name by which it was exported last.
+    pub export_name: Option<String>,
+}
+
+impl Node {
+    /// What the node is.
+    pub fn kind(&self) -> &NodeKind
+        ensures { result.now ≡ self.now.kind }
+    {
+        &self.kind
+    }
+
+    /// The package that the node is an instance of, or that its alias's source carries.
+    pub fn package(&self) -> Option<PackageId>
+        ensures { result ≡ self.now.«package» }
+    {
+        self.package
+    }
+
+    /// What the node stands for: a function, an instance ..
+    pub fn item_kind(&self) -> ItemKind
+        ensures { result ≡ self.now.item_kind }
+    {
+        self.item_kind
+    }
+
+    /// The name of an import; none of another kind of node.
+    pub fn import_name(&self) -> Option<&str>
+        ensures { option_map (λ s. s.now) result ≡ import_name (kind_of self.now.kind) }
+    {
+        match &self.kind {
+            NodeKind::Import(name) => Some(name.as_str()),
+            NodeKind::Definition | NodeKind::Instantiation(_) | NodeKind::Alias => None,
+        }
+    }
+
+    /// The name by which the node was exported last, if it is exported.
+    pub fn export_name(&self) -> Option<&str>
+        ensures { option_map (λ s. s.now) result ≡ option_map string_bytes self.now.export_name }
+    {
+        match &self.export_name {
+            Some(name) => Some(name.as_str()),
+            None => None,
+        }
+    }
+}

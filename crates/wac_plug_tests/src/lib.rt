@@ -1,0 +1,7 @@
+//! Tests of `plug`, through what `wac_graph` makes public.
+#![tactic(auto)]
+
+#[cfg(test)]
+mod graphs;
+#[cfg(test)]
+mod plugging;

@@ -1,0 +1,367 @@
+// Sockets and plugs as the rows of a table, each with what `plug` answers and which nodes it makes.
+use crate::graphs::{Item, Items, asked, encoded, first_nodes, register, register_all};
+use std::alloc::Global;
+use std::process::Abort;
+use std::test::Fail;
+use wac_graph::{CompositionGraph, ExportError, PackageId, PlugError, PlugFault, plug};
+
+// Plugs with these exports are plugged into a socket with these imports and exports.
+#[derive(Clone, Copy)]
+struct Row {
+    plugs: &'static [Items],
+    // The places of the plugs that are plugged in, in order.
+    order: (usize, Option<usize>),
+    imports: Items,
+    exports: Items,
+    // The text of the refusal, or of the error in it; empty where there is none.
+    answer: &'static str,
+    // The nodes that are made, in order.
+    nodes: &'static [&'static str],
+    // The names of the socket's imports.
+    asked: &'static str,
+    // How many nodes there are when the socket's one import is satisfied, where it is.
+    passed: Option<usize>,
+}
+
+const NONE: &str = "the socket component had no matching imports for the plugs that were provided";
+
+const PASSED_A: &str = "argument `a` has already been passed to the instantiation";
+
+const REFUSED: &str = "out of memory";
+
+const FUNCTION_A: Items = &[("a", Item::Function)];
+
+const RUN: Items = &[("run", Item::Function)];
+
+fn at(ids: &[PackageId], place: usize) -> Result<PackageId, Fail> {
+    match ids.get(place) {
+        Some(id) => Ok(*id),
+        None => Err(Fail::new("no such package")),
+    }
+}
+
+// The text of the refusal, or of the error in it; empty where there is none.
+fn answer(alloc: Global, plugged: Result<(), PlugError>) -> Result<String, Fail> {
+    match plugged {
+        Ok(()) => Ok(String::new(alloc)),
+        Err(PlugError::GraphError { source }) => Ok(format!(in alloc; "{source}")?),
+        Err(error) => Ok(format!(in alloc; "{error}")?),
+    }
+}
+
+fn plugged(
+    rt: &(impl Abort + AllocGlobal),
+    graph: &mut CompositionGraph,
+    first: PackageId,
+    second: Option<PackageId>,
+    socket: PackageId,
+) -> Result<String, Fail> {
+    let held = graph.has_package(socket);
+    assert!(rt; held);
+    let held = graph.has_package(first);
+    assert!(rt; held);
+    let Some(second) = second else {
+        let plugs = vec![in rt.alloc(); first]?;
+        return answer(rt.alloc(), plug(graph, plugs, socket));
+    };
+    let held = graph.has_package(second);
+    assert!(rt; held);
+    let plugs = vec![in rt.alloc(); first, second]?;
+    answer(rt.alloc(), plug(graph, plugs, socket))
+}
+
+// Registers the packages of a row in a new graph, and plugs them together.
+fn answered(
+    rt: &(impl Abort + AllocGlobal),
+    graph: &mut CompositionGraph,
+    row: Row,
+) -> Result<String, Fail> {
+    let alloc = rt.alloc();
+    let plugs = register_all(alloc, graph, row.plugs)?;
+    let socket = register(alloc, graph, "my:socket", row.imports, row.exports)?;
+    let first = at(&plugs, row.order.0)?;
+    let second = match row.order.1 {
+        Some(place) => Some(at(&plugs, place)?),
+        None => None,
+    };
+    plugged(rt, graph, first, second, socket)
+}
+
+// What a graph asks for once it has so many of the nodes of a row.
+fn assert_asked(
+    rt: &(impl Abort + AllocGlobal),
+    graph: &CompositionGraph,
+    row: Row,
+    count: usize,
+) -> Result<(), Fail> {
+    let asked = asked(rt.alloc(), graph)?;
+    let is_passed = match row.passed {
+        Some(passed) => count > passed || (count == passed && asked.is_empty()),
+        None => false,
+    };
+    let want = if count == 0 || is_passed {
+        ""
+    } else {
+        row.asked
+    };
+    assert_eq!(rt; asked.as_str(), want);
+    Ok(())
+}
+
+// What a refused growth left is what the steps before it made.
+fn assert_begun(
+    rt: &(impl Abort + AllocGlobal),
+    graph: &CompositionGraph,
+    row: Row,
+) -> Result<(), Fail> {
+    let nodes = first_nodes(rt, graph, row.nodes.len() + 1)?;
+    let count = nodes.len();
+    for i in 0..count {
+        let Some(want) = row.nodes.get(i) else {
+            return Err(Fail::new("there is a node too many"));
+        };
+        if i + 1 < count {
+            assert_eq!(rt; nodes[i].as_str(), *want);
+        } else {
+            assert!(rt; want.starts_with(nodes[i].as_str()));
+        }
+    }
+    assert_asked(rt, graph, row, count)
+}
+
+// All the nodes of a row are made.
+fn assert_made(
+    rt: &(impl Abort + AllocGlobal),
+    graph: &CompositionGraph,
+    row: Row,
+) -> Result<(), Fail> {
+    let nodes = first_nodes(rt, graph, row.nodes.len() + 1)?;
+    assert_eq!(rt; nodes.len(), row.nodes.len());
+    for (node, want) in nodes.iter().zip(row.nodes) {
+        assert_eq!(rt; node.as_str(), *want);
+    }
+    let asked = asked(rt.alloc(), graph)?;
+    let want = if row.passed.is_some() { "" } else { row.asked };
+    assert_eq!(rt; asked.as_str(), want);
+    Ok(())
+}
+
+fn assert_row(rt: &(impl Abort + AllocGlobal), row: Row) -> Result<(), Fail> {
+    let mut graph = CompositionGraph::new(rt.alloc());
+    let answer = answered(rt, &mut graph, row)?;
+    if answer.as_str() == REFUSED {
+        return assert_begun(rt, &graph, row);
+    }
+    assert_eq!(rt; answer.as_str(), row.answer);
+    assert_made(rt, &graph, row)
+}
+
+// The function `a` of a plug is the argument `a` of the socket, whose function `run` is exported.
+const ONE: Row = Row {
+    plugs: &[FUNCTION_A],
+    order: (0, None),
+    imports: FUNCTION_A,
+    exports: RUN,
+    answer: "",
+    nodes: &[
+        "instance my:socket",
+        "instance my:plug0",
+        "alias my:plug0",
+        "alias my:socket as run",
+    ],
+    asked: "a; ",
+    passed: Some(3),
+};
+
+// Its bytes.
+const ONE_ENCODED: &str =
+    "0061736d0d00010004080061736d0d000100050401000000060601010000016104080061736d0d000100050801000101016101000608010100010372756e0b0901000372756e010100";
+
+// Two plugs with one export.
+const TWO: Row = Row {
+    plugs: &[FUNCTION_A, FUNCTION_A],
+    order: (0, Some(1)),
+    imports: FUNCTION_A,
+    exports: RUN,
+    answer: PASSED_A,
+    nodes: &[
+        "instance my:socket",
+        "instance my:plug0",
+        "alias my:plug0",
+        "instance my:plug1",
+        "alias my:plug1",
+    ],
+    asked: "a; ",
+    passed: Some(3),
+};
+
+// One plug twice.
+const TWICE: Row = Row {
+    plugs: &[FUNCTION_A],
+    order: (0, Some(0)),
+    imports: FUNCTION_A,
+    exports: RUN,
+    answer: PASSED_A,
+    nodes: &[
+        "instance my:socket",
+        "instance my:plug0",
+        "alias my:plug0",
+        "instance my:plug0",
+        "alias my:plug0",
+    ],
+    asked: "a; ",
+    passed: Some(3),
+};
+
+// No import has the name of the plug's export.
+const OTHER: Row = Row {
+    plugs: &[&[("b", Item::Function)]],
+    order: (0, None),
+    imports: FUNCTION_A,
+    exports: RUN,
+    answer: NONE,
+    nodes: &["instance my:socket"],
+    asked: "a; ",
+    passed: None,
+};
+
+// The socket has no imports.
+const UNASKED: Row = Row {
+    plugs: &[FUNCTION_A],
+    order: (0, None),
+    imports: &[],
+    exports: RUN,
+    answer: NONE,
+    nodes: &["instance my:socket"],
+    asked: "",
+    passed: None,
+};
+
+// The import of the export's name is of another type, and one on its track of the same.
+const OTHER_TYPE: Row = Row {
+    plugs: &[&[("a:b/c@1.0.0", Item::Exporting("f"))]],
+    order: (0, None),
+    imports: &[
+        ("a:b/c@1.0.0", Item::Exporting("g")),
+        ("a:b/c@1.1.0", Item::Exporting("f")),
+    ],
+    exports: RUN,
+    answer: NONE,
+    nodes: &["instance my:socket"],
+    asked: "a:b/c@1.0.0; a:b/c@1.1.0; ",
+    passed: None,
+};
+
+// Two exports on the track of one import.
+const ONE_TRACK: Row = Row {
+    plugs: &[&[
+        ("a:b/c@1.0.0", Item::Exporting("f")),
+        ("a:b/c@1.1.0", Item::Exporting("f")),
+    ]],
+    order: (0, None),
+    imports: &[("a:b/c@1.2.0", Item::Exporting("f"))],
+    exports: RUN,
+    answer: "argument `a:b/c@1.2.0` has already been passed to the instantiation",
+    nodes: &[
+        "instance my:socket",
+        "instance my:plug0",
+        "alias my:plug0",
+        "alias my:plug0",
+    ],
+    asked: "a:b/c@1.2.0; ",
+    passed: Some(3),
+};
+
+// The socket exports what may not be exported.
+const BAD_EXPORT: Row = Row {
+    plugs: &[FUNCTION_A],
+    order: (0, None),
+    imports: FUNCTION_A,
+    exports: &[("url=<u>", Item::Function)],
+    answer: "export name `url=<u>` is not valid",
+    nodes: &[
+        "instance my:socket",
+        "instance my:plug0",
+        "alias my:plug0",
+        "alias my:socket",
+    ],
+    asked: "a; ",
+    passed: Some(3),
+};
+
+#[test]
+fn exports_become_arguments(rt: HostRuntime) -> Result<(), Fail> {
+    assert_row(&rt, ONE)
+}
+
+#[test]
+fn what_is_plugged_is_encoded(rt: HostRuntime) -> Result<(), Fail> {
+    let mut graph = CompositionGraph::new(rt.alloc());
+    let answer = answered(&rt, &mut graph, ONE)?;
+    if answer.as_str() == REFUSED {
+        return Err(Fail::new(REFUSED));
+    }
+    let bytes = encoded(rt.alloc(), &graph)?;
+    if bytes.as_str() == REFUSED {
+        return Err(Fail::new(REFUSED));
+    }
+    assert_eq!(rt; bytes.as_str(), ONE_ENCODED);
+    Ok(())
+}
+
+// What stays is the socket, each plug and its alias, and the argument from the first.
+#[test]
+fn two_plugs_match_an_import(rt: HostRuntime) -> Result<(), Fail> {
+    assert_row(&rt, TWO)
+}
+
+#[test]
+fn a_plug_is_plugged_in_twice(rt: HostRuntime) -> Result<(), Fail> {
+    assert_row(&rt, TWICE)
+}
+
+// What stays is the socket, the plug and two aliases, and the argument from the first.
+#[test]
+fn two_exports_match_an_import(rt: HostRuntime) -> Result<(), Fail> {
+    assert_row(&rt, ONE_TRACK)
+}
+
+// What stays is all but the export.
+#[test]
+fn an_export_is_refused(rt: HostRuntime) -> Result<(), Fail> {
+    assert_row(&rt, BAD_EXPORT)
+}
+
+// What stays is the socket.
+#[test]
+fn no_import_has_the_name(rt: HostRuntime) -> Result<(), Fail> {
+    assert_row(&rt, OTHER)
+}
+
+#[test]
+fn a_socket_has_no_imports(rt: HostRuntime) -> Result<(), Fail> {
+    assert_row(&rt, UNASKED)
+}
+
+#[test]
+fn the_import_of_the_name_is_of_another_type(rt: HostRuntime) -> Result<(), Fail> {
+    assert_row(&rt, OTHER_TYPE)
+}
+
+#[test]
+fn refusals_have_texts(rt: HostRuntime) -> Result<(), Fail> {
+    let source = PlugFault::Export(ExportError::OutOfMemory);
+    let rows = [
+        (PlugError::NoPlugHappened, NONE),
+        (
+            PlugError::GraphError { source },
+            "an error occurred when building the composition graph",
+        ),
+        (PlugError::OutOfMemory, REFUSED),
+    ];
+    for (error, want) in &rows {
+        let text = format!(in rt.alloc(); "{error}")?;
+        assert_eq!(rt; text.as_str(), *want);
+    }
+    Ok(())
+}
