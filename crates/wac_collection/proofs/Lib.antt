@@ -7,3 +7,4 @@ pub mod Adding
 pub mod Ids
 pub mod Packages
 pub mod Rows
+pub mod Leaves

@@ -9,3 +9,4 @@ pub mod Ends
 pub mod Interfaces
 pub mod Package
 pub mod KeyLaws
+pub mod HeldTrees

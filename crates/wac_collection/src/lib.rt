@@ -4,6 +4,7 @@
 mod aliases;
 mod collection;
 mod interfaces;
+pub mod laws;
 mod mentions;
 mod package;
 mod shared;

@@ -1,5 +1,5 @@
 -- What the calls of a composition leave in the graph.
-use Rattle.std.proofs.Common.{◌≡◌, ℕ, List, [], ◌∷◌, ◌++◌, length, slice_get, refl, ap, ◌∙◌, sym, subst, Option, Some, None, Ok, IsSome, is_some}
+use Rattle.std.proofs.Common.{◌≡◌, ℕ, List, [], ◌∷◌, ◌++◌, length, refl, ap, ◌∙◌, sym, subst, Option, Some, None, Ok, IsSome, is_some}
 use Rattle.std.specs.Prelude.{IsSomeAnd}
 use Rattle.std.proofs.lemmas.Bool.{false≢true}
 use Rattle.wac_shapes.specs.Name.{Name, option_case}
@@ -13,22 +13,17 @@ use Rattle.wac_shapes.specs.declared.component.World.{World}
 use Rattle.wac_shapes.specs.declared.component.WorldId.{WorldId}
 use Rattle.wac_nodes.specs.declared.node.NodeId.{NodeId}
 use Rattle.wac_nodes.specs.declared.packages.PackageId.{PackageId}
-use Rattle.wac_nodes.specs.declared.packages.Slot.{Slot}
 use Rattle.wac_edges.specs.Edge.{alias_edge}
-use Rattle.wac_nodes.specs.Graph.{Graph, GraphNode, node_at, package_at, package_in}
+use Rattle.wac_nodes.specs.Graph.{Graph, GraphNode, node_at, package_at}
 use Rattle.wac_nodes.specs.Steps.{Adds, Registers, Instantiates, instance_node, Aliases, export_named, SetsArgument}
 use Rattle.wac_binary.specs.Bytes.{preamble}
 use Rattle.wac_nodes.specs.Stays.{Stays, IsAliasBy}
-use Rattle.wac_nodes.proofs.StaysLemmas.{stays-trans, instance-stays, alias-stays, argument-stays}
+use Rattle.wac_nodes.proofs.StaysLemmas.{stays-trans, instance-stays, alias-stays, argument-stays, registered-there}
 use Rattle.wac_demo.specs.Composed.{IsInstanceOf, GivesExport, IsEmptyPackage}
 
 item-last : {A : Type 0} (xs : List (Held A)) (x : Held A) → item_at (xs ++ x ∷ []) (length xs) ≡ Some x.item
 item-last [] x = refl
 item-last (y ∷ xs) x = item-last xs x
-
-slot-last : (xs : List Slot) (x : Slot) → slice_get (xs ++ x ∷ []) (length xs) ≡ Some x
-slot-last [] x = refl
-slot-last (y ∷ xs) x = slot-last xs x
 
 -- the package that was made of a new world and registered
 pub registered-is : (g0 g1 g2 g3 : Graph) (w : World) (world : WorldId) (p : PackageParts) (id : PackageId) (name : Name) (imports exports : List (Name × ItemKind))
@@ -41,8 +36,7 @@ registered-is g0 g1 g2 g3 w world p id name imports exports added is_imports is_
     (sym there) (is_name, is_version, is_bytes, listed_imports, listed_exports)
   where
     there : package_at g3 id ≡ Some p
-    there = ap (λ (g : Graph). package_at g id) h.2 ∙ ap (λ (i : PackageId). package_in (slice_get (g2.slots ++ (record { generation = 0; «package» = Some p }) ∷ []) i.slot) i) h.1
-        ∙ ap (λ s. package_in s (record { slot = length g2.slots; generation = 0 })) (slot-last g2.slots (record { generation = 0; «package» = Some p }))
+    there = registered-there g2 g3 p id h
 
     world_there : item_at g3.types.worlds world.0 ≡ Some w
     world_there = kept.worlds world.0 w (ap (λ t. item_at t.worlds world.0) added.0.1 ∙ ap (λ i. item_at (with_world g0.types w).worlds i) added.0.0 ∙ item-last g0.types.worlds (record { item = w; before = _ }))

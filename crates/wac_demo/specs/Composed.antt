@@ -10,13 +10,14 @@ use Rattle.wac_binary.specs.Bytes.{preamble, bytes_of}
 use Rattle.wac_nodes.specs.declared.node.NodeId.{NodeId}
 use Rattle.wac_nodes.specs.declared.packages.PackageId.{PackageId}
 use Rattle.wac_nodes.specs.Graph.{Graph, node_at, package_at}
+use Rattle.wac_nodes.specs.Options.{default_options}
 use Rattle.wac_meaning.specs.Means.{Means}
 use Rattle.wac_nodes.specs.Steps.{IsEmpty, instance_node}
 use Rattle.wac_nodes.specs.Stays.{IsAliasBy, IsArgumentBy}
 
--- the bytes are those of items that mean such a graph
+-- the bytes are those of items that mean such a graph, encoded with the options that stand where nothing else is asked
 abbrev pub Compose : List ℕ → (Graph → Type 0) → Type 0
-Compose bytes P = (items : List Item) × (graph : Graph) × (bytes ≡ bytes_of items) × Means items graph × P graph
+Compose bytes P = (items : List Item) × (graph : Graph) × (bytes ≡ bytes_of items) × Means items graph default_options × P graph
 
 -- an instance of a package of this name
 abbrev pub IsInstanceOf : Graph → Name → NodeId → Type 0

@@ -3,6 +3,7 @@ use Rattle.std.proofs.Common.{◌≡◌, ℕ, zero, suc, List, [], ◌∷◌, �
 use Rattle.std.specs.Prelude.{IsSomeAnd}
 use Rattle.std.specs.FinMap as map
 use Rattle.std.specs.FinSet as set
+use Rattle.std.proofs.lemmas.Bool.{eq-eqb}
 use Rattle.std.proofs.lemmas.List.{append-nil}
 use Rattle.wac_shapes.specs.Name.{Name}
 use Rattle.wac_collection.specs.Collection.{Collection, item_at, with_resource, with_func, with_defined, with_interface, with_world, with_module}
@@ -130,6 +131,32 @@ slot-stays old new p id (freed s generation rest vacant empty _ is) = record {
 slot-stays old new p id (added _ _ is) = grown old new [] [] (record { generation = 0; «package» = Some p } ∷ [])
     (ap (λ g. g.nodes) is) (ap (λ g. g.edges) is) (ap (λ g. g.slots) is)
     (ap (λ g. g.types.interfaces) is ∙ sym (append-nil old.types.interfaces)) (ap (λ g. g.types.worlds) is ∙ sym (append-nil old.types.worlds))
+
+-- what is written in a slot that is there is read there
+slice_get-set_same : (xs : List Slot) (s : ℕ) (x with : Slot) → slice_get xs s ≡ Some x → slice_get (slice_set xs s with) s ≡ Some with
+slice_get-set_same [] s x with h = cc
+slice_get-set_same (y ∷ xs) zero x with h = refl
+slice_get-set_same (y ∷ xs) (suc s) x with h = slice_get-set_same xs s x with h
+
+slot-last : (xs : List Slot) (x : Slot) → slice_get (xs ++ x ∷ []) (length xs) ≡ Some x
+slot-last [] x = refl
+slot-last (y ∷ xs) x = slot-last xs x
+
+-- the generation of a slot is that of the id which it gives
+same-generation : (generation : ℕ) (p : PackageParts) (id : PackageId) → id.generation ≡ generation → package_in (Some (record { generation = generation; «package» = Some p })) id ≡ Some p
+same-generation generation p id same = ap (λ b. cond b (Some p) None) (ap (λ i. generation == i) same ∙ eq-eqb generation generation refl)
+
+slot-there : (old new : Graph) (p : PackageParts) (id : PackageId) → TakesSlot old p id new → package_at new id ≡ Some p
+slot-there old new p id (freed s generation rest vacant empty given is) =
+    ap (λ g. package_in (slice_get g.slots id.slot) id) is ∙ ap (λ i. package_in (slice_get (slice_set old.slots s (record { generation = generation; «package» = Some p })) i) id) (ap (λ i. i.slot) given)
+    ∙ ap (λ o. package_in o id) (slice_get-set_same old.slots s _ (record { generation = generation; «package» = Some p }) empty) ∙ same-generation generation p id (ap (λ i. i.generation) given)
+slot-there old new p id (added vacant given is) =
+    ap (λ g. package_in (slice_get g.slots id.slot) id) is ∙ ap (λ i. package_in (slice_get (old.slots ++ (record { generation = 0; «package» = Some p }) ∷ []) i) id) (ap (λ i. i.slot) given)
+    ∙ ap (λ o. package_in o id) (slot-last old.slots (record { generation = 0; «package» = Some p })) ∙ same-generation 0 p id (ap (λ i. i.generation) given)
+
+-- a package that was registered is there under its id
+pub registered-there : (old new : Graph) (p : PackageParts) (id : PackageId) → Registers old p (Ok id) new → package_at new id ≡ Some p
+registered-there old new p id h = slot-there old new p id h.1
 
 -- a package is registered
 pub registered-stays : (old new : Graph) (p : PackageParts) (r : Result PackageId RegisterPackageError) → Registers old p r new → Stays old new

@@ -1,4 +1,5 @@
 pub mod Graph
+pub mod Options
 pub mod Nodes
 pub mod PackageKeys
 pub mod Sound

@@ -39,6 +39,7 @@ pub fn stays_law()
     ensures made { (old new : Graph) (world : WorldId) (r : AResult PackageParts AddTypeError) → Adds old r new (λ p types. types ≡ with_instance_of old.types world) → Stays old new }
     // packages and nodes
     ensures registered { (old new : Graph) (p : PackageParts) (r : AResult PackageId RegisterPackageError) → Registers old p r new → Stays old new }
+    ensures registered_there { (old new : Graph) (p : PackageParts) (id : PackageId) → Registers old p (Ok id) new → package_at new id ≡ Some p }
     ensures imported { (old new : Graph) (name : AName) (kind : ItemKind) (n : NodeId) → Imports old name kind (Ok n) new → (node_at new n ≡ Some (import_node name kind)) × Stays old new }
     ensures instantiated { (old new : Graph) (id : PackageId) (p : PackageParts) (n : NodeId) → package_at old id ≡ Some p → Instantiates old id (Ok n) new → (node_at new n ≡ Some (instance_node id p)) × Stays old new }
     ensures aliased { (old new : Graph) (instance : NodeId) (source : GraphNode) (name : AName) (alias : NodeId) → node_at old instance ≡ Some source → Aliases old instance name (Ok alias) new → IsAliasBy new instance name alias × Stays old new }

@@ -21,6 +21,11 @@ pub struct EncodeOptions<'a> {
 }
 
 impl Default for EncodeOptions<'_> {
+    ghost use Rattle.std.specs.Prelude.{◌≡◌};
+    ghost use Rattle.wac_nodes.specs.Options.{default_options};
+
+    ghost is_default = { λ options. options ≡ default_options };
+
     fn default() -> Self {
         EncodeOptions {
             define_components: true,

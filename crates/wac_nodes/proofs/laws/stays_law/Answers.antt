@@ -1,4 +1,4 @@
-use Rattle.wac_nodes.proofs.StaysLemmas.{stays-refl, stays-trans, resource-stays, func-stays, defined-stays, interface-stays, world-stays, module-stays, made-stays, registered-stays, import-stays, instance-stays, alias-stays, argument-stays}
+use Rattle.wac_nodes.proofs.StaysLemmas.{stays-refl, stays-trans, resource-stays, func-stays, defined-stays, interface-stays, world-stays, module-stays, made-stays, registered-stays, registered-there, import-stays, instance-stays, alias-stays, argument-stays}
 use Rattle.wac_nodes.proofs.laws.stays_law.Goals as goal
 
 pub returns : goal.returns
@@ -13,6 +13,7 @@ returns c = record {
   module_type = module-stays;
   made = made-stays;
   registered = registered-stays;
+  registered_there = registered-there;
   imported = import-stays;
   instantiated = instance-stays;
   aliased = alias-stays;

@@ -1,0 +1,78 @@
+-- Laws of held trees, which calls give to their callers.
+use Rattle.std.specs.Prelude.{◌≡◌, ◌++◌, true, false, List, [], ◌∷◌, map, Option, Some, None}
+use Rattle.wac_shapes.specs.Name.{Name, same_name, find_name, option_case}
+use Rattle.wac_shapes.specs.declared.component.ResourceId.{ResourceId}
+use Rattle.wac_shapes.specs.declared.component.Resource.{Resource}
+use Rattle.wac_shapes.specs.declared.component.FuncType.{FuncType}
+use Rattle.wac_shapes.specs.declared.component.FuncTypeId.{FuncTypeId}
+use Rattle.wac_shapes.specs.declared.component.DefinedType.{DefinedType}
+use Rattle.wac_shapes.specs.declared.component.DefinedTypeId.{DefinedTypeId}
+use Rattle.wac_shapes.specs.declared.component.Interface.{Interface}
+use Rattle.wac_shapes.specs.declared.component.InterfaceId.{InterfaceId}
+use Rattle.wac_shapes.specs.declared.component.World.{World}
+use Rattle.wac_shapes.specs.declared.component.WorldId.{WorldId}
+use Rattle.wac_shapes.specs.declared.component.ModuleTypeId.{ModuleTypeId}
+use Rattle.wac_shapes.specs.declared.core_types.ModuleType.{ModuleType}
+use Rattle.wac_shapes.specs.declared.component.ValueType.TheVariants as val
+use Rattle.wac_shapes.specs.declared.component.«Type».{«Type» as AnyType}
+use Rattle.wac_shapes.specs.declared.component.«Type».TheVariants as ty
+use Rattle.wac_shapes.specs.declared.component.ItemKind.{ItemKind}
+use Rattle.wac_shapes.specs.declared.component.ItemKind.TheVariants as kind
+use Rattle.wac_collection.specs.Tree.{Side, exported, Place, named, Leaf, Tree, absent, moved, taken_from}
+use Rattle.wac_collection.specs.Collection.{Collection, item_at, holds_type}
+use Rattle.wac_collection.specs.Held.{resolved, items_under}
+use Rattle.wac_collection.specs.Bound.{Bindings, own_name, inside_interface, binds_here, held_tree}
+
+-- the leaf changed, where there is one
+abbrev pub changed_leaf : (Leaf → Leaf) → Option Leaf → Option Leaf
+changed_leaf f o = option_case o None (λ l. Some (f l))
+
+-- bindings with their leaves changed
+abbrev pub changed : (Leaf → Leaf) → Bindings → Bindings
+changed f m r = changed_leaf f (m r)
+
+-- a held tree with its leaves changed is the held tree under the changed bindings
+abbrev pub MovesWithBindings : Type 0
+MovesWithBindings = (c : Collection) (f : Leaf → Leaf) (m : Bindings) (t : AnyType) → moved f (held_tree c m t) ≡ held_tree c (changed f m) t
+
+-- two changes of leaves in a row are one, and no change leaves the tree
+abbrev pub MovesTwice : Type 0
+MovesTwice = (t : Tree) (f g : Leaf → Leaf) → moved f (moved g t) ≡ moved (λ l. f (g l)) t
+
+abbrev pub MovesNothing : Type 0
+MovesNothing = (t : Tree) → moved (λ l. l) t ≡ t
+
+-- these bindings call an interface's own resources as an instance of it binds them, on this side under this path
+abbrev pub BindsInstance : Collection → Interface → Side → List Place → Bindings → Type 0
+BindsInstance c i side path m = (r : ResourceId) (n : Name) → own_name c i.uses i.exports r ≡ Some n → m r ≡ Some (record { out = 0; side = side; path = path ++ named n ∷ [] })
+
+-- what is taken from an instance is what is held around it
+abbrev pub TakenIsHeld : Type 0
+TakenIsHeld = (c : Collection) (i : Interface) (side : Side) (path : List Place) (m : Bindings) → BindsInstance c i side path m
+    → (t : AnyType) → taken_from side path (held_tree c (inside_interface c i m) t) ≡ held_tree c m t
+
+-- a resource that an interface has as its own is no alias: it is its own end
+abbrev pub OwnIsItsEnd : Type 0
+OwnIsItsEnd = (c : Collection) (i : Interface) (r : ResourceId) (n : Name) → own_name c i.uses i.exports r ≡ Some n → resolved c r ≡ r
+
+-- an interface's type item of a resource is fresh exactly under the own name of the resource at the end of the aliases
+abbrev pub FreshByOwnName : Type 0
+FreshByOwnName = (c : Collection) (i : Interface) (m : Bindings) (n : Name) (r : ResourceId)
+    → binds_here c (inside_interface c i m) exported (named n ∷ []) (kind.TypeItem (ty.Resource r)) ≡ option_case (own_name c i.uses i.exports (resolved c r)) false (λ q. same_name q n)
+
+-- the item under a name is that of the entry found there
+abbrev pub ItemsAreFound : Type 0
+ItemsAreFound = (g : Name × ItemKind → Tree) (es : List (Name × ItemKind)) (n : Name) → items_under (map (λ e. (e.0, g e)) es) n ≡ option_case (find_name es n) absent (λ k. g (n, k))
+
+-- what is found at a position is held
+pub record FoundIsHeld (c : Collection) : Type 0 where
+  pub resource : (i : ResourceId) (x : Resource) → item_at c.resources i.0 ≡ Some x → holds_type c (ty.Resource i) ≡ true
+  pub func : (i : FuncTypeId) (x : FuncType) → item_at c.funcs i.0 ≡ Some x → holds_type c (ty.Func i) ≡ true
+  pub defined : (i : DefinedTypeId) (x : DefinedType) → item_at c.defined i.0 ≡ Some x → holds_type c (ty.Value (val.Defined i)) ≡ true
+  pub interface : (i : InterfaceId) (x : Interface) → item_at c.interfaces i.0 ≡ Some x → holds_type c (ty.Interface i) ≡ true
+  pub world : (i : WorldId) (x : World) → item_at c.worlds i.0 ≡ Some x → holds_type c (ty.World i) ≡ true
+  pub module_type : (i : ModuleTypeId) (x : ModuleType) → item_at c.modules i.0 ≡ Some x → holds_type c (ty.Module i) ≡ true
+
+-- names that are the same are equal, and equal ones the same
+abbrev pub SameNamesAreEqual : Type 0
+SameNamesAreEqual = (a b : Name) → (same_name a b ≡ true → a ≡ b) × (a ≡ b → same_name a b ≡ true)
