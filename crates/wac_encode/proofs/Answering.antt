@@ -1,26 +1,23 @@
 -- What the writers answer.
-use Rattle.std.specs.Prelude.{ℕ, zero, suc, ◌+◌, ◌<◌, ◌^◌, ◌≡◌, true, false, nat_lt, List, [], ◌∷◌, ◌++◌, length, Option, Some, None, IsSome, slice_get, Result, Ok, Err, OnOk, OnErr}
+use Rattle.std.specs.Prelude.{ℕ, suc, ◌+◌, ◌<◌, ◌^◌, ◌≡◌, List, [], ◌∷◌, ◌++◌, Option, Some, None, slice_get, Ok, Err}
 use Rattle.std.specs.List.{AllZip}
-use Rattle.std.proofs.Common.{refl, ap, ◌∙◌, sym, subst, arith, take, add-one}
-use Rattle.std.proofs.Math.Seq.{take-length}
-use Rattle.wac_shapes.specs.declared.component.DefinedType.{DefinedType}
+use Rattle.std.proofs.Common.{refl, ap, ◌∙◌, sym, subst, take, add-one}
 use Rattle.wac_shapes.specs.declared.component.DefinedTypeId.{DefinedTypeId}
 use Rattle.wac_shapes.specs.declared.component.ValueType.{ValueType}
 use Rattle.wac_shapes.specs.declared.component.ValueType.TheVariants as val
-use Rattle.wac_collection.specs.Collection.{Collection, IsWellFormed, HasDefined, holds_value, item_at}
-use Rattle.wac_collection.specs.Aliases.{target_of, value_resolved}
+use Rattle.wac_collection.specs.Collection.{Collection}
+use Rattle.wac_collection.specs.Aliases.{value_resolved}
 use Rattle.wac_binary.specs.Items.{Decl, type_decl, value_def}
 use Rattle.wac_binary.specs.Fits.{DeclarationsFit}
 use Rattle.wac_scopes.specs.declared.scope.Scope.{Scope}
 use Rattle.wac_scopes.specs.declared.fault.EncodeFault.{EncodeFault}
 use Rattle.wac_scopes.specs.declared.fault.EncodeFault.TheVariants as fault
-use Rattle.wac_scopes.specs.declared.fault.WriteFault.TheVariants as write
-use Rattle.wac_scopes.specs.Scoped.{value_index, by_index, in_use, IsAsBefore}
+use Rattle.wac_scopes.specs.Scoped.{IsAsBefore}
 use Rattle.wac_scopes.specs.Laws.{StaysOnward}
 use Rattle.wac_encode.specs.declared.task.Task.{Task}
-use Rattle.wac_encode.specs.Made.{MadeOf, parts, itself, part}
-use Rattle.wac_encode.specs.Written.{IsKnown, IsHandle, WritesFor, DoesNotFit, IsRefused}
-use Rattle.wac_encode.specs.Tasks.{IsReady, IsNext, IsKnownPart, LargeOne, IsOneRefused, IsMissing, IsStepRefused, WritesOne, Did, wrote, passed, put_off, IsUnderWay}
+use Rattle.wac_encode.specs.Made.{MadeOf, itself, part}
+use Rattle.wac_encode.specs.Written.{IsHandle, IsRefused}
+use Rattle.wac_encode.specs.Tasks.{IsReady, IsNext, IsMissing, IsStepRefused, Did, passed, put_off, IsUnderWay}
 use Rattle.wac_encode.proofs.Saying.{zip-more}
 use Rattle.wac_encode.proofs.Stacks.{writes-none, says-same}
 use Rattle.wac_encode.proofs.Stepping.{all-last}

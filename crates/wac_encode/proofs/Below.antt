@@ -1,7 +1,7 @@
 -- The parts of a definition, and what they are aliases of, stand below it.
 use Rattle.std.specs.Prelude.{ℕ, zero, suc, ◌<◌, ◌≡◌, List, [], ◌∷◌, map, Option, Some, None, slice_get}
 use Rattle.std.specs.List.{AllByRecursion}
-use Rattle.std.proofs.Common.{refl, ap, ◌∙◌, sym, subst, arith}
+use Rattle.std.proofs.Common.{refl, ap, subst, arith}
 use Rattle.wac_shapes.specs.Name.{Name, option_case}
 use Rattle.wac_shapes.specs.declared.component.DefinedType.{DefinedType}
 use Rattle.wac_shapes.specs.declared.component.DefinedType.TheVariants as def
@@ -9,7 +9,7 @@ use Rattle.wac_shapes.specs.declared.component.DefinedTypeId.{DefinedTypeId}
 use Rattle.wac_shapes.specs.declared.component.ValueType.{ValueType}
 use Rattle.wac_shapes.specs.declared.component.ValueType.TheVariants as val
 use Rattle.wac_collection.specs.declared.collection.Held.{Held}
-use Rattle.wac_collection.specs.Collection.{Collection, IsWellFormed, IsPartBelow, and_maybe, case_values, seconds, defined_values, item_of, item_at, size}
+use Rattle.wac_collection.specs.Collection.{Collection, IsWellFormed, IsPartBelow, and_maybe, case_values, seconds, defined_values, item_of, size}
 use Rattle.wac_collection.specs.Aliases.{aliased, value_resolved, value_resolved_in}
 use Rattle.wac_encode.specs.declared.task.Task.{Task}
 use Rattle.wac_encode.specs.Made.{parts, some_of, second_of, some_second_of}

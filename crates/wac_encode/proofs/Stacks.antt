@@ -1,16 +1,15 @@
 -- Good stacks go on as definitions are written.
-use Rattle.std.specs.Prelude.{ℕ, suc, ◌+◌, ◌<◌, ◌≡◌, cond, nat_eq, Bool, true, false, List, [], ◌∷◌, ◌++◌, length, Option, Some, None, IsSome}
+use Rattle.std.specs.Prelude.{ℕ, suc, ◌+◌, ◌<◌, ◌≡◌, cond, nat_eq, Bool, true, false, List, [], ◌∷◌, ◌++◌, length, Option, Some, None}
 use Rattle.std.proofs.Common.{refl, ap, ◌∙◌, sym, subst, arith, length-append}
 use Rattle.std.proofs.Math.Path.{fun_ext}
 use Rattle.wac_shapes.specs.declared.component.DefinedType.{DefinedType}
 use Rattle.wac_shapes.specs.declared.component.DefinedTypeId.{DefinedTypeId}
 use Rattle.wac_shapes.specs.declared.component.ValueType.{ValueType}
 use Rattle.wac_shapes.specs.declared.component.ValueType.TheVariants as val
-use Rattle.wac_collection.specs.Bound.{Bindings}
 use Rattle.wac_collection.specs.Collection.{Collection, IsWellFormed, item_at}
 use Rattle.wac_binary.specs.Items.{ValueDef, Decl, type_decl, value_def}
 use Rattle.wac_scopes.specs.declared.scope.Scope.{Scope}
-use Rattle.wac_scopes.specs.Scopes.{declarations, Open, Stack, env, envs}
+use Rattle.wac_scopes.specs.Scopes.{declarations, Open, env, envs}
 use Rattle.wac_scopes.specs.Good.{Good, Onward}
 use Rattle.wac_scopes.specs.Parts.{IsWritten}
 use Rattle.wac_scopes.specs.Scoped.{value_index, at_index, recorded_value, opened, IsAsBefore, HasToo, AddsValue}

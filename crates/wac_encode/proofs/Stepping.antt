@@ -1,23 +1,21 @@
 -- Each step leaves the tasks in order, and less to do.
-use Rattle.std.specs.Prelude.{ℕ, zero, suc, ◌+◌, ◌-◌, ◌*◌, ◌<◌, ◌^◌, ◌≡◌, cond, nat_eq, Bool, true, false, List, [], ◌∷◌, ◌++◌, length, Option, Some, None, IsSome, slice_get, Result, Ok, Err}
+use Rattle.std.specs.Prelude.{ℕ, suc, ◌+◌, ◌-◌, ◌*◌, ◌<◌, ◌≡◌, cond, nat_eq, Bool, true, false, List, [], ◌∷◌, ◌++◌, length, Option, Some, None, IsSome, slice_get}
 use Rattle.std.specs.List.{AllByRecursion}
 use Rattle.std.proofs.Common.{refl, ap, ◌∙◌, sym, subst, arith}
 use Rattle.wac_shapes.specs.declared.component.DefinedType.{DefinedType}
 use Rattle.wac_shapes.specs.declared.component.DefinedTypeId.{DefinedTypeId}
 use Rattle.wac_shapes.specs.declared.component.ValueType.{ValueType}
 use Rattle.wac_shapes.specs.declared.component.ValueType.TheVariants as val
-use Rattle.wac_collection.specs.Collection.{Collection, IsWellFormed, HasDefined, item_at}
-use Rattle.wac_collection.specs.Aliases.{target_of, value_resolved}
+use Rattle.wac_collection.specs.Collection.{Collection, IsWellFormed, item_at}
+use Rattle.wac_collection.specs.Aliases.{value_resolved}
 use Rattle.wac_scopes.specs.declared.scope.Scope.{Scope}
-use Rattle.wac_scopes.specs.declared.fault.EncodeFault.{EncodeFault}
-use Rattle.wac_scopes.specs.declared.fault.EncodeFault.TheVariants as fault
-use Rattle.wac_scopes.specs.Scoped.{value_index, by_index, in_use, IsAsBefore}
-use Rattle.wac_scopes.specs.Laws.{Follows, StaysOnward}
+use Rattle.wac_scopes.specs.Scoped.{value_index, by_index, in_use}
+use Rattle.wac_scopes.specs.Laws.{Follows}
 use Rattle.wac_encode.specs.declared.task.Task.{Task}
-use Rattle.wac_encode.specs.Made.{MadeOf, parts, itself, part}
-use Rattle.wac_encode.specs.Written.{IsKnown, WritesFor, unwritten, IsRefused}
-use Rattle.wac_encode.specs.Tasks.{IsReady, IsNext, IsKnownPart, WritesOne, Did, wrote, passed, put_off, Falls, Covers, IsUnderWay, IsStepRefused}
-use Rattle.wac_encode.proofs.Stacks.{recorded-now, writes-more, writes-none, writes-no-more, says-same}
+use Rattle.wac_encode.specs.Made.{MadeOf, parts, part}
+use Rattle.wac_encode.specs.Written.{IsKnown, unwritten}
+use Rattle.wac_encode.specs.Tasks.{IsReady, IsNext, IsKnownPart, WritesOne, Did, wrote, passed, put_off, Falls, Covers, IsUnderWay}
+use Rattle.wac_encode.proofs.Stacks.{recorded-now, writes-more}
 use Rattle.wac_encode.proofs.Counting.{unwritten-less}
 use Rattle.wac_encode.proofs.Below.{next-below}
 

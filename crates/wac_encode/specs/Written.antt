@@ -1,10 +1,7 @@
 -- What the writers of value types do to an open scope.
 use Rattle.std.specs.Prelude.{ℕ, zero, suc, ◌+◌, ◌≡◌, List, [], ◌∷◌, ◌++◌, length, Option, Some, None, IsSome, Result, Ok, Err}
-use Rattle.std.specs.Borrow.{Bor}
-use Rattle.wac_shapes.specs.Name.{Name}
 use Rattle.wac_shapes.specs.declared.component.DefinedType.{DefinedType}
 use Rattle.wac_shapes.specs.declared.component.DefinedTypeId.{DefinedTypeId}
-use Rattle.wac_shapes.specs.declared.component.ResourceId.{ResourceId}
 use Rattle.wac_shapes.specs.declared.component.ValueType.{ValueType}
 use Rattle.wac_shapes.specs.declared.component.ValueType.TheVariants as val
 use Rattle.wac_shapes.specs.declared.component.«Type».TheVariants as ty
@@ -17,13 +14,12 @@ use Rattle.wac_binary.specs.Items.{ValueDef, type_decl, value_def}
 use Rattle.wac_scopes.specs.declared.scope.Scope.{Scope}
 use Rattle.wac_scopes.specs.declared.fault.EncodeFault.{EncodeFault}
 use Rattle.wac_scopes.specs.declared.fault.EncodeFault.TheVariants as fault
-use Rattle.wac_scopes.specs.declared.fault.WriteFault.{WriteFault}
 use Rattle.wac_scopes.specs.declared.fault.WriteFault.TheVariants as write
 use Rattle.wac_scopes.specs.Scopes.{Open, Stack, env, envs}
 use Rattle.wac_scopes.specs.Good.{Good, Onward}
-use Rattle.wac_scopes.specs.Parts.{Is, MaybeIs, IsWritten}
-use Rattle.wac_scopes.specs.Scoped.{value_index, in_use, opened, HasToo}
-use Rattle.wac_encode.specs.Made.{MadeOf, parts}
+use Rattle.wac_scopes.specs.Parts.{Is, IsWritten}
+use Rattle.wac_scopes.specs.Scoped.{value_index, in_use, opened}
+use Rattle.wac_encode.specs.Made.{MadeOf}
 
 -- the value type in use is the held one, in each good stack in which the scope is the innermost
 abbrev pub Says : Collection → Scope → ValueType → ComponentValType → Type 0
