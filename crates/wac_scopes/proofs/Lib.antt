@@ -16,3 +16,4 @@ pub mod SampleWorld
 pub mod ScopedLaws
 pub mod Besides
 pub mod HeldValues
+pub mod Aliases

@@ -35,6 +35,13 @@ recorded-too old new d k too = fun_ext by_value
     by_value (val.Own r) = refl
     by_value (val.Borrow r) = refl
 
+-- one more definition after room was made for it
+pub recorded-more : (old roomy new : Scope) (d : DefinedTypeId) (k : ℕ) → ((j : DefinedTypeId) → value_index roomy j ≡ value_index old j) → ((j : DefinedTypeId) → value_index new j ≡ cond (nat_eq d.0 j.0) (Some k) (value_index roomy j)) → (j : DefinedTypeId) → value_index new j ≡ cond (nat_eq d.0 j.0) (Some k) (value_index old j)
+recorded-more old roomy new d k same too j = too j ∙ ap (cond (nat_eq d.0 j.0) (Some k)) (same j)
+
+abbrev pub appended-more : List Decl → Decl → List Decl
+appended-more ds d = ds ++ d ∷ []
+
 pub adds-value : (old new : Scope) (d : DefinedTypeId) (y : ValueDef) (k : ℕ) → DefinesValue → k ≡ declared (space s.Type) old.declarations → new.declarations ≡ old.declarations ++ type_decl (value_def y) ∷ [] → ((j : DefinedTypeId) → value_index new j ≡ cond (nat_eq d.0 j.0) (Some k) (value_index old j)) → AddsValue old new d y k
 adds-value old new d y k law index appended too c wf m ms o os x g at w =
     let r = law c wf m ms (opened old o) os d x y g at w in

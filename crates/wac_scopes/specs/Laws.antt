@@ -14,6 +14,7 @@ use Rattle.wac_shapes.specs.declared.component.«Type».TheVariants as ty
 use Rattle.wac_collection.specs.Tree.{Leaf, Tree, resource, primitive, own, borrow, out_by, seen_from}
 use Rattle.wac_collection.specs.Collection.{Collection, IsWellFormed, item_at}
 use Rattle.wac_collection.specs.Held.{resolved}
+use Rattle.wac_collection.specs.Aliases.{value_resolved}
 use Rattle.wac_collection.specs.Bound.{Bindings, held_tree}
 use Rattle.wac_binary.specs.declared.sorts.Sort.TheVariants as s
 use Rattle.wac_binary.specs.declared.types.ComponentValType.{ComponentValType}
@@ -104,3 +105,11 @@ IsRecorded = (c : Collection) (m : Bindings) (ms : List Bindings) (o : Open) (os
 -- what is held is the held tree
 abbrev pub IsItsTree : Type 0
 IsItsTree = (c : Collection) (m : Bindings) (a : AnyType) (t : Tree) → IsHeld c m a t → held_tree c m a ≡ t
+
+-- what the value type at the end of the aliases is, each of the aliases is
+abbrev pub IsItsEnd : Type 0
+IsItsEnd = (c : Collection) → IsWellFormed c → (m : Bindings) (v : ValueType) (t : Tree) → IsHeld c m (ty.Value (value_resolved c v)) t → IsHeld c m (ty.Value v) t
+
+-- a stack that stays goes onward
+abbrev pub StaysOnward : Type 0
+StaysOnward = (c : Collection) (ms : List Bindings) (st : Stack) → Good c ms st → Onward c ms st st

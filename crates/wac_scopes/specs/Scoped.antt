@@ -12,6 +12,7 @@ use Rattle.wac_collection.specs.Tree.{Tree}
 use Rattle.wac_collection.specs.Collection.{Collection, IsWellFormed, item_at}
 use Rattle.wac_collection.specs.Bound.{Bindings}
 use Rattle.wac_binary.specs.declared.types.ComponentValType.{ComponentValType}
+use Rattle.wac_binary.specs.declared.types.ComponentValType.TheVariants.{Primitive, Index}
 use Rattle.wac_binary.specs.Items.{ValueDef, TypeDef}
 use Rattle.wac_binary.specs.HasMeaning.{IsValue, IsFunction}
 use Rattle.wac_scopes.specs.declared.fault.EncodeFault.{EncodeFault}
@@ -34,6 +35,16 @@ abbrev pub recorded_value : Scope → ValueType → Option Where
 recorded_value s (val.Defined d) = at_index (value_index s d)
 recorded_value s v = None
 
+-- the value type in use that says a held one
+abbrev pub by_index : Option ℕ → Option ComponentValType
+by_index None = None
+by_index (Some i) = Some (Index i)
+
+abbrev pub in_use : Scope → ValueType → Option ComponentValType
+in_use s (val.Primitive p) = Some (Primitive p)
+in_use s (val.Defined d) = by_index (value_index s d)
+in_use s v = None
+
 -- the open scope that is so written; resources and names are recorded as in o
 abbrev pub opened : Scope → Open → Open
 opened s o = record o { content = declarations s.declarations; memo = recorded_value s }
@@ -50,6 +61,11 @@ IsThere s v x = (c : Collection) (m : Bindings) (ms : List Bindings) (o : Open) 
 -- with one more definition at an index
 pub record HasToo (old : Scope) (d : DefinedTypeId) (i : ℕ) (new : Scope) : Type 0 where
   pub values : (k : DefinedTypeId) → value_index new k ≡ cond (nat_eq d.0 k.0) (Some i) (value_index old k)
+
+-- the same is declared, and the same recorded
+pub record IsAsBefore (old new : Scope) : Type 0 where
+  pub declarations : new.declarations ≡ old.declarations
+  pub values : (k : DefinedTypeId) → value_index new k ≡ value_index old k
 
 -- where the definition that is written says the held one, index k is the held value type, and each good stack goes onward
 abbrev pub AddsValue : Scope → Scope → DefinedTypeId → ValueDef → ℕ → Type 0
@@ -69,3 +85,10 @@ WritesUnlessTooLarge (Ok x) fits = fits
 WritesUnlessTooLarge (Err fault.TooLarge) fits = fits → ⊥
 WritesUnlessTooLarge (Err fault.OutOfMemory) fits = fits
 WritesUnlessTooLarge (Err (fault.Write e)) fits = ⊥
+
+-- the same, but that memory may be refused before it is known whether all fits
+abbrev pub FitsUnlessTooLarge : {A : Type 0} → Result A EncodeFault → Type 0 → Type 0
+FitsUnlessTooLarge (Ok x) fits = fits
+FitsUnlessTooLarge (Err fault.TooLarge) fits = fits → ⊥
+FitsUnlessTooLarge (Err fault.OutOfMemory) fits = Unit {0}
+FitsUnlessTooLarge (Err (fault.Write e)) fits = ⊥

@@ -1,6 +1,6 @@
 //! What each step of a type encoder keeps and gives, for proofs about one. Each call does nothing else.
 
-ghost use Rattle.wac_scopes.specs.Laws.{DefinesValue, DefinesFunc, DefinesPrimitive, DefinesHandles, Reaches, BringsResource, BringsType, SettlesResource, SettlesValue, GoesOnAround, Follows, StaysIs, IsRecorded, IsItsTree};
+ghost use Rattle.wac_scopes.specs.Laws.{DefinesValue, DefinesFunc, DefinesPrimitive, DefinesHandles, Reaches, BringsResource, BringsType, SettlesResource, SettlesValue, GoesOnAround, Follows, StaysIs, IsRecorded, IsItsTree, IsItsEnd, StaysOnward};
 ghost use Rattle.wac_scopes.specs.Listed.{ListsEqual, ListsFresh, ListsFunc, ListsComponent, ListsModule, ListsInstance, ListsOneMore, ListsInAnyOrder, OpensInterface, ClosesInstance, HoldsInterface, OpensWorld, TurnsToExports, ClosesComponent, HoldsWorld, FreshInInterface, CallsOwn};
 ghost use Rattle.wac_scopes.specs.Instances.{BindsOwn, HasExported, HeldFurtherIn, CalledInside, HoldsValue, NamesType, ImportsInstance, ImportsType, ImportsFresh};
 ghost use Rattle.wac_scopes.specs.Inside.{ByStep, ByItem, ByBoth, KeepsIs, SettlesThere, HasIndexHere, HasIndexAround, StartsRoot, RootGoesOn, RootBindsMore};
@@ -118,4 +118,14 @@ pub fn module_law()
 /// Types of two collections in the same scopes.
 pub fn beside_law()
     ensures goes_on_beside { GoesOnBeside }
+{}
+
+/// Aliases of value types.
+pub fn alias_law()
+    ensures { IsItsEnd }
+{}
+
+/// A stack to which nothing is done.
+pub fn still_law()
+    ensures { StaysOnward }
 {}

@@ -7,6 +7,7 @@ pub mod scope;
 
 pub use fault::{EncodeFault, WriteFault};
 pub use laws::{
-    beside_law, closing_law, inside_law, instance_law, listing_law, module_law, root_law, step_law,
+    alias_law, beside_law, closing_law, inside_law, instance_law, listing_law, module_law,
+    root_law, step_law, still_law,
 };
 pub use scope::Scope;

@@ -1,10 +1,11 @@
 //! An instance type that is open, and the value types that are written there.
 
-ghost use Rattle.std.specs.Prelude.{◌≡◌, ◌++◌, ◌∷◌, [], ℕ, List, IfOk, OnOk, OnErr, Some, None};
-ghost use Rattle.wac_binary.specs.Items.{Decl, type_decl, value_def};
+ghost use Rattle.std.specs.Prelude.{◌≡◌, ◌<◌, ◌++◌, ◌∷◌, [], IfOk, OnOk, OnErr, None};
+ghost use Rattle.std.specs.HashMap.{spare};
+ghost use Rattle.wac_binary.specs.Items.{type_decl, value_def};
 ghost use Rattle.wac_binary.specs.Fits.{DeclarationsFit};
 ghost use Rattle.wac_binary.specs.Views.{defined_of, func_of};
-ghost use Rattle.wac_scopes.specs.Scoped.{IfThere, IsThere, AddsValue, AddsFunc, HasToo, value_index, WritesUnlessTooLarge};
+ghost use Rattle.wac_scopes.specs.Scoped.{IfThere, IsThere, AddsValue, AddsFunc, HasToo, IsAsBefore, value_index, in_use, WritesUnlessTooLarge, FitsUnlessTooLarge};
 
 use crate::fault::EncodeFault;
 use crate::laws::step_law;
@@ -43,8 +44,11 @@ impl Scope {
         }
     }
 
-    /// The value type in use that says this held one, where it is primitive or is written here.
+    /// The value type in use that says this held one: a primitive itself, a definition by the type index at which it is written.
+    ///
+    /// None exactly for a definition that is not written here, and for a handle.
     pub fn value(&self, value: ValueType) -> Option<ComponentValType>
+        ensures is { result ≡ in_use self.now value }
         ensures stands { IfThere result (λ x. IsThere self.now value x) }
     {
         step_law();
@@ -60,31 +64,43 @@ impl Scope {
 
     /// Writes this definition of a held value type, and records it. Answers its type index.
     ///
-    /// Answers `TooLarge` exactly where the declarations do not fit, and `OutOfMemory` where memory was refused; then the definition
-    /// may stand without being recorded.
+    /// Answers `TooLarge` where the declarations do not fit, and `OutOfMemory` where memory was refused, be it before it is known
+    /// whether they fit. Then nothing is written or recorded.
     pub fn define(
         &mut self,
         id: DefinedTypeId,
         definition: &DefinedType<'_>,
     ) -> Result<u32, EncodeFault>
         ensures stands { IfOk result (λ k. AddsValue self.old self.new id (defined_of definition.now) k) }
-        ensures refused { OnErr result ((more : List Decl) × (self.new.declarations ≡ self.old.declarations ++ more)) }
-        ensures too_large { WritesUnlessTooLarge result (DeclarationsFit (self.old.declarations ++ type_decl (value_def (defined_of definition.now)) ∷ [])) }
+        ensures recorded { IfOk result (λ k. HasToo self.old id k self.new) }
+        ensures appended { OnOk result (self.new.declarations ≡ self.old.declarations ++ type_decl (value_def (defined_of definition.now)) ∷ []) }
+        ensures refused { OnErr result (IsAsBefore self.old self.new) }
+        ensures too_large { FitsUnlessTooLarge result (DeclarationsFit (self.old.declarations ++ type_decl (value_def (defined_of definition.now)) ∷ [])) }
     {
         step_law();
+        self.make_room()?;
         let index = self.declarations.defined_type(definition)?;
-        self.record_value(id, index)?;
+        self.record_value(id, index);
         Ok(index)
     }
 
-    /// Records that a definition is written at a type index.
-    fn record_value(&mut self, id: DefinedTypeId, index: u32) -> Result<(), AllocError>
-        ensures recorded { OnOk result (HasToo self.old id index self.new) }
+    /// Makes room to record one more definition.
+    fn make_room(&mut self) -> Result<(), AllocError>
+        ensures same { IsAsBefore self.old self.new }
+        ensures room { OnOk result (0 < spare self.new.values) }
+    {
+        self.values.reserve(1)
+    }
+
+    /// Records that a definition is written at a type index. There is room for it.
+    fn record_value(&mut self, id: DefinedTypeId, index: u32)
+        requires { 0 < spare self.old.values }
+        ensures recorded { HasToo self.old id index self.new }
         ensures kept { self.new.declarations ≡ self.old.declarations }
     {
         match self.values.insert(id, index) {
-            Ok(_) => Ok(()),
-            Err(_) => Err(AllocError),
+            Ok(_) => {}
+            Err(_) => unreachable!(),
         }
     }
 

@@ -1,0 +1,6 @@
+pub mod Saying
+pub mod Stacks
+pub mod Counting
+pub mod Below
+pub mod Stepping
+pub mod Answering

@@ -1,0 +1,9 @@
+use Rattle.std.proofs.lemmas.Result.{err_from_is_err_and}
+use Rattle.wac_binary.specs.declared.types.ComponentValType.{ComponentValType}
+use Rattle.wac_encode.proofs.Answering.{value-refused}
+use Rattle.wac_encode.proofs.encoder.TypeEncoder.value_type.Goals as goal
+
+pub returns-in_err-missing-clause-fault : goal.returns-in_err-missing-clause-fault
+returns-in_err-missing-clause-fault c =
+    let p = err_from_is_err_and c.from_residual.result c.from_residual.ensures.1 in
+    rw (p.1, p.2) (value-refused ComponentValType c.args.self.now.types.now c.args.scope.now c.args.value c.in_err-missing.field-0.0 c.in_err-missing.ensures)

@@ -1,0 +1,39 @@
+-- What value types are made of.
+use Rattle.std.specs.Prelude.{ℕ, ◌≡◌, List, [], ◌∷◌, map, Option, Some, slice_get}
+use Rattle.wac_shapes.specs.Name.{Name}
+use Rattle.wac_shapes.specs.declared.component.DefinedType.{DefinedType}
+use Rattle.wac_shapes.specs.declared.component.DefinedType.TheVariants as def
+use Rattle.wac_shapes.specs.declared.component.DefinedTypeId.{DefinedTypeId}
+use Rattle.wac_shapes.specs.declared.component.ValueType.{ValueType}
+use Rattle.wac_shapes.specs.declared.component.ValueType.TheVariants as val
+use Rattle.wac_collection.specs.Collection.{Collection, item_at}
+use Rattle.wac_collection.specs.Aliases.{value_resolved}
+
+abbrev pub some_of : ValueType → Option ValueType
+some_of v = Some v
+
+abbrev pub second_of : Name × Option ValueType → Option ValueType
+second_of e = e.1
+
+abbrev pub some_second_of : Name × ValueType → Option ValueType
+some_second_of e = Some e.1
+
+-- the parts of a definition, in order; one that may be missing is none where it is
+abbrev pub parts : DefinedType → List (Option ValueType)
+parts (def.Tuple vs) = map some_of vs
+parts (def.List v) = Some v ∷ []
+parts (def.FixedSizeList v n) = Some v ∷ []
+parts (def.Option v) = Some v ∷ []
+parts (def.Result ok err) = ok ∷ err ∷ []
+parts (def.Variant v) = map second_of v.cases
+parts (def.Record r) = map some_second_of r.fields
+parts (def.Flags names) = []
+parts (def.Enum names) = []
+parts (def.Alias v) = Some v ∷ []
+parts (def.Stream v) = v ∷ []
+parts (def.Future v) = v ∷ []
+
+-- v itself, and the ends of the parts of the definitions that it is made of
+pub data MadeOf (c : Collection) (v : ValueType) : ValueType → Type 0 where
+  itself : MadeOf c v v
+  part : (d : DefinedTypeId) (x : DefinedType) (k : ℕ) (w : ValueType) → MadeOf c v (val.Defined d) → item_at c.defined d.0 ≡ Some x → slice_get (parts x) k ≡ Some (Some w) → MadeOf c v (value_resolved c w)

@@ -1,0 +1,8 @@
+//! Types of a collection, written into open scopes.
+#![tactic(auto)]
+
+mod encoder;
+mod parts;
+mod task;
+
+pub use encoder::TypeEncoder;
