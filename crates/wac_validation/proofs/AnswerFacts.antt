@@ -1,5 +1,5 @@
 -- Outer names have one answer.
-use Rattle.std.proofs.Common.{◌≡◌, ℕ, ◌<◌, List, length, refl, sym, ap, ◌∙◌, subst, arith, ◌⊎◌, inl, inr}
+use Rattle.std.proofs.Common.{◌≡◌, ◌<◌, List, sym, ap, ◌∙◌, subst, inl, inr}
 use Rattle.std.proofs.lemmas.Bool.{cases_order}
 use Rattle.wac_names.specs.Clash.{Clash}
 use Rattle.wac_validation.specs.FirstFault.{Fault, bad_name, clash, not_exportable, IsExportFault, IsFirstClash, IsFirstFault, IsFirstWithout, IsNameFault, HasOneAnswer, of_imports, of_exports, of_exporting}

@@ -1,5 +1,5 @@
 -- Clashing names share their key, and of three names that share one two clash.
-use Rattle.std.proofs.Common.{◌≡◌, ℕ, List, ◌∷◌, Option, Some, None, slice_index_or, refl, sym, ap, ◌∙◌, subst, arith, ◌⊎◌, inl, inr}
+use Rattle.std.proofs.Common.{◌≡◌, ℕ, ◌∷◌, Option, Some, None, slice_index_or, refl, sym, ap, ◌∙◌, subst, arith, ◌⊎◌, inl, inr}
 use Rattle.wac_names.specs.Clash.{BothPlain, Clash, IsItsConstructor, KindsClash, lowered, plain}
 use Rattle.wac_names.specs.Grammar.{HasKind}
 use Rattle.wac_names.specs.Kind.{Kind, constructor, joined, label}

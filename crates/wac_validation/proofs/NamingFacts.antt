@@ -1,5 +1,5 @@
 -- What reading names, and looking for one that can't be exported, comes to.
-use Rattle.std.proofs.Common.{◌≡◌, ℕ, ◌+◌, ◌<◌, List, [], ◌∷◌, ◌++◌, length, take, slice_index_or, Option, Some, None, MatchOption, Result, Ok, Err, MatchResult, refl, sym, ap, ◌∙◌, subst, arith, ◌⊎◌, inl, inr, below_more}
+use Rattle.std.proofs.Common.{◌≡◌, ℕ, ◌+◌, ◌<◌, List, [], ◌∷◌, ◌++◌, length, take, slice_index_or, Option, Some, None, MatchOption, Result, Ok, Err, MatchResult, sym, ap, ◌∙◌, subst, ◌⊎◌, inl, inr, below_more}
 use Rattle.std.proofs.lemmas.List.{map-append, map_more}
 use Rattle.std.specs.Borrow.{Bor}
 use Rattle.wac_names.specs.Faults.{HasFault}

@@ -1,12 +1,11 @@
 -- Worked examples: names that may stand together, and the first fault of others.
-use Rattle.std.proofs.Common.{◌≡◌, ℕ, zero, suc, ◌<◌, List, [], ◌∷◌, codes, length, slice_index_or, Option, Some, None, refl, ap, ◌∙◌, subst, arith, ◌⊎◌, inl, inr, lit<}
-use Rattle.wac_names.specs.Clash.{Clash, IsItsConstructor, KindsClash, plain}
+use Rattle.std.proofs.Common.{◌≡◌, zero, suc, List, [], ◌∷◌, codes, slice_index_or, None, refl, ap, subst, arith, inl, inr, lit<}
+use Rattle.wac_names.specs.Clash.{Clash, KindsClash, plain}
 use Rattle.wac_names.specs.Grammar.{HasKind, IsKind}
 use Rattle.wac_names.specs.Kind.{Kind, constructor, joined, label, url, IsExportable}
-use Rattle.wac_names.specs.Label.{IsLabel}
 use Rattle.wac_names.specs.Text.{has}
-use Rattle.wac_validation.specs.FirstFault.{Fault, bad_name, clash, not_exportable, IsFirstClash, IsFirstFault, IsFirstWithout, IsNameFault, of_imports, of_exporting}
-use Rattle.wac_validation.specs.Valid.{Text, at, IsName, IsExportName, Each, AreApartTo, AreNames, AreValid}
+use Rattle.wac_validation.specs.FirstFault.{Fault, clash, not_exportable, IsFirstFault, IsNameFault, of_imports, of_exporting}
+use Rattle.wac_validation.specs.Valid.{Text, IsName, IsExportName, Each, AreApartTo, AreNames, AreValid}
 use Rattle.wac_validation.proofs.AnswerFacts.{has_one_answer}
 use Rattle.wac_validation.proofs.KeyFacts.{AreDecided}
 

@@ -1,6 +1,6 @@
 -- Which fault of the outer names of a component comes first: imports before exports; of each, a name outside the
 -- grammar before two that clash before one that can't be exported; and of one kind in written order.
-use Rattle.std.specs.Prelude.{◌≡◌, ℕ, ◌<◌, List, length, string_bytes, ◌⊎◌}
+use Rattle.std.specs.Prelude.{◌≡◌, ℕ, ◌<◌, List, length, string_bytes}
 use Rattle.wac_names.specs.Clash.{Clash}
 use Rattle.wac_validation.specs.Valid.{Text, at, IsName, IsExportName, Each, AreApartTo, AreNames, AreValid}
 use Rattle.wac_validation.specs.declared.fault.ValidationError.{ValidationError}

@@ -1,6 +1,6 @@
 -- The key of a name: clashing names share it, and of three names that share it two clash.
 -- A byte is its number: 46 is `.`, 61 `=`.
-use Rattle.std.specs.Prelude.{◌≡◌, ℕ, List, ◌∷◌, Option, Some, None}
+use Rattle.std.specs.Prelude.{◌≡◌, ◌∷◌, Option, Some, None}
 use Rattle.wac_names.specs.Clash.{lowered, plain}
 use Rattle.wac_names.specs.Grammar.{HasKind}
 use Rattle.wac_names.specs.Kind.{Kind}

@@ -1,5 +1,5 @@
 -- What is kept of the names before decides of each whether it clashes.
-use Rattle.std.proofs.Common.{◌≡◌, ℕ, ◌<◌, length, Option, sym, subst, arith, string_bytes}
+use Rattle.std.proofs.Common.{ℕ, ◌<◌, Option, sym, subst, arith, string_bytes}
 use Rattle.wac_names.specs.Clash.{Clash}
 use Rattle.wac_names.specs.NameView.{text_of}
 use Rattle.wac_validation.specs.Earlier.{alike_at, AreOrdered, HasPosition}

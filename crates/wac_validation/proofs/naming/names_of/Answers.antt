@@ -1,5 +1,5 @@
 -- The names read so far are the texts, and the first text that is none is a fault.
-use Rattle.std.proofs.Common.{◌≡◌, ℕ, ◌<◌, length, arith, ap, ◌∙◌}
+use Rattle.std.proofs.Common.{arith, ap, ◌∙◌}
 use Rattle.std.proofs.lemmas.List.{take_all}
 use Rattle.wac_validation.specs.Views.{name_texts, texts}
 use Rattle.wac_validation.proofs.NamingFacts.{named-all, named-more, names-more, unnamed-first}

@@ -1,7 +1,5 @@
 -- The texts of the fault are those at the positions.
-use Rattle.std.proofs.Common.{string_bytes, ◌∙◌, sym}
-use Rattle.wac_validation.specs.Valid.{at}
-use Rattle.wac_validation.specs.Views.{name_texts}
+use Rattle.std.proofs.Common.{◌∙◌, sym}
 use Rattle.wac_validation.proofs.NamingFacts.{clash_same}
 use Rattle.wac_validation.proofs.ViewFacts.{at-names}
 use Rattle.wac_validation.proofs.outer.clash_of.Goals as goal
