@@ -6,8 +6,8 @@ pub returns : goal.returns
 returns c =
     let means = c.in_ok-encode.ensures.means in (
       means.0,
-      c.new.result,
+      c.new-graph.result,
       means.1,
-      subst (λ o. Means means.0 c.new.result o) c.default.ensures means.2,
-      c.new.ensures,
+      subst (λ o. Means means.0 c.new-graph.result o) c.default.ensures means.2,
+      c.new-graph.ensures,
     )
