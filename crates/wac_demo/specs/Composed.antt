@@ -9,7 +9,7 @@ use Rattle.wac_binary.specs.Items.{Item}
 use Rattle.wac_binary.specs.Bytes.{preamble, bytes_of}
 use Rattle.wac_nodes.specs.declared.node.NodeId.{NodeId}
 use Rattle.wac_nodes.specs.declared.packages.PackageId.{PackageId}
-use Rattle.wac_nodes.specs.Graph.{Graph, node_at, package_at}
+use Rattle.wac_nodes.specs.Graph.{Graph, node_at, package_at, export_at}
 use Rattle.wac_nodes.specs.Options.{default_options}
 use Rattle.wac_meaning.specs.Means.{Means}
 use Rattle.wac_nodes.specs.Steps.{IsEmpty, instance_node}
@@ -33,6 +33,18 @@ GivesExport g first exported second imported =
 abbrev pub IsReadme : Graph → Type 0
 IsReadme g = GivesExport g (codes "my:package1") (codes "a") (codes "my:package2") (codes "b")
 
+-- a package is plugged into another: the export of an instance of the plug is the argument for the import of its name of an instance
+-- of the socket, and the socket's export is exported by its name
+abbrev pub IsPluggedInto : Graph → Name → Name → Name → Name → Type 0
+IsPluggedInto g plug given_name socket passed_name =
+    (giver : NodeId) × (given : NodeId) × (taker : NodeId) × (passed : NodeId)
+    × IsInstanceOf g plug giver × IsAliasBy g giver given_name given × IsInstanceOf g socket taker × IsArgumentBy g taker given_name given
+    × IsAliasBy g taker passed_name passed × (export_at g passed_name ≡ Some passed)
+
+-- the two packages of the composition `plug`: the plug's `a` is the socket's `a`, and the socket's `run` is exported
+abbrev pub IsPlugged : Graph → Type 0
+IsPlugged g = IsPluggedInto g (codes "my:plug") (codes "a") (codes "my:socket") (codes "run")
+
 -- the package under the id is a component without items, of this name and no version, with these imports and exports
 abbrev pub IsEmptyPackage : Graph → PackageId → Name → List (Name × ItemKind) → List (Name × ItemKind) → Type 0
 IsEmptyPackage g id name imports exports =
@@ -50,12 +62,15 @@ empty_word = codes "empty"
 abbrev pub readme_word : List ℕ
 readme_word = codes "readme"
 
+abbrev pub plug_word : List ℕ
+plug_word = codes "plug"
+
 abbrev pub IsWord : List ℕ → Type 0
-IsWord word = (word ≡ empty_word) ⊎ (word ≡ readme_word)
+IsWord word = (word ≡ empty_word) ⊎ ((word ≡ readme_word) ⊎ (word ≡ plug_word))
 
 -- the graph is the one of the word's composition
 abbrev pub IsOfWord : List ℕ → Graph → Type 0
-IsOfWord word graph = (word ≡ empty_word → IsEmpty graph) × (word ≡ readme_word → IsReadme graph)
+IsOfWord word graph = (word ≡ empty_word → IsEmpty graph) × (word ≡ readme_word → IsReadme graph) × (word ≡ plug_word → IsPlugged graph)
 
 -- the bytes are those of the word's composition
 abbrev pub IsComposed : List ℕ → List ℕ → Type 0

@@ -4,13 +4,13 @@ ghost use Rattle.std.specs.Prelude.{◌≡◌, IfOk, IsSome};
 ghost use Rattle.wac_shapes.specs.Named.{named_pairs};
 ghost use Rattle.wac_nodes.specs.Graph.{package_at};
 ghost use Rattle.wac_nodes.specs.Steps.{IsEmpty};
-ghost use Rattle.wac_demo.specs.Composed.{Compose, IsReadme, IsPlainFunction, IsEmptyPackage};
+ghost use Rattle.wac_demo.specs.Composed.{Compose, IsReadme, IsPlugged, IsPlainFunction, IsEmptyPackage};
 ghost use Rattle.wac_nodes.specs.Stays.{Stays};
 
 use anyhow::Result;
 use std::alloc::Global;
 use wac_graph::types::{FuncType, ItemKind, World};
-use wac_graph::{CompositionGraph, EncodeOptions, PackageId};
+use wac_graph::{CompositionGraph, EncodeOptions, PackageId, plug};
 
 /// A component with nothing in it: no section, so the eight bytes of the preamble alone.
 pub const EMPTY_COMPONENT: [u8; 8] = [0x00, 0x61, 0x73, 0x6d, 0x0d, 0x00, 0x01, 0x00];
@@ -35,6 +35,28 @@ pub fn readme(alloc: Global) -> Result<Vec<u8>>
     let second = register(alloc, &mut graph, "my:package2", &[("b", function)], &[])?;
     let taker = graph.instantiate(second)?;
     graph.set_instantiation_argument(taker, "b", a)?;
+    Ok(graph.encode(EncodeOptions::default())?)
+}
+
+/// A package plugged into another: the function `a` that the plug exports is given to the socket as `a`, and the socket's
+/// function `run` is exported.
+pub fn plugged(alloc: Global) -> Result<Vec<u8>>
+    ensures { IfOk result (λ bytes. Compose bytes.items IsPlugged) }
+{
+    let mut graph = CompositionGraph::new(alloc);
+    let function = function(alloc, &mut graph)?;
+    let giver = register(alloc, &mut graph, "my:plug", &[], &[("a", function)])?;
+    let socket = register(
+        alloc,
+        &mut graph,
+        "my:socket",
+        &[("a", function)],
+        &[("run", function)],
+    )?;
+    let plugs = vec![in alloc; giver]?;
+    graph.law();
+    plug(&mut graph, plugs, socket)?;
+    graph.law();
     Ok(graph.encode(EncodeOptions::default())?)
 }
 

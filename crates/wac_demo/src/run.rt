@@ -5,7 +5,7 @@ ghost use Rattle.anyhow.specs.Error.{error_message};
 ghost use Rattle.wac_demo.specs.Composed.{IsComposed, IsWord};
 ghost use Rattle.wac_demo.specs.Printed.{hex_line, line_of, unknown_line, Prints};
 
-use crate::compositions::{empty, readme};
+use crate::compositions::{empty, plugged, readme};
 use anyhow::{Error, Result};
 use std::alloc::Global;
 use std::io::Write;
@@ -59,6 +59,7 @@ fn compose(alloc: Global, word: &str) -> Option<Result<Vec<u8>>>
     match word {
         "empty" => Some(empty(alloc)),
         "readme" => Some(readme(alloc)),
+        "plug" => Some(plugged(alloc)),
         _ => None,
     }
 }

@@ -8,6 +8,9 @@ use std::test::Fail;
 const README: &str =
     "0061736d0d00010004080061736d0d000100050401000000060601010000016104080061736d0d00010005080100010101620100\n";
 
+const PLUG: &str =
+    "0061736d0d00010004080061736d0d000100050401000000060601010000016104080061736d0d000100050801000101016101000608010100010372756e0b0901000372756e010100\n";
+
 const UNKNOWN: &str = "unknown composition\n";
 
 #[test]
@@ -16,6 +19,7 @@ fn a_word_is_answered_by_a_line(rt: HostRuntime) -> Result<(), Fail> {
     let rows = [
         ("empty", "0061736d0d000100\n", 0),
         ("readme", README, 0),
+        ("plug", PLUG, 0),
         ("", UNKNOWN, 2),
         ("Readme", UNKNOWN, 2),
         ("readme ", UNKNOWN, 2),
