@@ -1,0 +1,7 @@
+//! Tests of open scopes and of the type encoder, through what they make public.
+#![tactic(auto)]
+
+#[cfg(test)]
+mod scopes;
+#[cfg(test)]
+mod values;
