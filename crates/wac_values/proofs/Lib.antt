@@ -2,3 +2,5 @@ mod Rows
 pub mod Tables
 pub mod Listings
 pub mod Seen
+pub mod Joins
+pub mod Joining

@@ -5,4 +5,5 @@
 
 pub mod bindings;
 mod listed;
+pub mod named;
 mod table;

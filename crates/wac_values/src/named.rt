@@ -1,0 +1,264 @@
+//! Which definitions are one named type.
+ghost use Rattle.std.specs.Prelude.{◌≡◌, ℕ, Some, None, IfOk, OnOk, slice_get};
+ghost use Rattle.wac_collection.specs.Collection.{HasInterface, interface_exports};
+ghost use Rattle.wac_shapes.specs.Name.{find_name};
+ghost use Rattle.wac_shapes.specs.declared.component.DefinedTypeId.{DefinedTypeId as Defined};
+ghost use Rattle.wac_terms.specs.Values.{listed_value};
+ghost use Rattle.wac_terms.specs.declared.parts.Export.{Export as AnExport};
+ghost use Rattle.wac_terms.specs.declared.parts.Part.{Part as APart};
+ghost use Rattle.wac_terms.specs.declared.parts.Union.{Union as AUnion};
+ghost use Rattle.wac_values.specs.NamedTypes.{AreClassed, AreJoined, AreUnited, IsOneType, IsOneWith, ListsOne, PutsBefore, StayOne, class_value, earlier_of, first_of, lower, named_type};
+
+use crate::listed::listed_value;
+use std::alloc::{AllocError, Global};
+use std::collections::HashMap;
+use wac_entries::classes::Classes;
+use wac_entries::entry::Entry;
+use wac_terms::parts::{Part, Union};
+use wac_types::{DefinedTypeId, ItemKind, Named, Types};
+
+/// Definitions that stand under names. Those that stand under one name are one named type.
+#[derive(Drop)]
+pub struct NamedTypes {
+    // For each an earlier one that is the same named type, or itself where it is the first.
+    earlier: HashMap<DefinedTypeId, DefinedTypeId>,
+}
+
+/// The lower of two.
+fn lower(one: DefinedTypeId, other: DefinedTypeId) -> DefinedTypeId
+    ensures { result ≡ lower one other }
+{
+    if other.0 < one.0 { other } else { one }
+}
+
+impl NamedTypes {
+    /// No definition stands under a name.
+    pub fn new(alloc: Global) -> NamedTypes
+        ensures { (d : Defined) → named_type result d ≡ None }
+    {
+        NamedTypes {
+            earlier: HashMap::new(alloc),
+        }
+    }
+
+    /// The definition before this, where it stands under a name.
+    fn link(&self, id: DefinedTypeId) -> Option<DefinedTypeId>
+        ensures { result ≡ earlier_of self.now id }
+    {
+        self.earlier.get(&id).copied()
+    }
+
+    /// The first definition that is one named type with this.
+    fn first(&self, id: DefinedTypeId) -> DefinedTypeId
+        ensures { result ≡ first_of self.now id }
+    {
+        let mut first = id;
+        'back: loop {
+            let Some(earlier) = self.link(first) else {
+                return first;
+            };
+            if earlier.0 >= first.0 {
+                return first;
+            }
+            first = earlier;
+        }
+    }
+
+    /// The named type that a definition is, told by the first definition that is it; none where it stands under no name.
+    pub fn of(&self, id: DefinedTypeId) -> Option<DefinedTypeId>
+        ensures { result ≡ named_type self.now id }
+    {
+        match self.link(id) {
+            Some(_) => Some(self.first(id)),
+            None => None,
+        }
+    }
+
+    /// A definition is one named type with an earlier one.
+    fn put(&mut self, id: DefinedTypeId, earlier: DefinedTypeId) -> Result<(), AllocError>
+        ensures { OnOk result (PutsBefore self.old id earlier self.new) }
+    {
+        match self.earlier.insert(id, earlier) {
+            Ok(_) => Ok(()),
+            Err(_) => Err(AllocError),
+        }
+    }
+
+    /// Two definitions are one named type. Where memory ran out, the table is of no use.
+    fn join(&mut self, one: DefinedTypeId, other: DefinedTypeId) -> Result<(), AllocError>
+        ensures joined { OnOk result (AreJoined self.old one other self.new) }
+        ensures one { OnOk result (IsOneType self.new one other) }
+        ensures stay { OnOk result (StayOne self.old self.new) }
+    {
+        let first_of_one = self.first(one);
+        let first_of_other = self.first(other);
+        let first = lower(first_of_one, first_of_other);
+        self.put(first_of_one, first)?;
+        self.put(first_of_other, first)?;
+        self.put(one, first)?;
+        self.put(other, first)?;
+        Ok(())
+    }
+}
+
+/// The value type that stands under a name in a union, and where none does this one.
+fn standing(types: &Types, union: &Union, name: &str, value: DefinedTypeId) -> DefinedTypeId
+    ensures { (e : AnExport) (d : Defined) → find_name union.now.exports name.now ≡ Some e → listed_value types.now e.kind ≡ Some d → result ≡ d }
+{
+    match union.exports.get(name) {
+        Some(export) => match listed_value(types, export.kind) {
+            Some(first) => first,
+            None => value,
+        },
+        None => value,
+    }
+}
+
+/// Joins what is listed under a name with what stands under it in a union.
+fn join_listed(
+    named: &mut NamedTypes,
+    types: &Types,
+    union: &Union,
+    name: &str,
+    kind: ItemKind,
+) -> Result<(), AllocError>
+    ensures one { OnOk result (IsOneWith types.now union.now.exports name.now kind named.new) }
+    ensures stay { OnOk result (StayOne named.old named.new) }
+{
+    let Some(value) = listed_value(types, kind) else {
+        return Ok(());
+    };
+    let first = standing(types, union, name, value);
+    named.join(first, value)?;
+    Ok(())
+}
+
+/// Joins what a part of a union lists under each name with what stands under it in the union.
+fn join_part(
+    named: &mut NamedTypes,
+    types: &Types,
+    union: &Union,
+    part: &Part,
+) -> Result<(), AllocError>
+    requires { HasInterface types.now part.now.interface }
+    ensures one { OnOk result (ListsOne types.now union.now.exports (interface_exports types.now part.now.interface) named.new) }
+    ensures stay { OnOk result (StayOne named.old named.new) }
+{
+    let exports = &types[part.interface].exports;
+    for i in 0..exports.len() {
+        let (name, kind) = exports.entry_at(i);
+        join_listed(named, types, union, name, *kind)?;
+    }
+    Ok(())
+}
+
+/// Joins what a part lists with what stands in its union.
+fn join_in_union(
+    named: &mut NamedTypes,
+    types: &Types,
+    unions: &[Union],
+    part: &Part,
+) -> Result<(), AllocError>
+    requires { HasInterface types.now part.now.interface }
+    ensures one { OnOk result ((u : AUnion) → slice_get unions.now part.now.union ≡ Some u → ListsOne types.now u.exports (interface_exports types.now part.now.interface) named.new) }
+    ensures stay { OnOk result (StayOne named.old named.new) }
+{
+    match unions.get(part.union) {
+        Some(union) => join_part(named, types, union, part),
+        None => Ok(()),
+    }
+}
+
+/// Joins the definitions that stand under one name of a union.
+fn join_parts(
+    named: &mut NamedTypes,
+    types: &Types,
+    unions: &[Union],
+    parts: &[Part],
+) -> Result<(), AllocError>
+    requires held { (p : ℕ) (x : APart) → slice_get parts.now p ≡ Some x → HasInterface types.now x.interface }
+    ensures one { OnOk result (AreUnited types.now unions.now parts.now named.new) }
+    ensures stay { OnOk result (StayOne named.old named.new) }
+{
+    for p in 0..parts.len() {
+        join_in_union(named, types, unions, &parts[p])?;
+    }
+    Ok(())
+}
+
+/// The value type that the class of an entry is, by the entry at its position.
+fn class_value(
+    types: &Types,
+    entries: &[Entry],
+    numbers: &[usize],
+    positions: &[usize],
+    index: usize,
+) -> Option<DefinedTypeId>
+    ensures { result ≡ class_value types.now entries.now numbers.now positions.now index }
+{
+    let number = *numbers.get(index)?;
+    let position = *positions.get(number)?;
+    let entry = entries.get(position)?;
+    listed_value(types, entry.kind())
+}
+
+/// Joins what an entry is with what its class is.
+fn join_entry(
+    named: &mut NamedTypes,
+    types: &Types,
+    kind: ItemKind,
+    class: Option<DefinedTypeId>,
+) -> Result<(), AllocError>
+    ensures one { OnOk result ((a b : Defined) → class ≡ Some a → listed_value types.now kind ≡ Some b → IsOneType named.new a b) }
+    ensures stay { OnOk result (StayOne named.old named.new) }
+{
+    let Some(value) = listed_value(types, kind) else {
+        return Ok(());
+    };
+    let first = class.unwrap_or(value);
+    named.join(first, value)?;
+    Ok(())
+}
+
+/// Joins the definitions that entries of one class are.
+fn join_entries(
+    named: &mut NamedTypes,
+    types: &Types,
+    entries: &[Entry],
+    numbers: &[usize],
+    positions: &[usize],
+) -> Result<(), AllocError>
+    ensures one { OnOk result (AreClassed types.now entries.now numbers.now positions.now named.new) }
+    ensures stay { OnOk result (StayOne named.old named.new) }
+{
+    for i in 0..entries.len() {
+        let class = class_value(types, entries, numbers, positions, i);
+        join_entry(named, types, entries[i].kind(), class)?;
+    }
+    Ok(())
+}
+
+/// Which definitions are one named type: those that stand under one name of one union, and those that are one class.
+pub fn named_types(
+    alloc: Global,
+    types: &Types,
+    entries: &[Entry],
+    classes: &Classes,
+    unions: &[Union],
+    parts: &[Part],
+) -> Result<NamedTypes, AllocError>
+    requires held { (p : ℕ) (x : APart) → slice_get parts.now p ≡ Some x → HasInterface types.now x.interface }
+    ensures united { IfOk result (λ t. AreUnited types.now unions.now parts.now t) }
+    ensures classed { IfOk result (λ t. AreClassed types.now entries.now classes.now.numbers.items classes.now.positions.items t) }
+{
+    let mut named = NamedTypes::new(alloc);
+    join_parts(&mut named, types, unions, parts)?;
+    join_entries(
+        &mut named,
+        types,
+        entries,
+        classes.numbers(),
+        classes.positions(),
+    )?;
+    Ok(named)
+}
