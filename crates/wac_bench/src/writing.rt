@@ -1,7 +1,7 @@
-//! How fast components are written, beside a plain copy of the same bytes: packages of 4 MiB, function imports, and nested
-//! instance types.
+//! How fast components are written, beside a plain copy of the same bytes: packages of 4 MiB, function imports, instance types
+//! beside each other in one, and instance types nested one in another.
 
-use crate::times::Times;
+use crate::times::{ROUNDS as FEW_ROUNDS, Times, print_power, print_times};
 use anyhow::Result;
 use std::alloc::Global;
 use std::time::Instant;
@@ -67,6 +67,21 @@ fn instance_types(alloc: Global, count: u32) -> Result<Vec<u8>, BinaryFault> {
     b.into_bytes()
 }
 
+/// A component of an instance type so many deep, each with a function before the one that it declares and exports.
+fn nested_types(alloc: Global, depth: u64) -> Result<Vec<u8>, BinaryFault> {
+    let mut t = instance_type(alloc)?;
+    for _ in 0..depth {
+        let mut outer = InstanceType::new(alloc);
+        let _f = outer.func_type(&plain())?;
+        let inner = outer.take_instance_type(t)?;
+        let _i = outer.export("inner", Description::Instance(inner))?;
+        t = outer;
+    }
+    let mut b = ComponentBuilder::new(alloc);
+    let _t = b.instance_type(&t)?;
+    b.into_bytes()
+}
+
 /// A component of so many of these.
 fn written(
     alloc: Global,
@@ -129,23 +144,47 @@ fn measured(
     Ok(())
 }
 
+/// Writes an instance type so many deep, and prints how long that takes.
+fn measured_depth(rt: &HostRuntime, depth: u64) -> Result<Times> {
+    let mut rounds = Vec::new(rt.alloc());
+    for _ in 0..FEW_ROUNDS {
+        let start = Instant::now(rt)?;
+        let _bytes = nested_types(rt.alloc(), depth)?;
+        rounds.push(start.elapsed(rt)?)?;
+    }
+    let times = Times::of(rounds)?;
+    print_times(rt, "instance types nested so deep:", depth, times)?;
+    Ok(times)
+}
+
+/// Writes instance types nested at most 100,000 deep, and prints how the time grows with the depth.
+fn measure_depths(rt: &HostRuntime) -> Result<()> {
+    let first = measured_depth(rt, 12_500)?;
+    let _ = measured_depth(rt, 25_000)?;
+    let _ = measured_depth(rt, 50_000)?;
+    let last = measured_depth(rt, 100_000)?;
+    print_power(rt, "nested instance types", first, last)
+}
+
 /// Writes a few of each, and prints how many bytes they have.
 pub fn show(rt: &HostRuntime) -> Result<()> {
     let alloc = rt.alloc();
     let packages = packages(alloc, 2, &[0; 16])?.len();
     let imports = imports(alloc, 100)?.len();
     let types = instance_types(alloc, 100)?.len();
+    let nested = nested_types(alloc, 100)?.len();
     println!(rt;
-        "2 packages: {packages} bytes, 100 imports: {imports} bytes, 100 instance types: {types} bytes"
+        "2 packages: {packages} bytes, 100 imports: {imports} bytes, 100 instance types: {types} bytes, 100 deep: {nested} bytes"
     )?;
     Ok(())
 }
 
-/// Writes each beside a copy of its bytes.
+/// Writes each beside a copy of its bytes, and instance types nested ever deeper.
 pub fn measure(rt: &HostRuntime) -> Result<()> {
     let mut package = Vec::new(rt.alloc());
     package.resize(4 << 20, 0u8)?;
     measured(rt, "imports", Workload::Imports, 200_000, &[])?;
     measured(rt, "instance types", Workload::InstanceTypes, 50_000, &[])?;
-    measured(rt, "packages", Workload::Packages, 16, package.as_slice())
+    measured(rt, "packages", Workload::Packages, 16, package.as_slice())?;
+    measure_depths(rt)
 }

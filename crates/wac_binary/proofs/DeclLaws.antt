@@ -5,7 +5,10 @@ use Rattle.std.specs.Result.{is_ok}
 use Rattle.std.specs.List.{flat_map}
 use Rattle.std.proofs.lemmas.Grind.{common_steps}
 use Rattle.wac_binary.specs.Leb.{unsigned}
-use Rattle.wac_binary.specs.Items.{Decl, instance_def, decls}
+use Rattle.wac_binary.specs.Items.{Decl, Decls, instance_def, type_decl, decls}
+use Rattle.wac_binary.specs.DeclView.{scope_def, scope_byte}
+use Rattle.wac_binary.specs.declared.decl.Scope.{Scope}
+use Rattle.wac_binary.specs.declared.decl.Scope.TheVariants as o
 use Rattle.wac_binary.specs.Bytes.{type_bytes, decl_bytes, decls_bytes, count as count_of}
 use Rattle.wac_binary.specs.Indexes.{decl_adds, declared, is_in}
 use Rattle.wac_binary.specs.Fits.{DeclarationsFit}
@@ -101,3 +104,18 @@ joins_two a b c = sym (append_assoc a b c)
 pub on_ok : {T E A : Type 0} (x a b : A) (r : Result T E) → x ≡ (if is_ok r then a else b) → OnOk r (x ≡ a)
 on_ok x a b (Ok t) h = h
 on_ok x a b (Err e) h = tt
+
+-- a type of declarations: what stands before them, and they
+pub scope_bytes : (o : Scope) (ds : Decls) → type_bytes (scope_def o ds) ≡ scope_byte o ∷ (unsigned (count_of ds) ++ decls_bytes ds)
+scope_bytes o.Component ds = refl
+scope_bytes o.Instance ds = refl
+
+pub scope_size : (o : Scope) (ds : Decls) (n : ℕ) → n ≡ length (unsigned (count_of ds) ++ decls_bytes ds) → 2 + n ≡ length (decl_bytes (type_decl (scope_def o ds)))
+scope_size o.Component ds n h = omega arith
+scope_size o.Instance ds n h = omega arith
+
+-- what stands around a type of declarations, and they
+pub scope_around : (o : Scope) (before : List ℕ) {bytes : List ℕ} {count : ℕ} (w : WrittenDecls bytes count)
+    → (before ++ 1 ∷ scope_byte o ∷ unsigned count) ++ bytes ≡ before ++ decl_bytes (type_decl (scope_def o (decls (declarations w))))
+scope_around o.Component before {bytes} {count} w = append_assoc before (1 ∷ 0x41 ∷ unsigned count) bytes ∙ ap (λ t. before ++ 1 ∷ 0x41 ∷ t) (sym (behind w))
+scope_around o.Instance before {bytes} {count} w = append_assoc before (1 ∷ 0x42 ∷ unsigned count) bytes ∙ ap (λ t. before ++ 1 ∷ 0x42 ∷ t) (sym (behind w))

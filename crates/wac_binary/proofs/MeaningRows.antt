@@ -13,6 +13,7 @@ use Rattle.wac_binary.specs.Bytes.{preamble}
 use Rattle.wac_binary.specs.Unfold.{type_at, bound_at, module_tree, no_module, module_after}
 use Rattle.wac_binary.specs.Meaning.{meaning}
 use Rattle.wac_binary.specs.HasMeaning.{HasMeaning}
+use Rattle.wac_binary.specs.Customs.{AreRising}
 
 -- the tree of the type with the first index
 abbrev first_type : List Item → Tree
@@ -204,3 +205,13 @@ import_of_value h = h.1.0.1
 
 import_of_missing_type : HasMeaning (import_item (97 ∷ []) (e.Equal 0) ∷ []) → ⊥
 import_of_missing_type h = h.0.1
+
+-- names of indexes: those of each sort rise, whatever stands between them
+rising : AreRising ((s.Func, 0, 97 ∷ []) ∷ (s.Type, 0, 98 ∷ []) ∷ (s.Func, 2, 99 ∷ []) ∷ [])
+rising = search rules
+
+falling : AreRising ((s.Func, 2, 97 ∷ []) ∷ (s.Func, 0, 98 ∷ []) ∷ []) → ⊥
+falling h = let k = h.1.0.0 in absurd (omega arith)
+
+named_twice : AreRising ((s.Type, 1, 97 ∷ []) ∷ (s.Type, 1, 98 ∷ []) ∷ []) → ⊥
+named_twice h = let k = h.0.0 in absurd (omega arith)

@@ -8,4 +8,4 @@ abbrev pub view : Inside → List Decl
 view t = declarations t.written
 
 abbrev pub IsWritten : Inside → Type 0
-IsWritten t = DeclState (view t) t.bytes.items t.count t.counts
+IsWritten t = DeclState (view t) t.bytes t.count t.counts

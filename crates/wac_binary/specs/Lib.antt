@@ -26,6 +26,7 @@ pub mod Written
 pub mod WrittenView
 pub mod WrittenDecls
 pub mod DeclarationsView
+pub mod BufferView
 pub mod ModuleView
 pub mod WrittenModule
 pub mod ModuleTypeView

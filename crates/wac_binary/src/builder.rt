@@ -13,7 +13,7 @@ ghost use Rattle.wac_binary.specs.declared.fault.BinaryFault.TheVariants.{OutOfM
 ghost use Rattle.wac_binary.specs.declared.sorts.Sort.TheVariants as s;
 
 use crate::component_type::ComponentType;
-use crate::decl::{AliasRef, TypeRef};
+use crate::decl::{AliasRef, Scope, TypeRef};
 use crate::fault::BinaryFault;
 use crate::instance_type::InstanceType;
 use crate::item::{AloneRef, ItemRef, alone_size, section_id};
@@ -245,7 +245,8 @@ impl ComponentBuilder {
         ensures refused { OnErr result (self.new ≡ self.old) }
         ensures too_large { TooLargeUnless result (Fits (self.old ++ type_item (component_def (decls t.now)) ∷ [])) }
     {
-        self.append(&ItemRef::Type(TypeRef::Component(t)), IndexSpace::Types)
+        let t = TypeRef::Scope(Scope::Component, &t.declarations);
+        self.append(&ItemRef::Type(t), IndexSpace::Types)
     }
 
     /// Adds an instance type with these declarations, and answers its type index.
@@ -256,7 +257,8 @@ impl ComponentBuilder {
         ensures refused { OnErr result (self.new ≡ self.old) }
         ensures too_large { TooLargeUnless result (Fits (self.old ++ type_item (instance_def (decls t.now)) ∷ [])) }
     {
-        self.append(&ItemRef::Type(TypeRef::Instance(t)), IndexSpace::Types)
+        let t = TypeRef::Scope(Scope::Instance, &t.declarations);
+        self.append(&ItemRef::Type(t), IndexSpace::Types)
     }
 
     /// Adds a core module type, and answers its index among the core types.

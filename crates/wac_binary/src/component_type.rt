@@ -1,22 +1,20 @@
 //! A component type that is being written, declaration by declaration.
 
-ghost use Rattle.std.specs.Prelude.{◌≡◌, List, ℕ, ◌<◌, ◌≤◌, ◌++◌, ◌∷◌, [], length, ◌^◌, OnOk, OnErr, IfOk};
-ghost use Rattle.wac_binary.specs.Leb.{unsigned};
+ghost use Rattle.std.specs.Prelude.{◌≡◌, ◌++◌, ◌∷◌, [], OnOk, OnErr, IfOk};
 ghost use Rattle.wac_binary.specs.Items.{value_def, component_def, instance_def, decls, core_type_decl, type_decl, alias_decl, export_alias, outer_alias, import_decl, export_decl};
-ghost use Rattle.wac_binary.specs.Bytes.{count, decls_bytes};
 ghost use Rattle.wac_binary.specs.Indexes.{space, core_types, described_sort, declared};
 ghost use Rattle.wac_binary.specs.Fits.{DeclarationsFit, TooLargeUnless};
 ghost use Rattle.wac_binary.specs.Views.{func_of, defined_of};
 ghost use Rattle.wac_binary.specs.declared.sorts.Sort.TheVariants as s;
 
-use crate::decl::{AliasRef, DeclRef, TypeRef};
+use crate::decl::{AliasRef, DeclRef, Scope, TypeRef};
 use crate::declarations::Declarations;
 use crate::fault::BinaryFault;
 use crate::instance_type::InstanceType;
 use crate::module_type::ModuleType;
 use crate::sorts::{Description, IndexSpace, Sort, described_sort, space};
 use crate::types::{DefinedType, FuncType};
-use std::alloc::{AllocError, Global};
+use std::alloc::Global;
 use std::marker::Model;
 
 /// A component type that is being written. Contracts see it as the list of its declarations.
@@ -27,7 +25,7 @@ use std::marker::Model;
 /// memory is refused; then it has added nothing.
 #[derive(Debug)]
 pub struct ComponentType {
-    declarations: Declarations,
+    pub(crate) declarations: Declarations,
 }
 
 /// What is written is let go of here, and not anew at each place where a builder goes out of scope.
@@ -104,8 +102,9 @@ impl ComponentType {
         ensures refused { OnErr result (self.new ≡ self.old) }
         ensures too_large { TooLargeUnless result (DeclarationsFit (self.old ++ type_decl (component_def (decls t.now)) ∷ [])) }
     {
+        let t = TypeRef::Scope(Scope::Component, &t.declarations);
         self.declarations
-            .append(&DeclRef::Type(TypeRef::Component(t)), IndexSpace::Types)
+            .append(&DeclRef::Type(t), IndexSpace::Types)
     }
 
     /// Declares an instance type with these declarations, and answers its type index.
@@ -116,8 +115,37 @@ impl ComponentType {
         ensures refused { OnErr result (self.new ≡ self.old) }
         ensures too_large { TooLargeUnless result (DeclarationsFit (self.old ++ type_decl (instance_def (decls t.now)) ∷ [])) }
     {
+        let t = TypeRef::Scope(Scope::Instance, &t.declarations);
         self.declarations
-            .append(&DeclRef::Type(TypeRef::Instance(t)), IndexSpace::Types)
+            .append(&DeclRef::Type(t), IndexSpace::Types)
+    }
+
+    /// Declares an instance type with these declarations, which are handed over, and answers its type index. The longer of the two
+    /// lists of bytes stays where it is, so types nested ever deeper are not copied at each level. What is handed over is let go
+    /// of where it is refused.
+    pub fn take_instance_type(&mut self, t: InstanceType) -> Result<u32, BinaryFault>
+        ensures index { IfOk result (λ i. i ≡ declared (space s.Type) self.old) }
+        ensures appended { OnOk result (self.new ≡ self.old ++ type_decl (instance_def (decls t)) ∷ []) }
+        ensures fits { OnOk result (DeclarationsFit self.new) }
+        ensures refused { OnErr result (self.new ≡ self.old) }
+        ensures too_large { TooLargeUnless result (DeclarationsFit (self.old ++ type_decl (instance_def (decls t)) ∷ [])) }
+    {
+        self.declarations
+            .take(t.into_declarations(), Scope::Instance)
+    }
+
+    /// Declares a component type with these declarations, which are handed over, and answers its type index. The longer of the two
+    /// lists of bytes stays where it is, so types nested ever deeper are not copied at each level. What is handed over is let go
+    /// of where it is refused.
+    pub fn take_component_type(&mut self, t: ComponentType) -> Result<u32, BinaryFault>
+        ensures index { IfOk result (λ i. i ≡ declared (space s.Type) self.old) }
+        ensures appended { OnOk result (self.new ≡ self.old ++ type_decl (component_def (decls t)) ∷ []) }
+        ensures fits { OnOk result (DeclarationsFit self.new) }
+        ensures refused { OnErr result (self.new ≡ self.old) }
+        ensures too_large { TooLargeUnless result (DeclarationsFit (self.old ++ type_decl (component_def (decls t)) ∷ [])) }
+    {
+        self.declarations
+            .take(t.into_declarations(), Scope::Component)
     }
 
     /// Declares an alias of the export of this sort and name of the instance with this index, and answers its index
@@ -184,19 +212,11 @@ impl ComponentType {
         self.declarations.fit_law()
     }
 
-    /// How long the number of declarations and their bytes are.
-    pub(crate) fn size(&self) -> u128
-        ensures is { result ≡ length (unsigned (count (decls self.now)) ++ decls_bytes (decls self.now)) }
-        ensures small { result ≤ 2 ^ 34 }
+    /// The declarations, handed over.
+    pub(crate) fn into_declarations(self) -> Declarations
+        ensures { result ≡ self }
     {
-        self.declarations.size()
-    }
-
-    /// Puts the number of declarations, and their bytes, at the end of a buffer.
-    pub(crate) fn put(&self, out: &mut Vec<u8>) -> Result<(), AllocError>
-        ensures written { OnOk result (out.new.items ≡ out.old.items ++ (unsigned (count (decls self.now)) ++ decls_bytes (decls self.now))) }
-        ensures grows { (more : List ℕ) × (out.new.items ≡ out.old.items ++ more) }
-    {
-        self.declarations.put(out)
+        let ComponentType { declarations } = self;
+        declarations
     }
 }

@@ -1,13 +1,13 @@
 //! A declaration that is about to be written, and the types and aliases that stand in one.
 
 ghost use Rattle.std.specs.Prelude.{◌≡◌, List, ℕ, ◌++◌, ◌∷◌, [], OnOk};
+ghost use Rattle.wac_binary.specs.Leb.{unsigned};
 ghost use Rattle.wac_binary.specs.Bytes.{alias_bytes, type_bytes, decl_bytes};
-ghost use Rattle.wac_binary.specs.DeclView.{alias_of, type_of, decl_of};
+ghost use Rattle.wac_binary.specs.DeclView.{alias_of, type_of, decl_of, scope_byte as byte_of};
 
-use crate::component_type::ComponentType;
-use crate::instance_type::InstanceType;
+use crate::declarations::Declarations;
 use crate::module_type::ModuleType;
-use crate::put::{put_alias_export, put_alias_outer, put_named};
+use crate::put::{put_alias_export, put_alias_outer, put_named, put_unsigned};
 use crate::put_types::{put_defined, put_func};
 use crate::sorts::{Description, Sort};
 use crate::types::{DefinedType, FuncType};
@@ -27,8 +27,14 @@ pub(crate) enum AliasRef<'a> {
 pub(crate) enum TypeRef<'a> {
     Defined(&'a DefinedType<'a>),
     Func(&'a FuncType<'a>),
-    Component(&'a ComponentType),
-    Instance(&'a InstanceType),
+    Scope(Scope, &'a Declarations),
+}
+
+/// A type that is a list of declarations.
+#[derive(Clone, Copy)]
+pub(crate) enum Scope {
+    Component,
+    Instance,
 }
 
 /// A declaration that is about to be written, with its parts where they are.
@@ -53,6 +59,7 @@ pub(crate) fn put_alias(out: &mut Vec<u8>, a: AliasRef<'_>) -> Result<(), AllocE
 }
 
 /// Puts the bytes of a type at the end of a buffer.
+#[tactic(auto, using(crate::proofs::DeclLaws::scope_bytes))]
 pub(crate) fn put_type(out: &mut Vec<u8>, t: TypeRef<'_>) -> Result<(), AllocError>
     ensures written { OnOk result (out.new.items ≡ out.old.items ++ type_bytes (type_of t.entry)) }
     ensures grows { (more : List ℕ) × (out.new.items ≡ out.old.items ++ more) }
@@ -60,12 +67,8 @@ pub(crate) fn put_type(out: &mut Vec<u8>, t: TypeRef<'_>) -> Result<(), AllocErr
     match t {
         TypeRef::Defined(t) => put_defined(out, t),
         TypeRef::Func(f) => put_func(out, f),
-        TypeRef::Component(t) => {
-            out.push(0x41)?;
-            t.put(out)
-        }
-        TypeRef::Instance(t) => {
-            out.push(0x42)?;
+        TypeRef::Scope(scope, t) => {
+            out.push(scope_byte(scope))?;
             t.put(out)
         }
     }
@@ -100,4 +103,22 @@ pub(crate) fn put_decl(out: &mut Vec<u8>, d: &DeclRef<'_>) -> Result<(), AllocEr
             put_named(out, name, d)
         }
     }
+}
+
+fn scope_byte(scope: Scope) -> u8
+    ensures { result ≡ byte_of scope }
+{
+    match scope {
+        Scope::Component => 0x41,
+        Scope::Instance => 0x42,
+    }
+}
+
+/// Puts what stands before the declarations of a type that is declared at the end of a buffer.
+pub(crate) fn put_scope(out: &mut Vec<u8>, scope: Scope, count: u64) -> Result<(), AllocError>
+    ensures written { OnOk result (out.new.items ≡ out.old.items ++ 1 ∷ byte_of scope ∷ unsigned count) }
+{
+    out.push(1)?;
+    out.push(scope_byte(scope))?;
+    put_unsigned(out, count)
 }

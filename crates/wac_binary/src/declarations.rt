@@ -2,15 +2,17 @@
 
 ghost use Rattle.std.specs.Prelude.{◌≡◌, List, ℕ, ◌+◌, ◌<◌, ◌≤◌, ◌^◌, ◌++◌, ◌∷◌, [], length, OnOk, OnErr, IfOk, IsTrue, ◌↔◌};
 ghost use Rattle.wac_binary.specs.Leb.{unsigned};
-ghost use Rattle.wac_binary.specs.Items.{decls};
+ghost use Rattle.wac_binary.specs.Items.{decls, type_decl};
 ghost use Rattle.wac_binary.specs.Bytes.{count as count_of, decl_bytes, decls_bytes};
-ghost use Rattle.wac_binary.specs.Indexes.{decl_adds, declared};
+ghost use Rattle.wac_binary.specs.Indexes.{decl_adds, declared, space};
 ghost use Rattle.wac_binary.specs.Spaces.{number as number_of};
 ghost use Rattle.wac_binary.specs.Fits.{DeclarationsFit, TooLargeUnless};
-ghost use Rattle.wac_binary.specs.DeclView.{decl_of};
+ghost use Rattle.wac_binary.specs.DeclView.{decl_of, scope_def};
+ghost use Rattle.wac_binary.specs.declared.sorts.Sort.TheVariants as s;
 ghost use Rattle.wac_binary.specs.WrittenDecls.{WrittenDecls, WrittenDecls_prop};
 
-use crate::decl::{DeclRef, put_decl};
+use crate::buffer::Buffer;
+use crate::decl::{DeclRef, Scope, TypeRef};
 use crate::fault::BinaryFault;
 use crate::put::put_unsigned;
 use crate::size::unsigned_size;
@@ -22,10 +24,10 @@ use std::marker::Model;
 /// The declarations of a component type or an instance type. Contracts see them as a list.
 #[derive(Debug, Drop)]
 pub(crate) struct Declarations {
-    bytes: Vec<u8>,
+    bytes: Buffer,
     count: u64,
     counts: [u64; 7],
-    ghost written: { WrittenDecls bytes.items count } by { WrittenDecls_prop bytes.items count },
+    ghost written: { WrittenDecls bytes count } by { WrittenDecls_prop bytes count },
 }
 
 impl Model for Declarations {
@@ -51,7 +53,7 @@ impl Declarations {
         ensures { result ≡ [] }
     {
         Declarations {
-            bytes: Vec::new(alloc),
+            bytes: Buffer::new(alloc),
             count: 0,
             counts: [0; 7],
         }
@@ -78,7 +80,7 @@ impl Declarations {
         if !fits(index, self.count, self.bytes.len(), decl_size(d)) {
             return Err(BinaryFault::TooLarge);
         }
-        append_decl(&mut self.bytes, d)?;
+        self.bytes.append(d)?;
         self.count += 1;
         self.counts[at] = index + 1;
         Ok(index as u32)
@@ -89,7 +91,7 @@ impl Declarations {
         ensures is { result ≡ length (unsigned (count_of (decls self.now)) ++ decls_bytes (decls self.now)) }
         ensures small { result ≤ 2 ^ 34 }
     {
-        u128::from(unsigned_size(self.count)) + u128::from(self.bytes.len() as u64)
+        u128::from(unsigned_size(self.count)) + self.bytes.len()
     }
 
     /// Puts the number of declarations, and their bytes, at the end of a buffer.
@@ -98,30 +100,66 @@ impl Declarations {
         ensures grows { (more : List ℕ) × (out.new.items ≡ out.old.items ++ more) }
     {
         put_unsigned(out, self.count)?;
-        out.extend_from_slice(&self.bytes)
+        self.bytes.put(out)
+    }
+
+    /// Adds a type of these declarations, which are handed over, at the end, and answers its type index. The longer of the two
+    /// lists of bytes stays where it is.
+    pub(crate) fn take(&mut self, inner: Declarations, scope: Scope) -> Result<u32, BinaryFault>
+        ensures index { IfOk result (λ i. i ≡ declared (space s.Type) self.old) }
+        ensures appended { OnOk result (self.new ≡ self.old ++ type_decl (scope_def scope (decls inner)) ∷ []) }
+        ensures fits { OnOk result (DeclarationsFit self.new) }
+        ensures refused { OnErr result (self.new ≡ self.old) }
+        ensures too_large { TooLargeUnless result (DeclarationsFit (self.old ++ type_decl (scope_def scope (decls inner)) ∷ [])) }
+    {
+        if inner.bytes.len() > self.bytes.len() {
+            return self.surround(inner, scope);
+        }
+        let t = TypeRef::Scope(scope, &inner);
+        self.append(&DeclRef::Type(t), IndexSpace::Types)
+    }
+
+    /// Adds a type of these declarations at the end by writing what stands before it in front of them, and answers its type
+    /// index.
+    fn surround(&mut self, inner: Declarations, scope: Scope) -> Result<u32, BinaryFault>
+        ensures index { IfOk result (λ i. i ≡ declared (space s.Type) self.old) }
+        ensures appended { OnOk result (self.new ≡ self.old ++ type_decl (scope_def scope (decls inner)) ∷ []) }
+        ensures fits { OnOk result (DeclarationsFit self.new) }
+        ensures refused { OnErr result (self.new ≡ self.old) }
+        ensures too_large { TooLargeUnless result (DeclarationsFit (self.old ++ type_decl (scope_def scope (decls inner)) ∷ [])) }
+    {
+        let types = number(IndexSpace::Types);
+        let index = self.counts[types];
+        if !fits(index, self.count, self.bytes.len(), 2 + inner.size()) {
+            return Err(BinaryFault::TooLarge);
+        }
+        let bytes = inner.behind(&self.bytes, scope)?;
+        self.bytes = bytes;
+        self.count += 1;
+        self.counts[types] = index + 1;
+        Ok(index as u32)
+    }
+
+    /// These bytes, and behind them a type of the declarations, which is declared there.
+    fn behind(self, before: &Buffer, scope: Scope) -> Result<Buffer, AllocError>
+        ensures { IfOk result (λ b. b ≡ before.now ++ decl_bytes (type_decl (scope_def scope (decls self)))) }
+    {
+        let Declarations {
+            mut bytes,
+            count,
+            counts: _,
+        } = self;
+        bytes.wrap(before, scope, count)?;
+        Ok(bytes)
     }
 }
 
 /// Whether one more declaration of this size fits, where its space has so many indexes and so many declarations have so
 /// many bytes.
-fn fits(index: u64, count: u64, bytes: usize, size: u128) -> bool
-    requires { size < 2 ^ 127 + 2 ^ 104 }
+fn fits(index: u64, count: u64, bytes: u128, size: u128) -> bool
+    requires bytes { bytes < 2 ^ 65 }
+    requires size { size < 2 ^ 127 + 2 ^ 104 }
     ensures { IsTrue result ↔ ((index < 2 ^ 32) × (count + 1 < 2 ^ 32) × (bytes + size < 2 ^ 32)) }
 {
-    index < 1 << 32 && count < (1 << 32) - 1 && bytes as u128 + size < 1 << 32
-}
-
-/// Puts a declaration at the end of a buffer, or leaves the buffer as it was.
-fn append_decl(out: &mut Vec<u8>, d: &DeclRef<'_>) -> Result<(), AllocError>
-    ensures written { OnOk result (out.new.items ≡ out.old.items ++ decl_bytes (decl_of d.now)) }
-    ensures refused { OnErr result (out.new.items ≡ out.old.items) }
-{
-    let from = out.len();
-    match put_decl(out, d) {
-        Ok(()) => Ok(()),
-        Err(e) => {
-            out.truncate(from);
-            Err(e)
-        }
-    }
+    index < 1 << 32 && count < (1 << 32) - 1 && bytes + size < 1 << 32
 }

@@ -1,6 +1,7 @@
 //! The binary format of components: one writer for each item.
 #![tactic(auto)]
 
+mod buffer;
 pub mod builder;
 pub mod component_type;
 mod core_decl;

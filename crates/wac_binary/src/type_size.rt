@@ -63,6 +63,7 @@ fn alias_size(a: AliasRef<'_>) -> u128
     }
 }
 
+#[tactic(auto, using(crate::proofs::DeclLaws::scope_bytes))]
 fn type_size(t: TypeRef<'_>) -> u128
     ensures is { result ≡ length (type_bytes (type_of t.entry)) }
     ensures small { result < 2 ^ 127 + 2 ^ 102 }
@@ -70,8 +71,7 @@ fn type_size(t: TypeRef<'_>) -> u128
     match t {
         TypeRef::Defined(t) => defined_size(t),
         TypeRef::Func(f) => func_size(f),
-        TypeRef::Component(t) => 1 + t.size(),
-        TypeRef::Instance(t) => 1 + t.size(),
+        TypeRef::Scope(_, t) => 1 + t.size(),
     }
 }
 

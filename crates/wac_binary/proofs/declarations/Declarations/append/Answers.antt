@@ -12,16 +12,16 @@ returns-then-not-fits-clause-too_large c =
     (λ f. room_for c.self.invariant (decl_of c.args.d.now) c.number-at.result (c.requires ∙ sym c.number-at.ensures.is) c.number-at.ensures.small c.decl_size.result c.len.result c.decl_size.ensures.is (omega arith) (rw c.self.view_is f))
 
 pub invariant_of-self : goal.invariant_of-self
-invariant_of-self c = type_kept (type_same c.self.invariant c.in_err-append_decl.ensures.refused) _
+invariant_of-self c = type_kept (type_same c.self.invariant c.in_err-append.ensures.refused) _
 
-pub returns-in_err-append_decl-clause-refused :
-    goal.returns-in_err-append_decl-clause-refused
-returns-in_err-append_decl-clause-refused c = on_err _ (declarations_kept (type_same c.self.invariant c.in_err-append_decl.ensures.refused) _ ∙ c.self.view_is)
+pub returns-in_err-append-clause-refused :
+    goal.returns-in_err-append-clause-refused
+returns-in_err-append-clause-refused c = on_err _ (declarations_kept (type_same c.self.invariant c.in_err-append.ensures.refused) _ ∙ c.self.view_is)
 
 -- what is kept, with one declaration more
-snoc : (c : goal.In_ok-append_decl) → DeclState (c.args.self.now ++ decl_of c.args.d.now ∷ []) c.append_decl.new.out.items (c.self.inside.count + 1) (slice_set c.self.inside.counts c.number-at.result (slice_index c.self.inside.counts c.number-at.result + 1))
+snoc : (c : goal.In_ok-append) → DeclState (c.args.self.now ++ decl_of c.args.d.now ∷ []) c.append.new.self (c.self.inside.count + 1) (slice_set c.self.inside.counts c.number-at.result (slice_index c.self.inside.counts c.number-at.result + 1))
 snoc c =
-    rw (← c.self.view_is, c.in_ok-append_decl.ensures.written)
+    rw (← c.self.view_is, c.in_ok-append.ensures.written)
     (type_more c.self.invariant (decl_of c.args.d.now) c.number-at.result (c.requires ∙ sym c.number-at.ensures.is) c.number-at.ensures.small c.self.told c.decl_size.result c.len.result c.decl_size.ensures.is (omega arith) (c.fits.ensures.0 c.if-not-fits.false))
 
 pub invariant_of-self-inside-2 : goal.invariant_of-self-inside-2
@@ -39,7 +39,7 @@ returns-clause-fits c = rw (declarations_kept (snoc c.before) _) (snoc c.before)
 pub returns-clause-too_large : goal.returns-clause-too_large
 returns-clause-too_large c = (snoc c.before).fits
 
-pub returns-in_err-append_decl-clause-too_large : goal.returns-in_err-append_decl-clause-too_large
-returns-in_err-append_decl-clause-too_large c =
+pub returns-in_err-append-clause-too_large : goal.returns-in_err-append-clause-too_large
+returns-in_err-append-clause-too_large c =
     out_of_memory c.from_residual.result _ c.from_residual.ensures.1
     (rw (← c.self.view_is) (type_more c.self.invariant (decl_of c.args.d.now) c.number-at.result (c.requires ∙ sym c.number-at.ensures.is) c.number-at.ensures.small c.self.told c.decl_size.result c.len.result c.decl_size.ensures.is (omega arith) (c.fits.ensures.0 c.if-not-fits.false)).fits)
