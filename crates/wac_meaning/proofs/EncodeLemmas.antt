@@ -252,9 +252,9 @@ module _ (counted : Counted) (earlier : Earlier) (g : Graph) (sound : IsSound g)
   custom_more base customs items index place name bytes c =
       let x : Item = custom name bytes in
       let o = custom_rest items name bytes in
+      let shown_items : List Item = base ++ flat_map (export_item_of g index) g.exports in
       record {
-        split = ap (λ xs. xs ++ x ∷ []) c.split ∙ append_assoc base (flat_map (export_item_of g index) g.exports ++ map custom_item customs) (x ∷ [])
-            ∙ ap (λ ys. base ++ ys) (append_assoc (flat_map (export_item_of g index) g.exports) (map custom_item customs) (x ∷ []) ∙ ap (λ ys. flat_map (export_item_of g index) g.exports ++ ys) (sym (map-append custom_item customs ((name, bytes) ∷ []))));
+        split = ap (λ xs. xs ++ x ∷ []) c.split ∙ append_assoc shown_items (map custom_item customs) (x ∷ []) ∙ ap (λ ys. shown_items ++ ys) (sym (map-append custom_item customs ((name, bytes) ∷ [])));
         meant = meant-push items x c.meant tt;
         imports = ap (λ r. r.imports) o ∙ c.imports;
         customs_are = ap (λ r. r.customs) o ∙ ap (λ cs. cs ++ (name, bytes) ∷ []) c.customs_are;

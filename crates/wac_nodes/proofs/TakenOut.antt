@@ -9,6 +9,31 @@ use Rattle.wac_nodes.specs.declared.node.NodeId.{NodeId}
 use Rattle.wac_nodes.specs.TakenOut.{taken_at, taken_below, without}
 use Rattle.wac_nodes.proofs.Added.{by_eq}
 
+-- k and l change places
+abbrev pub turn : ℕ → ℕ → ℕ → ℕ
+turn k l i = cond (i == k) l (cond (i == l) k i)
+
+turn_first : (k l : ℕ) → turn k l k ≡ l
+turn_first k l = let e : (k == k) ≡ true = grind (arith, nat_tests) in ap (λ b. cond b l (cond (k == l) k k)) e
+
+turn_last : (k l : ℕ) → turn k l l ≡ k
+turn_last k l = by_eq l k
+    (λ same. ap (turn k l) same ∙ turn_first k l ∙ same)
+    (λ differ. let e : (l == k) ≡ false = grind (arith, nat_tests) in let f : (l == l) ≡ true = grind (arith, nat_tests) in ap (λ b. cond b l (cond (l == l) k l)) e ∙ ap (λ b. cond b k l) f)
+
+turn_other : (k l i : ℕ) → i ≢ k → i ≢ l → turn k l i ≡ i
+turn_other k l i p q = let e : (i == k) ≡ false = grind (arith, nat_tests) in let f : (i == l) ≡ false = grind (arith, nat_tests) in ap (λ b. cond b l (cond (i == l) k i)) e ∙ ap (λ b. cond b k i) f
+
+turn_back : (k l i : ℕ) → turn k l (turn k l i) ≡ i
+turn_back k l i = by_eq i k
+    (λ same. ap (turn k l) (ap (turn k l) same ∙ turn_first k l) ∙ turn_last k l ∙ sym same)
+    (λ first. by_eq i l
+    (λ same. ap (turn k l) (ap (turn k l) same ∙ turn_last k l) ∙ turn_first k l ∙ sym same)
+    (λ last. ap (turn k l) (turn_other k l i first last) ∙ turn_other k l i first last))
+
+turn_apart : (k l i j : ℕ) → turn k l i ≡ turn k l j → i ≡ j
+turn_apart k l i j same = sym (turn_back k l i) ∙ ap (turn k l) same ∙ turn_back k l j
+
 module _ {X : Type 0} where
   get-set_same : (xs : List X) (k : ℕ) (x y : X) → slice_get xs k ≡ Some x → slice_get (slice_set xs k y) k ≡ Some y
   get-set_same [] k x y h = cc
@@ -37,37 +62,12 @@ module _ {X : Type 0} where
   some_same : {o : Option X} {x y : X} → o ≡ Some x → o ≡ Some y → x ≡ y
   some_same p q = cc
 
-  -- k and l change places
-  turn : ℕ → ℕ → ℕ → ℕ
-  turn k l i = cond (i == k) l (cond (i == l) k i)
-
-  turn_first : (k l : ℕ) → turn k l k ≡ l
-  turn_first k l = let e : (k == k) ≡ true = grind (arith, nat_tests) in ap (λ b. cond b l (cond (k == l) k k)) e
-
-  turn_last : (k l : ℕ) → turn k l l ≡ k
-  turn_last k l = by_eq l k
-      (λ same. ap (turn k l) same ∙ turn_first k l ∙ same)
-      (λ differ. let e : (l == k) ≡ false = grind (arith, nat_tests) in let f : (l == l) ≡ true = grind (arith, nat_tests) in ap (λ b. cond b l (cond (l == l) k l)) e ∙ ap (λ b. cond b k l) f)
-
-  turn_other : (k l i : ℕ) → i ≢ k → i ≢ l → turn k l i ≡ i
-  turn_other k l i p q = let e : (i == k) ≡ false = grind (arith, nat_tests) in let f : (i == l) ≡ false = grind (arith, nat_tests) in ap (λ b. cond b l (cond (i == l) k i)) e ∙ ap (λ b. cond b k i) f
-
-  turn_back : (k l i : ℕ) → turn k l (turn k l i) ≡ i
-  turn_back k l i = by_eq i k
-      (λ same. ap (turn k l) (ap (turn k l) same ∙ turn_first k l) ∙ turn_last k l ∙ sym same)
-      (λ first. by_eq i l
-      (λ same. ap (turn k l) (ap (turn k l) same ∙ turn_last k l) ∙ turn_first k l ∙ sym same)
-      (λ last. ap (turn k l) (turn_other k l i first last) ∙ turn_other k l i first last))
-
-  turn_apart : (k l i j : ℕ) → turn k l i ≡ turn k l j → i ≡ j
-  turn_apart k l i j same = sym (turn_back k l i) ∙ ap (turn k l) same ∙ turn_back k l j
-
   -- what the list without an entry has
   module _ (xs : List X) (k : ℕ) (x : X) (at : slice_get xs k ≡ Some x) where
-    last_place : ℕ
+    abbrev pub last_place : ℕ
     last_place = length xs - 1
 
-    last : X
+    abbrev pub last : X
     last = get_or xs last_place x
 
     inside : last_place < length xs
@@ -123,8 +123,8 @@ one_taken gone k es = by_entry (slice_get es k) refl where
   by_gone : (e : Name × NodeId) → slice_get es k ≡ Some e → (b : Bool) → gone e.1 ≡ b → Left gone es (cond b (swap_remove es k e) es)
   by_gone e at false is = left_itself gone es
   by_gone e at true is = record {
-    place = turn {X = Name × NodeId} k (length es - 1);
-    apart = turn_apart {X = Name × NodeId} k (length es - 1);
+    place = turn k (length es - 1);
+    apart = turn_apart k (length es - 1);
     was = was_at es k e at;
     still = λ j x h stays. still_at es k e at j x h (λ same. different (some_same at (ap (slice_get es) (sym same) ∙ h)) is stays);
   } where
@@ -158,14 +158,14 @@ one_less gone k es later = by_entry (slice_get es k) refl where
       let place : ℕ = length es - 1 in
       let small : i < place = take_within place (slice_set es k (get_or es place e)) i x h in
       by_eq i k
-      (λ same. later place x (omega (arith, small, same)) (ap (slice_get es) (sym (ap (turn {X = Name × NodeId} k place) same ∙ turn_first {X = Name × NodeId} k place)) ∙ was_at es k e at i x h))
-      (λ differ. later i x (omega (arith, from, differ)) (ap (slice_get es) (sym (turn_other {X = Name × NodeId} k place i differ (λ e. absurd (omega (arith, small, e))))) ∙ was_at es k e at i x h))
+      (λ same. later place x (omega (arith, small, same)) (ap (slice_get es) (sym (ap (turn k place) same ∙ turn_first k place)) ∙ was_at es k e at i x h))
+      (λ differ. later i x (omega (arith, from, differ)) (ap (slice_get es) (sym (turn_other k place i differ (λ e. absurd (omega (arith, small, e))))) ∙ was_at es k e at i x h))
 
   by_entry : (o : Option (Name × NodeId)) → slice_get es k ≡ o → StaysFrom gone k (taken_at gone k o es)
-  by_entry None at i x from h = by_eq i k
+  by_entry None at = λ i x from h. by_eq i k
       (λ same. absurd (nothing (sym at ∙ ap (slice_get es) (sym same) ∙ h)))
       (λ differ. later i x (omega (arith, from, differ)) h) where
-        nothing : None ≡ Some x → ⊥
+        nothing : {x : Name × NodeId} → None ≡ Some x → ⊥
         nothing h = cc
   by_entry (Some e) at = by_gone e at (gone e.1) refl
 

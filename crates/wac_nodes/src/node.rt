@@ -84,7 +84,7 @@ impl Node {
         ensures { option_map (λ s. s.now) result ≡ option_map string_bytes self.now.name }
     {
         match &self.name {
-            Some(name) => Some(name.as_str()),
+            Some(text) => Some(text.as_str()),
             None => None,
         }
     }
