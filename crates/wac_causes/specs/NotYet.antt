@@ -26,5 +26,3 @@ pub data IsNotYet (g : Graph) (o : EncodeOptions) : Type 0 where
   named : (n : ℕ) (node : GraphNode) → node_at g (node_number n) ≡ Some node → IsSome node.name → IsNotYet g o
   -- components are to be imported
   undefined_components : o.define_components ≡ false → IsNotYet g o
-  -- a processor is to be named
-  processed : IsSome o.processor → IsNotYet g o

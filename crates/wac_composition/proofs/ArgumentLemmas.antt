@@ -1,5 +1,5 @@
 -- Steps of `set_instantiation_argument`.
-use Rattle.std.proofs.Common.{arith, ◌≡◌, ℕ, ◌<◌, length, Bool, true, false, not, ◌||◌, ◌&&◌, ap, ◌∙◌, sym, refl, subst, Option, Some, None, IfSome, IsSome, IsSomeAnd, Err, String, Global, string_bytes, [], Result}
+use Rattle.std.proofs.Common.{arith, ◌≡◌, ℕ, ◌<◌, length, Bool, true, false, not, ◌||◌, ◌&&◌, ap, ◌∙◌, sym, refl, subst, Option, Some, None, IfSome, IsSome, IsSomeAnd, Ok, Err, String, Global, string_bytes, [], Result}
 use Rattle.std.specs.Prelude.{slice_get, nat_lt}
 use Rattle.std.specs.Option.{option_map}
 use Rattle.std.specs.FinSet as set
@@ -24,7 +24,7 @@ use Rattle.wac_nodes.specs.declared.node.NodeKind.TheVariants as code
 use Rattle.wac_nodes.specs.declared.packages.PackageId.{PackageId}
 use Rattle.wac_edges.specs.declared.edges.Edge.{Edge}
 use Rattle.wac_nodes.specs.declared.errors.InstantiationArgumentError.{InstantiationArgumentError}
-use Rattle.wac_nodes.specs.declared.errors.InstantiationArgumentError.TheVariants.{NodeIsNotAnInstantiation, InvalidArgumentName, ArgumentAlreadyPassed, ArgumentTypeMismatch}
+use Rattle.wac_nodes.specs.declared.errors.InstantiationArgumentError.TheVariants.{NodeIsNotAnInstantiation, InvalidArgumentName, ArgumentAlreadyPassed, ArgumentTypeMismatch, OutOfMemory}
 use Rattle.wac_composition.specs.declared.graph.CompositionGraph.TheInside.{Inside}
 use Rattle.wac_edges.specs.Edge.{edge_cmp, argument_edge}
 use Rattle.wac_nodes.specs.Graph as graph
@@ -32,7 +32,7 @@ use Rattle.wac_composition.specs.Arguments.{IsInstantiation, HasImport, Fits, Ca
 use Rattle.wac_nodes.specs.Graph.{Graph, GraphNode, Kind, node_at, package_at, package_in, package_of, imports_of, IsSatisfied, IsUnsatisfied, IsArgumentOf}
 use Rattle.wac_nodes.specs.Nodes.{node_of, kind_of, satisfied, satisfied_at, IsInstantiationAt}
 use Rattle.wac_composition.specs.Inside.{graph_of, Invariant}
-use Rattle.wac_nodes.specs.Steps.{SetsArgument, SetsOn, import_named}
+use Rattle.wac_nodes.specs.Steps.{SetsArgument, SetsOn, UnsetsArgument, UnsetsOn, import_named}
 use Rattle.wac_edges.proofs.EdgeLemmas.{edge_cmp_total, exact_edges, edge_cmp-IsAntisymmetric}
 use Rattle.wac_nodes.proofs.NodeLemmas.{get-nodes_of, nodes_of-same}
 use Rattle.wac_nodes.proofs.HeldLemmas.{imports_held}
@@ -54,6 +54,12 @@ sets_at a id argument n name result new had h =
     subst (λ o. IfSome o (λ m. IfSome (node_at (graph_of a) argument) (λ g. SetsOn (graph_of a) id m name argument g result new))) (sym at)
     (IfSome-eq (node_at (graph_of a) argument) (λ g. SetsOn (graph_of a) id (node_of n) name argument g result new) h)
 
+unsets_at : (a : Inside) (id argument : NodeId) (n : Node) (name : Name) (result : Result (Unit {0}) InstantiationArgumentError) (new : Graph) → get a.nodes id.0 ≡ Some n
+    → UnsetsOn (graph_of a) id (node_of n) name argument result new → UnsetsArgument (graph_of a) id name argument result new
+unsets_at a id argument n name result new had h =
+    let at : node_at (graph_of a) id ≡ Some (node_of n) = get-nodes_of a.nodes.slots id.0 ∙ ap (option_map node_of) had in
+    subst (λ o. IfSome o (λ m. UnsetsOn (graph_of a) id m name argument result new)) (sym at) h
+
 pub no_instantiation : (k : NodeKind) → ((s : BTreeSet ℕ) → k ≡ code.Instantiation s → ⊥) → kind_of k ≡ graph.instantiation → ⊥
 no_instantiation code.Definition h e = cc
 no_instantiation (code.Import name) h e = cc
@@ -62,6 +68,9 @@ no_instantiation code.Alias h e = cc
 
 pub not_instantiation : (a : Inside) (id argument : NodeId) (n : Node) (name : Name) → get a.nodes id.0 ≡ Some n → ((s : BTreeSet ℕ) → n.kind ≡ code.Instantiation s → ⊥) → SetsArgument (graph_of a) id name argument (Err (NodeIsNotAnInstantiation id)) (graph_of a)
 not_instantiation a id argument n name had not_one = sets_at a id argument n name (Err (NodeIsNotAnInstantiation id)) (graph_of a) had (λ g _. (refl, refl, no_instantiation n.kind not_one))
+
+pub not_instantiation_unset : (a : Inside) (id argument : NodeId) (n : Node) (name : Name) → get a.nodes id.0 ≡ Some n → ((s : BTreeSet ℕ) → n.kind ≡ code.Instantiation s → ⊥) → UnsetsArgument (graph_of a) id name argument (Err (NodeIsNotAnInstantiation id)) (graph_of a)
+not_instantiation_unset a id argument n name had not_one = unsets_at a id argument n name (Err (NodeIsNotAnInstantiation id)) (graph_of a) had (refl, refl, no_instantiation n.kind not_one)
 
 -- adding an edge that isn't there and removing it
 pub taken_back : (s : set.FinSet edge_cmp) (e : Edge) → set.contains s e ≡ false → set.remove (set.insert s e) e ≡ s
@@ -122,6 +131,14 @@ module _ (a : Inside) (v : Invariant a) (id : NodeId) (n : Node) (s : BTreeSet �
           sets_at a id argument n name (Err (InvalidArgumentName id text of_package)) (graph_of a) had
           (λ g _. (refl, refl, written, subst (λ x. IsSomeAnd x (λ q. string_bytes of_package ≡ q.name)) (sym package_is) titled, ap kind_of is, import_is None none))
 
+      pub invalid_name_unset : (argument : NodeId) (text of_package : String Global) → None ≡ named_at 0 name w.imports → string_bytes text ≡ name → string_bytes of_package ≡ p.name → UnsetsArgument (graph_of a) id name argument (Err (InvalidArgumentName id text of_package)) (graph_of a)
+      invalid_name_unset argument text of_package none written titled =
+          unsets_at a id argument n name (Err (InvalidArgumentName id text of_package)) (graph_of a) had
+          (refl, refl, written, subst (λ x. IsSomeAnd x (λ q. string_bytes of_package ≡ q.name)) (sym package_is) titled, ap kind_of is, import_is None none)
+
+      pub no_memory_unset : (argument : NodeId) → None ≡ named_at 0 name w.imports → UnsetsArgument (graph_of a) id name argument (Err OutOfMemory) (graph_of a)
+      no_memory_unset argument none = unsets_at a id argument n name (Err OutOfMemory) (graph_of a) had (refl, ap kind_of is, import_is None none)
+
       pub import_held : (position : ℕ) (kind : ItemKind) → Some (position, kind) ≡ named_at 0 name w.imports → IsWellFormed a.types → holds_type a.types (kind_type kind) ≡ true
       import_held position kind found law =
           let (e, j, place, at, same) = found_entry name 0 position kind w.imports found in
@@ -143,6 +160,19 @@ import_there g id name position kind import = split (node_at g id) import where
   split : (o : Option GraphNode) → IsSomeAnd o (λ m. (m.kind ≡ graph.instantiation) × (import_named g m name ≡ Some (position, kind))) → IsSome o
   split None h = absurd h
   split (Some x) _ = refl
+
+-- where the edge is taken away, the argument is unset
+pub unset : (g : Graph) (id argument : NodeId) (name : Name) (position : ℕ) (kind : ItemKind) (new : Graph) → HasImport g id name position kind → new ≡ record g { edges = set.remove g.edges (argument_edge argument.0 id.0 position) } → UnsetsArgument g id name argument (Ok tt) new
+unset g id argument name position kind new import is = split (node_at g id) import where
+  split : (o : Option GraphNode) → IsSomeAnd o (λ m. (m.kind ≡ graph.instantiation) × (import_named g m name ≡ Some (position, kind))) → IfSome o (λ n. UnsetsOn g id n name argument (Ok tt) new)
+  split None h = absurd h
+  split (Some m) h = (h.0, subst (λ x. IsSomeAnd x (λ e. new ≡ record g { edges = set.remove g.edges (argument_edge argument.0 id.0 e.0) })) (sym h.1) is)
+
+pub has_instantiation : (g : Graph) (id : NodeId) (name : Name) (position : ℕ) (kind : ItemKind) → HasImport g id name position kind → IsInstantiation g id
+has_instantiation g id name position kind import = split (node_at g id) import where
+  split : (o : Option GraphNode) → IsSomeAnd o (λ m. (m.kind ≡ graph.instantiation) × (import_named g m name ≡ Some (position, kind))) → IsSomeAnd o (λ n. n.kind ≡ graph.instantiation)
+  split None h = absurd h
+  split (Some m) h = h.0
 
 -- an instantiation, with the import of a name
 module _ (a : Inside) (v : Invariant a) (id : NodeId) (n : Node) (s : BTreeSet ℕ) (name : Name) (position : ℕ) (kind : ItemKind) (had : get a.nodes id.0 ≡ Some n) (is : n.kind ≡ code.Instantiation s) (import : HasImport (graph_of a) id name position kind) where

@@ -178,8 +178,8 @@ refused_for g sound law o e (inl is) cause stands = inr is
 refused_for g sound law o e (inr (named, names, there)) cause stands = inl (names ∙ ap Some (one_cause g sound law o named cause there stands))
 
 -- where nothing is refused no cause stands
-pub none_stands : (g : Graph) → (o : EncodeOptions) → IsAcyclic g.edges → HasNoConflict g → HasMerge g → AllWritable g → o.define_components ≡ true → (IsSome o.processor → ⊥) → (cause : Cause) → Stands g o cause → ⊥
-none_stands g o acyclic apart merges all define plain cause s = none_there g o acyclic apart merges (none_left g all o define plain) (kind_of_cause cause) s.0.0
+pub none_stands : (g : Graph) → (o : EncodeOptions) → IsAcyclic g.edges → HasNoConflict g → HasMerge g → AllWritable g → o.define_components ≡ true → (cause : Cause) → Stands g o cause → ⊥
+none_stands g o acyclic apart merges all define cause s = none_there g o acyclic apart merges (none_left g all o define) (kind_of_cause cause) s.0.0
 
 pub at_not_yet : (g : Graph) (o : EncodeOptions) → IsAcyclic g.edges → HasNoConflict g → HasMerge g → IsNotYet g o → IsRefused g o error.NotYet
 at_not_yet g o acyclic apart merges here = inr (not_yet, refl, stands_not_yet g o acyclic apart merges here)

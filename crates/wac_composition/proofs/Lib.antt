@@ -5,6 +5,7 @@ pub mod ImportLemmas
 pub mod ExportLemmas
 pub mod SatisfyLemmas
 pub mod ArgumentLemmas
+pub mod TakingLemmas
 pub mod EncodingLemmas
 pub mod MeansLemmas
 pub mod CauseLemmas

@@ -1,5 +1,5 @@
 -- The items that are written of a graph mean it.
-use Rattle.std.proofs.Common.{◌≡◌, ℕ, ◌<◌, Bool, true, false, not, List, [], ◌∷◌, ◌++◌, length, refl, ap, ◌∙◌, sym, subst, arith, append_assoc, eqb, Option, Some, None, IfSome, IfNone, IsSome, is_some, ◌≤◌, ◌⊎◌, inl, inr}
+use Rattle.std.proofs.Common.{◌≡◌, ℕ, ◌<◌, Bool, true, false, not, List, [], ◌∷◌, ◌++◌, length, map, refl, ap, ◌∙◌, sym, subst, arith, append_assoc, eqb, Option, Some, None, IfSome, IfNone, IsSome, is_some, ◌≤◌, ◌⊎◌, inl, inr}
 use Rattle.std.proofs.Math.Path.{fun_ext}
 use Rattle.std.specs.List.{flat_map}
 use Rattle.std.specs.FinSet as set
@@ -19,9 +19,9 @@ use Rattle.wac_nodes.specs.Graph.{Graph, GraphNode, Kind, node_at, node_number}
 use Rattle.wac_composition.specs.Inside.{graph_of, Invariant}
 use Rattle.wac_nodes.specs.Sound.{IsSound}
 use Rattle.wac_edges.specs.Order.{Writes, IsOnCycle, IsAcyclic, IsLowestOnCycle}
-use Rattle.wac_meaning.specs.Means.{is_there, is_written, is_import, IsThing, sort_of_kind, export_item_of, Means}
+use Rattle.wac_meaning.specs.Means.{is_there, is_written, is_import, IsThing, sort_of_kind, export_item_of, processor_customs, custom_item, Means}
 use Rattle.wac_meaning.specs.Encoding.{WritesNode, Progress, WroteAll, HasRoom, index_in}
-use Rattle.wac_causes.specs.NotYet.{AllWritable, IsNotYet, unset, defined, imported, undefined_components, processed, named}
+use Rattle.wac_causes.specs.NotYet.{AllWritable, IsNotYet, unset, defined, imported, undefined_components, named}
 use Rattle.wac_edges.proofs.WrittenOrder.{has, written_left, minus-push, minus-true, split_writes, slice_get-middle}
 use Rattle.wac_meaning.proofs.ThingLemmas.{IsPlain, is_written-node, node_of_written, all_things}
 use Rattle.wac_composition.proofs.EncodingLemmas.{node_is, none_past, by_lt}
@@ -29,7 +29,7 @@ use Rattle.wac_edges.proofs.ReachLemmas.{ordered_acyclic}
 use Rattle.std.proofs.lemmas.Option.{slice_get_within}
 use Rattle.wac_meaning.proofs.MeantLemmas.{IsAmong}
 use Rattle.wac_meaning.proofs.WrittenLemmas.{Counted, Earlier, slice_get-prefix}
-use Rattle.wac_meaning.proofs.EncodeLemmas.{AllSet, Done, adds_more, nothing_done, Exported, no_exports, export_more, means}
+use Rattle.wac_meaning.proofs.EncodeLemmas.{AllSet, Done, adds_more, nothing_done, Exported, no_exports, export_more, closed, means}
 use Rattle.wac_meaning.proofs.DefinedLemmas.{HasNoFirst}
 
 pub plain : (g : Graph) → AllWritable g → IsPlain g
@@ -105,40 +105,41 @@ module _ (counted : Counted) (earlier : Earlier) (g : Graph) (sound : IsSound g)
         (append_assoc items (export_item x.0 (sort_of_kind node.item_kind) (index (x.1).0) ∷ []) (flat_map (export_item_of g index) rest) ∙ ap (λ ys. items ++ (ys ++ flat_map (export_item_of g index) rest)) (sym one))
         (all_exported base index place rest (es ++ x ∷ []) (items ++ export_item x.0 (sort_of_kind node.item_kind) (index (x.1).0) ∷ []) (here ∙ sym (append_assoc es (x ∷ []) rest)) next)
 
-    means_written : (o : EncodeOptions) → o.define_components ≡ true → o.processor ≡ None → (indexes : List ℕ) → HasRoom g indexes → (q : Progress) → WroteAll g order (record { items = []; components = []; indexes = indexes }) q
-        → Means (q.items ++ flat_map (export_item_of g (index_in q.indexes)) g.exports) g o
-    means_written o define no_processor indexes room q wrote =
+    means_written : (o : EncodeOptions) → o.define_components ≡ true → (indexes : List ℕ) → HasRoom g indexes → (q : Progress) → WroteAll g order (record { items = []; components = []; indexes = indexes }) q
+        → Means ((q.items ++ flat_map (export_item_of g (index_in q.indexes)) g.exports) ++ map custom_item (processor_customs o.processor)) g o
+    means_written o define indexes room q wrote =
         let d = all_done order [] (record { items = []; components = []; indexes = indexes }) q refl room wrote (nothing_done counted earlier g sound (plain g all) order at is_thing (index_in indexes)) in
         let e = all_exported q.items (index_in q.indexes) d.place g.exports [] q.items refl (no_exports counted earlier g sound (plain g all) order at is_thing q.items q.components (index_in q.indexes) writes d) in
-        means counted earlier g sound (plain g all) order at is_thing o define no_processor (no_first g sound (plain g all)) (λ n node there. (all n node there).unnamed) q.items (q.items ++ flat_map (export_item_of g (index_in q.indexes)) g.exports) (index_in q.indexes) d.place writes (all_set g all) e d.in_place
+        let c = closed counted earlier g sound (plain g all) order at is_thing q.items (q.items ++ flat_map (export_item_of g (index_in q.indexes)) g.exports) (index_in q.indexes) d.place o.processor e in
+        means counted earlier g sound (plain g all) order at is_thing o define (no_first g sound (plain g all)) (λ n node there. (all n node there).unnamed) q.items
+        ((q.items ++ flat_map (export_item_of g (index_in q.indexes)) g.exports) ++ map custom_item (processor_customs o.processor)) (index_in q.indexes) d.place writes (all_set g all) c d.in_place
 
-  -- all nodes are written, and the exports behind them
-  pub means_all : (o : EncodeOptions) → o.define_components ≡ true → o.processor ≡ None → (indexes : List ℕ) → HasRoom g indexes → (p q : Progress) → p ≡ record { items = []; components = []; indexes = indexes } → WroteAll g order p q
-      → (items : List Item) → items ≡ q.items ++ flat_map (export_item_of g (index_in q.indexes)) g.exports → Means items g o
-  means_all o define no_processor indexes room p q start wrote items end =
+  -- all nodes are written, the exports behind them, and the processor last
+  pub means_all : (o : EncodeOptions) → o.define_components ≡ true → (indexes : List ℕ) → HasRoom g indexes → (p q : Progress) → p ≡ record { items = []; components = []; indexes = indexes } → WroteAll g order p q
+      → (items written : List Item) → items ≡ q.items ++ flat_map (export_item_of g (index_in q.indexes)) g.exports → written ≡ items ++ map custom_item (processor_customs o.processor) → Means written g o
+  means_all o define indexes room p q start wrote items written end last =
       let (at, is_thing) = all_things g sound (plain g all) order writes in
-      subst (λ its. Means its g o) (sym end) (means_written at is_thing o define no_processor indexes room q (subst (λ x. WroteAll g order x q) start wrote))
+      subst (λ its. Means its g o) (sym (last ∙ ap (λ its. its ++ map custom_item (processor_customs o.processor)) end)) (means_written at is_thing o define indexes room q (subst (λ x. WroteAll g order x q) start wrote))
 
--- where all nodes can be written and the options ask for no more, nothing is left for later
-pub none_left : (g : Graph) → AllWritable g → (o : EncodeOptions) → o.define_components ≡ true → (IsSome o.processor → ⊥) → IsNotYet g o → ⊥
-none_left g all o define none (unset n node i there is small lacks) = let (source, stands) = (all n node there).set is i small in lacks source stands
-none_left g all o define none (defined n node there is) = not_plain ((all n node there).plain) is where
+-- where all nodes can be written and components are defined, nothing is left for later
+pub none_left : (g : Graph) → AllWritable g → (o : EncodeOptions) → o.define_components ≡ true → IsNotYet g o → ⊥
+none_left g all o define (unset n node i there is small lacks) = let (source, stands) = (all n node there).set is i small in lacks source stands
+none_left g all o define (defined n node there is) = not_plain ((all n node there).plain) is where
   not_plain : {k : Kind} → (k ≡ graph.instantiation) ⊎ (k ≡ graph.alias) → k ≡ graph.definition → ⊥
   not_plain (inl p) q = cc
   not_plain (inr p) q = cc
-none_left g all o define none (imported n node name there is) = not_plain ((all n node there).plain) is where
+none_left g all o define (imported n node name there is) = not_plain ((all n node there).plain) is where
   not_plain : {k : Kind} → (k ≡ graph.instantiation) ⊎ (k ≡ graph.alias) → k ≡ graph.import name → ⊥
   not_plain (inl p) q = cc
   not_plain (inr p) q = cc
-none_left g all o define none (named n node there is) = unnamed node.name ((all n node there).unnamed) is where
+none_left g all o define (named n node there is) = unnamed node.name ((all n node there).unnamed) is where
   unnamed : {A : Type 0} (x : Option A) → x ≡ None → IsSome x → ⊥
   unnamed None _ h = cc
   unnamed (Some y) h _ = cc
-none_left g all o define none (undefined_components is) = clash o.define_components define is where
+none_left g all o define (undefined_components is) = clash o.define_components define is where
   clash : (b : Bool) → b ≡ true → b ≡ false → ⊥
   clash true _ h = cc
   clash false h _ = cc
-none_left g all o define none (processed some) = none some
 
 module _ (a : Inside) (v : Invariant a) (g : Graph) (view : graph_of a ≡ g) where
   pub sound_now : IsSound g

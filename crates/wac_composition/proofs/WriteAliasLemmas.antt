@@ -1,5 +1,5 @@
 -- What the fields say of aliases and exports that are written.
-use Rattle.std.proofs.Common.{refl, ◌≡◌, ℕ, zero, suc, ◌+◌, ◌<◌, ◌≤◌, true, false, List, [], ◌∷◌, ◌++◌, length, take, ap, ◌∙◌, sym, subst, arith, Some, IfSome, IsSome, IsSomeAnd, is_some, String, Global, string_bytes}
+use Rattle.std.proofs.Common.{refl, ◌≡◌, ℕ, zero, suc, ◌+◌, ◌<◌, ◌≤◌, true, false, List, [], ◌∷◌, ◌++◌, length, take, ap, ◌∙◌, sym, subst, arith, Some, None, Option, IfSome, IsSome, IsSomeAnd, is_some, String, Global, string_bytes}
 use Rattle.std.specs.Prelude.{slice_get}
 use Rattle.std.specs.List.{flat_map}
 use Rattle.std.specs.Option.{option_map}
@@ -22,7 +22,7 @@ use Rattle.wac_nodes.specs.declared.packages.PackageId.{PackageId}
 use Rattle.wac_composition.specs.declared.graph.CompositionGraph.TheInside.{Inside}
 use Rattle.wac_edges.specs.Edge.{alias_edge}
 use Rattle.wac_nodes.specs.Graph as graph
-use Rattle.wac_nodes.specs.Graph.{Graph, GraphNode, node_at, exports_of, node_number}
+use Rattle.wac_nodes.specs.Graph.{Graph, GraphNode, node_at, exports_of, node_number, IsSourceOf}
 use Rattle.wac_nodes.specs.Nodes.{node_of, kind_of}
 use Rattle.wac_composition.specs.Inside.{graph_of, Invariant}
 use Rattle.wac_meaning.specs.Means.{sort_of_kind, export_item_of}
@@ -167,3 +167,34 @@ module _ (a : Inside) (v : Invariant a) (n : ℕ) (h : IsSomeAnd (node_at (graph
 
             text_is : {x y : Name} → Some x ≡ Some y → x ≡ y
             text_is p = cc
+
+      -- so the node is the alias of an export of this name
+      pub alias_of : (text : Name) → option_map (λ e. e.0) (slice_get it.exports position) ≡ Some text → IsSourceOf (graph_of a) (node_number n) (node_number source) text
+      alias_of text named =
+          let (m, at, _) = some_node a n (λ x. x.kind ≡ graph.alias) h in
+          let (name, here) = exported_at m at in
+          let same_name : name ≡ text = text_is (sym (ap (option_map (λ e. e.0)) here) ∙ named) in
+          let first : exports_of (graph_of a) (node_of s) ≡ it.exports = exports_are a s i it is held in (
+            node_of s,
+            position,
+            m.item_kind,
+            node_is a source (Some s) had,
+            ap (λ es. slice_get es position) first ∙ here ∙ ap (λ (x : Name). Some (x, m.item_kind)) same_name,
+            stands,
+          ) where
+            text_is : {x y : Name} → Some x ≡ Some y → x ≡ y
+            text_is p = cc
+
+-- what an alias's edge leads to is an alias
+pub alias_target : (a : Inside) → Invariant a → (n source position : ℕ) → set.contains a.edges (alias_edge source n position) ≡ true → IsSomeAnd (node_at (graph_of a) (node_number n)) (λ x. x.kind ≡ graph.alias)
+alias_target a v n source position stands = by_nodes (node_at (graph_of a) (node_number source)) (node_at (graph_of a) (node_number n)) refl refl ((v.sound).ends (alias_edge source n position) stands) where
+  by_nodes : (o r : Option GraphNode) → node_at (graph_of a) (node_number source) ≡ o → node_at (graph_of a) (node_number n) ≡ r → IsSome o × IsSome r → IsSomeAnd r (λ x. x.kind ≡ graph.alias)
+  by_nodes None r from to h = absurd (none_some h.0)
+    where
+      none_some : IsSome {T = GraphNode} None → ⊥
+      none_some h = cc
+  by_nodes (Some s) None from to h = absurd (none_some h.1)
+    where
+      none_some : IsSome {T = GraphNode} None → ⊥
+      none_some h = cc
+  by_nodes (Some s) (Some t) from to h = ((v.sound).joins (alias_edge source n position) s t stands from to).0

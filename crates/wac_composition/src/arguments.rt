@@ -1,15 +1,15 @@
 //! What `set_instantiation_argument` looks up, tests and changes.
-ghost use Rattle.std.specs.Prelude.{◌≡◌, ◌≢◌, true, false, IsSome, OnOk, OnErr, IfOk, IfErr, Err, ◌||◌, ◌&&◌, ◌==◌, ℕ};
+ghost use Rattle.std.specs.Prelude.{◌≡◌, ◌≢◌, true, false, IsSome, OnOk, OnErr, IfOk, IfErr, Err, ◌||◌, ◌&&◌, ◌==◌, not, ℕ};
 ghost use Rattle.std.specs.FinSet as set;
 ghost use Rattle.std.specs.Option.{option_map};
 ghost use Rattle.slab.specs.Slab.{get};
 ghost use Rattle.wac_collection.specs.Collection.{holds_type};
 ghost use Rattle.wac_shapes.specs.Kinds.{kind_type};
-ghost use Rattle.wac_composition.specs.Arguments.{HasImport, Fits, CanBeGiven};
+ghost use Rattle.wac_composition.specs.Arguments.{HasImport, Fits, CanBeGiven, IsInstantiation};
 ghost use Rattle.wac_edges.specs.Edge.{argument_edge as labelled};
 ghost use Rattle.wac_nodes.specs.Graph.{node_at, IsArgumentOf};
 ghost use Rattle.wac_nodes.specs.Nodes.{IsInstantiationAt, satisfied_at, node_of};
-ghost use Rattle.wac_nodes.specs.Steps.{SetsArgument};
+ghost use Rattle.wac_nodes.specs.Steps.{SetsArgument, UnsetsArgument};
 ghost use Rattle.wac_nodes.specs.declared.node.NodeId.{NodeId as AnId};
 
 use crate::graph::CompositionGraph;
@@ -44,6 +44,7 @@ impl CompositionGraph {
         ensures found { IfOk result (λ i. HasImport self.now instantiation name.now i.0 i.1) }
         ensures held { IfOk result (λ i. holds_type self.now.types (kind_type i.1) ≡ true) }
         ensures refused { IfErr result (λ e. (argument : AnId) → SetsArgument self.now instantiation name.now argument (Err e) self.now) }
+        ensures lacks { IfErr result (λ e. (argument : AnId) → UnsetsArgument self.now instantiation name.now argument (Err e) self.now) }
     {
         self.types.law();
         let node = &self.nodes[instantiation.0];
@@ -128,6 +129,18 @@ impl CompositionGraph {
             }
         }
     }
+
+    /// Takes a node away as the argument for an instantiation's import at this position, where it is given.
+    pub(crate) fn take_argument(&mut self, instantiation: NodeId, position: usize, argument: NodeId)
+        requires { IsInstantiation self.old instantiation }
+        ensures { self.new ≡ record self.old { edges = set.remove self.old.edges (labelled argument.0 instantiation.0 position) } }
+    {
+        let edge = argument_edge(instantiation, position, argument);
+        if self.edges.contains(edge) {
+            self.edges.remove(edge);
+            unsatisfy(&mut self.nodes, instantiation.0, position);
+        }
+    }
 }
 
 /// Marks the import of an instantiation at this position as satisfied.
@@ -144,4 +157,18 @@ fn satisfy(nodes: &mut Slab<Node>, number: usize, position: usize) -> Result<(),
     };
     positions.insert(position)?;
     Ok(())
+}
+
+/// Marks the import of an instantiation at this position as not satisfied.
+fn unsatisfy(nodes: &mut Slab<Node>, number: usize, position: usize)
+    requires { IsInstantiationAt (get nodes.old number) }
+    ensures same { (q : ℕ) → option_map node_of (get nodes.new q) ≡ option_map node_of (get nodes.old q) }
+    ensures next { nodes.new.vacant_key ≡ nodes.old.vacant_key }
+    ensures marks { (q i : ℕ) → satisfied_at (get nodes.new q) i ≡ (satisfied_at (get nodes.old q) i && not (q == number && i == position)) }
+{
+    let node = &mut nodes[number];
+    let NodeKind::Instantiation(positions) = &mut node.kind else {
+        unreachable!()
+    };
+    positions.remove(&position);
 }

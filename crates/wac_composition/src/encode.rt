@@ -1,5 +1,5 @@
 //! From a graph to the bytes of one component.
-ghost use Rattle.std.specs.Prelude.{◌≡◌, ◌≢◌, ◌⊎◌, ◌++◌, [], ℕ, ◌<◌, nat_eq, IsSomeAnd, Bool, true, false, IsSome, IsTrue, OnOk, OnErr, IfOk, IfErr, IfSome, IfNone, Some, None, Ok, Err, List, length, slice_get, slice_set, slice_index_or};
+ghost use Rattle.std.specs.Prelude.{◌≡◌, ◌≢◌, ◌⊎◌, ◌++◌, [], ℕ, ◌<◌, nat_eq, IsSomeAnd, Bool, true, false, IsSome, IsTrue, OnOk, OnErr, IfOk, IfErr, IfSome, IfNone, Some, None, Ok, Err, List, length, map, slice_get, slice_set, slice_index_or};
 ghost use Rattle.std.specs.Bool.{OnTrue, OnFalse};
 ghost use Rattle.wac_binary.specs.Bytes.{bytes_of};
 ghost use Rattle.wac_binary.specs.Items.{Item as AnItem};
@@ -9,7 +9,7 @@ ghost use Rattle.std.specs.Ordering.{nat_cmp};
 ghost use Rattle.wac_binary.specs.Views.{arguments_of};
 ghost use Rattle.wac_edges.specs.Edge.{is_left};
 ghost use Rattle.wac_nodes.specs.Graph.{node_at, imports_of, instantiation, alias, node_number};
-ghost use Rattle.wac_meaning.specs.Means.{Means, is_there, same_package, sort_of_kind, export_item_of};
+ghost use Rattle.wac_meaning.specs.Means.{Means, is_there, same_package, sort_of_kind, export_item_of, custom_item, processor_customs};
 ghost use Rattle.wac_meaning.specs.Encoding.{WritesNode, AreArgumentItems, Wrote, WroteAll, HasRoom, index_in};
 ghost use Rattle.std.specs.Result.{IsErrAnd};
 ghost use Rattle.wac_causes.specs.Cause.{Cause, cause_of, Stands};
@@ -21,11 +21,11 @@ ghost use Rattle.wac_nodes.specs.declared.options.EncodeOptions.{EncodeOptions a
 use crate::graph::CompositionGraph;
 use std::alloc::{AllocError, Global};
 use std::collections::BTreeSet;
-use wac_binary::{ComponentBuilder, Sort};
+use wac_binary::{ComponentBuilder, Sort, producers};
 use wac_causes::EncodeError;
 use wac_edges::order::order;
 use wac_merge::laws::fault_law;
-use wac_nodes::{EncodeOptions, NodeId, NodeKind, PackageId};
+use wac_nodes::{EncodeOptions, NodeId, NodeKind, PackageId, Processor};
 use wac_types::ItemKind;
 
 /// A component that is being written: its items, the component index of each package, and the index of each node.
@@ -48,7 +48,7 @@ impl CompositionGraph {
     /// agree, with the first that does not agree with an earlier one and the first that it does not agree with,
     /// `ImportTypeMergeConflict` where an instantiation asks for it and `ExplicitImportMergeConflict` where it is an import
     /// node; else `ImportsUseEachOther` where imports rest on each other in a circle; else `NotYet` where an argument is not
-    /// set, a node is an import or has a name, or the options ask for imported components or a processor; else `TooLarge` where a size
+    /// set, a node is an import or has a name, or the options ask for imported components; else `TooLarge` where a size
     /// does not fit 32 bits. Where memory ran out it answers `OutOfMemory`.
     pub fn encode(&self, options: EncodeOptions<'_>) -> Result<Vec<u8>, EncodeError>
         ensures means { IfOk result (λ bytes. (items : List AnItem) × (bytes.items ≡ bytes_of items) × Means items self.now options.entry) }
@@ -61,12 +61,13 @@ impl CompositionGraph {
         let order = self.ordered()?;
         self.check_conflicts()?;
         self.check_merge()?;
-        if !options.define_components || options.processor.is_some() || self.holds_unwritten() {
+        if !options.define_components || self.holds_unwritten() {
             return Err(EncodeError::NotYet);
         }
         let mut encoder = Encoder::new(self.alloc, self.nodes.capacity())?;
         self.write_nodes(&mut encoder, &order)?;
         self.write_exports(&mut encoder)?;
+        encoder.write_processor(options.processor)?;
         Ok(encoder.builder.into_bytes()?)
     }
 
@@ -261,6 +262,19 @@ impl Encoder {
             components: Vec::new(alloc),
             indexes,
         })
+    }
+
+    /// Writes the custom section that names the processor, where one is given.
+    fn write_processor(&mut self, processor: Option<Processor<'_>>) -> Result<(), EncodeError>
+        ensures written { OnOk result (self.new.builder ≡ self.old.builder ++ map custom_item (processor_customs processor.entry)) }
+        ensures fault { IfErr result (λ e. cause_of e ≡ None) }
+    {
+        let Some(processor) = processor else {
+            return Ok(());
+        };
+        let content = producers(self.alloc, processor.name, processor.version)?;
+        self.builder.custom("producers", &content)?;
+        Ok(())
     }
 
     /// The component index of a package, whose bytes are written where they were not.

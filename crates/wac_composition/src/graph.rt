@@ -1,5 +1,5 @@
 //! The composition graph.
-ghost use Rattle.std.specs.Prelude.{◌≡◌, ◌≢◌, ◌↔◌, ◌⊎◌, ℕ, Bool, true, false, [], IsSome, IsTrue, is_some, OnOk, OnErr, IfOk, IfErr, IfSome, IfNone, Some, None, Ok, Err, ◌++◌, ◌∷◌, length, slice_get};
+ghost use Rattle.std.specs.Prelude.{◌≡◌, ◌≢◌, ◌==◌, ◌↔◌, ◌⊎◌, ℕ, Bool, true, false, [], IsSome, IsTrue, is_some, OnOk, OnErr, IfOk, IfErr, IfSome, IfNone, Some, None, Ok, Err, ◌++◌, ◌∷◌, length, slice_get};
 ghost use Rattle.std.specs.Option.{option_map, option_and_then, option_copied};
 ghost use Rattle.slab.specs.Slab.{ContainsKey, get, with_value};
 ghost use Rattle.semver.specs.Identifiers.{parts_of};
@@ -10,9 +10,12 @@ ghost use Rattle.wac_collection.specs.Uses.{AnswersBy, mention_fault, interface_
 ghost use Rattle.wac_types.specs.TreeLaws.{GrowthKeepsTrees};
 ghost use Rattle.wac_shapes.specs.Named.{named_at};
 ghost use Rattle.wac_shapes.specs.declared.component.«Type».TheVariants.{World as world_type};
-ghost use Rattle.wac_nodes.specs.Graph.{node_at, package_at, export_at, package_in, import_name, IsRegistered};
+ghost use Rattle.wac_nodes.specs.Graph.{node_at, package_at, export_at, package_in, import_name, IsRegistered, IsAliasOf, IsSourceOf};
+ghost use Rattle.wac_nodes.specs.declared.node.NodeId.{NodeId as AnId};
 ghost use Rattle.wac_nodes.specs.Sound.{IsSound};
-ghost use Rattle.wac_nodes.specs.Steps.{IsEmpty, Adds, Registers, Imports, Instantiates, Aliases, SetsArgument, Exports};
+ghost use Rattle.wac_nodes.specs.Steps.{IsEmpty, Adds, Registers, Imports, Instantiates, Aliases, SetsArgument, UnsetsArgument, SetsName, Exports, Unexports};
+ghost use Rattle.wac_nodes.specs.TakenOut.{without, taken_at};
+ghost use Rattle.wac_nodes.specs.Nodes.{names_of};
 
 use crate::arguments::argument_edge;
 use indexmap::IndexMap;
@@ -25,7 +28,8 @@ use std::ops::Index;
 use wac_edges::edges::{Edge, Edges, Label};
 use wac_nodes::{
     AliasError, BorrowedPackageKey, ExportError, ImportError, InstantiationArgumentError, Node,
-    NodeId, NodeKind, PackageId, RegisterPackageError, Slot, export_fault, import_fault,
+    NodeId, NodeKind, PackageId, RegisterPackageError, Slot, UnexportError, export_fault,
+    import_fault,
 };
 use wac_types::laws::growth_keeps_trees;
 use wac_types::{
@@ -357,6 +361,19 @@ impl CompositionGraph {
         Ok(NodeId(number))
     }
 
+    /// The instance that a node is the alias of, and the name of the aliased export. None of another kind of node, and of an id of no node.
+    pub fn get_alias_source(&self, id: NodeId) -> Option<(NodeId, &str)>
+        ensures source { IfSome result (λ s. IsSourceOf self.now id s.0 s.1.now) }
+        ensures none { IfNone result ((instance : AnId) (position : ℕ) → IsAliasOf self.now instance position id → ⊥) }
+    {
+        let (source, position) = self.edges.alias_source(id.0)?;
+        let ItemKind::Instance(interface) = self.nodes[source].item_kind else {
+            unreachable!()
+        };
+        let name = self.types[interface].exports.name_at(position);
+        Some((NodeId(source), name))
+    }
+
     /// Gives a node as the argument of this name to an instantiation; where it is given already, nothing changes.
     /// Answers `NodeIsNotAnInstantiation`, `InvalidArgumentName` where the package's world has no import of this name,
     /// `ArgumentAlreadyPassed` where another node is given, `ArgumentTypeMismatch` where the node's item is no subtype
@@ -381,6 +398,33 @@ impl CompositionGraph {
         Ok(())
     }
 
+    /// Takes a node away as the argument of this name of an instantiation; where it is not given, nothing changes.
+    /// Answers `NodeIsNotAnInstantiation`, and `InvalidArgumentName` where the package's world has no import of this name,
+    /// or `OutOfMemory` in place of it where memory ran out; then nothing has changed. Taking away takes no memory.
+    pub fn unset_instantiation_argument(
+        &mut self,
+        instantiation: NodeId,
+        argument_name: &str,
+        argument: NodeId,
+    ) -> Result<(), InstantiationArgumentError>
+        requires { IsSome (node_at self.old instantiation) }
+        ensures { UnsetsArgument self.old instantiation argument_name.now argument result self.new }
+    {
+        let (position, _) = self.import_of(instantiation, argument_name)?;
+        self.take_argument(instantiation, position, argument);
+        Ok(())
+    }
+
+    /// Names a node, in place of any name that it has. Answers want of memory; then nothing has changed.
+    pub fn set_node_name(&mut self, node: NodeId, name: &str) -> Result<(), AllocError>
+        requires { IsSome (node_at self.old node) }
+        ensures { SetsName self.old node name.now result self.new }
+    {
+        let name = String::from_str(self.alloc, name)?;
+        set_name(&mut self.nodes, node.0, name);
+        Ok(())
+    }
+
     /// Exports a node by a further name, last in order. Answers `ExportAlreadyExists` where the name is taken,
     /// `InvalidExportName` where the text is no component name or that of a hash, a url or a dependency, and
     /// `OutOfMemory` where memory ran out; then nothing has changed.
@@ -401,6 +445,20 @@ impl CompositionGraph {
         let own = String::from_str(self.alloc, name)?;
         self.exports.insert(key, node)?;
         set_export_name(&mut self.nodes, node.0, own);
+        Ok(())
+    }
+
+    /// Takes all export names of a node away; from the last to the first, each time the last export of the list takes the freed place.
+    /// Answers `MustExportDefinition` for a type definition; then nothing has changed. Takes no memory.
+    pub fn unexport(&mut self, node: NodeId) -> Result<(), UnexportError>
+        requires { IsSome (node_at self.old node) }
+        ensures { Unexports self.old node result self.new }
+    {
+        if let NodeKind::Definition = self.nodes[node.0].kind {
+            return Err(UnexportError::MustExportDefinition);
+        }
+        take_exports(&mut self.exports, node);
+        clear_export_name(&mut self.nodes, node.0);
         Ok(())
     }
 
@@ -474,4 +532,43 @@ fn set_export_name(nodes: &mut Slab<Node>, number: usize, name: String)
 {
     let node = &mut nodes[number];
     node.export_name = Some(name);
+}
+
+fn set_name(nodes: &mut Slab<Node>, number: usize, name: String)
+    requires { ContainsKey nodes.old number }
+    ensures { IfSome (get nodes.old number) (λ n. nodes.new ≡ with_value nodes.old number (record n { name = Some name })) }
+{
+    let node = &mut nodes[number];
+    node.name = Some(name);
+}
+
+fn clear_export_name(nodes: &mut Slab<Node>, number: usize)
+    requires { ContainsKey nodes.old number }
+    ensures { IfSome (get nodes.old number) (λ n. nodes.new ≡ with_value nodes.old number (record n { export_name = None })) }
+{
+    let node = &mut nodes[number];
+    node.export_name = None;
+}
+
+/// Takes the exports of a node out, from the last to the first; each time the last export takes the freed place.
+fn take_exports(exports: &mut IndexMap<String, NodeId>, node: NodeId)
+    ensures { names_of exports.new.entries ≡ without (λ m. m.0 == node.0) (names_of exports.old.entries) }
+{
+    let mut i = exports.len();
+    while i > 0 {
+        i -= 1;
+        take_export(exports, node, i);
+    }
+}
+
+/// Takes the export at a position out, where it is one of the node; the last export takes its place.
+fn take_export(exports: &mut IndexMap<String, NodeId>, node: NodeId, position: usize)
+    ensures { names_of exports.new.entries ≡ taken_at (λ m. m.0 == node.0) position (slice_get (names_of exports.old.entries) position) (names_of exports.old.entries) }
+{
+    let Some((_, other)) = exports.get_index(position) else {
+        return;
+    };
+    if other.0 == node.0 {
+        exports.swap_remove_index(position);
+    }
 }

@@ -12,7 +12,11 @@ use Rattle.wac_shapes.specs.Name.{Name, option_case}
 use Rattle.wac_shapes.specs.declared.component.ItemKind.{ItemKind}
 use Rattle.wac_binary.specs.declared.sorts.Sort.{Sort}
 use Rattle.wac_binary.specs.declared.sorts.Sort.TheVariants as sort
-use Rattle.wac_binary.specs.Items.{Item, alias_item, export_alias, export_item}
+use Rattle.wac_binary.specs.Items.{Item, custom, alias_item, export_alias, export_item}
+use Rattle.wac_binary.specs.Customs as custom_section
+use Rattle.wac_binary.specs.Customs.{producers_bytes}
+use Rattle.std.proofs.lemmas.List.{map-append}
+use Rattle.wac_nodes.specs.declared.options.Processor.{Processor}
 use Rattle.wac_binary.specs.Indexes.{space, indexes}
 use Rattle.wac_binary.specs.Meaning.{Thing, stands_for, meaning}
 use Rattle.wac_binary.specs.HasMeaning.{HasMeaning, IsSomething}
@@ -35,7 +39,7 @@ use Rattle.wac_edges.proofs.EdgeLemmas.{exact_edges}
 use Rattle.wac_edges.proofs.WrittenOrder.{minus, eqb_same, all_in}
 use Rattle.wac_meaning.proofs.ThingLemmas.{IsPlain, is_written-node}
 use Rattle.wac_meaning.proofs.MeantLemmas.{meant-push, something, IsAmong, new_name}
-use Rattle.wac_meaning.proofs.MeaningLemmas.{export_shown, export_others, indexes-push}
+use Rattle.wac_meaning.proofs.MeaningLemmas.{export_shown, export_others, custom_rest, indexes-push}
 use Rattle.wac_meaning.proofs.WrittenLemmas.{Counted, Earlier, Written, with_component, instance_more, alias_more, used-append, HasItem-push, used_prefix}
 use Rattle.wac_meaning.proofs.DefinedLemmas.{AreMade, defined_components, no_package_imports, made_instantiations, HasNoFirst, further_all, no_first_exports, no_names}
 use Rattle.wac_nodes.specs.declared.options.EncodeOptions.{EncodeOptions}
@@ -216,11 +220,65 @@ module _ (counted : Counted) (earlier : Earlier) (g : Graph) (sound : IsSound g)
         indexes_rise : (k : ℕ) (its : List Item) (x : Item) (j : ℕ) → j < indexes k its → j < indexes k (its ++ x ∷ [])
         indexes_rise k its x j small = omega (arith, indexes-push k its x)
 
+  -- all nodes are written, all exports behind them, and these custom sections last
+  pub record Closed (base : List Item) (customs : List (Name × List ℕ)) (items : List Item) (index place : ℕ → ℕ) : Type 0 where
+    pub split : items ≡ base ++ flat_map (export_item_of g index) g.exports ++ map custom_item customs
+    pub meant : HasMeaning items
+    pub imports : (meaning items).imports ≡ []
+    pub customs_are : (meaning items).customs ≡ customs
+    pub bytes : (meaning items).nested_bytes ≡ map (package_bytes g) (used_packages g order)
+    pub made : AreMade g at order (instantiations g order) (meaning items).instantiations
+    pub exports : map shown (meaning items).exports ≡ flat_map (export_of g at) g.exports
+    pub stand : (n : ℕ) (node : GraphNode) → node_at g (node_number n) ≡ Some node
+        → (index n < indexes (space (sort_of_kind node.item_kind)) items) × (stands_for (meaning items) (sort_of_kind node.item_kind) (index n) ≡ at n)
+    pub own : (n : ℕ) (node : GraphNode) → node_at g (node_number n) ≡ Some node → HasItem items node (index n) (place n)
+
+  no_customs : (base items : List Item) (index place : ℕ → ℕ) → Exported base g.exports items index place → Closed base [] items index place
+  no_customs base items index place e = record {
+    split = e.split ∙ sym (append-nil (base ++ flat_map (export_item_of g index) g.exports));
+    meant = e.meant;
+    imports = e.imports;
+    customs_are = e.customs;
+    bytes = e.bytes;
+    made = e.made;
+    exports = e.exports;
+    stand = e.stand;
+    own = e.own;
+  }
+
+  -- one custom section more
+  custom_more : (base : List Item) (customs : List (Name × List ℕ)) (items : List Item) (index place : ℕ → ℕ) (name : Name) (bytes : List ℕ) → Closed base customs items index place
+      → Closed base (customs ++ (name, bytes) ∷ []) (items ++ custom name bytes ∷ []) index place
+  custom_more base customs items index place name bytes c =
+      let x : Item = custom name bytes in
+      let o = custom_rest items name bytes in
+      let shown_items : List Item = base ++ flat_map (export_item_of g index) g.exports in
+      record {
+        split = ap (λ xs. xs ++ x ∷ []) c.split ∙ append_assoc shown_items (map custom_item customs) (x ∷ []) ∙ ap (λ ys. shown_items ++ ys) (sym (map-append custom_item customs ((name, bytes) ∷ [])));
+        meant = meant-push items x c.meant tt;
+        imports = ap (λ r. r.imports) o ∙ c.imports;
+        customs_are = ap (λ r. r.customs) o ∙ ap (λ cs. cs ++ (name, bytes) ∷ []) c.customs_are;
+        bytes = ap (λ r. r.nested_bytes) o ∙ c.bytes;
+        made = subst (λ made. AreMade g at order (instantiations g order) made) (sym (ap (λ r. r.instantiations) o)) c.made;
+        exports = ap (λ r. map shown r.exports) o ∙ c.exports;
+        stand = λ n node there.
+            let s = c.stand n node there in
+            (indexes_rise (space (sort_of_kind node.item_kind)) (index n) s.0, earlier items (x ∷ []) (sort_of_kind node.item_kind) (index n) s.0 ∙ s.1);
+        own = λ n node there. HasItem-push items x node (index n) (place n) (c.own n node there);
+      } where
+        indexes_rise : (k : ℕ) (j : ℕ) → j < indexes k items → j < indexes k (items ++ custom name bytes ∷ [])
+        indexes_rise k j small = omega (arith, indexes-push k items (custom name bytes))
+
+  -- the processor is named, where one is given
+  pub closed : (base items : List Item) (index place : ℕ → ℕ) (p : Option Processor) → Exported base g.exports items index place → Closed base (processor_customs p) (items ++ map custom_item (processor_customs p)) index place
+  closed base items index place None e = subst (λ its. Closed base [] its index place) (sym (append-nil items)) (no_customs base items index place e)
+  closed base items index place (Some p) e = custom_more base [] items index place custom_section.producers (producers_bytes p.name.now p.version.now) (no_customs base items index place e)
+
   -- the items mean the graph
-  pub means : (o : EncodeOptions) → o.define_components ≡ true → o.processor ≡ None → HasNoFirst g → ((n : ℕ) (node : GraphNode) → node_at g (node_number n) ≡ Some node → node.name ≡ None)
-      → (base items : List Item) (index place : ℕ → ℕ) → Writes g.edges (is_written g) order → AllSet g → Exported base g.exports items index place
+  pub means : (o : EncodeOptions) → o.define_components ≡ true → HasNoFirst g → ((n : ℕ) (node : GraphNode) → node_at g (node_number n) ≡ Some node → node.name ≡ None)
+      → (base items : List Item) (index place : ℕ → ℕ) → Writes g.edges (is_written g) order → AllSet g → Closed base (processor_customs o.processor) items index place
       → ((i j n m : ℕ) → i < j → slice_get order i ≡ Some n → slice_get order j ≡ Some m → place n < place m) → Means items g o
-  means o define no_processor no_first unnamed base items index place writes all e in_place = record {
+  means o define no_first unnamed base items index place writes all e in_place = record {
     order = order;
     in_order = writes;
     at = at;
@@ -239,8 +297,8 @@ module _ (counted : Counted) (earlier : Earlier) (g : Graph) (sound : IsSound g)
     in_place = in_place;
     names = [];
     named = no_names g index unnamed;
-    customs = e.customs ∙ ap processor_customs (sym no_processor);
+    customs = e.customs_are;
     body = base;
-    last = e.split ∙ ap (λ es. base ++ flat_map (export_item_of g index) es) (sym (further_all g no_first)) ∙ sym (append-nil (base ++ flat_map (export_item_of g index) (further_exports g)))
-        ∙ ap (λ cs. base ++ flat_map (export_item_of g index) (further_exports g) ++ map custom_item cs) (sym e.customs);
+    last = e.split ∙ ap (λ es. base ++ flat_map (export_item_of g index) es ++ map custom_item (processor_customs o.processor)) (sym (further_all g no_first))
+        ∙ ap (λ cs. base ++ flat_map (export_item_of g index) (further_exports g) ++ map custom_item cs) (sym e.customs_are);
   }

@@ -4,7 +4,7 @@ use Rattle.wac_shapes.specs.Name.{Name}
 use Rattle.wac_collection.specs.Tree.{Tree}
 use Rattle.wac_binary.specs.declared.sorts.Sort.{Sort}
 use Rattle.wac_binary.specs.declared.sorts.Sort.TheVariants as sort
-use Rattle.wac_binary.specs.Items.{Item, nested, instantiate, alias_item, export_alias, export_item}
+use Rattle.wac_binary.specs.Items.{Item, custom, nested, instantiate, alias_item, export_alias, export_item}
 use Rattle.wac_binary.specs.Indexes.{indexes, is_in, adds}
 use Rattle.wac_binary.specs.Unfold.{Scope, with_alias, bound_at}
 use Rattle.wac_binary.specs.Meaning.{Thing, instance_at, component_at, projected, Root, Instantiation, Export, start, things, thing_at, stands_for, with_thing, read, read_all, meaning}
@@ -92,6 +92,10 @@ pub export_others : (items : List Item) (t : Sort) (i : ℕ) (name : Name)
 export_others items t i name =
     let e = ap rest (meaning-push items (export_item name t i)) ∙ rest-with_thing _ t (stands_for (meaning items) t i) in
     (ap (λ r. r.imports) e, ap (λ r. r.nested_bytes) e, ap (λ r. r.instantiations) e, ap (λ r. r.customs) e)
+
+-- what a custom section adds
+pub custom_rest : (items : List Item) (name : Name) (bytes : List ℕ) → rest (meaning (items ++ custom name bytes ∷ [])) ≡ record (rest (meaning items)) { customs = (meaning items).customs ++ (name, bytes) ∷ [] }
+custom_rest items name bytes = ap rest (meaning-push items (custom name bytes))
 
 -- what a component adds
 pub nested_bytes_more : (items : List Item) (bytes : List ℕ) → rest (meaning (items ++ nested bytes ∷ [])) ≡ record (rest (meaning items)) { nested_bytes = (meaning items).nested_bytes ++ bytes ∷ [] }

@@ -1,4 +1,5 @@
 pub mod Added
+pub mod TakenOut
 pub mod JoinLemmas
 pub mod SoundLemmas
 pub mod PartLemmas

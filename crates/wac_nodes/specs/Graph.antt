@@ -107,6 +107,12 @@ imports_of g n = of_package (package_of g n)
 abbrev pub IsAliasOf : Graph → NodeId → ℕ → NodeId → Type 0
 IsAliasOf g instance position node = set.contains g.edges (alias_edge instance.0 node.0 position) ≡ true
 
+-- the node is the alias of an instance's export of this name
+abbrev pub IsSourceOf : Graph → NodeId → NodeId → Name → Type 0
+IsSourceOf g node instance name =
+    (source : GraphNode) × (position : ℕ) × (kind : ItemKind)
+    × (node_at g instance ≡ Some source) × (slice_get (exports_of g source) position ≡ Some (name, kind)) × IsAliasOf g instance position node
+
 -- the node is the argument for an instantiation's import at this position
 abbrev pub IsArgumentOf : Graph → NodeId → ℕ → NodeId → Type 0
 IsArgumentOf g consumer position node = set.contains g.edges (argument_edge node.0 consumer.0 position) ≡ true

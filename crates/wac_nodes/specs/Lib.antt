@@ -5,6 +5,7 @@ pub mod PackageKeys
 pub mod Sound
 pub mod ExternName
 pub mod Steps
+pub mod TakenOut
 pub mod Asked
 pub mod Imports
 pub mod Entries

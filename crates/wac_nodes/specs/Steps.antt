@@ -1,5 +1,5 @@
 -- The calls as steps from graph to graph.
-use Rattle.std.specs.Prelude.{◌≡◌, ℕ, Option, Some, None, Result, Ok, Err, IfSome, IsSome, IsSomeAnd, List, [], ◌∷◌, ◌++◌, string_bytes, length, slice_get, slice_set, ◌⊎◌}
+use Rattle.std.specs.Prelude.{◌≡◌, ℕ, Option, Some, None, Result, Ok, Err, IfSome, IsSome, IsSomeAnd, List, [], ◌∷◌, ◌++◌, string_bytes, length, slice_get, slice_set, ◌⊎◌, ◌==◌}
 use Rattle.std.specs.FinMap as map
 use Rattle.std.specs.FinSet as set
 use Rattle.std.specs.declared.alloc.AllocError.{AllocError}
@@ -20,6 +20,8 @@ use Rattle.wac_nodes.specs.declared.errors.AliasError.{AliasError}
 use Rattle.wac_nodes.specs.declared.errors.AliasError.TheVariants as alias_error
 use Rattle.wac_nodes.specs.declared.errors.ExportError.{ExportError}
 use Rattle.wac_nodes.specs.declared.errors.ExportError.TheVariants as export_error
+use Rattle.wac_nodes.specs.declared.errors.UnexportError.{UnexportError}
+use Rattle.wac_nodes.specs.declared.errors.UnexportError.TheVariants as unexport
 use Rattle.wac_nodes.specs.declared.errors.ImportError.{ImportError}
 use Rattle.wac_nodes.specs.declared.errors.ImportError.TheVariants as import_error
 use Rattle.wac_nodes.specs.declared.errors.InstantiationArgumentError.{InstantiationArgumentError}
@@ -28,6 +30,7 @@ use Rattle.wac_nodes.specs.declared.node.NodeId.{NodeId}
 use Rattle.wac_nodes.specs.declared.packages.PackageId.{PackageId}
 use Rattle.wac_edges.specs.Edge.{alias_edge, argument_edge}
 use Rattle.wac_nodes.specs.ExternName.{IsImportName, IsExportName, HasExportFault}
+use Rattle.wac_nodes.specs.TakenOut.{without}
 use Rattle.wac_nodes.specs.Graph as graph
 use Rattle.wac_nodes.specs.Graph.{Graph, GraphNode, node_at, package_at, export_at, package_of, interface_of, exports_of, imports_of, IsAliasOf, IsArgumentOf, IsSatisfied, IsUnsatisfied, IsRegistered, IsImportOf}
 
@@ -161,3 +164,34 @@ SetsOn old id n name argument given (Err argument_error.OutOfMemory) new = new �
 abbrev pub SetsArgument : Graph → NodeId → Name → NodeId → Result (Unit {0}) InstantiationArgumentError → Graph → Type 0
 SetsArgument old id name argument result new =
     IfSome (node_at old id) (λ n. IfSome (node_at old argument) (λ given. SetsOn old id n name argument given result new))
+
+-- The argument's edge is taken away, where it stands. Memory is asked for by the text of a refusal alone.
+abbrev pub UnsetsOn : Graph → NodeId → GraphNode → Name → NodeId → Result (Unit {0}) InstantiationArgumentError → Graph → Type 0
+UnsetsOn old id n name argument (Ok _) new =
+    (n.kind ≡ graph.instantiation) × IsSomeAnd (import_named old n name) (λ e. new ≡ record old { edges = set.remove old.edges (argument_edge argument.0 id.0 e.0) })
+UnsetsOn old id n name argument (Err (argument_error.NodeIsNotAnInstantiation node)) new =
+    (new ≡ old) × (node ≡ id) × (n.kind ≡ graph.instantiation → ⊥)
+UnsetsOn old id n name argument (Err (argument_error.InvalidArgumentName node text of_package)) new =
+    (new ≡ old) × (node ≡ id) × (string_bytes text ≡ name) × IsSomeAnd (package_of old n) (λ p. string_bytes of_package ≡ p.name)
+    × (n.kind ≡ graph.instantiation) × (import_named old n name ≡ None)
+UnsetsOn old id n name argument (Err argument_error.OutOfMemory) new =
+    (new ≡ old) × (n.kind ≡ graph.instantiation) × (import_named old n name ≡ None)
+UnsetsOn old id n name argument (Err (argument_error.ArgumentAlreadyPassed _ _)) new = ⊥
+UnsetsOn old id n name argument (Err (argument_error.ArgumentTypeMismatch _ _)) new = ⊥
+
+abbrev pub UnsetsArgument : Graph → NodeId → Name → NodeId → Result (Unit {0}) InstantiationArgumentError → Graph → Type 0
+UnsetsArgument old id name argument result new = IfSome (node_at old id) (λ n. UnsetsOn old id n name argument result new)
+
+-- the node has this name, in place of any that it had
+abbrev pub SetsName : Graph → NodeId → Name → Result (Unit {0}) AllocError → Graph → Type 0
+SetsName old id name (Ok _) new = IfSome (node_at old id) (λ n. new ≡ record old { nodes = map.insert old.nodes id.0 (record n { name = Some name }) })
+SetsName old id name (Err _) new = new ≡ old
+
+-- The node has no export name any more: its entries are taken out, from the last to the first, and each time the last entry of the
+-- list takes the freed place. A definition keeps its names.
+abbrev pub Unexports : Graph → NodeId → Result (Unit {0}) UnexportError → Graph → Type 0
+Unexports old id (Ok _) new = IfSome (node_at old id) (λ n. (n.kind ≡ graph.definition → ⊥) × (new ≡ record old {
+  nodes = map.insert old.nodes id.0 (record n { export_name = None });
+  exports = without (λ m. m.0 == id.0) old.exports;
+}))
+Unexports old id (Err unexport.MustExportDefinition) new = (new ≡ old) × IfSome (node_at old id) (λ n. n.kind ≡ graph.definition)

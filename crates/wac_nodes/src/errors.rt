@@ -130,6 +130,14 @@ impl<T: Drop> From<AllocFailed<T>> for ExportError {
     }
 }
 
+/// Why `unexport` is refused.
+#[derive(Debug, Drop, Error)]
+pub enum UnexportError {
+    /// The node is a type definition.
+    #[error("cannot unexport a type definition")]
+    MustExportDefinition,
+}
+
 /// Why `set_instantiation_argument` is refused.
 #[derive(Debug, Drop, Error)]
 pub enum InstantiationArgumentError {

@@ -13,6 +13,7 @@ mod packages;
 
 pub use errors::{
     AliasError, ExportError, ImportError, InstantiationArgumentError, RegisterPackageError,
+    UnexportError,
 };
 pub use names::{export_fault, import_fault, one_export_answer};
 pub use node::{Node, NodeId, NodeKind};

@@ -79,6 +79,16 @@ impl Node {
         }
     }
 
+    /// The node's name, if it has one.
+    pub fn name(&self) -> Option<&str>
+        ensures { option_map (λ s. s.now) result ≡ option_map string_bytes self.now.name }
+    {
+        match &self.name {
+            Some(text) => Some(text.as_str()),
+            None => None,
+        }
+    }
+
     /// The name by which the node was exported last, if it is exported.
     pub fn export_name(&self) -> Option<&str>
         ensures { option_map (λ s. s.now) result ≡ option_map string_bytes self.now.export_name }

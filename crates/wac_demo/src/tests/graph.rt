@@ -441,12 +441,23 @@ fn options_that_are_not_served_yet(rt: HostRuntime) -> Result<(), Fail> {
         ..plain
     };
     assert_eq!(rt; encoded(&rt, calls, imported)?.as_str(), NOT_YET);
+    Ok(())
+}
+
+#[test]
+fn a_processor_is_named_last(rt: HostRuntime) -> Result<(), Fail> {
     let processor = Some(Processor {
-        name: "wac_demo",
-        version: "1.0.0",
+        name: "x",
+        version: "1",
     });
-    let processed = EncodeOptions { processor, ..plain };
-    assert_eq!(rt; encoded(&rt, calls, processed)?.as_str(), NOT_YET);
+    let options = EncodeOptions {
+        processor,
+        ..EncodeOptions::default()
+    };
+    assert_eq!(rt;
+        encoded(&rt, &[], options)?.as_str(),
+        "0061736d0d000100001d0970726f647563657273010c70726f6365737365642d62790101780131"
+    );
     Ok(())
 }
 

@@ -1,7 +1,7 @@
-use Rattle.std.proofs.Common.{◌≡◌, ◌⊎◌, Option, Some, None, is_some, false, refl, IfSome, [], arith, ap, ◌∙◌, sym, subst, nat_eq}
+use Rattle.std.proofs.Common.{◌≡◌, ◌⊎◌, Some, IfSome, [], arith, ap, ◌∙◌, sym, subst, nat_eq}
 use Rattle.std.specs.List.{list_any}
 use Rattle.wac_causes.specs.declared.errors.EncodeError.TheVariants.{NotYet, OutOfMemory}
-use Rattle.wac_causes.specs.NotYet.{undefined_components, processed}
+use Rattle.wac_causes.specs.NotYet.{undefined_components}
 use Rattle.wac_causes.specs.Cause.{Stands, cause_of}
 use Rattle.wac_meaning.specs.Encoding.{WroteAll}
 use Rattle.wac_composition.specs.EncoderView.{progress}
@@ -10,11 +10,7 @@ use Rattle.wac_composition.proofs.WriteArgumentsLemmas.{room_kept}
 use Rattle.wac_causes.proofs.StandsLemmas.{stands_not_yet}
 use Rattle.wac_composition.proofs.CauseLemmas.{names_cause, refused_for, none_stands, at_not_yet, exit_cause, exit_refused}
 use Rattle.wac_composition.proofs.graph.CompositionGraph.encode.Goals as goal
-use Rattle.wac_composition.proofs.graph.CompositionGraph.encode.Goals.{then-not-options-via-then-not-options, then-not-options-via-else-not-options+then-is_some, then-not-options-via-else-not-options+else-is_some+then-holds_unwritten}
-
-none_there : {A : Type 0} (x : Option A) → is_some x ≡ false → x ≡ None
-none_there None h = refl
-none_there (Some y) h = cc
+use Rattle.wac_composition.proofs.graph.CompositionGraph.encode.Goals.{then-not-options-via-then-not-options, then-not-options-via-else-not-options+then-holds_unwritten}
 
 pub returns-in_err-order-clause-cause : goal.returns-in_err-order-clause-cause
 returns-in_err-order-clause-cause c = exit_cause (λ e. IfSome (cause_of e) (Stands c.args.self.now c.args.options)) c.from_residual.result (c.in_err-order.field-0).0 c.from_residual.ensures.1
@@ -43,25 +39,26 @@ returns-in_err-check_merge-clause-refused c = λ cause stands. exit_refused (λ 
 pub returns-then-not-options-clause-cause : goal.returns-then-not-options-clause-cause
 returns-then-not-options-clause-cause c = stands_not_yet c.args.self.now c.args.options c.in_ok-order.ensures.acyclic c.in_ok-check_conflicts.ensures.none c.in_ok-check_merge.ensures.merges (elim c.then-not-options.branch [
   | then-not-options-via-then-not-options w ↦ undefined_components w.if-not-options.true
-  | then-not-options-via-else-not-options+then-is_some w ↦ processed (sym w.is_some.ensures ∙ w.if-is_some.true)
-  | then-not-options-via-else-not-options+else-is_some+then-holds_unwritten w ↦ w.if-holds_unwritten.ensures.unwritten c.args.options
+  | then-not-options-via-else-not-options+then-holds_unwritten w ↦ w.if-holds_unwritten.ensures.unwritten c.args.options
 ])
 
 pub returns-then-not-options-clause-refused : goal.returns-then-not-options-clause-refused
 returns-then-not-options-clause-refused c = refused_for c.args.self.now c.law-2.ensures c.fault_law.ensures c.args.options NotYet (at_not_yet c.args.self.now c.args.options c.in_ok-order.ensures.acyclic c.in_ok-check_conflicts.ensures.none c.in_ok-check_merge.ensures.merges (elim c.then-not-options.branch [
   | then-not-options-via-then-not-options w ↦ undefined_components w.if-not-options.true
-  | then-not-options-via-else-not-options+then-is_some w ↦ processed (sym w.is_some.ensures ∙ w.if-is_some.true)
-  | then-not-options-via-else-not-options+else-is_some+then-holds_unwritten w ↦ w.if-holds_unwritten.ensures.unwritten c.args.options
+  | then-not-options-via-else-not-options+then-holds_unwritten w ↦ w.if-holds_unwritten.ensures.unwritten c.args.options
 ]))
 
 pub returns-in_err-write_nodes-clause-refused : goal.returns-in_err-write_nodes-clause-refused
-returns-in_err-write_nodes-clause-refused c = λ cause stands. absurd (none_stands c.args.self.now c.args.options c.in_ok-order.ensures.acyclic c.in_ok-check_conflicts.ensures.none c.in_ok-check_merge.ensures.merges c.if-holds_unwritten.ensures.writable c.if-not-options.false (λ some. let is = c.is_some.ensures in let no = c.if-is_some.false in cc) cause stands)
+returns-in_err-write_nodes-clause-refused c = λ cause stands. absurd (none_stands c.args.self.now c.args.options c.in_ok-order.ensures.acyclic c.in_ok-check_conflicts.ensures.none c.in_ok-check_merge.ensures.merges c.if-holds_unwritten.ensures.writable c.if-not-options.false cause stands)
+
+pub returns-in_err-write_processor-clause-refused : goal.returns-in_err-write_processor-clause-refused
+returns-in_err-write_processor-clause-refused c = λ cause stands. absurd (none_stands c.args.self.now c.args.options c.in_ok-order.ensures.acyclic c.in_ok-check_conflicts.ensures.none c.in_ok-check_merge.ensures.merges c.if-holds_unwritten.ensures.writable c.if-not-options.false cause stands)
 
 pub returns-in_err-write_exports-clause-refused : goal.returns-in_err-write_exports-clause-refused
-returns-in_err-write_exports-clause-refused c = λ cause stands. absurd (none_stands c.args.self.now c.args.options c.in_ok-order.ensures.acyclic c.in_ok-check_conflicts.ensures.none c.in_ok-check_merge.ensures.merges c.if-holds_unwritten.ensures.writable c.if-not-options.false (λ some. let is = c.is_some.ensures in let no = c.if-is_some.false in cc) cause stands)
+returns-in_err-write_exports-clause-refused c = λ cause stands. absurd (none_stands c.args.self.now c.args.options c.in_ok-order.ensures.acyclic c.in_ok-check_conflicts.ensures.none c.in_ok-check_merge.ensures.merges c.if-holds_unwritten.ensures.writable c.if-not-options.false cause stands)
 
 pub returns-clause-refused : goal.returns-clause-refused
-returns-clause-refused c = λ cause stands. absurd (none_stands c.args.self.now c.args.options c.in_ok-order.ensures.acyclic c.in_ok-check_conflicts.ensures.none c.in_ok-check_merge.ensures.merges c.if-holds_unwritten.ensures.writable c.if-not-options.false (λ some. let is = c.is_some.ensures in let no = c.if-is_some.false in cc) cause stands)
+returns-clause-refused c = λ cause stands. absurd (none_stands c.args.self.now c.args.options c.in_ok-order.ensures.acyclic c.in_ok-check_conflicts.ensures.none c.in_ok-check_merge.ensures.merges c.if-holds_unwritten.ensures.writable c.if-not-options.false cause stands)
 
 pub write_nodes-requires-clause-nodes : goal.write_nodes-requires-clause-nodes
 write_nodes-requires-clause-nodes c = λ n h.
@@ -75,19 +72,19 @@ write_nodes-requires-clause-room c = λ n h. let small = has_room c.self.inside 
 pub returns-clause-means : goal.returns-clause-means
 returns-clause-means c =
     let sound = c.law-2.ensures in (
-      c.write_exports.new.encoder.builder,
+      c.write_processor.new.self.builder,
       c.in_ok-into_bytes.ensures.bytes,
       means_all c.law.ensures.counted c.law.ensures.earlier c.args.self.now sound c.if-holds_unwritten.ensures.writable c.in_ok-order.order.items
           (writes_all c.args.self.now sound c.if-holds_unwritten.ensures.writable c.in_ok-order.order.items c.in_ok-order.ensures.whole)
-          c.args.options c.if-not-options.false (none_there c.args.options.processor (sym c.is_some.ensures ∙ c.if-is_some.false))
+          c.args.options c.if-not-options.false
           c.in_ok-encoder.encoder.indexes.items
           (λ n h. let small = has_room c.self.inside c.self.invariant c.args.self.now c.self.view_is c.capacity.result (omega (arith, c.capacity.ensures.slots)) n h in omega (arith, small, c.in_ok-encoder.ensures.indexes))
           (progress c.in_ok-encoder.encoder) (progress c.write_nodes.new.encoder)
           (ap (λ b. record { items = b; components = c.in_ok-encoder.encoder.components.items; indexes = c.in_ok-encoder.encoder.indexes.items }) c.in_ok-encoder.ensures.items
           ∙ ap (λ cs. record { items = []; components = cs; indexes = c.in_ok-encoder.encoder.indexes.items }) c.in_ok-encoder.ensures.components)
           (subst (λ xs. WroteAll c.args.self.now xs (progress c.in_ok-encoder.encoder) (progress c.write_nodes.new.encoder)) c.deref.ensures.value c.in_ok-write_nodes.ensures.written)
-          c.write_exports.new.encoder.builder
-          c.in_ok-write_exports.ensures.written,
+          c.write_exports.new.encoder.builder c.write_processor.new.self.builder
+          c.in_ok-write_exports.ensures.written c.in_ok-write_processor.ensures.written,
     )
 
 pub write_exports-requires : goal.write_exports-requires

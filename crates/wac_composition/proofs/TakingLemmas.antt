@@ -1,0 +1,311 @@
+-- What is always true of a graph's fields stays true where an argument is taken away, and where a node is named.
+use Rattle.std.proofs.Common.{◌≡◌, ◌≢◌, ℕ, Bool, true, false, not, ◌||◌, ◌&&◌, ◌==◌, refl, ap, ◌∙◌, sym, subst, Option, Some, None, IfSome, IsSome, is_some, Ok, Err, String, Global, string_bytes, List, [], ◌∷◌, ◌×◌, suc, ◌-◌, length, take, slice_set, get_or}
+use Rattle.std.specs.Prelude.{slice_get, IsSomeAnd, swap_remove}
+use Rattle.std.specs.HashMap.{HashMap}
+use Rattle.std.specs.declared.hash.FoldHasher.{FoldHasher}
+use Rattle.std.specs.declared.hash.BuildHasherDefault.{BuildHasherDefault}
+use Rattle.std.proofs.lemmas.List.{take-map, map-set, length-map}
+use Rattle.std.proofs.Math.ListN.{get_or-map}
+use Rattle.std.specs.Option.{option_map}
+use Rattle.std.specs.Ordering.{nat_cmp, eq_by_cmp, is_eq}
+use Rattle.std.specs.Cmp.{tied_itself}
+use Rattle.std.specs.FinMap as map
+use Rattle.std.specs.FinSet as set
+use Rattle.std.proofs.lemmas.Bool.{eqb-true}
+use Rattle.slab.specs.Slab.{Slab, get, Updates, with_value}
+use Rattle.slab.proofs.SlabLemmas.{Updates-with_value}
+use Rattle.wac_shapes.specs.Name.{Name}
+use Rattle.wac_edges.specs.declared.edges.Edge.{Edge}
+use Rattle.wac_edges.specs.declared.edges.Label.TheVariants as label
+use Rattle.wac_edges.specs.Edge.{edge_cmp, alias_edge, argument_edge}
+use Rattle.wac_edges.proofs.EdgeLemmas.{edge_cmp_total, exact_edges, edge_cmp-IsAntisymmetric}
+use Rattle.wac_nodes.specs.declared.node.Node.{Node}
+use Rattle.wac_nodes.specs.declared.node.NodeId.{NodeId}
+use Rattle.wac_nodes.specs.Graph as graph
+use Rattle.wac_nodes.specs.Graph.{Graph, GraphNode, node_at}
+use Rattle.wac_nodes.specs.Nodes.{node_of, nodes_of, names_of, kind_of, satisfied, satisfied_at}
+use Rattle.wac_nodes.specs.Steps.{SetsName, Unexports}
+use Rattle.wac_nodes.specs.TakenOut.{taken_at, taken_below, without}
+use Rattle.wac_nodes.specs.declared.errors.UnexportError.TheVariants.{MustExportDefinition}
+use Rattle.wac_nodes.specs.declared.node.NodeKind.{NodeKind}
+use Rattle.wac_nodes.specs.declared.node.NodeKind.TheVariants as code
+use Rattle.wac_nodes.specs.Sound.{IsSound}
+use Rattle.wac_edges.proofs.WrittenOrder.{eqb_same}
+use Rattle.wac_nodes.proofs.Added.{by_eq, ImportIn}
+use Rattle.wac_nodes.proofs.JoinLemmas.{AreAlike, alike_itself}
+use Rattle.wac_nodes.proofs.NodeLemmas.{get-nodes_of, nodes_of-insert, nodes_of-same}
+use Rattle.wac_nodes.proofs.TakenOut.{Left, left_itself, left_without}
+use Rattle.wac_nodes.proofs.PartLemmas.{IsPart, IsClosed, sound_part}
+use Rattle.wac_composition.specs.declared.graph.CompositionGraph.TheInside.{Inside}
+use Rattle.wac_composition.specs.Inside.{graph_of, Invariant}
+
+clash : (b : Bool) → b ≡ true → b ≡ false → ⊥
+clash true _ h = cc
+clash false h _ = cc
+
+both_true : (x y : Bool) → (x && y) ≡ true → (x ≡ true) × (y ≡ true)
+both_true true y h = (refl, h)
+both_true false y h = cc
+
+not_true : (b : Bool) → not b ≡ true → b ≡ false
+not_true true h = cc
+not_true false h = refl
+
+not_false : (b : Bool) → (b ≡ true → ⊥) → not b ≡ true
+not_false true h = absurd (h refl)
+not_false false h = refl
+
+-- an edge of a set without one of its edges, and the other way round
+removed_edge : (s : set.FinSet edge_cmp) (x e : Edge) → set.contains (set.remove s x) e ≡ true → (set.contains s e ≡ true) × (e ≡ x → ⊥)
+removed_edge s x e h =
+    let parts = both_true (not (eq_by_cmp edge_cmp e x)) (set.contains s e) (sym (set.contains-remove edge_cmp_total s x e) ∙ h) in
+    (parts.1, λ same. clash (eq_by_cmp edge_cmp e x) (ap (λ y. eq_by_cmp edge_cmp y x) same ∙ ap is_eq (tied_itself edge_cmp_total x)) (not_true (eq_by_cmp edge_cmp e x) parts.0))
+
+left_edge : (s : set.FinSet edge_cmp) (x e : Edge) → set.contains s e ≡ true → (e ≡ x → ⊥) → set.contains (set.remove s x) e ≡ true
+left_edge s x e h other = set.contains-remove edge_cmp_total s x e ∙ ap (λ b. b && set.contains s e) (not_false (eq_by_cmp edge_cmp e x) (λ is. other (exact_edges e x is))) ∙ h
+
+-- taking away an edge that is not there
+pub nothing_removed : (s : set.FinSet edge_cmp) (e : Edge) → set.contains s e ≡ false → s ≡ set.remove s e
+nothing_removed s e absent = sym (set.same_set edge_cmp_total edge_cmp-IsAntisymmetric (set.remove s e) s (λ q.
+    set.contains-remove edge_cmp_total s e q ∙ at q (eq_by_cmp edge_cmp q e) refl)) where
+      at : (q : Edge) (b : Bool) → eq_by_cmp edge_cmp q e ≡ b → (not b && set.contains s q) ≡ set.contains s q
+      at q true is = sym (ap (λ x. set.contains s x) (exact_edges q e is) ∙ absent)
+      at q false is = refl
+
+module _ (a : Inside) (v : Invariant a) where
+  -- the same nodes but for the satisfied positions, of which one is less, and without its edge
+  pub invariant_taken : (nodes : Slab Node) (edges : set.FinSet edge_cmp) (source target position : ℕ) → nodes.vacant_key ≡ a.nodes.vacant_key
+      → ((q : ℕ) → option_map node_of (get nodes q) ≡ option_map node_of (get a.nodes q)) → ((q i : ℕ) → satisfied_at (get nodes q) i ≡ (satisfied_at (get a.nodes q) i && not (q == target && i == position)))
+      → set.contains a.edges (argument_edge source target position) ≡ true → edges ≡ set.remove a.edges (argument_edge source target position)
+      → Invariant (record a { nodes = nodes; edges = edges })
+  invariant_taken nodes edges source target position next same satisfied_now stood taken =
+      let shown : nodes_of nodes.slots ≡ nodes_of a.nodes.slots = nodes_of-same a.nodes.slots nodes.slots same in
+      let less = sound_part (graph_of a) v.sound (nodes_of a.nodes.slots) a.nodes.vacant_key (set.remove a.edges gone) (graph_of a).exports a.slots.items [] is_part is_closed in
+      record {
+        sound = subst IsSound (λ i. record (graph_of a) { nodes = sym shown i; next = sym next i; edges = sym taken i }) less;
+        marked = λ s t i stands. satisfied_now t i ∙ marked s t i (removed_edge a.edges gone (argument_edge s t i) (ap (λ es. set.contains es (argument_edge s t i)) (sym taken) ∙ stands));
+        edged = λ t i is. edged t i (both_true (satisfied_at (get a.nodes t) i) (not (t == target && i == position)) (sym (satisfied_now t i) ∙ is));
+        keyed = v.keyed;
+        found = v.found;
+        named = λ name n h. v.named name n (subst (λ ns. ImportIn ns name n) shown h);
+        importing = λ name n at. subst (λ ns. ImportIn ns name n) (sym shown) (v.importing name n at);
+      } where
+        gone : Edge
+        gone = argument_edge source target position
+
+        without : Graph
+        without = record (graph_of a) { edges = set.remove a.edges gone }
+
+        is_part : IsPart (graph_of a) without
+        is_part = record {
+          nodes = λ n node at. (node, at, alike_itself node);
+          edges = λ e h. (removed_edge a.edges gone e h).0;
+          place = λ i. i;
+          exports = λ i e at. at;
+          apart = λ i j h. h;
+          packages = λ id p at. at;
+        }
+
+        no_alias : (s t i : ℕ) → alias_edge s t i ≡ gone → ⊥
+        no_alias s t i wrong = let labels : label.Alias i ≡ label.Argument position = ap (λ (e : Edge). e.label) wrong in cc
+
+        is_closed : IsClosed (graph_of a) without
+        is_closed = record {
+          ends = λ e h. v.sound.ends e (removed_edge a.edges gone e h).0;
+          exported = v.sound.exported;
+          aliases = λ n node at is instance i stands. left_edge a.edges gone (alias_edge instance.0 n.0 i) stands (no_alias instance.0 n.0 i);
+          instances = λ n node at is id p owned registered. registered;
+          first_names = v.sound.first_names;
+          vacant = v.sound.vacant;
+          vacant_once = v.sound.vacant_once;
+        }
+
+        number : ℕ → NodeId
+        number k = record { 0 = k }
+
+        marked : (s t i : ℕ) → (set.contains a.edges (argument_edge s t i) ≡ true) × (argument_edge s t i ≡ gone → ⊥) → (satisfied_at (get a.nodes t) i && not (t == target && i == position)) ≡ true
+        marked s t i (stands, other) = ap (λ b. b && not (t == target && i == position)) (v.marked s t i stands) ∙ not_false (t == target && i == position) (λ here.
+            let (t_is, i_is) = both_true (t == target) (i == position) here in
+            let at : argument_edge s t i ≡ argument_edge s target position = rw (eqb-true t target t_is, eqb-true i position i_is) refl in
+            let one : number s ≡ number source = v.sound.one_argument (number target) position (number s) (number source) (ap (set.contains a.edges) (sym at) ∙ stands) stood in
+            other (at ∙ ap (λ (n : NodeId). argument_edge n.0 target position) one))
+
+        edged : (t i : ℕ) → (satisfied_at (get a.nodes t) i ≡ true) × (not (t == target && i == position) ≡ true) → (s : ℕ) × (set.contains edges (argument_edge s t i) ≡ true)
+        edged t i (is, other) =
+            let (s, stands) = v.edged t i is in (
+              s,
+              ap (λ es. set.contains es (argument_edge s t i)) taken ∙ left_edge a.edges gone (argument_edge s t i) stands (λ same.
+                  clash (t == target && i == position) (here s t i same) (not_true (t == target && i == position) other)),
+            ) where
+              here : (s t i : ℕ) → argument_edge s t i ≡ gone → (t == target && i == position) ≡ true
+              here s t i same =
+                  let t_is : t ≡ target = ap (λ (e : Edge). e.target) same in
+                  let i_is : i ≡ position = let labels : label.Argument i ≡ label.Argument position = ap (λ (e : Edge). e.label) same in cc in
+                  rw (t_is, i_is, eqb_same target) (eqb_same position)
+
+the_node : (o : Option Node) → IsSome o → (n : Node) × (o ≡ Some n)
+the_node None h = cc
+the_node (Some n) h = (n, refl)
+
+-- a node is written again, the same but for its names, and some exports are taken out
+module _ (a : Inside) (id : NodeId) (nodes : Slab Node) (before after : Node) (had : get a.nodes id.0 ≡ Some before) (updates : Updates a.nodes nodes id.0 (Some after)) (like : AreAlike (node_of after) (node_of before)) (kind : after.kind ≡ before.kind) where
+  -- a node was there, and is the same but for its names
+  was : (m : NodeId) (x : GraphNode) → map.get (nodes_of nodes.slots) m.0 ≡ Some x → (y : GraphNode) × (map.get (nodes_of a.nodes.slots) m.0 ≡ Some y) × AreAlike x y
+  was m x at = by_eq m.0 id.0
+      (λ same.
+      let now : Some (node_of after) ≡ Some x = sym (ap (option_map node_of) updates.changed) ∙ sym (get-nodes_of nodes.slots id.0) ∙ ap (map.get (nodes_of nodes.slots)) (sym same) ∙ at in
+      let x_is : node_of after ≡ x = cc in
+      (node_of before, ap (map.get (nodes_of a.nodes.slots)) same ∙ get-nodes_of a.nodes.slots id.0 ∙ ap (option_map node_of) had, subst (λ y. AreAlike y (node_of before)) x_is like))
+      (λ differ. (x, get-nodes_of a.nodes.slots m.0 ∙ ap (option_map node_of) (sym (updates.others m.0 differ)) ∙ sym (get-nodes_of nodes.slots m.0) ∙ at, alike_itself x))
+
+  -- and is there still
+  still : (m : NodeId) → IsSome (map.get (nodes_of a.nodes.slots) m.0) → IsSome (map.get (nodes_of nodes.slots) m.0)
+  still m h = by_eq m.0 id.0
+      (λ same. ap is_some (ap (map.get (nodes_of nodes.slots)) same ∙ get-nodes_of nodes.slots id.0 ∙ ap (option_map node_of) updates.changed))
+      (λ differ. ap is_some (get-nodes_of nodes.slots m.0 ∙ ap (option_map node_of) (updates.others m.0 differ) ∙ sym (get-nodes_of a.nodes.slots m.0)) ∙ h)
+
+  satisfied_same : (q i : ℕ) → satisfied_at (get nodes q) i ≡ satisfied_at (get a.nodes q) i
+  satisfied_same q i = by_eq q id.0
+      (λ same. ap (λ k. satisfied_at (get nodes k) i) same ∙ ap (λ o. satisfied_at o i) updates.changed ∙ ap (λ k. satisfied k i) kind ∙ sym (ap (λ k. satisfied_at (get a.nodes k) i) same ∙ ap (λ o. satisfied_at o i) had))
+      (λ differ. ap (λ o. satisfied_at o i) (updates.others q differ))
+
+  abbrev kind_at : Option GraphNode → Option graph.Kind
+  kind_at = option_map (λ (y : GraphNode). y.kind)
+
+  kinds : (q : ℕ) → kind_at (map.get (nodes_of nodes.slots) q) ≡ kind_at (map.get (nodes_of a.nodes.slots) q)
+  kinds q = by_eq q id.0
+      (λ same.
+      ap (λ k. kind_at (map.get (nodes_of nodes.slots) k)) same
+      ∙ ap kind_at (get-nodes_of nodes.slots id.0 ∙ ap (option_map node_of) updates.changed)
+      ∙ ap Some like.kind
+      ∙ sym (ap (λ k. kind_at (map.get (nodes_of a.nodes.slots) k)) same
+      ∙ ap kind_at (get-nodes_of a.nodes.slots id.0 ∙ ap (option_map node_of) had)))
+      (λ differ. ap kind_at (get-nodes_of nodes.slots q ∙ ap (option_map node_of) (updates.others q differ) ∙ sym (get-nodes_of a.nodes.slots q)))
+
+  imports_as : (o p : Option GraphNode) (other : Name) → kind_at o ≡ kind_at p → IsSomeAnd p (λ x. x.kind ≡ graph.import other) → IsSomeAnd o (λ x. x.kind ≡ graph.import other)
+  imports_as o None other same h = absurd h
+  imports_as None (Some y) other same h = absurd (none_some same) where
+    none_some : {x : graph.Kind} → None ≡ Some x → ⊥
+    none_some h = cc
+  imports_as (Some x) (Some y) other same h = let k : x.kind ≡ y.kind = cc in k ∙ h
+
+  -- no stored node has a first name
+  no_first : (m : NodeId) (x : GraphNode) → map.get (nodes_of nodes.slots) m.0 ≡ Some x → x.first_name ≡ None
+  no_first m x at = by_stored (get nodes m.0) (sym (get-nodes_of nodes.slots m.0) ∙ at) where
+    by_stored : (o : Option Node) → option_map node_of o ≡ Some x → x.first_name ≡ None
+    by_stored None h = cc
+    by_stored (Some y) h = let same : node_of y ≡ x = cc in ap (λ (z : GraphNode). z.first_name) (sym same)
+
+  pub invariant_rewritten : Invariant a → (names : HashMap (String Global) NodeId (BuildHasherDefault FoldHasher)) (gone : NodeId → Bool) → Left gone (names_of a.exports.entries) (names_of names.entries) → Invariant (record a { nodes = nodes; exports = names })
+  invariant_rewritten v names gone left =
+      record {
+        sound = sound_part (graph_of a) v.sound (nodes_of nodes.slots) nodes.vacant_key a.edges (names_of names.entries) a.slots.items [] is_part is_closed;
+        marked = λ s t i stands. satisfied_same t i ∙ v.marked s t i stands;
+        edged = λ t i is. v.edged t i (sym (satisfied_same t i) ∙ is);
+        keyed = v.keyed;
+        found = v.found;
+        named = λ other n h. v.named other n (imports_as (map.get (nodes_of a.nodes.slots) n.0) (map.get (nodes_of nodes.slots) n.0) other (sym (kinds n.0)) h);
+        importing = λ other n at. imports_as (map.get (nodes_of nodes.slots) n.0) (map.get (nodes_of a.nodes.slots) n.0) other (kinds n.0) (v.importing other n at);
+      } where
+        now : Graph
+        now = graph_of (record a { nodes = nodes; exports = names })
+
+        is_part : IsPart (graph_of a) now
+        is_part = record { nodes = was; edges = λ e h. h; place = left.place; exports = left.was; apart = left.apart; packages = λ id p at. at }
+
+        none_some : {x : Name} → None ≡ Some x → ⊥
+        none_some h = cc
+
+        is_closed : IsClosed (graph_of a) now
+        is_closed = record {
+          ends = λ e h. let both = v.sound.ends e h in (still (record { 0 = e.source }) both.0, still (record { 0 = e.target }) both.1);
+          exported = λ i other n at. still n (v.sound.exported (left.place i) other n (left.was i (other, n) at));
+          aliases = λ n node at is instance i stands. stands;
+          instances = λ n node at is id p owned registered. registered;
+          first_names = λ n node other at first. absurd (none_some (sym (no_first n node at) ∙ first));
+          vacant = v.sound.vacant;
+          vacant_once = v.sound.vacant_once;
+        }
+
+-- the write of `set_name`
+abbrev pub Titled : Slab Node → Slab Node → ℕ → String Global → Type 0
+Titled old new number name = IfSome (get old number) (λ n. new ≡ with_value old number (record n { name = Some name }))
+
+module _ (a : Inside) (id : NodeId) (name : Name) (own : String Global) (nodes : Slab Node) (is : string_bytes own ≡ name) (there : IsSome (get a.nodes id.0)) (titled : Titled a.nodes nodes id.0 own) where
+  titled_node : Node
+  titled_node = (the_node (get a.nodes id.0) there).0
+
+  titled_had : get a.nodes id.0 ≡ Some titled_node
+  titled_had = (the_node (get a.nodes id.0) there).1
+
+  titled_is : nodes ≡ with_value a.nodes id.0 (record titled_node { name = Some own })
+  titled_is = rw titled_had at titled
+
+  titled_updates : Updates a.nodes nodes id.0 (Some (record titled_node { name = Some own }))
+  titled_updates =
+      let v : Node = record titled_node { name = Some own } in
+      subst (λ x. Updates a.nodes x id.0 (Some v)) (sym titled_is) (Updates-with_value a.nodes id.0 v there)
+
+  pub named_node : SetsName (graph_of a) id name (Ok tt) (graph_of (record a { nodes = nodes }))
+  named_node =
+      let at : node_at (graph_of a) id ≡ Some (node_of titled_node) = get-nodes_of a.nodes.slots id.0 ∙ ap (option_map node_of) titled_had in
+      let next : nodes.vacant_key ≡ a.nodes.vacant_key = ap (λ s. s.vacant_key) titled_is in
+      let shown : nodes_of nodes.slots ≡ map.insert (nodes_of a.nodes.slots) id.0 (record (node_of titled_node) { name = Some name }) =
+      nodes_of-insert a.nodes nodes id.0 (record titled_node { name = Some own }) titled_updates ∙ ap (λ t. map.insert (nodes_of a.nodes.slots) id.0 (record (node_of titled_node) { name = Some t })) is in
+      rw at (λ i. record (graph_of a) { nodes = shown i; next = next i })
+
+  pub invariant_named : Invariant a → Invariant (record a { nodes = nodes })
+  invariant_named v = invariant_rewritten a id nodes titled_node (record titled_node { name = Some own }) titled_had titled_updates (record { kind = refl; item = refl; owner = refl }) refl v a.exports (λ _. false) (left_itself (λ _. false) (names_of a.exports.entries))
+
+-- the write of `clear_export_name`
+abbrev pub Cleared : Slab Node → Slab Node → ℕ → Type 0
+Cleared old new number = IfSome (get old number) (λ n. new ≡ with_value old number (record n { export_name = None }))
+
+abbrev pub is_same : NodeId → NodeId → Bool
+is_same id m = m.0 == id.0
+
+module _ (a : Inside) (id : NodeId) (nodes : Slab Node) (names : HashMap (String Global) NodeId (BuildHasherDefault FoldHasher)) (node : Node) (had : get a.nodes id.0 ≡ Some node) (cleared : Cleared a.nodes nodes id.0) (taken : names_of names.entries ≡ without (is_same id) (names_of a.exports.entries)) where
+  cleared_is : nodes ≡ with_value a.nodes id.0 (record node { export_name = None })
+  cleared_is = rw had at cleared
+
+  cleared_updates : Updates a.nodes nodes id.0 (Some (record node { export_name = None }))
+  cleared_updates =
+      let v : Node = record node { export_name = None } in
+      subst (λ x. Updates a.nodes x id.0 (Some v)) (sym cleared_is) (Updates-with_value a.nodes id.0 v (ap is_some had))
+
+  pub unexported : (kind_of node.kind ≡ graph.definition → ⊥) → Unexports (graph_of a) id (Ok tt) (graph_of (record a { nodes = nodes; exports = names }))
+  unexported other =
+      let at : node_at (graph_of a) id ≡ Some (node_of node) = get-nodes_of a.nodes.slots id.0 ∙ ap (option_map node_of) had in
+      let next : nodes.vacant_key ≡ a.nodes.vacant_key = ap (λ s. s.vacant_key) cleared_is in
+      let shown : nodes_of nodes.slots ≡ map.insert (nodes_of a.nodes.slots) id.0 (record (node_of node) { export_name = None }) = nodes_of-insert a.nodes nodes id.0 (record node { export_name = None }) cleared_updates in
+      rw at (other, λ i. record (graph_of a) { nodes = shown i; next = next i; exports = taken i })
+
+  pub invariant_unexported : Invariant a → Invariant (record a { nodes = nodes; exports = names })
+  invariant_unexported v =
+      invariant_rewritten a id nodes node (record node { export_name = None }) had cleared_updates (record { kind = refl; item = refl; owner = refl }) refl v names (is_same id)
+      (subst (Left (is_same id) (names_of a.exports.entries)) (sym taken) (left_without (is_same id) (names_of a.exports.entries)))
+
+pub still_definition : (a : Inside) (id : NodeId) (node : Node) → get a.nodes id.0 ≡ Some node → kind_of node.kind ≡ graph.definition → Unexports (graph_of a) id (Err MustExportDefinition) (graph_of a)
+still_definition a id node had is =
+    let at : node_at (graph_of a) id ≡ Some (node_of node) = get-nodes_of a.nodes.slots id.0 ∙ ap (option_map node_of) had in
+    (refl, subst (λ o. IfSome o (λ n. n.kind ≡ graph.definition)) (sym at) is)
+
+pub no_definition : (k : NodeKind) → (k ≡ code.Definition → ⊥) → kind_of k ≡ graph.definition → ⊥
+no_definition code.Definition h e = h refl
+no_definition (code.Import name) h e = cc
+no_definition (code.Instantiation s) h e = cc
+no_definition code.Alias h e = cc
+
+-- an entry is taken out of a map as out of its names
+pub names_taken : (entries : List (String Global × NodeId)) (k : ℕ) (e : String Global × NodeId) → names_of (swap_remove entries k e) ≡ swap_remove (names_of entries) k (string_bytes e.0, e.1)
+names_taken entries k e =
+    sym (take-map pair (length entries - 1) (slice_set entries k (get_or entries (length entries - 1) e)))
+    ∙ ap (take (length entries - 1)) (map-set pair entries k (get_or entries (length entries - 1) e) ∙ ap (slice_set (names_of entries) k) (sym (get_or-map pair entries (length entries - 1) e)))
+    ∙ ap (λ n. take (n - 1) (slice_set (names_of entries) k (get_or (names_of entries) (length entries - 1) (pair e)))) (sym (length-map entries pair))
+    ∙ ap (λ n. take (length (names_of entries) - 1) (slice_set (names_of entries) k (get_or (names_of entries) (n - 1) (pair e)))) (sym (length-map entries pair)) where
+      pair : String Global × NodeId → Name × NodeId
+      pair x = (string_bytes x.0, x.1)
+
+-- one step further down
+pub taken_step : (gone : NodeId → Bool) (k : ℕ) (es old new : List (Name × NodeId)) → new ≡ taken_at gone k (slice_get es k) es → taken_below gone (suc k) es ≡ without gone old → taken_below gone k new ≡ without gone old
+taken_step gone k es old new is h = ap (taken_below gone k) is ∙ h

@@ -1,0 +1,11 @@
+use Rattle.wac_composition.proofs.ArgumentLemmas.{unset, has_instantiation}
+use Rattle.wac_composition.proofs.graph.CompositionGraph.unset_instantiation_argument.Goals as goal
+
+pub take_argument-requires : goal.take_argument-requires
+take_argument-requires c = has_instantiation c.args.self.now c.args.instantiation c.args.argument_name.now c.in_ok-position.position _ c.in_ok-position.ensures.found
+
+pub returns : goal.returns
+returns c = unset c.args.self.now c.args.instantiation c.args.argument c.args.argument_name.now c.in_ok-position.position _ c.take_argument.new.self c.in_ok-position.ensures.found c.take_argument.ensures
+
+pub returns-in_err-position : goal.returns-in_err-position
+returns-in_err-position c = c.in_err-position.ensures.lacks c.args.argument
