@@ -6,4 +6,6 @@
 #[cfg(test)]
 mod merging;
 #[cfg(test)]
+mod one_type;
+#[cfg(test)]
 mod values;

@@ -25,6 +25,9 @@ use Rattle.wac_types.specs.TreeLaws.{GrowthKeepsTrees, IsKeptBy}
 use Rattle.wac_terms.specs.Became.{AreFresh, IsNew, became}
 use Rattle.wac_entries.specs.Bindings.{ClassBindings}
 use Rattle.wac_terms.specs.Renaming.{AreEnds, IsExtended, IsRenamed}
+use Rattle.wac_renaming.specs.Made.{AreMade}
+use Rattle.wac_renaming.specs.Shapes.{shape_view}
+use Rattle.wac_renaming.specs.declared.made.Made.{Made}
 use Rattle.wac_renaming.specs.RenamedTypes.{AreRenamed, CanRename, CanRenameAll, becomes}
 use Rattle.wac_terms.specs.Writing.{IsAliasOf}
 use Rattle.wac_renaming.specs.declared.became.Became.{Became}
@@ -279,10 +282,14 @@ module _ (m more : Collection) (x : IsExtended m more) where
     named = x.trees.0 u r.held ∙ r.named;
   }
 
+  pub still_made : (made : Made) → AreMade m made → AreMade more made
+  still_made made are f e is = kept_item m.defined more.defined x.kept.defined e.0 (shape_view f.shape) (are f e is)
+
   pub still_all_renamed : (s : Renaming) (memo : Renamed) → AreRenamed m s memo → AreRenamed more s memo
   still_all_renamed s memo r = record {
     defined = λ d e is. still_renamed s.types.now (becomes s) _ _ (r.defined d e is);
     funcs = λ f g is. still_renamed s.types.now (becomes s) _ _ (r.funcs f g is);
+    made = still_made memo.made r.made;
   }
 
   pub still_alias : (n : Name) (q a : ResourceId) → IsAliasOf m n q a → IsAliasOf more n q a

@@ -1,4 +1,5 @@
 pub mod Extending
+pub mod MadeForms
 pub mod RenamingShapes
 pub mod RenamingTrees
 pub mod RenamingLoops

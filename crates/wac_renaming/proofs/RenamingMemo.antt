@@ -11,6 +11,7 @@ use Rattle.wac_shapes.specs.declared.component.FuncTypeId.{FuncTypeId}
 use Rattle.wac_shapes.specs.declared.component.ValueType.{ValueType}
 use Rattle.wac_shapes.specs.declared.component.ValueType.TheVariants as val
 use Rattle.wac_shapes.specs.declared.component.«Type».TheVariants as ty
+use Rattle.wac_renaming.specs.Made.{AreMade}
 use Rattle.wac_renaming.specs.RenamedTypes.{AreRenamed, becomes, defined_in, func_in}
 use Rattle.wac_terms.specs.Renaming.{IsRenamed}
 use Rattle.wac_renaming.specs.RenamingSteps.{FieldsGoTogether, GoTogether, HasDefinedToo, HasFuncToo, HaveOneShape, IsDefinedBehind, IsFuncBehind, IsRenamedIn}
@@ -39,6 +40,7 @@ module _ (s : Renaming) (m : Collection) (old new : Renamed) where
     defined_right r h = record {
       defined = λ k i is. split_defined r h k i (nat_eq d.0 k.0) refl (sym (put.defined k) ∙ is);
       funcs = λ f i is. r.funcs f i (ap (λ x. get (λ a b. nat_eq a.0 b.0) x f) (sym put.funcs) ∙ is);
+      made = subst (AreMade m) (sym put.made) r.made;
     }
 
   module _ (f g : FuncTypeId) (put : HasFuncToo old f g new) where
@@ -50,6 +52,7 @@ module _ (s : Renaming) (m : Collection) (old new : Renamed) where
     func_right r h = record {
       defined = λ d i is. r.defined d i (ap (λ x. get (λ a b. nat_eq a.0 b.0) x d) (sym put.defined) ∙ is);
       funcs = λ k i is. split_func r h k i (nat_eq f.0 k.0) refl (sym (put.funcs k) ∙ is);
+      made = subst (AreMade m) (sym put.made) r.made;
     }
 
   -- where a definition was put

@@ -11,11 +11,13 @@ use Rattle.wac_types.specs.Subtype.{by_name, resource_names, type_tree}
 use Rattle.wac_types.specs.TreeLaws.{IsDeepEnough}
 use Rattle.wac_collection.specs.declared.collection.Held.{Held}
 use Rattle.wac_shapes.specs.declared.component.DefinedType.{DefinedType}
+use Rattle.wac_shapes.specs.declared.component.DefinedType.TheVariants as def
 use Rattle.wac_shapes.specs.declared.component.DefinedTypeId.{DefinedTypeId}
 use Rattle.wac_shapes.specs.declared.component.FuncType.{FuncType}
 use Rattle.wac_shapes.specs.declared.component.FuncTypeId.{FuncTypeId}
 use Rattle.wac_shapes.specs.declared.component.PrimitiveType.{PrimitiveType}
 use Rattle.wac_shapes.specs.declared.component.ResourceId.{ResourceId}
+use Rattle.wac_shapes.specs.declared.component.ValueType.{ValueType}
 use Rattle.wac_shapes.specs.declared.component.ValueType.TheVariants as val
 use Rattle.wac_shapes.specs.declared.component.«Type».TheVariants as ty
 use Rattle.wac_terms.specs.Renaming.{AreEnds, IsRenamed}
@@ -115,6 +117,16 @@ module _ (c m : Collection) (f : ResourceId → ResourceId) (wc : AreWhole c) (w
         func_is by_name m wm.named (resource_names m) k y there
         ∙ func_same (IsRenamedValue c m f) (λ v. unfolded by_name m (resource_names m) (ty.Value v)) (λ v. unfolded by_name c (resource_names c) (ty.Value v)) (λ v w r. r.named) x y fields result same
         ∙ sym (func_is by_name c wc.named (resource_names c) g x at);
+  }
+
+module _ (c m : Collection) (f : ResourceId → ResourceId) (wc : AreWhole c) where
+  -- an alias became what its end became
+  pub alias_renamed : (d : DefinedTypeId) (v w : ValueType) → item_at c.defined d.0 ≡ Some (def.Alias v) → IsRenamedValue c m f v w → IsRenamedValue c m f (val.Defined d) w
+  unfolding type_tree held_tree
+  alias_renamed d v w at r = record {
+    held = r.held;
+    placed = λ n around fits. r.placed n around fits ∙ sym (defined_is (by_place c) c wc.placed n d (def.Alias v) at);
+    named = r.named ∙ sym (defined_is by_name c wc.named (resource_names c) d (def.Alias v) at);
   }
 
 -- what mentions renamed values alone mentions held ones

@@ -12,6 +12,7 @@ use Rattle.wac_terms.specs.Became.{AreBoundParts, became}
 use Rattle.wac_renaming.specs.declared.became.Became.{Became}
 use Rattle.wac_renaming.specs.declared.renamer.Renamed.{Renamed}
 use Rattle.wac_renaming.specs.declared.renamer.Renaming.{Renaming}
+use Rattle.wac_renaming.specs.Made.{AreMade}
 use Rattle.wac_terms.specs.Renaming.{AreEnds, IsExtended, IsRenamed}
 
 -- what a resource at the end of its aliases becomes where types are renamed
@@ -40,7 +41,8 @@ defined_in memo d = get (λ a b. nat_eq a.0 b.0) memo.defined d
 abbrev pub func_in : Renamed → FuncTypeId → Option FuncTypeId
 func_in memo f = get (λ a b. nat_eq a.0 b.0) memo.funcs f
 
--- all that became something was renamed
+-- all that became something was renamed, and what was made is under its ids
 pub record AreRenamed (m : Collection) (s : Renaming) (memo : Renamed) : Type 0 where
   pub defined : (d e : DefinedTypeId) → defined_in memo d ≡ Some e → IsRenamed s.types.now m (becomes s) (ty.Value (val.Defined d)) (ty.Value (val.Defined e))
   pub funcs : (f g : FuncTypeId) → func_in memo f ≡ Some g → IsRenamed s.types.now m (becomes s) (ty.Func f) (ty.Func g)
+  pub made : AreMade m memo.made

@@ -36,10 +36,12 @@ IsRenamedIn s m = IsRenamedValue s.types.now m (becomes s)
 pub record HasDefinedToo (old : Renamed) (d e : DefinedTypeId) (new : Renamed) : Type 0 where
   pub defined : (k : DefinedTypeId) → defined_in new k ≡ cond (nat_eq d.0 k.0) (Some e) (defined_in old k)
   pub funcs : new.funcs ≡ old.funcs
+  pub made : new.made ≡ old.made
 
 pub record HasFuncToo (old : Renamed) (f g : FuncTypeId) (new : Renamed) : Type 0 where
   pub funcs : (k : FuncTypeId) → func_in new k ≡ cond (nat_eq f.0 k.0) (Some g) (func_in old k)
   pub defined : new.defined ≡ old.defined
+  pub made : new.made ≡ old.made
 
 -- optional value types that go together
 abbrev pub GoTogether : (ValueType → ValueType → Type 0) → Option ValueType → Option ValueType → Type 0

@@ -13,6 +13,7 @@ use wac_entries::scopes::Opener;
 use wac_terms::fresh::Fresh;
 use wac_terms::parts::Part;
 use wac_types::{ResourceId, Types};
+use wac_values::named::NamedTypes;
 
 /// What the interface of each part binds.
 pub fn part_bounds(alloc: Global, types: &Types, parts: &[Part]) -> Result<Vec<Bound>, AllocError>
@@ -26,7 +27,7 @@ pub fn part_bounds(alloc: Global, types: &Types, parts: &[Part]) -> Result<Vec<B
     Ok(bounds)
 }
 
-/// What resources become in the parts of unions.
+/// What resources become in the parts of unions, and which definitions are to become one.
 #[derive(Clone, Copy)]
 pub struct Became<'a> {
     /// The parts.
@@ -37,6 +38,8 @@ pub struct Became<'a> {
     pub bindings: &'a Bindings,
     /// The new resources.
     pub fresh: &'a Fresh,
+    /// Which definitions are one named type.
+    pub named: &'a NamedTypes,
 }
 
 impl<'a> Became<'a> {

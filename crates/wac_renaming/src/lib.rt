@@ -5,4 +5,6 @@
 
 pub mod adding;
 pub mod became;
+pub mod made;
 pub mod renamer;
+pub mod shapes;

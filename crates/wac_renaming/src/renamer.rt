@@ -2,30 +2,32 @@
 //!
 //! A definition whose parts are not renamed yet waits in a list of tasks, below its parts, so that no chain of definitions is
 //! too long. Each is opened once and renamed once.
-ghost use Rattle.std.specs.Prelude.{◌≡◌, ◌++◌, ◌∷◌, [], true, None, IfOk, OnOk};
+ghost use Rattle.std.specs.Prelude.{◌≡◌, ◌++◌, ◌∷◌, [], true, None, IfOk, IfSome, OnOk};
 ghost use Rattle.std.specs.List.{AllByRecursion, AllZip};
+ghost use Rattle.wac_renaming.specs.Made.{AreMade};
 ghost use Rattle.wac_collection.specs.Collection.{Collection, HasDefined, HasFunc, and_maybe, case_values, defined_values, func_values, holds_value, seconds};
 ghost use Rattle.wac_collection.specs.Held.{resolved};
 ghost use Rattle.wac_shapes.specs.Name.{find_name};
-ghost use Rattle.wac_collection.specs.declared.collection.AddTypeError.TheVariants.{OutOfMemory};
+ghost use Rattle.wac_shapes.specs.declared.component.DefinedType.TheVariants as def;
 ghost use Rattle.wac_shapes.specs.declared.component.ValueType.TheVariants as val;
 ghost use Rattle.wac_shapes.specs.declared.component.«Type».TheVariants as ty;
 ghost use Rattle.wac_terms.specs.Became.{AreBoundParts};
 ghost use Rattle.wac_renaming.specs.RenamedTypes.{AreRenamed, CanRename, becomes, defined_in, func_in};
 ghost use Rattle.wac_terms.specs.Renaming.{IsExtended, IsRenamed};
-ghost use Rattle.wac_renaming.specs.RenamingSteps.{AreReady, CasesGoTogether, Did, FieldsGoTogether, GoTogether, HasDefinedToo, HasFuncToo, HaveOneShape, IsDefinedBehind, IsDone, IsFuncBehind, IsMore, IsReady, IsRenamedIn, MayBeDone};
+ghost use Rattle.wac_renaming.specs.RenamingSteps.{AreReady, CasesGoTogether, Did, FieldsGoTogether, GoTogether, HasDefinedToo, HasFuncToo, HaveOneShape, IsDone, IsFuncBehind, IsMore, IsReady, IsRenamedIn, MayBeDone};
 ghost use Rattle.wac_entries.specs.Tasks.{IsHeldTask, IsOpening, parts_of, AreHeldValues};
 ghost use Rattle.wac_terms.specs.Unions.{AreAround, IsPart};
 ghost use Rattle.wac_renaming.specs.declared.renamer.Renaming.{Renaming as ARenaming};
 
 use crate::became::Became;
+use crate::made::{Made, out_of_memory};
 use std::alloc::{AllocError, Global};
 use std::collections::HashMap;
 use wac_entries::tasks::{Task, open_fields, open_optional, open_parts, open_value};
 use wac_types::laws::{growth_keeps_trees, trees_are_whole};
 use wac_types::{
-    AddTypeError, DefinedType, DefinedTypeId, Enum, Flags, FuncType, FuncTypeId, Labels, Named,
-    Record, ResourceId, ShapeError, Types, ValueType, Variant,
+    DefinedType, DefinedTypeId, Enum, Flags, FuncType, FuncTypeId, Labels, Named, Record,
+    ResourceId, ShapeError, Types, ValueType, Variant,
 };
 
 /// Where types are renamed: the collection that they are of, what its resources become, and in which part.
@@ -53,11 +55,12 @@ impl<'a> Renaming<'a> {
     }
 }
 
-/// What definitions and function types became.
+/// What definitions and function types became in a part, and what was made of definitions in all.
 #[derive(Drop)]
 pub struct Renamed {
     defined: HashMap<DefinedTypeId, DefinedTypeId>,
     funcs: HashMap<FuncTypeId, FuncTypeId>,
+    made: Made,
 }
 
 /// Puts a value under a name that is not there, behind the others.
@@ -88,26 +91,16 @@ fn copied(alloc: Global, labels: &Labels) -> Result<Labels, AllocError>
     }
 }
 
-/// An error of an adder, where nothing stands against what it adds: memory ran out.
-fn out_of_memory(fault: AddTypeError) -> AllocError
-    requires { fault ≡ OutOfMemory }
+/// The definition that this is another name of, where it is one.
+fn alias_end(definition: &DefinedType) -> Option<DefinedTypeId>
+    ensures { IfSome result (λ end. definition.now ≡ def.Alias (val.Defined end)) }
 {
-    let AddTypeError::OutOfMemory = fault else {
-        unreachable!()
+    let DefinedType::Alias(value) = definition else {
+        return None;
     };
-    AllocError
-}
-
-/// Adds a definition whose values are held.
-fn add_defined(merged: &mut Types, definition: DefinedType) -> Result<DefinedTypeId, AllocError>
-    requires held { AreHeldValues merged.old (defined_values definition) }
-    ensures extended { IsExtended merged.old merged.new }
-    ensures added { IfOk result (λ id. IsDefinedBehind merged.old merged.new definition id) }
-{
-    growth_keeps_trees(merged);
-    match merged.add_defined_type(definition) {
-        Ok(id) => Ok(id),
-        Err(fault) => Err(out_of_memory(fault)),
+    match value {
+        ValueType::Defined(end) => Some(*end),
+        _ => None,
     }
 }
 
@@ -128,11 +121,22 @@ impl Renamed {
     /// Nothing became another yet.
     pub fn new(alloc: Global) -> Renamed
         ensures right { (m : Collection) (s : ARenaming) → AreRenamed m s result }
+        ensures made { (m : Collection) → AreMade m result.made }
     {
         Renamed {
             defined: HashMap::new(alloc),
             funcs: HashMap::new(alloc),
+            made: Made::new(alloc),
         }
+    }
+
+    /// Forgets what became another, since another part comes next. What was made stays.
+    pub fn forget(&mut self, alloc: Global)
+        ensures right { (m : Collection) (s : ARenaming) → AreMade m self.old.made → AreRenamed m s self.new }
+        ensures made { self.new.made ≡ self.old.made }
+    {
+        self.defined = HashMap::new(alloc);
+        self.funcs = HashMap::new(alloc);
     }
 
     /// What a definition became.
@@ -339,8 +343,14 @@ impl Renamed {
     {
         renaming.types.law();
         trees_are_whole(renaming.types);
-        let definition = self.definition(merged, renaming, &renaming.types[id])?;
-        let became = add_defined(merged, definition)?;
+        let definition = &renaming.types[id];
+        if let Some(end) = alias_end(definition) {
+            let became = self.defined(end).unwrap();
+            return self.put_defined(id, became);
+        }
+        let definition = self.definition(merged, renaming, definition)?;
+        let named = renaming.became.named.of(id);
+        let became = self.made.make(renaming.alloc, merged, named, definition)?;
         trees_are_whole(merged);
         self.put_defined(id, became)
     }

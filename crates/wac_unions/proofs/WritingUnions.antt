@@ -138,6 +138,7 @@ renamed-alike m memo s t x y z are = record {
   defined = λ d e at.
       along (λ c b p. IsRenamed c m (became c b.parts.now b.bindings.now b.fresh.now p) (ty.Value (val.Defined d)) (ty.Value (val.Defined e))) s t x y z (are.defined d e at);
   funcs = λ f g at. along (λ c b p. IsRenamed c m (became c b.parts.now b.bindings.now b.fresh.now p) (ty.Func f) (ty.Func g)) s t x y z (are.funcs f g at);
+  made = are.made;
 }
 
 -- ---- what stays

@@ -14,12 +14,14 @@ ghost use Rattle.wac_terms.specs.Merge.{IsMerge, import_entries, is_on_track};
 ghost use Rattle.wac_unions.specs.MergedScope.{BindsAsClasses};
 ghost use Rattle.wac_unions.specs.MergedClasses.{AreClassUnions, AreIds, AreImports, AreOnTrack, AreRoots, AreWrittenImports, IsClassKind, IsUnionId, first_id, with_root};
 ghost use Rattle.wac_terms.specs.MergedKinds.{AreListedOnce};
+ghost use Rattle.wac_renaming.specs.Made.{AreMade};
 ghost use Rattle.wac_renaming.specs.RenamedTypes.{CanRenameAll};
 ghost use Rattle.wac_terms.specs.Renaming.{IsExtended};
 ghost use Rattle.wac_terms.specs.Unions.{AreUnions};
 ghost use Rattle.wac_terms.specs.Writing.{IsGiven};
 ghost use Rattle.wac_terms.specs.declared.parts.Part.{Part as APart};
 ghost use Rattle.wac_terms.specs.declared.parts.Union.{Union as AUnion};
+ghost use Rattle.wac_values.specs.NamedTypes.{AreClassed, AreUnited};
 ghost use Rattle.wac_names.specs.Reading.{read_track};
 ghost use Rattle.wac_names.specs.Views.{track_view};
 
@@ -37,6 +39,7 @@ use wac_terms::parts::Part;
 use wac_types::laws::trees_are_whole;
 use wac_types::{InterfaceId, ItemKind, Named, ShapeError, Type, Types};
 use wac_uniting::unions::Unions;
+use wac_values::named::{NamedTypes, named_types};
 
 /// Puts an interface among those of its class that are united: every instance, and the first of a type item.
 fn put_root(roots: &mut Vec<InterfaceId>, kind: ItemKind) -> Result<(), AllocError>
@@ -196,6 +199,7 @@ fn interface_at(written: &[InterfaceId], position: usize) -> Option<InterfaceId>
 fn class_kind(
     alloc: Global,
     merged: &mut Types,
+    renamed: &mut Renamed,
     types: &Types,
     became: &Became<'_>,
     written: &[InterfaceId],
@@ -205,7 +209,9 @@ fn class_kind(
     requires held { holds_type types.now (kind_type entry.now.kind) ≡ true }
     requires known { CanRenameAll merged.old types.now became.now }
     requires given { IsGiven merged.old entry.now.kind (slice_get written.now number) }
+    requires made { AreMade merged.old renamed.old.made }
     ensures extended { IsExtended merged.old merged.new }
+    ensures made { OnOk result (AreMade merged.new renamed.new.made) }
     ensures kind { IfOk result (λ k. IsClassKind types.now merged.new became.now.parts.now became.now.bindings.now became.now.fresh.now written.now number entry.now k) }
 {
     if let Some(resource) = became.fresh.whole(number) {
@@ -217,11 +223,11 @@ fn class_kind(
         became,
         part: None,
     };
-    let mut renamed = Renamed::new(alloc);
+    renamed.forget(alloc);
     let inner = interface_at(written, number);
     write_kind(
         merged,
-        &mut renamed,
+        renamed,
         &renaming,
         inner,
         entry.name(),
@@ -233,6 +239,7 @@ fn class_kind(
 fn class_imports(
     alloc: Global,
     merged: &mut Types,
+    renamed: &mut Renamed,
     types: &Types,
     entries: &[Entry],
     classes: &Classes,
@@ -246,6 +253,7 @@ fn class_imports(
     requires given { (i k : ℕ) (class : AName) (e : AnEntry) → slice_get entries.now i ≡ Some e → slice_get (class_names by_names entries.now) k ≡ Some class → same_class by_names entries.now class e.name ≡ true → IsGiven merged.old e.kind (slice_get written.now k) }
     requires each { (k : ℕ) → Contains order.now k → k < length (class_names by_names entries.now) }
     requires once { (i j k : ℕ) → slice_get order.now i ≡ Some k → slice_get order.now j ≡ Some k → i ≡ j }
+    requires made { AreMade merged.old renamed.old.made }
     ensures extended { IsExtended merged.old merged.new }
     ensures imports { IfOk result (λ is. AreImports types.now merged.new entries.now became.now.parts.now became.now.bindings.now became.now.fresh.now written.now order.now (import_entries is)) }
 {
@@ -255,7 +263,9 @@ fn class_imports(
     for i in 0..order.len() {
         let number = order[i];
         let entry = &entries[positions[number]];
-        let kind = class_kind(alloc, merged, types, became, written, number, entry)?;
+        let kind = class_kind(
+            alloc, merged, renamed, types, became, written, number, entry,
+        )?;
         match imports.insert(alloc, entry.name(), kind) {
             Ok(()) => {}
             Err(ShapeError::OutOfMemory) => return Err(AllocError),
@@ -293,6 +303,29 @@ fn class_unions(
     Ok(unions)
 }
 
+/// Which definitions are one named type, by unions and the classes of entries.
+fn named_in(
+    alloc: Global,
+    types: &Types,
+    entries: &[Entry],
+    classes: &Classes,
+    unions: &Unions,
+) -> Result<NamedTypes, AllocError>
+    requires held { (p : ℕ) (x : APart) → slice_get unions.now.parts.items p ≡ Some x → HasInterface types.now x.interface }
+    ensures united { IfOk result (λ t. AreUnited types.now unions.now.unions.items unions.now.parts.items t) }
+    ensures classed { IfOk result (λ t. AreClassed types.now entries.now classes.now.numbers.items classes.now.positions.items t) }
+{
+    let parts = unions.parts.as_slice();
+    named_types(
+        alloc,
+        types,
+        entries,
+        classes,
+        unions.unions.as_slice(),
+        parts,
+    )
+}
+
 /// The imports in an order of their classes, behind the unions, which are written first.
 fn write_imports<'a>(
     alloc: Global,
@@ -317,10 +350,27 @@ fn write_imports<'a>(
 {
     merged.law();
     let ids = union_ids(alloc, types, entries, classes, unions)?;
-    let written = write_unions(alloc, merged, types, unions, became, ids.as_slice())?;
+    let mut renamed = Renamed::new(alloc);
+    let written = write_unions(
+        alloc,
+        merged,
+        &mut renamed,
+        types,
+        unions,
+        became,
+        ids.as_slice(),
+    )?;
     let written = written.as_slice();
     class_imports(
-        alloc, merged, types, entries, classes, became, written, order,
+        alloc,
+        merged,
+        &mut renamed,
+        types,
+        entries,
+        classes,
+        became,
+        written,
+        order,
     )
 }
 
@@ -379,11 +429,13 @@ impl Merged {
             bindings,
             unions.unions.as_slice(),
         )?;
+        let named = named_in(alloc, types, entries, classes, &unions)?;
         let became = Became {
             parts: unions.parts.as_slice(),
             bound: bound.as_slice(),
             bindings,
             fresh: &fresh,
+            named: &named,
         };
         merged.law();
         let imports = write_imports(

@@ -8,6 +8,7 @@ ghost use Rattle.wac_collection.specs.Uses.{is_named_right};
 ghost use Rattle.wac_shapes.specs.declared.component.InterfaceId.{InterfaceId as AnId};
 ghost use Rattle.wac_shapes.specs.declared.component.ItemKind.TheVariants as kind_of;
 ghost use Rattle.wac_terms.specs.Became.{AreFresh};
+ghost use Rattle.wac_renaming.specs.Made.{AreMade};
 ghost use Rattle.wac_renaming.specs.RenamedTypes.{AreRenamed, CanRename, CanRenameAll, becomes};
 ghost use Rattle.wac_terms.specs.Renaming.{IsExtended};
 ghost use Rattle.wac_terms.specs.Unions.{AreUnions};
@@ -166,10 +167,10 @@ fn write_export(
 /// Nothing was renamed yet in a part, where another was before it.
 fn begin(alloc: Global, renamed: &mut Renamed, part: &mut Option<usize>, next: usize)
     ensures part { part.new ≡ Some next }
-    ensures right { (c m : Collection) (b : ABecame) → AreRenamedIn c m b part.old renamed.old → AreRenamedIn c m b part.new renamed.new }
+    ensures right { (c m : Collection) (b : ABecame) → AreMade m renamed.old.made → AreRenamedIn c m b part.old renamed.old → AreRenamedIn c m b part.new renamed.new }
 {
     if *part != Some(next) {
-        *renamed = Renamed::new(alloc);
+        renamed.forget(alloc);
         *part = Some(next);
     }
 }
@@ -178,25 +179,28 @@ fn begin(alloc: Global, renamed: &mut Renamed, part: &mut Option<usize>, next: u
 fn write_exports<'a>(
     alloc: Global,
     merged: &mut Types,
+    renamed: &mut Renamed,
     types: &'a Types,
     unions: &Unions,
     became: &'a Became<'a>,
     written: &[InterfaceId],
     union: usize,
 ) -> Result<Named<ItemKind>, AllocError>
-    requires { CanWrite types.now merged.old unions.now.unions.items became.now written.now union }
+    requires writing { CanWrite types.now merged.old unions.now.unions.items became.now written.now union }
+    requires made { AreMade merged.old renamed.old.made }
     ensures extended { IsExtended merged.old merged.new }
+    ensures made { OnOk result (AreMade merged.new renamed.new.made) }
     ensures written { IfOk result (λ ks. (x : AUnion) → slice_get unions.now.unions.items union ≡ Some x → AreWrittenItems types.now merged.new became.now (length unions.now.unions.items) written.now union x.exports ks) }
 {
     merged.law();
     let exports = &unions.unions[union].exports;
     exports.law();
     let mut items = Named::with_capacity(alloc, exports.len())?;
-    let mut renamed = Renamed::new(alloc);
+    renamed.forget(alloc);
     let mut part = None;
     for i in 0..exports.len() {
         let (name, export) = exports.entry_at(i);
-        begin(alloc, &mut renamed, &mut part, export.part);
+        begin(alloc, renamed, &mut part, export.part);
         let renaming = Renaming {
             alloc,
             types,
@@ -204,14 +208,7 @@ fn write_exports<'a>(
             part,
         };
         let item = write_export(
-            merged,
-            &mut renamed,
-            &renaming,
-            unions,
-            written,
-            union,
-            name,
-            export,
+            merged, renamed, &renaming, unions, written, union, name, export,
         )?;
         match items.insert(alloc, name, item) {
             Ok(()) => {}
@@ -257,6 +254,7 @@ fn add_interface(
 fn write_union<'a>(
     alloc: Global,
     merged: &mut Types,
+    renamed: &mut Renamed,
     types: &'a Types,
     unions: &Unions,
     became: &'a Became<'a>,
@@ -264,11 +262,15 @@ fn write_union<'a>(
     union: usize,
     id: &Option<String>,
 ) -> Result<InterfaceId, AllocError>
-    requires { CanWrite types.now merged.old unions.now.unions.items became.now written.now union }
+    requires writing { CanWrite types.now merged.old unions.now.unions.items became.now written.now union }
+    requires made { AreMade merged.old renamed.old.made }
     ensures extended { IsExtended merged.old merged.new }
+    ensures made { OnOk result (AreMade merged.new renamed.new.made) }
     ensures written { IfOk result (λ w. (x : AUnion) → slice_get unions.now.unions.items union ≡ Some x → IsWrittenUnion types.now merged.new became.now (length unions.now.unions.items) written.now union x (option_map string_bytes id.now) w) }
 {
-    let exports = write_exports(alloc, merged, types, unions, became, written, union)?;
+    let exports = write_exports(
+        alloc, merged, renamed, types, unions, became, written, union,
+    )?;
     let id = copied(alloc, id)?;
     add_interface(alloc, merged, id, exports)
 }
@@ -277,6 +279,7 @@ fn write_union<'a>(
 pub fn write_unions<'a>(
     alloc: Global,
     merged: &mut Types,
+    renamed: &mut Renamed,
     types: &'a Types,
     unions: &Unions,
     became: &'a Became<'a>,
@@ -287,7 +290,9 @@ pub fn write_unions<'a>(
     requires counted { length ids.now ≡ length unions.now.unions.items }
     requires fresh { AreFresh types.now unions.now.unions.items became.now.bindings.now became.now.fresh.now merged.old }
     requires known { CanRenameAll merged.old types.now became.now }
+    requires made { AreMade merged.old renamed.old.made }
     ensures extended { IsExtended merged.old merged.new }
+    ensures made { OnOk result (AreMade merged.new renamed.new.made) }
     ensures written { IfOk result (λ ws. AreWritten types.now merged.new unions.now.unions.items unions.now.parts.items became.now.bindings.now became.now.fresh.now (map (option_map string_bytes) ids.now) ws.items) }
 {
     merged.law();
@@ -299,6 +304,7 @@ pub fn write_unions<'a>(
         let id = write_union(
             alloc,
             merged,
+            renamed,
             types,
             unions,
             became,

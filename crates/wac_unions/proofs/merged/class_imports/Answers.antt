@@ -111,6 +111,7 @@ loop-i-preserved c =
     let inserted : c.insert.new.self ≡ c.loop-i.imports ++ (w.entry.name, l) ∷ [] = c.in-Ok.ensures.inserted ∙ ap (λ (n : Name). c.loop-i.imports ++ (n, l) ∷ []) (c.name.ensures ∙ ap (λ (v : Entry). v.name) (sym same)) in
     record {
       extended = extended_twice c.args.merged.now c.loop-i.merged m c.loop-i.invariant.extended c.class_kind.ensures.extended;
+      made = c.in_ok-kind.ensures.made;
       imports = rw add-one (subst (λ (is : List (Name × ItemKind)). AreImports t m es ps bs f ws (take (suc i) order) (import_entries is)) (sym inserted)
           (imports-more t es ps bs f ws order c.requires.once c.loop-i.merged m c.class_kind.ensures.extended i k p c.loop-i.imports l w at
           (λ v rest plain are. first-member es w.class plain c.args.classes.now.numbers.items c.args.classes.now.positions.items c.args.classes.now.names c.requires.classes k p w.entry v rest w.numbered (slice_get-get_or c.args.classes.now.positions.items k 0 (omega (arith, low, c.requires.classes.positioned))) w.there are)

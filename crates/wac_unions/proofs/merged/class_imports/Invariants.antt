@@ -1,8 +1,9 @@
 use Rattle.std.proofs.Common.{take}
 use Rattle.wac_terms.specs.Merge.{import_entries}
 use Rattle.wac_unions.specs.MergedClasses.{AreImports}
+use Rattle.wac_renaming.specs.Made.{AreMade}
 use Rattle.wac_terms.specs.Renaming.{IsExtended}
 use Rattle.wac_unions.proofs.merged.class_imports.Given as goal
 
 abbrev pub invariant-loop-i : goal.invariant-loop-i
-invariant-loop-i l = record { extended : IsExtended l.fn.merged l.merged; imports : AreImports l.types l.merged l.entries l.became.parts.now l.became.bindings.now l.became.fresh.now l.written (take l.i l.order) (import_entries l.imports) }
+invariant-loop-i l = record { extended : IsExtended l.fn.merged l.merged; made : AreMade l.merged l.renamed.made; imports : AreImports l.types l.merged l.entries l.became.parts.now l.became.bindings.now l.became.fresh.now l.written (take l.i l.order) (import_entries l.imports) }

@@ -1,4 +1,4 @@
-use Rattle.std.proofs.Common.{◌≡◌, Option, None, Result, Ok, Err, slice_get, sym, ◌∙◌, subst}
+use Rattle.std.proofs.Common.{◌≡◌, Option, None, Result, Ok, Err, OnOk, slice_get, sym, ◌∙◌, subst}
 use Rattle.std.specs.Prelude.{IfOk}
 use Rattle.std.specs.Option.{MatchOption}
 use Rattle.wac_shapes.specs.Name.{Name}
@@ -27,6 +27,16 @@ write_kind-requires-clause-known c = record {
   around = c.requires.known.around;
   within = tt;
 }
+
+on_ok : {A E P Q : Type 0} (r : Result A E) → (P → Q) → OnOk r P → OnOk r Q
+on_ok (Ok x) f h = f h
+on_ok (Err e) f h = h
+
+pub write_kind-requires-clause-right : goal.write_kind-requires-clause-right
+write_kind-requires-clause-right c = c.forget.ensures.right c.args.merged.now _ c.requires.made
+
+pub returns-clause-made : goal.returns-clause-made
+returns-clause-made c = on_ok c.write_kind.result (λ r. r.made) c.write_kind.ensures.right
 
 pub returns-clause-kind : goal.returns-clause-kind
 returns-clause-kind c =

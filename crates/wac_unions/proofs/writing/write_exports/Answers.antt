@@ -25,21 +25,27 @@ loop-i-init c =
     let count = length c.args.unions.now.unions.items in
     record {
       extended = extended_none m;
-      right = λ s p q r. c.new-renamed.ensures.right m s;
+      right = λ s p q r. c.forget.ensures.right m s c.requires.made;
       written = subst (λ (ks : List (Name × ItemKind)). AreWrittenItems t m b count c.args.written.now c.args.union [] ks) (sym c.in_ok-items.ensures.empty) (items-none t m b count c.args.written.now c.args.union);
       names = ap names_of c.in_ok-items.ensures.empty;
     }
 
 pub write_export-requires-clause-writing : goal.write_export-requires-clause-writing
 write_export-requires-clause-writing c =
-    still-can c.args.merged.now c.loop-i.merged c.loop-i.invariant.extended c.law.ensures c.args.types.now c.args.unions.now.unions.items c.args.became.now c.args.written.now c.args.union c.requires
+    still-can c.args.merged.now c.loop-i.merged c.loop-i.invariant.extended c.law.ensures c.args.types.now c.args.unions.now.unions.items c.args.became.now c.args.written.now c.args.union c.requires.writing
+
+pub write_export-requires-clause-right : goal.write_export-requires-clause-right
+write_export-requires-clause-right c =
+    let before : Renaming = record { alloc = c.args.alloc; types = c.args.types; became = c.args.became; part = c.loop-i.part } in
+    let now : Renaming = record { alloc = c.args.alloc; types = c.args.types; became = c.args.became; part = c.begin.new.part } in
+    c.begin.ensures.right c.args.types.now c.loop-i.merged c.args.became.now (c.loop-i.invariant.right before refl refl refl).made c.loop-i.invariant.right now refl refl refl
 
 pub write_export-requires-clause-export : goal.write_export-requires-clause-export
 write_export-requires-clause-export c =
     let us = c.args.unions.now.unions.items in
     let u = c.args.union in
     let x : Union = c.index.result.now in
-    let count = c.requires.counted in
+    let count = c.requires.writing.counted in
     let low : u < length us = omega (arith, count) in
     (x, slice_get_read us (length us) u x refl low c.index.ensures, find_name-at x.exports c.loop-i.i c.entry_at.result.0.now c.entry_at.result.1.now c.law-2.ensures c.entry_at.ensures)
 
@@ -79,12 +85,17 @@ loop-i-preserved c =
       names = rw (add-one, take_at es i (n, e) c.entry_at.ensures, c.in-Ok.ensures.inserted) (push_alike c.loop-i.items (take i es) n c.in_ok-item.item e v.names);
     }
 
+pub returns-clause-made : goal.returns-clause-made
+returns-clause-made c =
+    let s : Renaming = record { alloc = c.args.alloc; types = c.args.types; became = c.args.became; part = c.loop-i.part } in
+    (c.loop-i.invariant.right s refl refl refl).made
+
 pub returns-clause-written : goal.returns-clause-written
 returns-clause-written c x there =
     let us = c.args.unions.now.unions.items in
     let u = c.args.union in
     let y : Union = c.index.result.now in
-    let held = c.requires.counted in
+    let held = c.requires.writing.counted in
     let low : u < length us = omega (arith, held) in
     let same : y ≡ x = one_some (slice_get us u) y x (slice_get_read us (length us) u y refl low c.index.ensures) there in
     subst (λ (z : Union). AreWrittenItems c.args.types.now c.loop-i.merged c.args.became.now (length us) c.args.written.now u z.exports c.loop-i.items) same

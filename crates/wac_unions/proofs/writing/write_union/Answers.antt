@@ -1,14 +1,18 @@
-use Rattle.std.proofs.Common.{◌<◌, length, arith}
-use Rattle.wac_renaming.proofs.Extending.{extended_twice}
+use Rattle.std.proofs.Common.{◌<◌, length, arith, Result, Ok, Err, OnOk}
+use Rattle.wac_renaming.proofs.Extending.{extended_twice, still_made}
 use Rattle.wac_entries.proofs.Lists.{some-at}
 use Rattle.wac_entries.proofs.Walking.{if-ok}
 use Rattle.wac_unions.proofs.WritingUnions.{union-written}
 use Rattle.wac_unions.proofs.writing.write_union.Goals as goal
 
+always : {A E P : Type 0} (r : Result A E) → P → OnOk r P
+always (Ok x) p = p
+always (Err e) p = tt
+
 pub add_interface-requires-clause-held : goal.add_interface-requires-clause-held
 add_interface-requires-clause-held c =
     let us = c.args.unions.now.unions.items in
-    let count = c.requires.counted in
+    let count = c.requires.writing.counted in
     let low : c.args.union < length us = omega (arith, count) in
     let x = some-at us c.args.union low in
     (c.in_ok-exports.ensures.written x.0 x.1).held
@@ -16,13 +20,17 @@ add_interface-requires-clause-held c =
 pub add_interface-requires-clause-named : goal.add_interface-requires-clause-named
 add_interface-requires-clause-named c =
     let us = c.args.unions.now.unions.items in
-    let count = c.requires.counted in
+    let count = c.requires.writing.counted in
     let low : c.args.union < length us = omega (arith, count) in
     let x = some-at us c.args.union low in
     (c.in_ok-exports.ensures.written x.0 x.1).named
 
 pub returns-clause-extended : goal.returns-clause-extended
 returns-clause-extended c = extended_twice c.args.merged.now c.write_exports.new.merged c.add_interface.new.merged c.write_exports.ensures.extended c.add_interface.ensures.extended
+
+pub returns-clause-made : goal.returns-clause-made
+returns-clause-made c =
+    always c.add_interface.result (still_made c.write_exports.new.merged c.add_interface.new.merged c.add_interface.ensures.extended c.write_exports.new.renamed.made c.in_ok-exports.ensures.made)
 
 pub returns-clause-written : goal.returns-clause-written
 returns-clause-written c =

@@ -20,13 +20,14 @@ loop-done-init c =
     let empty : c.new-written.result.items ≡ [] = c.new-written.ensures.items in
     record {
       extended = extended_none c.args.merged.now;
+      made = c.requires.made;
       counted = ap length empty;
       held = λ j w at. absurd (at-empty c.new-written.result.items j w empty at);
       written = λ j u w x id at place there named. absurd (at-empty c.new-written.result.items j w empty at);
     }
 
-pub write_union-requires : goal.write_union-requires
-write_union-requires c =
+pub write_union-requires-clause-writing : goal.write_union-requires-clause-writing
+write_union-requires-clause-writing c =
     let t = c.args.types.now in
     let us = c.args.unions.now.unions.items in
     let b = c.args.became.now in
@@ -80,6 +81,7 @@ loop-done-preserved c =
     let items : c.push.new.self.items ≡ written ++ w ∷ [] = c.in_ok-push.ensures.items in
     record {
       extended = extended_twice c.args.merged.now now more v.extended c.write_union.ensures.extended;
+      made = c.in_ok-id.ensures.made;
       counted = ap length items ∙ (length-append written (w ∷ []) ∙ ap (λ n. n + 1) v.counted);
       held = subst (λ (l : List InterfaceId). (j : ℕ) (y : InterfaceId) → slice_get l j ≡ Some y → HasInterface more y) (sym items)
           (held-more now more written w c.write_union.ensures.extended (union-held t more b (length us) written u x.0 name w (is x.0 x.1)) v.held);

@@ -2,6 +2,7 @@ use Rattle.std.proofs.Common.{◌≡◌, ℕ, length, map, slice_get, string_byt
 use Rattle.std.specs.Option.{option_map}
 use Rattle.wac_collection.specs.Collection.{HasInterface}
 use Rattle.wac_shapes.specs.declared.component.InterfaceId.{InterfaceId}
+use Rattle.wac_renaming.specs.Made.{AreMade}
 use Rattle.wac_terms.specs.Renaming.{IsExtended}
 use Rattle.wac_unions.proofs.WritingUnions.{AreAllWritten}
 use Rattle.wac_unions.proofs.writing.write_unions.Given as goal
@@ -9,6 +10,7 @@ use Rattle.wac_unions.proofs.writing.write_unions.Given as goal
 abbrev pub invariant-loop-done : goal.invariant-loop-done
 invariant-loop-done l = record {
   extended : IsExtended l.initial.merged l.merged;
+  made : AreMade l.merged l.renamed.made;
   counted : length l.written.items ≡ l.done;
   held : (j : ℕ) (w : InterfaceId) → slice_get l.written.items j ≡ Some w → HasInterface l.merged w;
   written : AreAllWritten l.types l.merged l.became l.unions.unions.items (map (option_map string_bytes) l.ids) l.written.items;

@@ -12,6 +12,9 @@ use Rattle.wac_shapes.specs.Kinds.{kind_type}
 use Rattle.wac_renaming.proofs.Extending.{extended_twice, still_fresh, still_holds}
 use Rattle.wac_unions.proofs.merged.Merged.new.Goals as goal
 
+pub named_in-requires : goal.named_in-requires
+named_in-requires c = record { held = c.in_ok-unions.ensures.unions.unions.held }
+
 pub write_imports-requires-clause-each : goal.write_imports-requires-clause-each
 write_imports-requires-clause-each c k is = (c.requires.each k).0 is
 

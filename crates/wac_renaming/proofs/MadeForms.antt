@@ -1,0 +1,185 @@
+-- `==` tells keys of definitions apart by what they stand for, and what one more definition leaves.
+use Rattle.std.proofs.Common.{◌≡◌, Bool, true, false, cond, ◌&&◌, ℕ, ◌+◌, nat_eq, List, [], ◌∷◌, ◌++◌, map, take, Option, Some, None, refl, ap, sym, ◌∙◌, subst, eq-eqb, rules, add-one, inl, inr}
+use Rattle.std.proofs.lemmas.Bool.{cases_Bool, eqb-true}
+use Rattle.std.proofs.lemmas.List.{map-append}
+use Rattle.std.specs.Cmp.Lexicographic.{pointwise, pointwise_decides}
+use Rattle.std.specs.HashMap.{get_by}
+use Rattle.std.specs.Option.{option_eq}
+use Rattle.std.specs.Prelude.{slice_get, string_bytes}
+use denote.Enum.Bare.{same_true, true_same}
+use Rattle.wac_shapes.specs.Name.{Name}
+use Rattle.wac_shapes.specs.contracts.component.PrimitiveType.{the_type}
+use Rattle.wac_shapes.specs.contracts.component.ValueTypePartialEq.TheImpl as ValueEq
+use Rattle.wac_shapes.specs.declared.component.DefinedType.{DefinedType}
+use Rattle.wac_shapes.specs.declared.component.DefinedType.TheVariants as def
+use Rattle.wac_shapes.specs.declared.component.DefinedTypeId.{DefinedTypeId}
+use Rattle.wac_shapes.specs.declared.component.ValueType.{ValueType}
+use Rattle.wac_shapes.specs.declared.component.ValueType.TheVariants as val
+use Rattle.wac_shapes.proofs.Names.{take_at}
+use Rattle.wac_collection.specs.Collection.{Collection, item_at}
+use Rattle.wac_entries.proofs.Telling.{Tells, both, and_true, list_itself, list_same, Text, text_eq, text_tells}
+use Rattle.wac_entries.proofs.TaskOpenings.{labels_take}
+use Rattle.wac_renaming.specs.contracts.made.FormPartialEq.TheImpl as FormEq
+use Rattle.wac_renaming.specs.contracts.shapes.ShapePartialEq.TheImpl as ShapeEq
+use Rattle.wac_renaming.specs.declared.made.Form.{Form}
+use Rattle.wac_renaming.specs.declared.made.Made.{Made}
+use Rattle.wac_renaming.specs.declared.shapes.Shape.{Shape}
+use Rattle.wac_renaming.specs.declared.shapes.Shape.TheVariants as shape
+use Rattle.wac_renaming.specs.Made.{AreMade, HasMadeToo, made_in}
+use Rattle.wac_renaming.specs.Shapes.{pairs, shape_view}
+
+abbrev value_eq : ValueType → ValueType → Bool
+value_eq = (ValueEq.ghosts).eq
+
+same_value : (v w : ValueType) → value_eq v w ≡ true → v ≡ w
+same_value (val.Primitive p) (val.Primitive q) e = ap val.Primitive (same_true the_type (search rules) p q e)
+same_value (val.Own r) (val.Own s) e = ap (λ n. val.Own (record { 0 = n })) (eqb-true r.0 s.0 e)
+same_value (val.Borrow r) (val.Borrow s) e = ap (λ n. val.Borrow (record { 0 = n })) (eqb-true r.0 s.0 e)
+same_value (val.Defined r) (val.Defined s) e = ap (λ n. val.Defined (record { 0 = n })) (eqb-true r.0 s.0 e)
+same_value _ _ e = cc e
+
+value_itself : (v : ValueType) → value_eq v v ≡ true
+value_itself (val.Primitive p) = true_same the_type p p refl
+value_itself (val.Own r) = eq-eqb r.0 r.0 refl
+value_itself (val.Borrow r) = eq-eqb r.0 r.0 refl
+value_itself (val.Defined r) = eq-eqb r.0 r.0 refl
+
+value_tells : (v w : ValueType) → (value_eq v w ≡ true → v ≡ w) × (v ≡ w → value_eq v w ≡ true)
+value_tells v w = (same_value v w, λ e. subst (λ u. value_eq v u ≡ true) e (value_itself v))
+
+optional_tells : (x y : Option ValueType) → (option_eq value_eq x y ≡ true → x ≡ y) × (x ≡ y → option_eq value_eq x y ≡ true)
+optional_tells None None = (λ _. refl, λ _. refl)
+optional_tells None (Some b) = (λ e. cc e, λ e. cc e)
+optional_tells (Some a) None = (λ e. cc e, λ e. cc e)
+optional_tells (Some a) (Some b) = (λ e. ap Some (same_value a b e), λ e. (value_tells a b).1 (inner e)) where
+  inner : Some a ≡ Some b → a ≡ b
+  inner e = cc
+
+abbrev entry_eq : {V : Type 0} → (V → V → Bool) → Text × V → Text × V → Bool
+entry_eq E x y = text_eq x.0 y.0 && E x.1 y.1
+
+abbrev pair_view : {V : Type 0} → Text × V → Name × V
+pair_view e = (string_bytes e.0, e.1)
+
+module _ {V : Type 0} (E : V → V → Bool) (t : (x y : V) → (E x y ≡ true → x ≡ y) × (x ≡ y → E x y ≡ true)) where
+  pair_there : (x y : Text × V) → entry_eq E x y ≡ true → pair_view x ≡ pair_view y
+  pair_there x y e = let (p, q) = both (text_eq x.0 y.0) (E x.1 y.1) e in rw ((text_tells x.0 y.0).0 p, (t x.1 y.1).0 q) refl
+
+  pair_back : (x y : Text × V) → pair_view x ≡ pair_view y → entry_eq E x y ≡ true
+  pair_back x y e = and_true (text_eq x.0 y.0) (E x.1 y.1) ((text_tells x.0 y.0).1 (ap (λ p. p.0) e)) ((t x.1 y.1).1 (ap (λ p. p.1) e))
+
+  pair_tells : Tells pair_view (entry_eq E)
+  pair_tells x y = (pair_there x y, pair_back x y)
+
+same_shape : (a b : Shape) → (ShapeEq.ghosts).eq a b ≡ true → shape_view a ≡ shape_view b
+same_shape (shape.Tuple a) (shape.Tuple b) e = ap def.Tuple ((pointwise_decides value_tells a.items b.items).0 e)
+same_shape (shape.List a) (shape.List b) e = ap def.List (same_value a b e)
+same_shape (shape.FixedSizeList a x) (shape.FixedSizeList b y) e = let (p, q) = both (value_eq a b) (nat_eq x y) e in rw (same_value a b p, eqb-true x y q) refl
+same_shape (shape.Option a) (shape.Option b) e = ap def.Option (same_value a b e)
+same_shape (shape.Result a x) (shape.Result b y) e = let (p, q) = both (option_eq value_eq a b) (option_eq value_eq x y) e in rw ((optional_tells a b).0 p, (optional_tells x y).0 q) refl
+same_shape (shape.Variant a) (shape.Variant b) e = ap (λ cs. def.Variant (record { cases = cs })) (list_same pair_view (entry_eq (option_eq value_eq)) (pair_tells (option_eq value_eq) optional_tells) a.items b.items e)
+same_shape (shape.Record a) (shape.Record b) e = ap (λ fs. def.Record (record { fields = fs })) (list_same pair_view (entry_eq value_eq) (pair_tells value_eq value_tells) a.items b.items e)
+same_shape (shape.Flags a) (shape.Flags b) e = ap (λ ns. def.Flags (record { 0 = ns })) (list_same string_bytes text_eq text_tells a.items b.items e)
+same_shape (shape.Enum a) (shape.Enum b) e = ap (λ ns. def.Enum (record { 0 = ns })) (list_same string_bytes text_eq text_tells a.items b.items e)
+same_shape (shape.Alias a) (shape.Alias b) e = ap def.Alias (same_value a b e)
+same_shape (shape.Stream a) (shape.Stream b) e = ap def.Stream ((optional_tells a b).0 e)
+same_shape (shape.Future a) (shape.Future b) e = ap def.Future ((optional_tells a b).0 e)
+same_shape _ _ e = cc e
+
+same_form : (a b : Form) → (FormEq.ghosts).eq a b ≡ true → shape_view a.shape ≡ shape_view b.shape
+same_form a b e = same_shape a.shape b.shape (both (option_eq (λ x y. nat_eq x.0 y.0) a.named b.named) ((ShapeEq.ghosts).eq a.shape b.shape) e).1
+
+one_some : {A : Type 0} (a b : A) → Some a ≡ Some b → a ≡ b
+one_some a b e = cc
+
+-- what was made stays so with one more definition
+module _ (m : Collection) (old new : Made) (f : Form) (id : DefinedTypeId) (put : HasMadeToo old f id new) (are : AreMade m old) (at : item_at m.defined id.0 ≡ Some (shape_view f.shape)) where
+  split_made : (k : Form) (e : DefinedTypeId) (b : Bool) → (FormEq.ghosts).eq f k ≡ b → cond b (Some id) (made_in old k) ≡ Some e → item_at m.defined e.0 ≡ Some (shape_view k.shape)
+  split_made k e true same is = subst (λ (x : DefinedTypeId). item_at m.defined x.0 ≡ Some (shape_view k.shape)) (one_some id e is) (at ∙ ap Some (same_form f k same))
+  split_made k e false same is = are k e is
+
+  pub made_too : AreMade m new
+  made_too k e is = split_made k e ((FormEq.ghosts).eq f k) refl (sym (put k) ∙ is)
+
+-- ---- copies, as far as a loop has come
+pub texts_further : (labels : List Name) (i : ℕ) (n : Name) (t : Text) (ns ms : List Text) → slice_get labels i ≡ Some n → string_bytes t ≡ n → ms ≡ ns ++ t ∷ [] → map string_bytes ns ≡ take i labels → map string_bytes ms ≡ take (i + 1) labels
+texts_further labels i n t ns ms at is more so =
+    ap (map string_bytes) more ∙ map-append string_bytes ns (t ∷ []) ∙ ap (λ x. map string_bytes ns ++ x ∷ []) is ∙ labels_take (map string_bytes ns) labels i n at so
+
+pub pairs_further : {V : Type 0} (es : List (Name × V)) (i : ℕ) (n : Name) (v : V) (t : Text) (fs gs : List (Text × V)) → slice_get es i ≡ Some (n, v) → string_bytes t ≡ n → gs ≡ fs ++ (t, v) ∷ [] → pairs fs ≡ take i es → pairs gs ≡ take (i + 1) es
+pairs_further es i n v t fs gs at is more so =
+    ap pairs more ∙ map-append (λ (e : Text × _). (string_bytes e.0, e.1)) fs ((t, v) ∷ []) ∙ ap (λ x. pairs fs ++ (x, v) ∷ []) is ∙ ap (λ xs. xs ++ (n, v) ∷ []) so ∙ sym (rw add-one (take_at es i (n, v) at))
+
+-- ---- what stands for one definition of one named type is looked up alike
+
+abbrev id_eq : DefinedTypeId → DefinedTypeId → Bool
+id_eq x y = nat_eq x.0 y.0
+
+named_same : (x y : Option DefinedTypeId) → option_eq id_eq x y ≡ true → x ≡ y
+named_same None None e = refl
+named_same None (Some b) e = cc e
+named_same (Some a) None e = cc e
+named_same (Some a) (Some b) e = ap (λ n. Some (record { 0 = n })) (eqb-true a.0 b.0 e)
+
+named_itself : (x : Option DefinedTypeId) → option_eq id_eq x x ≡ true
+named_itself None = refl
+named_itself (Some a) = eq-eqb a.0 a.0 refl
+
+shape_itself : (a b : Shape) → shape_view a ≡ shape_view b → (ShapeEq.ghosts).eq a b ≡ true
+shape_itself (shape.Tuple a) (shape.Tuple b) e = let i : a.items ≡ b.items = cc e in (pointwise_decides value_tells a.items b.items).1 i
+shape_itself (shape.List a) (shape.List b) e = let i : a ≡ b = cc e in (value_tells a b).1 i
+shape_itself (shape.FixedSizeList a x) (shape.FixedSizeList b y) e = let i : a ≡ b = cc e in let j : x ≡ y = cc e in and_true (value_eq a b) (nat_eq x y) ((value_tells a b).1 i) (eq-eqb x y j)
+shape_itself (shape.Option a) (shape.Option b) e = let i : a ≡ b = cc e in (value_tells a b).1 i
+shape_itself (shape.Result a x) (shape.Result b y) e = let i : a ≡ b = cc e in let j : x ≡ y = cc e in and_true (option_eq value_eq a b) (option_eq value_eq x y) ((optional_tells a b).1 i) ((optional_tells x y).1 j)
+shape_itself (shape.Variant a) (shape.Variant b) e = let i : pairs a.items ≡ pairs b.items = ap cases_of e in list_itself pair_view (entry_eq (option_eq value_eq)) (pair_tells (option_eq value_eq) optional_tells) a.items b.items i where
+  cases_of : DefinedType → List (Name × Option ValueType)
+  cases_of (def.Variant v) = v.cases
+  cases_of d = []
+shape_itself (shape.Record a) (shape.Record b) e = let i : pairs a.items ≡ pairs b.items = ap fields_of e in list_itself pair_view (entry_eq value_eq) (pair_tells value_eq value_tells) a.items b.items i where
+  fields_of : DefinedType → List (Name × ValueType)
+  fields_of (def.Record v) = v.fields
+  fields_of d = []
+shape_itself (shape.Flags a) (shape.Flags b) e = let i : map string_bytes a.items ≡ map string_bytes b.items = ap flags_of e in list_itself string_bytes text_eq text_tells a.items b.items i where
+  flags_of : DefinedType → List Name
+  flags_of (def.Flags v) = v.0
+  flags_of d = []
+shape_itself (shape.Enum a) (shape.Enum b) e = let i : map string_bytes a.items ≡ map string_bytes b.items = ap names_in e in list_itself string_bytes text_eq text_tells a.items b.items i where
+  names_in : DefinedType → List Name
+  names_in (def.Enum v) = v.0
+  names_in d = []
+shape_itself (shape.Alias a) (shape.Alias b) e = let i : a ≡ b = cc e in (value_tells a b).1 i
+shape_itself (shape.Stream a) (shape.Stream b) e = let i : a ≡ b = cc e in (optional_tells a b).1 i
+shape_itself (shape.Future a) (shape.Future b) e = let i : a ≡ b = cc e in (optional_tells a b).1 i
+shape_itself _ _ e = cc e
+
+form_there : (a b : Form) → (FormEq.ghosts).eq a b ≡ true → (a.named ≡ b.named) × (shape_view a.shape ≡ shape_view b.shape)
+form_there a b e =
+    let (p, q) = both (option_eq id_eq a.named b.named) ((ShapeEq.ghosts).eq a.shape b.shape) e in
+    (named_same a.named b.named p, same_shape a.shape b.shape q)
+
+pub form_itself : (a b : Form) → a.named ≡ b.named → shape_view a.shape ≡ shape_view b.shape → (FormEq.ghosts).eq a b ≡ true
+form_itself a b n v = and_true (option_eq id_eq a.named b.named) ((ShapeEq.ghosts).eq a.shape b.shape) (subst (λ o. option_eq id_eq a.named o ≡ true) n (named_itself a.named)) (shape_itself a.shape b.shape v)
+
+bool_same : (p q : Bool) → (p ≡ true → q ≡ true) → (q ≡ true → p ≡ true) → p ≡ q
+bool_same true q f g = sym (f refl)
+bool_same false true f g = g refl
+bool_same false false f g = refl
+
+alike : (a b : Form) → a.named ≡ b.named → shape_view a.shape ≡ shape_view b.shape → (k : Form) → (FormEq.ghosts).eq a k ≡ (FormEq.ghosts).eq b k
+alike a b n v k =
+    bool_same ((FormEq.ghosts).eq a k) ((FormEq.ghosts).eq b k) (λ e. let (p, q) = form_there a k e in form_itself b k (sym n ∙ p) (sym v ∙ q))
+    (λ e. let (p, q) = form_there b k e in form_itself a k (n ∙ p) (v ∙ q))
+
+pub made_alike : (made : Made) (a b : Form) → a.named ≡ b.named → shape_view a.shape ≡ shape_view b.shape → made_in made a ≡ made_in made b
+made_alike made a b n v = λ i. get_by (λ k. alike a b n v k i) made.ids
+
+-- ---- one more definition
+module _ (old new : Made) (f : Form) (id : DefinedTypeId) (put : HasMadeToo old f id new) where
+  pub put_there : (k : Form) → k.named ≡ f.named → shape_view k.shape ≡ shape_view f.shape → made_in new k ≡ Some id
+  put_there k n v = put k ∙ ap (λ b. cond b (Some id) (made_in old k)) (form_itself f k (sym n) (sym v))
+
+  pub put_stays : ((e : DefinedTypeId) → made_in old f ≡ Some e → ⊥) → (k : Form) (e : DefinedTypeId) → made_in old k ≡ Some e → made_in new k ≡ Some e
+  put_stays free k e is = elim (cases_Bool ((FormEq.ghosts).eq f k)) [
+    | inl same ↦ let (p, q) = form_there f k same in absurd (free e (made_alike old f k p q ∙ is))
+    | inr other ↦ put k ∙ ap (λ b. cond b (Some id) (made_in old k)) other ∙ is
+  ]

@@ -1,0 +1,54 @@
+use Rattle.std.proofs.Common.{◌≡◌, Some, sym, ◌∙◌, ap}
+use Rattle.wac_collection.specs.Collection.{defined_values}
+use Rattle.wac_shapes.specs.declared.component.DefinedTypeId.{DefinedTypeId}
+use Rattle.wac_renaming.specs.RenamingSteps.{IsDefinedBehind}
+use Rattle.wac_renaming.specs.declared.made.Form.{Form}
+use Rattle.wac_renaming.proofs.Extending.{extended_none, still_made}
+use Rattle.wac_renaming.proofs.MadeForms.{made_alike, made_too, put_stays, put_there}
+use Rattle.wac_renaming.proofs.RenamingLoops.{defined_behind, memory_alone}
+use Rattle.wac_renaming.proofs.made.Made.make.Goals as goal
+
+pub returns-in-Some-clause-extended : goal.returns-in-Some-clause-extended
+returns-in-Some-clause-extended c = extended_none c.args.merged.now
+
+pub returns-in-Some-clause-added : goal.returns-in-Some-clause-added
+returns-in-Some-clause-added c =
+    let form : Form = record { named = c.args.named; shape = c.in_ok-shape.shape } in
+    record {
+      extended = extended_none c.args.merged.now;
+      there = c.requires.made form c.in-Some.id (sym c.get.ensures ∙ c.in-Some.is) ∙ ap Some c.in_ok-shape.ensures;
+    }
+
+pub out_of_memory-requires : goal.out_of_memory-requires
+out_of_memory-requires c = memory_alone DefinedTypeId c.args.merged.now (defined_values c.args.definition) c.in-Err.fault c.requires.held c.in-Err.ensures.fault
+
+pub returns-in_err-put-in-Ok-clause-extended : goal.returns-in_err-put-in-Ok-clause-extended
+returns-in_err-put-in-Ok-clause-extended c = (defined_behind c.args.merged.now c.add_defined_type.new.self c.args.definition c.in-Ok.id c.growth_keeps_trees.ensures c.in-Ok.ensures.added.0 c.in-Ok.ensures.added.1).extended
+
+pub returns-in_ok-put-in-Ok-clause-extended : goal.returns-in_ok-put-in-Ok-clause-extended
+returns-in_ok-put-in-Ok-clause-extended c = (defined_behind c.args.merged.now c.add_defined_type.new.self c.args.definition c.in-Ok.id c.growth_keeps_trees.ensures c.in-Ok.ensures.added.0 c.in-Ok.ensures.added.1).extended
+
+pub returns-in_ok-put-in-Ok-clause-added : goal.returns-in_ok-put-in-Ok-clause-added
+returns-in_ok-put-in-Ok-clause-added c = defined_behind c.args.merged.now c.add_defined_type.new.self c.args.definition c.in-Ok.id c.growth_keeps_trees.ensures c.in-Ok.ensures.added.0 c.in-Ok.ensures.added.1
+
+pub returns-in_ok-put-in-Ok-clause-made : goal.returns-in_ok-put-in-Ok-clause-made
+returns-in_ok-put-in-Ok-clause-made c =
+    let new = c.add_defined_type.new.self in
+    let form : Form = record { named = c.args.named; shape = c.in_ok-shape.shape } in
+    let behind = defined_behind c.args.merged.now new c.args.definition c.in-Ok.id c.growth_keeps_trees.ensures c.in-Ok.ensures.added.0 c.in-Ok.ensures.added.1 in
+    made_too new c.args.self.now c.put.new.self form c.in-Ok.id c.in_ok-put-in-Ok.ensures (still_made c.args.merged.now new behind.extended c.args.self.now c.requires.made) (behind.there ∙ sym (ap Some c.in_ok-shape.ensures))
+
+pub returns-in-Some-clause-once : goal.returns-in-Some-clause-once
+returns-in-Some-clause-once c f n v =
+    let form : Form = record { named = c.args.named; shape = c.in_ok-shape.shape } in
+    made_alike c.args.self.now f form n (v ∙ sym c.in_ok-shape.ensures) ∙ sym c.get.ensures ∙ c.in-Some.is
+
+pub returns-in_ok-put-in-Ok-clause-once : goal.returns-in_ok-put-in-Ok-clause-once
+returns-in_ok-put-in-Ok-clause-once c f n v =
+    let form : Form = record { named = c.args.named; shape = c.in_ok-shape.shape } in
+    put_there c.args.self.now c.put.new.self form c.in-Ok.id c.in_ok-put-in-Ok.ensures f n (v ∙ sym c.in_ok-shape.ensures)
+
+pub returns-in_ok-put-in-Ok-clause-stay : goal.returns-in_ok-put-in-Ok-clause-stay
+returns-in_ok-put-in-Ok-clause-stay c =
+    let form : Form = record { named = c.args.named; shape = c.in_ok-shape.shape } in
+    put_stays c.args.self.now c.put.new.self form c.in-Ok.id c.in_ok-put-in-Ok.ensures (λ e is. c.in_default.not-Some e (c.get.ensures ∙ is))
