@@ -44,6 +44,17 @@ pub enum Call<'a> {
     Export(usize, &'a str),
     // An import of this name.
     Import(&'a str, Item),
+    // This argument, a node, is taken away from a node.
+    Unset(usize, &'a str, usize),
+    Unexport(usize),
+    // A node has this name.
+    Name(usize, &'a str),
+    // What a node's name is.
+    Named(usize),
+    // Of which node, and which of its exports, a node is the alias.
+    Source(usize),
+    // The node that is exported by this name.
+    Exported(&'a str),
 }
 
 // A graph, and what it answered so far.
@@ -242,6 +253,67 @@ impl Bench {
         }
     }
 
+    fn unset(
+        &mut self,
+        rt: &impl Abort,
+        place: usize,
+        name: &str,
+        argument: usize,
+    ) -> Result<String, Fail> {
+        let instantiation = self.node(place)?;
+        let argument = self.node(argument)?;
+        let held = self.graph.has_node(instantiation);
+        assert!(rt; held);
+        match self
+            .graph
+            .unset_instantiation_argument(instantiation, name, argument)
+        {
+            Ok(()) => Ok(String::new(self.alloc)),
+            Err(error) => shown(self.alloc, error),
+        }
+    }
+
+    fn unexport(&mut self, rt: &impl Abort, place: usize) -> Result<String, Fail> {
+        let node = self.node(place)?;
+        let held = self.graph.has_node(node);
+        assert!(rt; held);
+        match self.graph.unexport(node) {
+            Ok(()) => Ok(String::new(self.alloc)),
+            Err(error) => shown(self.alloc, error),
+        }
+    }
+
+    fn name(&mut self, rt: &impl Abort, place: usize, name: &str) -> Result<String, Fail> {
+        let node = self.node(place)?;
+        let held = self.graph.has_node(node);
+        assert!(rt; held);
+        match self.graph.set_node_name(node, name) {
+            Ok(()) => Ok(String::new(self.alloc)),
+            Err(error) => shown(self.alloc, error),
+        }
+    }
+
+    fn named(&self, rt: &impl Abort, place: usize) -> Result<String, Fail> {
+        let node = self.node(place)?;
+        let held = self.graph.has_node(node);
+        assert!(rt; held);
+        Ok(String::from_str(self.alloc, self.graph[node].name().unwrap_or("no name"))?)
+    }
+
+    fn source(&self, place: usize) -> Result<String, Fail> {
+        match self.graph.get_alias_source(self.node(place)?) {
+            Some((node, name)) => Ok(format!(in self.alloc; "{node} {name}")?),
+            None => Ok(String::from_str(self.alloc, "none")?),
+        }
+    }
+
+    fn exported(&self, name: &str) -> Result<String, Fail> {
+        match self.graph.get_export(name) {
+            Some(node) => shown(self.alloc, node),
+            None => Ok(String::from_str(self.alloc, "none")?),
+        }
+    }
+
     // The answer's number, or its error's text; an empty text for an answer without a number.
     fn call(&mut self, rt: &impl Abort, call: Call<'_>) -> Result<String, Fail> {
         match call {
@@ -251,6 +323,12 @@ impl Bench {
             Call::Set(place, name, argument) => self.set(rt, place, name, argument),
             Call::Export(place, name) => self.export(rt, place, name),
             Call::Import(name, item) => self.import(rt, name, item),
+            Call::Unset(place, name, argument) => self.unset(rt, place, name, argument),
+            Call::Unexport(place) => self.unexport(rt, place),
+            Call::Name(place, name) => self.name(rt, place, name),
+            Call::Named(place) => self.named(rt, place),
+            Call::Source(place) => self.source(place),
+            Call::Exported(name) => self.exported(name),
         }
     }
 

@@ -1,4 +1,7 @@
-use super::bench::Call::{Alias, Export, Import, Instantiate, Register, Set};
+use super::bench::Call::{
+    Alias, Export, Exported, Import, Instantiate, Name, Named, Register, Set, Source, Unexport,
+    Unset,
+};
 use super::bench::Item::{
     Empty, Exporting, ExportingTelling, Instance, Other, Plain, Telling, Using,
 };
@@ -229,6 +232,56 @@ const ASKED: &[(Call<'static>, &str)] = &[
     (Set(1, "a", 0), ""),
 ];
 
+// An argument that is set and taken away, twice; taken away once more changes nothing.
+const TAKEN: &[(Call<'static>, &str)] = &[
+    (Register("my:package1", &[], &[("a", Plain)]), ""),
+    (Register("my:package2", &[("b", Plain)], &[]), ""),
+    (Instantiate(0), "0"),
+    (Alias(0, "a"), "1"),
+    (Instantiate(1), "2"),
+    (Set(2, "b", 1), ""),
+    (Unset(2, "b", 1), ""),
+    (Unset(2, "b", 1), ""),
+    (
+        Unset(2, "c", 1),
+        "argument name `c` is not an import of package `my:package2`",
+    ),
+    (
+        Unset(1, "b", 1),
+        "the specified node is not an instantiation",
+    ),
+    (Source(1), "0 a"),
+    (Source(0), "none"),
+];
+
+// The exports `a` and `c` of one node, `b` and `d` of two others, of which the first loses its names.
+const UNEXPORTED: &[(Call<'static>, &str)] = &[
+    (Register("my:package", &[], &[("f", Plain)]), ""),
+    (Instantiate(0), "0"),
+    (Instantiate(0), "1"),
+    (Instantiate(0), "2"),
+    (Export(0, "a"), ""),
+    (Export(0, "b"), ""),
+    (Export(1, "c"), ""),
+    (Export(2, "d"), ""),
+    (Unexport(0), ""),
+    (Exported("a"), "none"),
+    (Exported("b"), "none"),
+    (Exported("c"), "1"),
+    (Exported("d"), "2"),
+    (Unexport(0), ""),
+];
+
+// A node that is named, and named anew.
+const TITLED: &[(Call<'static>, &str)] = &[
+    (Register("my:package1", &[], &[("a", Plain)]), ""),
+    (Instantiate(0), "0"),
+    (Named(0), "no name"),
+    (Name(0, "m"), ""),
+    (Name(0, "n"), ""),
+    (Named(0), "n"),
+];
+
 // What `encode` answers after the calls.
 fn encoded(
     rt: &(impl Abort + AllocGlobal),
@@ -442,6 +495,26 @@ fn options_that_are_not_served_yet(rt: HostRuntime) -> Result<(), Fail> {
     };
     assert_eq!(rt; encoded(&rt, calls, imported)?.as_str(), NOT_YET);
     Ok(())
+}
+
+#[test]
+fn an_argument_that_is_taken_away_is_asked_for(rt: HostRuntime) -> Result<(), Fail> {
+    assert_eq!(rt; asked(&rt, TAKEN)?.as_str(), "b: function; ");
+    Ok(())
+}
+
+#[test]
+fn exports_that_are_left(rt: HostRuntime) -> Result<(), Fail> {
+    assert_eq!(rt;
+        encoded(&rt, UNEXPORTED, EncodeOptions::default())?.as_str(),
+        "0061736d0d00010004080061736d0d000100050a030000000000000000000b0d02000163050100000164050200"
+    );
+    Ok(())
+}
+
+#[test]
+fn a_node_is_named(rt: HostRuntime) -> Result<(), Fail> {
+    assert_encoded(&rt, TITLED, NOT_YET)
 }
 
 #[test]
