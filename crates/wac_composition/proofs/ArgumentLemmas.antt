@@ -1,6 +1,7 @@
 -- Steps of `set_instantiation_argument`.
 use Rattle.std.proofs.Common.{arith, ◌≡◌, ℕ, ◌<◌, length, Bool, true, false, not, ◌||◌, ◌&&◌, ap, ◌∙◌, sym, refl, subst, Option, Some, None, IfSome, IsSome, IsSomeAnd, Ok, Err, String, Global, string_bytes, [], Result}
 use Rattle.std.specs.Prelude.{slice_get, nat_lt}
+use Rattle.std.specs.Result.{IsErrAnd}
 use Rattle.std.specs.Option.{option_map}
 use Rattle.std.specs.FinSet as set
 use Rattle.std.specs.Ordering.{nat_cmp, eq_by_cmp}
@@ -167,6 +168,11 @@ unset g id argument name position kind new import is = split (node_at g id) impo
   split : (o : Option GraphNode) → IsSomeAnd o (λ m. (m.kind ≡ graph.instantiation) × (import_named g m name ≡ Some (position, kind))) → IfSome o (λ n. UnsetsOn g id n name argument (Ok tt) new)
   split None h = absurd h
   split (Some m) h = (h.0, subst (λ x. IsSomeAnd x (λ e. new ≡ record g { edges = set.remove g.edges (argument_edge argument.0 id.0 e.0) })) (sym h.1) is)
+
+-- what a `?` hands on
+pub handed_on : (g : Graph) (id : NodeId) (name : Name) (argument : NodeId) (r : Result (Unit {0}) InstantiationArgumentError) (e : InstantiationArgumentError) → IsErrAnd r (λ y. y ≡ e) → UnsetsArgument g id name argument (Err e) g → UnsetsArgument g id name argument r g
+handed_on g id name argument (Ok x) e h p = absurd h
+handed_on g id name argument (Err y) e h p = subst (λ x. UnsetsArgument g id name argument (Err x) g) (sym h) p
 
 pub has_instantiation : (g : Graph) (id : NodeId) (name : Name) (position : ℕ) (kind : ItemKind) → HasImport g id name position kind → IsInstantiation g id
 has_instantiation g id name position kind import = split (node_at g id) import where

@@ -188,7 +188,7 @@ pub at_cycle : (g : Graph) (n : ℕ) → IsLowestOnCycle g.edges n → (o : Enco
 at_cycle g n lowest o = inr (cycle (node_number n), refl, stands_cycle g o (node_number n) lowest)
 
 -- what a `?` hands on
-pub exit_cause : {A : Type 0} (P : EncodeError → Type 0) (r : Result A EncodeError) (e : EncodeError) → IsErrAnd r (λ y. y ≡ e) → P e → IfErr r P
+pub exit_cause : {A E : Type 0} (P : E → Type 0) (r : Result A E) (e : E) → IsErrAnd r (λ y. y ≡ e) → P e → IfErr r P
 exit_cause P (Ok x) e h p = absurd h
 exit_cause P (Err y) e h p = subst P (sym h) p
 

@@ -1,11 +1,12 @@
 -- What is always true of a graph's fields stays true where an argument is taken away, and where a node is named.
-use Rattle.std.proofs.Common.{◌≡◌, ◌≢◌, ℕ, Bool, true, false, not, ◌||◌, ◌&&◌, ◌==◌, refl, ap, ◌∙◌, sym, subst, Option, Some, None, IfSome, IsSome, is_some, Ok, Err, String, Global, string_bytes, List, [], ◌∷◌, ◌×◌, suc, ◌-◌, length, take, slice_set, get_or}
-use Rattle.std.specs.Prelude.{slice_get, IsSomeAnd, swap_remove}
+use Rattle.std.proofs.Common.{◌≡◌, ◌≢◌, ℕ, Bool, true, false, not, ◌||◌, ◌&&◌, ◌==◌, refl, ap, ◌∙◌, sym, subst, Option, Some, None, IfSome, IsSome, is_some, Ok, Err, String, Global, string_bytes, List, [], ◌∷◌, suc, ◌-◌, length, take, slice_set, get_or}
+use Rattle.std.specs.Prelude.{slice_get, IsSomeAnd, swap_remove, if◌then◌else◌}
 use Rattle.std.specs.HashMap.{HashMap}
 use Rattle.std.specs.declared.hash.FoldHasher.{FoldHasher}
 use Rattle.std.specs.declared.hash.BuildHasherDefault.{BuildHasherDefault}
 use Rattle.std.proofs.lemmas.List.{take-map, map-set, length-map}
 use Rattle.std.proofs.Math.ListN.{get_or-map}
+use Rattle.std.proofs.lemmas.Option.{slice_get-map}
 use Rattle.std.specs.Option.{option_map}
 use Rattle.std.specs.Ordering.{nat_cmp, eq_by_cmp, is_eq}
 use Rattle.std.specs.Cmp.{tied_itself}
@@ -143,7 +144,7 @@ module _ (a : Inside) (v : Invariant a) where
                   let i_is : i ≡ position = let labels : label.Argument i ≡ label.Argument position = ap (λ (e : Edge). e.label) same in cc in
                   rw (t_is, i_is, eqb_same target) (eqb_same position)
 
-the_node : (o : Option Node) → IsSome o → (n : Node) × (o ≡ Some n)
+pub the_node : (o : Option Node) → IsSome o → (n : Node) × (o ≡ Some n)
 the_node None h = cc
 the_node (Some n) h = (n, refl)
 
@@ -231,20 +232,14 @@ module _ (a : Inside) (id : NodeId) (nodes : Slab Node) (before after : Node) (h
 abbrev pub Titled : Slab Node → Slab Node → ℕ → String Global → Type 0
 Titled old new number name = IfSome (get old number) (λ n. new ≡ with_value old number (record n { name = Some name }))
 
-module _ (a : Inside) (id : NodeId) (name : Name) (own : String Global) (nodes : Slab Node) (is : string_bytes own ≡ name) (there : IsSome (get a.nodes id.0)) (titled : Titled a.nodes nodes id.0 own) where
-  titled_node : Node
-  titled_node = (the_node (get a.nodes id.0) there).0
-
-  titled_had : get a.nodes id.0 ≡ Some titled_node
-  titled_had = (the_node (get a.nodes id.0) there).1
-
+module _ (a : Inside) (id : NodeId) (name : Name) (own : String Global) (nodes : Slab Node) (is : string_bytes own ≡ name) (titled_node : Node) (titled_had : get a.nodes id.0 ≡ Some titled_node) (titled : Titled a.nodes nodes id.0 own) where
   titled_is : nodes ≡ with_value a.nodes id.0 (record titled_node { name = Some own })
   titled_is = rw titled_had at titled
 
   titled_updates : Updates a.nodes nodes id.0 (Some (record titled_node { name = Some own }))
   titled_updates =
       let v : Node = record titled_node { name = Some own } in
-      subst (λ x. Updates a.nodes x id.0 (Some v)) (sym titled_is) (Updates-with_value a.nodes id.0 v there)
+      subst (λ x. Updates a.nodes x id.0 (Some v)) (sym titled_is) (Updates-with_value a.nodes id.0 v (ap is_some titled_had))
 
   pub named_node : SetsName (graph_of a) id name (Ok tt) (graph_of (record a { nodes = nodes }))
   named_node =
@@ -309,3 +304,17 @@ names_taken entries k e =
 -- one step further down
 pub taken_step : (gone : NodeId → Bool) (k : ℕ) (es old new : List (Name × NodeId)) → new ≡ taken_at gone k (slice_get es k) es → taken_below gone (suc k) es ≡ without gone old → taken_below gone k new ≡ without gone old
 taken_step gone k es old new is h = ap (taken_below gone k) is ∙ h
+
+-- one entry of a map, where it is of the node and where it is not
+pub entry_taken : (id : NodeId) (entries now : List (String Global × NodeId)) (k : ℕ) (e : String Global × NodeId) → slice_get entries k ≡ Some e → ((e.1).0 == id.0) ≡ true → now ≡ swap_remove entries k e
+    → names_of now ≡ taken_at (is_same id) k (slice_get (names_of entries) k) (names_of entries)
+entry_taken id entries now k e at same is =
+    ap names_of is ∙ names_taken entries k e
+    ∙ sym (ap (λ o. taken_at (is_same id) k o (names_of entries)) (slice_get-map (λ x. (string_bytes x.0, x.1)) entries k ∙ ap (option_map (λ x. (string_bytes x.0, x.1))) at) ∙ ap (λ b. if b then swap_remove (names_of entries) k (string_bytes e.0, e.1) else names_of entries) same)
+
+pub entry_left : (id : NodeId) (entries : List (String Global × NodeId)) (k : ℕ) (e : String Global × NodeId) → slice_get entries k ≡ Some e → ((e.1).0 == id.0) ≡ false → names_of entries ≡ taken_at (is_same id) k (slice_get (names_of entries) k) (names_of entries)
+entry_left id entries k e at other =
+    sym (ap (λ o. taken_at (is_same id) k o (names_of entries)) (slice_get-map (λ x. (string_bytes x.0, x.1)) entries k ∙ ap (option_map (λ x. (string_bytes x.0, x.1))) at) ∙ ap (λ b. if b then swap_remove (names_of entries) k (string_bytes e.0, e.1) else names_of entries) other)
+
+pub no_entry : (id : NodeId) (entries : List (String Global × NodeId)) (k : ℕ) → slice_get entries k ≡ None → names_of entries ≡ taken_at (is_same id) k (slice_get (names_of entries) k) (names_of entries)
+no_entry id entries k at = sym (ap (λ o. taken_at (is_same id) k o (names_of entries)) (slice_get-map (λ x. (string_bytes x.0, x.1)) entries k ∙ ap (option_map (λ x. (string_bytes x.0, x.1))) at))

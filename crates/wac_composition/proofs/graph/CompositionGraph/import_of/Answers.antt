@@ -1,7 +1,11 @@
-use Rattle.std.proofs.Common.{◌≡◌, ap, ◌∙◌, sym, Some}
+use Rattle.std.proofs.Common.{◌≡◌, ap, ◌∙◌, sym, Some, Err}
 use Rattle.wac_collection.specs.Collection.{item_at}
 use Rattle.wac_nodes.specs.Graph.{instantiation}
 use Rattle.wac_nodes.specs.Nodes.{kind_of}
+use Rattle.wac_nodes.specs.Steps.{UnsetsArgument}
+use Rattle.wac_nodes.specs.declared.node.NodeId.{NodeId}
+use Rattle.wac_nodes.specs.declared.errors.InstantiationArgumentError.TheVariants.{OutOfMemory}
+use Rattle.wac_composition.proofs.CauseLemmas.{exit_cause}
 use Rattle.wac_nodes.proofs.NodeLemmas.{there}
 use Rattle.wac_composition.proofs.EncodingLemmas.{some_and, of_if}
 use Rattle.wac_composition.proofs.ArgumentLemmas.{not_instantiation, not_instantiation_unset, world_there, invalid_name, invalid_name_unset, no_memory_unset, import_held, has_import}
@@ -35,7 +39,9 @@ pub returns-in_default-get_full-clause-lacks : goal.returns-in_default-get_full-
 returns-in_default-get_full-clause-lacks c = λ argument. rw (← c.self.view_is) (invalid_name_unset c.self.inside c.self.invariant c.args.instantiation c.index-node.result.now c.in-Instantiation.field-0 c.args.name.now c.index-node.ensures c.in-Instantiation.is c.package_of.result.0 c.package_of.result.1.now (of_if c.self.inside c.args.instantiation.0 c.index-node.result.now (λ node. node.owner ≡ Some c.package_of.result.0) (rw (← c.self.view_is) at c.package_of.ensures.owner) c.index-node.ensures) (sym (rw (← c.self.view_is) at c.package_of.ensures.registered)) c.index-world.result.now (ap (λ w. item_at (c.self.inside.types).worlds w.0) (sym c.ty.ensures) ∙ c.index-world.ensures) argument c.in_ok-name.name c.in_ok-package.«package» c.in_default-get_full.ensures c.in_ok-name.ensures.ok (c.in_ok-package.ensures.ok ∙ c.name.ensures))
 
 pub returns-in_err-name-clause-lacks : goal.returns-in_err-name-clause-lacks
-returns-in_err-name-clause-lacks c = λ argument. rw (← c.self.view_is) (no_memory_unset c.self.inside c.self.invariant c.args.instantiation c.index-node.result.now c.in-Instantiation.field-0 c.args.name.now c.index-node.ensures c.in-Instantiation.is c.package_of.result.0 c.package_of.result.1.now (of_if c.self.inside c.args.instantiation.0 c.index-node.result.now (λ node. node.owner ≡ Some c.package_of.result.0) (rw (← c.self.view_is) at c.package_of.ensures.owner) c.index-node.ensures) (sym (rw (← c.self.view_is) at c.package_of.ensures.registered)) c.index-world.result.now (ap (λ w. item_at (c.self.inside.types).worlds w.0) (sym c.ty.ensures) ∙ c.index-world.ensures) argument c.in_default-get_full.ensures)
+returns-in_err-name-clause-lacks c = exit_cause (λ e. (argument : NodeId) → UnsetsArgument c.args.self.now c.args.instantiation c.args.name.now argument (Err e) c.args.self.now) c.from_residual.result OutOfMemory c.from_residual.ensures.1
+    (λ argument. rw (← c.self.view_is) (no_memory_unset c.self.inside c.self.invariant c.args.instantiation c.index-node.result.now c.in-Instantiation.field-0 c.args.name.now c.index-node.ensures c.in-Instantiation.is c.package_of.result.0 c.package_of.result.1.now (of_if c.self.inside c.args.instantiation.0 c.index-node.result.now (λ node. node.owner ≡ Some c.package_of.result.0) (rw (← c.self.view_is) at c.package_of.ensures.owner) c.index-node.ensures) (sym (rw (← c.self.view_is) at c.package_of.ensures.registered)) c.index-world.result.now (ap (λ w. item_at (c.self.inside.types).worlds w.0) (sym c.ty.ensures) ∙ c.index-world.ensures) argument c.in_default-get_full.ensures))
 
 pub returns-in_err-package-clause-lacks : goal.returns-in_err-package-clause-lacks
-returns-in_err-package-clause-lacks c = λ argument. rw (← c.self.view_is) (no_memory_unset c.self.inside c.self.invariant c.args.instantiation c.index-node.result.now c.in-Instantiation.field-0 c.args.name.now c.index-node.ensures c.in-Instantiation.is c.package_of.result.0 c.package_of.result.1.now (of_if c.self.inside c.args.instantiation.0 c.index-node.result.now (λ node. node.owner ≡ Some c.package_of.result.0) (rw (← c.self.view_is) at c.package_of.ensures.owner) c.index-node.ensures) (sym (rw (← c.self.view_is) at c.package_of.ensures.registered)) c.index-world.result.now (ap (λ w. item_at (c.self.inside.types).worlds w.0) (sym c.ty.ensures) ∙ c.index-world.ensures) argument c.in_default-get_full.ensures)
+returns-in_err-package-clause-lacks c = exit_cause (λ e. (argument : NodeId) → UnsetsArgument c.args.self.now c.args.instantiation c.args.name.now argument (Err e) c.args.self.now) c.from_residual-in_err-package.result OutOfMemory c.from_residual-in_err-package.ensures.1
+    (λ argument. rw (← c.self.view_is) (no_memory_unset c.self.inside c.self.invariant c.args.instantiation c.index-node.result.now c.in-Instantiation.field-0 c.args.name.now c.index-node.ensures c.in-Instantiation.is c.package_of.result.0 c.package_of.result.1.now (of_if c.self.inside c.args.instantiation.0 c.index-node.result.now (λ node. node.owner ≡ Some c.package_of.result.0) (rw (← c.self.view_is) at c.package_of.ensures.owner) c.index-node.ensures) (sym (rw (← c.self.view_is) at c.package_of.ensures.registered)) c.index-world.result.now (ap (λ w. item_at (c.self.inside.types).worlds w.0) (sym c.ty.ensures) ∙ c.index-world.ensures) argument c.in_default-get_full.ensures))
