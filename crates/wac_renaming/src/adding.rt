@@ -17,8 +17,8 @@ use wac_entries::classes::Classes;
 use wac_entries::entry::Entry;
 use wac_terms::fresh::Fresh;
 use wac_terms::parts::{Export, Union};
-use wac_types::laws::growth_keeps_trees;
-use wac_types::{AddTypeError, ItemKind, Named, Resource, ResourceId, ShapeError, Types};
+use wac_subtyping::laws::growth_keeps_trees;
+use wac_collection::{AddTypeError, ItemKind, Named, Resource, ResourceId, ShapeError, Types};
 
 /// Adds a resource under a name.
 fn add(alloc: Global, merged: &mut Types, name: &str) -> Result<ResourceId, AllocError>

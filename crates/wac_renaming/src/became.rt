@@ -12,7 +12,7 @@ use wac_entries::bound::Bound;
 use wac_entries::scopes::Opener;
 use wac_terms::fresh::Fresh;
 use wac_terms::parts::Part;
-use wac_types::{ResourceId, Types};
+use wac_collection::{ResourceId, Types};
 
 /// What the interface of each part binds.
 pub fn part_bounds(alloc: Global, types: &Types, parts: &[Part]) -> Result<Vec<Bound>, AllocError>

@@ -22,8 +22,8 @@ use crate::became::Became;
 use std::alloc::{AllocError, Global};
 use std::collections::HashMap;
 use wac_entries::tasks::{Task, open_fields, open_optional, open_parts, open_value};
-use wac_types::laws::{growth_keeps_trees, trees_are_whole};
-use wac_types::{
+use wac_subtyping::laws::{growth_keeps_trees, trees_are_whole};
+use wac_collection::{
     AddTypeError, DefinedType, DefinedTypeId, Enum, Flags, FuncType, FuncTypeId, Labels, Named,
     Record, ResourceId, ShapeError, Types, ValueType, Variant,
 };

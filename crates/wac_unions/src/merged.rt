@@ -34,8 +34,8 @@ use wac_renaming::adding::add_fresh;
 use wac_renaming::became::{Became, part_bounds};
 use wac_renaming::renamer::{Renamed, Renaming};
 use wac_terms::parts::Part;
-use wac_types::laws::trees_are_whole;
-use wac_types::{InterfaceId, ItemKind, Named, ShapeError, Type, Types};
+use wac_subtyping::laws::trees_are_whole;
+use wac_collection::{InterfaceId, ItemKind, Named, ShapeError, Type, Types};
 use wac_uniting::unions::Unions;
 
 /// Puts an interface among those of its class that are united: every instance, and the first of a type item.

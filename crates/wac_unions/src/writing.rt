@@ -20,8 +20,8 @@ use std::alloc::{AllocError, Global};
 use wac_renaming::became::Became;
 use wac_renaming::renamer::{Renamed, Renaming};
 use wac_terms::parts::Export;
-use wac_types::laws::growth_keeps_trees;
-use wac_types::{
+use wac_subtyping::laws::growth_keeps_trees;
+use wac_collection::{
     AddTypeError, Interface, InterfaceId, ItemKind, Named, Resource, ResourceId, ShapeError, Text,
     Type, Types,
 };

@@ -17,7 +17,7 @@ use std::alloc::{AllocError, Global};
 use std::marker::Model;
 use wac_entries::classes::Classes;
 use wac_entries::entry::Entry;
-use wac_types::{DefinedTypeId, InterfaceId, ItemKind, Named, Types};
+use wac_collection::{DefinedTypeId, InterfaceId, ItemKind, Named, Types};
 
 /// What binds a value type.
 #[derive(Clone, Copy)]
