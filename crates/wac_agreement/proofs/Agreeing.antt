@@ -5,7 +5,7 @@ use Rattle.std.proofs.lemmas.Option.{slice_get_within}
 use Rattle.wac_shapes.specs.Name.{Name}
 use Rattle.wac_collection.specs.Tree.{TypeTree, absent, instance, instance_item}
 use Rattle.wac_collection.specs.Collection.{Collection}
-use Rattle.wac_types.specs.Called.{Called}
+use Rattle.wac_subtyping.specs.Called.{Called}
 use Rattle.wac_entries.specs.Agreement.{Agree, compared}
 use Rattle.wac_agreement.specs.Apart.{AllAgree}
 use Rattle.wac_entries.specs.Classes.{AreClasses, Entry, by_names, same_class}

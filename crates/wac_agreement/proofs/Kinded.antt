@@ -6,7 +6,7 @@ use Rattle.std.proofs.lemmas.Bool.{cases_Bool}
 use Rattle.std.proofs.lemmas.Option.{slice_get_within}
 use Rattle.wac_shapes.specs.Name.{Name, same_name, find_name, option_case}
 use Rattle.wac_collection.specs.Tree.{TypeTree, absent, instance, instance_item}
-use Rattle.wac_types.specs.Called.{Called, by_binding}
+use Rattle.wac_subtyping.specs.Called.{Called, by_binding}
 use Rattle.wac_collection.specs.Collection.{Collection, size, kind_types, used_types, holds_type, item_of, interface_exports, HasInterface, IsWellFormed, IsBefore, AddedBefore}
 use Rattle.wac_shapes.specs.Kinds.{kind_type}
 use Rattle.wac_collection.specs.Held.{Names, unfolded_to, item_tree, interface_tree, of_held}
@@ -17,7 +17,7 @@ use Rattle.wac_shapes.specs.declared.component.«Type».{«Type» as AnyType}
 use Rattle.wac_shapes.specs.declared.component.«Type».TheVariants as ty
 use Rattle.wac_shapes.specs.declared.component.ItemKind.{ItemKind}
 use Rattle.wac_shapes.specs.declared.component.ItemKind.TheVariants as kind
-use Rattle.wac_types.proofs.Unfolding.{all_right, before_more, type_before}
+use Rattle.wac_subtyping.proofs.Unfolding.{all_right, before_more, type_before}
 use Rattle.wac_entries.specs.Agreement.{compared, called_inside}
 use Rattle.wac_entries.specs.Classes.{Entry, by_names}
 use Rattle.wac_coding.specs.ItemCoding.{listing_under}

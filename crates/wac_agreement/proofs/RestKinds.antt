@@ -10,7 +10,7 @@ use Rattle.wac_shapes.specs.Name.{Name, option_case, first_some}
 use Rattle.wac_collection.specs.Tree.{imported, Place, TypeTree, absent, resource, own, borrow, instance, type_equal, instance_item}
 use Rattle.wac_collection.specs.Collection.{Collection, item_at, size}
 use Rattle.wac_collection.specs.Held.{Names, Naming, resolved, of_held, defined_tree, func_tree, module_tree, interface_tree, world_tree, item_tree, items_under, unfolded_to, unfolded}
-use Rattle.wac_types.specs.Called.{Called, called_at, by_binding}
+use Rattle.wac_subtyping.specs.Called.{Called, called_at, by_binding}
 use Rattle.wac_collection.specs.declared.collection.Held.{Held}
 use Rattle.wac_shapes.specs.declared.component.ResourceId.{ResourceId}
 use Rattle.wac_shapes.specs.declared.component.InterfaceId.{InterfaceId}

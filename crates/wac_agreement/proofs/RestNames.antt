@@ -7,7 +7,7 @@ use Rattle.wac_collection.specs.Tree.{imported, exported, Place, named, TypeTree
 use Rattle.wac_collection.specs.Collection.{Collection, item_at}
 use Rattle.wac_collection.specs.Held.{Names, unfolded, item_tree, items_under}
 use Rattle.wac_collection.specs.Bound.{own_name}
-use Rattle.wac_types.specs.Called.{Called, called_at, own_leaf, by_binding}
+use Rattle.wac_subtyping.specs.Called.{Called, called_at, own_leaf, by_binding}
 use Rattle.wac_shapes.specs.declared.component.ResourceId.{ResourceId}
 use Rattle.wac_shapes.specs.declared.component.InterfaceId.{InterfaceId}
 use Rattle.wac_shapes.specs.declared.component.Interface.{Interface}

@@ -8,7 +8,7 @@ use Rattle.wac_collection.specs.Tree.{Side, imported, exported, Place, position,
 use Rattle.wac_collection.specs.Collection.{Collection, size, item_at}
 use Rattle.wac_collection.specs.Held.{Names, Unfolding, resolved, part_at, items_under, option_tree, defined_tree, func_tree, item_tree, module_tree, of_held, interface_tree, world_tree, value_tree, unfolded_to, unfolded}
 use Rattle.wac_collection.specs.Bound.{by_place, held_tree, held_item, binds_here, is_here, same_side, same_path, own_name, inside_interface, bound_by, bound_in_order, first_bound, bound_by_imports, bound_in_world, lists_own, lists_type, is_alias}
-use Rattle.wac_types.specs.Called.{Called, bound_at, of_class, itself, one_out, called_at, resource_name, by_binding, or_around, own_leaf}
+use Rattle.wac_subtyping.specs.Called.{Called, bound_at, of_class, itself, one_out, called_at, resource_name, by_binding, or_around, own_leaf}
 use Rattle.wac_collection.specs.declared.collection.Held.{Held}
 use Rattle.wac_shapes.specs.declared.component.ResourceId.{ResourceId}
 use Rattle.wac_shapes.specs.declared.component.UsedType.{UsedType}

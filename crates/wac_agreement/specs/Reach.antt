@@ -2,7 +2,7 @@
 use Rattle.std.specs.Prelude.{ℕ, ◌≡◌, Bool, List}
 use Rattle.wac_shapes.specs.Name.{Name}
 use Rattle.wac_collection.specs.Tree.{TypeTree, resource, own, borrow, record_of, variant_of, list_of, fixed_list_of, tuple_of, option_of, result_of, stream_of, future_of, function, instance, type_equal, function_item, instance_item, component_item, module_item, value_item}
-use Rattle.wac_types.specs.Called.{Called, of_class}
+use Rattle.wac_subtyping.specs.Called.{Called, of_class}
 
 -- a resource of which P holds is mentioned somewhere in the tree, but in no component
 pub data Reaches {L : Type 0} (P : L → Type 0) : TypeTree L → Type 0 where

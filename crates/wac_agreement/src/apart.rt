@@ -13,8 +13,8 @@ use crate::agreement::first_disagreement;
 use crate::slots::exports;
 use std::alloc::{AllocError, Global};
 use std::cmp::Ordering;
+use wac_collection::{ItemKind, Named, Types};
 use wac_entries::nodes::{Item, Nodes};
-use wac_types::{ItemKind, Named, Types};
 
 /// Whether two items agree.
 fn agree(alloc: Global, nodes: &Nodes, first: Item, second: Item) -> Result<bool, AllocError>

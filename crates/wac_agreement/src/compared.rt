@@ -22,13 +22,13 @@ use wac_coding::coder::Source;
 use wac_coding::listing::scope_instance;
 use wac_coding::listings::{listed_item, listings};
 use wac_coding::memo::Memo;
+use wac_collection::{ItemKind, Types};
 use wac_entries::bindings::Bindings;
 use wac_entries::classes::Classes;
 use wac_entries::entry::Entry;
 use wac_entries::naming::bound_in;
 use wac_entries::nodes::{Item, Nodes};
 use wac_entries::scopes::{Opener, Scopes};
-use wac_types::{ItemKind, Types};
 
 /// What the item of an entry is compared as, from around its scopes.
 fn source_item(nodes: &mut Nodes, source: &Source) -> Result<Item, AllocError>

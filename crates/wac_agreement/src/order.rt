@@ -14,9 +14,9 @@ ghost use Rattle.wac_agreement.specs.ReachSteps.{with_all};
 use crate::reach::put;
 use std::alloc::{AllocError, Global};
 use std::collections::BTreeSet;
+use wac_collection::{ItemKind, Types};
 use wac_entries::classes::Classes;
 use wac_entries::entry::Entry;
-use wac_types::{ItemKind, Types};
 
 /// What is to be done with a class.
 #[derive(Clone, Copy)]

@@ -19,12 +19,12 @@ ghost use Rattle.wac_agreement.specs.Resting.{Gains, ItemLeads, classes_used, fi
 use crate::reach::{classes_reached, put, put_optional, type_of};
 use std::alloc::{AllocError, Global};
 use std::collections::BTreeSet;
+use wac_collection::{InterfaceId, ItemKind, Named, ResourceId, Type, Types, UsedType};
 use wac_edges::cycles::empty_sets;
 use wac_entries::bindings::Bindings;
 use wac_entries::classes::Classes;
 use wac_entries::entry::Entry;
 use wac_entries::nodes::{Item, Nodes};
-use wac_types::{InterfaceId, ItemKind, Named, ResourceId, Type, Types, UsedType};
 
 /// The class under the id of an interface.
 fn interface_class(types: &Types, classes: &Classes, id: InterfaceId) -> Option<usize>

@@ -6,7 +6,7 @@ use Rattle.std.specs.declared.string.String.{String}
 use Rattle.std.specs.declared.alloc.AllocError.{AllocError}
 use Rattle.wac_shapes.specs.Name.{Name, option_case}
 use Rattle.wac_collection.specs.Tree.{TypeTree, absent}
-use Rattle.wac_types.specs.Called.{Called}
+use Rattle.wac_subtyping.specs.Called.{Called}
 use Rattle.wac_shapes.specs.declared.component.«Type».{«Type» as AnyType}
 use Rattle.wac_shapes.specs.declared.component.ValueType.{ValueType}
 use Rattle.wac_coding.specs.declared.memo.Memo.{Memo}

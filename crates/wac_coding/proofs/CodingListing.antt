@@ -10,7 +10,7 @@ use Rattle.std.specs.Option.{option_map}
 use Rattle.std.specs.declared.alloc.AllocError.{AllocError}
 use Rattle.wac_shapes.specs.Name.{Name, same_name}
 use Rattle.wac_collection.specs.Tree.{TypeTree, absent, instance, component}
-use Rattle.wac_types.specs.Called.{Called}
+use Rattle.wac_subtyping.specs.Called.{Called}
 use Rattle.wac_collection.specs.Collection.{Collection}
 use Rattle.wac_collection.specs.Held.{Names, items_under}
 use Rattle.wac_collection.specs.Held as held

@@ -5,7 +5,7 @@ use Rattle.std.specs.Option.{option_map}
 use Rattle.std.specs.declared.string.String.{String}
 use Rattle.wac_shapes.specs.Name.{Name}
 use Rattle.wac_collection.specs.Tree.{TypeTree}
-use Rattle.wac_types.specs.Called.{Called}
+use Rattle.wac_subtyping.specs.Called.{Called}
 use Rattle.wac_shapes.specs.declared.component.ValueType.{ValueType}
 use Rattle.wac_shapes.proofs.Loops.{take_more}
 use Rattle.wac_entries.specs.Nodes.{Node}

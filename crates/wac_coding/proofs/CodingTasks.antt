@@ -5,7 +5,7 @@ use Rattle.std.specs.List.{AllByRecursion}
 use Rattle.wac_shapes.specs.Name.{option_case}
 use Rattle.std.specs.declared.alloc.AllocError.{AllocError}
 use Rattle.wac_collection.specs.Tree.{TypeTree}
-use Rattle.wac_types.specs.Called.{Called}
+use Rattle.wac_subtyping.specs.Called.{Called}
 use Rattle.wac_collection.specs.Collection.{Collection, item_at, defined_values, IsWellFormed}
 use Rattle.wac_shapes.specs.declared.component.DefinedType.{DefinedType}
 use Rattle.wac_shapes.specs.declared.component.DefinedTypeId.{DefinedTypeId}

@@ -9,8 +9,8 @@ use Rattle.wac_collection.specs.Collection.{Collection, IsWellFormed, size, item
 use Rattle.wac_shapes.specs.Kinds.{kind_type}
 use Rattle.wac_collection.specs.Held.{Names, of_held, interface_tree, world_tree, unfolded, items_under, item_tree}
 use Rattle.wac_collection.specs.Bound.{bound_by_imports, bound_in_world}
-use Rattle.wac_types.specs.Called.{Called, or_around, own_leaf, by_binding}
-use Rattle.wac_types.specs.TreeLaws.{IsDeepEnough}
+use Rattle.wac_subtyping.specs.Called.{Called, or_around, own_leaf, by_binding}
+use Rattle.wac_subtyping.specs.TreeLaws.{IsDeepEnough}
 use Rattle.wac_collection.specs.declared.collection.Held.{Held}
 use Rattle.wac_shapes.specs.declared.component.Interface.{Interface}
 use Rattle.wac_shapes.specs.declared.component.InterfaceId.{InterfaceId}

@@ -13,7 +13,7 @@ use wac_entries::called::Called;
 use wac_entries::entry::Entry;
 use wac_entries::naming::{called, called_outside};
 use wac_entries::scopes::Scopes;
-use wac_types::{ItemKind, ResourceId, Types};
+use wac_collection::{ItemKind, ResourceId, Types};
 
 /// What resources are called in a scope of an entry of a class.
 #[derive(Clone, Copy)]

@@ -16,7 +16,7 @@ use crate::memo::Memo;
 use crate::modules::module_type;
 use std::alloc::AllocError;
 use wac_entries::nodes::{Item, Node, Nodes};
-use wac_types::{ItemKind, Type};
+use wac_collection::{ItemKind, Type};
 
 impl Memo {
     /// The number of a type that opens no scope.

@@ -14,7 +14,7 @@ use std::alloc::AllocError;
 use std::collections::BTreeMap;
 use wac_entries::nodes::{Item, Node, Nodes};
 use wac_entries::scopes::Opener;
-use wac_types::{ItemKind, Named, WorldId};
+use wac_collection::{ItemKind, Named, WorldId};
 
 /// Items under their names, sorted by name.
 fn entries(

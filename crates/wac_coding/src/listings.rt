@@ -1,6 +1,6 @@
 //! What the scopes of an entry list, as items of a table: the inner ones first.
 ghost use Rattle.std.specs.Prelude.{◌≡◌, ◌≢◌, ◌+◌, ◌<◌, true, List, [], length, Some, IfOk, OnOk, slice_get};
-ghost use Rattle.wac_types.specs.Called.{Called};
+ghost use Rattle.wac_subtyping.specs.Called.{Called};
 ghost use Rattle.wac_collection.specs.Tree.{TypeTree};
 ghost use Rattle.wac_shapes.specs.declared.component.«Type».{«Type» as AnyType};
 ghost use Rattle.wac_entries.specs.Nodes.{Node};
@@ -20,8 +20,8 @@ use crate::memo::Memo;
 use std::alloc::{AllocError, Global};
 use wac_entries::nodes::{Item, Nodes};
 use wac_entries::scopes::Opener;
-use wac_types::laws::trees_are_whole;
-use wac_types::{ItemKind, Named, Type};
+use wac_subtyping::laws::trees_are_whole;
+use wac_collection::{ItemKind, Named, Type};
 
 /// An item of an instance type or of a component type, of this number.
 fn opened_item(kind: ItemKind, number: usize) -> Item

@@ -4,7 +4,7 @@ ghost use Rattle.wac_coding.specs.Coding.{defined_number, func_number, HasDefine
 
 use std::alloc::{AllocError, Global};
 use std::collections::HashMap;
-use wac_types::{DefinedTypeId, FuncTypeId};
+use wac_collection::{DefinedTypeId, FuncTypeId};
 
 /// The numbers of the types of a scope: of those that have one so far.
 pub struct Memo {

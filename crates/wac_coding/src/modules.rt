@@ -13,7 +13,7 @@ use crate::coder::{Source, add};
 use std::alloc::{AllocError, Global};
 use std::collections::BTreeMap;
 use wac_entries::nodes::{Core, Node, Nodes};
-use wac_types::{CoreExtern, ModuleTypeId, Named};
+use wac_collection::{CoreExtern, ModuleTypeId, Named};
 
 /// The entries of a map, in the order of their names.
 pub fn in_order<V: Drop>(

@@ -14,7 +14,7 @@ use Rattle.wac_shapes.specs.Named.{named_at}
 use Rattle.wac_collection.specs.Collection.{item_at, holds_type, IsWellFormed}
 use Rattle.wac_shapes.specs.Kinds.{kind_type}
 use Rattle.wac_collection.specs.Package.{PackageParts}
-use Rattle.wac_types.specs.Subtype.{IsSubtype}
+use Rattle.wac_subtyping.specs.Subtype.{IsSubtype}
 use Rattle.wac_shapes.specs.declared.component.World.{World}
 use Rattle.wac_shapes.specs.declared.component.ItemKind.{ItemKind}
 use Rattle.wac_types.specs.declared.checker.TypeFault.TheVariants.{Mismatch}

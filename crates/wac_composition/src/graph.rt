@@ -7,7 +7,7 @@ ghost use Rattle.wac_collection.specs.Collection.{IsWellFormed, holds_type, item
 ghost use Rattle.wac_shapes.specs.Kinds.{kind_type};
 ghost use Rattle.wac_collection.specs.Package.{HoldsPackage, with_instance_of, package_fault};
 ghost use Rattle.wac_collection.specs.Uses.{AnswersBy, mention_fault, interface_fault, world_fault};
-ghost use Rattle.wac_types.specs.TreeLaws.{GrowthKeepsTrees};
+ghost use Rattle.wac_subtyping.specs.TreeLaws.{GrowthKeepsTrees};
 ghost use Rattle.wac_shapes.specs.Named.{named_at};
 ghost use Rattle.wac_shapes.specs.declared.component.«Type».TheVariants.{World as world_type};
 ghost use Rattle.wac_nodes.specs.Graph.{node_at, package_at, export_at, package_in, import_name, IsRegistered, IsAliasOf, IsSourceOf};

@@ -7,15 +7,15 @@ use Rattle.std.specs.Option.{option_map}
 use Rattle.wac_shapes.specs.Name.{Name, option_case}
 use Rattle.wac_collection.specs.Collection.{Collection, IsWellFormed, IsBefore, AreBefore, kind_types, used_types, holds_type, item_of}
 use Rattle.wac_shapes.specs.Kinds.{kind_type}
-use Rattle.wac_types.specs.Questions.{type_rank}
-use Rattle.wac_types.specs.Compare.{rank_of_held}
+use Rattle.wac_subtyping.specs.Ranks.{type_rank}
+use Rattle.wac_subtyping.specs.Ranks.{rank_of_held}
 use Rattle.wac_collection.specs.declared.collection.Held.{Held}
 use Rattle.wac_shapes.specs.declared.component.ItemKind.{ItemKind}
 use Rattle.wac_shapes.specs.declared.component.ItemKind.TheVariants as kind
 use Rattle.wac_shapes.specs.declared.component.«Type».{«Type» as AnyType}
 use Rattle.wac_shapes.specs.declared.component.«Type».TheVariants as ty
 use Rattle.wac_shapes.proofs.Names.{take_at}
-use Rattle.wac_types.proofs.Unfolding.{all_left, all_right, all_both, before_held, before_rank}
+use Rattle.wac_subtyping.proofs.Unfolding.{all_left, all_right, all_both, before_held, before_rank}
 use Rattle.wac_entries.specs.declared.scopes.Opener.{Opener}
 use Rattle.wac_entries.specs.declared.scopes.Opener.TheVariants as opener
 use Rattle.wac_entries.specs.declared.scopes.Scope.{Scope}

@@ -4,7 +4,7 @@ use Rattle.wac_shapes.specs.Name.{option_case, first_some}
 use Rattle.wac_collection.specs.Tree.{Leaf}
 use Rattle.wac_collection.specs.Collection.{Collection}
 use Rattle.wac_collection.specs.Held.{Names}
-use Rattle.wac_types.specs.Called.{Called, called_at, one_out, or_around}
+use Rattle.wac_subtyping.specs.Called.{Called, called_at, one_out, or_around}
 use Rattle.wac_shapes.specs.declared.component.ResourceId.{ResourceId}
 use Rattle.wac_entries.specs.declared.scopes.Opener.{Opener}
 use Rattle.wac_entries.specs.declared.scopes.Scope.{Scope}

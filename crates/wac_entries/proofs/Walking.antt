@@ -7,7 +7,7 @@ use Rattle.wac_shapes.specs.Name.{Name, option_case, first_some}
 use Rattle.wac_collection.specs.Tree.{Side, Place, Leaf, imported, exported}
 use Rattle.wac_collection.specs.Collection.{Collection, IsWellFormed, IsSourceBelow, holds_type, item_at, item_of}
 use Rattle.wac_collection.specs.Held.{Names, resolved, resolved_in, source_of}
-use Rattle.wac_types.specs.Called.{Called, bound_at, of_class, itself, one_out, resource_name, called_at, own_leaf, or_around}
+use Rattle.wac_subtyping.specs.Called.{Called, bound_at, of_class, itself, one_out, resource_name, called_at, own_leaf, or_around}
 use Rattle.wac_collection.specs.declared.collection.Held.{Held}
 use Rattle.wac_shapes.specs.declared.component.Resource.{Resource}
 use Rattle.wac_shapes.specs.declared.component.ResourceAlias.{ResourceAlias}

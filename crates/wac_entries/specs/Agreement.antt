@@ -5,7 +5,7 @@ use Rattle.wac_shapes.specs.Name.{Name, option_case, first_some}
 use Rattle.wac_collection.specs.Tree.{imported, exported, TypeTree, absent, instance, instance_item}
 use Rattle.wac_collection.specs.Collection.{Collection, item_at, interface_exports}
 use Rattle.wac_collection.specs.Held.{Names, unfolded, item_tree, items_under}
-use Rattle.wac_types.specs.Called.{Called, of_class, itself, resource_name, called_at, own_leaf, by_binding}
+use Rattle.wac_subtyping.specs.Called.{Called, of_class, itself, resource_name, called_at, own_leaf, by_binding}
 use Rattle.wac_shapes.specs.declared.component.Interface.{Interface}
 use Rattle.wac_shapes.specs.declared.component.InterfaceId.{InterfaceId}
 use Rattle.wac_shapes.specs.declared.component.ItemKind.{ItemKind}

@@ -9,7 +9,7 @@ use Rattle.wac_shapes.specs.declared.component.PrimitiveType.{PrimitiveType}
 use Rattle.wac_shapes.specs.Core.{CoreItem, no_item}
 use Rattle.wac_collection.specs.Tree.{TypeTree, absent, resource, primitive, own, borrow, record_of, variant_of, list_of, fixed_list_of, tuple_of, flags_of, enum_of, option_of, result_of, stream_of, future_of, function, instance, component, module_of, type_equal, function_item, instance_item, component_item, module_item, value_item}
 use Rattle.wac_collection.specs.Held.{part_at, items_under}
-use Rattle.wac_types.specs.Called.{Called}
+use Rattle.wac_subtyping.specs.Called.{Called}
 
 -- what an instance or a component lists under a name: its sort, and the number of its type
 pub data Item : Type 0 where

@@ -1,7 +1,7 @@
 -- Scopes while they are found. Private functions alone cite this.
 use Rattle.std.specs.Prelude.{ℕ, zero, suc, ◌+◌, ◌≡◌, ◌<◌, true, List, [], ◌∷◌, ◌++◌, length, map, Option, Some, None, slice_get, slice_set}
 use Rattle.wac_collection.specs.Collection.{Collection, holds_type}
-use Rattle.wac_types.specs.Questions.{type_rank}
+use Rattle.wac_subtyping.specs.Ranks.{type_rank}
 use Rattle.wac_entries.specs.declared.scopes.Opener.{Opener}
 use Rattle.wac_entries.specs.declared.scopes.Scope.{Scope}
 use Rattle.wac_entries.specs.Scopes.{opener_type, listed_in, opened, IsBelow, ComesFrom}

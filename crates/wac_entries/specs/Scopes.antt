@@ -5,7 +5,7 @@ use Rattle.wac_collection.specs.Tree.{Leaf, TypeTree, instance}
 use Rattle.wac_collection.specs.Collection.{Collection, item_at, holds_type, interface_exports, world_imports, world_exports}
 use Rattle.wac_collection.specs.Held.{Names, unfolded, item_tree, items_under}
 use Rattle.wac_collection.specs.Bound.{bound_by_imports, bound_in_world}
-use Rattle.wac_types.specs.Called.{Called, or_around, own_leaf, by_binding}
+use Rattle.wac_subtyping.specs.Called.{Called, or_around, own_leaf, by_binding}
 use Rattle.wac_shapes.specs.declared.component.«Type».{«Type» as AnyType}
 use Rattle.wac_shapes.specs.declared.component.«Type».TheVariants as ty
 use Rattle.wac_shapes.specs.declared.component.ItemKind.{ItemKind}

@@ -4,7 +4,7 @@ use Rattle.std.specs.Option.{option_map}
 use Rattle.wac_collection.specs.Tree.{imported, exported, Place, Leaf}
 use Rattle.wac_collection.specs.Collection.{Collection}
 use Rattle.wac_collection.specs.Held.{Names}
-use Rattle.wac_types.specs.Called.{Called, bound_at, of_class, itself, resource_name}
+use Rattle.wac_subtyping.specs.Called.{Called, bound_at, of_class, itself, resource_name}
 use Rattle.wac_shapes.specs.declared.component.ResourceId.{ResourceId}
 use Rattle.wac_entries.specs.declared.scopes.Opener.{Opener}
 use Rattle.wac_entries.specs.declared.scopes.Scope.{Scope}

@@ -21,8 +21,8 @@ use crate::entry::Entry;
 use indexmap::IndexMap;
 use std::alloc::{AllocError, Global};
 use std::marker::Model;
+use wac_collection::{InterfaceId, ItemKind, ResourceId, Types};
 use wac_names::Track;
-use wac_types::{InterfaceId, ItemKind, ResourceId, Types};
 
 /// The track of each class.
 pub fn class_tracks<'a>(

@@ -1,6 +1,6 @@
 //! What resources are called where entries are compared.
 
-use wac_types::ResourceId;
+use wac_collection::ResourceId;
 
 /// On which side of a component a resource is bound. An instance binds on the side of exports.
 #[derive(Clone, Copy, PartialEq, Eq, Hash)]

@@ -11,8 +11,8 @@ ghost use Rattle.wac_entries.specs.Numbering.{AreFound, AreInstances, AreKeyed, 
 
 use crate::entry::Entry;
 use std::alloc::{AllocError, Global};
+use wac_collection::{Named, ShapeError};
 use wac_names::{Track, compare_versions};
-use wac_types::{Named, ShapeError};
 
 /// Puts a name among others, where it isn't there.
 fn put(alloc: Global, names: &mut Named<()>, name: &str) -> Result<(), AllocError>

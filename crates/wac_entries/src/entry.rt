@@ -4,7 +4,7 @@ ghost use Rattle.wac_entries.specs.Classes.{is_instance};
 
 use std::alloc::{AllocError, Global};
 use std::marker::Model;
-use wac_types::ItemKind;
+use wac_collection::ItemKind;
 
 /// An import that is asked for: an item under a name.
 #[derive(Drop)]

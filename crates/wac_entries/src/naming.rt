@@ -1,6 +1,6 @@
 //! What resources are called in the scopes of an item.
 ghost use Rattle.std.specs.Prelude.{ℕ, List, ◌≡◌, ◌+◌, ◌<◌, ◌^◌, length, Some, IfOk, slice_get, string_bytes};
-ghost use Rattle.wac_types.specs.Called.{resource_name};
+ghost use Rattle.wac_subtyping.specs.Called.{resource_name};
 ghost use Rattle.wac_collection.specs.Collection.{HasResource};
 ghost use Rattle.wac_collection.specs.Held.{resolved};
 ghost use Rattle.wac_shapes.specs.Name.{Name};
@@ -18,7 +18,7 @@ use crate::bound::Bound;
 use crate::called::{Called, Side};
 use crate::scopes::Scopes;
 use std::alloc::{AllocError, Global};
-use wac_types::{ItemKind, ResourceId, Types};
+use wac_collection::{ItemKind, ResourceId, Types};
 
 /// What each of the scopes of an item binds.
 pub fn bound_in(alloc: Global, types: &Types, scopes: &Scopes) -> Result<Vec<Bound>, AllocError>

@@ -8,7 +8,7 @@ use crate::called::Called;
 use indexmap::IndexSet;
 use std::alloc::{AllocError, Global};
 use std::marker::Model;
-use wac_types::{CoreRefType, CoreType, PrimitiveType};
+use wac_collection::{CoreRefType, CoreType, PrimitiveType};
 
 /// What an instance or a component lists under a name: its sort, and the number of its type.
 #[derive(Clone, Copy, PartialEq, Eq, Hash)]

@@ -7,7 +7,7 @@ ghost use Rattle.wac_entries.specs.Opening.{IsHeldAt, Opens, inside};
 
 use std::alloc::{AllocError, Global};
 use std::marker::Model;
-use wac_types::{InterfaceId, ItemKind, Named, Type, Types, WorldId};
+use wac_collection::{InterfaceId, ItemKind, Named, Type, Types, WorldId};
 
 /// What a scope is of.
 #[derive(Clone, Copy, PartialEq, Eq)]

@@ -4,7 +4,7 @@ ghost use Rattle.wac_collection.specs.Collection.{and_maybe, case_values, define
 ghost use Rattle.wac_entries.specs.Tasks.{openings};
 
 use std::alloc::AllocError;
-use wac_types::{DefinedType, DefinedTypeId, Named, ValueType};
+use wac_collection::{DefinedType, DefinedTypeId, Named, ValueType};
 
 /// What is to be done with a definition.
 #[derive(Clone, Copy)]

@@ -28,7 +28,7 @@ use Rattle.wac_shapes.specs.declared.component.ValueType.TheVariants as val
 use Rattle.wac_shapes.specs.declared.component.World.{World}
 use Rattle.wac_shapes.specs.declared.component.«Type».TheVariants as ty
 use Rattle.wac_shapes.proofs.Names.{same_name-true}
-use Rattle.wac_types.specs.Called.{Called}
+use Rattle.wac_subtyping.specs.Called.{Called}
 use Rattle.wac_entries.specs.Agreement.{Agree, compared, here, below}
 use Rattle.wac_entries.specs.Classes.{by_names, same_class}
 use Rattle.wac_entries.specs.Classes as merge

@@ -10,8 +10,8 @@ use Rattle.wac_collection.specs.Uses.{IsSound}
 use Rattle.wac_shapes.specs.declared.component.Interface.{Interface}
 use Rattle.wac_shapes.specs.declared.component.InterfaceId.{InterfaceId}
 use Rattle.wac_shapes.specs.declared.component.ResourceId.{ResourceId}
-use Rattle.wac_types.specs.Called.{resource_name}
-use Rattle.wac_types.specs.Subtype.{held_name, resource_names}
+use Rattle.wac_subtyping.specs.Called.{resource_name}
+use Rattle.wac_subtyping.specs.Subtype.{held_name, resource_names}
 use Rattle.wac_terms.specs.declared.fresh.Fresh.{Fresh}
 use Rattle.wac_terms.specs.declared.parts.Part.{Part}
 use Rattle.wac_terms.specs.declared.parts.Union.{Union}

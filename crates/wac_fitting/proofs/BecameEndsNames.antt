@@ -18,8 +18,8 @@ use Rattle.wac_shapes.specs.declared.component.«Type».TheVariants as ty
 use Rattle.wac_shapes.specs.declared.component.ItemKind.{ItemKind}
 use Rattle.wac_shapes.specs.declared.component.ItemKind.TheVariants as kind
 use Rattle.wac_shapes.proofs.Names.{same_name-true}
-use Rattle.wac_types.specs.Called.{resource_name}
-use Rattle.wac_types.specs.Subtype.{held_name, resource_names}
+use Rattle.wac_subtyping.specs.Called.{resource_name}
+use Rattle.wac_subtyping.specs.Subtype.{held_name, resource_names}
 use Rattle.wac_entries.specs.Binding.{class_binds, kind_binds}
 use Rattle.wac_entries.specs.Classes.{Entry, NameRules, members}
 use Rattle.wac_terms.proofs.Found.{no_some, some_same}

@@ -14,7 +14,7 @@ use Rattle.wac_shapes.specs.declared.component.«Type».TheVariants as ty
 use Rattle.wac_shapes.specs.declared.component.ItemKind.{ItemKind}
 use Rattle.wac_shapes.specs.declared.component.ItemKind.TheVariants as kind
 use Rattle.wac_shapes.proofs.Names.{element_at, same_name-false, same_name-true}
-use Rattle.wac_types.specs.Called.{Called, bound_at, by_binding, called_at, resource_name}
+use Rattle.wac_subtyping.specs.Called.{Called, bound_at, by_binding, called_at, resource_name}
 use Rattle.wac_entries.specs.Agreement.{Agree, called_inside, called_outside, compared}
 use Rattle.wac_entries.specs.Binding.{class_binds, kind_binds}
 use Rattle.wac_entries.specs.Bindings.{AreHeld}

@@ -18,7 +18,7 @@ use Rattle.wac_shapes.specs.declared.component.ItemKind.TheVariants as kind
 use Rattle.wac_shapes.specs.declared.component.ValueType.{ValueType}
 use Rattle.wac_shapes.specs.declared.component.ValueType.TheVariants as val
 use Rattle.wac_shapes.specs.declared.component.«Type».TheVariants as ty
-use Rattle.wac_types.specs.Subtype.{Sub, same, instances, instance_items, IsSubtype, type_tree}
+use Rattle.wac_subtyping.specs.Subtype.{Sub, same, instances, instance_items, IsSubtype, type_tree}
 use Rattle.wac_entries.specs.Classes.{Entry, NameRules, class_names, canonical, members}
 use Rattle.wac_entries.specs.Binding.{binding_class, class_binds, root_bindings}
 use Rattle.wac_terms.specs.Union.{union, merged}

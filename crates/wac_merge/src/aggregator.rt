@@ -13,7 +13,7 @@ ghost use Rattle.wac_agreement.specs.Faults.{Fault as AFault, HasFault, HasNoCir
 ghost use Rattle.wac_terms.specs.NoDisagreement.{HasNoDisagreement};
 ghost use Rattle.wac_terms.specs.Merge.{IsMerge, bound_resource, import_entries, listed_resource, own_resource};
 ghost use Rattle.wac_unions.specs.MergedScope.{BindsAsClasses, BindsUnder, IsBoundAs};
-ghost use Rattle.wac_types.specs.TreeLaws.{IsKeptBy, KeepsTrees};
+ghost use Rattle.wac_subtyping.specs.TreeLaws.{IsKeptBy, KeepsTrees};
 ghost use Rattle.wac_shapes.specs.declared.component.ResourceId.{ResourceId as AResource};
 
 use std::alloc::{AllocError, Global};
@@ -27,7 +27,7 @@ use wac_entries::bindings::Bindings;
 use wac_entries::classes::Classes;
 use wac_entries::entry::Entry;
 use wac_entries::nodes::Nodes;
-use wac_types::{ItemKind, Named, ResourceId, Type, Types};
+use wac_collection::{ItemKind, Named, ResourceId, Type, Types};
 use wac_unions::bound::class_binds;
 use wac_unions::merged::Merged;
 

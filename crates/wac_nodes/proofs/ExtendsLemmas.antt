@@ -18,8 +18,8 @@ use Rattle.wac_shapes.specs.declared.component.WorldId.{WorldId}
 use Rattle.wac_shapes.specs.declared.component.«Type».{«Type» as AnyType}
 use Rattle.wac_shapes.specs.declared.component.«Type».TheVariants as ty
 use Rattle.wac_shapes.specs.declared.component.ValueType.TheVariants as val
-use Rattle.wac_types.specs.Subtype.{type_tree}
-use Rattle.wac_types.specs.TreeLaws.{GrowthKeepsTrees}
+use Rattle.wac_subtyping.specs.Subtype.{type_tree}
+use Rattle.wac_subtyping.specs.TreeLaws.{GrowthKeepsTrees}
 use Rattle.wac_nodes.proofs.JoinLemmas.{Extends}
 
 lt_more : {A : Type 0} (k : ℕ) (xs ys : List A) → nat_lt k (length xs) ≡ true → nat_lt k (length (xs ++ ys)) ≡ true

@@ -6,7 +6,7 @@ use Rattle.wac_shapes.specs.Name.{Name}
 use Rattle.wac_collection.specs.Collection.{Collection, holds_type, interface_exports, world_exports, world_imports, item_at, IsWellFormed}
 use Rattle.wac_shapes.specs.Kinds.{kind_type}
 use Rattle.wac_collection.specs.Package.{PackageParts}
-use Rattle.wac_types.specs.Subtype.{IsSubtype, type_tree, kind_tree, Sub}
+use Rattle.wac_subtyping.specs.Subtype.{IsSubtype, type_tree, kind_tree, Sub}
 use Rattle.wac_shapes.specs.declared.component.ItemKind.{ItemKind}
 use Rattle.wac_shapes.specs.declared.component.ItemKind.TheVariants as item
 use Rattle.wac_shapes.specs.declared.component.«Type».{«Type» as AnyType}

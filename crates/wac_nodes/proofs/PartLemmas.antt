@@ -9,7 +9,7 @@ use Rattle.wac_shapes.specs.Name.{Name}
 use Rattle.wac_collection.specs.Collection.{holds_type}
 use Rattle.wac_shapes.specs.Kinds.{kind_type}
 use Rattle.wac_collection.specs.Package.{PackageParts}
-use Rattle.wac_types.specs.Subtype.{IsSubtype}
+use Rattle.wac_subtyping.specs.Subtype.{IsSubtype}
 use Rattle.wac_shapes.specs.declared.component.ItemKind.{ItemKind}
 use Rattle.wac_edges.specs.declared.edges.Edge.{Edge}
 use Rattle.wac_edges.specs.Edge.{edge_cmp, alias_edge, argument_edge}

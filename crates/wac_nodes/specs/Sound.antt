@@ -4,7 +4,7 @@ use Rattle.std.specs.FinSet as set
 use Rattle.wac_shapes.specs.Name.{Name}
 use Rattle.wac_collection.specs.Package.{PackageParts, Key, HoldsPackage}
 use Rattle.wac_collection.specs.Collection.{holds_type}
-use Rattle.wac_types.specs.Subtype.{IsSubtype}
+use Rattle.wac_subtyping.specs.Subtype.{IsSubtype}
 use Rattle.wac_shapes.specs.Kinds.{kind_type}
 use Rattle.wac_shapes.specs.declared.component.ItemKind.{ItemKind}
 use Rattle.wac_shapes.specs.declared.component.ItemKind.TheVariants.{Instance}

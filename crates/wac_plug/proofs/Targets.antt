@@ -8,7 +8,7 @@ use Rattle.wac_shapes.proofs.Names.{same_name-true}
 use Rattle.wac_shapes.proofs.Under.{nothing_under}
 use Rattle.wac_shapes.specs.declared.component.ItemKind.{ItemKind}
 use Rattle.wac_collection.specs.Collection.{Collection}
-use Rattle.wac_types.specs.Subtype.{IsSubtype}
+use Rattle.wac_subtyping.specs.Subtype.{IsSubtype}
 use Rattle.wac_plug.specs.Matching.{IsFirstOnTrack, IsTarget, HasNoMatch}
 use Rattle.wac_plug.specs.Tracks.{track_key, first_at, AreFirsts}
 use Rattle.wac_plug.proofs.Firsts.{none-on-track, some-on-track}

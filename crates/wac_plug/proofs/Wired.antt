@@ -10,7 +10,7 @@ use Rattle.std.proofs.lemmas.Bool.{false≢true, eqb-true}
 use Rattle.std.proofs.lemmas.Bool.Decides.{nat_tests}
 use Rattle.wac_shapes.specs.declared.component.ItemKind.{ItemKind}
 use Rattle.wac_collection.specs.Collection.{Collection}
-use Rattle.wac_types.specs.Subtype.{IsSubtype}
+use Rattle.wac_subtyping.specs.Subtype.{IsSubtype}
 use Rattle.wac_edges.specs.declared.edges.Edge.{Edge}
 use Rattle.wac_edges.specs.declared.edges.Label.TheVariants.{Alias, Argument}
 use Rattle.wac_edges.specs.Edge.{edge_cmp, alias_edge, argument_edge}

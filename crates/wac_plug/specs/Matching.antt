@@ -4,7 +4,7 @@ use Rattle.wac_names.specs.Track.{OneTrack}
 use Rattle.wac_shapes.specs.Name.{Name, find_name, option_case}
 use Rattle.wac_shapes.specs.declared.component.ItemKind.{ItemKind}
 use Rattle.wac_collection.specs.Collection.{Collection, world_imports, world_exports}
-use Rattle.wac_types.specs.Subtype.{IsSubtype}
+use Rattle.wac_subtyping.specs.Subtype.{IsSubtype}
 use Rattle.wac_nodes.specs.declared.packages.PackageId.{PackageId}
 use Rattle.wac_nodes.specs.Graph.{Graph, package_at}
 

@@ -6,7 +6,7 @@ use Rattle.wac_shapes.specs.Name.{Name, option_case}
 use Rattle.wac_collection.specs.Tree.{Leaf, exported, named}
 use Rattle.wac_collection.specs.Collection.{Collection, item_at}
 use Rattle.wac_collection.specs.Bound.{own_name}
-use Rattle.wac_types.specs.Called.{own_leaf}
+use Rattle.wac_subtyping.specs.Called.{own_leaf}
 use Rattle.wac_shapes.specs.declared.component.Interface.{Interface}
 use Rattle.wac_shapes.specs.declared.component.ResourceId.{ResourceId}
 use Rattle.wac_shapes.proofs.Names.{take_at}

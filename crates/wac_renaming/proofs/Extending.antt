@@ -20,8 +20,8 @@ use Rattle.wac_shapes.specs.declared.component.WorldId.{WorldId}
 use Rattle.wac_shapes.specs.declared.component.ModuleTypeId.{ModuleTypeId}
 use Rattle.wac_shapes.specs.declared.component.«Type».{«Type» as AnyType}
 use Rattle.wac_shapes.specs.declared.component.«Type».TheVariants as ty
-use Rattle.wac_types.specs.Subtype.{held_name, resource_names}
-use Rattle.wac_types.specs.TreeLaws.{GrowthKeepsTrees, IsKeptBy}
+use Rattle.wac_subtyping.specs.Subtype.{held_name, resource_names}
+use Rattle.wac_subtyping.specs.TreeLaws.{GrowthKeepsTrees, IsKeptBy}
 use Rattle.wac_terms.specs.Became.{AreFresh, IsNew, became}
 use Rattle.wac_entries.specs.Bindings.{ClassBindings}
 use Rattle.wac_terms.specs.Renaming.{AreEnds, IsExtended, IsRenamed}

@@ -8,8 +8,8 @@ use Rattle.std.proofs.lemmas.Option.{slice_get_within}
 use Rattle.wac_shapes.specs.Name.{Name, same_name, find_name, option_case, first_some}
 use Rattle.wac_collection.specs.Collection.{Collection, IsWellFormed, size, with_resource}
 use Rattle.wac_collection.specs.Held.{resolved_in, source_of}
-use Rattle.wac_types.specs.Called.{resource_name}
-use Rattle.wac_types.specs.Subtype.{held_name}
+use Rattle.wac_subtyping.specs.Called.{resource_name}
+use Rattle.wac_subtyping.specs.Subtype.{held_name}
 use Rattle.wac_shapes.specs.declared.component.Resource.{Resource}
 use Rattle.wac_shapes.specs.declared.component.ResourceId.{ResourceId}
 use Rattle.wac_shapes.proofs.Names.{same_name-from, same_name-true}

@@ -17,7 +17,7 @@ use Rattle.wac_shapes.specs.declared.component.FuncType.{FuncType}
 use Rattle.wac_shapes.specs.declared.component.FuncTypeId.{FuncTypeId}
 use Rattle.wac_shapes.specs.declared.component.ValueType.{ValueType}
 use Rattle.wac_shapes.proofs.Names.{none_before, none_behind, take_at}
-use Rattle.wac_types.specs.TreeLaws.{GrowthKeepsTrees}
+use Rattle.wac_subtyping.specs.TreeLaws.{GrowthKeepsTrees}
 use Rattle.wac_entries.specs.Tasks.{AreHeldValues}
 use Rattle.wac_renaming.specs.RenamingSteps.{IsDefinedBehind, IsFuncBehind}
 use Rattle.wac_entries.proofs.Lists.{zip_push}

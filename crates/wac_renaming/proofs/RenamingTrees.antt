@@ -7,8 +7,8 @@ use Rattle.wac_collection.specs.Tree.{TypeTree, absent, own, borrow}
 use Rattle.wac_collection.specs.Collection.{Collection, HasResource, defined_values, func_values, holds_type, item_at, item_of, size}
 use Rattle.wac_collection.specs.Held.{Naming, Names, defined_tree, func_tree, of_held, resolved, unfolded}
 use Rattle.wac_collection.specs.Bound.{by_place, held_tree}
-use Rattle.wac_types.specs.Subtype.{by_name, resource_names, type_tree}
-use Rattle.wac_types.specs.TreeLaws.{IsDeepEnough}
+use Rattle.wac_subtyping.specs.Subtype.{by_name, resource_names, type_tree}
+use Rattle.wac_subtyping.specs.TreeLaws.{IsDeepEnough}
 use Rattle.wac_collection.specs.declared.collection.Held.{Held}
 use Rattle.wac_shapes.specs.declared.component.DefinedType.{DefinedType}
 use Rattle.wac_shapes.specs.declared.component.DefinedType.TheVariants as def

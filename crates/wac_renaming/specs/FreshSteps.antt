@@ -3,7 +3,7 @@ use Rattle.std.specs.Prelude.{ℕ, ◌≡◌, ◌<◌, ◌↔◌, true, List, []
 use Rattle.wac_shapes.specs.Name.{Name, find_name, option_case}
 use Rattle.wac_collection.specs.Tree.{Place}
 use Rattle.wac_collection.specs.Collection.{Collection}
-use Rattle.wac_types.specs.Called.{resource_name}
+use Rattle.wac_subtyping.specs.Called.{resource_name}
 use Rattle.wac_shapes.specs.declared.component.ResourceId.{ResourceId}
 use Rattle.wac_entries.specs.Bindings.{ClassBindings, first_in}
 use Rattle.wac_terms.specs.Became.{IsNew}

@@ -11,14 +11,14 @@ ghost use Rattle.wac_entries.specs.Places.{resource_itself};
 ghost use Rattle.wac_terms.specs.Renaming.{IsExtended};
 
 use std::alloc::{AllocError, Global};
+use wac_collection::{AddTypeError, ItemKind, Named, Resource, ResourceId, ShapeError, Types};
 use wac_entries::bindings::Bindings;
 use wac_entries::bound::resource_itself;
 use wac_entries::classes::Classes;
 use wac_entries::entry::Entry;
+use wac_subtyping::laws::growth_keeps_trees;
 use wac_terms::fresh::Fresh;
 use wac_terms::parts::{Export, Union};
-use wac_types::laws::growth_keeps_trees;
-use wac_types::{AddTypeError, ItemKind, Named, Resource, ResourceId, ShapeError, Types};
 
 /// Adds a resource under a name.
 fn add(alloc: Global, merged: &mut Types, name: &str) -> Result<ResourceId, AllocError>

@@ -7,12 +7,12 @@ ghost use Rattle.wac_terms.specs.Unions.{AreAround, IsPart};
 ghost use Rattle.wac_terms.specs.declared.parts.Part.{Part as APart};
 
 use std::alloc::{AllocError, Global};
+use wac_collection::{ResourceId, Types};
 use wac_entries::bindings::Bindings;
 use wac_entries::bound::Bound;
 use wac_entries::scopes::Opener;
 use wac_terms::fresh::Fresh;
 use wac_terms::parts::Part;
-use wac_types::{ResourceId, Types};
 use wac_values::named::NamedTypes;
 
 /// What the interface of each part binds.

@@ -13,8 +13,8 @@ ghost use Rattle.wac_terms.specs.Renaming.{IsExtended};
 use crate::shapes::Shape;
 use std::alloc::{AllocError, Global};
 use std::collections::HashMap;
-use wac_types::laws::growth_keeps_trees;
-use wac_types::{AddTypeError, DefinedType, DefinedTypeId, Types};
+use wac_collection::{AddTypeError, DefinedType, DefinedTypeId, Types};
+use wac_subtyping::laws::growth_keeps_trees;
 
 /// A definition, and the named type that it is, if it is one.
 #[derive(PartialEq, Eq, Hash, Drop)]

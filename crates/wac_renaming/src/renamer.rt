@@ -23,12 +23,12 @@ use crate::became::Became;
 use crate::made::{Made, out_of_memory};
 use std::alloc::{AllocError, Global};
 use std::collections::HashMap;
-use wac_entries::tasks::{Task, open_fields, open_optional, open_parts, open_value};
-use wac_types::laws::{growth_keeps_trees, trees_are_whole};
-use wac_types::{
+use wac_collection::{
     DefinedType, DefinedTypeId, Enum, Flags, FuncType, FuncTypeId, Labels, Named, Record,
     ResourceId, ShapeError, Types, ValueType, Variant,
 };
+use wac_entries::tasks::{Task, open_fields, open_optional, open_parts, open_value};
+use wac_subtyping::laws::{growth_keeps_trees, trees_are_whole};
 
 /// Where types are renamed: the collection that they are of, what its resources become, and in which part.
 #[derive(Clone, Copy)]

@@ -3,7 +3,7 @@ ghost use Rattle.std.specs.Prelude.{◌≡◌, IfOk, map, string_bytes};
 ghost use Rattle.wac_renaming.specs.Shapes.{pairs, shape_view};
 
 use std::alloc::{AllocError, Global};
-use wac_types::{DefinedType, Labels, Named, ValueType};
+use wac_collection::{DefinedType, Labels, Named, ValueType};
 
 /// A definition, in memory of its own.
 #[derive(PartialEq, Eq, Hash, Drop)]

@@ -6,7 +6,7 @@ use Rattle.wac_names.specs.Reading.{read_track}
 use Rattle.wac_shapes.specs.Name.{Name, option_case, first_some}
 use Rattle.wac_collection.specs.Tree.{TypeTree, imported, exported, absent, named, instance, instance_item}
 use Rattle.wac_collection.specs.Bound.{own_name}
-use Rattle.wac_types.specs.Called.{Called, called_at, own_leaf, by_binding}
+use Rattle.wac_subtyping.specs.Called.{Called, called_at, own_leaf, by_binding}
 use Rattle.wac_collection.specs.Collection.{Collection, item_at}
 use Rattle.wac_collection.specs.Held.{Names, unfolded, item_tree, items_under}
 use Rattle.wac_shapes.specs.declared.component.Interface.{Interface}

@@ -5,8 +5,8 @@ use Rattle.wac_collection.specs.Tree.{Place, named}
 use Rattle.wac_collection.specs.Collection.{Collection, HasResource, item_at}
 use Rattle.wac_collection.specs.Bound.{own_name}
 use Rattle.wac_collection.specs.Held.{resolved}
-use Rattle.wac_types.specs.Called.{own_leaf, resource_name}
-use Rattle.wac_types.specs.Subtype.{resource_names}
+use Rattle.wac_subtyping.specs.Called.{own_leaf, resource_name}
+use Rattle.wac_subtyping.specs.Subtype.{resource_names}
 use Rattle.wac_shapes.specs.declared.component.ResourceId.{ResourceId}
 use Rattle.wac_entries.specs.Bindings.{ClassBindings, path_in, first_in}
 use Rattle.wac_entries.specs.Places.{find_resource}

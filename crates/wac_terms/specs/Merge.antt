@@ -11,7 +11,7 @@ use Rattle.wac_shapes.specs.declared.component.ResourceId.{ResourceId}
 use Rattle.wac_shapes.specs.declared.component.ItemKind.{ItemKind}
 use Rattle.wac_shapes.specs.declared.component.ItemKind.TheVariants as kind
 use Rattle.wac_shapes.specs.declared.component.«Type».TheVariants as ty
-use Rattle.wac_types.specs.Subtype.{IsSubtype}
+use Rattle.wac_subtyping.specs.Subtype.{IsSubtype}
 use Rattle.wac_entries.specs.Classes.{Entry, NameRules, same_track, members, class_names, canonical}
 use Rattle.wac_entries.specs.Binding.{root_bindings}
 use Rattle.wac_terms.specs.Union.{merged}

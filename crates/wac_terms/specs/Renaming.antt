@@ -3,8 +3,8 @@ use Rattle.std.specs.Prelude.{◌≡◌, true}
 use Rattle.wac_collection.specs.Collection.{Collection, HasResource, holds_type}
 use Rattle.wac_collection.specs.Held.{resolved}
 use Rattle.wac_collection.specs.Bound.{Bindings, held_tree}
-use Rattle.wac_types.specs.Subtype.{type_tree, resource_names}
-use Rattle.wac_types.specs.TreeLaws.{IsKeptBy, KeepsTrees}
+use Rattle.wac_subtyping.specs.Subtype.{type_tree, resource_names}
+use Rattle.wac_subtyping.specs.TreeLaws.{IsKeptBy, KeepsTrees}
 use Rattle.wac_shapes.specs.declared.component.ResourceId.{ResourceId}
 use Rattle.wac_shapes.specs.declared.component.«Type».{«Type» as AnyType}
 

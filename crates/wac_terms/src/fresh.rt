@@ -3,7 +3,7 @@ ghost use Rattle.std.specs.Prelude.{◌≡◌};
 ghost use Rattle.wac_entries.specs.CalledViews.{path_view};
 ghost use Rattle.wac_terms.specs.Became.{new_at, own_in, whole_in};
 
-use wac_types::{Named, ResourceId};
+use wac_collection::{Named, ResourceId};
 
 /// New resources.
 #[derive(Drop)]

@@ -1,5 +1,5 @@
 //! Interfaces in unions.
-use wac_types::{InterfaceId, ItemKind, Named};
+use wac_collection::{InterfaceId, ItemKind, Named};
 
 /// An interface in a union.
 #[derive(Clone, Copy)]

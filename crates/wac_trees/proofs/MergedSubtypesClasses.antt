@@ -13,9 +13,9 @@ use Rattle.wac_shapes.specs.declared.component.ItemKind.{ItemKind}
 use Rattle.wac_shapes.specs.declared.component.ItemKind.TheVariants as kind
 use Rattle.wac_shapes.specs.declared.component.ResourceId.{ResourceId}
 use Rattle.wac_shapes.specs.declared.component.«Type».TheVariants as ty
-use Rattle.wac_types.specs.Called.{Called, by_binding, called_at, itself, of_class, own_leaf, resource_name}
-use Rattle.wac_types.specs.Subtype.{IsSubtype, Sub, type_tree, kind_tree, resource_names}
-use Rattle.wac_types.proofs.Relation.{sub_refl}
+use Rattle.wac_subtyping.specs.Called.{Called, by_binding, called_at, itself, of_class, own_leaf, resource_name}
+use Rattle.wac_subtyping.specs.Subtype.{IsSubtype, Sub, type_tree, kind_tree, resource_names}
+use Rattle.wac_subtyping.proofs.Relation.{sub_refl}
 use Rattle.wac_entries.specs.Agreement.{Agree, called_in_class, called_inside, called_outside, compared}
 use Rattle.wac_terms.specs.Became.{IsNew}
 use Rattle.wac_entries.specs.Binding.{binding_class, class_binds}

@@ -21,8 +21,8 @@ use Rattle.wac_shapes.specs.declared.component.ResourceId.{ResourceId}
 use Rattle.wac_shapes.specs.declared.component.«Type».{«Type» as AnyType}
 use Rattle.wac_shapes.specs.declared.component.«Type».TheVariants as ty
 use Rattle.wac_shapes.specs.declared.component.UsedType.{UsedType}
-use Rattle.wac_types.specs.Called.{Called}
-use Rattle.wac_types.specs.Subtype.{held_name, kind_tree, resource_names, type_tree}
+use Rattle.wac_subtyping.specs.Called.{Called}
+use Rattle.wac_subtyping.specs.Subtype.{held_name, kind_tree, resource_names, type_tree}
 use Rattle.wac_entries.specs.Agreement.{Agree}
 use Rattle.wac_terms.specs.Became.{IsNew}
 use Rattle.wac_entries.specs.Places.{own_resource}

@@ -23,9 +23,9 @@ use Rattle.wac_shapes.specs.declared.component.«Type».TheVariants as ty
 use Rattle.wac_shapes.specs.declared.component.ValueType.{ValueType}
 use Rattle.wac_shapes.specs.declared.component.ValueType.TheVariants as val
 use Rattle.wac_shapes.specs.declared.component.World.{World}
-use Rattle.wac_types.specs.Called.{Called, bound_at, by_binding, called_at, itself, of_class, one_out, own_leaf, resource_name}
-use Rattle.wac_types.specs.Subtype.{by_name, held_name, kind_tree, resource_names, type_tree}
-use Rattle.wac_types.proofs.Unfolding.{all_left, all_map, all_right, before_held, values_all}
+use Rattle.wac_subtyping.specs.Called.{Called, bound_at, by_binding, called_at, itself, of_class, one_out, own_leaf, resource_name}
+use Rattle.wac_subtyping.specs.Subtype.{by_name, held_name, kind_tree, resource_names, type_tree}
+use Rattle.wac_subtyping.proofs.Unfolding.{all_left, all_map, all_right, before_held, values_all}
 use Rattle.wac_entries.proofs.Walking.{resolved-held}
 
 -- ---- a tree with its leaves changed

@@ -11,10 +11,10 @@ use Rattle.wac_shapes.specs.declared.component.Interface.{Interface}
 use Rattle.wac_shapes.specs.declared.component.InterfaceId.{InterfaceId}
 use Rattle.wac_shapes.specs.declared.component.ItemKind.{ItemKind}
 use Rattle.wac_shapes.specs.declared.component.«Type».TheVariants as ty
-use Rattle.wac_types.specs.Called.{Called, by_binding}
-use Rattle.wac_types.specs.Compare.{listed_in}
-use Rattle.wac_types.specs.Subtype.{Sub, by_name, kind_tree, resource_names, type_tree}
-use Rattle.wac_types.specs.TreeLaws.{IsDeepEnough}
+use Rattle.wac_subtyping.specs.Called.{Called, by_binding}
+use Rattle.wac_subtyping.specs.Subtype.{listed_in}
+use Rattle.wac_subtyping.specs.Subtype.{Sub, by_name, kind_tree, resource_names, type_tree}
+use Rattle.wac_subtyping.specs.TreeLaws.{IsDeepEnough}
 use Rattle.wac_terms.proofs.Found.{no_some, some_same}
 use Rattle.wac_entries.proofs.SortedMaps.{found_are, items_are}
 

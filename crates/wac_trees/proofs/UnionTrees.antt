@@ -11,7 +11,7 @@ use Rattle.wac_collection.specs.Bound.{Bindings, held_item, held_tree, inside_in
 use Rattle.wac_shapes.specs.declared.component.Interface.{Interface}
 use Rattle.wac_shapes.specs.declared.component.InterfaceId.{InterfaceId}
 use Rattle.wac_shapes.specs.declared.component.«Type».TheVariants as ty
-use Rattle.wac_types.specs.Called.{Called, by_binding}
+use Rattle.wac_subtyping.specs.Called.{Called, by_binding}
 use Rattle.wac_entries.specs.Agreement.{Agree}
 use Rattle.wac_entries.specs.Bindings.{ClassBindings}
 use Rattle.wac_terms.specs.Became.{became}

@@ -12,9 +12,9 @@ use Rattle.wac_shapes.specs.declared.component.Interface.{Interface}
 use Rattle.wac_shapes.specs.declared.component.InterfaceId.{InterfaceId}
 use Rattle.wac_shapes.specs.declared.component.ItemKind.{ItemKind}
 use Rattle.wac_shapes.specs.declared.component.«Type».TheVariants as ty
-use Rattle.wac_types.specs.Called.{Called, by_binding}
-use Rattle.wac_types.specs.TreeLaws.{IsDeepEnough}
-use Rattle.wac_types.proofs.Unfolding.{all_right, before_held}
+use Rattle.wac_subtyping.specs.Called.{Called, by_binding}
+use Rattle.wac_subtyping.specs.TreeLaws.{IsDeepEnough}
+use Rattle.wac_subtyping.proofs.Unfolding.{all_right, before_held}
 use Rattle.wac_trees.proofs.UnionTreesNames.{items_found}
 use Rattle.wac_trees.proofs.UnionTreesOwn.{found_place}
 

@@ -17,8 +17,8 @@ use Rattle.wac_shapes.specs.declared.component.ResourceId.{ResourceId}
 use Rattle.wac_shapes.specs.declared.component.«Type».TheVariants as ty
 use Rattle.wac_shapes.specs.declared.component.ItemKind.{ItemKind}
 use Rattle.wac_shapes.specs.declared.component.ItemKind.TheVariants as kind
-use Rattle.wac_types.specs.Called.{Called, by_binding}
-use Rattle.wac_types.specs.TreeLaws.{IsDeepEnough}
+use Rattle.wac_subtyping.specs.Called.{Called, by_binding}
+use Rattle.wac_subtyping.specs.TreeLaws.{IsDeepEnough}
 use Rattle.wac_entries.specs.Bindings.{ClassBindings}
 use Rattle.wac_terms.specs.Became.{AreFresh, became, own_in}
 use Rattle.wac_terms.specs.Renaming.{Fits, IsExtended}

@@ -14,8 +14,8 @@ use Rattle.wac_shapes.specs.declared.component.«Type».{«Type» as AnyType}
 use Rattle.wac_shapes.specs.declared.component.«Type».TheVariants as ty
 use Rattle.wac_shapes.specs.declared.component.ItemKind.{ItemKind}
 use Rattle.wac_shapes.specs.declared.component.ItemKind.TheVariants as kind
-use Rattle.wac_types.specs.Called.{Called, by_binding}
-use Rattle.wac_types.specs.TreeLaws.{IsDeepEnough}
+use Rattle.wac_subtyping.specs.Called.{Called, by_binding}
+use Rattle.wac_subtyping.specs.TreeLaws.{IsDeepEnough}
 use Rattle.wac_entries.specs.Agreement.{Agree}
 use Rattle.wac_terms.specs.Union.{union, union_all}
 use Rattle.wac_terms.specs.Unions.{instances_in, listed_under, part, part_lists}

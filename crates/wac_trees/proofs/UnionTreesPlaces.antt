@@ -5,7 +5,7 @@ use Rattle.wac_collection.specs.Collection.{Collection, item_at}
 use Rattle.wac_collection.specs.Held.{Names}
 use Rattle.wac_collection.specs.Bound.{Bindings, inside_interface}
 use Rattle.wac_shapes.specs.declared.component.Interface.{Interface}
-use Rattle.wac_types.specs.Called.{Called, by_binding}
+use Rattle.wac_subtyping.specs.Called.{Called, by_binding}
 use Rattle.wac_terms.specs.Unions.{AreAround}
 use Rattle.wac_terms.specs.declared.parts.Part.{Part}
 use Rattle.wac_trees.proofs.UnionTreesParts.{AreNested}

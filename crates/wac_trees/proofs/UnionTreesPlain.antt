@@ -15,7 +15,7 @@ use Rattle.wac_shapes.specs.declared.component.ResourceId.{ResourceId}
 use Rattle.wac_shapes.specs.declared.component.«Type».TheVariants as ty
 use Rattle.wac_shapes.specs.declared.component.ItemKind.{ItemKind}
 use Rattle.wac_shapes.specs.declared.component.ItemKind.TheVariants as kind
-use Rattle.wac_types.specs.Called.{Called}
+use Rattle.wac_subtyping.specs.Called.{Called}
 use Rattle.wac_entries.specs.Agreement.{compared}
 use Rattle.wac_entries.specs.Binding.{binding_class, class_binds, first_binds, kind_binds, root_bindings}
 use Rattle.wac_entries.specs.Bindings.{AreBindings, AreHeld, ClassBindings, first_in, path_in}

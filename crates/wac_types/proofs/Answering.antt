@@ -15,19 +15,18 @@ use Rattle.wac_collection.specs.Collection.{Collection, size, IsWellFormed, IsVa
 use Rattle.wac_collection.specs.Tree.{TypeTree, absent, primitive, own, borrow, resource}
 use Rattle.wac_collection.specs.Held.{resolved, defined_tree}
 use Rattle.wac_collection.specs.Aliases.{aliased, target_of, value_resolved_in, value_resolved}
-use Rattle.wac_types.specs.Subtype.{resource_names, type_tree}
+use Rattle.wac_subtyping.specs.Subtype.{resource_names, type_tree}
 use Rattle.wac_types.specs.Compare.{value_in, defined_in}
 use Rattle.wac_types.specs.Questions.{Refutes}
-use Rattle.wac_types.specs.Weights.{type_rank, weight}
+use Rattle.wac_subtyping.specs.Ranks.{type_rank}
+use Rattle.wac_types.specs.Weights.{weight}
+use Rattle.wac_subtyping.proofs.Trees.{aliased_is}
 use Rattle.wac_types.specs.Settling.{Asks, HasEnd, RestsOn}
-use Rattle.wac_types.proofs.Unfolding.{Opens, opens_defined, held_at_rank, before_rank, value_more, primitive_in}
+use Rattle.wac_subtyping.proofs.Unfolding.{held_at_rank, before_rank, value_more}
+use Rattle.wac_types.proofs.Opens.{Opens, opens_defined, primitive_in}
 use Rattle.wac_types.proofs.Lighter.{lowers_defined, own_in, borrow_in}
 use Rattle.wac_types.proofs.Asking.{rests_on}
 use Rattle.wac_types.proofs.Sorts.{are_there, name_of_resource}
-
-pub aliased_is : (x : DefinedType) (a : ValueType) → aliased x ≡ Some a → x ≡ def.Alias a
-aliased_is (def.Alias v) a e = let s : v ≡ a = cc in ap def.Alias s
-aliased_is _ a e = cc
 
 -- an alias of a value type has the tree of what it names
 pub alias_opens : (c : Collection) → IsWellFormed c → (v a : ValueType) → target_of c v ≡ Some a → Opens c (ty.Value v) (ty.Value a ∷ []) (value_in c a)

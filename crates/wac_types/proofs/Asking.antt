@@ -10,12 +10,12 @@ use Rattle.wac_shapes.specs.declared.component.«Type».{«Type» as AnyType}
 use Rattle.wac_shapes.specs.Name.{Name}
 use Rattle.wac_collection.specs.Tree.{TypeTree}
 use Rattle.wac_collection.specs.Collection.{Collection, holds_type}
-use Rattle.wac_types.specs.Subtype.{Sub, type_tree}
+use Rattle.wac_subtyping.specs.Subtype.{Sub, type_tree}
 use Rattle.wac_types.specs.Weights.{type_weight}
 use Rattle.wac_types.specs.Questions.{in_order, first_of_pair, second_of_pair, IsAskable, IsAskableQuestion, IsYes, IsYesBelow, AreHeld, AreBelow, Puts}
 use Rattle.wac_types.specs.Classes.{AreLinked, AreSame}
 use Rattle.wac_types.specs.Settling.{AreJoined, Settles, Asks, RestsOn}
-use Rattle.wac_types.proofs.Unfolding.{all_map, all_left, all_both}
+use Rattle.wac_subtyping.proofs.Unfolding.{all_map, all_left, all_both}
 use Rattle.wac_types.proofs.Lighter.{Lowers}
 
 pub all_at : {A : Type 0} (P : A → Type 0) (xs : List A) (x : A) → AllByRecursion P xs → Contains xs x → P x

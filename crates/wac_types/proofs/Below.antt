@@ -4,8 +4,8 @@ use Rattle.wac_shapes.specs.Name.{Name}
 use Rattle.wac_shapes.specs.Core.{no_item}
 use Rattle.wac_collection.specs.Collection.{Collection}
 use Rattle.wac_collection.specs.Held.{core_item, core_under, core_imports}
-use Rattle.wac_types.specs.Subtype.{Sub, IsCoreSubtype, kind_tree}
-use Rattle.wac_types.specs.Compare.{listed_in}
+use Rattle.wac_subtyping.specs.Subtype.{Sub, IsCoreSubtype, kind_tree}
+use Rattle.wac_subtyping.specs.Subtype.{listed_in}
 use Rattle.wac_shapes.specs.declared.core_types.CoreExtern.{CoreExtern}
 use Rattle.wac_shapes.specs.declared.component.ItemKind.{ItemKind}
 

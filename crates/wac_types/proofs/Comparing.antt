@@ -6,12 +6,12 @@ use Rattle.wac_types.specs.declared.questions.Asked.{Asked}
 use Rattle.wac_shapes.specs.declared.component.ItemKind.{ItemKind}
 use Rattle.wac_collection.specs.Collection.{Collection, holds_type}
 use Rattle.wac_shapes.specs.Kinds.{kind_type}
-use Rattle.wac_types.specs.Subtype.{Sub, IsSubtype, type_tree, kind_tree}
+use Rattle.wac_subtyping.specs.Subtype.{Sub, IsSubtype, type_tree, kind_tree}
 use Rattle.wac_types.specs.Weights.{type_weight}
 use Rattle.wac_types.specs.Questions.{in_order, first_of_pair, second_of_pair, IsAskable, IsAskableQuestion, IsYes, IsYesBelow}
 use Rattle.wac_types.specs.Classes.{AreLinked}
 use Rattle.wac_types.specs.Settling.{AreJoined, Settles, Asks, RestsOn}
-use Rattle.wac_types.proofs.Unfolding.{all_map, all_left, all_right, all_both}
+use Rattle.wac_subtyping.proofs.Unfolding.{all_map, all_left, all_right, all_both}
 use Rattle.wac_types.proofs.Agreeing.{same_some}
 
 pub record Compares (c d : Collection) (a b : ItemKind) (asked : Asked) (next : ℕ) : Type 0 where

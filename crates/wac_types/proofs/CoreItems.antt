@@ -8,7 +8,7 @@ use Rattle.wac_shapes.specs.declared.core_types.CoreExtern.TheVariants as core
 use Rattle.wac_shapes.specs.declared.core_types.ModuleType.{ModuleType}
 use Rattle.wac_collection.specs.Tree.{TypeTree, module_of}
 use Rattle.wac_collection.specs.Held.{core_item, core_under, core_imports, module_tree}
-use Rattle.wac_types.specs.Subtype.{Sub, IsCoreSubtype}
+use Rattle.wac_subtyping.specs.Subtype.{Sub, IsCoreSubtype}
 use Rattle.wac_types.specs.Compare.{OffersCore, OffersModules}
 use Rattle.wac_types.proofs.Below.{OffersCoreBelow, OffersModulesBelow}
 use Rattle.wac_shapes.proofs.Names.{find_name-at, find_position, same_name-refl}

@@ -15,12 +15,12 @@ use Rattle.wac_types.specs.declared.questions.Asked.{Asked}
 use Rattle.wac_collection.specs.Collection.{Collection, holds_type}
 use Rattle.wac_collection.specs.Tree.{TypeTree, absent, resource}
 use Rattle.wac_collection.specs.Held.{resolved}
-use Rattle.wac_types.specs.Subtype.{Sub, IsPlain, resource_names, type_tree}
+use Rattle.wac_subtyping.specs.Subtype.{Sub, IsPlain, resource_names, type_tree}
 use Rattle.wac_types.specs.Weights.{weight, type_weight}
 use Rattle.wac_types.specs.Questions.{in_order, first_of_pair, second_of_pair, IsPlainType, IsAskableQuestion, IsYes, IsYesBelow, AreHeld, AreBelow, Puts}
 use Rattle.wac_types.specs.Classes.{nodes, node_tree, AreSame, AreLinked, LeadsTo, HasLink, AddsNode, PutsBelow, Joins}
 use Rattle.wac_types.specs.Settling.{AreJoined, Settles, Asks, HasEnd, first_node, second_node, PutsPlain}
-use Rattle.wac_types.proofs.Unfolding.{all_map}
+use Rattle.wac_subtyping.proofs.Unfolding.{all_map}
 use Rattle.wac_types.proofs.Lighter.{resource_in}
 use Rattle.wac_types.proofs.Asking.{all_at, ordered, asks_put, linked_more, settles_iff}
 use Rattle.wac_types.proofs.Agreeing.{same_some}

@@ -1,4 +1,4 @@
-pub mod Unfolding
+pub mod Opens
 pub mod Lighter
 pub mod Asking
 pub mod QuestionKeys
@@ -13,9 +13,6 @@ pub mod Opening
 pub mod Joining
 pub mod Universe
 pub mod Comparing
-pub mod Relation
-pub mod Trees
-pub mod Kept
 pub mod CoreTypes
 pub mod CoreItems
 pub mod Subtyping

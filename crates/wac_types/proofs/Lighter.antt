@@ -20,11 +20,13 @@ use Rattle.wac_collection.specs.Aliases.{aliased}
 use Rattle.wac_collection.specs.Collection.{Collection, seconds, and_maybe, case_values, defined_values, func_values, value_types, func_mentions, defined_mentions, kind_types, world_mentions, IsWellFormed, IsBefore, AreBefore, holds_type, item_at}
 use Rattle.wac_collection.specs.Tree.{TypeTree, absent, own, borrow, resource, primitive}
 use Rattle.wac_collection.specs.Held.{part_at, option_tree, func_tree, defined_tree, resolved}
-use Rattle.wac_types.specs.Subtype.{resource_names, type_tree}
+use Rattle.wac_subtyping.specs.Subtype.{resource_names, type_tree}
 use Rattle.wac_types.specs.Compare.{value_in, func_in, defined_in}
-use Rattle.wac_types.specs.Weights.{type_rank, total, weight, heaviest, type_weight}
+use Rattle.wac_subtyping.specs.Ranks.{type_rank}
+use Rattle.wac_types.specs.Weights.{total, weight, heaviest, type_weight}
 use Rattle.wac_types.specs.Questions.{AreHeld, AreBelow}
-use Rattle.wac_types.proofs.Unfolding.{Opens, opens_func, opens_defined, opens_interface, opens_world, all_map, before_held, before_rank, primitive_in}
+use Rattle.wac_subtyping.proofs.Unfolding.{all_map, before_held, before_rank}
+use Rattle.wac_types.proofs.Opens.{Opens, opens_func, opens_defined, opens_interface, opens_world, primitive_in}
 
 pub own_in : (c : Collection) (r : ResourceId) → value_in c (val.Own r) ≡ option_case (resource_names c (resolved c r)) absent own
 unfolding type_tree

@@ -15,13 +15,13 @@ use Rattle.wac_shapes.specs.declared.component.«Type».{«Type» as AnyType}
 use Rattle.wac_shapes.specs.declared.component.«Type».TheVariants as ty
 use Rattle.wac_collection.specs.Collection.{Collection, IsWellFormed, defined_mentions, func_mentions, item_at}
 use Rattle.wac_collection.specs.Tree.{TypeTree, list_of, option_of, function_item}
-use Rattle.wac_types.specs.Subtype.{Sub, type_tree, kind_tree}
+use Rattle.wac_subtyping.specs.Subtype.{Sub, type_tree, kind_tree}
 use Rattle.wac_types.specs.Compare.{value_in, entry_in, defined_in, definition_in, func_in}
 use Rattle.wac_collection.specs.Aliases.{aliased}
 use Rattle.wac_types.specs.Weights.{type_weight}
 use Rattle.wac_types.specs.Questions.{AreBelow, Refutes}
 use Rattle.wac_types.specs.Settling.{Asks}
-use Rattle.wac_types.proofs.Unfolding.{Opens, opens_defined}
+use Rattle.wac_types.proofs.Opens.{Opens, opens_defined}
 use Rattle.wac_types.proofs.Lighter.{Lowers, lowers_defined, lowers_func}
 use Rattle.wac_types.proofs.Asking.{rests_on}
 use Rattle.wac_types.proofs.Values.{plain_sub, plain_same, asks_now}

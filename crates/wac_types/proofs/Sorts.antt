@@ -16,9 +16,10 @@ use Rattle.wac_shapes.specs.declared.component.ItemKind.TheVariants as kind
 use Rattle.wac_collection.specs.Collection.{Collection, size, item_of, item_at, alias_types, defined_mentions, IsWellFormed, IsBefore, IsValueBefore, AreBefore, AddedBefore, holds_type}
 use Rattle.wac_collection.specs.Tree.{TypeTree, absent, own, borrow, resource, function, instance, component, module_of, fresh, type_equal, function_item, instance_item, component_item, module_item, value_item}
 use Rattle.wac_collection.specs.Held.{of_held, defined_tree, resolved, resolved_in, source_of, unfolded_to}
-use Rattle.wac_types.specs.Subtype.{Sub, by_name, held_name, resource_names, type_tree, kind_tree}
+use Rattle.wac_subtyping.specs.Subtype.{Sub, by_name, held_name, resource_names, type_tree, kind_tree}
 use Rattle.wac_types.specs.Questions.{AreThere}
-use Rattle.wac_types.proofs.Unfolding.{all_map, before_more, before_held, type_before}
+use Rattle.wac_subtyping.proofs.Unfolding.{all_map, before_more, before_held, type_before}
+use Rattle.wac_subtyping.proofs.Resolved.{resolved_held}
 
 -- what sort of thing a tree is of
 abbrev pub tree_sort : {L : Type 0} → TypeTree L → ℕ
@@ -70,27 +71,6 @@ kind_tree_sort c (kind.Instance i) = refl
 kind_tree_sort c (kind.Component w) = refl
 kind_tree_sort c (kind.Module m) = refl
 kind_tree_sort c (kind.Value v) = refl
-
--- the resource at the end of the aliases is held
-module _ (c : Collection) (wf : IsWellFormed c) where
-  pub resolved_there : (k n : ℕ) (r : ResourceId) → IsBefore c n (ty.Resource r) → (m : ℕ) × IsBefore c m (ty.Resource (resolved_in k c r))
-  resolved_there zero n r h = (n, h)
-  resolved_there (suc k) n r h = by (λ m a b. resolved_there k m a b) (slice_get c.resources r.0) refl
-    where
-      next : ((m : ℕ) (q : ResourceId) → IsBefore c m (ty.Resource q) → (l : ℕ) × IsBefore c l (ty.Resource (resolved_in k c q))) → (o : Option ResourceAlias) → (m : ℕ) → AreBefore c m (alias_types o)
-          → (j : ℕ) × IsBefore c j (ty.Resource (option_case (option_case o None (λ a. Some a.source)) r (λ source. resolved_in k c source)))
-      next rec None m b = (n, h)
-      next rec (Some a) m b = rec m a.source b.0
-
-      by : ((m : ℕ) (q : ResourceId) → IsBefore c m (ty.Resource q) → (l : ℕ) × IsBefore c l (ty.Resource (resolved_in k c q))) → (o : Option (Held Resource)) → slice_get c.resources r.0 ≡ o
-          → (m : ℕ) × IsBefore c m (ty.Resource (option_case (source_of o) r (λ source. resolved_in k c source)))
-      by rec None e = (n, h)
-      by rec (Some x) e = next rec x.item.alias x.before (wf.resources r.0 x e).1
-
-  pub resolved_held : (r : ResourceId) → holds_type c (ty.Resource r) ≡ true → holds_type c (ty.Resource (resolved c r)) ≡ true
-  resolved_held r h =
-      let b = resolved_there (length c.resources) (size c) r (type_before c wf (ty.Resource r) h) in
-      before_held c b.0 (ty.Resource (resolved c r)) b.1
 
 name_there : (P : Option Name → Type 0) (xs : List (Held Resource)) (i : ℕ) → ((n : Name) → P (Some n)) → nat_lt i (length xs) ≡ true → P (held_name (slice_get xs i))
 name_there P [] i f h = absurd (grind arith)

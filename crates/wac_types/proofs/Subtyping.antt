@@ -21,13 +21,14 @@ use Rattle.wac_collection.specs.Collection.{Collection, size, kind_types, used_t
 use Rattle.wac_shapes.specs.Kinds.{kind_type}
 use Rattle.wac_collection.specs.Tree.{TypeTree, absent, instance, component, type_equal, function_item, instance_item, component_item, module_item, value_item}
 use Rattle.wac_collection.specs.Held.{of_held, func_tree, unfolded_to}
-use Rattle.wac_types.specs.Subtype.{Sub, IsPlain, by_name, resource_names, type_tree, kind_tree}
-use Rattle.wac_types.specs.Compare.{value_in, listed_in, world_in, Offers}
+use Rattle.wac_subtyping.specs.Subtype.{Sub, IsPlain, by_name, resource_names, type_tree, kind_tree}
+use Rattle.wac_subtyping.specs.Subtype.{listed_in}
+use Rattle.wac_types.specs.Compare.{value_in, world_in, Offers}
 use Rattle.wac_types.proofs.Below.{OffersBelow}
 use Rattle.wac_types.specs.Questions.{AreBelow}
 use Rattle.wac_types.specs.Settling.{Asks}
 use Rattle.wac_shapes.proofs.Names.{find_name-at, find_position}
-use Rattle.wac_types.proofs.Unfolding.{all_left, all_right}
+use Rattle.wac_subtyping.proofs.Unfolding.{all_left, all_right}
 use Rattle.wac_types.proofs.Values.{plain_sub, plain_same, asks_now, asks_iff, asks_of, asks_then}
 use Rattle.wac_types.proofs.Agreeing.{kind_among, same_some}
 

@@ -17,11 +17,12 @@ use Rattle.wac_shapes.specs.declared.component.«Type».TheVariants as ty
 use Rattle.wac_collection.specs.Collection.{Collection, IsWellFormed, func_mentions, kind_types, world_mentions, holds_type, item_at}
 use Rattle.wac_collection.specs.Tree.{TypeTree, absent, resource}
 use Rattle.wac_collection.specs.Held.{resolved, module_tree}
-use Rattle.wac_types.specs.Subtype.{Sub, IsPlain, resource_names, type_tree}
-use Rattle.wac_types.specs.Compare.{value_in, func_in, listed_in, world_in, Offers, OffersCore, OffersModules}
+use Rattle.wac_subtyping.specs.Subtype.{Sub, IsPlain, resource_names, type_tree}
+use Rattle.wac_subtyping.specs.Subtype.{listed_in}
+use Rattle.wac_types.specs.Compare.{value_in, func_in, world_in, Offers, OffersCore, OffersModules}
 use Rattle.wac_types.specs.Questions.{Refutes}
 use Rattle.wac_types.specs.Settling.{Asks, RestsOn}
-use Rattle.wac_types.proofs.Unfolding.{Opens, opens_func, opens_interface, opens_world, opens_module}
+use Rattle.wac_types.proofs.Opens.{Opens, opens_func, opens_interface, opens_world, opens_module}
 use Rattle.wac_types.proofs.Lighter.{Lowers, lowers_func, lowers_interface, lowers_world, resource_in}
 use Rattle.wac_types.proofs.Asking.{rests_now, rests_iff, rests_on, differ}
 use Rattle.wac_types.proofs.Values.{plain_sub, plain_same, value_plain}

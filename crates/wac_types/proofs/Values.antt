@@ -14,12 +14,13 @@ use Rattle.wac_shapes.specs.declared.component.«Type».TheVariants as ty
 use Rattle.wac_collection.specs.Collection.{Collection, size, and_maybe, value_types, holds_type}
 use Rattle.wac_collection.specs.Tree.{TypeTree, absent, primitive, own, borrow}
 use Rattle.wac_collection.specs.Held.{defined_tree, of_held, resolved, unfolded_to}
-use Rattle.wac_types.specs.Subtype.{Sub, IsPlain, by_name, resource_names, type_tree}
+use Rattle.wac_subtyping.specs.Subtype.{Sub, IsPlain, by_name, resource_names, type_tree}
 use Rattle.wac_types.specs.Compare.{value_in, optional_in}
 use Rattle.wac_types.specs.Questions.{AreBelow, AreThere, Refutes}
 use Rattle.wac_types.specs.Weights.{type_weight}
 use Rattle.wac_types.specs.Settling.{Asks}
-use Rattle.wac_types.proofs.Unfolding.{primitive_in}
+use Rattle.wac_types.proofs.Opens.{primitive_in}
+use Rattle.wac_subtyping.proofs.Relation.{plain_sub, plain_same}
 use Rattle.wac_types.proofs.Asking.{settles_now, settles_then, settles_iff}
 
 -- the tree of a primitive, by its name
@@ -33,20 +34,6 @@ pub primitives_inj : (c d : Collection) (p q : PrimitiveType) → value_in c (va
 primitives_inj c d p q e = primitive_inj p q (sym (primitive_in c p) ∙ e ∙ primitive_in d q)
 
 module _ {L : Type 0} where
-  -- what is plain is a subtype of its equal alone
-  pub plain_sub : (a b : TypeTree L) → IsPlain a → Sub a b → a ≡ b
-  plain_sub a b p (Sub.same _ q) = refl
-  plain_sub a b p (Sub.instances _ _ f) = absurd p
-  plain_sub a b p (Sub.components _ _ _ _ f g) = absurd p
-  plain_sub a b p (Sub.modules _ _ _ _ f g) = absurd p
-  plain_sub a b p (Sub.type_items _ _ s t) = absurd p
-  plain_sub a b p (Sub.instance_items _ _ s) = absurd p
-  plain_sub a b p (Sub.component_items _ _ s) = absurd p
-  plain_sub a b p (Sub.module_items _ _ s) = absurd p
-
-  pub plain_same : (a b : TypeTree L) → IsPlain a → a ≡ b → Sub a b
-  plain_same a b p e = let P : TypeTree L → Type 0 = λ x. Sub a x in subst P e (Sub.same a p)
-
   plain_own : (o : Option L) → IsPlain (option_case o absent own)
   plain_own None = tt
   plain_own (Some l) = tt

@@ -5,7 +5,7 @@ use Rattle.std.specs.Option.{option_map}
 use Rattle.wac_shapes.specs.Name.{Name}
 use Rattle.wac_collection.specs.Tree.{TypeTree}
 use Rattle.wac_collection.specs.Collection.{Collection}
-use Rattle.wac_types.specs.Subtype.{type_tree}
+use Rattle.wac_subtyping.specs.Subtype.{type_tree}
 use Rattle.wac_types.specs.Weights.{weight}
 use Rattle.wac_types.specs.Questions.{first_of_pair, IsYesBelow}
 use Rattle.wac_types.specs.declared.classes.Node.{Node}

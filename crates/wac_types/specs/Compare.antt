@@ -1,12 +1,11 @@
 -- What the steps of a comparison answer: types part by part, listed items name by name.
-use Rattle.std.specs.Prelude.{ℕ, suc, ◌≢◌, List, map, Option, Some, None}
+use Rattle.std.specs.Prelude.{◌≢◌, List, Option, Some, None}
 use Rattle.wac_shapes.specs.Name.{Name, option_case}
 use Rattle.wac_shapes.specs.Core.{CoreItem, no_item, core_table, core_memory}
 use Rattle.wac_collection.specs.Tree.{TypeTree, absent, component}
 use Rattle.wac_collection.specs.Collection.{Collection, item_at}
-use Rattle.wac_collection.specs.Held.{option_tree, func_tree, defined_tree, items_under, core_under, core_imports}
-use Rattle.wac_types.specs.Subtype.{Sub, IsCoreSubtype, type_tree, kind_tree}
-use Rattle.wac_collection.specs.declared.collection.Held.{Held}
+use Rattle.wac_collection.specs.Held.{option_tree, func_tree, defined_tree, core_under, core_imports}
+use Rattle.wac_subtyping.specs.Subtype.{Sub, IsCoreSubtype, type_tree, listed_in}
 use Rattle.wac_shapes.specs.declared.core_types.CoreExtern.{CoreExtern}
 use Rattle.wac_shapes.specs.declared.component.FuncType.{FuncType}
 use Rattle.wac_shapes.specs.declared.component.DefinedType.{DefinedType}
@@ -29,9 +28,6 @@ func_in c f = func_tree (value_in c) f
 
 abbrev pub defined_in : Collection → DefinedType → TypeTree Name
 defined_in c d = defined_tree (value_in c) d
-
-abbrev pub listed_in : Collection → List (Name × ItemKind) → Name → TypeTree Name
-listed_in c es = items_under (map (λ e. (e.0, kind_tree c e.1)) es)
 
 -- an entry: its name and the tree of its type
 abbrev pub entry_in : Collection → Name × ValueType → Name × TypeTree Name
@@ -69,8 +65,3 @@ OffersCore xs ys = (n : Name) → core_under ys n ≢ no_item → IsCoreSubtype 
 -- and of core items by module and name
 abbrev pub OffersModules : List (Name × List (Name × CoreExtern)) → List (Name × List (Name × CoreExtern)) → Type 0
 OffersModules xs ys = (m n : Name) → core_imports ys m n ≢ no_item → IsCoreSubtype (core_imports xs m n) (core_imports ys m n)
-
--- how many items there were up to the one that an id names, and that one
-abbrev pub rank_of_held : {A : Type 0} → Option (Held A) → ℕ
-rank_of_held None = 0
-rank_of_held (Some h) = suc h.before

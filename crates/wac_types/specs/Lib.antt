@@ -1,8 +1,5 @@
-pub mod Called
-pub mod Subtype
 pub mod Compare
 pub mod Weights
 pub mod Questions
 pub mod Classes
 pub mod Settling
-pub mod TreeLaws

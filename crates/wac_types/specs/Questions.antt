@@ -1,5 +1,4 @@
 -- The questions of a comparison: pairs of types of which the first is to be a subtype of the second.
-pub use Rattle.wac_types.specs.Weights.{type_rank}
 use Rattle.std.specs.Prelude.{ℕ, ◌<◌, ◌≤◌, ◌≡◌, ◌≢◌, Bool, true, false, not, None, List, ◌++◌, ◌⊎◌}
 use Rattle.std.specs.List.{AllByRecursion, Contains}
 use Rattle.wac_types.specs.declared.questions.Question.{Question}
@@ -8,7 +7,7 @@ use Rattle.wac_shapes.specs.declared.component.«Type».TheVariants as ty
 use Rattle.wac_collection.specs.Collection.{Collection, holds_type}
 use Rattle.wac_collection.specs.Tree.{absent}
 use Rattle.wac_collection.specs.Aliases.{target_of}
-use Rattle.wac_types.specs.Subtype.{Sub, type_tree}
+use Rattle.wac_subtyping.specs.Subtype.{Sub, type_tree}
 use Rattle.wac_types.specs.Weights.{type_weight}
 
 -- the collections of a comparison, in the order of its first question

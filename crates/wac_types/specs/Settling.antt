@@ -6,7 +6,7 @@ use Rattle.wac_types.specs.declared.questions.Asked.{Asked}
 use Rattle.wac_types.specs.declared.classes.Node.{Node}
 use Rattle.wac_shapes.specs.declared.component.«Type».{«Type» as AnyType}
 use Rattle.wac_collection.specs.Collection.{Collection, holds_type}
-use Rattle.wac_types.specs.Subtype.{type_tree}
+use Rattle.wac_subtyping.specs.Subtype.{type_tree}
 use Rattle.wac_types.specs.Weights.{type_weight}
 use Rattle.wac_types.specs.Questions.{in_order, IsEnd, IsYes, IsYesBelow, IsPlainType, IsAskableQuestion, AreHeld, AreBelow, Puts}
 use Rattle.wac_types.specs.Classes.{AreLinked, AreSame}

@@ -1,28 +1,12 @@
 -- How heavy types are: heavier than what they mention. What is the same weighs the same, in whatever collection it is.
-use Rattle.std.specs.Prelude.{ℕ, zero, suc, ◌+◌, length, slice_get}
+use Rattle.std.specs.Prelude.{ℕ, zero, suc, ◌+◌, length}
 use Rattle.wac_collection.specs.Tree.{TypeTree, record_of, variant_of, list_of, fixed_list_of, tuple_of, option_of, result_of, stream_of, future_of, function}
 use Rattle.wac_collection.specs.Collection.{Collection}
-use Rattle.wac_types.specs.Subtype.{type_tree}
-use Rattle.wac_types.specs.Compare.{rank_of_held}
-use Rattle.wac_shapes.specs.declared.component.ValueType.{ValueType}
+use Rattle.wac_subtyping.specs.Subtype.{type_tree}
+use Rattle.wac_subtyping.specs.Ranks.{type_rank}
 use Rattle.wac_shapes.specs.declared.component.ValueType.TheVariants as val
 use Rattle.wac_shapes.specs.declared.component.«Type».{«Type» as AnyType}
 use Rattle.wac_shapes.specs.declared.component.«Type».TheVariants as ty
-
--- how many items of any sort were added up to the one that a type names, and that one
-abbrev pub value_rank : Collection → ValueType → ℕ
-value_rank c (val.Primitive p) = 0
-value_rank c (val.Own r) = rank_of_held (slice_get c.resources r.0)
-value_rank c (val.Borrow r) = rank_of_held (slice_get c.resources r.0)
-value_rank c (val.Defined d) = rank_of_held (slice_get c.defined d.0)
-
-abbrev pub type_rank : Collection → AnyType → ℕ
-type_rank c (ty.Resource r) = rank_of_held (slice_get c.resources r.0)
-type_rank c (ty.Func f) = rank_of_held (slice_get c.funcs f.0)
-type_rank c (ty.Value v) = value_rank c v
-type_rank c (ty.Interface i) = rank_of_held (slice_get c.interfaces i.0)
-type_rank c (ty.World w) = rank_of_held (slice_get c.worlds w.0)
-type_rank c (ty.Module m) = rank_of_held (slice_get c.modules m.0)
 
 -- the sum of the first so many
 abbrev pub total : ℕ → (ℕ → ℕ) → ℕ

@@ -2,7 +2,7 @@
 ghost use Rattle.std.specs.Prelude.{◌≡◌, ◌+◌, true, Err, IfOk};
 ghost use Rattle.wac_collection.specs.Collection.{holds_type};
 ghost use Rattle.wac_shapes.specs.Kinds.{kind_type};
-ghost use Rattle.wac_types.specs.Subtype.{IsSubtype};
+ghost use Rattle.wac_subtyping.specs.Subtype.{IsSubtype};
 
 use crate::comparison::Comparison;
 use crate::questions::Asked;

@@ -5,7 +5,7 @@ ghost use Rattle.wac_shapes.specs.Name.{find_name};
 ghost use Rattle.wac_collection.specs.Collection.{kind_types, value_types, and_maybe, seconds, case_values, func_mentions, defined_mentions, world_mentions, holds_type};
 ghost use Rattle.wac_shapes.specs.Kinds.{kind_type};
 ghost use Rattle.wac_collection.specs.Held.{resolved};
-ghost use Rattle.wac_types.specs.Subtype.{Sub, type_tree, kind_tree, resource_names};
+ghost use Rattle.wac_subtyping.specs.Subtype.{Sub, type_tree, kind_tree, resource_names};
 ghost use Rattle.wac_collection.specs.Aliases.{aliased};
 ghost use Rattle.wac_types.specs.Compare.{value_in, optional_in, func_in, defined_in, world_in, entry_in, case_in, Offers};
 ghost use Rattle.wac_types.specs.Questions.{IsEnd, IsPlainType, Refutes};

@@ -1,7 +1,7 @@
 //! Subtyping between types of core modules.
 ghost use Rattle.std.specs.Prelude.{◌≡◌, ◌≤◌, ◌↔◌, IsTrue};
 ghost use Rattle.wac_collection.specs.Held.{core_item};
-ghost use Rattle.wac_types.specs.Subtype.{IsCoreSubtype, IsMaximumWithin};
+ghost use Rattle.wac_subtyping.specs.Subtype.{IsCoreSubtype, IsMaximumWithin};
 ghost use Rattle.wac_types.specs.Compare.{IsTableSubtype, IsMemorySubtype, OffersCore, OffersModules};
 
 use wac_collection::{CoreExtern, CoreFuncType, CoreType, ModuleType, Named};

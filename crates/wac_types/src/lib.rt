@@ -5,7 +5,6 @@ mod checker;
 mod classes;
 mod comparison;
 mod core_modules;
-pub mod laws;
 mod questions;
 mod small;
 
@@ -17,3 +16,4 @@ pub use wac_collection::{
     ResourceAlias, ResourceId, Sequence, ShapeError, Text, Type, Types, UsedType, ValueType,
     Variant, World, WorldId,
 };
+pub use wac_subtyping::laws;

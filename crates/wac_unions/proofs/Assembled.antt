@@ -6,9 +6,9 @@ use Rattle.wac_collection.specs.Collection.{Collection}
 use Rattle.wac_collection.specs.Bound.{by_place}
 use Rattle.wac_collection.specs.Uses.{IsSound}
 use Rattle.wac_shapes.specs.declared.component.InterfaceId.{InterfaceId}
-use Rattle.wac_types.specs.Called.{by_binding}
-use Rattle.wac_types.specs.Subtype.{by_name}
-use Rattle.wac_types.specs.TreeLaws.{IsDeepEnough}
+use Rattle.wac_subtyping.specs.Called.{by_binding}
+use Rattle.wac_subtyping.specs.Subtype.{by_name}
+use Rattle.wac_subtyping.specs.TreeLaws.{IsDeepEnough}
 use Rattle.wac_entries.specs.Bindings.{AreHeld, ClassBindings}
 use Rattle.wac_entries.specs.Classes.{Entry, by_names, class_names}
 use Rattle.wac_terms.specs.ClassOrder.{IsWrittenOrder}

@@ -17,7 +17,7 @@ use Rattle.wac_shapes.specs.declared.component.«Type».TheVariants as ty
 use Rattle.wac_shapes.specs.declared.component.ItemKind.{ItemKind}
 use Rattle.wac_shapes.specs.declared.component.ItemKind.TheVariants as kind
 use Rattle.wac_shapes.proofs.Names.{same_name-refl, same_name-true}
-use Rattle.wac_types.specs.Called.{Called, by_binding}
+use Rattle.wac_subtyping.specs.Called.{Called, by_binding}
 use Rattle.wac_entries.specs.Agreement.{called_in_class, compared}
 use Rattle.wac_terms.specs.Became.{became, whole_in}
 use Rattle.wac_entries.specs.Binding.{root_bindings}

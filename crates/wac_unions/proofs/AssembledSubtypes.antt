@@ -14,8 +14,8 @@ use Rattle.wac_shapes.specs.declared.component.ItemKind.{ItemKind}
 use Rattle.wac_shapes.specs.declared.component.ItemKind.TheVariants as kind
 use Rattle.wac_shapes.specs.declared.component.ResourceId.{ResourceId}
 use Rattle.wac_shapes.specs.declared.component.«Type».TheVariants as ty
-use Rattle.wac_types.specs.Called.{by_binding}
-use Rattle.wac_types.specs.Subtype.{IsSubtype, kind_tree, type_tree}
+use Rattle.wac_subtyping.specs.Called.{by_binding}
+use Rattle.wac_subtyping.specs.Subtype.{IsSubtype, kind_tree, type_tree}
 use Rattle.wac_entries.specs.Agreement.{AllMembersAgree, called_inside}
 use Rattle.wac_terms.specs.Became.{became, whole_in}
 use Rattle.wac_entries.specs.Binding.{class_binds}

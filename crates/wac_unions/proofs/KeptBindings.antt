@@ -15,7 +15,7 @@ use Rattle.wac_shapes.specs.declared.component.UsedType.{UsedType}
 use Rattle.wac_shapes.specs.declared.component.«Type».TheVariants as ty
 use Rattle.wac_shapes.specs.declared.component.ItemKind.{ItemKind}
 use Rattle.wac_shapes.specs.declared.component.ItemKind.TheVariants as kind
-use Rattle.wac_types.specs.TreeLaws.{IsKeptBy}
+use Rattle.wac_subtyping.specs.TreeLaws.{IsKeptBy}
 use Rattle.wac_entries.specs.Binding.{class_binds, first_binds, kind_binds}
 use Rattle.wac_entries.specs.Bindings.{AreHeld}
 use Rattle.wac_entries.specs.Classes.{Entry, by_names, members, same_class, same_track}

@@ -10,7 +10,7 @@ use Rattle.wac_shapes.specs.Kinds.{kind_type}
 use Rattle.wac_collection.specs.Held.{resolved, source_of}
 use Rattle.wac_collection.specs.Bound.{is_alias}
 use Rattle.wac_collection.specs.Uses.{has_name, is_named_right, mention_fault, unless}
-use Rattle.wac_types.specs.Subtype.{held_name}
+use Rattle.wac_subtyping.specs.Subtype.{held_name}
 use Rattle.wac_collection.specs.declared.collection.AddTypeError.TheVariants as fault
 use Rattle.wac_collection.specs.declared.collection.Held.{Held}
 use Rattle.wac_shapes.specs.declared.component.InterfaceId.{InterfaceId}

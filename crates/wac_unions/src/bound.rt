@@ -10,10 +10,10 @@ ghost use Rattle.wac_entries.specs.Classes.{AreClasses, by_names};
 ghost use Rattle.wac_unions.specs.BoundNames.{ItemBinds, MemberBinds};
 ghost use Rattle.wac_unions.specs.MergedScope.{BindsUnder};
 
+use wac_collection::{ItemKind, Type, Types};
 use wac_entries::bindings::Bindings;
 use wac_entries::classes::Classes;
 use wac_entries::entry::Entry;
-use wac_types::{ItemKind, Type, Types};
 
 /// Whether a path is one name alone.
 fn is_alone(path: &[String], name: &str) -> bool

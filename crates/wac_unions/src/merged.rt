@@ -28,6 +28,7 @@ ghost use Rattle.wac_names.specs.Views.{track_view};
 use crate::writing::{write_kind, write_unions};
 use std::alloc::{AllocError, Global};
 use std::marker::Model;
+use wac_collection::{InterfaceId, ItemKind, Named, ShapeError, Type, Types};
 use wac_entries::bindings::{Bindings, class_tracks};
 use wac_entries::classes::Classes;
 use wac_entries::entry::Entry;
@@ -35,9 +36,8 @@ use wac_names::Track;
 use wac_renaming::adding::add_fresh;
 use wac_renaming::became::{Became, part_bounds};
 use wac_renaming::renamer::{Renamed, Renaming};
+use wac_subtyping::laws::trees_are_whole;
 use wac_terms::parts::Part;
-use wac_types::laws::trees_are_whole;
-use wac_types::{InterfaceId, ItemKind, Named, ShapeError, Type, Types};
 use wac_uniting::unions::Unions;
 use wac_values::named::{NamedTypes, named_types};
 

@@ -18,14 +18,14 @@ ghost use Rattle.wac_renaming.specs.declared.became.Became.{Became as ABecame};
 ghost use Rattle.wac_terms.specs.declared.parts.Union.{Union as AUnion};
 
 use std::alloc::{AllocError, Global};
-use wac_renaming::became::Became;
-use wac_renaming::renamer::{Renamed, Renaming};
-use wac_terms::parts::Export;
-use wac_types::laws::growth_keeps_trees;
-use wac_types::{
+use wac_collection::{
     AddTypeError, Interface, InterfaceId, ItemKind, Named, Resource, ResourceId, ShapeError, Text,
     Type, Types,
 };
+use wac_renaming::became::Became;
+use wac_renaming::renamer::{Renamed, Renaming};
+use wac_subtyping::laws::growth_keeps_trees;
+use wac_terms::parts::Export;
 use wac_uniting::unions::Unions;
 
 /// Adds an alias of a resource, under a name.

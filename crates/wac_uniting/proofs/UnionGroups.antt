@@ -9,7 +9,7 @@ use Rattle.wac_collection.specs.Collection.{Collection, IsWellFormed, kind_types
 use Rattle.wac_shapes.specs.Kinds.{kind_type}
 use Rattle.wac_shapes.specs.declared.component.ItemKind.{ItemKind}
 use Rattle.wac_shapes.proofs.Names.{same_name-true, same_name-from}
-use Rattle.wac_types.proofs.Unfolding.{before_held}
+use Rattle.wac_subtyping.proofs.Unfolding.{before_held}
 use Rattle.wac_entries.specs.Scopes.{opened, opened_by}
 use Rattle.wac_entries.specs.Opening.{total, count_in}
 use Rattle.wac_entries.specs.declared.scopes.Opener.{Opener}

@@ -10,7 +10,7 @@ use Rattle.wac_collection.specs.Collection.{Collection, IsWellFormed, HasInterfa
 use Rattle.wac_shapes.specs.declared.component.InterfaceId.{InterfaceId}
 use Rattle.wac_shapes.specs.declared.component.ItemKind.{ItemKind}
 use Rattle.wac_shapes.proofs.Names.{same_name-true}
-use Rattle.wac_types.proofs.Unfolding.{all_map}
+use Rattle.wac_subtyping.proofs.Unfolding.{all_map}
 use Rattle.wac_terms.specs.declared.parts.Part.{Part}
 use Rattle.wac_terms.specs.declared.parts.Export.{Export}
 use Rattle.wac_terms.specs.declared.parts.Union.{Union}

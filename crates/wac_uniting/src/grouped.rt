@@ -9,7 +9,7 @@ use indexmap::IndexMap;
 use std::alloc::{AllocError, Global};
 use std::marker::Model;
 use wac_terms::parts::Part;
-use wac_types::{ItemKind, Named, Types};
+use wac_collection::{ItemKind, Named, Types};
 
 /// What interfaces list under each name, in order of first appearance: which of them, and what.
 #[derive(Drop)]

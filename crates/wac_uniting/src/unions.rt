@@ -9,7 +9,7 @@ use crate::grouped::Grouped;
 use std::alloc::{AllocError, Global};
 use wac_entries::bound::own_resource;
 use wac_terms::parts::{Export, Part, Union};
-use wac_types::{InterfaceId, ItemKind, Named, ShapeError, Type, Types};
+use wac_collection::{InterfaceId, ItemKind, Named, ShapeError, Type, Types};
 
 /// Unions, and the parts of all.
 #[derive(Drop)]

@@ -15,9 +15,9 @@ use crate::table::Table;
 use indexmap::IndexSet;
 use std::alloc::{AllocError, Global};
 use std::marker::Model;
+use wac_collection::{DefinedTypeId, InterfaceId, ItemKind, Named, Types};
 use wac_entries::classes::Classes;
 use wac_entries::entry::Entry;
-use wac_types::{DefinedTypeId, InterfaceId, ItemKind, Named, Types};
 
 /// What binds a value type.
 #[derive(Clone, Copy)]

@@ -8,7 +8,7 @@ ghost use Rattle.wac_values.specs.Listings.{has_value};
 
 use indexmap::IndexSet;
 use std::alloc::{AllocError, Global};
-use wac_types::{DefinedTypeId, ItemKind, Named, Type, Types, UsedType, ValueType};
+use wac_collection::{DefinedTypeId, ItemKind, Named, Type, Types, UsedType, ValueType};
 
 /// The value type that an item lists: that of a type item, its aliases followed to the end.
 pub(crate) fn listed_value(types: &Types, kind: ItemKind) -> Option<DefinedTypeId>

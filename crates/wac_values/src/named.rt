@@ -12,10 +12,10 @@ ghost use Rattle.wac_values.specs.NamedTypes.{AreClassed, AreJoined, AreUnited, 
 use crate::listed::listed_value;
 use std::alloc::{AllocError, Global};
 use std::collections::HashMap;
+use wac_collection::{DefinedTypeId, ItemKind, Named, Types};
 use wac_entries::classes::Classes;
 use wac_entries::entry::Entry;
 use wac_terms::parts::{Part, Union};
-use wac_types::{DefinedTypeId, ItemKind, Named, Types};
 
 /// Definitions that stand under names. Those that stand under one name are one named type.
 #[derive(Drop)]

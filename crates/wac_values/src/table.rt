@@ -8,7 +8,7 @@ ghost use Rattle.wac_values.specs.Listings.{Takes, comes_before, found, listing_
 use indexmap::IndexMap;
 use std::alloc::{AllocError, Global};
 use std::marker::Model;
-use wac_types::DefinedTypeId;
+use wac_collection::DefinedTypeId;
 
 /// Where a value type is listed.
 #[derive(Drop)]

@@ -1,7 +1,7 @@
 use Rattle.std.proofs.Common.{◌≡◌, ℕ, ◌-◌, ◌<◌, length, map, drop, false, rules, subst, arith}
 use Rattle.wac_shapes.specs.Name.{Name}
 use Rattle.wac_collection.specs.Tree.{TypeTree, absent}
-use Rattle.wac_types.specs.Called.{Called}
+use Rattle.wac_subtyping.specs.Called.{Called}
 use Rattle.wac_collection.specs.Held.{items_under, item_tree}
 use Rattle.wac_entries.specs.declared.nodes.Item.TheVariants as item
 use Rattle.wac_coding.specs.Coding.{source_tree}

@@ -1,5 +1,5 @@
 use Rattle.std.proofs.Common.{◌≡◌, ◌<◌, length, Some, None, sym, ap, ◌∙◌, subst, arith}
-use Rattle.wac_types.specs.Called.{bound_at}
+use Rattle.wac_subtyping.specs.Called.{bound_at}
 use Rattle.wac_shapes.specs.declared.component.ResourceId.{ResourceId}
 use Rattle.wac_entries.specs.CalledViews.{side_view, path_view}
 use Rattle.wac_entries.specs.Classes.{by_names, is_instance}

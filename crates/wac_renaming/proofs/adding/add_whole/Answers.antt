@@ -4,7 +4,7 @@ use Rattle.std.proofs.lemmas.Bool.{false≢true}
 use Rattle.std.proofs.lemmas.Option.{slice_get_read}
 use Rattle.wac_shapes.specs.Name.{Name, option_case}
 use Rattle.wac_shapes.specs.declared.component.ResourceId.{ResourceId}
-use Rattle.wac_types.specs.Called.{resource_name}
+use Rattle.wac_subtyping.specs.Called.{resource_name}
 use Rattle.wac_terms.specs.Became.{IsNew}
 use Rattle.wac_entries.specs.Bindings.{first_in}
 use Rattle.wac_entries.specs.CalledViews.{path_view}

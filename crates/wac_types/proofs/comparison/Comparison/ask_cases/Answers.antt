@@ -1,7 +1,7 @@
 use Rattle.std.proofs.Common.{arith, map, ◌≢◌}
 use Rattle.wac_collection.specs.Collection.{value_types, case_values}
 use Rattle.wac_collection.specs.Tree.{absent}
-use Rattle.wac_types.specs.Subtype.{type_tree}
+use Rattle.wac_subtyping.specs.Subtype.{type_tree}
 use Rattle.wac_types.specs.Compare.{optional_in, case_in}
 use Rattle.wac_shapes.proofs.Names.{ne-true, ne-false}
 use Rattle.wac_types.proofs.Values.{asks_of}

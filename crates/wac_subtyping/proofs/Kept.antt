@@ -22,11 +22,11 @@ use Rattle.wac_shapes.specs.Kinds.{kind_type}
 use Rattle.wac_collection.specs.Tree.{Side, imported, exported, Place, Leaf, named, further_out, TypeTree, absent, own, borrow, resource, instance, component}
 use Rattle.wac_collection.specs.Held.{Naming, Names, Unfolding, items_under, item_tree, of_held, step, unfolded_to, unfolded, source_of, resolved, resolved_in}
 use Rattle.wac_collection.specs.Bound.{Bindings, by_place, held_tree, lists_own, own_name, is_alias, bound_by, bound_in_order, first_bound, lists_type, binds_here, is_here}
-use Rattle.wac_types.specs.Subtype.{by_name, resource_names, held_name, type_tree}
-use Rattle.wac_types.specs.Called.{Called, bound_at, or_around, by_binding, resource_name, one_out}
-use Rattle.wac_types.specs.TreeLaws.{IsKeptBy, KeepsTrees, GrowthKeepsTrees, KeepsCalledTrees, GrowthKeepsCalledTrees}
-use Rattle.wac_types.proofs.Unfolding.{all_map, all_left, all_right, type_before, before_more, values_all, func_same, defined_same, item_same}
-use Rattle.wac_types.proofs.Sorts.{resolved_there}
+use Rattle.wac_subtyping.specs.Subtype.{by_name, resource_names, held_name, type_tree}
+use Rattle.wac_subtyping.specs.Called.{Called, bound_at, or_around, by_binding, resource_name, one_out}
+use Rattle.wac_subtyping.specs.TreeLaws.{IsKeptBy, KeepsTrees, GrowthKeepsTrees, KeepsCalledTrees, GrowthKeepsCalledTrees}
+use Rattle.wac_subtyping.proofs.Unfolding.{all_map, all_left, all_right, type_before, before_more, values_all, func_same, defined_same, item_same}
+use Rattle.wac_subtyping.proofs.Resolved.{resolved_there}
 
 -- how many items of a list were added before the n-th
 early : {A : Type 0} → ℕ → List (Held A) → ℕ

@@ -10,11 +10,14 @@ use Rattle.wac_shapes.specs.declared.component.«Type».TheVariants as ty
 use Rattle.wac_collection.specs.Collection.{Collection, size, IsWellFormed, item_at}
 use Rattle.wac_collection.specs.Held.{Naming, Names, of_held, defined_tree, unfolded}
 use Rattle.wac_collection.specs.Bound.{by_place, held_tree}
-use Rattle.wac_types.specs.Subtype.{by_name, resource_names, type_tree}
+use Rattle.wac_subtyping.specs.Subtype.{by_name, resource_names, type_tree}
 use Rattle.wac_collection.specs.Aliases.{aliased, target_of}
-use Rattle.wac_types.specs.TreeLaws.{IsDeepEnough, AliasesAgree}
-use Rattle.wac_types.proofs.Unfolding.{type_before, before_more, unfold_same, unfolded_step, held_item, within}
-use Rattle.wac_types.proofs.Answering.{aliased_is}
+use Rattle.wac_subtyping.specs.TreeLaws.{IsDeepEnough, AliasesAgree}
+use Rattle.wac_subtyping.proofs.Unfolding.{type_before, before_more, unfold_same, unfolded_step, held_item, within}
+
+pub aliased_is : (x : DefinedType) (a : ValueType) → aliased x ≡ Some a → x ≡ def.Alias a
+aliased_is (def.Alias v) a e = let s : v ≡ a = cc in ap def.Alias s
+aliased_is _ a e = cc
 
 pub deep_enough : {L : Type 0} (naming : Naming L) (c : Collection) → IsWellFormed c → IsDeepEnough naming c
 deep_enough naming c wf zero lt m t h = absurd (omega (arith, lt))

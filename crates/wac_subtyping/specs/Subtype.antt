@@ -1,10 +1,10 @@
 -- Subtyping, of types without ids, by its rules.
-use Rattle.std.specs.Prelude.{ℕ, ◌≡◌, ◌≢◌, ◌≤◌, false, Option, Some, None, slice_get}
+use Rattle.std.specs.Prelude.{ℕ, ◌≡◌, ◌≢◌, ◌≤◌, false, List, map, Option, Some, None, slice_get}
 use Rattle.wac_shapes.specs.Name.{Name}
 use Rattle.wac_shapes.specs.Core.{CoreItem, no_item, core_table, core_memory}
 use Rattle.wac_collection.specs.Tree.{TypeTree, absent, instance, component, module_of, type_equal, instance_item, component_item, module_item}
 use Rattle.wac_collection.specs.Collection.{Collection}
-use Rattle.wac_collection.specs.Held.{Naming, Names, unfolded, item_tree}
+use Rattle.wac_collection.specs.Held.{Naming, Names, unfolded, item_tree, items_under}
 use Rattle.wac_collection.specs.declared.collection.Held.{Held}
 use Rattle.wac_shapes.specs.declared.component.Resource.{Resource}
 use Rattle.wac_shapes.specs.declared.component.«Type».{«Type» as AnyType}
@@ -67,6 +67,10 @@ type_tree c t = unfolded by_name c (resource_names c) t
 -- the tree of an item of a held type
 abbrev pub kind_tree : Collection → ItemKind → TypeTree Name
 kind_tree c k = item_tree (type_tree c) false k
+
+-- the trees of listed items, under their names
+abbrev pub listed_in : Collection → List (Name × ItemKind) → Name → TypeTree Name
+listed_in c es = items_under (map (λ e. (e.0, kind_tree c e.1)) es)
 
 -- an item of one collection is a subtype of an item of another
 abbrev pub IsSubtype : Collection → ItemKind → Collection → ItemKind → Type 0

@@ -3,8 +3,22 @@ use Rattle.std.proofs.Common.{ℕ, ◌≡◌, ◌≢◌, refl, sym, ◌∙◌, s
 use Rattle.wac_shapes.specs.Name.{Name}
 use Rattle.wac_shapes.specs.Core.{CoreItem, no_item, core_function, core_table, core_memory, core_global, core_tag}
 use Rattle.wac_collection.specs.Tree.{TypeTree, absent, instance, component, module_of, type_equal, instance_item, component_item, module_item}
-use Rattle.wac_types.specs.Subtype.{Sub, IsPlain, IsCoreSubtype, IsMaximumWithin}
-use Rattle.wac_types.proofs.Values.{plain_sub}
+use Rattle.wac_subtyping.specs.Subtype.{Sub, IsPlain, IsCoreSubtype, IsMaximumWithin}
+
+module _ {L : Type 0} where
+  -- what is plain is a subtype of its equal alone
+  pub plain_sub : (a b : TypeTree L) → IsPlain a → Sub a b → a ≡ b
+  plain_sub a b p (Sub.same _ q) = refl
+  plain_sub a b p (Sub.instances _ _ f) = absurd p
+  plain_sub a b p (Sub.components _ _ _ _ f g) = absurd p
+  plain_sub a b p (Sub.modules _ _ _ _ f g) = absurd p
+  plain_sub a b p (Sub.type_items _ _ s t) = absurd p
+  plain_sub a b p (Sub.instance_items _ _ s) = absurd p
+  plain_sub a b p (Sub.component_items _ _ s) = absurd p
+  plain_sub a b p (Sub.module_items _ _ s) = absurd p
+
+  pub plain_same : (a b : TypeTree L) → IsPlain a → a ≡ b → Sub a b
+  plain_same a b p e = let P : TypeTree L → Type 0 = λ x. Sub a x in subst P e (Sub.same a p)
 
 maximum_refl : (m : Option ℕ) → IsMaximumWithin m m
 maximum_refl None = tt

@@ -3,9 +3,9 @@ use Rattle.std.specs.Prelude.{ℕ, ◌≡◌, ◌<◌, true, Some, slice_get}
 use Rattle.wac_collection.specs.Collection.{Collection, size, holds_type, with_resource, with_func, with_defined, with_interface, with_world, with_module}
 use Rattle.wac_collection.specs.Held.{Naming, Names, unfolded, unfolded_to}
 use Rattle.wac_collection.specs.Bound.{Bindings, held_tree}
-use Rattle.wac_types.specs.Subtype.{type_tree}
+use Rattle.wac_subtyping.specs.Subtype.{type_tree}
 use Rattle.wac_collection.specs.Aliases.{target_of}
-use Rattle.wac_types.specs.Called.{Called, by_binding}
+use Rattle.wac_subtyping.specs.Called.{Called, by_binding}
 use Rattle.wac_collection.specs.declared.collection.Held.{Held}
 use Rattle.wac_shapes.specs.declared.component.Resource.{Resource}
 use Rattle.wac_shapes.specs.declared.component.FuncType.{FuncType}

@@ -1,0 +1,5 @@
+pub mod Unfolding
+pub mod Resolved
+pub mod Relation
+pub mod Trees
+pub mod Kept

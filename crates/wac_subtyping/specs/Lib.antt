@@ -1,0 +1,4 @@
+pub mod Called
+pub mod Subtype
+pub mod Ranks
+pub mod TreeLaws

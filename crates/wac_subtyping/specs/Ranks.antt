@@ -1,0 +1,28 @@
+-- How early a held type was added.
+use Rattle.std.specs.Prelude.{ℕ, suc, Option, Some, None, slice_get}
+use Rattle.wac_shapes.specs.declared.component.ValueType.{ValueType}
+use Rattle.wac_shapes.specs.declared.component.ValueType.TheVariants as val
+use Rattle.wac_shapes.specs.declared.component.«Type».{«Type» as AnyType}
+use Rattle.wac_shapes.specs.declared.component.«Type».TheVariants as ty
+use Rattle.wac_collection.specs.declared.collection.Held.{Held}
+use Rattle.wac_collection.specs.Collection.{Collection}
+
+-- how many items there were up to the one that an id names, and that one
+abbrev pub rank_of_held : {A : Type 0} → Option (Held A) → ℕ
+rank_of_held None = 0
+rank_of_held (Some h) = suc h.before
+
+-- how many items of any sort were added up to the one that a type names, and that one
+abbrev pub value_rank : Collection → ValueType → ℕ
+value_rank c (val.Primitive p) = 0
+value_rank c (val.Own r) = rank_of_held (slice_get c.resources r.0)
+value_rank c (val.Borrow r) = rank_of_held (slice_get c.resources r.0)
+value_rank c (val.Defined d) = rank_of_held (slice_get c.defined d.0)
+
+abbrev pub type_rank : Collection → AnyType → ℕ
+type_rank c (ty.Resource r) = rank_of_held (slice_get c.resources r.0)
+type_rank c (ty.Func f) = rank_of_held (slice_get c.funcs f.0)
+type_rank c (ty.Value v) = value_rank c v
+type_rank c (ty.Interface i) = rank_of_held (slice_get c.interfaces i.0)
+type_rank c (ty.World w) = rank_of_held (slice_get c.worlds w.0)
+type_rank c (ty.Module m) = rank_of_held (slice_get c.modules m.0)
