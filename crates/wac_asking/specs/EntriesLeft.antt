@@ -18,7 +18,7 @@ use Rattle.wac_asking.specs.declared.asked.AskedEntry.{AskedEntry}
 use Rattle.wac_asking.specs.declared.asked.Asking.{Asking}
 use Rattle.wac_asking.specs.declared.asked.Task.{Task}
 use Rattle.wac_asking.specs.declared.asked.Task.TheVariants.{Open, Close}
-use Rattle.wac_nodes.specs.declared.node.NodeId.{NodeId}
+use Rattle.wac_edges.specs.declared.node.NodeId.{NodeId}
 use Rattle.wac_nodes.specs.Graph.{Graph, node_at}
 use Rattle.wac_asking.specs.ImportsLeft.{node_left}
 use Rattle.wac_nodes.specs.Asked.{Entry, asked_by, imported_by}

@@ -3,8 +3,9 @@ use Rattle.std.specs.Prelude.{ℕ, zero, suc, ◌+◌, ◌-◌, Bool, if◌then�
 use Rattle.std.specs.List.{flat_map, range_with_len}
 use Rattle.wac_shapes.specs.Name.{Name}
 use Rattle.wac_shapes.specs.declared.component.ItemKind.{ItemKind}
-use Rattle.wac_nodes.specs.declared.node.NodeId.{NodeId}
-use Rattle.wac_nodes.specs.Graph.{Graph, GraphNode, Kind, instantiation, node_at, imports_of, node_number}
+use Rattle.wac_edges.specs.declared.node.NodeId.{NodeId}
+use Rattle.wac_edges.specs.Edge.{node_number}
+use Rattle.wac_nodes.specs.Graph.{Graph, GraphNode, Kind, instantiation, node_at, imports_of}
 use Rattle.wac_nodes.specs.Asked.{is_satisfied}
 use Rattle.wac_nodes.specs.Imports.{unset_rows, node_rows}
 

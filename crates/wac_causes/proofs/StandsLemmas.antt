@@ -7,7 +7,7 @@ use Rattle.wac_entries.specs.Classes.{by_names}
 use Rattle.wac_agreement.specs.Faults.{HasNoCircle}
 use Rattle.wac_terms.specs.NoDisagreement.{HasNoDisagreement}
 use Rattle.wac_nodes.specs.declared.options.EncodeOptions.{EncodeOptions}
-use Rattle.wac_nodes.specs.declared.node.NodeId.{NodeId}
+use Rattle.wac_edges.specs.declared.node.NodeId.{NodeId}
 use Rattle.wac_nodes.specs.Graph.{Graph}
 use Rattle.wac_edges.specs.Order.{IsAcyclic, IsLowestOnCycle}
 use Rattle.wac_nodes.specs.Entries.{asked_entries, to_merge}
@@ -37,8 +37,8 @@ module _ (g : Graph) (o : EncodeOptions) where
   none_below k acyclic apart agree circles a_circle less h = circles less h.0 h.1
   none_below k acyclic apart agree circles unwritten less h = last_kind k less
 
-  pub stands_cycle : (node : NodeId) → IsLowestOnCycle g.edges node.0 → Stands g o (cycle node)
-  stands_cycle node lowest = (((node.0, lowest.here), none_below a_cycle (λ h. absurd (omega (arith, h))) (λ h. absurd (omega (arith, h))) (λ h. absurd (omega (arith, h))) (λ h. absurd (omega (arith, h)))), lowest)
+  pub stands_cycle : (node : NodeId) → IsLowestOnCycle g.edges node → Stands g o (cycle node)
+  stands_cycle node lowest = (((node, lowest.here), none_below a_cycle (λ h. absurd (omega (arith, h))) (λ h. absurd (omega (arith, h))) (λ h. absurd (omega (arith, h))) (λ h. absurd (omega (arith, h)))), lowest)
 
   pub stands_conflict : (import instantiation : NodeId) (key : Key) (name : Name) → IsAcyclic g.edges → IsFirstConflict g import instantiation key name → Stands g o (conflict import instantiation key name)
   stands_conflict import instantiation key name acyclic first =
@@ -60,7 +60,7 @@ module _ (g : Graph) (o : EncodeOptions) where
 
   -- the same, in a line for each cause
   abbrev StandsAlone : Cause → Type 0
-  StandsAlone (cycle node) = IsLowestOnCycle g.edges node.0
+  StandsAlone (cycle node) = IsLowestOnCycle g.edges node
   StandsAlone (conflict import instantiation key name) = IsAcyclic g.edges × IsFirstConflict g import instantiation key name
   StandsAlone (implicit_merge import first second p q export) = IsAcyclic g.edges × HasNoConflict g × IsImplicitMerge g import first second p q export
   StandsAlone (explicit_merge import node other) = IsAcyclic g.edges × HasNoConflict g × IsExplicitMerge g import node other

@@ -13,7 +13,7 @@ use Rattle.wac_agreement.specs.declared.fault.MergeFault.TheVariants as merge
 use Rattle.wac_nodes.specs.declared.options.EncodeOptions.{EncodeOptions}
 use Rattle.wac_causes.specs.declared.errors.EncodeError.{EncodeError}
 use Rattle.wac_causes.specs.declared.errors.EncodeError.TheVariants as error
-use Rattle.wac_nodes.specs.declared.node.NodeId.{NodeId}
+use Rattle.wac_edges.specs.declared.node.NodeId.{NodeId}
 use Rattle.wac_nodes.specs.Graph as graph
 use Rattle.wac_nodes.specs.Graph.{Graph, GraphNode, node_at, imports_of, package_of, IsUnsatisfied, IsImportOf}
 use Rattle.wac_edges.specs.Order.{IsOnCycle, IsLowestOnCycle}
@@ -125,7 +125,7 @@ rank unwritten = 4
 
 -- a cause of this kind is there
 abbrev pub Occurs : Graph → EncodeOptions → CauseKind → Type 0
-Occurs g o a_cycle = (n : ℕ) × IsOnCycle g.edges n
+Occurs g o a_cycle = (n : NodeId) × IsOnCycle g.edges n
 Occurs g o a_conflict = (import : NodeId) × (instantiation : NodeId) × (position : ℕ) × (name : Name) × IsConflict g import instantiation position name
 Occurs g o a_disagreement = (first : ℕ) × (second : ℕ) × IsDisagreement by_names g.types (to_merge (asked_entries g)) first second
 Occurs g o a_circle = (class : ℕ) × IsOnCircle by_names g.types (to_merge (asked_entries g)) class
@@ -137,7 +137,7 @@ IsFirstKind g o kind = Occurs g o kind × ((below : CauseKind) → rank below < 
 
 -- of the causes of its kind this is the one that is named: the lowest node on a cycle, the first conflict, the first entry that disagrees ..
 abbrev pub IsNamed : Graph → Cause → Type 0
-IsNamed g (cycle node) = IsLowestOnCycle g.edges node.0
+IsNamed g (cycle node) = IsLowestOnCycle g.edges node
 IsNamed g (conflict import instantiation key name) = IsFirstConflict g import instantiation key name
 IsNamed g (implicit_merge import first second p q export) = IsImplicitMerge g import first second p q export
 IsNamed g (explicit_merge import node other) = IsExplicitMerge g import node other

@@ -3,7 +3,8 @@ use Rattle.std.specs.Prelude.{ℕ, ◌≡◌, ◌<◌, false, Some, IsSome, leng
 use Rattle.wac_nodes.specs.declared.options.EncodeOptions.{EncodeOptions}
 use Rattle.wac_shapes.specs.Name.{Name}
 use Rattle.wac_nodes.specs.Graph as graph
-use Rattle.wac_nodes.specs.Graph.{Graph, GraphNode, node_at, imports_of, IsSatisfied, IsUnsatisfied, node_number}
+use Rattle.wac_edges.specs.Edge.{node_number}
+use Rattle.wac_nodes.specs.Graph.{Graph, GraphNode, node_at, imports_of, IsSatisfied, IsUnsatisfied}
 
 -- the node is an instantiation of which every argument is set, or an alias, and has no name
 pub record IsWritable (g : Graph) (n : ℕ) (node : GraphNode) : Type 0 where

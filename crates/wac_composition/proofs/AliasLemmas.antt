@@ -18,11 +18,12 @@ use Rattle.wac_shapes.specs.declared.component.InterfaceId.{InterfaceId}
 use Rattle.wac_shapes.specs.declared.component.ItemKind.{ItemKind}
 use Rattle.wac_shapes.specs.declared.component.ItemKind.TheVariants as item
 use Rattle.wac_nodes.specs.declared.node.Node.{Node}
-use Rattle.wac_nodes.specs.declared.node.NodeId.{NodeId}
+use Rattle.wac_edges.specs.declared.node.NodeId.{NodeId}
 use Rattle.wac_nodes.specs.declared.errors.AliasError.{AliasError}
 use Rattle.wac_nodes.specs.declared.errors.AliasError.TheVariants.{NodeIsNotAnInstance, InstanceMissingExport}
 use Rattle.wac_composition.specs.declared.graph.CompositionGraph.TheInside.{Inside}
 use Rattle.wac_edges.specs.Edge.{edge_cmp, alias_edge}
+use Rattle.wac_edges.specs.Edge.{node_number}
 use Rattle.wac_nodes.specs.Graph.{Graph, node_at, interface_of, exports_of}
 use Rattle.wac_nodes.specs.Nodes.{node_of, nodes_of, satisfied}
 use Rattle.wac_composition.specs.Inside.{graph_of, Invariant}
@@ -63,14 +64,14 @@ missing a id n i it name text had is at none written =
     aliases_at a id n name (Err (InstanceMissingExport id text)) (graph_of a) had (refl, refl, written, is_instance n i is, export_is a n i it name None is at none)
 
 pub already : (a : Inside) (id : NodeId) (n : Node) (i : InterfaceId) (it : Interface) (position alias : ℕ) (kind : ItemKind) (name : Name) → get a.nodes id.0 ≡ Some n → n.item_kind ≡ item.Instance i → item_at (a.types).interfaces i.0 ≡ Some it → Some (position, kind) ≡ named_at 0 name it.exports
-    → set.contains a.edges (alias_edge id.0 alias position) ≡ true → Aliases (graph_of a) id name (Ok (record { 0 = alias })) (graph_of a)
+    → set.contains a.edges (alias_edge id (node_number alias) position) ≡ true → Aliases (graph_of a) id name (Ok (record { 0 = alias })) (graph_of a)
 already a id n i it position alias kind name had is at found stands =
     let there : AliasesOf (graph_of a) id (node_of n) name (Ok (record { 0 = alias })) (graph_of a) = rw (export_is a n i it name (Some (position, kind)) is at found) (is_instance n i is, inl (stands, refl)) in
     aliases_at a id n name (Ok (record { 0 = alias })) (graph_of a) had there
 
 -- the alias that stands is a node
-pub alias_stands : (a : Inside) → Invariant a → (instance alias position : ℕ) → set.contains a.edges (alias_edge instance alias position) ≡ true → IsSome (node_at (graph_of a) (record { 0 = alias }))
-alias_stands a v instance alias position stands = ((v.sound).ends (alias_edge instance alias position) stands).1
+pub alias_stands : (a : Inside) → Invariant a → (instance alias position : ℕ) → set.contains a.edges (alias_edge (node_number instance) (node_number alias) position) ≡ true → IsSome (node_at (graph_of a) (record { 0 = alias }))
+alias_stands a v instance alias position stands = ((v.sound).ends (alias_edge (node_number instance) (node_number alias) position) stands).1
 
 -- and so is a new one
 pub alias_made : (a : Inside) (nodes : Slab Node) (edges : set.FinSet edge_cmp) (number : ℕ) (node : Node) → Updates a.nodes nodes number (Some node) → IsSome (node_at (graph_of (record a { nodes = nodes; edges = edges })) (record { 0 = number }))
@@ -91,14 +92,14 @@ vacant_before a reserved number same vacant = ap (λ ss. get_or ss number None) 
 
 pub aliased : (a : Inside) (id : NodeId) (n : Node) (i : InterfaceId) (it : Interface) (position number : ℕ) (kind : ItemKind) (name : Name) (nodes : Slab Node) (edges : set.FinSet edge_cmp) (node : Node)
     → get a.nodes id.0 ≡ Some n → n.item_kind ≡ item.Instance i → item_at (a.types).interfaces i.0 ≡ Some it → Some (position, kind) ≡ named_at 0 name it.exports
-    → ((t : ℕ) → set.contains a.edges (alias_edge id.0 t position) ≡ false)
-    → number ≡ a.nodes.vacant_key → get a.nodes number ≡ None → Updates a.nodes nodes number (Some node) → edges ≡ set.insert a.edges (alias_edge id.0 number position) → node_of node ≡ alias_node (node_of n) kind
+    → ((t : NodeId) → set.contains a.edges (alias_edge id t position) ≡ false)
+    → number ≡ a.nodes.vacant_key → get a.nodes number ≡ None → Updates a.nodes nodes number (Some node) → edges ≡ set.insert a.edges (alias_edge id (node_number number) position) → node_of node ≡ alias_node (node_of n) kind
     → Aliases (graph_of a) id name (Ok (record { 0 = number })) (graph_of (record a { nodes = nodes; edges = edges }))
 aliased a id n i it position number kind name nodes edges node had is at found none next vacant u added shape =
     let shown : nodes_of nodes.slots ≡ _ = nodes_of-insert a.nodes nodes number node u in
     let gives : GivesAlias (graph_of a) id (node_of n) position kind (record { 0 = number }) (graph_of (record a { nodes = nodes; edges = edges })) =
     inr (
-      λ other stands. absurd (false_is_not_true (sym (none other.0) ∙ stands)),
+      λ other stands. absurd (false_is_not_true (sym (none other) ∙ stands)),
       next,
       get-nodes_of a.nodes.slots number ∙ ap (option_map node_of) vacant,
       λ j. record (graph_of a) { nodes = (shown ∙ ap (Rattle.std.specs.FinMap.insert (nodes_of a.nodes.slots) number) shape) j; edges = added j; next = nodes.vacant_key },
@@ -122,15 +123,15 @@ found_entry name k position kind (e ∷ es) h = split (same_name name e.0) h (fo
 -- what the fields keep when an alias is made
 pub invariant_aliased : (a : Inside) → Invariant a → IsWellFormed a.types → (id : NodeId) (n : Node) (i : InterfaceId) (it : Interface) (position number : ℕ) (kind : ItemKind) (name : Name) (nodes : Slab Node) (edges : set.FinSet edge_cmp) (node : Node)
     → get a.nodes id.0 ≡ Some n → n.item_kind ≡ item.Instance i → item_at (a.types).interfaces i.0 ≡ Some it → Some (position, kind) ≡ named_at 0 name it.exports
-    → ((t : ℕ) → set.contains a.edges (alias_edge id.0 t position) ≡ false)
-    → get a.nodes number ≡ None → Updates a.nodes nodes number (Some node) → ((j : ℕ) → satisfied node.kind j ≡ false) → edges ≡ set.insert a.edges (alias_edge id.0 number position) → node_of node ≡ alias_node (node_of n) kind
+    → ((t : NodeId) → set.contains a.edges (alias_edge id t position) ≡ false)
+    → get a.nodes number ≡ None → Updates a.nodes nodes number (Some node) → ((j : ℕ) → satisfied node.kind j ≡ false) → edges ≡ set.insert a.edges (alias_edge id (node_number number) position) → node_of node ≡ alias_node (node_of n) kind
     → Invariant (record a { nodes = nodes; edges = edges })
 invariant_aliased a v w id n i it position number kind name nodes edges node had is at found none vacant u bare added shape =
     let (e, j, place, there, same) = found_entry name 0 position kind it.exports found in
     let here : slice_get it.exports position ≡ Some e = let z : position ≡ j = omega (arith, place) in ap (slice_get it.exports) z ∙ there in
     let exported : slice_get (exports_of (graph_of a) (node_of n)) position ≡ Some (e.0, kind) = ap (λ es. slice_get es position) (exports_are a n i it is at) ∙ here ∙ ap (λ (k : ItemKind). Some (e.0, k)) same in
     let held : holds_type a.types (kind_type kind) ≡ true = ap (λ k. holds_type a.types (kind_type k)) (sym same) ∙ exports_held a.types w i.0 it at position e here in
-    invariant_alias a v nodes number node vacant u bare edges id (node_of n) position e.0 kind shape (get-nodes_of a.nodes.slots id.0 ∙ ap (option_map node_of) had) exported held (λ other stands. absurd (false_is_not_true (sym (none other.0) ∙ stands))) added where
+    invariant_alias a v nodes number node vacant u bare edges id (node_of n) position e.0 kind shape (get-nodes_of a.nodes.slots id.0 ∙ ap (option_map node_of) had) exported held (λ other stands. absurd (false_is_not_true (sym (none other) ∙ stands))) added where
       false_is_not_true : false ≡ true → ⊥
       false_is_not_true h = cc
 

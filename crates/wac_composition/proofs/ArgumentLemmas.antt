@@ -19,7 +19,7 @@ use Rattle.wac_shapes.specs.declared.component.World.{World}
 use Rattle.wac_shapes.specs.declared.component.ItemKind.{ItemKind}
 use Rattle.wac_types.specs.declared.checker.TypeFault.TheVariants.{Mismatch}
 use Rattle.wac_nodes.specs.declared.node.Node.{Node}
-use Rattle.wac_nodes.specs.declared.node.NodeId.{NodeId}
+use Rattle.wac_edges.specs.declared.node.NodeId.{NodeId}
 use Rattle.wac_nodes.specs.declared.node.NodeKind.{NodeKind}
 use Rattle.wac_nodes.specs.declared.node.NodeKind.TheVariants as code
 use Rattle.wac_nodes.specs.declared.packages.PackageId.{PackageId}
@@ -163,11 +163,11 @@ import_there g id name position kind import = split (node_at g id) import where
   split (Some x) _ = refl
 
 -- where the edge is taken away, the argument is unset
-pub unset : (g : Graph) (id argument : NodeId) (name : Name) (position : ℕ) (kind : ItemKind) (new : Graph) → HasImport g id name position kind → new ≡ record g { edges = set.remove g.edges (argument_edge argument.0 id.0 position) } → UnsetsArgument g id name argument (Ok tt) new
+pub unset : (g : Graph) (id argument : NodeId) (name : Name) (position : ℕ) (kind : ItemKind) (new : Graph) → HasImport g id name position kind → new ≡ record g { edges = set.remove g.edges (argument_edge argument id position) } → UnsetsArgument g id name argument (Ok tt) new
 unset g id argument name position kind new import is = split (node_at g id) import where
   split : (o : Option GraphNode) → IsSomeAnd o (λ m. (m.kind ≡ graph.instantiation) × (import_named g m name ≡ Some (position, kind))) → IfSome o (λ n. UnsetsOn g id n name argument (Ok tt) new)
   split None h = absurd h
-  split (Some m) h = (h.0, subst (λ x. IsSomeAnd x (λ e. new ≡ record g { edges = set.remove g.edges (argument_edge argument.0 id.0 e.0) })) (sym h.1) is)
+  split (Some m) h = (h.0, subst (λ x. IsSomeAnd x (λ e. new ≡ record g { edges = set.remove g.edges (argument_edge argument id e.0) })) (sym h.1) is)
 
 -- what a `?` hands on
 pub handed_on : (g : Graph) (id : NodeId) (name : Name) (argument : NodeId) (r : Result (Unit {0}) InstantiationArgumentError) (e : InstantiationArgumentError) → IsErrAnd r (λ y. y ≡ e) → UnsetsArgument g id name argument (Err e) g → UnsetsArgument g id name argument r g
@@ -196,11 +196,11 @@ module _ (a : Inside) (v : Invariant a) (id : NodeId) (n : Node) (s : BTreeSet �
         refl,
         written,
         ap kind_of is,
-        rw named (other, (let (source, stands) = v.edged id.0 position (marked_at true marked) in (record { 0 = source }, stands))),
+        rw named (other, v.edged id position (marked_at true marked)),
       ))
 
   unsatisfied : positions.contains nat_cmp s position ≡ false → IsUnsatisfied (graph_of a) id position
-  unsatisfied unmarked source stands = clash (satisfied_at (get a.nodes id.0) position) (v.marked source.0 id.0 position stands) (marked_at false unmarked)
+  unsatisfied unmarked source stands = clash (satisfied_at (get a.nodes id.0) position) (v.marked source id position stands) (marked_at false unmarked)
 
   pub mismatch : (argument : NodeId) (m : Node) (text : String Global) → string_bytes text ≡ name → positions.contains nat_cmp s position ≡ false → get a.nodes argument.0 ≡ Some m → (IsSubtype a.types m.item_kind a.types kind → ⊥) → SetsArgument (graph_of a) id name argument (Err (ArgumentTypeMismatch text Mismatch)) (graph_of a)
   mismatch argument m text written unmarked given differ =
@@ -263,5 +263,5 @@ pub given_instantiation : (g : Graph) (id argument : NodeId) (position : ℕ) �
 given_instantiation g id argument position can = subst (λ o. IsSomeAnd o (λ n. n.kind ≡ graph.instantiation)) (sym can.here) can.joins.0
 
 -- its edge does not stand
-pub unset_edge : (a : Inside) (id argument : NodeId) (position : ℕ) → CanBeGiven (graph_of a) id position argument → set.contains a.edges (argument_edge argument.0 id.0 position) ≡ false
-unset_edge a id argument position can = absent_edge (set.contains a.edges (argument_edge argument.0 id.0 position)) (can.unset argument)
+pub unset_edge : (a : Inside) (id argument : NodeId) (position : ℕ) → CanBeGiven (graph_of a) id position argument → set.contains a.edges (argument_edge argument id position) ≡ false
+unset_edge a id argument position can = absent_edge (set.contains a.edges (argument_edge argument id position)) (can.unset argument)

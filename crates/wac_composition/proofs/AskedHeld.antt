@@ -13,7 +13,8 @@ use Rattle.wac_shapes.specs.declared.component.InterfaceId.{InterfaceId}
 use Rattle.wac_shapes.specs.declared.component.ItemKind.{ItemKind}
 use Rattle.wac_shapes.specs.declared.component.ItemKind.TheVariants as kind
 use Rattle.wac_nodes.specs.Graph as graph
-use Rattle.wac_nodes.specs.Graph.{Graph, GraphNode, Kind, node_at, node_number}
+use Rattle.wac_edges.specs.Edge.{node_number}
+use Rattle.wac_nodes.specs.Graph.{Graph, GraphNode, Kind, node_at}
 use Rattle.wac_nodes.specs.Asked.{Entry, asked_by, imported_by, asked}
 use Rattle.wac_nodes.specs.Sound.{IsSound}
 use Rattle.wac_causes.specs.Cause.{AsksImplicitly, AsksExplicitly}

@@ -8,9 +8,10 @@ use Rattle.wac_shapes.specs.declared.component.ItemKind.{ItemKind}
 use Rattle.wac_nodes.specs.declared.options.EncodeOptions.{EncodeOptions}
 use Rattle.wac_causes.specs.declared.errors.EncodeError.{EncodeError}
 use Rattle.wac_causes.specs.declared.errors.EncodeError.TheVariants as error
-use Rattle.wac_nodes.specs.declared.node.NodeId.{NodeId}
+use Rattle.wac_edges.specs.declared.node.NodeId.{NodeId}
 use Rattle.wac_nodes.specs.Graph as graph
-use Rattle.wac_nodes.specs.Graph.{Graph, GraphNode, node_at, imports_of, package_of, IsImportOf, node_number}
+use Rattle.wac_edges.specs.Edge.{node_number}
+use Rattle.wac_nodes.specs.Graph.{Graph, GraphNode, node_at, imports_of, package_of, IsImportOf}
 use Rattle.wac_nodes.specs.Sound.{IsSound}
 use Rattle.wac_edges.specs.Order.{IsAcyclic, IsLowestOnCycle}
 use Rattle.wac_causes.specs.NotYet.{IsNotYet, AllWritable}
@@ -184,8 +185,8 @@ none_stands g o acyclic apart merges all define cause s = none_there g o acyclic
 pub at_not_yet : (g : Graph) (o : EncodeOptions) → IsAcyclic g.edges → HasNoConflict g → HasMerge g → IsNotYet g o → IsRefused g o error.NotYet
 at_not_yet g o acyclic apart merges here = inr (not_yet, refl, stands_not_yet g o acyclic apart merges here)
 
-pub at_cycle : (g : Graph) (n : ℕ) → IsLowestOnCycle g.edges n → (o : EncodeOptions) → IsRefused g o (error.GraphContainsCycle (node_number n))
-at_cycle g n lowest o = inr (cycle (node_number n), refl, stands_cycle g o (node_number n) lowest)
+pub at_cycle : (g : Graph) (n : NodeId) → IsLowestOnCycle g.edges n → (o : EncodeOptions) → IsRefused g o (error.GraphContainsCycle n)
+at_cycle g n lowest o = inr (cycle n, refl, stands_cycle g o n lowest)
 
 -- what a `?` hands on
 pub exit_cause : {A E : Type 0} (P : E → Type 0) (r : Result A E) (e : E) → IsErrAnd r (λ y. y ≡ e) → P e → IfErr r P

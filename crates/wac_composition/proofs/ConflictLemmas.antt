@@ -14,11 +14,12 @@ use Rattle.wac_shapes.specs.declared.component.ItemKind.{ItemKind}
 use Rattle.wac_causes.specs.declared.errors.EncodeError.{EncodeError}
 use Rattle.wac_nodes.specs.declared.options.EncodeOptions.{EncodeOptions}
 use Rattle.wac_nodes.specs.declared.node.Node.{Node}
-use Rattle.wac_nodes.specs.declared.node.NodeId.{NodeId}
+use Rattle.wac_edges.specs.declared.node.NodeId.{NodeId}
 use Rattle.wac_nodes.specs.declared.node.NodeKind.TheVariants as code
 use Rattle.wac_composition.specs.declared.graph.CompositionGraph.TheInside.{Inside}
 use Rattle.wac_nodes.specs.Graph as graph
-use Rattle.wac_nodes.specs.Graph.{Graph, GraphNode, node_at, package_at, package_of, imports_of, node_number}
+use Rattle.wac_edges.specs.Edge.{node_number}
+use Rattle.wac_nodes.specs.Graph.{Graph, GraphNode, node_at, package_at, package_of, imports_of}
 use Rattle.wac_nodes.specs.Nodes.{node_of, kind_of, names_of, satisfied, satisfied_at}
 use Rattle.wac_composition.specs.Inside.{graph_of, Invariant}
 use Rattle.wac_edges.specs.Order.{IsAcyclic}
@@ -77,7 +78,7 @@ module _ (a : Inside) (v : Invariant a) (n : ℕ) (node : Node) (had : get a.nod
       there = node_is a n (Some node) had;
       instantiated = ap kind_of is;
       asked = c.asked;
-      unset = λ source stands. clash (satisfied_at (get a.nodes n) i) (v.marked source.0 n i stands) (marked i false c.unset);
+      unset = λ source stands. clash (satisfied_at (get a.nodes n) i) (v.marked source (node_number n) i stands) (marked i false c.unset);
       imported = v.importing c.name import c.imported;
     } where
       clash : (b : Bool) → b ≡ true → b ≡ false → ⊥
@@ -97,7 +98,7 @@ module _ (a : Inside) (v : Invariant a) (n : ℕ) (node : Node) (had : get a.nod
 
       gap : (b : Bool) → positions.contains nat_cmp s i ≡ b → b ≡ false
       gap false _ = refl
-      gap true h = let (source, stands) = v.edged n i (marked i true h) in absurd (c.unset (record { 0 = source }) stands)
+      gap true h = let (source, stands) = v.edged (node_number n) i (marked i true h) in absurd (c.unset source stands)
 
     pub first_of : (i : ℕ) (import : NodeId) → ClashesAt i import → ((j : ℕ) (other : NodeId) → j < i → ClashesAt j other → ⊥) → IsFirstOf (graph_of a) (node_number n) i import
     first_of i import c first = record {

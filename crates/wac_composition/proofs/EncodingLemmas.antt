@@ -14,7 +14,7 @@ use Rattle.wac_collection.specs.Collection.{item_at}
 use Rattle.wac_collection.specs.Package.{PackageParts}
 use Rattle.wac_shapes.specs.declared.component.World.{World}
 use Rattle.wac_nodes.specs.declared.node.Node.{Node}
-use Rattle.wac_nodes.specs.declared.node.NodeId.{NodeId}
+use Rattle.wac_edges.specs.declared.node.NodeId.{NodeId}
 use Rattle.wac_nodes.specs.declared.node.NodeKind.{NodeKind}
 use Rattle.wac_nodes.specs.declared.node.NodeKind.TheVariants as code
 use Rattle.wac_nodes.specs.declared.packages.PackageId.{PackageId}
@@ -22,7 +22,8 @@ use Rattle.wac_composition.specs.declared.graph.CompositionGraph.TheInside.{Insi
 use Rattle.wac_nodes.specs.declared.options.EncodeOptions.{EncodeOptions}
 use Rattle.wac_edges.specs.Edge.{is_left}
 use Rattle.wac_nodes.specs.Graph as graph
-use Rattle.wac_nodes.specs.Graph.{Graph, GraphNode, Kind, node_at, package_at, package_in, package_of, imports_of, node_number}
+use Rattle.wac_edges.specs.Edge.{node_number}
+use Rattle.wac_nodes.specs.Graph.{Graph, GraphNode, Kind, node_at, package_at, package_in, package_of, imports_of}
 use Rattle.wac_nodes.specs.Nodes.{node_of, kind_of, satisfied, satisfied_at}
 use Rattle.wac_composition.specs.Inside.{graph_of, Invariant}
 use Rattle.wac_meaning.specs.Means.{is_there}
@@ -171,7 +172,7 @@ module _ (a : Inside) (v : Invariant a) (n : ℕ) (node : Node) (s : BTreeSet �
   pub a_gap : (i : ℕ) (count : ℕ) (o : EncodeOptions) → count ≡ length (imports_of (graph_of a) (node_of node)) → i < count → positions.contains nat_cmp s i ≡ false → IsNotYet (graph_of a) o
   a_gap i count o many small gap =
       unset n (node_of node) i (node_is a n (Some node) had) (ap kind_of is) (omega (arith, many))
-      (λ source stands. clash (satisfied_at (get a.nodes n) i) (v.marked source.0 n i stands) (marked i false gap)) where
+      (λ source stands. clash (satisfied_at (get a.nodes n) i) (v.marked source (node_number n) i stands) (marked i false gap)) where
         clash : (b : Bool) → b ≡ true → b ≡ false → ⊥
         clash true _ h = cc
         clash false h _ = cc
@@ -180,7 +181,7 @@ module _ (a : Inside) (v : Invariant a) (n : ℕ) (node : Node) (s : BTreeSet �
   no_gap count many full unnamed = if_node a n node (IsWritable (graph_of a) n) had (record {
     unnamed = no_name node unnamed;
     plain = inl (ap kind_of is);
-    set = λ _ i small. let (source, stands) = v.edged n i (marked i true (full i (omega (arith, many)))) in (record { 0 = source }, stands);
+    set = λ _ i small. v.edged (node_number n) i (marked i true (full i (omega (arith, many))));
   })
 
 pub an_alias : (a : Inside) (n : ℕ) (node : Node) → get a.nodes n ≡ Some node → node.kind ≡ code.Alias → node.name ≡ None → IfSome (node_at (graph_of a) (node_number n)) (IsWritable (graph_of a) n)
@@ -205,6 +206,6 @@ has_number a n h = some_of (get a.nodes n) (subst (λ o. IsSome o) (get-nodes_of
 pub gives_node : (a : Inside) → Invariant a → (id : NodeId) (node : Node) → get a.nodes id.0 ≡ Some node → GivesNode (graph_of a) id node
 gives_node a v id node had = record {
   there = node_is a id.0 (Some node) had;
-  set = λ i h. let (source, stands) = v.edged id.0 i (ap (λ o. satisfied_at o i) had ∙ h) in (record { 0 = source }, stands);
-  only = λ i (source, stands). sym (ap (λ o. satisfied_at o i) had) ∙ v.marked source.0 id.0 i stands;
+  set = λ i h. v.edged id i (ap (λ o. satisfied_at o i) had ∙ h);
+  only = λ i (source, stands). sym (ap (λ o. satisfied_at o i) had) ∙ v.marked source id i stands;
 }

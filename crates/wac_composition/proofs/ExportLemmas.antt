@@ -14,7 +14,7 @@ use Rattle.slab.specs.Slab.{Slab, get, Updates, with_value}
 use Rattle.slab.proofs.SlabLemmas.{Updates-with_value}
 use Rattle.wac_shapes.specs.Name.{Name}
 use Rattle.wac_nodes.specs.declared.node.Node.{Node}
-use Rattle.wac_nodes.specs.declared.node.NodeId.{NodeId}
+use Rattle.wac_edges.specs.declared.node.NodeId.{NodeId}
 use Rattle.wac_composition.specs.declared.graph.CompositionGraph.TheInside.{Inside}
 use Rattle.wac_nodes.specs.Graph.{GraphNode, node_at}
 use Rattle.wac_nodes.specs.Nodes.{node_of, nodes_of}

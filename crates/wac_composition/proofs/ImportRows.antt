@@ -23,12 +23,13 @@ use Rattle.wac_edges.specs.declared.edges.Edge.{Edge}
 use Rattle.wac_edges.specs.declared.edges.Label.{Label}
 use Rattle.wac_edges.specs.declared.edges.Label.TheVariants.{Alias, Argument, Dependency}
 use Rattle.wac_nodes.specs.declared.node.Node.{Node}
-use Rattle.wac_nodes.specs.declared.node.NodeId.{NodeId}
+use Rattle.wac_edges.specs.declared.node.NodeId.{NodeId}
 use Rattle.wac_nodes.specs.declared.node.NodeKind.TheVariants as code
 use Rattle.wac_composition.specs.declared.graph.CompositionGraph.TheInside.{Inside}
 use Rattle.wac_edges.specs.Edge.{edge_cmp, argument_edge}
 use Rattle.wac_nodes.specs.Graph as graph
-use Rattle.wac_nodes.specs.Graph.{Graph, GraphNode, Kind, node_at, imports_of, import_name, node_number}
+use Rattle.wac_edges.specs.Edge.{node_number}
+use Rattle.wac_nodes.specs.Graph.{Graph, GraphNode, Kind, node_at, imports_of, import_name}
 use Rattle.wac_nodes.specs.Nodes.{node_of, nodes_of, kind_of, satisfied, satisfied_at}
 use Rattle.wac_composition.specs.Inside.{graph_of, Invariant}
 use Rattle.wac_nodes.specs.Asked.{is_argument, is_argument_label, is_satisfied, unsatisfied, asked_by, imported_by}
@@ -90,14 +91,14 @@ label_is i (Argument j) h = ap Argument (sym (eqb-true i j h))
 label_is i (Alias j) h = cc
 label_is i Dependency h = cc
 
-edge_is : (n i : ℕ) (e : Edge) → is_argument n i e ≡ true → e ≡ argument_edge e.source n i
+edge_is : (n i : ℕ) (e : Edge) → is_argument n i e ≡ true → e ≡ argument_edge e.source (node_number n) i
 edge_is n i e h =
-    let (at, labelled) = and_both (eqb e.target n) (is_argument_label i e.label) h in
-    let target : e.target ≡ n = eqb-true e.target n at in
+    let (at, labelled) = and_both (eqb e.target.0 n) (is_argument_label i e.label) h in
+    let target : e.target.0 ≡ n = eqb-true e.target.0 n at in
     let label : e.label ≡ Argument i = label_is i e.label labelled in
-    λ d. record { source = e.source; target = target d; label = label d }
+    λ d. record { source = e.source; target = node_number (target d); label = label d }
 
-edge_there : (edges : set.FinSet edge_cmp) (n i : ℕ) → list_any (is_argument n i) (set.items edges) ≡ true → (source : ℕ) × (set.contains edges (argument_edge source n i) ≡ true)
+edge_there : (edges : set.FinSet edge_cmp) (n i : ℕ) → list_any (is_argument n i) (set.items edges) ≡ true → (source : NodeId) × (set.contains edges (argument_edge source (node_number n) i) ≡ true)
 edge_there edges n i h =
     let (e, there, passes) = one_passing (is_argument n i) (set.items edges) h in
     let inside : set.contains edges e ≡ true = set.contains-items edges e ∙ list_any_at (eq_by_cmp edge_cmp e) (set.items edges) there.0 e there.1 (ap (λ (x : Edge). eq_by_cmp edge_cmp e x) there.2 ∙ ap is_eq (tied_itself edge_cmp_total e)) in
@@ -133,9 +134,9 @@ module _ (a : Inside) (v : Invariant a) (n : ℕ) (node : Node) (had : get a.nod
       marked i b h = ap (λ x. satisfied_at x i) had ∙ ap (λ k. satisfied k i) is ∙ h
 
       same : (i : ℕ) (b : Bool) → positions.contains nat_cmp s i ≡ b → (c : Bool) → is_satisfied (graph_of a) n i ≡ c → positions.contains nat_cmp s i ≡ is_satisfied (graph_of a) n i
-      same i true h c k = h ∙ sym (let (source, stands) = v.edged n i (marked i true h) in set_by_edge (graph_of a) n i (record { 0 = source }, stands))
+      same i true h c k = h ∙ sym (set_by_edge (graph_of a) n i (v.edged (node_number n) i (marked i true h)))
       same i false h false k = h ∙ sym k
-      same i false h true k = let (source, stands) = edge_there a.edges n i k in clash (satisfied_at (get a.nodes n) i) (v.marked source n i stands) (marked i false h) where
+      same i false h true k = let (source, stands) = edge_there a.edges n i k in clash (satisfied_at (get a.nodes n) i) (v.marked source (node_number n) i stands) (marked i false h) where
         clash : (b : Bool) → b ≡ true → b ≡ false → positions.contains nat_cmp s i ≡ is_satisfied (graph_of a) n i
         clash true _ q = cc
         clash false q _ = cc

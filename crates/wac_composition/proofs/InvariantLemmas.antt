@@ -17,11 +17,12 @@ use Rattle.wac_shapes.specs.declared.component.ItemKind.{ItemKind}
 use Rattle.wac_edges.specs.declared.edges.Edge.{Edge}
 use Rattle.wac_edges.specs.declared.edges.Label.TheVariants as label
 use Rattle.wac_nodes.specs.declared.node.Node.{Node}
-use Rattle.wac_nodes.specs.declared.node.NodeId.{NodeId}
+use Rattle.wac_edges.specs.declared.node.NodeId.{NodeId}
 use Rattle.wac_nodes.specs.declared.packages.PackageId.{PackageId}
 use Rattle.wac_nodes.specs.declared.packages.Slot.{Slot}
 use Rattle.wac_composition.specs.declared.graph.CompositionGraph.TheInside.{Inside}
 use Rattle.wac_edges.specs.Edge.{edge_cmp, alias_edge, argument_edge}
+use Rattle.wac_edges.specs.Edge.{node_number}
 use Rattle.wac_nodes.specs.Graph as graph
 use Rattle.wac_nodes.specs.Graph.{GraphNode, node_at, package_at, package_in, exports_of, IsAliasOf, IsRegistered}
 use Rattle.wac_composition.specs.Arguments.{CanBeGiven}
@@ -64,9 +65,9 @@ invariant_empty a nodes edges imports exports keys slots = record {
     held = λ n node there. absurd (no_node n node there);
     instances = λ n node there _. absurd (no_node n node there);
     aliases = λ n node there _. absurd (no_node n node there);
-    one_argument = λ n i x y p _. absurd (no_edge (argument_edge x.0 n.0 i) p);
-    one_alias = λ x i n m p _. absurd (no_edge (alias_edge x.0 n.0 i) p);
-    one_source = λ n x y i j p q. absurd (no_edge (alias_edge x.0 n.0 i) p);
+    one_argument = λ n i x y p _. absurd (no_edge (argument_edge x n i) p);
+    one_alias = λ x i n m p _. absurd (no_edge (alias_edge x n i) p);
+    one_source = λ n x y i j p q. absurd (no_edge (alias_edge x n i) p);
     one_import = λ name n x p _. absurd (no_import name n p);
     one_definition = λ kind n x p _. absurd (no_definition kind n p);
     one_export = λ name i j n m p _. absurd (no_export i name n p);
@@ -77,7 +78,7 @@ invariant_empty a nodes edges imports exports keys slots = record {
     packages = λ id p at. absurd (no_package a.slots.items id p slots at);
   };
   marked = λ source target position stands. absurd (no_edge (argument_edge source target position) stands);
-  edged = λ target position is. absurd (clash (satisfied_at (get a.nodes target) position) is (ap (λ (xs : List (Option Node)). satisfied_at (get_or xs target None) position) nodes));
+  edged = λ target position is. absurd (clash (satisfied_at (get a.nodes target.0) position) is (ap (λ (xs : List (Option Node)). satisfied_at (get_or xs target.0 None) position) nodes));
   keyed = λ id p at. absurd (no_package a.slots.items id p slots at);
   found = λ k id at. absurd (let e : None ≡ Some id = ap (lookup (same_key k)) (sym keys) ∙ at in nothing id e);
   named = λ name n h. absurd (no_import name n h);
@@ -136,8 +137,8 @@ module _ (a : Inside) (v : Invariant a) where
       let shown : nodes_of nodes.slots ≡ nodes_of a.nodes.slots = nodes_of-same a.nodes.slots nodes.slots same in
       record {
         sound = subst IsSound (λ i. record (graph_of a) { nodes = sym shown i; next = sym next i; edges = sym is i }) v.sound;
-        marked = λ s t i stands. marks t i ∙ v.marked s t i (ap (λ es. set.contains es (argument_edge s t i)) (sym is) ∙ stands);
-        edged = λ t i h. let (s, stands) = v.edged t i (sym (marks t i) ∙ h) in (s, ap (λ es. set.contains es (argument_edge s t i)) is ∙ stands);
+        marked = λ s t i stands. marks t.0 i ∙ v.marked s t i (ap (λ es. set.contains es (argument_edge s t i)) (sym is) ∙ stands);
+        edged = λ t i h. let (s, stands) = v.edged t i (sym (marks t.0 i) ∙ h) in (s, ap (λ es. set.contains es (argument_edge s t i)) is ∙ stands);
         keyed = v.keyed;
         found = v.found;
         named = λ name n h. v.named name n (subst (λ ns. ImportIn ns name n) shown h);
@@ -145,8 +146,8 @@ module _ (a : Inside) (v : Invariant a) where
       }
 
   -- a node is where an edge leads
-  target_there : (e : Edge) → set.contains a.edges e ≡ true → IsSome (get a.nodes e.target)
-  target_there e stands = sym (is_some-node_of (get a.nodes e.target)) ∙ ap is_some (sym (get-nodes_of a.nodes.slots e.target)) ∙ (v.sound.ends e stands).1
+  target_there : (e : Edge) → set.contains a.edges e ≡ true → IsSome (get a.nodes e.target.0)
+  target_there e stands = sym (is_some-node_of (get a.nodes e.target.0)) ∙ ap is_some (sym (get-nodes_of a.nodes.slots e.target.0)) ∙ (v.sound.ends e stands).1
 
   vacant_or_there : (o : Option Node) → o ≡ None → IsSome o → ⊥
   vacant_or_there None is h = cc
@@ -157,14 +158,14 @@ module _ (a : Inside) (v : Invariant a) where
     other_node : (q : ℕ) → IsSome (get a.nodes q) → q ≢ n
     other_node q h same = vacant_or_there (get a.nodes q) (ap (λ k. get a.nodes k) same ∙ vacant) h
 
-    still_marked : (source target position : ℕ) → set.contains a.edges (argument_edge source target position) ≡ true → satisfied_at (get nodes target) position ≡ true
+    still_marked : (source target : NodeId) (position : ℕ) → set.contains a.edges (argument_edge source target position) ≡ true → satisfied_at (get nodes target.0) position ≡ true
     still_marked source target position stands =
-        ap (λ o. satisfied_at o position) (u.others target (other_node target (target_there (argument_edge source target position) stands))) ∙ v.marked source target position stands
+        ap (λ o. satisfied_at o position) (u.others target.0 (other_node target.0 (target_there (argument_edge source target position) stands))) ∙ v.marked source target position stands
 
-    still_edged : (target position : ℕ) → satisfied_at (get nodes target) position ≡ true → (source : ℕ) × (set.contains a.edges (argument_edge source target position) ≡ true)
-    still_edged target position is = by_eq target n
-        (λ same. absurd (clash (satisfied_at (get nodes target) position) is (ap (λ k. satisfied_at (get nodes k) position) same ∙ ap (λ o. satisfied_at o position) u.changed ∙ bare position)))
-        (λ differ. v.edged target position (ap (λ o. satisfied_at o position) (sym (u.others target differ)) ∙ is))
+    still_edged : (target : NodeId) (position : ℕ) → satisfied_at (get nodes target.0) position ≡ true → (source : NodeId) × (set.contains a.edges (argument_edge source target position) ≡ true)
+    still_edged target position is = by_eq target.0 n
+        (λ same. absurd (clash (satisfied_at (get nodes target.0) position) is (ap (λ k. satisfied_at (get nodes k) position) same ∙ ap (λ o. satisfied_at o position) u.changed ∙ bare position)))
+        (λ differ. v.edged target position (ap (λ o. satisfied_at o position) (sym (u.others target.0 differ)) ∙ is))
 
     pub vacant_in_graph : map.get (nodes_of a.nodes.slots) n ≡ None
     vacant_in_graph = get-nodes_of a.nodes.slots n ∙ ap (option_map node_of) vacant
@@ -233,7 +234,7 @@ module _ (a : Inside) (v : Invariant a) where
         }
 
     pub invariant_alias : (edges : set.FinSet edge_cmp) (instance : NodeId) (source : GraphNode) (position : ℕ) (name : Name) (kind : ItemKind) → node_of node ≡ alias_node source kind
-        → node_at (graph_of a) instance ≡ Some source → slice_get (exports_of (graph_of a) source) position ≡ Some (name, kind) → holds_type a.types (kind_type kind) ≡ true → ((other : NodeId) → IsAliasOf (graph_of a) instance position other → ⊥) → edges ≡ set.insert a.edges (alias_edge instance.0 n position)
+        → node_at (graph_of a) instance ≡ Some source → slice_get (exports_of (graph_of a) source) position ≡ Some (name, kind) → holds_type a.types (kind_type kind) ≡ true → ((other : NodeId) → IsAliasOf (graph_of a) instance position other → ⊥) → edges ≡ set.insert a.edges (alias_edge instance (node_number n) position)
         → Invariant (record a { nodes = nodes; edges = edges })
     invariant_alias edges instance source position name kind shape there exported held free added =
         let more = sound_alias (graph_of a) v.sound (record { 0 = n }) (alias_node source kind) nodes.vacant_key vacant_in_graph held refl instance source position name refl refl there exported free in
@@ -241,21 +242,21 @@ module _ (a : Inside) (v : Invariant a) where
         record {
           sound = subst (λ ns. IsSound (record (graph_of a) { nodes = ns; next = nodes.vacant_key; edges = edges })) (sym shown)
               (subst (λ es. IsSound (record (graph_of a) { nodes = map.insert (nodes_of a.nodes.slots) n (alias_node source kind); next = nodes.vacant_key; edges = es })) (sym added) more);
-          marked = λ s t i stands. still_marked s t i (old_argument s t i (added_edge a.edges (alias_edge instance.0 n position) (argument_edge s t i) (ap (λ es. set.contains es (argument_edge s t i)) (sym added) ∙ stands)));
-          edged = λ t i is. let (s, stands) = still_edged t i is in (s, ap (λ es. set.contains es (argument_edge s t i)) added ∙ kept_edge a.edges (alias_edge instance.0 n position) (argument_edge s t i) stands);
+          marked = λ s t i stands. still_marked s t i (old_argument s t i (added_edge a.edges (alias_edge instance (node_number n) position) (argument_edge s t i) (ap (λ es. set.contains es (argument_edge s t i)) (sym added) ∙ stands)));
+          edged = λ t i is. let (s, stands) = still_edged t i is in (s, ap (λ es. set.contains es (argument_edge s t i)) added ∙ kept_edge a.edges (alias_edge instance (node_number n) position) (argument_edge s t i) stands);
           keyed = v.keyed;
           found = v.found;
           named = still_named (alias_node source kind) shown (λ name wrong. cc);
           importing = still_importing (alias_node source kind) shown;
         } where
-          old_argument : (s t i : ℕ) → (argument_edge s t i ≡ alias_edge instance.0 n position) ⊎ (set.contains a.edges (argument_edge s t i) ≡ true) → set.contains a.edges (argument_edge s t i) ≡ true
+          old_argument : (s t : NodeId) (i : ℕ) → (argument_edge s t i ≡ alias_edge instance (node_number n) position) ⊎ (set.contains a.edges (argument_edge s t i) ≡ true) → set.contains a.edges (argument_edge s t i) ≡ true
           old_argument s t i (inl wrong) = absurd (let labels : label.Argument i ≡ label.Alias position = ap (λ (e : Edge). e.label) wrong in cc)
           old_argument s t i (inr was) = was
 
   -- the same nodes but for the satisfied positions, of which one is more, with its edge
-  pub invariant_argument : (nodes : Slab Node) (edges : set.FinSet edge_cmp) (source target position : ℕ) → nodes.vacant_key ≡ a.nodes.vacant_key
-      → ((q : ℕ) → option_map node_of (get nodes q) ≡ option_map node_of (get a.nodes q)) → ((q i : ℕ) → satisfied_at (get nodes q) i ≡ (satisfied_at (get a.nodes q) i || (q == target && i == position)))
-      → CanBeGiven (graph_of a) (record { 0 = target }) position (record { 0 = source }) → edges ≡ set.insert a.edges (argument_edge source target position)
+  pub invariant_argument : (nodes : Slab Node) (edges : set.FinSet edge_cmp) (source target : NodeId) (position : ℕ) → nodes.vacant_key ≡ a.nodes.vacant_key
+      → ((q : ℕ) → option_map node_of (get nodes q) ≡ option_map node_of (get a.nodes q)) → ((q i : ℕ) → satisfied_at (get nodes q) i ≡ (satisfied_at (get a.nodes q) i || (q == target.0 && i == position)))
+      → CanBeGiven (graph_of a) target position source → edges ≡ set.insert a.edges (argument_edge source target position)
       → Invariant (record a { nodes = nodes; edges = edges })
   invariant_argument nodes edges source target position next same satisfied_now can added =
       let shown : nodes_of nodes.slots ≡ nodes_of a.nodes.slots = nodes_of-same a.nodes.slots nodes.slots same in
@@ -264,8 +265,8 @@ module _ (a : Inside) (v : Invariant a) where
         sound = subst (λ k. IsSound (record (graph_of a) { nodes = nodes_of nodes.slots; next = k; edges = edges })) (sym next)
             (subst (λ ns. IsSound (record (graph_of a) { nodes = ns; edges = edges })) (sym shown)
             (subst (λ es. IsSound (record (graph_of a) { edges = es })) (sym added) more));
-        marked = λ s t i stands. satisfied_now t i ∙ marked s t i (added_edge a.edges (argument_edge source target position) (argument_edge s t i) (ap (λ es. set.contains es (argument_edge s t i)) (sym added) ∙ stands));
-        edged = λ t i is. edged t i (satisfied_at (get a.nodes t) i) refl (sym (satisfied_now t i) ∙ is);
+        marked = λ s t i stands. satisfied_now t.0 i ∙ marked s t i (added_edge a.edges (argument_edge source target position) (argument_edge s t i) (ap (λ es. set.contains es (argument_edge s t i)) (sym added) ∙ stands));
+        edged = λ t i is. edged t i (satisfied_at (get a.nodes t.0) i) refl (sym (satisfied_now t.0 i) ∙ is);
         keyed = v.keyed;
         found = v.found;
         named = λ name n h. v.named name n (subst (λ ns. ImportIn ns name n) shown h);
@@ -275,18 +276,18 @@ module _ (a : Inside) (v : Invariant a) where
         or_yes true = refl
         or_yes false = refl
 
-        marked : (s t i : ℕ) → (argument_edge s t i ≡ argument_edge source target position) ⊎ (set.contains a.edges (argument_edge s t i) ≡ true) → (satisfied_at (get a.nodes t) i || (t == target && i == position)) ≡ true
+        marked : (s t : NodeId) (i : ℕ) → (argument_edge s t i ≡ argument_edge source target position) ⊎ (set.contains a.edges (argument_edge s t i) ≡ true) → (satisfied_at (get a.nodes t.0) i || (t.0 == target.0 && i == position)) ≡ true
         marked s t i (inl is) =
-            let t_is : t ≡ target = ap (λ (e : Edge). e.target) is in
+            let t_is : t.0 ≡ target.0 = ap (λ (e : Edge). e.target.0) is in
             let i_is : i ≡ position = let labels : label.Argument i ≡ label.Argument position = ap (λ (e : Edge). e.label) is in cc in
-            ap (λ b. satisfied_at (get a.nodes t) i || b) (rw (t_is, i_is, eqb_same target) (eqb_same position)) ∙ or_yes (satisfied_at (get a.nodes t) i)
-        marked s t i (inr was) = ap (λ b. b || (t == target && i == position)) (v.marked s t i was)
+            ap (λ b. satisfied_at (get a.nodes t.0) i || b) (rw (t_is, i_is, eqb_same target.0) (eqb_same position)) ∙ or_yes (satisfied_at (get a.nodes t.0) i)
+        marked s t i (inr was) = ap (λ b. b || (t.0 == target.0 && i == position)) (v.marked s t i was)
 
-        edged : (t i : ℕ) (b : Bool) → satisfied_at (get a.nodes t) i ≡ b → (b || (t == target && i == position)) ≡ true → (s : ℕ) × (set.contains edges (argument_edge s t i) ≡ true)
+        edged : (t : NodeId) (i : ℕ) (b : Bool) → satisfied_at (get a.nodes t.0) i ≡ b → (b || (t.0 == target.0 && i == position)) ≡ true → (s : NodeId) × (set.contains edges (argument_edge s t i) ≡ true)
         edged t i true is _ = let (s, stands) = v.edged t i is in (s, ap (λ es. set.contains es (argument_edge s t i)) added ∙ kept_edge a.edges (argument_edge source target position) (argument_edge s t i) stands)
         edged t i false is both =
-            let (t_is, i_is) = both_true (t == target) (i == position) both in
-            let same : argument_edge source t i ≡ argument_edge source target position = rw (eqb-true t target t_is, eqb-true i position i_is) refl in
+            let (t_is, i_is) = both_true (t.0 == target.0) (i == position) both in
+            let same : argument_edge source t i ≡ argument_edge source target position = λ d. argument_edge source (node_number (eqb-true t.0 target.0 t_is d)) (eqb-true i position i_is d) in
             (source, ap (λ es. set.contains es (argument_edge source t i)) added ∙ ap (set.contains (set.insert a.edges (argument_edge source target position))) same ∙ new_edge a.edges (argument_edge source target position)) where
               both_true : (x y : Bool) → (x && y) ≡ true → (x ≡ true) × (y ≡ true)
               both_true true y h = (refl, h)
@@ -304,8 +305,8 @@ module _ (a : Inside) (v : Invariant a) where
         sound = subst (λ es. IsSound (record (graph_of a) { nodes = nodes_of nodes.slots; next = nodes.vacant_key; exports = es })) (sym (listed ∙ added))
             (subst (λ k. IsSound (record (graph_of a) { nodes = nodes_of nodes.slots; next = k; exports = (graph_of a).exports ++ (name, id) ∷ [] })) (sym next)
             (subst (λ ns. IsSound (record (graph_of a) { nodes = ns; exports = (graph_of a).exports ++ (name, id) ∷ [] })) (sym shown) more));
-        marked = λ s t i stands. satisfied_same t i ∙ v.marked s t i stands;
-        edged = λ t i is. v.edged t i (sym (satisfied_same t i) ∙ is);
+        marked = λ s t i stands. satisfied_same t.0 i ∙ v.marked s t i stands;
+        edged = λ t i is. v.edged t i (sym (satisfied_same t.0 i) ∙ is);
         keyed = v.keyed;
         found = v.found;
         named = λ other n h. v.named other n (import_before (nodes_of a.nodes.slots) id (record (node_of before) { export_name = Some name }) other n (λ is. was other is) (subst (λ ns. ImportIn ns other n) shown h));

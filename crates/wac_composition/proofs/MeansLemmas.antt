@@ -10,12 +10,13 @@ use Rattle.wac_shapes.specs.Name.{Name, option_case}
 use Rattle.wac_binary.specs.Items.{Item, export_item}
 use Rattle.wac_binary.specs.Meaning.{Thing}
 use Rattle.wac_edges.specs.declared.edges.Edge.{Edge}
-use Rattle.wac_nodes.specs.declared.node.NodeId.{NodeId}
+use Rattle.wac_edges.specs.declared.node.NodeId.{NodeId}
 use Rattle.wac_nodes.specs.declared.options.EncodeOptions.{EncodeOptions}
 use Rattle.wac_composition.specs.declared.graph.CompositionGraph.TheInside.{Inside}
 use Rattle.wac_edges.specs.Edge.{is_left}
 use Rattle.wac_nodes.specs.Graph as graph
-use Rattle.wac_nodes.specs.Graph.{Graph, GraphNode, Kind, node_at, node_number}
+use Rattle.wac_edges.specs.Edge.{node_number}
+use Rattle.wac_nodes.specs.Graph.{Graph, GraphNode, Kind, node_at}
 use Rattle.wac_composition.specs.Inside.{graph_of, Invariant}
 use Rattle.wac_nodes.specs.Sound.{IsSound}
 use Rattle.wac_edges.specs.Order.{Writes, IsOnCycle, IsAcyclic, IsLowestOnCycle}
@@ -151,11 +152,11 @@ module _ (a : Inside) (v : Invariant a) (g : Graph) (view : graph_of a ≡ g) wh
   pub acyclic_now : IsAcyclic a.edges → IsAcyclic g.edges
   acyclic_now none = subst (λ x. IsAcyclic x.edges) view none
 
-  pub lowest_now : (n : ℕ) → IsLowestOnCycle a.edges n → IsLowestOnCycle g.edges n
+  pub lowest_now : (n : NodeId) → IsLowestOnCycle a.edges n → IsLowestOnCycle g.edges n
   lowest_now n lowest = subst (λ x. IsLowestOnCycle x.edges n) view lowest
 
-  pub on_cycle_now : (n : ℕ) × IsOnCycle a.edges n → (n : ℕ) × IsOnCycle g.edges n
-  on_cycle_now on = subst (λ x. (n : ℕ) × IsOnCycle x.edges n) view on
+  pub on_cycle_now : (n : NodeId) × IsOnCycle a.edges n → (n : NodeId) × IsOnCycle g.edges n
+  on_cycle_now on = subst (λ x. (n : NodeId) × IsOnCycle x.edges n) view on
 
   pub has_room : (k : ℕ) → length a.nodes.slots ≤ k → (n : ℕ) → IsSome (node_at g (node_number n)) → n < k
   has_room k slots n some = by_lt n k (λ small. small) (λ above. absurd (nothing (node_at (graph_of a) (node_number n)) (node_is a n None (none_past a n (omega arith))) (subst (λ x. IsSome (node_at x (node_number n))) (sym view) some))) where
@@ -164,12 +165,12 @@ module _ (a : Inside) (v : Invariant a) (g : Graph) (view : graph_of a ≡ g) wh
     nothing (Some x) h _ = cc
 
 -- edges lead to nodes, so to numbers below the capacity
-pub targets_below : (a : Inside) → Invariant a → (k : ℕ) → length a.nodes.slots ≤ k → (e : Edge) → set.contains a.edges e ≡ true → e.target < k
-targets_below a v k slots e stands = has_room a v (graph_of a) refl k slots e.target ((v.sound).ends e stands).1
+pub targets_below : (a : Inside) → Invariant a → (k : ℕ) → length a.nodes.slots ≤ k → (e : Edge) → set.contains a.edges e ≡ true → e.target.0 < k
+targets_below a v k slots e stands = has_room a v (graph_of a) refl k slots e.target.0 ((v.sound).ends e stands).1
 
 -- an order of all nodes leaves no cycle
 pub acyclic : (g : Graph) → IsSound g → (order : List ℕ) → Writes g.edges (is_there g) order → IsAcyclic g.edges
-acyclic g sound order writes = ordered_acyclic g.edges (is_there g) order (λ e stands. there (node_at g (node_number e.target)) (sound.ends e stands).1) writes where
+acyclic g sound order writes = ordered_acyclic g.edges (is_there g) order (λ e stands. there (node_at g e.target) (sound.ends e stands).1) writes where
   there : (o : Option GraphNode) → IsSome o → option_case o false (λ x. true) ≡ true
   there None h = cc
   there (Some x) h = refl

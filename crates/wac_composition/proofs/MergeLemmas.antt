@@ -23,9 +23,10 @@ use Rattle.wac_agreement.specs.declared.fault.MergeFault.TheVariants as fault
 use Rattle.wac_nodes.specs.declared.options.EncodeOptions.{EncodeOptions}
 use Rattle.wac_asking.specs.declared.asked.AskedEntry.{AskedEntry}
 use Rattle.wac_causes.specs.declared.errors.EncodeError.TheVariants as error
-use Rattle.wac_nodes.specs.declared.node.NodeId.{NodeId}
+use Rattle.wac_edges.specs.declared.node.NodeId.{NodeId}
 use Rattle.wac_nodes.specs.Graph as graph
-use Rattle.wac_nodes.specs.Graph.{Graph, GraphNode, Kind, node_at, node_number}
+use Rattle.wac_edges.specs.Edge.{node_number}
+use Rattle.wac_nodes.specs.Graph.{Graph, GraphNode, Kind, node_at}
 use Rattle.wac_nodes.specs.Asked.{Entry, imported_by}
 use Rattle.wac_causes.specs.Cause.{HasMerge, HasNoConflict, IsMergeConflict, AsksImplicitly, AsksExplicitly, implicit_merge, explicit_merge, import_circle}
 use Rattle.wac_nodes.specs.Entries.{asked_entries, to_merge}

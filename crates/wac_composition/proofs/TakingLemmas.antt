@@ -18,10 +18,10 @@ use Rattle.slab.proofs.SlabLemmas.{Updates-with_value}
 use Rattle.wac_shapes.specs.Name.{Name}
 use Rattle.wac_edges.specs.declared.edges.Edge.{Edge}
 use Rattle.wac_edges.specs.declared.edges.Label.TheVariants as label
-use Rattle.wac_edges.specs.Edge.{edge_cmp, alias_edge, argument_edge}
+use Rattle.wac_edges.specs.Edge.{edge_cmp, alias_edge, argument_edge, node_number}
 use Rattle.wac_edges.proofs.EdgeLemmas.{edge_cmp_total, exact_edges, edge_cmp-IsAntisymmetric}
 use Rattle.wac_nodes.specs.declared.node.Node.{Node}
-use Rattle.wac_nodes.specs.declared.node.NodeId.{NodeId}
+use Rattle.wac_edges.specs.declared.node.NodeId.{NodeId}
 use Rattle.wac_nodes.specs.Graph as graph
 use Rattle.wac_nodes.specs.Graph.{Graph, GraphNode, node_at}
 use Rattle.wac_nodes.specs.Nodes.{node_of, nodes_of, names_of, kind_of, satisfied, satisfied_at}
@@ -75,8 +75,8 @@ nothing_removed s e absent = sym (set.same_set edge_cmp_total edge_cmp-IsAntisym
 
 module _ (a : Inside) (v : Invariant a) where
   -- the same nodes but for the satisfied positions, of which one is less, and without its edge
-  pub invariant_taken : (nodes : Slab Node) (edges : set.FinSet edge_cmp) (source target position : ℕ) → nodes.vacant_key ≡ a.nodes.vacant_key
-      → ((q : ℕ) → option_map node_of (get nodes q) ≡ option_map node_of (get a.nodes q)) → ((q i : ℕ) → satisfied_at (get nodes q) i ≡ (satisfied_at (get a.nodes q) i && not (q == target && i == position)))
+  pub invariant_taken : (nodes : Slab Node) (edges : set.FinSet edge_cmp) (source target : NodeId) (position : ℕ) → nodes.vacant_key ≡ a.nodes.vacant_key
+      → ((q : ℕ) → option_map node_of (get nodes q) ≡ option_map node_of (get a.nodes q)) → ((q i : ℕ) → satisfied_at (get nodes q) i ≡ (satisfied_at (get a.nodes q) i && not (q == target.0 && i == position)))
       → set.contains a.edges (argument_edge source target position) ≡ true → edges ≡ set.remove a.edges (argument_edge source target position)
       → Invariant (record a { nodes = nodes; edges = edges })
   invariant_taken nodes edges source target position next same satisfied_now stood taken =
@@ -84,8 +84,8 @@ module _ (a : Inside) (v : Invariant a) where
       let less = sound_part (graph_of a) v.sound (nodes_of a.nodes.slots) a.nodes.vacant_key (set.remove a.edges gone) (graph_of a).exports a.slots.items [] is_part is_closed in
       record {
         sound = subst IsSound (λ i. record (graph_of a) { nodes = sym shown i; next = sym next i; edges = sym taken i }) less;
-        marked = λ s t i stands. satisfied_now t i ∙ marked s t i (removed_edge a.edges gone (argument_edge s t i) (ap (λ es. set.contains es (argument_edge s t i)) (sym taken) ∙ stands));
-        edged = λ t i is. edged t i (both_true (satisfied_at (get a.nodes t) i) (not (t == target && i == position)) (sym (satisfied_now t i) ∙ is));
+        marked = λ s t i stands. satisfied_now t.0 i ∙ marked s t i (removed_edge a.edges gone (argument_edge s t i) (ap (λ es. set.contains es (argument_edge s t i)) (sym taken) ∙ stands));
+        edged = λ t i is. edged t i (both_true (satisfied_at (get a.nodes t.0) i) (not (t.0 == target.0 && i == position)) (sym (satisfied_now t.0 i) ∙ is));
         keyed = v.keyed;
         found = v.found;
         named = λ name n h. v.named name n (subst (λ ns. ImportIn ns name n) shown h);
@@ -107,42 +107,39 @@ module _ (a : Inside) (v : Invariant a) where
           packages = λ id p at. at;
         }
 
-        no_alias : (s t i : ℕ) → alias_edge s t i ≡ gone → ⊥
+        no_alias : (s t : NodeId) (i : ℕ) → alias_edge s t i ≡ gone → ⊥
         no_alias s t i wrong = let labels : label.Alias i ≡ label.Argument position = ap (λ (e : Edge). e.label) wrong in cc
 
         is_closed : IsClosed (graph_of a) without
         is_closed = record {
           ends = λ e h. v.sound.ends e (removed_edge a.edges gone e h).0;
           exported = v.sound.exported;
-          aliases = λ n node at is instance i stands. left_edge a.edges gone (alias_edge instance.0 n.0 i) stands (no_alias instance.0 n.0 i);
+          aliases = λ n node at is instance i stands. left_edge a.edges gone (alias_edge instance n i) stands (no_alias instance n i);
           instances = λ n node at is id p owned registered. registered;
           first_names = v.sound.first_names;
           vacant = v.sound.vacant;
           vacant_once = v.sound.vacant_once;
         }
 
-        number : ℕ → NodeId
-        number k = record { 0 = k }
+        marked : (s t : NodeId) (i : ℕ) → (set.contains a.edges (argument_edge s t i) ≡ true) × (argument_edge s t i ≡ gone → ⊥) → (satisfied_at (get a.nodes t.0) i && not (t.0 == target.0 && i == position)) ≡ true
+        marked s t i (stands, other) = ap (λ b. b && not (t.0 == target.0 && i == position)) (v.marked s t i stands) ∙ not_false (t.0 == target.0 && i == position) (λ here.
+            let (t_is, i_is) = both_true (t.0 == target.0) (i == position) here in
+            let at : argument_edge s t i ≡ argument_edge s target position = λ d. argument_edge s (node_number (eqb-true t.0 target.0 t_is d)) (eqb-true i position i_is d) in
+            let one : s ≡ source = v.sound.one_argument target position s source (ap (set.contains a.edges) (sym at) ∙ stands) stood in
+            other (at ∙ ap (λ (n : NodeId). argument_edge n target position) one))
 
-        marked : (s t i : ℕ) → (set.contains a.edges (argument_edge s t i) ≡ true) × (argument_edge s t i ≡ gone → ⊥) → (satisfied_at (get a.nodes t) i && not (t == target && i == position)) ≡ true
-        marked s t i (stands, other) = ap (λ b. b && not (t == target && i == position)) (v.marked s t i stands) ∙ not_false (t == target && i == position) (λ here.
-            let (t_is, i_is) = both_true (t == target) (i == position) here in
-            let at : argument_edge s t i ≡ argument_edge s target position = rw (eqb-true t target t_is, eqb-true i position i_is) refl in
-            let one : number s ≡ number source = v.sound.one_argument (number target) position (number s) (number source) (ap (set.contains a.edges) (sym at) ∙ stands) stood in
-            other (at ∙ ap (λ (n : NodeId). argument_edge n.0 target position) one))
-
-        edged : (t i : ℕ) → (satisfied_at (get a.nodes t) i ≡ true) × (not (t == target && i == position) ≡ true) → (s : ℕ) × (set.contains edges (argument_edge s t i) ≡ true)
+        edged : (t : NodeId) (i : ℕ) → (satisfied_at (get a.nodes t.0) i ≡ true) × (not (t.0 == target.0 && i == position) ≡ true) → (s : NodeId) × (set.contains edges (argument_edge s t i) ≡ true)
         edged t i (is, other) =
             let (s, stands) = v.edged t i is in (
               s,
               ap (λ es. set.contains es (argument_edge s t i)) taken ∙ left_edge a.edges gone (argument_edge s t i) stands (λ same.
-                  clash (t == target && i == position) (here s t i same) (not_true (t == target && i == position) other)),
+                  clash (t.0 == target.0 && i == position) (here s t i same) (not_true (t.0 == target.0 && i == position) other)),
             ) where
-              here : (s t i : ℕ) → argument_edge s t i ≡ gone → (t == target && i == position) ≡ true
+              here : (s t : NodeId) (i : ℕ) → argument_edge s t i ≡ gone → (t.0 == target.0 && i == position) ≡ true
               here s t i same =
-                  let t_is : t ≡ target = ap (λ (e : Edge). e.target) same in
+                  let t_is : t.0 ≡ target.0 = ap (λ (e : Edge). e.target.0) same in
                   let i_is : i ≡ position = let labels : label.Argument i ≡ label.Argument position = ap (λ (e : Edge). e.label) same in cc in
-                  rw (t_is, i_is, eqb_same target) (eqb_same position)
+                  rw (t_is, i_is, eqb_same target.0) (eqb_same position)
 
 pub the_node : (o : Option Node) → IsSome o → (n : Node) × (o ≡ Some n)
 the_node None h = cc
@@ -219,7 +216,7 @@ module _ (a : Inside) (id : NodeId) (nodes : Slab Node) (before after : Node) (h
 
         is_closed : IsClosed (graph_of a) now
         is_closed = record {
-          ends = λ e h. let both = v.sound.ends e h in (still (record { 0 = e.source }) both.0, still (record { 0 = e.target }) both.1);
+          ends = λ e h. let both = v.sound.ends e h in (still e.source both.0, still e.target both.1);
           exported = λ i other n at. still n (v.sound.exported (left.place i) other n (left.was i (other, n) at));
           aliases = λ n node at is instance i stands. stands;
           instances = λ n node at is id p owned registered. registered;

@@ -17,12 +17,13 @@ use Rattle.wac_binary.specs.declared.sorts.Sort.{Sort}
 use Rattle.wac_binary.specs.Items.{Item, alias_item, export_alias, export_item}
 use Rattle.wac_binary.specs.Indexes.{space, indexes}
 use Rattle.wac_nodes.specs.declared.node.Node.{Node}
-use Rattle.wac_nodes.specs.declared.node.NodeId.{NodeId}
+use Rattle.wac_edges.specs.declared.node.NodeId.{NodeId}
 use Rattle.wac_nodes.specs.declared.packages.PackageId.{PackageId}
 use Rattle.wac_composition.specs.declared.graph.CompositionGraph.TheInside.{Inside}
 use Rattle.wac_edges.specs.Edge.{alias_edge}
 use Rattle.wac_nodes.specs.Graph as graph
-use Rattle.wac_nodes.specs.Graph.{Graph, GraphNode, node_at, exports_of, node_number, IsSourceOf}
+use Rattle.wac_edges.specs.Edge.{node_number}
+use Rattle.wac_nodes.specs.Graph.{Graph, GraphNode, node_at, exports_of, IsSourceOf}
 use Rattle.wac_nodes.specs.Nodes.{node_of, kind_of}
 use Rattle.wac_composition.specs.Inside.{graph_of, Invariant}
 use Rattle.wac_meaning.specs.Means.{sort_of_kind, export_item_of}
@@ -84,17 +85,17 @@ export_all a g e f i old new past is =
 -- a node that is an alias
 module _ (a : Inside) (v : Invariant a) (n : ℕ) (h : IsSomeAnd (node_at (graph_of a) (node_number n)) (λ x. x.kind ≡ graph.alias)) where
   -- an alias has a source
-  pub alias_sourced : ((source position : ℕ) → set.contains a.edges (alias_edge source n position) ≡ false) → ⊥
+  pub alias_sourced : ((source : NodeId) (position : ℕ) → set.contains a.edges (alias_edge source (node_number n) position) ≡ false) → ⊥
   alias_sourced none =
       let (m, had, is) = some_node a n (λ x. x.kind ≡ graph.alias) h in
       let it = (v.sound).aliases (node_number n) (node_of m) (node_is a n (Some m) had) is in
-      clash (sym (none (it.instance).0 it.position) ∙ it.aliased) where
+      clash (sym (none it.instance it.position) ∙ it.aliased) where
         clash : false ≡ true → ⊥
         clash h = cc
 
-  module _ (source position : ℕ) (stands : set.contains a.edges (alias_edge source n position) ≡ true) where
+  module _ (source position : ℕ) (stands : set.contains a.edges (alias_edge (node_number source) (node_number n) position) ≡ true) where
     pub source_there : ContainsKey a.nodes source
-    source_there = there a.nodes.slots source ((v.sound).ends (alias_edge source n position) stands).0
+    source_there = there a.nodes.slots source ((v.sound).ends (alias_edge (node_number source) (node_number n) position) stands).0
 
     -- what is aliased is an export of the source
     pub source_exports : (s m : Node) → get a.nodes source ≡ Some s → get a.nodes n ≡ Some m → (name : Name) × (slice_get (exports_of (graph_of a) (node_of s)) position ≡ Some (name, m.item_kind))
@@ -186,8 +187,8 @@ module _ (a : Inside) (v : Invariant a) (n : ℕ) (h : IsSomeAnd (node_at (graph
             text_is p = cc
 
 -- what an alias's edge leads to is an alias
-pub alias_target : (a : Inside) → Invariant a → (n source position : ℕ) → set.contains a.edges (alias_edge source n position) ≡ true → IsSomeAnd (node_at (graph_of a) (node_number n)) (λ x. x.kind ≡ graph.alias)
-alias_target a v n source position stands = by_nodes (node_at (graph_of a) (node_number source)) (node_at (graph_of a) (node_number n)) refl refl ((v.sound).ends (alias_edge source n position) stands) where
+pub alias_target : (a : Inside) → Invariant a → (n source position : ℕ) → set.contains a.edges (alias_edge (node_number source) (node_number n) position) ≡ true → IsSomeAnd (node_at (graph_of a) (node_number n)) (λ x. x.kind ≡ graph.alias)
+alias_target a v n source position stands = by_nodes (node_at (graph_of a) (node_number source)) (node_at (graph_of a) (node_number n)) refl refl ((v.sound).ends (alias_edge (node_number source) (node_number n) position) stands) where
   by_nodes : (o r : Option GraphNode) → node_at (graph_of a) (node_number source) ≡ o → node_at (graph_of a) (node_number n) ≡ r → IsSome o × IsSome r → IsSomeAnd r (λ x. x.kind ≡ graph.alias)
   by_nodes None r from to h = absurd (none_some h.0)
     where
@@ -197,4 +198,4 @@ alias_target a v n source position stands = by_nodes (node_at (graph_of a) (node
     where
       none_some : IsSome {T = GraphNode} None → ⊥
       none_some h = cc
-  by_nodes (Some s) (Some t) from to h = ((v.sound).joins (alias_edge source n position) s t stands from to).0
+  by_nodes (Some s) (Some t) from to h = ((v.sound).joins (alias_edge (node_number source) (node_number n) position) s t stands from to).0

@@ -25,10 +25,12 @@ use Rattle.wac_nodes.specs.declared.node.NodeKind.TheVariants as code
 use Rattle.wac_nodes.specs.declared.packages.PackageId.{PackageId}
 use Rattle.wac_composition.specs.declared.encode.Encoder.{Encoder}
 use Rattle.wac_composition.specs.declared.graph.CompositionGraph.TheInside.{Inside}
+use Rattle.wac_edges.specs.declared.node.NodeId.{NodeId}
 use Rattle.wac_edges.specs.declared.edges.Edge.{Edge}
 use Rattle.wac_edges.specs.Edge.{argument_edge}
 use Rattle.wac_nodes.specs.Graph as graph
-use Rattle.wac_nodes.specs.Graph.{Graph, GraphNode, node_at, imports_of, package_at, node_number}
+use Rattle.wac_edges.specs.Edge.{node_number}
+use Rattle.wac_nodes.specs.Graph.{Graph, GraphNode, node_at, imports_of, package_at}
 use Rattle.wac_nodes.specs.Nodes.{node_of, kind_of}
 use Rattle.wac_composition.specs.Inside.{graph_of, Invariant}
 use Rattle.wac_meaning.specs.Means.{sort_of_kind, package_bytes}
@@ -57,12 +59,12 @@ arguments_last [] a = refl
 arguments_last (b ∷ args) a = ap (λ xs. (b.0.now, b.1, b.2) ∷ xs) (arguments_last args a)
 
 -- the source of an argument is there
-pub argument_there : (a : Inside) → Invariant a → (source n i : ℕ) → set.contains a.edges (argument_edge source n i) ≡ true → ContainsKey a.nodes source
-argument_there a v source n i stands = there a.nodes.slots source ((v.sound).ends (argument_edge source n i) stands).0
+pub argument_there : (a : Inside) → Invariant a → (source n i : ℕ) → set.contains a.edges (argument_edge (node_number source) (node_number n) i) ≡ true → ContainsKey a.nodes source
+argument_there a v source n i stands = there a.nodes.slots source ((v.sound).ends (argument_edge (node_number source) (node_number n) i) stands).0
 
 -- every argument of an instantiation that is writable is set
 pub argument_set : (g : Graph) (n i count : ℕ) (imports : List (Name × ItemKind)) → IsSomeAnd (node_at g (node_number n)) (λ x. x.kind ≡ graph.instantiation) → IsSomeAnd (node_at g (node_number n)) (IsWritable g n) → IfSome (node_at g (node_number n)) (λ x. imports ≡ imports_of g x)
-    → count ≡ length imports → i < count → ((source : ℕ) → set.contains g.edges (argument_edge source n i) ≡ false) → ⊥
+    → count ≡ length imports → i < count → ((source : NodeId) → set.contains g.edges (argument_edge source (node_number n) i) ≡ false) → ⊥
 argument_set g n i count imports one writable are many small none = by_node (node_at g (node_number n)) one writable are where
   clash : (b : Bool) → b ≡ true → b ≡ false → ⊥
   clash true _ h = cc
@@ -73,14 +75,14 @@ argument_set g n i count imports one writable are many small none = by_node (nod
   by_node (Some x) h w e =
       let few : count ≡ length (imports_of g x) = many ∙ ap length e in
       let (source, stands) = w.set h i (subst (λ k. i < k) few small) in
-      clash (set.contains g.edges (argument_edge source.0 n i)) stands (none source.0)
+      clash (set.contains g.edges (argument_edge source (node_number n) i)) stands (none source)
 
 named_entry : (o : Option (Name × ItemKind)) (name : Name) → option_map (λ e. e.0) o ≡ Some name → (x : Name × ItemKind) × (o ≡ Some x) × (name ≡ x.0)
 named_entry None name h = cc
 named_entry (Some x) name h = let e : name ≡ x.0 = cc in (x, refl, e)
 
 pub pushed : (a : Inside) (g : Graph) → graph_of a ≡ g → (indexes : List ℕ) (n i source : ℕ) (imports : List (Name × ItemKind)) (args new : List (Bor (List ℕ) × Sort × ℕ)) (node : Node) (name : Bor (List ℕ)) (s : Sort) (k : ℕ)
-    → get a.nodes source ≡ Some node → set.contains a.edges (argument_edge source n i) ≡ true → option_map (λ e. e.0) (slice_get imports i) ≡ Some name.now → s ≡ sort_of_kind node.item_kind → k ≡ index_in indexes source → new ≡ args ++ (name, s, k) ∷ []
+    → get a.nodes source ≡ Some node → set.contains a.edges (argument_edge (node_number source) (node_number n) i) ≡ true → option_map (λ e. e.0) (slice_get imports i) ≡ Some name.now → s ≡ sort_of_kind node.item_kind → k ≡ index_in indexes source → new ≡ args ++ (name, s, k) ∷ []
     → AreArgumentItems g (index_in indexes) n 0 (take i imports) (arguments_of args) → AreArgumentItems g (index_in indexes) n 0 (take (i + 1) imports) (arguments_of new)
 pushed a g e indexes n i source imports args new node name s k had stands named sorted placed grown before =
     let (x, at, same) = named_entry (slice_get imports i) name.now named in
@@ -173,8 +175,8 @@ pub element : (xs : List ℕ) (i : ℕ) → i < length xs → slice_get xs i ≡
 element xs i small = slice_get-get_or xs i 0 small
 
 -- the source of an edge has an index
-pub source_noted : (a : Inside) → Invariant a → (g : Graph) → graph_of a ≡ g → (xs : List ℕ) → HasRoom g xs → (e : Edge) → set.contains a.edges e ≡ true → e.source < length xs
-source_noted a v g is xs room e stands = room e.source (subst (λ h. IsSome (node_at h (node_number e.source))) is ((v.sound).ends e stands).0)
+pub source_noted : (a : Inside) → Invariant a → (g : Graph) → graph_of a ≡ g → (xs : List ℕ) → HasRoom g xs → (e : Edge) → set.contains a.edges e ≡ true → e.source.0 < length xs
+source_noted a v g is xs room e stands = room e.source.0 (subst (λ h. IsSome (node_at h e.source)) is ((v.sound).ends e stands).0)
 
 -- where the indexes are as many there is as much room
 pub room_kept : (g : Graph) (xs ys : List ℕ) → length ys ≡ length xs → HasRoom g xs → HasRoom g ys

@@ -3,7 +3,7 @@ use Rattle.std.specs.Prelude.{◌≡◌, ℕ, Some, IfSome, IsSomeAnd}
 use Rattle.wac_shapes.specs.Name.{Name}
 use Rattle.wac_subtyping.specs.Subtype.{IsSubtype}
 use Rattle.wac_shapes.specs.declared.component.ItemKind.{ItemKind}
-use Rattle.wac_nodes.specs.declared.node.NodeId.{NodeId}
+use Rattle.wac_edges.specs.declared.node.NodeId.{NodeId}
 use Rattle.wac_edges.specs.declared.edges.Label.TheVariants.{Argument}
 use Rattle.wac_nodes.specs.Graph.{Graph, GraphNode, node_at, instantiation, IsUnsatisfied}
 use Rattle.wac_nodes.specs.Sound.{Joins}

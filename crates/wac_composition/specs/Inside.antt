@@ -5,7 +5,7 @@ use Rattle.std.specs.FinSet as set
 use Rattle.slab.specs.Slab.{get}
 use Rattle.wac_shapes.specs.Name.{Name, find_name}
 use Rattle.wac_collection.specs.Package.{PackageParts, Key, same_key}
-use Rattle.wac_nodes.specs.declared.node.NodeId.{NodeId}
+use Rattle.wac_edges.specs.declared.node.NodeId.{NodeId}
 use Rattle.wac_nodes.specs.declared.packages.PackageId.{PackageId}
 use Rattle.wac_composition.specs.declared.graph.CompositionGraph.TheInside.{Inside}
 use Rattle.wac_edges.specs.Edge.{argument_edge}
@@ -31,8 +31,8 @@ key_of p = (p.name, p.version)
 pub record Invariant (a : Inside) : Type 0 where
   pub sound : IsSound (graph_of a)
   -- a position with an argument edge is satisfied, and no other
-  pub marked : (source target position : ℕ) → set.contains a.edges (argument_edge source target position) ≡ true → satisfied_at (get a.nodes target) position ≡ true
-  pub edged : (target position : ℕ) → satisfied_at (get a.nodes target) position ≡ true → (source : ℕ) × (set.contains a.edges (argument_edge source target position) ≡ true)
+  pub marked : (source target : NodeId) (position : ℕ) → set.contains a.edges (argument_edge source target position) ≡ true → satisfied_at (get a.nodes target.0) position ≡ true
+  pub edged : (target : NodeId) (position : ℕ) → satisfied_at (get a.nodes target.0) position ≡ true → (source : NodeId) × (set.contains a.edges (argument_edge source target position) ≡ true)
   -- packages are found under their keys, and nothing else is
   pub keyed : (id : PackageId) (p : PackageParts) → package_at (graph_of a) id ≡ Some p → lookup (same_key (key_of p)) a.package_map.entries ≡ Some id
   pub found : (k : Key) (id : PackageId) → lookup (same_key k) a.package_map.entries ≡ Some id → (p : PackageParts) × (package_at (graph_of a) id ≡ Some p) × (same_key k (key_of p) ≡ true)

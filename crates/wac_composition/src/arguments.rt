@@ -10,7 +10,7 @@ ghost use Rattle.wac_edges.specs.Edge.{argument_edge as labelled};
 ghost use Rattle.wac_nodes.specs.Graph.{node_at, IsArgumentOf};
 ghost use Rattle.wac_nodes.specs.Nodes.{IsInstantiationAt, satisfied_at, node_of};
 ghost use Rattle.wac_nodes.specs.Steps.{SetsArgument, UnsetsArgument};
-ghost use Rattle.wac_nodes.specs.declared.node.NodeId.{NodeId as AnId};
+ghost use Rattle.wac_edges.specs.declared.node.NodeId.{NodeId as AnId};
 
 use crate::graph::CompositionGraph;
 use slab::Slab;
@@ -21,11 +21,11 @@ use wac_types::{ItemKind, SubtypeChecker, TypeFault};
 
 /// The edge of a node that is the argument for an instantiation's import at this position.
 pub fn argument_edge(instantiation: NodeId, position: usize, argument: NodeId) -> Edge
-    ensures { result ≡ labelled argument.0 instantiation.0 position }
+    ensures { result ≡ labelled argument instantiation position }
 {
     Edge {
-        source: argument.0,
-        target: instantiation.0,
+        source: argument,
+        target: instantiation,
         label: Label::Argument(position),
     }
 }
@@ -116,7 +116,7 @@ impl CompositionGraph {
         argument: NodeId,
     ) -> Result<(), AllocError>
         requires { CanBeGiven self.old instantiation position argument }
-        ensures given { OnOk result (self.new ≡ record self.old { edges = set.insert self.old.edges (labelled argument.0 instantiation.0 position) }) }
+        ensures given { OnOk result (self.new ≡ record self.old { edges = set.insert self.old.edges (labelled argument instantiation position) }) }
         ensures kept { OnErr result (self.new ≡ self.old) }
     {
         let edge = argument_edge(instantiation, position, argument);
@@ -133,7 +133,7 @@ impl CompositionGraph {
     /// Takes a node away as the argument for an instantiation's import at this position, where it is given.
     pub(crate) fn take_argument(&mut self, instantiation: NodeId, position: usize, argument: NodeId)
         requires { IsInstantiation self.old instantiation }
-        ensures { self.new ≡ record self.old { edges = set.remove self.old.edges (labelled argument.0 instantiation.0 position) } }
+        ensures { self.new ≡ record self.old { edges = set.remove self.old.edges (labelled argument instantiation position) } }
     {
         let edge = argument_edge(instantiation, position, argument);
         if self.edges.contains(edge) {

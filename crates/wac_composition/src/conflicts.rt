@@ -6,11 +6,12 @@ ghost use Rattle.wac_shapes.specs.Name.{Name as AName};
 ghost use Rattle.wac_collection.specs.Package.{Key};
 ghost use Rattle.wac_causes.specs.Cause.{IsConflict, IsFirstConflict, HasNoConflict, cause_of, conflict as conflict_cause};
 ghost use Rattle.wac_causes.specs.Search.{Clashes, IsFirstOf, IsLowest, IsRefused};
-ghost use Rattle.wac_nodes.specs.Graph.{node_at, node_number};
+ghost use Rattle.wac_edges.specs.Edge.{node_number};
+ghost use Rattle.wac_nodes.specs.Graph.{node_at};
 ghost use Rattle.wac_nodes.specs.Nodes.{names_of};
 ghost use Rattle.wac_edges.specs.Order.{IsAcyclic};
 ghost use Rattle.wac_nodes.specs.declared.options.EncodeOptions.{EncodeOptions as Asked};
-ghost use Rattle.wac_nodes.specs.declared.node.NodeId.{NodeId as AnId};
+ghost use Rattle.wac_edges.specs.declared.node.NodeId.{NodeId as AnId};
 
 use crate::graph::CompositionGraph;
 use indexmap::IndexMap;

@@ -7,8 +7,10 @@ ghost use Rattle.std.specs.List.{list_any, flat_map};
 ghost use Rattle.std.specs.BTreeSet as positions;
 ghost use Rattle.std.specs.Ordering.{nat_cmp};
 ghost use Rattle.wac_binary.specs.Views.{arguments_of};
+ghost use Rattle.wac_edges.specs.declared.node.NodeId.{NodeId as AnId};
 ghost use Rattle.wac_edges.specs.Edge.{is_left};
-ghost use Rattle.wac_nodes.specs.Graph.{node_at, imports_of, instantiation, alias, node_number};
+ghost use Rattle.wac_edges.specs.Edge.{node_number};
+ghost use Rattle.wac_nodes.specs.Graph.{node_at, imports_of, instantiation, alias};
 ghost use Rattle.wac_meaning.specs.Means.{Means, is_there, same_package, sort_of_kind, export_item_of, custom_item, processor_customs};
 ghost use Rattle.wac_meaning.specs.Encoding.{WritesNode, AreArgumentItems, Wrote, WroteAll, HasRoom, index_in};
 ghost use Rattle.std.specs.Result.{IsErrAnd};
@@ -85,7 +87,7 @@ impl CompositionGraph {
 
     /// The refusal that names the lowest node on a cycle.
     fn cycle(&self) -> Result<EncodeError, AllocError>
-        requires { (n : ℕ) × IsOnCycle self.now.edges n }
+        requires { (n : AnId) × IsOnCycle self.now.edges n }
         ensures { IfOk result (λ e. (o : Asked) → IsRefused self.now o e) }
     {
         let Some(n) = self
@@ -94,7 +96,7 @@ impl CompositionGraph {
         else {
             unreachable!()
         };
-        Ok(EncodeError::GraphContainsCycle { node: NodeId(n) })
+        Ok(EncodeError::GraphContainsCycle { node: n })
     }
 
     /// Whether a node has a name, is a definition or an import, or an instantiation of which an argument is not set.
@@ -199,7 +201,7 @@ impl CompositionGraph {
         let imports = self.imports_at(n);
         let mut arguments = Vec::new(self.alloc);
         for i in 0..imports.len() {
-            let Some(source) = self.edges.argument(n, i) else {
+            let Some(NodeId(source)) = self.edges.argument(NodeId(n), i) else {
                 unreachable!()
             };
             let sort = sort_of(self.nodes[source].item_kind);
@@ -216,7 +218,7 @@ impl CompositionGraph {
         ensures kept { encoder.new.indexes ≡ encoder.old.indexes }
         ensures fault { IfErr result (λ e. cause_of e ≡ None) }
     {
-        let Some((source, position)) = self.edges.alias_source(n) else {
+        let Some((NodeId(source), position)) = self.edges.alias_source(NodeId(n)) else {
             unreachable!()
         };
         let ItemKind::Instance(interface) = self.nodes[source].item_kind else {

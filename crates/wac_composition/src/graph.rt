@@ -11,7 +11,7 @@ ghost use Rattle.wac_subtyping.specs.TreeLaws.{GrowthKeepsTrees};
 ghost use Rattle.wac_shapes.specs.Named.{named_at};
 ghost use Rattle.wac_shapes.specs.declared.component.«Type».TheVariants.{World as world_type};
 ghost use Rattle.wac_nodes.specs.Graph.{node_at, package_at, export_at, package_in, import_name, IsRegistered, IsAliasOf, IsSourceOf};
-ghost use Rattle.wac_nodes.specs.declared.node.NodeId.{NodeId as AnId};
+ghost use Rattle.wac_edges.specs.declared.node.NodeId.{NodeId as AnId};
 ghost use Rattle.wac_nodes.specs.Sound.{IsSound};
 ghost use Rattle.wac_nodes.specs.Steps.{IsEmpty, Adds, Registers, Imports, Instantiates, Aliases, SetsArgument, UnsetsArgument, SetsName, Exports, Unexports};
 ghost use Rattle.wac_nodes.specs.TakenOut.{without, taken_at};
@@ -341,14 +341,14 @@ impl CompositionGraph {
             });
         };
         let item_kind = *item_kind;
-        if let Some(alias) = self.edges.alias(instance.0, position) {
-            return Ok(NodeId(alias));
+        if let Some(alias) = self.edges.alias(instance, position) {
+            return Ok(alias);
         }
         self.nodes.reserve(1)?;
         let number = self.nodes.vacant_key();
         self.edges.add(Edge {
-            source: instance.0,
-            target: number,
+            source: instance,
+            target: NodeId(number),
             label: Label::Alias(position),
         })?;
         self.nodes.insert_reserved(Node {
@@ -366,12 +366,12 @@ impl CompositionGraph {
         ensures source { IfSome result (λ s. IsSourceOf self.now id s.0 s.1.now) }
         ensures none { IfNone result ((instance : AnId) (position : ℕ) → IsAliasOf self.now instance position id → ⊥) }
     {
-        let (source, position) = self.edges.alias_source(id.0)?;
-        let ItemKind::Instance(interface) = self.nodes[source].item_kind else {
+        let (source, position) = self.edges.alias_source(id)?;
+        let ItemKind::Instance(interface) = self.nodes[source.0].item_kind else {
             unreachable!()
         };
         let name = self.types[interface].exports.name_at(position);
-        Some((NodeId(source), name))
+        Some((source, name))
     }
 
     /// Gives a node as the argument of this name to an instantiation; where it is given already, nothing changes.

@@ -2,7 +2,8 @@
 ghost use Rattle.std.specs.Prelude.{◌≡◌, ◌<◌, ◌-◌, ◌+◌, ◌∷◌, [], IfSome, MatchOption, Some, None};
 ghost use Rattle.std.specs.BTreeSet as positions;
 ghost use Rattle.std.specs.Ordering.{nat_cmp};
-ghost use Rattle.wac_nodes.specs.Graph.{node_at, node_number};
+ghost use Rattle.wac_edges.specs.Edge.{node_number};
+ghost use Rattle.wac_nodes.specs.Graph.{node_at};
 ghost use Rattle.wac_nodes.specs.Imports.{asked_rows, node_rows};
 ghost use Rattle.wac_asking.specs.ImportsLeft.{unset_from, node_left, instantiations_left, nodes_left};
 
@@ -30,7 +31,7 @@ impl<'a> Model for Imports<'a> {
     ghost use Rattle.std.specs.Prelude.{List, Option};
     ghost use Rattle.wac_shapes.specs.Name.{Name};
     ghost use Rattle.wac_shapes.specs.declared.component.ItemKind.{ItemKind};
-    ghost use Rattle.wac_nodes.specs.declared.node.NodeId.{NodeId};
+    ghost use Rattle.wac_edges.specs.declared.node.NodeId.{NodeId};
     ghost use Rattle.wac_asking.specs.ImportsLeft.{left};
 
     ghost Value = { List (Name × ItemKind × Option NodeId) };

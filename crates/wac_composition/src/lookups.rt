@@ -1,6 +1,7 @@
 //! What is looked up of a graph's instantiations.
 ghost use Rattle.std.specs.Prelude.{◌≡◌, IsSomeAnd, IfSome, Some};
-ghost use Rattle.wac_nodes.specs.Graph.{node_at, package_at, imports_of, instantiation, node_number};
+ghost use Rattle.wac_edges.specs.Edge.{node_number};
+ghost use Rattle.wac_nodes.specs.Graph.{node_at, package_at, imports_of, instantiation};
 
 use crate::graph::{CompositionGraph, package_in_slots};
 use wac_nodes::PackageId;

@@ -11,7 +11,7 @@ use Rattle.wac_shapes.specs.declared.component.Interface.{Interface}
 use Rattle.wac_shapes.specs.declared.component.ItemKind.{ItemKind}
 use Rattle.wac_shapes.specs.declared.component.World.{World}
 use Rattle.wac_shapes.specs.declared.component.WorldId.{WorldId}
-use Rattle.wac_nodes.specs.declared.node.NodeId.{NodeId}
+use Rattle.wac_edges.specs.declared.node.NodeId.{NodeId}
 use Rattle.wac_nodes.specs.declared.packages.PackageId.{PackageId}
 use Rattle.wac_edges.specs.Edge.{alias_edge}
 use Rattle.wac_nodes.specs.Graph.{Graph, GraphNode, node_at, package_at}
@@ -63,7 +63,7 @@ alias-later old new instance id p name a kept is h =
       h.1,
       kept.nodes instance _ is,
       named-stays (item_at old.types.interfaces (p.instance_type).0) (item_at new.types.interfaces (p.instance_type).0) (kept.interfaces (p.instance_type).0) name h.1 (subst (λ n. export_named old n name ≡ Some h.1) same h.3),
-      kept.edges (alias_edge instance.0 a.0 h.1.0) h.4,
+      kept.edges (alias_edge instance a h.1.0) h.4,
     )
   where
     some_same : (o : Option GraphNode) (x y : GraphNode) → o ≡ Some x → o ≡ Some y → x ≡ y

@@ -18,7 +18,7 @@ use Rattle.wac_edges.specs.declared.edges.Edge.{Edge}
 use Rattle.wac_edges.specs.Edge.{alias_edge, argument_edge}
 use Rattle.wac_nodes.specs.declared.errors.ExportError.{ExportError}
 use Rattle.wac_nodes.specs.declared.errors.InstantiationArgumentError.{InstantiationArgumentError}
-use Rattle.wac_nodes.specs.declared.node.NodeId.{NodeId}
+use Rattle.wac_edges.specs.declared.node.NodeId.{NodeId}
 use Rattle.wac_nodes.specs.declared.packages.PackageId.{PackageId}
 use Rattle.wac_nodes.specs.Graph as graph
 use Rattle.wac_nodes.specs.Graph.{Graph, GraphNode, node_at, package_at, export_at, IsAliasOf}
@@ -205,14 +205,14 @@ module _ (old new : Graph) (plug socket : PackageId) (q : PackageParts) (a run :
     after (inr w) = made-of h.0 h.1 w.0 w.1 h.2 w.2 w.3 w.4
 
 -- an alias of a new instance is there
-alias-there : (old mid new : Graph) (instance : NodeId) (n : GraphNode) (name : Name) (alias : NodeId) → ((e : Edge) → set.contains old.edges e ≡ true → IsSome (node_at old (record { 0 = e.source })))
+alias-there : (old mid new : Graph) (instance : NodeId) (n : GraphNode) (name : Name) (alias : NodeId) → ((e : Edge) → set.contains old.edges e ≡ true → IsSome (node_at old e.source))
     → AddsNode old instance n mid → node_at mid instance ≡ Some n → Aliases mid instance name (Ok alias) new → IsSome (node_at new alias)
 alias-there old mid new instance n name alias ends added there step = at (export_named mid n name) (subst (λ o. IfSome o (λ n. AliasesOf mid instance n name (Ok alias) new)) there step).1 where
   at : (o : Option (ℕ × ItemKind)) → IsSomeAnd o (λ e. GivesAlias mid instance n e.0 e.1 alias new) → IsSome (node_at new alias)
   at None h = absurd h
   at (Some e) (inl h) =
-      let before : IsAliasOf old instance e.0 alias = ap (λ (g : Graph). set.contains g.edges (alias_edge instance.0 alias.0 e.0)) (sym added.2) ∙ h.0 in
-      let was : IsSome (node_at old instance) = ends (alias_edge instance.0 alias.0 e.0) before in
+      let before : IsAliasOf old instance e.0 alias = ap (λ (g : Graph). set.contains g.edges (alias_edge instance alias e.0)) (sym added.2) ∙ h.0 in
+      let was : IsSome (node_at old instance) = ends (alias_edge instance alias e.0) before in
       absurd (false≢true (sym (ap is_some added.1) ∙ was))
   at (Some e) (inr h) = ap (λ (g : Graph). is_some (node_at g alias)) h.3 ∙ ap is_some (insert_same mid.nodes alias.0 _)
 
@@ -244,10 +244,10 @@ module _ (old new : Graph) (alias : NodeId) (name : Name) (x : GraphNode) (there
   module _ (sound : IsSound new) (instance : NodeId) (position : ℕ) (aliased : IsAliasOf old instance position alias) where
     is-alias : x.kind ≡ graph.alias
     is-alias =
-        let edge : IsAliasOf new instance position alias = ap (λ (g : Graph). set.contains g.edges (alias_edge instance.0 alias.0 position)) exported-is ∙ aliased in
-        let source = some-of (node_at new instance) (sound.ends (alias_edge instance.0 alias.0 position) edge).0 in
+        let edge : IsAliasOf new instance position alias = ap (λ (g : Graph). set.contains g.edges (alias_edge instance alias position)) exported-is ∙ aliased in
+        let source = some-of (node_at new instance) (sound.ends (alias_edge instance alias position) edge).0 in
         let target : node_at new alias ≡ Some (record x { export_name = Some name }) = ap (λ (g : Graph). node_at g alias) exported-is ∙ insert_same old.nodes alias.0 (record x { export_name = Some name }) in
-        (sound.joins (alias_edge instance.0 alias.0 position) source.0 (record x { export_name = Some name }) edge source.1 target).0
+        (sound.joins (alias_edge instance alias position) source.0 (record x { export_name = Some name }) edge source.1 target).0
 
     still-there : (n : NodeId) (y : GraphNode) → y.kind ≡ graph.instantiation → node_at old n ≡ Some y → node_at new n ≡ Some y
     still-there n y kind was = ap (λ (g : Graph). node_at g n) exported-is ∙ by_eq n.0 alias.0
@@ -264,7 +264,7 @@ module _ (old new : Graph) (alias : NodeId) (name : Name) (x : GraphNode) (there
           h.1,
           still-there giver node kind is,
           ap (λ (g : Graph). export_named g node export) exported-is ∙ subst (λ n. export_named old n export ≡ Some h.1) same h.3,
-          ap (λ (g : Graph). set.contains g.edges (alias_edge giver.0 given.0 h.1.0)) exported-is ∙ h.4,
+          ap (λ (g : Graph). set.contains g.edges (alias_edge giver given h.1.0)) exported-is ∙ h.4,
         )
 
 -- what was made gives the plug's export to the socket, and exports the socket's
@@ -288,10 +288,10 @@ module _ (old new : Graph) (plug socket : PackageId) (a run : Name) (p q : Packa
   second_stays : (node_at m.there m.plugged ≡ Some plug_node) × Stays m.made m.there
   second_stays = node-stays m.made m.there m.plugged plug_node second
 
-  ends : (e : Edge) → set.contains (m.made).edges e ≡ true → IsSome (node_at m.made (record { 0 = e.source }))
+  ends : (e : Edge) → set.contains (m.made).edges e ≡ true → IsSome (node_at m.made e.source)
   ends e h =
-      let was = some-of (node_at old (record { 0 = e.source })) (sound.ends e (ap (λ (g : Graph). set.contains g.edges e) (sym first.2) ∙ h)).0 in
-      there-is (node_at m.made (record { 0 = e.source })) was.0 (first_stays.1.nodes (record { 0 = e.source }) was.0 was.1)
+      let was = some-of (node_at old e.source) (sound.ends e (ap (λ (g : Graph). set.contains g.edges e) (sym first.2) ∙ h)).0 in
+      there-is (node_at m.made e.source) was.0 (first_stays.1.nodes e.source was.0 was.1)
 
   abbrev given : NodeId
   given = m.wiring.0

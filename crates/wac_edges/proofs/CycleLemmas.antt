@@ -2,30 +2,31 @@ use Rattle.std.proofs.Common.{◌≡◌, ℕ, zero, suc, ◌<◌, ◌≤◌, Boo
 use Rattle.std.specs.List.{list_any, IsDistinct, AllByRecursion}
 use Rattle.std.proofs.lemmas.Bool.{eqb-true}
 use Rattle.std.proofs.lemmas.Map.Steps.{length-le_from_distinct_below}
-use Rattle.wac_edges.specs.Edge.{is_left}
+use Rattle.wac_edges.specs.declared.node.NodeId.{NodeId}
+use Rattle.wac_edges.specs.Edge.{is_left, node_number}
 use Rattle.wac_edges.specs.Order.{Edges, IsEdge, Leads, IsOnCycle, IsStuck}
 
 -- each node of the list has an edge to the next, and all are left
 abbrev Chain : Edges → List Bool → ℕ → List ℕ → Type 0
 Chain edges left a [] = is_left left a ≡ true
-Chain edges left a (b ∷ bs) = (is_left left a ≡ true) × IsEdge edges a b × Chain edges left b bs
+Chain edges left a (b ∷ bs) = (is_left left a ≡ true) × IsEdge edges (node_number a) (node_number b) × Chain edges left b bs
 
 back : (edges : Edges) (left : List Bool) → IsStuck edges (is_left left) → (k n : ℕ) → is_left left n ≡ true → (a : ℕ) × (bs : List ℕ) × Chain edges left a bs × (length bs ≡ k)
 back edges left stuck zero n is = (n, [], is, refl)
 back edges left stuck (suc k) n is =
     let (a, bs, chain, long) = back edges left stuck k n is in
     let (e, stands, leads, also) = stuck a (first a bs chain) in
-    (e.source, a ∷ bs, (also, (e, stands, refl, leads), chain), ap suc long) where
+    (e.source.0, a ∷ bs, (also, (e, stands, refl, ap node_number leads), chain), ap suc long) where
       first : (a : ℕ) (bs : List ℕ) → Chain edges left a bs → is_left left a ≡ true
       first a [] h = h
       first a (b ∷ bs) h = h.0
 
-reach : (edges : Edges) (left : List Bool) (a x : ℕ) (bs : List ℕ) → Chain edges left a bs → list_any (eqb x) bs ≡ true → (ns : List ℕ) × Leads edges a ns x
+reach : (edges : Edges) (left : List Bool) (a x : ℕ) (bs : List ℕ) → Chain edges left a bs → list_any (eqb x) bs ≡ true → (ns : List NodeId) × Leads edges (node_number a) ns (node_number x)
 reach edges left a x [] chain h = cc
 reach edges left a x (b ∷ bs) chain h =
-    elim (eqb x b) as (λ t. eqb x b ≡ t → (t || list_any (eqb x) bs) ≡ true → (ns : List ℕ) × Leads edges a ns x) [
+    elim (eqb x b) as (λ t. eqb x b ≡ t → (t || list_any (eqb x) bs) ≡ true → (ns : List NodeId) × Leads edges (node_number a) ns (node_number x)) [
       | true ↦ λ same _. let is : b ≡ x = sym (eqb-true x b same) in ([], rw is at chain.1)
-      | false ↦ λ _ rest. let (ns, leads) = reach edges left b x bs chain.2 rest in (b ∷ ns, (chain.1, leads))
+      | false ↦ λ _ rest. let (ns, leads) = reach edges left b x bs chain.2 rest in (node_number b ∷ ns, (chain.1, leads))
     ] refl h
 
 or_first : (a b : Bool) → (a || b) ≡ false → a ≡ false
@@ -36,19 +37,19 @@ or_second : (a b : Bool) → (a || b) ≡ false → b ≡ false
 or_second true b h = cc
 or_second false b h = h
 
-repeats : (edges : Edges) (left : List Bool) (a : ℕ) (bs : List ℕ) → Chain edges left a bs → IsDistinct eqb (a ∷ bs) ⊎ ((n : ℕ) × IsOnCycle edges n)
+repeats : (edges : Edges) (left : List Bool) (a : ℕ) (bs : List ℕ) → Chain edges left a bs → IsDistinct eqb (a ∷ bs) ⊎ ((n : NodeId) × IsOnCycle edges n)
 unfolding IsDistinct
 repeats edges left a [] chain = inl (tt, tt)
 repeats edges left a (b ∷ bs) chain =
-    elim (list_any (eqb a) (b ∷ bs)) as (λ t. list_any (eqb a) (b ∷ bs) ≡ t → IsDistinct eqb (a ∷ b ∷ bs) ⊎ ((n : ℕ) × IsOnCycle edges n)) [
-      | true ↦ λ again. inr (a, reach edges left a a (b ∷ bs) chain again)
+    elim (list_any (eqb a) (b ∷ bs)) as (λ t. list_any (eqb a) (b ∷ bs) ≡ t → IsDistinct eqb (a ∷ b ∷ bs) ⊎ ((n : NodeId) × IsOnCycle edges n)) [
+      | true ↦ λ again. inr (node_number a, reach edges left a a (b ∷ bs) chain again)
       | false ↦ λ new. further (repeats edges left b bs chain.2) (none (b ∷ bs) new)
     ] refl where
       none : (xs : List ℕ) → list_any (eqb a) xs ≡ false → AllByRecursion (λ y. eqb a y ≡ false) xs
       none [] h = tt
       none (x ∷ xs) h = (or_first (eqb a x) (list_any (eqb a) xs) h, none xs (or_second (eqb a x) (list_any (eqb a) xs) h))
 
-      further : IsDistinct eqb (b ∷ bs) ⊎ ((n : ℕ) × IsOnCycle edges n) → AllByRecursion (λ y. eqb a y ≡ false) (b ∷ bs) → IsDistinct eqb (a ∷ b ∷ bs) ⊎ ((n : ℕ) × IsOnCycle edges n)
+      further : IsDistinct eqb (b ∷ bs) ⊎ ((n : NodeId) × IsOnCycle edges n) → AllByRecursion (λ y. eqb a y ≡ false) (b ∷ bs) → IsDistinct eqb (a ∷ b ∷ bs) ⊎ ((n : NodeId) × IsOnCycle edges n)
       further (inl d) new = inl (new, d)
       further (inr c) new = inr c
 
@@ -68,11 +69,11 @@ within (b ∷ left) zero h = omega arith
 within (b ∷ left) (suc q) h = let r = within left q h in omega arith
 
 -- where nodes are left and none is ready, the edges form a cycle
-pub stuck_cycle : (edges : Edges) (left : List Bool) → IsStuck edges (is_left left) → (m : ℕ) → is_left left m ≡ true → (n : ℕ) × IsOnCycle edges n
+pub stuck_cycle : (edges : Edges) (left : List Bool) → IsStuck edges (is_left left) → (m : ℕ) → is_left left m ≡ true → (n : NodeId) × IsOnCycle edges n
 stuck_cycle edges left stuck m is =
     let (a, bs, chain, long) = back edges left stuck (length left) m is in
     pick a bs chain long (repeats edges left a bs chain) where
-      pick : (a : ℕ) (bs : List ℕ) → Chain edges left a bs → length bs ≡ length left → IsDistinct eqb (a ∷ bs) ⊎ ((n : ℕ) × IsOnCycle edges n) → (n : ℕ) × IsOnCycle edges n
+      pick : (a : ℕ) (bs : List ℕ) → Chain edges left a bs → length bs ≡ length left → IsDistinct eqb (a ∷ bs) ⊎ ((n : NodeId) × IsOnCycle edges n) → (n : NodeId) × IsOnCycle edges n
       pick a bs chain long (inr c) = c
       pick a bs chain long (inl d) =
           let short : length (a ∷ bs) ≤ length left = length-le_from_distinct_below (a ∷ bs) (length left) d (λ q h. within left q (all_left edges left a bs chain q h)) in

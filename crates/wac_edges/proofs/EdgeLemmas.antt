@@ -17,6 +17,11 @@ use Rattle.wac_edges.specs.contracts.edges.EdgePartialEq.TheImpl as EdgeEq
 use Rattle.wac_edges.specs.declared.edges.Label.{Label}
 use Rattle.wac_edges.specs.declared.edges.Label.TheVariants.{Alias, Argument, Dependency}
 use Rattle.wac_edges.specs.declared.edges.Edge.{Edge}
+use Rattle.wac_edges.specs.declared.node.NodeId.{NodeId}
+
+-- two nodes of one number are one node
+pub same_node : (m n : NodeId) → m.0 ≡ n.0 → m ≡ n
+same_node m n e = ap (λ (k : ℕ). let it : NodeId = record { 0 = k } in it) e
 
 pub edge_cmp_total : IsTotalOrder edge_cmp
 edge_cmp_total = on_total edge_key nat_list_cmp_total
@@ -43,8 +48,8 @@ same_label Dependency Dependency = refl
 
 pub same_edge : (e f : Edge) → (EdgeEq.ghosts).eq e f ≡ eq_by_cmp edge_cmp f e
 same_edge e f =
-    ap (λ b. eqb e.source f.source && (eqb e.target f.target && b)) (same_label e.label f.label)
-    ∙ sym (same_more f.source e.source (f.target ∷ label_key f.label) (e.target ∷ label_key e.label) ∙ ap (λ b. eqb e.source f.source && b) (same_more f.target e.target (label_key f.label) (label_key e.label)))
+    ap (λ b. eqb e.source.0 f.source.0 && (eqb e.target.0 f.target.0 && b)) (same_label e.label f.label)
+    ∙ sym (same_more f.source.0 e.source.0 (f.target.0 ∷ label_key f.label) (e.target.0 ∷ label_key e.label) ∙ ap (λ b. eqb e.source.0 f.source.0 && b) (same_more f.target.0 e.target.0 (label_key f.label) (label_key e.label)))
 
 any_same : (es : List Edge) (e : Edge) → list_any (λ y. (EdgeEq.ghosts).eq y e) es ≡ list_any (eq_by_cmp edge_cmp e) es
 any_same [] e = refl

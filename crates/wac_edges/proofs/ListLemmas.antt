@@ -12,8 +12,7 @@ use Rattle.wac_edges.specs.declared.edges.End.{End}
 use Rattle.wac_edges.specs.declared.edges.Edge.{Edge}
 use Rattle.wac_edges.specs.declared.records.Record.{Record}
 use Rattle.wac_edges.specs.declared.records.Firsts.{Firsts}
-use Rattle.wac_edges.specs.Ends.{at_end}
-use Rattle.wac_edges.specs.Records.{Table, Place, AreLinked, AreListed, HasEdge, IsList, list_from, list_at, links_at, first_at, place, places, edge_at}
+use Rattle.wac_edges.specs.Records.{Table, Place, AreLinked, AreListed, HasEdge, IsList, list_from, list_at, links_at, number_at, first_at, place, places, edge_at}
 use Rattle.wac_edges.proofs.TableLemmas.{is_there}
 
 -- ---- lists of keys with edges
@@ -113,7 +112,7 @@ module _ (t : Table) (first : ℕ → Option ℕ) (end : End) (m : AreLinked (pl
   pair_in here (y ∷ ys) (is, r, there, same, next) k e (inr w) at = Contains-cons y (k, e) ys (pair_in (links_at end r).next ys next k e w at)
 
   -- the records of a list stand at one node
-  node_in : (node : ℕ) (here : Option ℕ) (xs : List (ℕ × Edge)) → IsList t end here xs → ((k : ℕ) (r : Record) → here ≡ Some k → t k ≡ Some r → at_end end r.edge ≡ node) → (k : ℕ) → IsIn xs k → (r : Record) × (t k ≡ Some r) × (at_end end r.edge ≡ node)
+  node_in : (node : ℕ) (here : Option ℕ) (xs : List (ℕ × Edge)) → IsList t end here xs → ((k : ℕ) (r : Record) → here ≡ Some k → t k ≡ Some r → number_at end r.edge ≡ node) → (k : ℕ) → IsIn xs k → (r : Record) × (t k ≡ Some r) × (number_at end r.edge ≡ node)
   node_in node here [] h top k w = absurd w
   node_in node here (x ∷ xs) (is, r, there, same, next) top k (inl e) = (r, ap t (sym e) ∙ there, top x.0 r is there)
   node_in node here (x ∷ xs) (is, r, there, same, next) top k (inr w) = node_in node (links_at end r).next xs next
@@ -121,7 +120,7 @@ module _ (t : Table) (first : ℕ → Option ℕ) (end : End) (m : AreLinked (pl
       let (y, at_y, node_y, _, _) = m.forth x.0 j (place end r) (ap (option_map (place end)) there) leads in
       let (s', at_s, same_s) = stands j y at_y in
       let one : s' ≡ s = cc in
-      ap (λ (v : Record). at_end end v.edge) (sym one) ∙ sym (ap (λ (p : Place). p.node) same_s) ∙ node_y ∙ top x.0 r is there) k w
+      ap (λ (v : Record). number_at end v.edge) (sym one) ∙ sym (ap (λ (p : Place). p.node) same_s) ∙ node_y ∙ top x.0 r is there) k w
 
   -- each record of a list is older than those before
   older_in : (a : ℕ) (here : Option ℕ) (xs : List (ℕ × Edge)) → IsList t end here xs → ((k : ℕ) → here ≡ Some k → m.age k < a) → (k : ℕ) → IsIn xs k → m.age k < a
@@ -163,13 +162,13 @@ module _ (t : Table) (first : ℕ → Option ℕ) (end : End) (m : AreLinked (pl
   first_in here (x ∷ xs) h k e = let same : Some x.0 ≡ Some k = sym h.0 ∙ e in inl (cc)
 
   -- the list from the first record of a node has each record there
-  all_in : (node : ℕ) (xs : List (ℕ × Edge)) → IsList t end (first node) xs → (d k : ℕ) (r : Record) → t k ≡ Some r → at_end end r.edge ≡ node → m.bound ≤ m.age k + d → IsIn xs k
+  all_in : (node : ℕ) (xs : List (ℕ × Edge)) → IsList t end (first node) xs → (d k : ℕ) (r : Record) → t k ≡ Some r → number_at end r.edge ≡ node → m.bound ≤ m.age k + d → IsIn xs k
   all_in node xs list zero k r there at near = let low = m.aged k (place end r) (ap (option_map (place end)) there) in absurd (omega arith)
   all_in node xs list (suc d) k r there at near = split (λ j s there_s at_s closer. all_in node xs list d j s there_s at_s closer) (links_at end r).previous refl where
     placed : places end t k ≡ Some (place end r)
     placed = ap (option_map (place end)) there
 
-    split : ((j : ℕ) (s : Record) → t j ≡ Some s → at_end end s.edge ≡ node → m.bound ≤ m.age j + d → IsIn xs j) → (o : Option ℕ) → (links_at end r).previous ≡ o → IsIn xs k
+    split : ((j : ℕ) (s : Record) → t j ≡ Some s → number_at end s.edge ≡ node → m.bound ≤ m.age j + d → IsIn xs j) → (o : Option ℕ) → (links_at end r).previous ≡ o → IsIn xs k
     split more None none = first_in (first node) xs list k (ap first (sym at) ∙ m.begun k (place end r) placed none)
     split more (Some j) leads =
         let (y, at_j, node_j, next_j) = m.back k j (place end r) placed leads in
@@ -197,7 +196,7 @@ module _ (t : Table) (first : ℕ → Option ℕ) (end : End) (m : AreLinked (pl
   -- a list has no more records than the table has slots
   short_in : (slots : ℕ) → ((k : ℕ) (r : Record) → t k ≡ Some r → k < slots) → (node : ℕ) (xs : List (ℕ × Edge)) → IsList t end (first node) xs → length (map (λ (x : ℕ × Edge). x.0) xs) ≤ slots
   short_in slots within node xs list = length-le_from_distinct_below (map (λ (x : ℕ × Edge). x.0) xs) slots (distinct_in (first node) xs list)
-      (λ q h. let (r, there, _) = node_in node (first node) xs list (λ k r top there. let (x, is, node_x, _) = m.begins node k top in let (s, at_s, same) = stands k x is in let one : s ≡ r = cc in ap (λ (v : Record). at_end end v.edge) (sym one) ∙ sym (ap (λ (p : Place). p.node) same) ∙ node_x) q (is_in xs q h) in within q r there)
+      (λ q h. let (r, there, _) = node_in node (first node) xs list (λ k r top there. let (x, is, node_x, _) = m.begins node k top in let (s, at_s, same) = stands k x is in let one : s ≡ r = cc in ap (λ (v : Record). number_at end v.edge) (sym one) ∙ sym (ap (λ (p : Place). p.node) same) ∙ node_x) q (is_in xs q h) in within q r there)
 
 -- ---- the lists of a table
 module _ (s : Slab Record) (firsts : List Firsts) (listed : AreListed (get s) firsts) (node : ℕ) (end : End) where
@@ -224,30 +223,30 @@ module _ (s : Slab Record) (firsts : List Firsts) (listed : AreListed (get s) fi
   pub the_length : length (list_at s end here) ≤ length s.slots
   the_length = (seen (list_at s end here) the_list).1
 
-  top : (k : ℕ) (r : Record) → here ≡ Some k → get s k ≡ Some r → at_end end r.edge ≡ node
+  top : (k : ℕ) (r : Record) → here ≡ Some k → get s k ≡ Some r → number_at end r.edge ≡ node
   top k r begins there =
       let (x, is, node_x, _) = linked_there.begins node k begins in
       let same : Some x ≡ Some (place end r) = sym is ∙ ap (option_map (place end)) there in
       let one : x ≡ place end r = cc in
       sym (ap (λ (p : Place). p.node) one) ∙ node_x
 
-  pub in_list : (e : Edge) → Contains (map (λ (x : ℕ × Edge). x.1) (list_at s end here)) e → HasEdge (get s) e × (at_end end e ≡ node)
+  pub in_list : (e : Edge) → Contains (map (λ (x : ℕ × Edge). x.1) (list_at s end here)) e → HasEdge (get s) e × (number_at end e ≡ node)
   in_list e w =
       let (k, at_k, is) = key_in (get s) (first_at end firsts) end linked_there here (list_at s end here) the_list e w in
       let (r, there, at) = node_in (get s) (first_at end firsts) end linked_there node here (list_at s end here) the_list top k at_k in
       let same : Some r.edge ≡ Some e = sym (ap (option_map (λ (r : Record). r.edge)) there) ∙ is in
       let one : r.edge ≡ e = cc in
-      ((k, is), ap (at_end end) (sym one) ∙ at)
+      ((k, is), ap (number_at end) (sym one) ∙ at)
 
-  pub of_list : (e : Edge) (k : ℕ) → edge_at (get s) k ≡ Some e → at_end end e ≡ node → IsIn (list_at s end here) k
+  pub of_list : (e : Edge) (k : ℕ) → edge_at (get s) k ≡ Some e → number_at end e ≡ node → IsIn (list_at s end here) k
   of_list e k is at =
       let (r, there, same) = record_at (get s k) refl is in
-      all_in (get s) (first_at end firsts) end linked_there node (list_at s end here) the_list linked_there.bound k r there (ap (at_end end) (sym same) ∙ at) (omega arith) where
+      all_in (get s) (first_at end firsts) end linked_there node (list_at s end here) the_list linked_there.bound k r there (ap (number_at end) (sym same) ∙ at) (omega arith) where
         record_at : (o : Option Record) → get s k ≡ o → option_map (λ (r : Record). r.edge) o ≡ Some e → (r : Record) × (get s k ≡ Some r) × (e ≡ r.edge)
         record_at None _ h = absurd (cc)
         record_at (Some r) there h = (r, there, cc)
 
-  pub edge_of_list : (e : Edge) → HasEdge (get s) e → at_end end e ≡ node → Contains (map (λ (x : ℕ × Edge). x.1) (list_at s end here)) e
+  pub edge_of_list : (e : Edge) → HasEdge (get s) e → number_at end e ≡ node → Contains (map (λ (x : ℕ × Edge). x.1) (list_at s end here)) e
   edge_of_list e (k, is) at =
       let (v, is_v, w) = edge_in (get s) (first_at end firsts) end linked_there here (list_at s end here) the_list k (of_list e k is at) in
       let both : Some v ≡ Some e = sym is_v ∙ is in
@@ -260,5 +259,5 @@ module _ (s : Slab Record) (firsts : List Firsts) (listed : AreListed (get s) fi
   pub sound_list : (x : ℕ × Edge) → Contains (list_at s end here) x → edge_at (get s) x.0 ≡ Some x.1
   sound_list = sound_in (get s) (first_at end firsts) end linked_there here (list_at s end here) the_list
 
-  pub pair_in_list : (k : ℕ) (e : Edge) → edge_at (get s) k ≡ Some e → at_end end e ≡ node → Contains (list_at s end here) (k, e)
+  pub pair_in_list : (k : ℕ) (e : Edge) → edge_at (get s) k ≡ Some e → number_at end e ≡ node → Contains (list_at s end here) (k, e)
   pair_in_list k e is at = pair_in (get s) (first_at end firsts) end linked_there here (list_at s end here) the_list k e (of_list e k is at) is

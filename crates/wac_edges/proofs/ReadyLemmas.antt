@@ -12,8 +12,9 @@ use Rattle.std.proofs.lemmas.Bool.{cases_eq, cases_lt, eq-eqb, ne_eqb, false_fro
 use Rattle.std.proofs.lemmas.Cmp.{ranked}
 use Rattle.std.proofs.lemmas.List.{get_or_past}
 use Rattle.std.proofs.lemmas.Map.Keys.{sorted_head, sorted_tail}
+use Rattle.wac_edges.specs.declared.node.NodeId.{NodeId}
 use Rattle.wac_edges.specs.Cycles.{IsStep}
-use Rattle.wac_edges.specs.Edge.{is_left, IsBlocked, IsFree}
+use Rattle.wac_edges.specs.Edge.{is_left, node_number, IsBlocked, IsFree}
 use Rattle.wac_edges.specs.Numbers.{Has}
 use Rattle.wac_edges.specs.Order.{Edges, IsEdge, IsLowestReady, IsStuck, without}
 use Rattle.wac_edges.specs.Ready.{occurs, incoming, AreCounted, AreReady}
@@ -192,21 +193,21 @@ ready_next ready rest flags counts n was updates b = split (cases_eq b n) where
     from : (is_left (slice_set flags n false) b ≡ true) × (slice_index counts b ≡ 0) → Has rest.keys b
     from (left, none) = kept ∙ (was b).1 ((and_split (is_left flags b) (not (eqb b n)) (sym after ∙ left)).0, none)
 
-module _ (edges : Edges) (flags : List Bool) (sets : List (BTreeSet ℕ)) (counts : List ℕ) (ready : BTreeSet ℕ) (nodes : ℕ) (steps : (a b : ℕ) → IsStep sets a b ↔ ((a < nodes) × IsEdge edges a b)) (flags_long : length flags ≡ nodes) (counts_long : length counts ≡ nodes) (counted : AreCounted flags sets counts) (are : AreReady ready flags counts) where
+module _ (edges : Edges) (flags : List Bool) (sets : List (BTreeSet ℕ)) (counts : List ℕ) (ready : BTreeSet ℕ) (nodes : ℕ) (steps : (a b : ℕ) → IsStep sets a b ↔ ((a < nodes) × IsEdge edges (node_number a) (node_number b))) (flags_long : length flags ≡ nodes) (counts_long : length counts ≡ nodes) (counted : AreCounted flags sets counts) (are : AreReady ready flags counts) where
   count_is : (n : ℕ) → is_left flags n ≡ true → slice_index counts n ≡ incoming flags sets n
   count_is n here = let low = within flags n here in counted n (omega (arith, low, flags_long, counts_long))
 
   zero_free : (n : ℕ) → is_left flags n ≡ true → slice_index counts n ≡ 0 → IsFree edges (is_left flags) n
-  zero_free n here none e stands leads = false_from_ne_true (is_left flags e.source) (λ from.
-      let low = within flags e.source from in
-      incoming_none flags sets n (sym (count_is n here) ∙ none) e.source from ((steps e.source n).1 (omega (arith, low, flags_long), (e, stands, refl, leads))))
+  zero_free n here none e stands leads = false_from_ne_true (is_left flags e.source.0) (λ from.
+      let low = within flags e.source.0 from in
+      incoming_none flags sets n (sym (count_is n here) ∙ none) e.source.0 from ((steps e.source.0 n).1 (omega (arith, low, flags_long), (e, stands, refl, ap node_number leads))))
 
   more_blocked : (m : ℕ) → is_left flags m ≡ true → (slice_index counts m ≡ 0 → ⊥) → IsBlocked edges (is_left flags) m
   more_blocked m here some =
       let count = count_is m here in
       let (a, from, step) = incoming_some flags sets m (positive (incoming flags sets m) (λ none. some (count ∙ none))) in
       let (e, stands, leaves, leads) = ((steps a m).0 step).1 in
-      (e, stands, leads, ap (is_left flags) leaves ∙ from) where
+      (e, stands, ap (λ (k : NodeId). k.0) leads, ap (λ (k : NodeId). is_left flags k.0) leaves ∙ from) where
         positive : (k : ℕ) → (k ≡ 0 → ⊥) → 0 < k
         positive zero h = absurd (h refl)
         positive (suc k) h = omega arith

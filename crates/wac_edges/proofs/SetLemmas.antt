@@ -7,6 +7,7 @@ use Rattle.std.proofs.lemmas.Bool.{and_parts, or_cases, false_from_ne_true}
 use Rattle.slab.specs.Slab.{Slab, get}
 use Rattle.slab.proofs.SlabLemmas.{Contains-cons, Contains-cons_cases}
 use Rattle.wac_edges.specs.declared.edges.Edge.{Edge}
+use Rattle.wac_edges.specs.declared.node.NodeId.{NodeId}
 use Rattle.wac_edges.specs.declared.edges.End.{End}
 use Rattle.wac_edges.specs.declared.records.Record.{Record}
 use Rattle.wac_edges.specs.declared.records.Firsts.{Firsts}
@@ -14,7 +15,7 @@ use Rattle.wac_edges.specs.Edge.{edge_cmp}
 use Rattle.wac_edges.specs.Order.{Edges}
 use Rattle.wac_edges.specs.Ends.{at_end, AreAt}
 use Rattle.wac_edges.specs.Records.{AreListed, HasEdge, all_edges, edge_at, list_at, first_at}
-use Rattle.wac_edges.proofs.EdgeLemmas.{edge_cmp_total, edge_cmp-IsAntisymmetric, in_set, from_set, exact_edges}
+use Rattle.wac_edges.proofs.EdgeLemmas.{edge_cmp_total, edge_cmp-IsAntisymmetric, same_node, in_set, from_set, exact_edges}
 use Rattle.wac_edges.proofs.ListLemmas.{in_list, edge_of_list, each_once}
 
 -- ---- the edges of slots
@@ -110,22 +111,22 @@ removed_same s edge absent = same_sets s (remove s edge) (λ e w. (has_removed s
     (λ e w. ((has_removed s edge e).0 w).0)
 
 -- ---- the edges at an end of a node
-pub are_at : (s : Slab Record) (firsts : List Firsts) → AreListed (get s) firsts → (node : ℕ) (end : End) (edges : Edges) → the_set s ≡ edges → (es : List Edge) → es ≡ map (λ (x : ℕ × Edge). x.1) (list_at s end (first_at end firsts node)) → AreAt edges node end es
+pub are_at : (s : Slab Record) (firsts : List Firsts) → AreListed (get s) firsts → (node : NodeId) (end : End) (edges : Edges) → the_set s ≡ edges → (es : List Edge) → es ≡ map (λ (x : ℕ × Edge). x.1) (list_at s end (first_at end firsts node.0)) → AreAt edges node end es
 are_at s firsts listed node end edges is es at =
-    subst (λ (l : List Edge). AreAt edges node end l) (sym at) (subst (λ (v : Edges). AreAt v node end (map (λ (x : ℕ × Edge). x.1) (list_at s end (first_at end firsts node)))) is (record {
+    subst (λ (l : List Edge). AreAt edges node end l) (sym at) (subst (λ (v : Edges). AreAt v node end (map (λ (x : ℕ × Edge). x.1) (list_at s end (first_at end firsts node.0)))) is (record {
       all = λ e. (
-        λ w. let (has, there) = in_list s firsts listed node end e w in (of_table s e has, there),
-        λ w. edge_of_list s firsts listed node end e (in_table s e w.0) w.1,
+        λ w. let (has, there) = in_list s firsts listed node.0 end e w in (of_table s e has, same_node (at_end end e) node there),
+        λ w. edge_of_list s firsts listed node.0 end e (in_table s e w.0) (ap (λ (n : NodeId). n.0) w.1),
       );
-      once = each_once s firsts listed node end;
+      once = each_once s firsts listed node.0 end;
     }))
 
 -- ---- what is known while an edge is looked for among those at an end of a node
-pub record Seeks (edges : Edges) (node : ℕ) (end : End) (P : Edge → Type 0) (left : List Edge) : Type 0 where
+pub record Seeks (edges : Edges) (node : NodeId) (end : End) (P : Edge → Type 0) (left : List Edge) : Type 0 where
   pub sound : (e : Edge) → Contains left e → (contains edges e ≡ true) × (at_end end e ≡ node)
   pub rest : (e : Edge) → contains edges e ≡ true → at_end end e ≡ node → P e → Contains left e
 
-module _ (edges : Edges) (node : ℕ) (end : End) (P : Edge → Type 0) where
+module _ (edges : Edges) (node : NodeId) (end : End) (P : Edge → Type 0) where
   pub seeks_start : (es left : List Edge) → left ≡ es → AreAt edges node end es → Seeks edges node end P left
   seeks_start es left is a = subst (λ (l : List Edge). Seeks edges node end P l) (sym is) (record { sound = λ e w. (a.all e).0 w; rest = λ e w at _. (a.all e).1 (w, at) })
 

@@ -10,8 +10,7 @@ use Rattle.wac_edges.specs.declared.edges.Edge.{Edge}
 use Rattle.wac_edges.specs.declared.records.Links.{Links}
 use Rattle.wac_edges.specs.declared.records.Record.{Record}
 use Rattle.wac_edges.specs.declared.records.Firsts.{Firsts}
-use Rattle.wac_edges.specs.Ends.{at_end}
-use Rattle.wac_edges.specs.Records.{Table, Place, AreLinked, AreListed, updated, changed, begun_by, opposite, links_at, with_links, with_next, with_previous, first_of, first_at, place, places}
+use Rattle.wac_edges.specs.Records.{Table, Place, AreLinked, AreListed, updated, changed, begun_by, opposite, links_at, number_at, with_links, with_next, with_previous, first_of, first_at, place, places}
 use Rattle.wac_edges.proofs.LinkLemmas.{updated_here, updated_there, unlinked, linked, before_all}
 
 -- ---- what is seen of a record that changes
@@ -30,7 +29,7 @@ module _ {A B : Type 0} (f : A → B) (g : A → A) where
     commute None = refl
     commute (Some r) = ap (λ x. Some x) (e r)
 
-pub place_with : (end : End) (l : Links) (r : Record) → place end (with_links end l r) ≡ record { node = at_end end r.edge; previous = l.previous; next = l.next }
+pub place_with : (end : End) (l : Links) (r : Record) → place end (with_links end l r) ≡ record { node = number_at end r.edge; previous = l.previous; next = l.next }
 place_with Outgoing l r = refl
 place_with Incoming l r = refl
 
@@ -76,13 +75,13 @@ module _ (t : Table) (first : ℕ → Option ℕ) (end : End) (m : AreLinked (pl
   pub next_there : (j : ℕ) → (links_at end r).next ≡ Some j → IsSome (t j)
   next_there j h = let (y, is, _, _, _) = m.forth k j (place end r) placed h in there_of (place end) (t j) y is
 
-  pub first_there : (links_at end r).previous ≡ None → first (at_end end r.edge) ≡ Some k
+  pub first_there : (links_at end r).previous ≡ None → first (number_at end r.edge) ≡ Some k
   first_there none = m.begun k (place end r) placed none
 
   unlinked_at : (t1 t2 : Table) (first1 : ℕ → Option ℕ)
       → ((q : ℕ) → t1 q ≡ changed (with_next end (links_at end r).next) (links_at end r).previous t q)
       → ((q : ℕ) → t2 q ≡ changed (with_previous end (links_at end r).previous) (links_at end r).next t1 q)
-      → ((n : ℕ) → first1 n ≡ begun_by first (at_end end r.edge) (links_at end r).previous (links_at end r).next n)
+      → ((n : ℕ) → first1 n ≡ begun_by first (number_at end r.edge) (links_at end r).previous (links_at end r).next n)
       → AreLinked (updated (places end t2) k None) first1
   unlinked_at t1 t2 first1 w1 w2 f1 =
       let x : Place = place end r in
@@ -93,7 +92,7 @@ module _ (t : Table) (first : ℕ → Option ℕ) (end : End) (m : AreLinked (pl
       subst (λ (f : ℕ → Option ℕ). AreLinked (updated (places end t2) k None) f) (sym firsts)
       (subst (λ (p : ℕ → Option Place). AreLinked (updated p k None) (begun_by first x.node x.previous x.next)) (sym at) (unlinked (places end t) first m k x placed))
 
-  pub unlinked_all : (l : Links) (node : ℕ) → l ≡ links_at end r → node ≡ at_end end r.edge → (t1 t2 : Table) (first1 : ℕ → Option ℕ)
+  pub unlinked_all : (l : Links) (node : ℕ) → l ≡ links_at end r → node ≡ number_at end r.edge → (t1 t2 : Table) (first1 : ℕ → Option ℕ)
       → ((q : ℕ) → t1 q ≡ changed (with_next end l.next) l.previous t q)
       → ((q : ℕ) → t2 q ≡ changed (with_previous end l.previous) l.next t1 q)
       → ((n : ℕ) → first1 n ≡ begun_by first node l.previous l.next n)
@@ -104,7 +103,7 @@ module _ (t : Table) (first : ℕ → Option ℕ) (end : End) (m : AreLinked (pl
 
 -- ---- a linked record
 pub linked_all : (t : Table) (first : ℕ → Option ℕ) (end : End) (k : ℕ) (r : Record) → t k ≡ Some r → AreLinked (updated (places end t) k None) first
-    → (l : Links) (node : ℕ) (next : Option ℕ) → l ≡ record { previous = None; next = next } → node ≡ at_end end r.edge → next ≡ first node → (t1 t2 : Table) (first1 : ℕ → Option ℕ)
+    → (l : Links) (node : ℕ) (next : Option ℕ) → l ≡ record { previous = None; next = next } → node ≡ number_at end r.edge → next ≡ first node → (t1 t2 : Table) (first1 : ℕ → Option ℕ)
     → ((q : ℕ) → t1 q ≡ updated t k (option_map (with_links end l) (t k)) q)
     → ((q : ℕ) → t2 q ≡ changed (with_previous end (Some k)) next t1 q)
     → ((n : ℕ) → first1 n ≡ updated first node (Some k) n)
@@ -115,8 +114,8 @@ linked_all t first end k r here m l node next is at to t1 t2 first1 w1 w2 f1 =
     let new : places end t1 k ≡ Some (before_all node (first node)) =
     ap (option_map (place end)) (w1 k ∙ updated_here t k (option_map (with_links end l) (t k)) ∙ ap (option_map (with_links end l)) here)
     ∙ ap (λ (p : Place). Some p) (place_with end l r)
-    ∙ ap (λ (v : Links). Some (let p : Place = record { node = at_end end r.edge; previous = v.previous; next = v.next } in p)) is
-    ∙ ap (λ (o : Option ℕ). Some (before_all (at_end end r.edge) o)) to ∙ ap (λ j. Some (before_all j (first node))) (sym at) in
+    ∙ ap (λ (v : Links). Some (let p : Place = record { node = number_at end r.edge; previous = v.previous; next = v.next } in p)) is
+    ∙ ap (λ (o : Option ℕ). Some (before_all (number_at end r.edge) o)) to ∙ ap (λ j. Some (before_all j (first node))) (sym at) in
     let others : (q : ℕ) → (q ≡ k → ⊥) → places end t1 q ≡ updated (places end t) k None q = λ q other. ap (option_map (place end)) (w1 q ∙ updated_there t k (option_map (with_links end l) (t k)) q other) ∙ sym (updated_there (places end t) k None q other) in
     subst (λ (f : ℕ → Option ℕ). AreLinked (places end t2) f) (sym firsts)
     (subst (λ (p : ℕ → Option Place). AreLinked p (updated first node (Some k))) (sym at2)

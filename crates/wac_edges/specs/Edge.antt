@@ -9,6 +9,11 @@ use Rattle.std.specs.Coded.{Coded, code_by, coded_list, coded_ℕ}
 use Rattle.wac_edges.specs.declared.edges.Label.{Label}
 use Rattle.wac_edges.specs.declared.edges.Label.TheVariants.{Alias, Argument, Dependency}
 use Rattle.wac_edges.specs.declared.edges.Edge.{Edge}
+use Rattle.wac_edges.specs.declared.node.NodeId.{NodeId}
+
+-- the node of a number
+abbrev pub node_number : ℕ → NodeId
+node_number n = record { 0 = n }
 
 abbrev pub label_key : Label → List ℕ
 label_key (Alias i) = 0 ∷ i ∷ []
@@ -21,11 +26,11 @@ label_of (suc _ ∷ i ∷ _) = Argument i
 label_of _ = Dependency
 
 abbrev pub edge_key : Edge → List ℕ
-edge_key e = e.source ∷ e.target ∷ label_key e.label
+edge_key e = e.source.0 ∷ e.target.0 ∷ label_key e.label
 
 abbrev pub edge_of : List ℕ → Edge
-edge_of (s ∷ t ∷ l) = record { source = s; target = t; label = label_of l }
-edge_of _ = record { source = 0; target = 0; label = Dependency }
+edge_of (s ∷ t ∷ l) = record { source = node_number s; target = node_number t; label = label_of l }
+edge_of _ = record { source = node_number 0; target = node_number 0; label = Dependency }
 
 pub label_of-label_key : (l : Label) → label_of (label_key l) ≡ l
 label_of-label_key (Alias i) = refl
@@ -42,10 +47,10 @@ edge_code = code_by (List ℕ) (coded_list coded_ℕ) edge_key edge_of edge_of-e
 abbrev pub edge_cmp : Edge → Edge → Ordering
 edge_cmp a b = slice_cmp nat_cmp (edge_key a) (edge_key b)
 
-abbrev pub alias_edge : ℕ → ℕ → ℕ → Edge
+abbrev pub alias_edge : NodeId → NodeId → ℕ → Edge
 alias_edge source target position = record { source = source; target = target; label = Alias position }
 
-abbrev pub argument_edge : ℕ → ℕ → ℕ → Edge
+abbrev pub argument_edge : NodeId → NodeId → ℕ → Edge
 argument_edge source target position = record { source = source; target = target; label = Argument position }
 
 -- which nodes are left, by their flags
@@ -54,8 +59,8 @@ is_left flags n = slice_index_or flags n false
 
 -- an edge leads to n from a node that is left
 abbrev pub IsBlocked : set.FinSet edge_cmp → (ℕ → Bool) → ℕ → Type 0
-IsBlocked edges left n = (e : Edge) × (set.contains edges e ≡ true) × (e.target ≡ n) × (left e.source ≡ true)
+IsBlocked edges left n = (e : Edge) × (set.contains edges e ≡ true) × (e.target.0 ≡ n) × (left e.source.0 ≡ true)
 
 -- no edge leads to n from a node that is left
 abbrev pub IsFree : set.FinSet edge_cmp → (ℕ → Bool) → ℕ → Type 0
-IsFree edges left n = (e : Edge) → set.contains edges e ≡ true → e.target ≡ n → left e.source ≡ false
+IsFree edges left n = (e : Edge) → set.contains edges e ≡ true → e.target.0 ≡ n → left e.source.0 ≡ false

@@ -2,6 +2,7 @@
 use Rattle.std.specs.Prelude.{◌≡◌, ℕ, ◌<◌, ◌≤◌, Bool, true, false, not, ◌&&◌, ◌==◌, List, [], ◌∷◌}
 use Rattle.std.specs.FinSet as set
 use Rattle.wac_edges.specs.declared.edges.Edge.{Edge}
+use Rattle.wac_edges.specs.declared.node.NodeId.{NodeId}
 use Rattle.wac_edges.specs.Edge.{edge_cmp, IsBlocked, IsFree}
 
 abbrev pub Edges : Type 0
@@ -31,23 +32,23 @@ Writes edges left [] = IsDone left
 Writes edges left (n ∷ ns) = IsLowestReady edges left n × Writes edges (without left n) ns
 
 -- an edge leads from a to b
-abbrev pub IsEdge : Edges → ℕ → ℕ → Type 0
+abbrev pub IsEdge : Edges → NodeId → NodeId → Type 0
 IsEdge edges a b = (e : Edge) × (set.contains edges e ≡ true) × (e.source ≡ a) × (e.target ≡ b)
 
 -- edges lead from a over these nodes to b
-abbrev pub Leads : Edges → ℕ → List ℕ → ℕ → Type 0
+abbrev pub Leads : Edges → NodeId → List NodeId → NodeId → Type 0
 Leads edges a [] b = IsEdge edges a b
 Leads edges a (c ∷ cs) b = IsEdge edges a c × Leads edges c cs b
 
 -- the node is on a cycle of edges
-abbrev pub IsOnCycle : Edges → ℕ → Type 0
-IsOnCycle edges n = (ns : List ℕ) × Leads edges n ns n
+abbrev pub IsOnCycle : Edges → NodeId → Type 0
+IsOnCycle edges n = (ns : List NodeId) × Leads edges n ns n
 
 -- no edges form a cycle
 abbrev pub IsAcyclic : Edges → Type 0
-IsAcyclic edges = (n : ℕ) → IsOnCycle edges n → ⊥
+IsAcyclic edges = (n : NodeId) → IsOnCycle edges n → ⊥
 
 -- the node is on a cycle of edges, and no lower one is
-pub record IsLowestOnCycle (edges : Edges) (n : ℕ) : Type 0 where
+pub record IsLowestOnCycle (edges : Edges) (n : NodeId) : Type 0 where
   pub here : IsOnCycle edges n
-  pub lowest : (m : ℕ) → IsOnCycle edges m → n ≤ m
+  pub lowest : (m : NodeId) → IsOnCycle edges m → n.0 ≤ m.0

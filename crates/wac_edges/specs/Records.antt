@@ -32,6 +32,10 @@ abbrev pub opposite : End → End
 opposite Outgoing = Incoming
 opposite Incoming = Outgoing
 
+-- the number of the node that has the edge at this end
+abbrev pub number_at : End → Edge → ℕ
+number_at end e = (at_end end e).0
+
 abbrev pub links_at : End → Record → Links
 links_at Outgoing r = r.out
 links_at Incoming r = r.into
@@ -62,7 +66,7 @@ pub record Place : Type 0 where
   pub next : Option ℕ
 
 abbrev pub place : End → Record → Place
-place end r = record { node = at_end end r.edge; previous = (links_at end r).previous; next = (links_at end r).next }
+place end r = record { node = number_at end r.edge; previous = (links_at end r).previous; next = (links_at end r).next }
 
 -- where the records stand in the lists at this end
 abbrev pub places : End → Table → ℕ → Option Place

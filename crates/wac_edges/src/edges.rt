@@ -1,14 +1,16 @@
-//! Labelled edges between numbered nodes.
+//! Labelled edges between nodes.
 ghost use Rattle.std.specs.Prelude.{◌≡◌, ◌<◌, ◌↔◌, ◌⊎◌, ℕ, true, false, OnOk, OnErr, IfOk, IfSome, IfNone, MatchOption, length};
 ghost use Rattle.std.specs.Bool.{OnTrue, OnFalse};
 ghost use Rattle.std.specs.FinSet as set;
 ghost use Rattle.wac_edges.specs.declared.edges.Edge.{Edge as AnEdge};
-ghost use Rattle.wac_edges.specs.Edge.{edge_cmp, alias_edge, argument_edge};
+ghost use Rattle.wac_edges.specs.declared.node.NodeId.{NodeId as AnId};
+ghost use Rattle.wac_edges.specs.Edge.{node_number, edge_cmp, alias_edge, argument_edge};
 ghost use Rattle.wac_edges.specs.Ends.{at_end, AreAt, HasLabel, LeadsTo};
 ghost use Rattle.wac_edges.specs.Order.{IsAcyclic, IsEdge, IsLowestOnCycle};
 ghost use Rattle.wac_edges.specs.Cycles.{IsStep};
 
 use crate::cycles::{add_step, empty_sets, lowest_on_cycle};
+use crate::node::NodeId;
 use crate::records::{Firsts, Record, find, make_firsts, put, take};
 use crate::walk::{Walk, records_at};
 use slab::Slab;
@@ -31,16 +33,16 @@ pub enum Label {
 #[derive(Clone, Copy, Debug, PartialEq, Eq)]
 pub struct Edge {
     /// The node that it leads from.
-    pub source: usize,
+    pub source: NodeId,
     /// The node that it leads to.
-    pub target: usize,
+    pub target: NodeId,
     /// What it says.
     pub label: Label,
 }
 
 impl Edge {
     /// The node that has the edge at this end.
-    pub fn node(&self, end: End) -> usize
+    pub fn node(&self, end: End) -> NodeId
         ensures { result ≡ at_end end self.now }
     {
         match end {
@@ -64,7 +66,7 @@ pub enum End {
 #[derive(Drop)]
 pub struct Edges {
     records: Slab<Record>,
-    // For each number up to the greatest of a source or a target that was given.
+    // For each node up to the greatest of a source or a target that was given.
     firsts: Vec<Firsts>,
 }
 
@@ -103,8 +105,8 @@ impl Edges {
         if self.contains(edge) {
             return Ok(());
         }
-        make_firsts(&mut self.firsts, edge.source)?;
-        make_firsts(&mut self.firsts, edge.target)?;
+        make_firsts(&mut self.firsts, edge.source.0)?;
+        make_firsts(&mut self.firsts, edge.target.0)?;
         self.records.reserve(1)?;
         put(&mut self.records, &mut self.firsts, edge);
         Ok(())
@@ -128,15 +130,15 @@ impl Edges {
     }
 
     /// A walk over the edges at this end of a node, the one added last first. Takes no memory.
-    pub fn walk(&self, node: usize, end: End) -> Walk<'_>
+    pub fn walk(&self, node: NodeId, end: End) -> Walk<'_>
         ensures edges { AreAt self.now node end result.left }
         ensures steps { result.steps ≡ 0 }
     {
-        Walk::new(records_at(&self.records, &self.firsts, node, end))
+        Walk::new(records_at(&self.records, &self.firsts, node.0, end))
     }
 
     /// Whether an edge of this label stands at this end of a node.
-    pub fn has(&self, node: usize, end: End, label: Label) -> bool
+    pub fn has(&self, node: NodeId, end: End, label: Label) -> bool
         ensures there { OnTrue result (HasLabel self.now node end label) }
         ensures absent { OnFalse result (HasLabel self.now node end label → ⊥) }
     {
@@ -149,9 +151,9 @@ impl Edges {
     }
 
     /// The alias of an instance's export at this position.
-    pub fn alias(&self, source: usize, position: usize) -> Option<usize>
+    pub fn alias(&self, source: NodeId, position: usize) -> Option<NodeId>
         ensures some { IfSome result (λ target. set.contains self.now (alias_edge source target position) ≡ true) }
-        ensures none { IfNone result ((target : ℕ) → set.contains self.now (alias_edge source target position) ≡ false) }
+        ensures none { IfNone result ((target : AnId) → set.contains self.now (alias_edge source target position) ≡ false) }
     {
         for edge in self.walk(source, End::Outgoing) {
             if edge.label == Label::Alias(position) {
@@ -162,9 +164,9 @@ impl Edges {
     }
 
     /// The instance and the position of the export that an alias stands for.
-    pub fn alias_source(&self, target: usize) -> Option<(usize, usize)>
+    pub fn alias_source(&self, target: NodeId) -> Option<(NodeId, usize)>
         ensures some { IfSome result (λ s. set.contains self.now (alias_edge s.0 target s.1) ≡ true) }
-        ensures none { IfNone result ((source position : ℕ) → set.contains self.now (alias_edge source target position) ≡ false) }
+        ensures none { IfNone result ((source : AnId) (position : ℕ) → set.contains self.now (alias_edge source target position) ≡ false) }
     {
         for edge in self.walk(target, End::Incoming) {
             if let Label::Alias(i) = edge.label {
@@ -175,9 +177,9 @@ impl Edges {
     }
 
     /// The node that satisfies the import of an instantiation at this position.
-    pub fn argument(&self, target: usize, position: usize) -> Option<usize>
+    pub fn argument(&self, target: NodeId, position: usize) -> Option<NodeId>
         ensures some { IfSome result (λ source. set.contains self.now (argument_edge source target position) ≡ true) }
-        ensures none { IfNone result ((source : ℕ) → set.contains self.now (argument_edge source target position) ≡ false) }
+        ensures none { IfNone result ((source : AnId) → set.contains self.now (argument_edge source target position) ≡ false) }
     {
         for edge in self.walk(target, End::Incoming) {
             if edge.label == Label::Argument(position) {
@@ -188,12 +190,15 @@ impl Edges {
     }
 
     /// The lowest node on a cycle of edges, all of which lead to one of the first so many nodes.
-    pub fn lowest_on_cycle(&self, alloc: Global, nodes: usize) -> Result<Option<usize>, AllocError>
-        requires { (e : AnEdge) → set.contains self.now e ≡ true → e.target < nodes }
+    pub fn lowest_on_cycle(&self, alloc: Global, nodes: usize) -> Result<Option<NodeId>, AllocError>
+        requires { (e : AnEdge) → set.contains self.now e ≡ true → e.target.0 < nodes }
         ensures { IfOk result (λ o. MatchOption o (IsAcyclic self.now) (λ n. IsLowestOnCycle self.now n)) }
     {
         let targets = self.targets(alloc, nodes)?;
-        lowest_on_cycle(alloc, targets.as_slice())
+        match lowest_on_cycle(alloc, targets.as_slice())? {
+            Some(n) => Ok(Some(NodeId(n))),
+            None => Ok(None),
+        }
     }
 
     /// For each of the first so many nodes, those to which edges lead from it.
@@ -203,11 +208,11 @@ impl Edges {
         nodes: usize,
     ) -> Result<Vec<BTreeSet<usize>>, AllocError>
         ensures counted { IfOk result (λ v. length v.items ≡ nodes) }
-        ensures steps { IfOk result (λ v. (a b : ℕ) → (IsStep v.items a b ↔ ((a < nodes) × IsEdge self.now a b))) }
+        ensures steps { IfOk result (λ v. (a b : ℕ) → (IsStep v.items a b ↔ ((a < nodes) × IsEdge self.now (node_number a) (node_number b)))) }
     {
         let mut targets = empty_sets(alloc, nodes)?;
         for a in 0..nodes {
-            add_targets(&mut targets, a, self.walk(a, End::Outgoing))?;
+            add_targets(&mut targets, a, self.walk(NodeId(a), End::Outgoing))?;
         }
         Ok(targets)
     }
@@ -216,10 +221,10 @@ impl Edges {
 /// Adds steps from a node to those to which some edges lead.
 fn add_targets(targets: &mut [BTreeSet<usize>], a: usize, walk: Walk<'_>) -> Result<(), AllocError>
     requires { a < length targets.old }
-    ensures { OnOk result ((n b : ℕ) → (IsStep targets.new n b ↔ (IsStep targets.old n b ⊎ ((n ≡ a) × LeadsTo walk.entry.left b)))) }
+    ensures { OnOk result ((n b : ℕ) → (IsStep targets.new n b ↔ (IsStep targets.old n b ⊎ ((n ≡ a) × LeadsTo walk.entry.left (node_number b))))) }
 {
     for edge in walk {
-        add_step(targets, a, edge.target)?;
+        add_step(targets, a, edge.target.0)?;
     }
     Ok(())
 }

@@ -3,6 +3,7 @@
 
 pub mod cycles;
 pub mod edges;
+pub mod node;
 pub mod order;
 mod ranks;
 mod records;

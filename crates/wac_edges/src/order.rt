@@ -1,6 +1,7 @@
 //! The order in which nodes are written.
 ghost use Rattle.std.specs.Prelude.{◌≡◌, ℕ, ◌<◌, ◌≤◌, ◌+◌, ◌-◌, ◌^◌, ◌↔◌, Bool, true, false, List, [], ◌∷◌, ◌++◌, length, slice_index, slice_set, IfOk, OnOk, IfSome, IfNone, MatchOption};
 ghost use Rattle.wac_edges.specs.Edge.{is_left};
+ghost use Rattle.wac_edges.specs.declared.node.NodeId.{NodeId as AnId};
 ghost use Rattle.std.specs.Bool.{OnTrue, OnFalse};
 ghost use Rattle.wac_edges.specs.Order.{Writes, IsDone, IsOnCycle};
 ghost use Rattle.wac_edges.specs.Ready.{occurs, AreCounted, AreReady};
@@ -132,7 +133,7 @@ pub fn order(
     left: Vec<bool>,
 ) -> Result<Option<Vec<usize>>, AllocError>
     ensures whole { IfOk result (λ o. IfSome o (λ ns. Writes edges.now (is_left left.items) ns.items)) }
-    ensures cycle { IfOk result (λ o. IfNone o ((n : ℕ) × IsOnCycle edges.now n)) }
+    ensures cycle { IfOk result (λ o. IfNone o ((n : AnId) × IsOnCycle edges.now n)) }
 {
     let mut left = left;
     let targets = edges.targets(alloc, left.len())?;

@@ -4,8 +4,7 @@ ghost use Rattle.std.specs.Option.{option_map, ForNone, ForSome};
 ghost use Rattle.slab.specs.Slab.{get, ContainsKey, HasRoomFor};
 ghost use Rattle.wac_edges.specs.declared.edges.Edge.{Edge as AnEdge};
 ghost use Rattle.wac_edges.specs.declared.edges.End.{End as AnEnd};
-ghost use Rattle.wac_edges.specs.Ends.{at_end};
-ghost use Rattle.wac_edges.specs.Records.{AreLinked, AreListed, HasEdge, links_at, with_links, with_next, with_previous, places, first_at, edge_at, opposite, updated, changed, begun_by};
+ghost use Rattle.wac_edges.specs.Records.{AreLinked, AreListed, HasEdge, links_at, number_at, with_links, with_next, with_previous, places, first_at, edge_at, opposite, updated, changed, begun_by};
 
 use crate::edges::{Edge, End};
 use crate::walk::records_at;
@@ -51,6 +50,13 @@ impl Record {
             End::Outgoing => self.out,
             End::Incoming => self.into,
         }
+    }
+
+    /// The number of the node that has its edge at this end.
+    fn number(&self, end: End) -> usize
+        ensures { result ≡ number_at end self.now.edge }
+    {
+        self.edge.node(end).0
     }
 
     /// The record at another place in the list at this end.
@@ -144,14 +150,14 @@ fn set_previous(records: &mut Slab<Record>, end: End, key: Option<usize>, previo
 /// Puts a record that is not in the list at this end of its node before all others there.
 fn link(records: &mut Slab<Record>, firsts: &mut [Firsts], key: usize, end: End)
     requires there { ContainsKey records.old key }
-    requires node { (e : AnEdge) → edge_at (get records.old) key ≡ Some e → at_end end e < length firsts.old }
+    requires node { (e : AnEdge) → edge_at (get records.old) key ≡ Some e → number_at end e < length firsts.old }
     requires others { AreLinked (updated (places end (get records.old)) key None) (first_at end firsts.old) }
     ensures linked { AreLinked (places end (get records.new)) (first_at end firsts.new) }
     ensures opposite { (q : ℕ) → places (opposite end) (get records.new) q ≡ places (opposite end) (get records.old) q }
     ensures firsts { (n : ℕ) → first_at (opposite end) firsts.new n ≡ first_at (opposite end) firsts.old n }
     ensures edges { (q : ℕ) → edge_at (get records.new) q ≡ edge_at (get records.old) q }
 {
-    let node = records[key].edge.node(end);
+    let node = records[key].number(end);
     let next = first(firsts, node, end);
     let links = Links {
         previous: None,
@@ -172,7 +178,7 @@ fn unlink(records: &mut Slab<Record>, firsts: &mut [Firsts], key: usize, end: En
     ensures edges { (q : ℕ) → edge_at (get records.new) q ≡ edge_at (get records.old) q }
 {
     let record = records[key];
-    let node = record.edge.node(end);
+    let node = record.number(end);
     let links = record.links(end);
     set_next(records, firsts, node, end, links.previous, links.next);
     set_previous(records, end, links.next, links.previous);
@@ -204,8 +210,8 @@ pub(crate) fn find(records: &Slab<Record>, firsts: &[Firsts], edge: Edge) -> Opt
     ensures some { IfSome result (λ k. edge_at (get records.now) k ≡ Some edge) }
     ensures none { IfNone result ((k : ℕ) → edge_at (get records.now) k ≡ Some edge → ⊥) }
 {
-    let mut out = records_at(records, firsts, edge.source, End::Outgoing);
-    let mut into = records_at(records, firsts, edge.target, End::Incoming);
+    let mut out = records_at(records, firsts, edge.source.0, End::Outgoing);
+    let mut into = records_at(records, firsts, edge.target.0, End::Incoming);
     while let (Some(one), Some(other)) = (out.next(), into.next()) {
         if one.1 == edge {
             return Some(one.0);
@@ -220,8 +226,8 @@ pub(crate) fn find(records: &Slab<Record>, firsts: &[Firsts], edge: Edge) -> Opt
 /// Puts an edge that has no record yet into the table, which has room for one more, and into the lists at both its ends.
 pub(crate) fn put(records: &mut Slab<Record>, firsts: &mut [Firsts], edge: Edge)
     requires room { HasRoomFor records.old 1 }
-    requires source { edge.source < length firsts.old }
-    requires target { edge.target < length firsts.old }
+    requires source { edge.source.0 < length firsts.old }
+    requires target { edge.target.0 < length firsts.old }
     requires listed { AreListed (get records.old) firsts.old }
     requires absent { (k : ℕ) → edge_at (get records.old) k ≡ Some edge → ⊥ }
     ensures listed { AreListed (get records.new) firsts.new }

@@ -37,9 +37,11 @@ use Rattle.wac_edges.specs.Cycles.{step, further}
 use Rattle.wac_terms.specs.NoDisagreement.{HasNoDisagreement}
 use Rattle.wac_agreement.specs.Faults.{Disagrees, UseEachOther}
 use Rattle.wac_edges.specs.declared.edges.Edge.{Edge}
+use Rattle.wac_edges.specs.declared.node.NodeId.{NodeId}
 use Rattle.wac_nodes.specs.declared.options.EncodeOptions.{EncodeOptions}
 use Rattle.wac_nodes.specs.Graph as graph
-use Rattle.wac_nodes.specs.Graph.{Graph, GraphNode, node_at, node_number}
+use Rattle.wac_edges.specs.Edge.{node_number}
+use Rattle.wac_nodes.specs.Graph.{Graph, GraphNode, node_at}
 use Rattle.wac_edges.specs.Order.{Edges, Leads, IsAcyclic}
 use Rattle.wac_nodes.specs.Asked.{Entry, asked_by, imported_by}
 use Rattle.wac_nodes.specs.Entries.{once, with_used, asked_entries, to_merge}
@@ -59,7 +61,7 @@ clash h k = cc
 no_edge : (e : Edge) → set.contains no_edges e ≡ true → ⊥
 no_edge e stands = clash stands (set.contains-from_list edge_cmp_total [] e)
 
-none_leads : (ns : List ℕ) (a b : ℕ) → Leads no_edges a ns b → ⊥
+none_leads : (ns : List NodeId) (a b : NodeId) → Leads no_edges a ns b → ⊥
 none_leads [] a b h = no_edge h.0 h.1
 none_leads (c ∷ cs) a b h = no_edge (h.0).0 (h.0).1
 

@@ -25,7 +25,8 @@ use Rattle.wac_nodes.specs.declared.options.EncodeOptions.{EncodeOptions}
 use Rattle.wac_nodes.specs.Asked.{asked, asked_by, imported_by}
 use Rattle.wac_meaning.specs.Definition.{definition_tree, interface_definition}
 use Rattle.wac_nodes.specs.Graph as graph
-use Rattle.wac_nodes.specs.Graph.{Graph, GraphNode, node_at, imports_of, node_number}
+use Rattle.wac_edges.specs.Edge.{node_number}
+use Rattle.wac_nodes.specs.Graph.{Graph, GraphNode, node_at, imports_of}
 use Rattle.wac_meaning.specs.Means.{Means, is_written, instantiations, used_after, used_packages, package_import, sort_of_kind, AreInstantiations, IsThing, as_instantiation, as_definition, HasItem, shown, export_of, first_export, further_exports, export_item_of, custom_item}
 use Rattle.wac_meaning.proofs.DefinedLemmas.{no_names}
 use Rattle.wac_meaning.proofs.EncodeLemmas.{AllSet, no_imports, asked_none}

@@ -9,7 +9,8 @@ use Rattle.std.specs.Cmp.{nat_cmp_total, tied_itself}
 use Rattle.wac_edges.specs.declared.edges.Edge.{Edge}
 use Rattle.wac_edges.specs.Edge.{edge_cmp}
 use Rattle.wac_nodes.specs.Graph as graph
-use Rattle.wac_nodes.specs.Graph.{Graph, GraphNode, node_at, node_number}
+use Rattle.wac_edges.specs.Edge.{node_number}
+use Rattle.wac_nodes.specs.Graph.{Graph, GraphNode, node_at}
 use Rattle.wac_nodes.specs.Imports.{unset_rows, node_rows, asked_rows}
 use Rattle.wac_examples.proofs.Ordered.{edge_cmp_total}
 use Rattle.wac_examples.proofs.Rows.{of_function, instance_of_second, readme_graph}

@@ -29,11 +29,12 @@ use Rattle.wac_binary.specs.Items.{Item, custom, nested, instantiate, import_ite
 use Rattle.wac_binary.specs.Meaning.{meaning, instance_at, import_at, stands_for, written, Thing}
 use Rattle.wac_edges.specs.declared.edges.Edge.{Edge}
 use Rattle.wac_edges.specs.Order.{Writes, IsLowestReady, without}
-use Rattle.wac_nodes.specs.declared.node.NodeId.{NodeId}
+use Rattle.wac_edges.specs.declared.node.NodeId.{NodeId}
 use Rattle.wac_nodes.specs.declared.options.EncodeOptions.{EncodeOptions}
 use Rattle.wac_nodes.specs.declared.options.Processor.{Processor}
 use Rattle.wac_nodes.specs.Graph as graph
-use Rattle.wac_nodes.specs.Graph.{Graph, GraphNode, node_at, imports_of, node_number}
+use Rattle.wac_edges.specs.Edge.{node_number}
+use Rattle.wac_nodes.specs.Graph.{Graph, GraphNode, node_at, imports_of}
 use Rattle.wac_meaning.specs.Definition.{definition_tree}
 use Rattle.wac_meaning.specs.Means.{Means, is_import, is_written, instantiations, used_after, used_packages, package_bytes, sort_of_kind, AreInstantiations, IsThing, as_instantiation, as_definition, HasItem, shown, export_of, first_export, further_exports, name_customs, processor_customs, AreNames, IsNameOf}
 use Rattle.wac_meaning.proofs.DefinedLemmas.{no_names}

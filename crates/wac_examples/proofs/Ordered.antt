@@ -90,7 +90,7 @@ range_after left k count r = record {
     lower differ = omega (arith, differ)
 
 -- where edges lead to higher numbers
-pub by_number : (edges : Edges) → ((e : Edge) → set.contains edges e ≡ true → e.source < e.target) → (k count : ℕ) (left : ℕ → Bool) → Range left k count → Writes edges left (counting k count)
+pub by_number : (edges : Edges) → ((e : Edge) → set.contains edges e ≡ true → e.source.0 < e.target.0) → (k count : ℕ) (left : ℕ → Bool) → Range left k count → Writes edges left (counting k count)
 by_number edges upward k zero left r = λ m. none m (left m) refl where
   none : (m : ℕ) (b : Bool) → left m ≡ b → left m ≡ false
   none m false is = is
@@ -100,7 +100,7 @@ by_number edges upward k zero left r = λ m. none m (left m) refl where
 by_number edges upward k (suc count) left r = (
   record {
     here = r.within k (omega arith) (omega arith);
-    free = λ e stands leads. (let up : e.source < e.target = upward e stands in r.below e.source (omega (arith, up, leads)));
+    free = λ e stands leads. (let up : e.source.0 < e.target.0 = upward e stands in r.below e.source.0 (omega (arith, up, leads)));
     lower = λ m small is. absurd (not_both is (r.below m small));
   },
   by_number edges upward (suc k) count (without left k) (range_after left k count r),

@@ -21,7 +21,8 @@ use Rattle.wac_edges.specs.declared.edges.Edge.{Edge}
 use Rattle.wac_nodes.specs.declared.packages.PackageId.{PackageId}
 use Rattle.wac_edges.specs.Edge.{edge_cmp, alias_edge, argument_edge}
 use Rattle.wac_nodes.specs.Graph as graph
-use Rattle.wac_nodes.specs.Graph.{Graph, GraphNode, node_at, imports_of, IsSatisfied, node_number}
+use Rattle.wac_edges.specs.Edge.{node_number}
+use Rattle.wac_nodes.specs.Graph.{Graph, GraphNode, node_at, imports_of, IsSatisfied}
 use Rattle.wac_edges.specs.Order.{Edges, Writes, IsLowestReady, without}
 use Rattle.wac_nodes.specs.OuterImports.{AreOuterImports}
 use Rattle.wac_meaning.specs.Means.{Means, is_import, is_written, instantiations, used_after, used_packages, package_bytes, sort_of_kind, AreInstantiations, IsThing, as_instantiation, as_alias, given, HasItem, shown, export_of, export_item_of, first_export, further_exports, custom_item}
@@ -65,7 +66,7 @@ abbrev entries : List (ℕ × GraphNode)
 entries = (0, instance_of_first) ∷ (1, alias_of_first) ∷ (2, instance_of_second) ∷ []
 
 abbrev edge_list : List Edge
-edge_list = alias_edge 0 1 0 ∷ argument_edge 1 2 0 ∷ []
+edge_list = alias_edge (node_number 0) (node_number 1) 0 ∷ argument_edge (node_number 1) (node_number 2) 0 ∷ []
 
 -- an instance of the first, its alias `a`, an instance of the second, to which the alias is given as `b`
 abbrev pub readme_graph : Graph
@@ -129,18 +130,18 @@ either false true h = inr refl
 either false false h = inl h
 
 -- an edge of the graph is one of the two
-edges_are : (e : Edge) → set.contains readme_graph.edges e ≡ true → (e ≡ alias_edge 0 1 0) ⊎ (e ≡ argument_edge 1 2 0)
-edges_are e stands = split (either (eq_by_cmp edge_cmp e (alias_edge 0 1 0)) (eq_by_cmp edge_cmp e (argument_edge 1 2 0)) (sym (set.contains-from_list edge_cmp_total edge_list e) ∙ stands)) where
-  split : (eq_by_cmp edge_cmp e (alias_edge 0 1 0) ≡ true) ⊎ (eq_by_cmp edge_cmp e (argument_edge 1 2 0) ≡ true) → (e ≡ alias_edge 0 1 0) ⊎ (e ≡ argument_edge 1 2 0)
-  split (inl h) = inl (exact_edges e (alias_edge 0 1 0) h)
-  split (inr h) = inr (exact_edges e (argument_edge 1 2 0) h)
+edges_are : (e : Edge) → set.contains readme_graph.edges e ≡ true → (e ≡ alias_edge (node_number 0) (node_number 1) 0) ⊎ (e ≡ argument_edge (node_number 1) (node_number 2) 0)
+edges_are e stands = split (either (eq_by_cmp edge_cmp e (alias_edge (node_number 0) (node_number 1) 0)) (eq_by_cmp edge_cmp e (argument_edge (node_number 1) (node_number 2) 0)) (sym (set.contains-from_list edge_cmp_total edge_list e) ∙ stands)) where
+  split : (eq_by_cmp edge_cmp e (alias_edge (node_number 0) (node_number 1) 0) ≡ true) ⊎ (eq_by_cmp edge_cmp e (argument_edge (node_number 1) (node_number 2) 0) ≡ true) → (e ≡ alias_edge (node_number 0) (node_number 1) 0) ⊎ (e ≡ argument_edge (node_number 1) (node_number 2) 0)
+  split (inl h) = inl (exact_edges e (alias_edge (node_number 0) (node_number 1) 0) h)
+  split (inr h) = inr (exact_edges e (argument_edge (node_number 1) (node_number 2) 0) h)
 
 -- both stand in it
-stands_alias : set.contains readme_graph.edges (alias_edge 0 1 0) ≡ true
-stands_alias = set.contains-from_list edge_cmp_total edge_list (alias_edge 0 1 0)
+stands_alias : set.contains readme_graph.edges (alias_edge (node_number 0) (node_number 1) 0) ≡ true
+stands_alias = set.contains-from_list edge_cmp_total edge_list (alias_edge (node_number 0) (node_number 1) 0)
 
-stands_argument : set.contains readme_graph.edges (argument_edge 1 2 0) ≡ true
-stands_argument = set.contains-from_list edge_cmp_total edge_list (argument_edge 1 2 0)
+stands_argument : set.contains readme_graph.edges (argument_edge (node_number 1) (node_number 2) 0) ≡ true
+stands_argument = set.contains-from_list edge_cmp_total edge_list (argument_edge (node_number 1) (node_number 2) 0)
 
 -- the instances are the first node and the third
 readme_instantiations : instantiations readme_graph (0 ∷ 1 ∷ 2 ∷ []) ≡ 0 ∷ 2 ∷ []
@@ -174,8 +175,8 @@ Writes-same edges p q h [] done = λ m. h m ∙ done m
 Writes-same edges p q h (n ∷ ns) (ready, later) = (
   record {
     here = h n ∙ ready.here;
-    free = λ e stands leads. h e.source ∙ ready.free e stands leads;
-    lower = λ m small left. let (e, stands, to, from) = ready.lower m small (sym (h m) ∙ left) in (e, stands, to, h e.source ∙ from);
+    free = λ e stands leads. h e.source.0 ∙ ready.free e stands leads;
+    lower = λ m small left. let (e, stands, to, from) = ready.lower m small (sym (h m) ∙ left) in (e, stands, to, h e.source.0 ∙ from);
   },
   Writes-same edges (without p n) (without q n) (λ m. ap (λ b. b && not (eqb m n)) (h m)) ns later,
 )
@@ -203,15 +204,15 @@ differ m n h k = clash (ap (λ x. eqb m x) (sym h) ∙ same m) k where
 -- the first node is ready at once, the alias after it, the second instance last
 ready_0 : IsLowestReady readme_graph.edges three 0
 ready_0 = record { here = refl; free = λ e stands leads. split e leads (edges_are e stands); lower = λ m small _. absurd (not_below_0 m small) } where
-  split : (e : Edge) → e.target ≡ 0 → (e ≡ alias_edge 0 1 0) ⊎ (e ≡ argument_edge 1 2 0) → three e.source ≡ false
-  split e leads (inl is) = absurd (differ 1 0 (ap (λ (x : Edge). x.target) (sym is) ∙ leads) refl)
-  split e leads (inr is) = absurd (differ 2 0 (ap (λ (x : Edge). x.target) (sym is) ∙ leads) refl)
+  split : (e : Edge) → e.target.0 ≡ 0 → (e ≡ alias_edge (node_number 0) (node_number 1) 0) ⊎ (e ≡ argument_edge (node_number 1) (node_number 2) 0) → three e.source.0 ≡ false
+  split e leads (inl is) = absurd (differ 1 0 (ap (λ (x : Edge). x.target.0) (sym is) ∙ leads) refl)
+  split e leads (inr is) = absurd (differ 2 0 (ap (λ (x : Edge). x.target.0) (sym is) ∙ leads) refl)
 
 ready_1 : IsLowestReady readme_graph.edges (without three 0) 1
 ready_1 = record { here = refl; free = λ e stands leads. split e leads (edges_are e stands); lower = λ m small left. absurd (lower m small left) } where
-  split : (e : Edge) → e.target ≡ 1 → (e ≡ alias_edge 0 1 0) ⊎ (e ≡ argument_edge 1 2 0) → without three 0 e.source ≡ false
-  split e leads (inl is) = ap (λ (x : Edge). without three 0 x.source) is
-  split e leads (inr is) = absurd (differ 2 1 (ap (λ (x : Edge). x.target) (sym is) ∙ leads) refl)
+  split : (e : Edge) → e.target.0 ≡ 1 → (e ≡ alias_edge (node_number 0) (node_number 1) 0) ⊎ (e ≡ argument_edge (node_number 1) (node_number 2) 0) → without three 0 e.source.0 ≡ false
+  split e leads (inl is) = ap (λ (x : Edge). without three 0 x.source.0) is
+  split e leads (inr is) = absurd (differ 2 1 (ap (λ (x : Edge). x.target.0) (sym is) ∙ leads) refl)
 
   lower : (m : ℕ) → m < 1 → without three 0 m ≡ true → ⊥
   lower zero _ left = clash left refl
@@ -219,9 +220,9 @@ ready_1 = record { here = refl; free = λ e stands leads. split e leads (edges_a
 
 ready_2 : IsLowestReady readme_graph.edges (without (without three 0) 1) 2
 ready_2 = record { here = refl; free = λ e stands leads. split e leads (edges_are e stands); lower = λ m small left. absurd (lower m small left) } where
-  split : (e : Edge) → e.target ≡ 2 → (e ≡ alias_edge 0 1 0) ⊎ (e ≡ argument_edge 1 2 0) → without (without three 0) 1 e.source ≡ false
-  split e leads (inl is) = absurd (differ 1 2 (ap (λ (x : Edge). x.target) (sym is) ∙ leads) refl)
-  split e leads (inr is) = ap (λ (x : Edge). without (without three 0) 1 x.source) is
+  split : (e : Edge) → e.target.0 ≡ 2 → (e ≡ alias_edge (node_number 0) (node_number 1) 0) ⊎ (e ≡ argument_edge (node_number 1) (node_number 2) 0) → without (without three 0) 1 e.source.0 ≡ false
+  split e leads (inl is) = absurd (differ 1 2 (ap (λ (x : Edge). x.target.0) (sym is) ∙ leads) refl)
+  split e leads (inr is) = ap (λ (x : Edge). without (without three 0) 1 x.source.0) is
 
   lower : (m : ℕ) → m < 2 → without (without three 0) 1 m ≡ true → ⊥
   lower zero _ left = clash left refl
@@ -504,7 +505,7 @@ abbrev exporting_entries : List (ℕ × GraphNode)
 exporting_entries = (0, instance_of_first) ∷ (1, exported_alias) ∷ []
 
 abbrev exporting_graph : Graph
-exporting_graph = record readme_graph { nodes = finite.from_entries exporting_entries; next = 2; edges = set.from_list (alias_edge 0 1 0 ∷ []); exports = (120 ∷ [], node_number 1) ∷ [] }
+exporting_graph = record readme_graph { nodes = finite.from_entries exporting_entries; next = 2; edges = set.from_list (alias_edge (node_number 0) (node_number 1) 0 ∷ []); exports = (120 ∷ [], node_number 1) ∷ [] }
 
 abbrev exporting_body : List Item
 exporting_body = nested preamble ∷ instantiate 0 [] ∷ alias_item (export_alias s.Func 0 (97 ∷ [])) ∷ []
@@ -536,11 +537,11 @@ or_false true h = refl
 or_false false h = h
 
 -- there is one edge
-exporting_edge : (e : Edge) → set.contains exporting_graph.edges e ≡ true → e ≡ alias_edge 0 1 0
-exporting_edge e stands = exact_edges e (alias_edge 0 1 0) (or_false (eq_by_cmp edge_cmp e (alias_edge 0 1 0)) (sym (set.contains-from_list edge_cmp_total (alias_edge 0 1 0 ∷ []) e) ∙ stands))
+exporting_edge : (e : Edge) → set.contains exporting_graph.edges e ≡ true → e ≡ alias_edge (node_number 0) (node_number 1) 0
+exporting_edge e stands = exact_edges e (alias_edge (node_number 0) (node_number 1) 0) (or_false (eq_by_cmp edge_cmp e (alias_edge (node_number 0) (node_number 1) 0)) (sym (set.contains-from_list edge_cmp_total (alias_edge (node_number 0) (node_number 1) 0 ∷ []) e) ∙ stands))
 
-exporting_stands : set.contains exporting_graph.edges (alias_edge 0 1 0) ≡ true
-exporting_stands = set.contains-from_list edge_cmp_total (alias_edge 0 1 0 ∷ []) (alias_edge 0 1 0)
+exporting_stands : set.contains exporting_graph.edges (alias_edge (node_number 0) (node_number 1) 0) ≡ true
+exporting_stands = set.contains-from_list edge_cmp_total (alias_edge (node_number 0) (node_number 1) 0 ∷ []) (alias_edge (node_number 0) (node_number 1) 0)
 
 -- one node is an instance
 exporting_instantiations : instantiations exporting_graph (0 ∷ 1 ∷ []) ≡ 0 ∷ []
@@ -553,8 +554,8 @@ exporting_packages = ap (used_after exporting_graph []) exporting_instantiations
 -- the instance before its alias
 pub exporting_in_order : Writes exporting_graph.edges (is_written exporting_graph) (0 ∷ 1 ∷ [])
 exporting_in_order = Writes-same exporting_graph.edges both (is_written exporting_graph) (are_both exporting_graph instance_of_first exported_alias exporting_0 exporting_1 exporting_more refl refl) (0 ∷ 1 ∷ []) (
-  record { here = refl; free = λ e stands leads. absurd (differ 1 0 (ap (λ (x : Edge). x.target) (sym (exporting_edge e stands)) ∙ leads) refl); lower = λ m small _. absurd (not_below_0 m small) },
-  (record { here = refl; free = λ e stands _. ap (λ (x : Edge). without both 0 x.source) (exporting_edge e stands); lower = λ m small left. absurd (lower_1 m small left) }, none_of_both),
+  record { here = refl; free = λ e stands leads. absurd (differ 1 0 (ap (λ (x : Edge). x.target.0) (sym (exporting_edge e stands)) ∙ leads) refl); lower = λ m small _. absurd (not_below_0 m small) },
+  (record { here = refl; free = λ e stands _. ap (λ (x : Edge). without both 0 x.source.0) (exporting_edge e stands); lower = λ m small left. absurd (lower_1 m small left) }, none_of_both),
 )
 
 exporting_imports : AreOuterImports exporting_graph (meaning exporting).imports

@@ -13,7 +13,8 @@ use Rattle.wac_edges.specs.declared.edges.Label.TheVariants.{Alias, Argument}
 use Rattle.wac_nodes.specs.declared.packages.PackageId.{PackageId}
 use Rattle.wac_edges.specs.Edge.{alias_edge, argument_edge}
 use Rattle.wac_nodes.specs.Graph as graph
-use Rattle.wac_nodes.specs.Graph.{GraphNode, node_at, imports_of, exports_of, node_number}
+use Rattle.wac_edges.specs.Edge.{node_number}
+use Rattle.wac_nodes.specs.Graph.{GraphNode, node_at, imports_of, exports_of}
 use Rattle.wac_meaning.specs.Means.{Means, is_written, instantiations, used_packages, package_bytes, IsArgument, given, asked, AreArguments, IsInstantiationOf, AreInstantiations, IsThing, as_import, as_instantiation, as_alias, shown, as_definition, export_of, first_export, further_exports}
 use Rattle.wac_examples.proofs.Ordered.{by_edge, one_order}
 use Rattle.wac_examples.proofs.Rows.{defining, of_function, first, second, instance_of_first, alias_of_first, instance_of_second}
@@ -30,11 +31,11 @@ pub record Says (items : List Item) : Type 0 where
   pub exports : map shown (meaning items).exports ≡ (codes "p", s.Func, function_of 0) ∷ (codes "q", s.Func, function_of 1) ∷ []
 
 -- ---- which edges stand
-two_targets : (e f : Edge) → e ≡ f → (e.target ≡ f.target → ⊥) → ⊥
-two_targets e f same differ = differ (ap (λ (x : Edge). x.target) same)
+two_targets : (e f : Edge) → e ≡ f → (e.target.0 ≡ f.target.0 → ⊥) → ⊥
+two_targets e f same differ = differ (ap (λ (x : Edge). x.target.0) same)
 
-same_source : (e f : Edge) → e ≡ f → f.source ≡ e.source
-same_source e f same = ap (λ (x : Edge). x.source) (sym same)
+same_source : (e f : Edge) → e ≡ f → f.source.0 ≡ e.source.0
+same_source e f same = ap (λ (x : Edge). x.source.0) (sym same)
 
 same_position : (i j : ℕ) (e f : Edge) → e ≡ f → e.label ≡ Alias i → f.label ≡ Alias j → j ≡ i
 same_position i j e f same a b = let c : Alias i ≡ Alias j = sym a ∙ ap (λ (x : Edge). x.label) same ∙ b in cc
@@ -43,8 +44,8 @@ two_labels : (i j : ℕ) (e f : Edge) → e ≡ f → e.label ≡ Argument i →
 two_labels i j e f same a b differ = let c : Argument i ≡ Argument j = sym a ∙ ap (λ (x : Edge). x.label) same ∙ b in let d : i ≡ j = cc in differ d
 
 -- the one alias edge that leads to node 2 is of the first instance's first export
-alias_2 : (k p : ℕ) → set.contains twins.edges (alias_edge k 2 p) ≡ true → (k ≡ 0) × (p ≡ 0)
-alias_2 k p stands = by_edge (λ e. e ≡ alias_edge k 2 p → (k ≡ 0) × (p ≡ 0)) edge_list (
+alias_2 : (k p : ℕ) → set.contains twins.edges (alias_edge (node_number k) (node_number 2) p) ≡ true → (k ≡ 0) × (p ≡ 0)
+alias_2 k p stands = by_edge (λ e. e ≡ alias_edge (node_number k) (node_number 2) p → (k ≡ 0) × (p ≡ 0)) edge_list (
   λ same. (same_source _ _ same, same_position 0 p _ _ same refl refl),
   (
     λ same. absurd (two_targets _ _ same (λ h. omega (arith, h))),
@@ -54,11 +55,11 @@ alias_2 k p stands = by_edge (λ e. e ≡ alias_edge k 2 p → (k ≡ 0) × (p �
     ),
   ),
 )
-    (alias_edge k 2 p) stands refl
+    (alias_edge (node_number k) (node_number 2) p) stands refl
 
 -- and to node 3 of the second's
-alias_3 : (k p : ℕ) → set.contains twins.edges (alias_edge k 3 p) ≡ true → (k ≡ 1) × (p ≡ 0)
-alias_3 k p stands = by_edge (λ e. e ≡ alias_edge k 3 p → (k ≡ 1) × (p ≡ 0)) edge_list (
+alias_3 : (k p : ℕ) → set.contains twins.edges (alias_edge (node_number k) (node_number 3) p) ≡ true → (k ≡ 1) × (p ≡ 0)
+alias_3 k p stands = by_edge (λ e. e ≡ alias_edge (node_number k) (node_number 3) p → (k ≡ 1) × (p ≡ 0)) edge_list (
   λ same. absurd (two_targets _ _ same (λ h. omega (arith, h))),
   (
     λ same. (same_source _ _ same, same_position 0 p _ _ same refl refl),
@@ -68,11 +69,11 @@ alias_3 k p stands = by_edge (λ e. e ≡ alias_edge k 3 p → (k ≡ 1) × (p �
     ),
   ),
 )
-    (alias_edge k 3 p) stands refl
+    (alias_edge (node_number k) (node_number 3) p) stands refl
 
 -- the one argument for `x` is node 2
-argument_x : (k : ℕ) → set.contains twins.edges (argument_edge k 4 0) ≡ true → k ≡ 2
-argument_x k stands = by_edge (λ e. e ≡ argument_edge k 4 0 → k ≡ 2) edge_list (
+argument_x : (k : ℕ) → set.contains twins.edges (argument_edge (node_number k) (node_number 4) 0) ≡ true → k ≡ 2
+argument_x k stands = by_edge (λ e. e ≡ argument_edge (node_number k) (node_number 4) 0 → k ≡ 2) edge_list (
   λ same. absurd (two_targets _ _ same (λ h. omega (arith, h))),
   (
     λ same. absurd (two_targets _ _ same (λ h. omega (arith, h))),
@@ -82,11 +83,11 @@ argument_x k stands = by_edge (λ e. e ≡ argument_edge k 4 0 → k ≡ 2) edge
     ),
   ),
 )
-    (argument_edge k 4 0) stands refl
+    (argument_edge (node_number k) (node_number 4) 0) stands refl
 
 -- and for `y` node 3
-argument_y : (k : ℕ) → set.contains twins.edges (argument_edge k 4 1) ≡ true → k ≡ 3
-argument_y k stands = by_edge (λ e. e ≡ argument_edge k 4 1 → k ≡ 3) edge_list (
+argument_y : (k : ℕ) → set.contains twins.edges (argument_edge (node_number k) (node_number 4) 1) ≡ true → k ≡ 3
+argument_y k stands = by_edge (λ e. e ≡ argument_edge (node_number k) (node_number 4) 1 → k ≡ 3) edge_list (
   λ same. absurd (two_targets _ _ same (λ h. omega (arith, h))),
   (
     λ same. absurd (two_targets _ _ same (λ h. omega (arith, h))),
@@ -96,7 +97,7 @@ argument_y k stands = by_edge (λ e. e ≡ argument_edge k 4 1 → k ≡ 3) edge
     ),
   ),
 )
-    (argument_edge k 4 1) stands refl
+    (argument_edge (node_number k) (node_number 4) 1) stands refl
 
 some_same : {x y : GraphNode} → Some x ≡ Some y → x ≡ y
 some_same e = cc
@@ -151,7 +152,7 @@ module _ (items : List Item) (means : Means items twins defining) where
   of_instance n node kind (as_definition t is _ _) = absurd ((not_definition node.kind is).0 kind)
   of_instance n node kind (as_alias instance source p name is _ _ _ _) = absurd (not_alias node.kind kind is)
 
-  of_alias : (n j : ℕ) (node : GraphNode) → node.kind ≡ graph.alias → ((k p : ℕ) → set.contains twins.edges (alias_edge k n p) ≡ true → (k ≡ j) × (p ≡ 0)) → node_at twins (node_number j) ≡ Some instance_of_first
+  of_alias : (n j : ℕ) (node : GraphNode) → node.kind ≡ graph.alias → ((k p : ℕ) → set.contains twins.edges (alias_edge (node_number k) (node_number n) p) ≡ true → (k ≡ j) × (p ≡ 0)) → node_at twins (node_number j) ≡ Some instance_of_first
       → IsThing twins means.at means.order n node → means.at n ≡ projection (means.at j) (codes "a")
   of_alias n j node kind only there (as_import name p is _ _) = absurd ((not_import node.kind name is).1 kind)
   of_alias n j node kind only there (as_instantiation k is _ _) = absurd (not_alias node.kind is kind)
@@ -194,7 +195,7 @@ module _ (items : List Item) (means : Means items twins defining) where
       let nothing : it.arguments ≡ [] = none n it.arguments arguments in
       λ i. record { component = component i; arguments = nothing i }
 
-  argument : (p j : ℕ) (name : Name) (x : Thing) → ((k : ℕ) → set.contains twins.edges (argument_edge k 4 p) ≡ true → k ≡ j) → set.contains twins.edges (argument_edge j 4 p) ≡ true → IsArgument twins means.at 4 p name x → x ≡ means.at j
+  argument : (p j : ℕ) (name : Name) (x : Thing) → ((k : ℕ) → set.contains twins.edges (argument_edge (node_number k) (node_number 4) p) ≡ true → k ≡ j) → set.contains twins.edges (argument_edge (node_number j) (node_number 4) p) ≡ true → IsArgument twins means.at 4 p name x → x ≡ means.at j
   argument p j name _ only stands (given node is) = ap means.at (only node.0 is)
   argument p j name _ only stands (asked place unsatisfied _) = absurd (unsatisfied (node_number j) stands)
 
@@ -203,8 +204,8 @@ module _ (items : List Item) (means : Means items twins defining) where
   two (x ∷ []) (_, _, wrong) = absurd wrong
   two (x ∷ y ∷ z ∷ more) (_, _, (_, _, wrong)) = absurd wrong
   two (x ∷ y ∷ []) (x_name, x_is, (y_name, y_is, _)) =
-      let x_thing : x.1 ≡ function_of 0 = argument 0 2 (codes "x") x.1 argument_x (stands (argument_edge 2 4 0) refl) x_is ∙ at_2 in
-      let y_thing : y.1 ≡ function_of 1 = argument 1 3 (codes "y") y.1 argument_y (stands (argument_edge 3 4 1) refl) y_is ∙ at_3 in
+      let x_thing : x.1 ≡ function_of 0 = argument 0 2 (codes "x") x.1 argument_x (stands (argument_edge (node_number 2) (node_number 4) 0) refl) x_is ∙ at_2 in
+      let y_thing : y.1 ≡ function_of 1 = argument 1 3 (codes "y") y.1 argument_y (stands (argument_edge (node_number 3) (node_number 4) 1) refl) y_is ∙ at_3 in
       λ i. (x_name i, x_thing i) ∷ (y_name i, y_thing i) ∷ []
 
   of_second : (it : Instantiation) → IsInstantiationOf twins defining (length means.classes) means.at means.order 4 it → it ≡ record { component = component_at 1; arguments = (codes "x", function_of 0) ∷ (codes "y", function_of 1) ∷ [] }

@@ -19,7 +19,8 @@ use Rattle.wac_binary.specs.Meaning.{meaning, projection, instance_at, stands_fo
 use Rattle.wac_edges.specs.declared.edges.Edge.{Edge}
 use Rattle.wac_edges.specs.Edge.{edge_cmp, alias_edge, argument_edge}
 use Rattle.wac_nodes.specs.Graph as graph
-use Rattle.wac_nodes.specs.Graph.{Graph, GraphNode, node_at, imports_of, IsSatisfied, node_number}
+use Rattle.wac_edges.specs.Edge.{node_number}
+use Rattle.wac_nodes.specs.Graph.{Graph, GraphNode, node_at, imports_of, IsSatisfied}
 use Rattle.wac_edges.specs.Order.{Writes}
 use Rattle.wac_nodes.specs.OuterImports.{AreOuterImports}
 use Rattle.wac_meaning.specs.Means.{Means, is_import, is_written, instantiations, used_after, used_packages, package_bytes, sort_of_kind, AreInstantiations, IsThing, as_instantiation, as_alias, given, HasItem, shown, export_of, export_item_of, first_export, further_exports, custom_item}
@@ -55,7 +56,7 @@ abbrev entries : List (ℕ × GraphNode)
 entries = (0, instance_of_first) ∷ (1, instance_of_first) ∷ (2, alias_of_first) ∷ (3, alias_of_first) ∷ (4, instance_of_second) ∷ []
 
 abbrev pub edge_list : List Edge
-edge_list = alias_edge 0 2 0 ∷ alias_edge 1 3 0 ∷ argument_edge 2 4 0 ∷ argument_edge 3 4 1 ∷ []
+edge_list = alias_edge (node_number 0) (node_number 2) 0 ∷ alias_edge (node_number 1) (node_number 3) 0 ∷ argument_edge (node_number 2) (node_number 4) 0 ∷ argument_edge (node_number 3) (node_number 4) 1 ∷ []
 
 -- two instances of the first package, an alias of the `a` of each, an instance of the second, to which these are given as
 -- `x` and `y`; they are exported as `p` and `q`
@@ -161,7 +162,7 @@ are_five = record { below = λ m small. absurd (omega arith); within = λ m _ sm
 
 -- edges lead to higher numbers, so the order is that of the numbers
 pub twins_in_order : Writes twins.edges (is_written twins) numbers
-twins_in_order = by_number twins.edges (by_edge (λ e. e.source < e.target) edge_list (omega arith, (omega arith, (omega arith, (omega arith, tt))))) 0 5 (is_written twins) are_five
+twins_in_order = by_number twins.edges (by_edge (λ e. e.source.0 < e.target.0) edge_list (omega arith, (omega arith, (omega arith, (omega arith, tt))))) 0 5 (is_written twins) are_five
 
 -- an edge of the list stands in the graph
 pub stands : (e : Edge) → list_any (eq_by_cmp edge_cmp e) edge_list ≡ true → set.contains twins.edges e ≡ true
@@ -210,8 +211,8 @@ twins_imports = no_imports twins (asked_none twins plain all) where
   plain = by_node (λ n node. (node.kind ≡ graph.instantiation) ⊎ (node.kind ≡ graph.alias)) (inl refl) (inl refl) (inr refl) (inr refl) (inl refl)
 
   of_second : (i : ℕ) → i < 2 → IsSatisfied twins (node_number 4) i
-  of_second zero _ = (node_number 2, stands (argument_edge 2 4 0) refl)
-  of_second (suc zero) _ = (node_number 3, stands (argument_edge 3 4 1) refl)
+  of_second zero _ = (node_number 2, stands (argument_edge (node_number 2) (node_number 4) 0) refl)
+  of_second (suc zero) _ = (node_number 3, stands (argument_edge (node_number 3) (node_number 4) 1) refl)
   of_second (suc (suc i)) small = absurd (omega arith)
 
   all : AllSet twins
@@ -228,7 +229,7 @@ twins_instances = subst (λ ns. AreInstantiations twins defining 0 twins_at numb
   record { node = instance_of_first; there = node_0; owner = first; owned = refl; place = 0; used = ap (λ ps. slice_get ps 0) twins_packages; component = refl; arguments = tt },
   (
     record { node = instance_of_first; there = node_1; owner = first; owned = refl; place = 0; used = ap (λ ps. slice_get ps 0) twins_packages; component = refl; arguments = tt },
-    (record { node = instance_of_second; there = node_4; owner = second; owned = refl; place = 1; used = ap (λ ps. slice_get ps 1) twins_packages; component = refl; arguments = (refl, given (node_number 2) (stands (argument_edge 2 4 0) refl), (refl, given (node_number 3) (stands (argument_edge 3 4 1) refl), tt)) }, tt),
+    (record { node = instance_of_second; there = node_4; owner = second; owned = refl; place = 1; used = ap (λ ps. slice_get ps 1) twins_packages; component = refl; arguments = (refl, given (node_number 2) (stands (argument_edge (node_number 2) (node_number 4) 0) refl), (refl, given (node_number 3) (stands (argument_edge (node_number 3) (node_number 4) 1) refl), tt)) }, tt),
   ),
 )
 
@@ -236,8 +237,8 @@ twins_things : (n : ℕ) (node : GraphNode) → node_at twins (node_number n) �
 twins_things = by_node (λ n node. IsThing twins twins_at numbers n node)
     (as_instantiation 0 refl (ap (λ ns. slice_get ns 0) twins_instantiations) refl)
     (as_instantiation 1 refl (ap (λ ns. slice_get ns 1) twins_instantiations) refl)
-    (as_alias (node_number 0) instance_of_first 0 (codes "a") refl (stands (alias_edge 0 2 0) refl) node_0 refl refl)
-    (as_alias (node_number 1) instance_of_first 0 (codes "a") refl (stands (alias_edge 1 3 0) refl) node_1 refl refl)
+    (as_alias (node_number 0) instance_of_first 0 (codes "a") refl (stands (alias_edge (node_number 0) (node_number 2) 0) refl) node_0 refl refl)
+    (as_alias (node_number 1) instance_of_first 0 (codes "a") refl (stands (alias_edge (node_number 1) (node_number 3) 0) refl) node_1 refl refl)
     (as_instantiation 2 refl (ap (λ ns. slice_get ns 2) twins_instantiations) refl)
 
 -- the items of the nodes

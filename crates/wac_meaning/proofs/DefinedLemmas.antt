@@ -6,10 +6,11 @@ use Rattle.wac_shapes.specs.Name.{Name, option_case}
 use Rattle.wac_binary.specs.declared.sorts.Sort.{Sort}
 use Rattle.wac_binary.specs.Customs.{of_sort}
 use Rattle.wac_binary.specs.Meaning.{Thing, component_at, Instantiation}
-use Rattle.wac_nodes.specs.declared.node.NodeId.{NodeId}
+use Rattle.wac_edges.specs.declared.node.NodeId.{NodeId}
 use Rattle.wac_nodes.specs.declared.options.EncodeOptions.{EncodeOptions}
 use Rattle.wac_nodes.specs.declared.packages.PackageId.{PackageId}
-use Rattle.wac_nodes.specs.Graph.{Graph, GraphNode, node_at, imports_of, node_number}
+use Rattle.wac_edges.specs.Edge.{node_number}
+use Rattle.wac_nodes.specs.Graph.{Graph, GraphNode, node_at, imports_of}
 use Rattle.wac_meaning.specs.Means.{used_packages, package_bytes, package_components, package_imports, package_thing, AreArguments, IsInstantiationOf, AreInstantiations, is_first, first_export, further_exports, IsNameOf, AreNames}
 
 -- the instantiation is that of node n: of its package's component among those that are defined

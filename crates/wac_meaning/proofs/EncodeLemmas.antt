@@ -23,11 +23,12 @@ use Rattle.wac_binary.specs.HasMeaning.{HasMeaning, IsSomething}
 use Rattle.wac_entries.specs.Classes.{by_names}
 use Rattle.wac_terms.specs.ClassOrder as classes
 use Rattle.wac_edges.specs.declared.edges.Edge.{Edge}
-use Rattle.wac_nodes.specs.declared.node.NodeId.{NodeId}
+use Rattle.wac_edges.specs.declared.node.NodeId.{NodeId}
 use Rattle.wac_nodes.specs.declared.packages.PackageId.{PackageId}
 use Rattle.wac_edges.specs.Edge.{edge_cmp, argument_edge}
 use Rattle.wac_nodes.specs.Graph as graph
-use Rattle.wac_nodes.specs.Graph.{Graph, GraphNode, Kind, node_at, imports_of, IsSatisfied, node_number}
+use Rattle.wac_edges.specs.Edge.{node_number}
+use Rattle.wac_nodes.specs.Graph.{Graph, GraphNode, Kind, node_at, imports_of, IsSatisfied}
 use Rattle.wac_nodes.specs.Sound.{IsSound}
 use Rattle.wac_edges.specs.Order.{Writes, IsLowestReady}
 use Rattle.wac_nodes.specs.Asked.{is_argument, is_satisfied, unsatisfied, asked_by, imported_by, asked}
@@ -69,10 +70,10 @@ module _ (g : Graph) where
 
   pub satisfied : (n i : ℕ) → IsSatisfied g (node_number n) i → is_satisfied g n i ≡ true
   satisfied n i (node, stands) =
-      any_more (eq_by_cmp edge_cmp (argument_edge node.0 n i)) (is_argument n i)
-      (λ e same. let is : argument_edge node.0 n i ≡ e = exact_edges (argument_edge node.0 n i) e same in ap (is_argument n i) (sym is) ∙ rw (eqb_same n) (eqb_same i))
+      any_more (eq_by_cmp edge_cmp (argument_edge node (node_number n) i)) (is_argument n i)
+      (λ e same. let is : argument_edge node (node_number n) i ≡ e = exact_edges (argument_edge node (node_number n) i) e same in ap (is_argument n i) (sym is) ∙ rw (eqb_same n) (eqb_same i))
       (set.items g.edges)
-      (sym (set.contains-items g.edges (argument_edge node.0 n i)) ∙ stands)
+      (sym (set.contains-items g.edges (argument_edge node (node_number n) i)) ∙ stands)
 
   none_unsatisfied : (n i : ℕ) (imports : List (Name × ItemKind)) → ((j : ℕ) → j < length imports → IsSatisfied g (node_number n) (i + j)) → unsatisfied g n i imports ≡ []
   none_unsatisfied n i [] all = refl

@@ -11,7 +11,7 @@ use Rattle.wac_binary.specs.Items.{Item, nested, instantiate, alias_item, export
 use Rattle.wac_binary.specs.Unfold.{Scope, Bound, bound_at, unbound, aliased_instance, with_alias}
 use Rattle.wac_binary.specs.Meaning.{Thing, Root, Export, start, stands_for, with_thing, with_exported, read, read_all, meaning}
 use Rattle.wac_binary.specs.HasMeaning.{ItemHasMeaning, AllHaveMeaning, HasMeaning, IsSomething, HasExport, IsNew}
-use Rattle.wac_nodes.specs.declared.node.NodeId.{NodeId}
+use Rattle.wac_edges.specs.declared.node.NodeId.{NodeId}
 use Rattle.wac_nodes.specs.Graph.{Graph, GraphNode, node_at}
 use Rattle.wac_meaning.specs.Means.{IsThing, as_import, as_instantiation, as_alias, sort_of_kind, shown, export_of, as_definition}
 use Rattle.wac_meaning.proofs.MeaningLemmas.{meaning-push}

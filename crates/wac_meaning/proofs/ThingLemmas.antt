@@ -10,7 +10,8 @@ use Rattle.wac_binary.specs.Meaning.{Thing, nothing, instance_at, projection}
 use Rattle.wac_edges.specs.declared.edges.Edge.{Edge}
 use Rattle.wac_edges.specs.Edge.{alias_edge}
 use Rattle.wac_nodes.specs.Graph as graph
-use Rattle.wac_nodes.specs.Graph.{Graph, GraphNode, Kind, node_at, node_number}
+use Rattle.wac_edges.specs.Edge.{node_number}
+use Rattle.wac_nodes.specs.Graph.{Graph, GraphNode, Kind, node_at}
 use Rattle.wac_nodes.specs.Sound.{IsSound}
 use Rattle.wac_edges.specs.Order.{Writes, IsLowestReady}
 use Rattle.wac_meaning.specs.Means.{node_is, is_import, is_instantiation, is_written, instantiations, IsThing, as_import, as_instantiation, as_alias, as_definition}
@@ -38,18 +39,18 @@ module _ (g : Graph) (sound : IsSound g) (plain : IsPlain g) where
     split None is wrong = cc
     split (Some node) is _ = (node, is)
 
-  pub source_written : (e : Edge) → set.contains g.edges e ≡ true → is_written g e.source ≡ true
-  source_written e stands = let (node, there) = the_node (node_at g (node_number e.source)) (sound.ends e stands).0 in is_written-node e.source node there
+  pub source_written : (e : Edge) → set.contains g.edges e ≡ true → is_written g e.source.0 ≡ true
+  source_written e stands = let (node, there) = the_node (node_at g e.source) (sound.ends e stands).0 in is_written-node e.source.0 node there
 
   -- the sources of a ready node's edges are written
-  pub ready_sources : (done : List ℕ) (n : ℕ) → IsLowestReady g.edges (minus (is_written g) done) n → (e : Edge) → set.contains g.edges e ≡ true → e.target ≡ n → has done e.source ≡ true
-  ready_sources done n ready e stands leads = minus-false (is_written g) done e.source (ready.free e stands leads) (source_written e stands)
+  pub ready_sources : (done : List ℕ) (n : ℕ) → IsLowestReady g.edges (minus (is_written g) done) n → (e : Edge) → set.contains g.edges e ≡ true → e.target.0 ≡ n → has done e.source.0 ≡ true
+  ready_sources done n ready e stands leads = minus-false (is_written g) done e.source.0 (ready.free e stands leads) (source_written e stands)
 
   module _ (order : List ℕ) where
     -- what the nodes written so far stand for, and that they come after their edges' sources
     pub record Good (done : List ℕ) (at : ℕ → Thing) : Type 0 where
       pub things : (n : ℕ) (node : GraphNode) → has done n ≡ true → node_at g (node_number n) ≡ Some node → IsThing g at order n node
-      pub closed : (e : Edge) → set.contains g.edges e ≡ true → has done e.target ≡ true → has done e.source ≡ true
+      pub closed : (e : Edge) → set.contains g.edges e ≡ true → has done e.target.0 ≡ true → has done e.source.0 ≡ true
 
     put_at : (ℕ → Thing) → ℕ → Thing → ℕ → Thing
     put_at at n t m = cond (eqb m n) t (at m)
@@ -68,7 +69,7 @@ module _ (g : Graph) (sound : IsSound g) (plain : IsPlain g) where
     kept done at n t good absent m node here (as_instantiation j k place is) = as_instantiation j k place (put_other at n t m (apart done m n here absent) ∙ is)
     kept done at n t good absent m node here (as_definition d k item is) = as_definition d k item (put_other at n t m (apart done m n here absent) ∙ is)
     kept done at n t good absent m node here (as_alias instance source i name k aliased there exported is) =
-        let before : has done instance.0 ≡ true = good.closed (alias_edge instance.0 m i) aliased here in
+        let before : has done instance.0 ≡ true = good.closed (alias_edge instance (node_number m) i) aliased here in
         as_alias instance source i name k aliased there exported
         (put_other at n t m (apart done m n here absent) ∙ is ∙ ap (λ x. projection x name) (sym (put_other at n t instance.0 (apart done instance.0 n before absent))))
 
@@ -95,7 +96,7 @@ module _ (g : Graph) (sound : IsSound g) (plain : IsPlain g) where
       split (inr is) =
           let a = sound.aliases (node_number n) node there is in
           let t : Thing = projection (at (a.instance).0) a.name in
-          let before : has done (a.instance).0 ≡ true = ready_sources done n ready (alias_edge (a.instance).0 n a.position) a.aliased refl in
+          let before : has done (a.instance).0 ≡ true = ready_sources done n ready (alias_edge (a.instance) (node_number n) a.position) a.aliased refl in
           (t, as_alias a.instance a.source a.position a.name is a.aliased a.there a.exported (put_here at n t ∙ ap (λ x. projection x a.name) (sym (put_other at n t (a.instance).0 (apart done (a.instance).0 n before absent)))))
 
     same_node : (n : ℕ) (node other : GraphNode) → node_at g (node_number n) ≡ Some node → node_at g (node_number n) ≡ Some other → node ≡ other
@@ -109,7 +110,7 @@ module _ (g : Graph) (sound : IsSound g) (plain : IsPlain g) where
           put_at at n t,
           record {
             things = λ m other within other_there. things t node there is m other other_there (in_push done n m within);
-            closed = λ edge stands within. closed edge stands (in_push done n edge.target within);
+            closed = λ edge stands within. closed edge stands (in_push done n edge.target.0 within);
           },
         ) where
           absent : has done n ≡ false
@@ -121,9 +122,9 @@ module _ (g : Graph) (sound : IsSound g) (plain : IsPlain g) where
               subst (λ k. IsThing g (put_at at n t) order k other) (sym same) (subst (λ x. IsThing g (put_at at n t) order n x) e is)
           things t node there is m other other_there (inr before) = kept done at n t good absent m other before (good.things m other before other_there)
 
-          closed : (edge : Edge) → set.contains g.edges edge ≡ true → (edge.target ≡ n) ⊎ (has done edge.target ≡ true) → has (done ++ n ∷ []) edge.source ≡ true
-          closed edge stands (inl same) = still_in done n edge.source (ready_sources done n ready edge stands same)
-          closed edge stands (inr before) = still_in done n edge.source (good.closed edge stands before)
+          closed : (edge : Edge) → set.contains g.edges edge ≡ true → (edge.target.0 ≡ n) ⊎ (has done edge.target.0 ≡ true) → has (done ++ n ∷ []) edge.source.0 ≡ true
+          closed edge stands (inl same) = still_in done n edge.source.0 (ready_sources done n ready edge stands same)
+          closed edge stands (inr before) = still_in done n edge.source.0 (good.closed edge stands before)
 
     all_more : (rest done : List ℕ) (at : ℕ → Thing) → order ≡ done ++ rest → Writes g.edges (minus (is_written g) done) rest → Good done at → (after : ℕ → Thing) × Good order after
     all_more [] done at e stop good = (at, subst (λ xs. Good xs at) (sym (e ∙ rw append-nil refl)) good)

@@ -16,11 +16,12 @@ use Rattle.wac_binary.specs.Indexes.{space, indexes, is_in, adds, sort_added}
 use Rattle.wac_binary.specs.Meaning.{Thing, instance_at, component_at, projection, projected, Instantiation, things, stands_for, meaning}
 use Rattle.wac_binary.specs.HasMeaning.{HasMeaning, IsSomething}
 use Rattle.wac_edges.specs.declared.edges.Edge.{Edge}
-use Rattle.wac_nodes.specs.declared.node.NodeId.{NodeId}
+use Rattle.wac_edges.specs.declared.node.NodeId.{NodeId}
 use Rattle.wac_nodes.specs.declared.packages.PackageId.{PackageId}
 use Rattle.wac_edges.specs.Edge.{alias_edge, argument_edge}
 use Rattle.wac_nodes.specs.Graph as graph
-use Rattle.wac_nodes.specs.Graph.{Graph, GraphNode, Kind, node_at, package_at, imports_of, exports_of, IsAliasOf, IsArgumentOf, node_number}
+use Rattle.wac_edges.specs.Edge.{node_number}
+use Rattle.wac_nodes.specs.Graph.{Graph, GraphNode, Kind, node_at, package_at, imports_of, exports_of, IsAliasOf, IsArgumentOf}
 use Rattle.wac_nodes.specs.Sound.{IsSound}
 use Rattle.wac_edges.specs.Order.{Writes, IsLowestReady}
 use Rattle.wac_meaning.specs.Means.{node_is, is_import, is_instantiation, is_written, instantiations, IsThing, as_import, as_instantiation, as_alias, sort_of_kind, same_package, with_package, used_after, used_packages, package_bytes, IsArgument, given, AreArguments, HasItem, is_own_item, as_definition}
@@ -225,7 +226,7 @@ module _ (counted : Counted) (earlier : Earlier) (g : Graph) (sound : IsSound g)
     absent : has done n ≡ false
     absent = (minus-true (is_written g) done n ready.here).1
 
-    source_done : (e : Edge) → set.contains g.edges e ≡ true → e.target ≡ n → has done e.source ≡ true
+    source_done : (e : Edge) → set.contains g.edges e ≡ true → e.target.0 ≡ n → has done e.source.0 ≡ true
     source_done e stands leads = ready_sources g sound plain done n ready e stands leads
 
     not_later : has later n ≡ false
@@ -375,7 +376,7 @@ module _ (counted : Counted) (earlier : Earlier) (g : Graph) (sound : IsSound g)
           -- the instance is written
           of_instance : stands_for (meaning items) sort.Instance (index instance.0) ≡ at instance.0
           of_instance =
-              let s = w.stand instance.0 source (source_done (alias_edge instance.0 n k) aliased refl) source_there in
+              let s = w.stand instance.0 source (source_done (alias_edge instance (node_number n) k) aliased refl) source_there in
               ap (λ q. stands_for (meaning items) q (index instance.0)) (sym (instance_sort source.item_kind source refl exported)) ∙ s.1
 
           here_stands : (indexes (space (sort_of_kind node.item_kind)) items < indexes (space (sort_of_kind node.item_kind)) (items ++ alias_item (export_alias (sort_of_kind node.item_kind) (index instance.0) name) ∷ []))
@@ -448,7 +449,7 @@ module _ (counted : Counted) (earlier : Earlier) (g : Graph) (sound : IsSound g)
 
           argument_is : (j : ℕ) (name : Name) (a : Name × Sort × ℕ) (h : IsArgumentItem g index n j name a) → stands_for (meaning items) a.1 a.2 ≡ at (h.source).0
           argument_is j name a h =
-              let s = w.stand (h.source).0 h.node (source_done (argument_edge (h.source).0 n j) h.given refl) h.there in
+              let s = w.stand (h.source).0 h.node (source_done (argument_edge (h.source) (node_number n) j) h.given refl) h.there in
               ap (λ t. stands_for (meaning items) t a.2) h.of_sort ∙ ap (stands_for (meaning items) (sort_of_kind (h.node).item_kind)) h.placed ∙ s.1
 
           argument_thing : (j : ℕ) (name : Name) (a : Name × Sort × ℕ) → IsArgumentItem g index n j name a → IsArgument g at n j name (stands_for (meaning items) a.1 a.2)

@@ -7,10 +7,11 @@ use Rattle.wac_binary.specs.declared.sorts.Sort.{Sort}
 use Rattle.wac_binary.specs.declared.sorts.Sort.TheVariants as sort
 use Rattle.wac_binary.specs.Items.{Item, nested, instantiate, alias_item, export_alias}
 use Rattle.wac_binary.specs.Indexes.{space, indexes}
-use Rattle.wac_nodes.specs.declared.node.NodeId.{NodeId}
+use Rattle.wac_edges.specs.declared.node.NodeId.{NodeId}
 use Rattle.wac_nodes.specs.declared.packages.PackageId.{PackageId}
 use Rattle.wac_nodes.specs.Graph as graph
-use Rattle.wac_nodes.specs.Graph.{Graph, GraphNode, node_at, imports_of, exports_of, IsAliasOf, IsArgumentOf, node_number}
+use Rattle.wac_edges.specs.Edge.{node_number}
+use Rattle.wac_nodes.specs.Graph.{Graph, GraphNode, node_at, imports_of, exports_of, IsAliasOf, IsArgumentOf}
 use Rattle.wac_meaning.specs.Means.{same_package, package_bytes, sort_of_kind}
 
 -- the package's component has this index; it was added if it was not there

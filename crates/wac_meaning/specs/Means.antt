@@ -19,9 +19,10 @@ use Rattle.wac_binary.specs.Customs.{of_sort, AreRising, names_bytes, producers_
 use Rattle.wac_binary.specs.Indexes.{space, indexes, sort_added}
 use Rattle.wac_binary.specs.Meaning.{Thing, import_at, projection, instance_at, component_at, written, Instantiation, Export, meaning, stands_for}
 use Rattle.wac_binary.specs.HasMeaning.{HasMeaning}
-use Rattle.wac_nodes.specs.declared.node.NodeId.{NodeId}
+use Rattle.wac_edges.specs.declared.node.NodeId.{NodeId}
 use Rattle.wac_nodes.specs.declared.packages.PackageId.{PackageId}
-use Rattle.wac_nodes.specs.Graph.{Graph, GraphNode, Kind, import, instantiation, alias, node_number, node_at, package_at, imports_of, exports_of, IsAliasOf, IsArgumentOf, IsUnsatisfied, definition}
+use Rattle.wac_edges.specs.Edge.{node_number}
+use Rattle.wac_nodes.specs.Graph.{Graph, GraphNode, Kind, import, instantiation, alias, node_at, package_at, imports_of, exports_of, IsAliasOf, IsArgumentOf, IsUnsatisfied, definition}
 use Rattle.wac_edges.specs.Order.{Writes}
 use Rattle.wac_nodes.specs.OuterImports.{AreOuterImports, IsImportPlace}
 use Rattle.wac_meaning.specs.Definition.{definition_tree}

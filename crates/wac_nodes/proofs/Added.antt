@@ -14,7 +14,7 @@ use Rattle.wac_collection.proofs.Growth.{get_where}
 use Rattle.wac_edges.specs.declared.edges.Edge.{Edge}
 use Rattle.wac_edges.specs.Edge.{edge_cmp}
 use Rattle.wac_edges.proofs.EdgeLemmas.{edge_cmp_total, exact_edges}
-use Rattle.wac_nodes.specs.declared.node.NodeId.{NodeId}
+use Rattle.wac_edges.specs.declared.node.NodeId.{NodeId}
 use Rattle.wac_nodes.specs.Graph as graph
 use Rattle.wac_nodes.specs.Graph.{GraphNode}
 

@@ -13,7 +13,7 @@ use Rattle.wac_subtyping.specs.Subtype.{IsSubtype}
 use Rattle.wac_shapes.specs.declared.component.ItemKind.{ItemKind}
 use Rattle.wac_edges.specs.declared.edges.Edge.{Edge}
 use Rattle.wac_edges.specs.Edge.{edge_cmp, alias_edge, argument_edge}
-use Rattle.wac_nodes.specs.declared.node.NodeId.{NodeId}
+use Rattle.wac_edges.specs.declared.node.NodeId.{NodeId}
 use Rattle.wac_nodes.specs.declared.packages.PackageId.{PackageId}
 use Rattle.wac_nodes.specs.declared.packages.Slot.{Slot}
 use Rattle.wac_nodes.specs.Graph as graph
@@ -32,7 +32,7 @@ pub record IsPart (g h : Graph) : Type 0 where
 
 -- what the part needs
 pub record IsClosed (g h : Graph) : Type 0 where
-  pub ends : (e : Edge) → set.contains h.edges e ≡ true → IsSome (node_at h (record { 0 = e.source })) × IsSome (node_at h (record { 0 = e.target }))
+  pub ends : (e : Edge) → set.contains h.edges e ≡ true → IsSome (node_at h e.source) × IsSome (node_at h e.target)
   pub exported : (i : ℕ) (name : Name) (n : NodeId) → slice_get h.exports i ≡ Some (name, n) → IsSome (node_at h n)
   pub aliases : (n : NodeId) (node : GraphNode) → node_at h n ≡ Some node → node.kind ≡ graph.alias → (instance : NodeId) (i : ℕ) → IsAliasOf g instance i n → IsAliasOf h instance i n
   pub instances : (n : NodeId) (node : GraphNode) → node_at h n ≡ Some node → node.kind ≡ graph.instantiation → (id : PackageId) (p : PackageParts) → node.owner ≡ Some id → package_at g id ≡ Some p → package_at h id ≡ Some p
@@ -80,11 +80,11 @@ module _ (g : Graph) (s : IsSound g) (nodes : map.FinMap nat_cmp GraphNode) (nex
         let kept : IsInstance part node = record { id = old.id; parts = old.parts; owned = owned; registered = c.instances n node at (like.kind ∙ is) old.id old.parts owned old.registered; typed = like.item ∙ old.typed } in
         imports_of_instance part node kept ∙ sym (imports_of_instance g before old)
 
-    joins : (e : Edge) (a b : GraphNode) → set.contains edges e ≡ true → map.get nodes e.source ≡ Some a → map.get nodes e.target ≡ Some b → Joins part e.label a b
+    joins : (e : Edge) (a b : GraphNode) → set.contains edges e ≡ true → map.get nodes e.source.0 ≡ Some a → map.get nodes e.target.0 ≡ Some b → Joins part e.label a b
     joins e a b stands from to =
-        let (a_was, a_had, a_like) = p.nodes (record { 0 = e.source }) a from in
-        let (b_was, b_had, b_like) = p.nodes (record { 0 = e.target }) b to in
-        joins_kept g part e.label a_was b_was a b a_like b_like (alike_exports g a a_was a_like) (same_imports (record { 0 = e.target }) b b_was to b_had b_like)
+        let (a_was, a_had, a_like) = p.nodes e.source a from in
+        let (b_was, b_had, b_like) = p.nodes e.target b to in
+        joins_kept g part e.label a_was b_was a b a_like b_like (alike_exports g a a_was a_like) (same_imports e.target b b_was to b_had b_like)
         (λ i x _ fits. subst (λ k. IsSubtype g.types k g.types x.1) (sym a_like.item) fits) (s.joins e a_was b_was (p.edges e stands) a_had b_had)
 
     alias : (n : NodeId) (node : GraphNode) → node_at part n ≡ Some node → node.kind ≡ graph.alias → IsAlias part n node
@@ -92,7 +92,7 @@ module _ (g : Graph) (s : IsSound g) (nodes : map.FinMap nat_cmp GraphNode) (nex
         let (x, had, like) = p.nodes n node at in
         let a = s.aliases n x had (sym like.kind ∙ is) in
         let aliased : IsAliasOf part a.instance a.position n = c.aliases n node at is a.instance a.position a.aliased in
-        let (source, there) = the_some (node_at part a.instance) (c.ends (alias_edge (a.instance).0 n.0 a.position) aliased).0 in
+        let (source, there) = the_some (node_at part a.instance) (c.ends (alias_edge (a.instance) n a.position) aliased).0 in
         let (source_was, source_had, source_like) = p.nodes a.instance source there in
         let exported : slice_get (exports_of g a.source) a.position ≡ Some (a.name, node.item_kind) = a.exported ∙ ap (λ k. Some (a.name, k)) (sym like.item) in
         let same : source_was ≡ a.source = some_same (node_at g a.instance) source_was a.source source_had a.there in
@@ -116,9 +116,9 @@ module _ (g : Graph) (s : IsSound g) (nodes : map.FinMap nat_cmp GraphNode) (nex
       packages = λ id parts at. s.packages id parts (p.packages id parts at);
       instances = instance;
       aliases = alias;
-      one_argument = λ consumer i n m a b. s.one_argument consumer i n m (p.edges (argument_edge n.0 consumer.0 i) a) (p.edges (argument_edge m.0 consumer.0 i) b);
-      one_alias = λ x i n m a b. s.one_alias x i n m (p.edges (alias_edge x.0 n.0 i) a) (p.edges (alias_edge x.0 m.0 i) b);
-      one_source = λ n x y i j a b. s.one_source n x y i j (p.edges (alias_edge x.0 n.0 i) a) (p.edges (alias_edge y.0 n.0 j) b);
+      one_argument = λ consumer i n m a b. s.one_argument consumer i n m (p.edges (argument_edge n consumer i) a) (p.edges (argument_edge m consumer i) b);
+      one_alias = λ x i n m a b. s.one_alias x i n m (p.edges (alias_edge x n i) a) (p.edges (alias_edge x m i) b);
+      one_source = λ n x y i j a b. s.one_source n x y i j (p.edges (alias_edge x n i) a) (p.edges (alias_edge y n j) b);
       one_import = λ name n m a b. s.one_import name n m (imported name n a) (imported name m b);
       one_definition = λ kind n m a b. s.one_definition kind n m (defined kind n a) (defined kind m b);
       one_export = λ name i j n m a b. p.apart i j (s.one_export name (p.place i) (p.place j) n m (p.exports i (name, n) a) (p.exports j (name, m) b));

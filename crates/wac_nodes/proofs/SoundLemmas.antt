@@ -15,7 +15,7 @@ use Rattle.wac_shapes.specs.declared.component.«Type».TheVariants as ty
 use Rattle.wac_edges.specs.declared.edges.Edge.{Edge}
 use Rattle.wac_edges.specs.declared.edges.Label.{Label}
 use Rattle.wac_edges.specs.declared.edges.Label.TheVariants as label
-use Rattle.wac_nodes.specs.declared.node.NodeId.{NodeId}
+use Rattle.wac_edges.specs.declared.node.NodeId.{NodeId}
 use Rattle.wac_nodes.specs.declared.packages.PackageId.{PackageId}
 use Rattle.wac_nodes.specs.declared.packages.Slot.{Slot}
 use Rattle.wac_edges.specs.Edge.{edge_cmp, alias_edge, argument_edge}
@@ -39,14 +39,14 @@ some_same : (o : Option GraphNode) (a b : GraphNode) → o ≡ Some a → o ≡ 
 some_same o a b p q = cc
 
 -- edges of two labels
-pub argument_is_no_alias : (source target position from to i : ℕ) → argument_edge source target position ≡ alias_edge from to i → ⊥
+pub argument_is_no_alias : (source target : NodeId) (position : ℕ) (from to : NodeId) (i : ℕ) → argument_edge source target position ≡ alias_edge from to i → ⊥
 argument_is_no_alias source target position from to i is = let labels : label.Argument position ≡ label.Alias i = ap (λ (e : Edge). e.label) is in cc
 
 -- what an argument and an alias edge say
-argument_parts : (s t i source target position : ℕ) → argument_edge s t i ≡ argument_edge source target position → (s ≡ source) × (t ≡ target) × (i ≡ position)
+argument_parts : (s t : NodeId) (i : ℕ) (source target : NodeId) (position : ℕ) → argument_edge s t i ≡ argument_edge source target position → (s ≡ source) × (t ≡ target) × (i ≡ position)
 argument_parts s t i source target position is = (ap (λ (e : Edge). e.source) is, ap (λ (e : Edge). e.target) is, let labels : label.Argument i ≡ label.Argument position = ap (λ (e : Edge). e.label) is in cc)
 
-alias_parts : (s t i source target position : ℕ) → alias_edge s t i ≡ alias_edge source target position → (s ≡ source) × (t ≡ target) × (i ≡ position)
+alias_parts : (s t : NodeId) (i : ℕ) (source target : NodeId) (position : ℕ) → alias_edge s t i ≡ alias_edge source target position → (s ≡ source) × (t ≡ target) × (i ≡ position)
 alias_parts s t i source target position is = (ap (λ (e : Edge). e.source) is, ap (λ (e : Edge). e.target) is, let labels : label.Alias i ≡ label.Alias position = ap (λ (e : Edge). e.label) is in cc)
 
 -- an id of which a slot holds the package is of its generation
@@ -57,40 +57,40 @@ generation_is slot id p at = split (slot.generation == id.generation) refl at wh
   split false is wrong = cc
 
 -- among edges with one argument more there is one for each import
-pub one_argument-more : (edges : set.FinSet edge_cmp) (source target position : ℕ) → ((other : NodeId) → set.contains edges (argument_edge other.0 target position) ≡ true → ⊥)
-    → ((consumer : NodeId) (i : ℕ) (n m : NodeId) → set.contains edges (argument_edge n.0 consumer.0 i) ≡ true → set.contains edges (argument_edge m.0 consumer.0 i) ≡ true → n ≡ m)
-    → (consumer : NodeId) (i : ℕ) (n m : NodeId) → set.contains (set.insert edges (argument_edge source target position)) (argument_edge n.0 consumer.0 i) ≡ true → set.contains (set.insert edges (argument_edge source target position)) (argument_edge m.0 consumer.0 i) ≡ true → n ≡ m
+pub one_argument-more : (edges : set.FinSet edge_cmp) (source target : NodeId) (position : ℕ) → ((other : NodeId) → set.contains edges (argument_edge other target position) ≡ true → ⊥)
+    → ((consumer : NodeId) (i : ℕ) (n m : NodeId) → set.contains edges (argument_edge n consumer i) ≡ true → set.contains edges (argument_edge m consumer i) ≡ true → n ≡ m)
+    → (consumer : NodeId) (i : ℕ) (n m : NodeId) → set.contains (set.insert edges (argument_edge source target position)) (argument_edge n consumer i) ≡ true → set.contains (set.insert edges (argument_edge source target position)) (argument_edge m consumer i) ≡ true → n ≡ m
 one_argument-more edges source target position free one consumer i n m p q =
-    one_edge (λ k. argument_edge k.0 consumer.0 i) edges (argument_edge source target position) (record { 0 = source }) only (one consumer i) n m p q
+    one_edge (λ k. argument_edge k consumer i) edges (argument_edge source target position) source only (one consumer i) n m p q
   where
-    only : (k : NodeId) → argument_edge k.0 consumer.0 i ≡ argument_edge source target position → (k ≡ record { 0 = source }) × ((y : NodeId) → set.contains edges (argument_edge y.0 consumer.0 i) ≡ true → ⊥)
+    only : (k : NodeId) → argument_edge k consumer i ≡ argument_edge source target position → (k ≡ source) × ((y : NodeId) → set.contains edges (argument_edge y consumer i) ≡ true → ⊥)
     only k is =
-        let (from, to, at) = argument_parts k.0 consumer.0 i source target position is in
-        (same_id k (record { 0 = source }) from, λ y h. free y (ap (λ t. set.contains edges (argument_edge y.0 t position)) (sym to) ∙ (ap (λ j. set.contains edges (argument_edge y.0 consumer.0 j)) (sym at) ∙ h)))
+        let (from, to, at) = argument_parts k consumer i source target position is in
+        (from, λ y h. free y (ap (λ t. set.contains edges (argument_edge y t position)) (sym to) ∙ (ap (λ j. set.contains edges (argument_edge y consumer j)) (sym at) ∙ h)))
 
-pub one_argument-alias : (edges : set.FinSet edge_cmp) (source target position : ℕ)
-    → ((consumer : NodeId) (i : ℕ) (n m : NodeId) → set.contains edges (argument_edge n.0 consumer.0 i) ≡ true → set.contains edges (argument_edge m.0 consumer.0 i) ≡ true → n ≡ m)
-    → (consumer : NodeId) (i : ℕ) (n m : NodeId) → set.contains (set.insert edges (alias_edge source target position)) (argument_edge n.0 consumer.0 i) ≡ true → set.contains (set.insert edges (alias_edge source target position)) (argument_edge m.0 consumer.0 i) ≡ true → n ≡ m
+pub one_argument-alias : (edges : set.FinSet edge_cmp) (source target : NodeId) (position : ℕ)
+    → ((consumer : NodeId) (i : ℕ) (n m : NodeId) → set.contains edges (argument_edge n consumer i) ≡ true → set.contains edges (argument_edge m consumer i) ≡ true → n ≡ m)
+    → (consumer : NodeId) (i : ℕ) (n m : NodeId) → set.contains (set.insert edges (alias_edge source target position)) (argument_edge n consumer i) ≡ true → set.contains (set.insert edges (alias_edge source target position)) (argument_edge m consumer i) ≡ true → n ≡ m
 one_argument-alias edges source target position one consumer i n m p q =
-    one_edge (λ k. argument_edge k.0 consumer.0 i) edges (alias_edge source target position) n (λ k is. absurd (argument_is_no_alias k.0 consumer.0 i source target position is)) (one consumer i) n m p q
+    one_edge (λ k. argument_edge k consumer i) edges (alias_edge source target position) n (λ k is. absurd (argument_is_no_alias k consumer i source target position is)) (one consumer i) n m p q
 
 -- and one alias of each export
-pub one_alias-more : (edges : set.FinSet edge_cmp) (source target position : ℕ) → ((other : NodeId) → set.contains edges (alias_edge source other.0 position) ≡ true → ⊥)
-    → ((instance : NodeId) (i : ℕ) (n m : NodeId) → set.contains edges (alias_edge instance.0 n.0 i) ≡ true → set.contains edges (alias_edge instance.0 m.0 i) ≡ true → n ≡ m)
-    → (instance : NodeId) (i : ℕ) (n m : NodeId) → set.contains (set.insert edges (alias_edge source target position)) (alias_edge instance.0 n.0 i) ≡ true → set.contains (set.insert edges (alias_edge source target position)) (alias_edge instance.0 m.0 i) ≡ true → n ≡ m
+pub one_alias-more : (edges : set.FinSet edge_cmp) (source target : NodeId) (position : ℕ) → ((other : NodeId) → set.contains edges (alias_edge source other position) ≡ true → ⊥)
+    → ((instance : NodeId) (i : ℕ) (n m : NodeId) → set.contains edges (alias_edge instance n i) ≡ true → set.contains edges (alias_edge instance m i) ≡ true → n ≡ m)
+    → (instance : NodeId) (i : ℕ) (n m : NodeId) → set.contains (set.insert edges (alias_edge source target position)) (alias_edge instance n i) ≡ true → set.contains (set.insert edges (alias_edge source target position)) (alias_edge instance m i) ≡ true → n ≡ m
 one_alias-more edges source target position free one instance i n m p q =
-    one_edge (λ k. alias_edge instance.0 k.0 i) edges (alias_edge source target position) (record { 0 = target }) only (one instance i) n m p q
+    one_edge (λ k. alias_edge instance k i) edges (alias_edge source target position) target only (one instance i) n m p q
   where
-    only : (k : NodeId) → alias_edge instance.0 k.0 i ≡ alias_edge source target position → (k ≡ record { 0 = target }) × ((y : NodeId) → set.contains edges (alias_edge instance.0 y.0 i) ≡ true → ⊥)
+    only : (k : NodeId) → alias_edge instance k i ≡ alias_edge source target position → (k ≡ target) × ((y : NodeId) → set.contains edges (alias_edge instance y i) ≡ true → ⊥)
     only k is =
-        let (from, to, at) = alias_parts instance.0 k.0 i source target position is in
-        (same_id k (record { 0 = target }) to, λ y h. free y (ap (λ x. set.contains edges (alias_edge x y.0 position)) (sym from) ∙ (ap (λ j. set.contains edges (alias_edge instance.0 y.0 j)) (sym at) ∙ h)))
+        let (from, to, at) = alias_parts instance k i source target position is in
+        (to, λ y h. free y (ap (λ x. set.contains edges (alias_edge x y position)) (sym from) ∙ (ap (λ j. set.contains edges (alias_edge instance y j)) (sym at) ∙ h)))
 
-pub one_alias-argument : (edges : set.FinSet edge_cmp) (source target position : ℕ)
-    → ((instance : NodeId) (i : ℕ) (n m : NodeId) → set.contains edges (alias_edge instance.0 n.0 i) ≡ true → set.contains edges (alias_edge instance.0 m.0 i) ≡ true → n ≡ m)
-    → (instance : NodeId) (i : ℕ) (n m : NodeId) → set.contains (set.insert edges (argument_edge source target position)) (alias_edge instance.0 n.0 i) ≡ true → set.contains (set.insert edges (argument_edge source target position)) (alias_edge instance.0 m.0 i) ≡ true → n ≡ m
+pub one_alias-argument : (edges : set.FinSet edge_cmp) (source target : NodeId) (position : ℕ)
+    → ((instance : NodeId) (i : ℕ) (n m : NodeId) → set.contains edges (alias_edge instance n i) ≡ true → set.contains edges (alias_edge instance m i) ≡ true → n ≡ m)
+    → (instance : NodeId) (i : ℕ) (n m : NodeId) → set.contains (set.insert edges (argument_edge source target position)) (alias_edge instance n i) ≡ true → set.contains (set.insert edges (argument_edge source target position)) (alias_edge instance m i) ≡ true → n ≡ m
 one_alias-argument edges source target position one instance i n m p q =
-    one_edge (λ k. alias_edge instance.0 k.0 i) edges (argument_edge source target position) n (λ k is. absurd (argument_is_no_alias source target position instance.0 k.0 i (sym is))) (one instance i) n m p q
+    one_edge (λ k. alias_edge instance k i) edges (argument_edge source target position) n (λ k is. absurd (argument_is_no_alias source target position instance k i (sym is))) (one instance i) n m p q
 
 -- what stands under a name still does in a longer list
 find_name-prefix : (es more : List (Name × NodeId)) (name : Name) (n : NodeId) → find_name es name ≡ Some n → find_name (es ++ more) name ≡ Some n
@@ -105,7 +105,7 @@ module _ (g : Graph) (s : IsSound g) where
   pub sound_types : (c : Collection) → IsWellFormed g.types → Extends g.types c → IsSound (record g { types = c })
   sound_types c well more = record {
     ends = s.ends;
-    joins = λ e a b stands from to. joins_types g s c well more e.label a b (s.held (record { 0 = e.source }) a from) (s.joins e a b stands from to);
+    joins = λ e a b stands from to. joins_types g s c well more e.label a b (s.held e.source a from) (s.joins e a b stands from to);
     exported = s.exported;
     held = λ n node there. more.held (kind_type node.item_kind) (s.held n node there);
     packages = λ id p there.
@@ -158,7 +158,7 @@ module _ (g : Graph) (s : IsSound g) where
   pub sound_slot : (slot : Slot) → ((id : PackageId) (p : PackageParts) → package_in (Some slot) id ≡ Some p → HoldsPackage g.types p × ((other : PackageId) → IsRegistered g (p.name, p.version) other → ⊥)) → IsSound (record g { slots = g.slots ++ slot ∷ [] })
   sound_slot slot holds = record {
     ends = s.ends;
-    joins = λ e a b stands from to. joins_kept g more e.label a b a b (alike_itself a) (alike_itself b) refl (λ is. same_imports b (s.instances (record { 0 = e.target }) b to is)) (λ i x _ fits. fits) (s.joins e a b stands from to);
+    joins = λ e a b stands from to. joins_kept g more e.label a b a b (alike_itself a) (alike_itself b) refl (λ is. same_imports b (s.instances e.target b to is)) (λ i x _ fits. fits) (s.joins e a b stands from to);
     exported = s.exported;
     held = s.held;
     packages = λ id p there. split id p (package_after slot id p there);
@@ -204,8 +204,8 @@ module _ (g : Graph) (s : IsSound g) where
     cases key id (p, there, is) = either key id p is (package_after slot id p there)
 
   -- an argument more, for an import that is not satisfied
-  pub sound_argument : (source target position : ℕ) (given consumer : GraphNode) → node_at g (record { 0 = source }) ≡ Some given → node_at g (record { 0 = target }) ≡ Some consumer → Joins g (label.Argument position) given consumer
-      → ((other : NodeId) → IsArgumentOf g (record { 0 = target }) position other → ⊥) → IsSound (record g { edges = set.insert g.edges (argument_edge source target position) })
+  pub sound_argument : (source target : NodeId) (position : ℕ) (given consumer : GraphNode) → node_at g source ≡ Some given → node_at g target ≡ Some consumer → Joins g (label.Argument position) given consumer
+      → ((other : NodeId) → IsArgumentOf g target position other → ⊥) → IsSound (record g { edges = set.insert g.edges (argument_edge source target position) })
   sound_argument source target position given consumer from to fits free = record {
     ends = λ e stands. ends e (added_edge g.edges (argument_edge source target position) e stands);
     joins = λ e a b stands p q. joins e a b p q (added_edge g.edges (argument_edge source target position) e stands);
@@ -220,14 +220,14 @@ module _ (g : Graph) (s : IsSound g) where
           source = a.source;
           position = a.position;
           name = a.name;
-          aliased = kept_edge g.edges (argument_edge source target position) (alias_edge (a.instance).0 n.0 a.position) a.aliased;
+          aliased = kept_edge g.edges (argument_edge source target position) (alias_edge (a.instance) n a.position) a.aliased;
           there = a.there;
           exported = a.exported;
           owned = a.owned;
         };
     one_argument = one_argument-more g.edges source target position free s.one_argument;
     one_alias = one_alias-argument g.edges source target position s.one_alias;
-    one_source = λ n x y i j p q. s.one_source n x y i j (old_alias n x i (added_edge g.edges (argument_edge source target position) (alias_edge x.0 n.0 i) p)) (old_alias n y j (added_edge g.edges (argument_edge source target position) (alias_edge y.0 n.0 j) q));
+    one_source = λ n x y i j p q. s.one_source n x y i j (old_alias n x i (added_edge g.edges (argument_edge source target position) (alias_edge x n i) p)) (old_alias n y j (added_edge g.edges (argument_edge source target position) (alias_edge y n j) q));
     one_import = s.one_import;
     one_definition = s.one_definition;
     one_export = s.one_export;
@@ -239,22 +239,22 @@ module _ (g : Graph) (s : IsSound g) where
     more : Graph
     more = record g { edges = set.insert g.edges (argument_edge source target position) }
 
-    ends : (e : Edge) → (e ≡ argument_edge source target position) ⊎ (set.contains g.edges e ≡ true) → IsSome (node_at g (record { 0 = e.source })) × IsSome (node_at g (record { 0 = e.target }))
-    ends e (inl is) = (rw is (some_is (node_at g (record { 0 = source })) given from), rw is (some_is (node_at g (record { 0 = target })) consumer to))
+    ends : (e : Edge) → (e ≡ argument_edge source target position) ⊎ (set.contains g.edges e ≡ true) → IsSome (node_at g e.source) × IsSome (node_at g e.target)
+    ends e (inl is) = (rw is (some_is (node_at g source) given from), rw is (some_is (node_at g target) consumer to))
     ends e (inr was) = s.ends e was
 
     as_before : (l : Label) (a b : GraphNode) → Joins g l a b → Joins more l a b
     as_before l a b h = joins_kept g more l a b a b (alike_itself a) (alike_itself b) refl (λ _. refl) (λ i x _ fits. fits) h
 
-    joins : (e : Edge) (a b : GraphNode) → node_at g (record { 0 = e.source }) ≡ Some a → node_at g (record { 0 = e.target }) ≡ Some b → (e ≡ argument_edge source target position) ⊎ (set.contains g.edges e ≡ true) → Joins more e.label a b
+    joins : (e : Edge) (a b : GraphNode) → node_at g e.source ≡ Some a → node_at g e.target ≡ Some b → (e ≡ argument_edge source target position) ⊎ (set.contains g.edges e ≡ true) → Joins more e.label a b
     joins e a b p q (inr was) = as_before e.label a b (s.joins e a b was p q)
     joins e a b p q (inl is) =
-        let a_is : a ≡ given = some_same (map.get g.nodes e.source) a given p (ap (λ (x : Edge). map.get g.nodes x.source) is ∙ from) in
-        let b_is : b ≡ consumer = some_same (map.get g.nodes e.target) b consumer q (ap (λ (x : Edge). map.get g.nodes x.target) is ∙ to) in
+        let a_is : a ≡ given = some_same (map.get g.nodes e.source.0) a given p (ap (λ (x : Edge). map.get g.nodes x.source.0) is ∙ from) in
+        let b_is : b ≡ consumer = some_same (map.get g.nodes e.target.0) b consumer q (ap (λ (x : Edge). map.get g.nodes x.target.0) is ∙ to) in
         as_before e.label a b (subst (λ (x : Edge). Joins g x.label a b) (sym is) (subst (λ x. Joins g (label.Argument position) x b) (sym a_is) (subst (λ x. Joins g (label.Argument position) given x) (sym b_is) fits)))
 
-    old_alias : (n x : NodeId) (i : ℕ) → (alias_edge x.0 n.0 i ≡ argument_edge source target position) ⊎ (set.contains g.edges (alias_edge x.0 n.0 i) ≡ true) → IsAliasOf g x i n
-    old_alias n x i (inl wrong) = absurd (argument_is_no_alias source target position x.0 n.0 i (sym wrong))
+    old_alias : (n x : NodeId) (i : ℕ) → (alias_edge x n i ≡ argument_edge source target position) ⊎ (set.contains g.edges (alias_edge x n i) ≡ true) → IsAliasOf g x i n
+    old_alias n x i (inl wrong) = absurd (argument_is_no_alias source target position x n i (sym wrong))
     old_alias n x i (inr was) = was
 
   -- a node more, and perhaps one edge that makes it an alias
@@ -295,7 +295,7 @@ module _ (g : Graph) (s : IsSound g) where
       source = a.source;
       position = a.position;
       name = a.name;
-      aliased = more (alias_edge (a.instance).0 m.0 a.position) a.aliased;
+      aliased = more (alias_edge (a.instance) m a.position) a.aliased;
       there = insert_other g.nodes n.0 (a.instance).0 node (is_other a.instance (some_is (node_at g a.instance) a.source a.there)) ∙ a.there;
       exported = a.exported;
       owned = a.owned;
@@ -304,8 +304,8 @@ module _ (g : Graph) (s : IsSound g) where
     old_exports : (i : ℕ) (name : Name) (m : NodeId) → slice_get g.exports i ≡ Some (name, m) → IsSome (map.get (map.insert g.nodes n.0 node) m.0)
     old_exports i name m at = still_there m (s.exported i name m at)
 
-    old_ends : (e : Edge) → set.contains g.edges e ≡ true → IsSome (map.get (map.insert g.nodes n.0 node) e.source) × IsSome (map.get (map.insert g.nodes n.0 node) e.target)
-    old_ends e stands = let h = s.ends e stands in (still_there (record { 0 = e.source }) h.0, still_there (record { 0 = e.target }) h.1)
+    old_ends : (e : Edge) → set.contains g.edges e ≡ true → IsSome (map.get (map.insert g.nodes n.0 node) e.source.0) × IsSome (map.get (map.insert g.nodes n.0 node) e.target.0)
+    old_ends e stands = let h = s.ends e stands in (still_there e.source h.0, still_there e.target h.1)
 
     -- an edge that stood joins what it joined
     old_node : (m : NodeId) (other : GraphNode) → IsSome (node_at g m) → map.get (map.insert g.nodes n.0 node) m.0 ≡ Some other → node_at g m ≡ Some other
@@ -314,10 +314,10 @@ module _ (g : Graph) (s : IsSound g) where
     as_before : (edges : set.FinSet edge_cmp) (l : Label) (a b : GraphNode) → Joins g l a b → Joins (with_node edges) l a b
     as_before edges l a b h = joins_kept g (with_node edges) l a b a b (alike_itself a) (alike_itself b) refl (λ _. refl) (λ i x _ fits. fits) h
 
-    old_joins : (edges : set.FinSet edge_cmp) (e : Edge) (a b : GraphNode) → set.contains g.edges e ≡ true → map.get (map.insert g.nodes n.0 node) e.source ≡ Some a → map.get (map.insert g.nodes n.0 node) e.target ≡ Some b → Joins (with_node edges) e.label a b
+    old_joins : (edges : set.FinSet edge_cmp) (e : Edge) (a b : GraphNode) → set.contains g.edges e ≡ true → map.get (map.insert g.nodes n.0 node) e.source.0 ≡ Some a → map.get (map.insert g.nodes n.0 node) e.target.0 ≡ Some b → Joins (with_node edges) e.label a b
     old_joins edges e a b stands from to =
         let h = s.ends e stands in
-        as_before edges e.label a b (s.joins e a b stands (old_node (record { 0 = e.source }) a h.0 from) (old_node (record { 0 = e.target }) b h.1 to))
+        as_before edges e.label a b (s.joins e a b stands (old_node e.source a h.0 from) (old_node e.target b h.1 to))
 
     -- a type is defined once where the new node is no definition
     old_definition : (node.kind ≡ graph.definition → ⊥) → (kind : ItemKind) (m o : NodeId) → IsSomeAnd (map.get (map.insert g.nodes n.0 node) m.0) (λ x. (x.kind ≡ graph.definition) × (x.item_kind ≡ kind))
@@ -397,12 +397,12 @@ module _ (g : Graph) (s : IsSound g) where
 
     -- the new node is the alias of an export that had none
     pub sound_alias : (instance : NodeId) (source : GraphNode) (position : ℕ) (name : Name) → node.kind ≡ graph.alias → node.owner ≡ source.owner → node_at g instance ≡ Some source → slice_get (exports_of g source) position ≡ Some (name, node.item_kind)
-        → ((other : NodeId) → IsAliasOf g instance position other → ⊥) → IsSound (with_node (set.insert g.edges (alias_edge instance.0 n.0 position)))
+        → ((other : NodeId) → IsAliasOf g instance position other → ⊥) → IsSound (with_node (set.insert g.edges (alias_edge instance n position)))
     sound_alias instance source position name kind owned there exported free =
-        let more : set.FinSet edge_cmp = set.insert g.edges (alias_edge instance.0 n.0 position) in
+        let more : set.FinSet edge_cmp = set.insert g.edges (alias_edge instance n position) in
         record {
-          ends = λ e stands. ends e (added_edge g.edges (alias_edge instance.0 n.0 position) e stands);
-          joins = λ e a b stands p q. joins e a b p q (added_edge g.edges (alias_edge instance.0 n.0 position) e stands);
+          ends = λ e stands. ends e (added_edge g.edges (alias_edge instance n position) e stands);
+          joins = λ e a b stands p q. joins e a b p q (added_edge g.edges (alias_edge instance n position) e stands);
           exported = old_exports;
           held = each_node (λ _ other. holds_type g.types (kind_type other.item_kind) ≡ true) held (λ m other _ there. s.held m other there);
           packages = s.packages;
@@ -413,15 +413,15 @@ module _ (g : Graph) (s : IsSound g) where
                 source = source;
                 position = position;
                 name = name;
-                aliased = new_edge g.edges (alias_edge instance.0 n.0 position);
+                aliased = new_edge g.edges (alias_edge instance n position);
                 there = source_there;
                 exported = exported;
                 owned = owned;
               })
-              (λ m other _ other_there is. old_alias more (kept_edge g.edges (alias_edge instance.0 n.0 position)) m other (s.aliases m other other_there is));
-          one_argument = one_argument-alias g.edges instance.0 n.0 position s.one_argument;
-          one_alias = one_alias-more g.edges instance.0 n.0 position free s.one_alias;
-          one_source = λ m x y i j p q. one m x y i j (added_edge g.edges (alias_edge instance.0 n.0 position) (alias_edge x.0 m.0 i) p) (added_edge g.edges (alias_edge instance.0 n.0 position) (alias_edge y.0 m.0 j) q);
+              (λ m other _ other_there is. old_alias more (kept_edge g.edges (alias_edge instance n position)) m other (s.aliases m other other_there is));
+          one_argument = one_argument-alias g.edges instance n position s.one_argument;
+          one_alias = one_alias-more g.edges instance n position free s.one_alias;
+          one_source = λ m x y i j p q. one m x y i j (added_edge g.edges (alias_edge instance n position) (alias_edge x m i) p) (added_edge g.edges (alias_edge instance n position) (alias_edge y m j) q);
           one_import = λ other m o p q. s.one_import other m o (import_before g.nodes n node other m (λ is. absurd (no_import is kind)) p) (import_before g.nodes n node other o (λ is. absurd (no_import is kind)) q);
           one_definition = old_definition (λ wrong. no_definition wrong kind);
           one_export = s.one_export;
@@ -442,7 +442,7 @@ module _ (g : Graph) (s : IsSound g) where
           source_there : map.get (map.insert g.nodes n.0 node) instance.0 ≡ Some source
           source_there = insert_other g.nodes n.0 instance.0 node (is_other instance (some_is (node_at g instance) source there)) ∙ there
 
-          ends : (e : Edge) → (e ≡ alias_edge instance.0 n.0 position) ⊎ (set.contains g.edges e ≡ true) → IsSome (map.get (map.insert g.nodes n.0 node) e.source) × IsSome (map.get (map.insert g.nodes n.0 node) e.target)
+          ends : (e : Edge) → (e ≡ alias_edge instance n position) ⊎ (set.contains g.edges e ≡ true) → IsSome (map.get (map.insert g.nodes n.0 node) e.source.0) × IsSome (map.get (map.insert g.nodes n.0 node) e.target.0)
           ends e (inl is) = (rw is (still_there instance (some_is (node_at g instance) source there)), rw is now_there)
           ends e (inr was) = old_ends e was
 
@@ -450,36 +450,36 @@ module _ (g : Graph) (s : IsSound g) where
           new_joins : Joins g (label.Alias position) source node
           new_joins = (kind, subst (λ o. IsSomeAnd o (λ e. node.item_kind ≡ e.1)) (sym exported) refl)
 
-          joins : (e : Edge) (a b : GraphNode) → map.get (map.insert g.nodes n.0 node) e.source ≡ Some a → map.get (map.insert g.nodes n.0 node) e.target ≡ Some b → (e ≡ alias_edge instance.0 n.0 position) ⊎ (set.contains g.edges e ≡ true)
-              → Joins (with_node (set.insert g.edges (alias_edge instance.0 n.0 position))) e.label a b
-          joins e a b p q (inr was) = old_joins (set.insert g.edges (alias_edge instance.0 n.0 position)) e a b was p q
+          joins : (e : Edge) (a b : GraphNode) → map.get (map.insert g.nodes n.0 node) e.source.0 ≡ Some a → map.get (map.insert g.nodes n.0 node) e.target.0 ≡ Some b → (e ≡ alias_edge instance n position) ⊎ (set.contains g.edges e ≡ true)
+              → Joins (with_node (set.insert g.edges (alias_edge instance n position))) e.label a b
+          joins e a b p q (inr was) = old_joins (set.insert g.edges (alias_edge instance n position)) e a b was p q
           joins e a b p q (inl is) =
               let nodes : map.FinMap nat_cmp GraphNode = map.insert g.nodes n.0 node in
-              let a_is : a ≡ source = some_same (map.get nodes e.source) a source p (ap (λ (x : Edge). map.get nodes x.source) is ∙ source_there) in
-              let b_is : b ≡ node = some_same (map.get nodes e.target) b node q (ap (λ (x : Edge). map.get nodes x.target) is ∙ insert_same g.nodes n.0 node) in
-              as_before (set.insert g.edges (alias_edge instance.0 n.0 position)) e.label a b
+              let a_is : a ≡ source = some_same (map.get nodes e.source.0) a source p (ap (λ (x : Edge). map.get nodes x.source.0) is ∙ source_there) in
+              let b_is : b ≡ node = some_same (map.get nodes e.target.0) b node q (ap (λ (x : Edge). map.get nodes x.target.0) is ∙ insert_same g.nodes n.0 node) in
+              as_before (set.insert g.edges (alias_edge instance n position)) e.label a b
               (subst (λ (x : Edge). Joins g x.label a b) (sym is) (subst (λ x. Joins g (label.Alias position) x b) (sym a_is) (subst (λ x. Joins g (label.Alias position) source x) (sym b_is) new_joins)))
 
           -- the new node had no edges
-          none_before : (x : NodeId) (i : ℕ) → set.contains g.edges (alias_edge x.0 n.0 i) ≡ true → ⊥
-          none_before x i h = there_or_not (node_at g n) vacant (s.ends (alias_edge x.0 n.0 i) h).1
+          none_before : (x : NodeId) (i : ℕ) → set.contains g.edges (alias_edge x n i) ≡ true → ⊥
+          none_before x i h = there_or_not (node_at g n) vacant (s.ends (alias_edge x n i) h).1
 
-          parts : (x m : NodeId) (i : ℕ) → alias_edge x.0 m.0 i ≡ alias_edge instance.0 n.0 position → (x ≡ instance) × (m ≡ n) × (i ≡ position)
-          parts x m i is = let (from, to, at) = alias_parts x.0 m.0 i instance.0 n.0 position is in (same_id x instance from, same_id m n to, at)
+          parts : (x m : NodeId) (i : ℕ) → alias_edge x m i ≡ alias_edge instance n position → (x ≡ instance) × (m ≡ n) × (i ≡ position)
+          parts x m i is = let (from, to, at) = alias_parts x m i instance n position is in (from, to, at)
 
-          one : (m x y : NodeId) (i j : ℕ) → (alias_edge x.0 m.0 i ≡ alias_edge instance.0 n.0 position) ⊎ (set.contains g.edges (alias_edge x.0 m.0 i) ≡ true) → (alias_edge y.0 m.0 j ≡ alias_edge instance.0 n.0 position) ⊎ (set.contains g.edges (alias_edge y.0 m.0 j) ≡ true) → (x ≡ y) × (i ≡ j)
+          one : (m x y : NodeId) (i j : ℕ) → (alias_edge x m i ≡ alias_edge instance n position) ⊎ (set.contains g.edges (alias_edge x m i) ≡ true) → (alias_edge y m j ≡ alias_edge instance n position) ⊎ (set.contains g.edges (alias_edge y m j) ≡ true) → (x ≡ y) × (i ≡ j)
           one m x y i j (inl p) (inl q) = let a = parts x m i p in let b = parts y m j q in (a.0 ∙ sym b.0, a.2 ∙ sym b.2)
-          one m x y i j (inl p) (inr q) = let a = parts x m i p in absurd (none_before y j (ap (λ (k : NodeId). set.contains g.edges (alias_edge y.0 k.0 j)) (sym a.1) ∙ q))
-          one m x y i j (inr p) (inl q) = let a = parts y m j q in absurd (none_before x i (ap (λ (k : NodeId). set.contains g.edges (alias_edge x.0 k.0 i)) (sym a.1) ∙ p))
+          one m x y i j (inl p) (inr q) = let a = parts x m i p in absurd (none_before y j (ap (λ (k : NodeId). set.contains g.edges (alias_edge y k j)) (sym a.1) ∙ q))
+          one m x y i j (inr p) (inl q) = let a = parts y m j q in absurd (none_before x i (ap (λ (k : NodeId). set.contains g.edges (alias_edge x k i)) (sym a.1) ∙ p))
           one m x y i j (inr p) (inr q) = s.one_source m x y i j p q
 
   -- a node is exported by a further name
   pub sound_export : (n : NodeId) (node : GraphNode) (name : Name) → node_at g n ≡ Some node → export_at g name ≡ None → IsSound (record g { nodes = map.insert g.nodes n.0 (record node { export_name = Some name }); exports = g.exports ++ (name, n) ∷ [] })
   sound_export n node name there absent = record {
-    ends = λ e stands. let h = s.ends e stands in (still (record { 0 = e.source }) h.0, still (record { 0 = e.target }) h.1);
+    ends = λ e stands. let h = s.ends e stands in (still e.source h.0, still e.target h.1);
     joins = λ e a b stands p q.
-        let (a_was, a_had, a_like) = before (record { 0 = e.source }) a p in
-        let (b_was, b_had, b_like) = before (record { 0 = e.target }) b q in
+        let (a_was, a_had, a_like) = before e.source a p in
+        let (b_was, b_had, b_like) = before e.target b q in
         joins_kept g more e.label a b a b (alike_itself a) (alike_itself b) refl (λ _. refl) (λ i x _ fits. fits) (joins_alike g e.label a_was b_was a b a_like b_like (s.joins e a_was b_was stands a_had b_had));
     exported = λ i other m at. listed other m (get_where g.exports (name, n) i (other, m) at);
     held = λ m other at. let (was, had, like) = before m other at in ap (λ k. holds_type g.types (kind_type k)) like.item ∙ s.held m was had;

@@ -26,7 +26,7 @@ use Rattle.wac_shapes.specs.declared.component.ModuleTypeId.{ModuleTypeId}
 use Rattle.wac_edges.specs.Edge.{alias_edge, argument_edge}
 use Rattle.wac_nodes.specs.declared.errors.RegisterPackageError.{RegisterPackageError}
 use Rattle.wac_nodes.specs.declared.errors.RegisterPackageError.TheVariants as register
-use Rattle.wac_nodes.specs.declared.node.NodeId.{NodeId}
+use Rattle.wac_edges.specs.declared.node.NodeId.{NodeId}
 use Rattle.wac_nodes.specs.declared.packages.PackageId.{PackageId}
 use Rattle.wac_nodes.specs.declared.packages.Slot.{Slot}
 use Rattle.wac_nodes.specs.Graph.{Graph, GraphNode, node_at, package_at, package_in}
@@ -202,11 +202,11 @@ alias-stays old new instance source name a there step = named (subst (λ o. IfSo
       e,
       ap (λ (g : Graph). node_at g instance) h.3 ∙ vacant-keeps old a instance (alias_node source e.1) source h.2 there,
       ap (λ (g : Graph). export_named g source name) h.3 ∙ is,
-      ap (λ (g : Graph). set.contains g.edges (alias_edge instance.0 a.0 e.0)) h.3 ∙ new_edge old.edges (alias_edge instance.0 a.0 e.0),
+      ap (λ (g : Graph). set.contains g.edges (alias_edge instance a e.0)) h.3 ∙ new_edge old.edges (alias_edge instance a e.0),
     ),
     record {
       nodes = λ m x was. ap (λ (g : Graph). node_at g m) h.3 ∙ vacant-keeps old a m (alias_node source e.1) x h.2 was;
-      edges = λ x was. ap (λ (g : Graph). set.contains g.edges x) h.3 ∙ kept_edge old.edges (alias_edge instance.0 a.0 e.0) x was;
+      edges = λ x was. ap (λ (g : Graph). set.contains g.edges x) h.3 ∙ kept_edge old.edges (alias_edge instance a e.0) x was;
       packages = λ i q was. ap (λ (g : Graph). package_at g i) h.3 ∙ was;
       interfaces = λ i x was. ap (λ (g : Graph). item_at g.types.interfaces i) h.3 ∙ was;
       worlds = λ i x was. ap (λ (g : Graph). item_at g.types.worlds i) h.3 ∙ was;
@@ -233,11 +233,11 @@ argument-stays old new consumer n name a given there given_there step =
         e,
         ap (λ (g : Graph). node_at g consumer) h.2 ∙ there,
         ap (λ (g : Graph). import_named g n name) h.2 ∙ is,
-        ap (λ (g : Graph). set.contains g.edges (argument_edge a.0 consumer.0 e.0)) h.2 ∙ new_edge old.edges (argument_edge a.0 consumer.0 e.0),
+        ap (λ (g : Graph). set.contains g.edges (argument_edge a consumer e.0)) h.2 ∙ new_edge old.edges (argument_edge a consumer e.0),
       ),
       record {
         nodes = λ m x was. ap (λ (g : Graph). node_at g m) h.2 ∙ was;
-        edges = λ x was. ap (λ (g : Graph). set.contains g.edges x) h.2 ∙ kept_edge old.edges (argument_edge a.0 consumer.0 e.0) x was;
+        edges = λ x was. ap (λ (g : Graph). set.contains g.edges x) h.2 ∙ kept_edge old.edges (argument_edge a consumer e.0) x was;
         packages = λ i q was. ap (λ (g : Graph). package_at g i) h.2 ∙ was;
         interfaces = λ i x was. ap (λ (g : Graph). item_at g.types.interfaces i) h.2 ∙ was;
         worlds = λ i x was. ap (λ (g : Graph). item_at g.types.worlds i) h.2 ∙ was;

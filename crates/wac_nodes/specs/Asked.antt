@@ -21,7 +21,7 @@ is_argument_label i (Argument j) = i == j
 is_argument_label i _ = false
 
 abbrev pub is_argument : ℕ → ℕ → Edge → Bool
-is_argument n i e = (e.target == n) && is_argument_label i e.label
+is_argument n i e = (e.target.0 == n) && is_argument_label i e.label
 
 -- does an argument satisfy the import of node n at position i
 abbrev pub is_satisfied : Graph → ℕ → ℕ → Bool

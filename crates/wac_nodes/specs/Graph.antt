@@ -10,7 +10,7 @@ use Rattle.wac_collection.specs.Package.{PackageParts, Key}
 use Rattle.wac_shapes.specs.declared.component.InterfaceId.{InterfaceId}
 use Rattle.wac_shapes.specs.declared.component.ItemKind.{ItemKind}
 use Rattle.wac_shapes.specs.declared.component.ItemKind.TheVariants.{Instance}
-use Rattle.wac_nodes.specs.declared.node.NodeId.{NodeId}
+use Rattle.wac_edges.specs.declared.node.NodeId.{NodeId}
 use Rattle.wac_nodes.specs.declared.packages.PackageId.{PackageId}
 use Rattle.wac_nodes.specs.declared.packages.Slot.{Slot}
 use Rattle.wac_edges.specs.Edge.{edge_cmp, alias_edge, argument_edge}
@@ -42,9 +42,6 @@ pub record Graph : Type 0 where
   pub slots : List Slot
   -- the slots that hold no package and may be used again, the one freed last at the head
   pub vacant : List ℕ
-
-abbrev pub node_number : ℕ → NodeId
-node_number n = record { 0 = n }
 
 -- the node of a number
 abbrev pub node_at : Graph → NodeId → Option GraphNode
@@ -105,7 +102,7 @@ imports_of g n = of_package (package_of g n)
 
 -- the node is the alias of an instance's export at this position
 abbrev pub IsAliasOf : Graph → NodeId → ℕ → NodeId → Type 0
-IsAliasOf g instance position node = set.contains g.edges (alias_edge instance.0 node.0 position) ≡ true
+IsAliasOf g instance position node = set.contains g.edges (alias_edge instance node position) ≡ true
 
 -- the node is the alias of an instance's export of this name
 abbrev pub IsSourceOf : Graph → NodeId → NodeId → Name → Type 0
@@ -115,7 +112,7 @@ IsSourceOf g node instance name =
 
 -- the node is the argument for an instantiation's import at this position
 abbrev pub IsArgumentOf : Graph → NodeId → ℕ → NodeId → Type 0
-IsArgumentOf g consumer position node = set.contains g.edges (argument_edge node.0 consumer.0 position) ≡ true
+IsArgumentOf g consumer position node = set.contains g.edges (argument_edge node consumer position) ≡ true
 
 -- an import of an instantiation is satisfied where an argument edge for it stands
 abbrev pub IsSatisfied : Graph → NodeId → ℕ → Type 0

@@ -11,7 +11,7 @@ use Rattle.wac_shapes.specs.declared.component.ItemKind.TheVariants.{Instance}
 use Rattle.wac_edges.specs.declared.edges.Edge.{Edge}
 use Rattle.wac_edges.specs.declared.edges.Label.{Label}
 use Rattle.wac_edges.specs.declared.edges.Label.TheVariants.{Alias, Argument, Dependency}
-use Rattle.wac_nodes.specs.declared.node.NodeId.{NodeId}
+use Rattle.wac_edges.specs.declared.node.NodeId.{NodeId}
 use Rattle.wac_nodes.specs.declared.packages.PackageId.{PackageId}
 use Rattle.wac_nodes.specs.Graph.{Graph, GraphNode, definition, instantiation, alias, node_at, package_at, exports_of, imports_of, IsAliasOf, IsArgumentOf, IsImportOf, IsDefinitionOf, IsRegistered, export_at}
 
@@ -43,8 +43,8 @@ Joins g Dependency source target = (source.kind ≡ definition) × (target.kind 
 
 pub record IsSound (g : Graph) : Type 0 where
   -- an edge leads from a node to a node, and joins them as its label says
-  pub ends : (e : Edge) → set.contains g.edges e ≡ true → IsSome (node_at g (record { 0 = e.source })) × IsSome (node_at g (record { 0 = e.target }))
-  pub joins : (e : Edge) (source target : GraphNode) → set.contains g.edges e ≡ true → node_at g (record { 0 = e.source }) ≡ Some source → node_at g (record { 0 = e.target }) ≡ Some target → Joins g e.label source target
+  pub ends : (e : Edge) → set.contains g.edges e ≡ true → IsSome (node_at g e.source) × IsSome (node_at g e.target)
+  pub joins : (e : Edge) (source target : GraphNode) → set.contains g.edges e ≡ true → node_at g e.source ≡ Some source → node_at g e.target ≡ Some target → Joins g e.label source target
   -- what is exported is there, and each node's item and each package is held by the graph's collection
   pub exported : (i : ℕ) (name : Name) (n : NodeId) → slice_get g.exports i ≡ Some (name, n) → IsSome (node_at g n)
   pub held : (n : NodeId) (node : GraphNode) → node_at g n ≡ Some node → holds_type g.types (kind_type node.item_kind) ≡ true

@@ -26,7 +26,7 @@ use Rattle.wac_nodes.specs.declared.errors.ImportError.{ImportError}
 use Rattle.wac_nodes.specs.declared.errors.ImportError.TheVariants as import_error
 use Rattle.wac_nodes.specs.declared.errors.InstantiationArgumentError.{InstantiationArgumentError}
 use Rattle.wac_nodes.specs.declared.errors.InstantiationArgumentError.TheVariants as argument_error
-use Rattle.wac_nodes.specs.declared.node.NodeId.{NodeId}
+use Rattle.wac_edges.specs.declared.node.NodeId.{NodeId}
 use Rattle.wac_nodes.specs.declared.packages.PackageId.{PackageId}
 use Rattle.wac_edges.specs.Edge.{alias_edge, argument_edge}
 use Rattle.wac_nodes.specs.ExternName.{IsImportName, IsExportName, HasExportFault}
@@ -101,7 +101,7 @@ GivesAlias old id source position kind alias new =
     × (alias.0 ≡ old.next) × (node_at old alias ≡ None)
     × (new ≡ record old {
       nodes = map.insert old.nodes alias.0 (alias_node source kind);
-      edges = set.insert old.edges (alias_edge id.0 alias.0 position);
+      edges = set.insert old.edges (alias_edge id alias position);
       next = new.next;
     }))
 
@@ -143,7 +143,7 @@ import_named g n name = named_at 0 name (imports_of g n)
 abbrev pub GivesArgument : Graph → NodeId → NodeId → ItemKind → ℕ → ItemKind → Graph → Type 0
 GivesArgument old id argument given position kind new =
     (IsArgumentOf old id position argument × (new ≡ old))
-    ⊎ (IsUnsatisfied old id position × IsSubtype old.types given old.types kind × (new ≡ record old { edges = set.insert old.edges (argument_edge argument.0 id.0 position) }))
+    ⊎ (IsUnsatisfied old id position × IsSubtype old.types given old.types kind × (new ≡ record old { edges = set.insert old.edges (argument_edge argument id position) }))
 
 abbrev pub SetsOn : Graph → NodeId → GraphNode → Name → NodeId → GraphNode → Result (Unit {0}) InstantiationArgumentError → Graph → Type 0
 SetsOn old id n name argument given (Ok _) new =
@@ -168,7 +168,7 @@ SetsArgument old id name argument result new =
 -- The argument's edge is taken away, where it stands. Memory is asked for by the text of a refusal alone.
 abbrev pub UnsetsOn : Graph → NodeId → GraphNode → Name → NodeId → Result (Unit {0}) InstantiationArgumentError → Graph → Type 0
 UnsetsOn old id n name argument (Ok _) new =
-    (n.kind ≡ graph.instantiation) × IsSomeAnd (import_named old n name) (λ e. new ≡ record old { edges = set.remove old.edges (argument_edge argument.0 id.0 e.0) })
+    (n.kind ≡ graph.instantiation) × IsSomeAnd (import_named old n name) (λ e. new ≡ record old { edges = set.remove old.edges (argument_edge argument id e.0) })
 UnsetsOn old id n name argument (Err (argument_error.NodeIsNotAnInstantiation node)) new =
     (new ≡ old) × (node ≡ id) × (n.kind ≡ graph.instantiation → ⊥)
 UnsetsOn old id n name argument (Err (argument_error.InvalidArgumentName node text of_package)) new =

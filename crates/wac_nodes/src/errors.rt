@@ -1,9 +1,9 @@
 //! Why a call on a graph is refused.
 ghost use Rattle.std.specs.Prelude.{◌≡◌};
 
-use crate::node::NodeId;
 use std::alloc::{AllocError, AllocFailed};
 use thiserror::Error;
+use wac_edges::node::NodeId;
 use wac_names::NameFault;
 use wac_types::{PackageKey, TypeFault};
 

@@ -18,7 +18,7 @@ ghost use Rattle.wac_shapes.specs.declared.component.WorldId.{WorldId};
 ghost use Rattle.wac_shapes.specs.declared.component.ModuleTypeId.{ModuleTypeId};
 ghost use Rattle.wac_shapes.specs.declared.component.ItemKind.{ItemKind};
 ghost use Rattle.wac_nodes.specs.declared.errors.RegisterPackageError.{RegisterPackageError};
-ghost use Rattle.wac_nodes.specs.declared.node.NodeId.{NodeId};
+ghost use Rattle.wac_edges.specs.declared.node.NodeId.{NodeId};
 ghost use Rattle.wac_nodes.specs.declared.packages.PackageId.{PackageId};
 ghost use Rattle.wac_nodes.specs.Graph.{Graph, GraphNode, node_at, package_at};
 ghost use Rattle.wac_nodes.specs.Steps.{Adds, Registers, Imports, import_node, Instantiates, instance_node, Aliases, SetsArgument};

@@ -16,6 +16,7 @@ pub use errors::{
     UnexportError,
 };
 pub use names::{export_fault, import_fault, one_export_answer};
-pub use node::{Node, NodeId, NodeKind};
+pub use node::{Node, NodeKind};
 pub use options::{EncodeOptions, Processor};
 pub use packages::{BorrowedPackageKey, PackageId, Slot};
+pub use wac_edges::node::NodeId;

@@ -6,18 +6,7 @@ ghost use Rattle.wac_nodes.specs.Nodes.{kind_of};
 
 use crate::packages::PackageId;
 use std::collections::BTreeSet;
-use std::fmt;
 use wac_types::ItemKind;
-
-/// A node's number in its graph.
-#[derive(Clone, Copy, Debug, PartialEq, Eq, PartialOrd, Ord, Hash)]
-pub struct NodeId(pub usize);
-
-impl fmt::Display for NodeId {
-    fn fmt<W: fmt::Write>(&self, f: &mut fmt::Formatter<W>) -> fmt::Result {
-        fmt::Display::fmt(&self.0, f)
-    }
-}
 
 /// What a node is.
 #[derive(Debug, Drop)]

@@ -9,7 +9,7 @@ use Rattle.wac_shapes.specs.declared.component.ItemKind.{ItemKind}
 use Rattle.wac_collection.specs.Collection.{Collection, interface_exports, world_imports}
 use Rattle.wac_collection.specs.Package.{PackageParts}
 use Rattle.wac_subtyping.specs.Subtype.{IsSubtype}
-use Rattle.wac_nodes.specs.declared.node.NodeId.{NodeId}
+use Rattle.wac_edges.specs.declared.node.NodeId.{NodeId}
 use Rattle.wac_nodes.specs.declared.packages.PackageId.{PackageId}
 use Rattle.wac_nodes.specs.Graph.{Graph, node_at, package_at, IsAliasOf, IsSatisfied}
 use Rattle.wac_nodes.specs.Steps.{instance_node, import_named}

@@ -11,7 +11,7 @@ use Rattle.wac_shapes.specs.declared.component.World.{World}
 use Rattle.wac_shapes.specs.declared.component.WorldId.{WorldId}
 use Rattle.wac_collection.specs.Collection.{Collection, item_at, world_imports, world_exports}
 use Rattle.wac_collection.specs.Package.{PackageParts}
-use Rattle.wac_nodes.specs.declared.node.NodeId.{NodeId}
+use Rattle.wac_edges.specs.declared.node.NodeId.{NodeId}
 use Rattle.wac_nodes.specs.declared.packages.PackageId.{PackageId}
 use Rattle.wac_nodes.specs.Graph.{Graph, package_at}
 use Rattle.wac_plug.specs.declared.errors.PlugError.TheVariants.{NoPlugHappened}

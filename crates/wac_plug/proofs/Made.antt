@@ -5,7 +5,7 @@ use Rattle.wac_shapes.specs.Name.{Name}
 use Rattle.wac_nodes.specs.declared.errors.AliasError.TheVariants as alias_error
 use Rattle.wac_nodes.specs.declared.errors.ExportError.{ExportError}
 use Rattle.wac_nodes.specs.declared.errors.InstantiationArgumentError.{InstantiationArgumentError}
-use Rattle.wac_nodes.specs.declared.node.NodeId.{NodeId}
+use Rattle.wac_edges.specs.declared.node.NodeId.{NodeId}
 use Rattle.wac_nodes.specs.Graph.{Graph, node_at}
 use Rattle.wac_nodes.specs.Steps.{Aliases, SetsArgument, Exports}
 use Rattle.wac_plug.specs.Matching.{Match}

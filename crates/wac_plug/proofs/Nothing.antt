@@ -11,7 +11,7 @@ use Rattle.wac_nodes.specs.declared.errors.ExportError.{ExportError}
 use Rattle.wac_nodes.specs.declared.errors.ExportError.TheVariants as export_error
 use Rattle.wac_nodes.specs.declared.errors.InstantiationArgumentError.{InstantiationArgumentError}
 use Rattle.wac_nodes.specs.declared.errors.InstantiationArgumentError.TheVariants as argument_error
-use Rattle.wac_nodes.specs.declared.node.NodeId.{NodeId}
+use Rattle.wac_edges.specs.declared.node.NodeId.{NodeId}
 use Rattle.wac_nodes.specs.declared.packages.PackageId.{PackageId}
 use Rattle.wac_nodes.specs.Graph.{Graph, package_at}
 use Rattle.wac_plug.specs.declared.errors.PlugError.{PlugError}

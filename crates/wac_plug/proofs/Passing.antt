@@ -15,7 +15,7 @@ use Rattle.wac_nodes.specs.declared.errors.AliasError.{AliasError}
 use Rattle.wac_nodes.specs.declared.errors.AliasError.TheVariants as alias_error
 use Rattle.wac_nodes.specs.declared.errors.ExportError.{ExportError}
 use Rattle.wac_nodes.specs.declared.errors.ExportError.TheVariants as export_error
-use Rattle.wac_nodes.specs.declared.node.NodeId.{NodeId}
+use Rattle.wac_edges.specs.declared.node.NodeId.{NodeId}
 use Rattle.wac_nodes.specs.Graph.{Graph, GraphNode, node_at, interface_of, exports_of}
 use Rattle.wac_nodes.specs.Steps.{Aliases, AliasesOf, GivesAlias, alias_node, export_named, Exports}
 use Rattle.wac_plug.specs.declared.errors.PlugError.{PlugError}

@@ -10,7 +10,7 @@ use Rattle.wac_collection.specs.Collection.{Collection, interface_exports, world
 use Rattle.wac_collection.specs.Package.{PackageParts, HoldsPackage}
 use Rattle.wac_edges.specs.declared.edges.Edge.{Edge}
 use Rattle.wac_edges.specs.Edge.{alias_edge, argument_edge}
-use Rattle.wac_nodes.specs.declared.node.NodeId.{NodeId}
+use Rattle.wac_edges.specs.declared.node.NodeId.{NodeId}
 use Rattle.wac_nodes.specs.declared.packages.PackageId.{PackageId}
 use Rattle.wac_nodes.specs.Graph.{Graph, node_at, package_at}
 use Rattle.wac_nodes.specs.Sound.{IsSound}
@@ -75,11 +75,11 @@ module _ (old new : Graph) (id : PackageId) (p : PackageParts) (n : NodeId) (ste
   instance-there = ap (λ (k : Graph). node_at k n) step.2 ∙ insert-same old.nodes n.0 (instance_node id p)
 
   sources-on : SourcesThere old → SourcesThere new
-  sources-on h e has = ap (λ (k : Graph). is_some (map.get k.nodes e.source)) step.2 ∙ insert-there old.nodes n.0 (instance_node id p) e.source (h e (edges-are e has))
+  sources-on h e has = ap (λ (k : Graph). is_some (map.get k.nodes e.source.0)) step.2 ∙ insert-there old.nodes n.0 (instance_node id p) e.source.0 (h e (edges-are e has))
 
   unaliased : SourcesThere old → (exports : List (Name × ItemKind)) (ms : List Match) → AreUnaliased new n exports ms
   unaliased h exports [] = tt
-  unaliased h exports (m ∷ ms) = ((λ x a at al. fresh old n h step.1 (alias_edge n.0 a.0 x.0) refl (edges-are (alias_edge n.0 a.0 x.0) al)), unaliased h exports ms)
+  unaliased h exports (m ∷ ms) = ((λ x a at al. fresh old n h step.1 (alias_edge n a x.0) refl (edges-are (alias_edge n a x.0) al)), unaliased h exports ms)
 
   -- the socket's arguments are as they were
   wiring-on : (s : NodeId) (socket : PackageId) (q : PackageParts) (given : List Match) → IsWiring old s socket q given → IsWiring new s socket q given
@@ -87,10 +87,10 @@ module _ (old new : Graph) (id : PackageId) (p : PackageParts) (n : NodeId) (ste
     sources = sources-on w.sources;
     there = ap (λ (k : Graph). node_at k s) step.2 ∙ vacant-keeps old.nodes n.0 s.0 (instance_node id p) (instance_node socket q) step.1 w.there;
     registered = ap (λ (k : Graph). package_at k socket) step.2 ∙ w.registered;
-    only = λ name y at sat. w.only name y (sym (ap (λ (k : Graph). named_at 0 name (world_imports k.types q.world)) step.2) ∙ at) (sat.0, edges-are (argument_edge sat.0.0 s.0 y.0) sat.1);
+    only = λ name y at sat. w.only name y (sym (ap (λ (k : Graph). named_at 0 name (world_imports k.types q.world)) step.2) ∙ at) (sat.0, edges-are (argument_edge sat.0 s y.0) sat.1);
     all = λ name y at among.
         let sat = w.all name y (sym (ap (λ (k : Graph). named_at 0 name (world_imports k.types q.world)) step.2) ∙ at) among in
-        (sat.0, ap (λ (k : Graph). set.contains k.edges (argument_edge sat.0.0 s.0 y.0)) step.2 ∙ sat.1);
+        (sat.0, ap (λ (k : Graph). set.contains k.edges (argument_edge sat.0 s y.0)) step.2 ∙ sat.1);
   }
 
 -- a new instance of the socket has no argument
@@ -99,7 +99,7 @@ begins old made socket q s sound at h = record {
   sources = sources-on old made socket q s step (λ e has. (sound.ends e has).0);
   there = instance-there old made socket q s step;
   registered = ap (λ (k : Graph). package_at k socket) step.2 ∙ at;
-  only = λ name y listed sat. absurd (false≢true (sym (ap is_some step.1) ∙ (sound.ends (argument_edge sat.0.0 s.0 y.0) (edges-are old made socket q s step (argument_edge sat.0.0 s.0 y.0) sat.1)).1));
+  only = λ name y listed sat. absurd (false≢true (sym (ap is_some step.1) ∙ (sound.ends (argument_edge sat.0 s y.0) (edges-are old made socket q s step (argument_edge sat.0 s y.0) sat.1)).1));
   all = λ name y listed among. absurd among;
 }
   where

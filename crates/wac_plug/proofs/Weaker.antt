@@ -1,6 +1,6 @@
 -- What is known of names left out.
 use Rattle.std.proofs.Common.{List, [], ◌∷◌, Ok, inl, inr}
-use Rattle.wac_nodes.specs.declared.node.NodeId.{NodeId}
+use Rattle.wac_edges.specs.declared.node.NodeId.{NodeId}
 use Rattle.wac_nodes.specs.declared.packages.PackageId.{PackageId}
 use Rattle.wac_nodes.specs.Graph.{Graph}
 use Rattle.wac_plug.specs.Plugging.{Answer, InOrder, Plugs, PlugsAll}

@@ -19,7 +19,7 @@ use Rattle.wac_nodes.specs.declared.errors.AliasError.{AliasError}
 use Rattle.wac_nodes.specs.declared.errors.AliasError.TheVariants as alias_error
 use Rattle.wac_nodes.specs.declared.errors.InstantiationArgumentError.{InstantiationArgumentError}
 use Rattle.wac_nodes.specs.declared.errors.InstantiationArgumentError.TheVariants as argument_error
-use Rattle.wac_nodes.specs.declared.node.NodeId.{NodeId}
+use Rattle.wac_edges.specs.declared.node.NodeId.{NodeId}
 use Rattle.wac_nodes.specs.Graph.{Graph, GraphNode, node_at, interface_of, instantiation, IsAliasOf, IsArgumentOf, IsSatisfied, IsUnsatisfied}
 use Rattle.wac_nodes.specs.Steps.{Aliases, AliasesOf, GivesAlias, alias_node, export_named, SetsArgument, SetsOn, GivesArgument, import_named}
 use Rattle.wac_plug.specs.declared.errors.PlugError.TheVariants.{OutOfMemory}
@@ -30,12 +30,12 @@ use Rattle.wac_plug.specs.Refusals.{of_alias, of_argument}
 
 -- the edges of a graph lead from nodes that are there
 abbrev pub SourcesThere : Graph → Type 0
-SourcesThere g = (e : Edge) → set.contains g.edges e ≡ true → is_some (map.get g.nodes e.source) ≡ true
+SourcesThere g = (e : Edge) → set.contains g.edges e ≡ true → is_some (map.get g.nodes e.source.0) ≡ true
 
 pub none-some : {A : Type 0} (o : Option A) (a : A) → o ≡ None → o ≡ Some a → ⊥
 none-some o a p q = let w : None ≡ Some a = sym p ∙ q in cc
 
-pub fresh : (g : Graph) (n : NodeId) → SourcesThere g → node_at g n ≡ None → (e : Edge) → e.source ≡ n.0 → set.contains g.edges e ≡ true → ⊥
+pub fresh : (g : Graph) (n : NodeId) → SourcesThere g → node_at g n ≡ None → (e : Edge) → e.source.0 ≡ n.0 → set.contains g.edges e ≡ true → ⊥
 fresh g n there vacant e is has = false≢true (sym (ap is_some vacant) ∙ (ap (λ k. is_some (map.get g.nodes k)) (sym is) ∙ there e has))
 
 -- an edge of a set with one edge more
@@ -72,13 +72,13 @@ insert-there nodes n node m h = ap is_some (map.get-insert nat_cmp_total nodes n
   by true = refl
   by false = h
 
-labels-differ : (a b c d i j : ℕ) → argument_edge a b i ≡ alias_edge c d j → ⊥
+labels-differ : (a b c d : NodeId) (i j : ℕ) → argument_edge a b i ≡ alias_edge c d j → ⊥
 labels-differ a b c d i j e = let l : Argument i ≡ Alias j = ap (λ (x : Edge). x.label) e in cc
 
-alias-positions : (a b c d i j : ℕ) → alias_edge a b i ≡ alias_edge c d j → (a ≡ c) × (i ≡ j)
-alias-positions a b c d i j e = (ap (λ (x : Edge). x.source) e, (let l : Alias i ≡ Alias j = ap (λ (x : Edge). x.label) e in cc))
+alias-positions : (a b c d : NodeId) (i j : ℕ) → alias_edge a b i ≡ alias_edge c d j → (a.0 ≡ c.0) × (i ≡ j)
+alias-positions a b c d i j e = (ap (λ (x : Edge). x.source.0) e, (let l : Alias i ≡ Alias j = ap (λ (x : Edge). x.label) e in cc))
 
-argument-positions : (a b c d i j : ℕ) → argument_edge a b i ≡ argument_edge c d j → i ≡ j
+argument-positions : (a b c d : NodeId) (i j : ℕ) → argument_edge a b i ≡ argument_edge c d j → i ≡ j
 argument-positions a b c d i j e = let l : Argument i ≡ Argument j = ap (λ (x : Edge). x.label) e in cc
 
 -- what stands after a match was wired from a node to an import at a position
@@ -113,7 +113,7 @@ module _ (g : Graph) (n s : NodeId) (pn sn : GraphNode) (m : Match) (x y : ℕ �
 
   -- the alias is new
   abbrev IsMade : NodeId → Graph → Type 0
-  IsMade a mid = (node_at g a ≡ None) × (mid ≡ record g { nodes = map.insert g.nodes a.0 (alias_node pn x.1); edges = set.insert g.edges (alias_edge n.0 a.0 x.0); next = mid.next })
+  IsMade a mid = (node_at g a ≡ None) × (mid ≡ record g { nodes = map.insert g.nodes a.0 (alias_node pn x.1); edges = set.insert g.edges (alias_edge n a x.0); next = mid.next })
 
   alias-made : (a : NodeId) (mid : Graph) → Aliases g n m.export (Ok a) mid → IsMade a mid
   alias-made a mid h = by (subst (λ o. IsSomeAnd o (λ e. GivesAlias g n pn e.0 e.1 a mid)) exported step.1) where
@@ -126,19 +126,19 @@ module _ (g : Graph) (n s : NodeId) (pn sn : GraphNode) (m : Match) (x y : ℕ �
 
   module _ (a : NodeId) (mid : Graph) (made : IsMade a mid) where
     abbrev argument : Edge
-    argument = argument_edge a.0 s.0 y.0
+    argument = argument_edge a s y.0
 
-    before : (e : Edge) → set.contains mid.edges e ≡ true → (e ≡ alias_edge n.0 a.0 x.0) ⊎ (set.contains g.edges e ≡ true)
-    before e h = added-edge g.edges (alias_edge n.0 a.0 x.0) e (sym (ap (λ (k : Graph). set.contains k.edges e) made.1) ∙ h)
+    before : (e : Edge) → set.contains mid.edges e ≡ true → (e ≡ alias_edge n a x.0) ⊎ (set.contains g.edges e ≡ true)
+    before e h = added-edge g.edges (alias_edge n a x.0) e (sym (ap (λ (k : Graph). set.contains k.edges e) made.1) ∙ h)
 
     after : (e : Edge) → set.contains g.edges e ≡ true → set.contains mid.edges e ≡ true
-    after e h = ap (λ (k : Graph). set.contains k.edges e) made.1 ∙ kept-edge g.edges (alias_edge n.0 a.0 x.0) e h
+    after e h = ap (λ (k : Graph). set.contains k.edges e) made.1 ∙ kept-edge g.edges (alias_edge n a x.0) e h
 
     argument-before : (q : ℕ) (b : NodeId) → IsArgumentOf mid s q b → IsArgumentOf g s q b
-    argument-before q b h = elim (before (argument_edge b.0 s.0 q) h) [ inl e ↦ absurd (labels-differ b.0 s.0 n.0 a.0 q x.0 e) | inr old ↦ old ]
+    argument-before q b h = elim (before (argument_edge b s q) h) [ inl e ↦ absurd (labels-differ b s n a q x.0 e) | inr old ↦ old ]
 
     not-given : IsArgumentOf mid s y.0 a → ⊥
-    not-given h = fresh g a sources made.0 (argument_edge a.0 s.0 y.0) refl (argument-before y.0 a h)
+    not-given h = fresh g a sources made.0 (argument_edge a s y.0) refl (argument-before y.0 a h)
 
     sets-on : (r : Result (Unit {0}) InstantiationArgumentError) (new : Graph) → SetsArgument mid s m.import a r new → SetsOn mid s sn m.import a (alias_node pn x.1) r new
     sets-on r new h =
@@ -171,27 +171,27 @@ module _ (g : Graph) (n s : NodeId) (pn sn : GraphNode) (m : Match) (x y : ℕ �
         slots = ap (λ (k : Graph). k.slots) given.2 ∙ ap (λ (k : Graph). k.slots) made.1;
         exports = ap (λ (k : Graph). k.exports) given.2 ∙ ap (λ (k : Graph). k.exports) made.1;
         sources = λ e h. elim (last e h) [
-          | inl is ↦ ap (λ (q : Edge). is_some (map.get new.nodes q.source)) is ∙ ap is_some (ap (λ ns. map.get ns a.0) nodes_are ∙ insert-same g.nodes a.0 (alias_node pn x.1))
+          | inl is ↦ ap (λ (q : Edge). is_some (map.get new.nodes q.source.0)) is ∙ ap is_some (ap (λ ns. map.get ns a.0) nodes_are ∙ insert-same g.nodes a.0 (alias_node pn x.1))
           | inr was ↦ elim (before e was) [
-            | inl is ↦ ap (λ (q : Edge). is_some (map.get new.nodes q.source)) is ∙ there n.0 (ap is_some plug_there)
-            | inr old ↦ there e.source (sources e old)
+            | inl is ↦ ap (λ (q : Edge). is_some (map.get new.nodes q.source.0)) is ∙ there n.0 (ap is_some plug_there)
+            | inr old ↦ there e.source.0 (sources e old)
           ]
         ];
         nodes = λ k z was. ap (λ ns. map.get ns k.0) nodes_are ∙ vacant-keeps g.nodes a.0 k.0 (alias_node pn x.1) z made.0 was;
-        aliases = λ k p b h. elim (last (alias_edge k.0 b.0 p) h) [
-          | inl is ↦ absurd (labels-differ a.0 s.0 k.0 b.0 y.0 p (sym is))
-          | inr was ↦ elim (before (alias_edge k.0 b.0 p) was) [
-            | inl is ↦ inl (alias-positions k.0 b.0 n.0 a.0 p x.0 is)
+        aliases = λ k p b h. elim (last (alias_edge k b p) h) [
+          | inl is ↦ absurd (labels-differ a s k b y.0 p (sym is))
+          | inr was ↦ elim (before (alias_edge k b p) was) [
+            | inl is ↦ inl (alias-positions k b n a p x.0 is)
             | inr old ↦ inr old
           ]
         ];
-        was_free = λ b h. given.0 b (after (argument_edge b.0 s.0 y.0) h);
-        only = λ q h. elim (last (argument_edge h.0.0 s.0 q) h.1) [
-          | inl is ↦ inl (argument-positions h.0.0 s.0 a.0 s.0 q y.0 is)
+        was_free = λ b h. given.0 b (after (argument_edge b s y.0) h);
+        only = λ q h. elim (last (argument_edge h.0 s q) h.1) [
+          | inl is ↦ inl (argument-positions h.0 s a s q y.0 is)
           | inr was ↦ inr (h.0, argument-before q h.0 was)
         ];
         now = (a, ap (λ (k : Graph). set.contains k.edges argument) given.2 ∙ new-edge mid.edges argument);
-        still = λ q h. (h.0, ap (λ (k : Graph). set.contains k.edges (argument_edge h.0.0 s.0 q)) given.2 ∙ kept-edge mid.edges argument (argument_edge h.0.0 s.0 q) (after (argument_edge h.0.0 s.0 q) h.1));
+        still = λ q h. (h.0, ap (λ (k : Graph). set.contains k.edges (argument_edge h.0 s q)) given.2 ∙ kept-edge mid.edges argument (argument_edge h.0 s q) (after (argument_edge h.0 s q) h.1));
       }
         where
           last : (e : Edge) → set.contains new.edges e ≡ true → (e ≡ argument) ⊎ (set.contains mid.edges e ≡ true)

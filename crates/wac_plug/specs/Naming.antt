@@ -1,7 +1,7 @@
 -- What plugging adds, with what is known of the names in worlds. Private functions alone cite this.
 use Rattle.std.specs.Prelude.{◌≡◌, ◌⊎◌, List, Ok, Err, IsErr}
 use Rattle.wac_shapes.specs.Named.{names_of, NoNameTwice}
-use Rattle.wac_nodes.specs.declared.node.NodeId.{NodeId}
+use Rattle.wac_edges.specs.declared.node.NodeId.{NodeId}
 use Rattle.wac_nodes.specs.declared.packages.PackageId.{PackageId}
 use Rattle.wac_nodes.specs.Graph.{Graph}
 use Rattle.wac_nodes.specs.Steps.{Instantiates}

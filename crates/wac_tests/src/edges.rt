@@ -8,6 +8,7 @@ use std::process::Abort;
 use std::test::Fail;
 use wac_edges::cycles::{add_step, empty_sets, lowest_on_cycle};
 use wac_edges::edges::{Edge, Edges, End, Label};
+use wac_edges::node::NodeId;
 
 /// An edge between four nodes.
 fn edge_of(number: usize) -> Edge {
@@ -17,14 +18,14 @@ fn edge_of(number: usize) -> Edge {
         _ => Label::Dependency,
     };
     Edge {
-        source: number / 8 % 4,
-        target: number / 32 % 4,
+        source: NodeId(number / 8 % 4),
+        target: NodeId(number / 32 % 4),
         label,
     }
 }
 
 /// A walk gives edges of the list, as many as the list has at this end of the node, and reads one record for each.
-fn compare(rt: &impl Abort, edges: &Edges, list: &[Edge], node: usize, end: End) {
+fn compare(rt: &impl Abort, edges: &Edges, list: &[Edge], node: NodeId, end: End) {
     for edge in edges.walk(node, end) {
         assert!(rt; list.contains(&edge));
         assert_eq!(rt; edge.node(end), node);
@@ -54,8 +55,8 @@ fn change(
     }
     assert_eq!(rt; edges.contains(edge), list.contains(&edge));
     for node in 0..5 {
-        compare(rt, edges, list, node, End::Outgoing);
-        compare(rt, edges, list, node, End::Incoming);
+        compare(rt, edges, list, NodeId(node), End::Outgoing);
+        compare(rt, edges, list, NodeId(node), End::Incoming);
     }
     Ok(())
 }

@@ -12,8 +12,8 @@ loop-one-init c =
     let s = c.args.records.now in
     let f = c.args.firsts.now in
     let e = c.args.edge in
-    let out : AreLeft (get s) e c.records_at-out.result = subst (λ (l : List (ℕ × Edge)). AreLeft (get s) e l) (sym c.records_at-out.ensures.list) (record { sound = sound_list s f c.requires e.source Outgoing; rest = λ k at. pair_in_list s f c.requires e.source Outgoing k e at refl }) in
-    let into : AreLeft (get s) e c.records_at-into.result = subst (λ (l : List (ℕ × Edge)). AreLeft (get s) e l) (sym c.records_at-into.ensures.list) (record { sound = sound_list s f c.requires e.target Incoming; rest = λ k at. pair_in_list s f c.requires e.target Incoming k e at refl }) in
+    let out : AreLeft (get s) e c.records_at-out.result = subst (λ (l : List (ℕ × Edge)). AreLeft (get s) e l) (sym c.records_at-out.ensures.list) (record { sound = sound_list s f c.requires e.source.0 Outgoing; rest = λ k at. pair_in_list s f c.requires e.source.0 Outgoing k e at refl }) in
+    let into : AreLeft (get s) e c.records_at-into.result = subst (λ (l : List (ℕ × Edge)). AreLeft (get s) e l) (sym c.records_at-into.ensures.list) (record { sound = sound_list s f c.requires e.target.0 Incoming; rest = λ k at. pair_in_list s f c.requires e.target.0 Incoming k e at refl }) in
     (tt, tt, out, into)
 
 pub returns-then-eq-2-clause-some : goal.returns-then-eq-2-clause-some

@@ -11,8 +11,8 @@ set_next-requires-clause-there c =
 
 pub set_next-requires-clause-node : goal.set_next-requires-clause-node
 set_next-requires-clause-node c =
-    λ none. first_within c.args.end c.args.firsts.now c.node-node.result c.args.key
-    (ap (first_at c.args.end c.args.firsts.now) c.node-node.ensures ∙ first_there (get c.args.records.now) (first_at c.args.end c.args.firsts.now) c.args.end c.requires.linked c.args.key c.index.result.now c.index.ensures (sym (ap (λ (l : Links). l.previous) c.links-links.ensures) ∙ none))
+    λ none. first_within c.args.end c.args.firsts.now c.number-node.result c.args.key
+    (ap (first_at c.args.end c.args.firsts.now) c.number-node.ensures ∙ first_there (get c.args.records.now) (first_at c.args.end c.args.firsts.now) c.args.end c.requires.linked c.args.key c.index.result.now c.index.ensures (sym (ap (λ (l : Links). l.previous) c.links-links.ensures) ∙ none))
 
 pub set_previous-requires : goal.set_previous-requires
 set_previous-requires c =
@@ -21,6 +21,6 @@ set_previous-requires c =
 
 pub returns-clause-others : goal.returns-clause-others
 returns-clause-others c =
-    unlinked_all (get c.args.records.now) (first_at c.args.end c.args.firsts.now) c.args.end c.requires.linked c.args.key c.index.result.now c.index.ensures c.links-links.result c.node-node.result
-    c.links-links.ensures c.node-node.ensures (get c.set_next.new.records) (get c.set_previous.new.records) (first_at c.args.end c.set_next.new.firsts)
+    unlinked_all (get c.args.records.now) (first_at c.args.end c.args.firsts.now) c.args.end c.requires.linked c.args.key c.index.result.now c.index.ensures c.links-links.result c.number-node.result
+    c.links-links.ensures c.number-node.ensures (get c.set_next.new.records) (get c.set_previous.new.records) (first_at c.args.end c.set_next.new.firsts)
     c.set_next.ensures.records c.set_previous.ensures c.set_next.ensures.firsts

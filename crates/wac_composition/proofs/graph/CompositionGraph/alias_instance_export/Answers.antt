@@ -18,7 +18,7 @@ returns-in_default-get_full-clause-step c =
 
 pub returns-in-Some-alias-clause-step : goal.returns-in-Some-alias-clause-step
 returns-in-Some-alias-clause-step c =
-    rw (← c.self.view_is) (already c.self.inside c.args.instance c.index-node.result.now c.in-Instance.interface c.index.result.now c.in-Some.position c.in-Some-alias.alias c.in-Some.item_kind.now c.args.export.now c.index-node.ensures c.in-Instance.is c.index.ensures c.in-Some.ensures c.in-Some-alias.ensures.some)
+    rw (← c.self.view_is) (already c.self.inside c.args.instance c.index-node.result.now c.in-Instance.interface c.index.result.now c.in-Some.position c.in-Some-alias.alias.0 c.in-Some.item_kind.now c.args.export.now c.index-node.ensures c.in-Instance.is c.index.ensures c.in-Some.ensures c.in-Some-alias.ensures.some)
 
 pub invariant_of-self-2 : goal.invariant_of-self-2
 invariant_of-self-2 c =
@@ -39,7 +39,7 @@ returns-clause-step c =
     c.in_ok-add.ensures.ok refl)
 
 pub returns-in-Some-alias-clause-there : goal.returns-in-Some-alias-clause-there
-returns-in-Some-alias-clause-there c = rw (← c.self.view_is) (alias_stands c.self.inside c.self.invariant c.args.instance.0 c.in-Some-alias.alias c.in-Some.position c.in-Some-alias.ensures.some)
+returns-in-Some-alias-clause-there c = rw (← c.self.view_is) (alias_stands c.self.inside c.self.invariant c.args.instance.0 c.in-Some-alias.alias.0 c.in-Some.position c.in-Some-alias.ensures.some)
 
 pub returns-clause-there : goal.returns-clause-there
 returns-clause-there c =

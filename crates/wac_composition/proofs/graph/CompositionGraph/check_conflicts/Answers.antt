@@ -1,8 +1,8 @@
 use Rattle.std.proofs.Common.{ℕ, ◌<◌, arith, below_more, inr, subst, sym}
 use Rattle.wac_shapes.specs.Name.{Name}
-use Rattle.wac_nodes.specs.declared.node.NodeId.{NodeId}
+use Rattle.wac_edges.specs.declared.node.NodeId.{NodeId}
 use Rattle.wac_causes.specs.Cause.{IsConflict, HasNoConflict, conflict}
-use Rattle.wac_nodes.specs.Graph.{node_number}
+use Rattle.wac_edges.specs.Edge.{node_number}
 use Rattle.wac_composition.proofs.ConflictLemmas.{is_lowest, no_conflict}
 use Rattle.wac_causes.proofs.StandsLemmas.{stands_conflict}
 use Rattle.wac_composition.proofs.graph.CompositionGraph.check_conflicts.Goals as goal

@@ -1,8 +1,8 @@
 use Rattle.std.proofs.Common.{ℕ, ◌<◌}
 use Rattle.wac_shapes.specs.Name.{Name}
-use Rattle.wac_nodes.specs.declared.node.NodeId.{NodeId}
+use Rattle.wac_edges.specs.declared.node.NodeId.{NodeId}
 use Rattle.wac_causes.specs.Cause.{IsConflict}
-use Rattle.wac_nodes.specs.Graph.{node_number}
+use Rattle.wac_edges.specs.Edge.{node_number}
 use Rattle.wac_composition.proofs.graph.CompositionGraph.check_conflicts.Given as goal
 
 abbrev pub invariant-loop-n : goal.invariant-loop-n

@@ -1,5 +1,6 @@
 use Rattle.std.proofs.Common.{◌<◌, ℕ, IfSome, arith, subst, sym}
-use Rattle.wac_nodes.specs.Graph.{node_at, node_number}
+use Rattle.wac_edges.specs.Edge.{node_number}
+use Rattle.wac_nodes.specs.Graph.{node_at}
 use Rattle.wac_causes.specs.NotYet.{IsWritable, AllWritable}
 use Rattle.wac_composition.proofs.EncodingLemmas.{all_writable}
 use Rattle.wac_composition.proofs.graph.CompositionGraph.holds_unwritten.Goals as goal

@@ -3,7 +3,7 @@ use Rattle.wac_collection.specs.Collection.{item_at}
 use Rattle.wac_nodes.specs.Graph.{instantiation}
 use Rattle.wac_nodes.specs.Nodes.{kind_of}
 use Rattle.wac_nodes.specs.Steps.{UnsetsArgument}
-use Rattle.wac_nodes.specs.declared.node.NodeId.{NodeId}
+use Rattle.wac_edges.specs.declared.node.NodeId.{NodeId}
 use Rattle.wac_nodes.specs.declared.errors.InstantiationArgumentError.TheVariants.{OutOfMemory}
 use Rattle.wac_composition.proofs.CauseLemmas.{exit_cause}
 use Rattle.wac_nodes.proofs.NodeLemmas.{there}

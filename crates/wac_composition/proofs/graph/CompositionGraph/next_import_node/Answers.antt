@@ -1,5 +1,5 @@
 use Rattle.std.proofs.Common.{◌∙◌, Some}
-use Rattle.wac_nodes.specs.Graph.{node_number}
+use Rattle.wac_edges.specs.Edge.{node_number}
 use Rattle.wac_composition.proofs.ImportRows.{node_taken, node_passed, no_nodes_left}
 use Rattle.wac_composition.proofs.graph.CompositionGraph.next_import_node.Goals as goal
 

@@ -12,7 +12,7 @@ unsatisfy-requires c = is_instantiation c.self.inside c.args.instantiation (rw (
 
 pub invariant_of-self : goal.invariant_of-self
 invariant_of-self c =
-    invariant_taken c.self.inside c.self.invariant c.unsatisfy.new.nodes c.remove.new.self c.args.argument.0 c.args.instantiation.0 c.args.position c.unsatisfy.ensures.next c.unsatisfy.ensures.same c.unsatisfy.ensures.marks
+    invariant_taken c.self.inside c.self.invariant c.unsatisfy.new.nodes c.remove.new.self c.args.argument c.args.instantiation c.args.position c.unsatisfy.ensures.next c.unsatisfy.ensures.same c.unsatisfy.ensures.marks
     (ap (set.contains c.self.inside.edges) (sym c.argument_edge-edge.ensures) ∙ sym c.contains.ensures ∙ c.if-contains.true) (c.remove.ensures ∙ ap (set.remove c.self.inside.edges) c.argument_edge-edge.ensures)
 
 pub returns-then-contains : goal.returns-then-contains
@@ -22,4 +22,4 @@ pub returns-else-contains : goal.returns-else-contains
 returns-else-contains c =
     rw (← c.self.view_is)
     (ap (λ es. let g : Graph = record (graph_of c.self.inside) { edges = es } in g)
-    (nothing_removed c.self.inside.edges (argument_edge c.args.argument.0 c.args.instantiation.0 c.args.position) (ap (set.contains c.self.inside.edges) (sym c.argument_edge-edge.ensures) ∙ sym c.contains.ensures ∙ c.if-contains.false)))
+    (nothing_removed c.self.inside.edges (argument_edge c.args.argument c.args.instantiation c.args.position) (ap (set.contains c.self.inside.edges) (sym c.argument_edge-edge.ensures) ∙ sym c.contains.ensures ∙ c.if-contains.false)))

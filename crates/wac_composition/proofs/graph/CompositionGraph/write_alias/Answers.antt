@@ -1,6 +1,7 @@
 use Rattle.std.proofs.Common.{◌<◌, refl, sym, subst, IfSome}
 use Rattle.wac_meaning.specs.Encoding.{WritesNode, index_in}
-use Rattle.wac_nodes.specs.Graph.{node_at, node_number}
+use Rattle.wac_edges.specs.Edge.{node_number}
+use Rattle.wac_nodes.specs.Graph.{node_at}
 use Rattle.wac_composition.proofs.AliasLemmas.{interface_there}
 use Rattle.wac_edges.specs.Edge.{alias_edge}
 use Rattle.wac_composition.proofs.WriteArgumentsLemmas.{source_noted, index_is}
@@ -33,10 +34,10 @@ returns-clause-written c =
     subst (λ g. IfSome (node_at g (node_number c.args.n)) (λ node. WritesNode g c.args.n node (index_in c.args.encoder.now.indexes.items) c.args.encoder.now.components.items c.args.encoder.now.components.items c.args.encoder.now.builder c.alias_export.new.self c.in_ok-alias_export.field-0)) c.self.view_is
     (alias_added c.self.inside c.self.invariant c.args.n (rw (← c.self.view_is) at c.requires.alias) c.in-Some.source c.in-Some.position c.in-Some.ensures.some c.index.result.now c.in-Instance.interface c.index-2.result.now c.index.ensures c.in-Instance.is c.index-2.ensures
     c.index-3.result.now c.index-3.ensures c.name_at-name.result.now c.name_at-name.ensures c.sort_of-sort.result c.sort_of-sort.ensures
-    (index_in c.args.encoder.now.indexes.items) c.index-instance.result.now (index_is c.args.encoder.now.indexes.items c.in-Some.source c.index-instance.result.now (source_noted c.self.inside c.self.invariant c.args.self.now c.self.view_is c.args.encoder.now.indexes.items c.requires.room (alias_edge c.in-Some.source c.args.n c.in-Some.position) c.in-Some.ensures.some) c.index-instance.ensures)
+    (index_in c.args.encoder.now.indexes.items) c.index-instance.result.now (index_is c.args.encoder.now.indexes.items c.in-Some.source c.index-instance.result.now (source_noted c.self.inside c.self.invariant c.args.self.now c.self.view_is c.args.encoder.now.indexes.items c.requires.room (alias_edge (node_number c.in-Some.source) (node_number c.args.n) c.in-Some.position) c.in-Some.ensures.some) c.index-instance.ensures)
     c.args.encoder.now.components.items c.args.encoder.now.components.items refl
     c.args.encoder.now.builder c.alias_export.new.self c.in_ok-alias_export.ensures.appended c.in_ok-alias_export.field-0 c.in_ok-alias_export.ensures.index)
 
 pub index-instance-requires : goal.index-instance-requires
 index-instance-requires c = subst (λ k. c.in-Some.source < k) (sym c.args.encoder.now.indexes.ok.0)
-    (source_noted c.self.inside c.self.invariant c.args.self.now c.self.view_is c.args.encoder.now.indexes.items c.requires.room (alias_edge c.in-Some.source c.args.n c.in-Some.position) c.in-Some.ensures.some)
+    (source_noted c.self.inside c.self.invariant c.args.self.now c.self.view_is c.args.encoder.now.indexes.items c.requires.room (alias_edge (node_number c.in-Some.source) (node_number c.args.n) c.in-Some.position) c.in-Some.ensures.some)

@@ -4,6 +4,7 @@ use Rattle.wac_edges.specs.declared.edges.End.TheVariants.{Outgoing}
 use Rattle.wac_edges.specs.declared.edges.Label.{Label}
 use Rattle.wac_edges.specs.declared.edges.Label.TheVariants.{Alias}
 use Rattle.wac_edges.specs.declared.edges.Edge.{Edge}
+use Rattle.wac_edges.specs.declared.node.NodeId.{NodeId}
 use Rattle.wac_edges.specs.Ends.{Walked}
 use Rattle.wac_edges.proofs.EdgeLemmas.{label_exact, label_tied}
 use Rattle.wac_edges.proofs.SetLemmas.{seeks_start, seeks_next, seeks_found}
@@ -22,4 +23,4 @@ returns-then-eq-clause-some c =
     let (has, at) = seeks_found c.args.self.now c.args.source Outgoing (λ (e : Edge). e.label ≡ Alias c.args.position) c.in-Some.edge c.next.new.self.left c.loop-edge.edge-iterator.left c.in-Some.ensures.steps.0 c.loop-edge.invariant.2 in
     let label : c.in-Some.edge.label ≡ Alias c.args.position = label_exact c.in-Some.edge.label (Alias c.args.position) (sym c.eq.ensures ∙ c.if-eq.true) in
     subst (λ (l : Label). set.contains c.args.self.now (record { source = c.args.source; target = c.in-Some.edge.target; label = l }) ≡ true) label
-    (subst (λ (n : ℕ). set.contains c.args.self.now (record { source = n; target = c.in-Some.edge.target; label = c.in-Some.edge.label }) ≡ true) at has)
+    (subst (λ (n : NodeId). set.contains c.args.self.now (record { source = n; target = c.in-Some.edge.target; label = c.in-Some.edge.label }) ≡ true) at has)

@@ -7,4 +7,4 @@ use Rattle.wac_edges.proofs.edges.Edges.alias_source.Given as goal
 abbrev pub invariant-loop-edge : goal.invariant-loop-edge
 invariant-loop-edge l =
     (goal.iterator-loop-edge).can_next l.edge-iterator × (goal.iterator-loop-edge).is_finite l.edge-iterator ×
-    Seeks l.self l.target Incoming (λ e. (i : ℕ) × (e.label ≡ Alias i)) l.edge-iterator.left
+    Seeks l.self l.fn.target Incoming (λ e. (i : ℕ) × (e.label ≡ Alias i)) l.edge-iterator.left

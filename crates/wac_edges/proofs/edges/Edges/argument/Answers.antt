@@ -4,6 +4,7 @@ use Rattle.wac_edges.specs.declared.edges.End.TheVariants.{Incoming}
 use Rattle.wac_edges.specs.declared.edges.Label.{Label}
 use Rattle.wac_edges.specs.declared.edges.Label.TheVariants.{Argument}
 use Rattle.wac_edges.specs.declared.edges.Edge.{Edge}
+use Rattle.wac_edges.specs.declared.node.NodeId.{NodeId}
 use Rattle.wac_edges.specs.Ends.{Walked}
 use Rattle.wac_edges.proofs.EdgeLemmas.{label_exact, label_tied}
 use Rattle.wac_edges.proofs.SetLemmas.{seeks_start, seeks_next, seeks_found}
@@ -22,4 +23,4 @@ returns-then-eq-clause-some c =
     let (has, at) = seeks_found c.args.self.now c.args.target Incoming (λ (e : Edge). e.label ≡ Argument c.args.position) c.in-Some.edge c.next.new.self.left c.loop-edge.edge-iterator.left c.in-Some.ensures.steps.0 c.loop-edge.invariant.2 in
     let label : c.in-Some.edge.label ≡ Argument c.args.position = label_exact c.in-Some.edge.label (Argument c.args.position) (sym c.eq.ensures ∙ c.if-eq.true) in
     subst (λ (l : Label). set.contains c.args.self.now (record { source = c.in-Some.edge.source; target = c.args.target; label = l }) ≡ true) label
-    (subst (λ (n : ℕ). set.contains c.args.self.now (record { source = c.in-Some.edge.source; target = n; label = c.in-Some.edge.label }) ≡ true) at has)
+    (subst (λ (n : NodeId). set.contains c.args.self.now (record { source = c.in-Some.edge.source; target = n; label = c.in-Some.edge.label }) ≡ true) at has)

@@ -1,11 +1,8 @@
-use Rattle.std.proofs.Common.{ℕ, List, sym, subst}
+use Rattle.std.proofs.Common.{ℕ, List, Option, sym, subst}
 use Rattle.std.specs.BTreeSet.{BTreeSet}
 use Rattle.std.specs.Option.{MatchOption}
-use Rattle.std.specs.Result.{IfOk}
-use Rattle.std.proofs.lemmas.Result.{IfOk-weaker}
 use Rattle.wac_edges.specs.Cycles.{AreWithin, HasNoCycle, HasLowestOnCycle}
-use Rattle.wac_edges.specs.Order.{IsAcyclic, IsLowestOnCycle}
-use Rattle.wac_edges.proofs.TargetLemmas.{within, lowest_of}
+use Rattle.wac_edges.proofs.TargetLemmas.{within, acyclic, lowest_of}
 use Rattle.wac_edges.proofs.edges.Edges.lowest_on_cycle.Goals as goal
 
 pub lowest_on_cycle-requires : goal.lowest_on_cycle-requires
@@ -13,10 +10,14 @@ lowest_on_cycle-requires c =
     subst (λ (sets : List (BTreeSet ℕ)). AreWithin sets) (sym c.as_slice.ensures.value)
     (within c.args.self.now c.args.nodes c.in_ok-targets.targets.items c.requires c.in_ok-targets.ensures.counted c.in_ok-targets.ensures.steps)
 
+pub returns-in-Some : goal.returns-in-Some
+returns-in-Some c =
+    lowest_of c.args.self.now c.args.nodes c.in_ok-targets.targets.items c.requires c.in_ok-targets.ensures.counted c.in_ok-targets.ensures.steps c.in-Some.n
+    (subst (λ (sets : List (BTreeSet ℕ)). HasLowestOnCycle sets c.in-Some.n) c.as_slice.ensures.value
+    (subst (λ (o : Option ℕ). MatchOption o (HasNoCycle c.as_slice.result.now) (λ n. HasLowestOnCycle c.as_slice.result.now n)) c.in-Some.is c.in_ok-n.ensures))
+
 pub returns : goal.returns
 returns c =
-    let edges = c.args.self.now in
-    let sets = c.in_ok-targets.targets.items in
-    IfOk-weaker c.lowest_on_cycle.result (λ o. MatchOption o (HasNoCycle sets) (λ n. HasLowestOnCycle sets n)) (λ o. MatchOption o (IsAcyclic edges) (λ n. IsLowestOnCycle edges n))
-    (lowest_of edges c.args.nodes sets c.requires c.in_ok-targets.ensures.counted c.in_ok-targets.ensures.steps)
-    (subst (λ (s : List (BTreeSet ℕ)). IfOk c.lowest_on_cycle.result (λ o. MatchOption o (HasNoCycle s) (λ n. HasLowestOnCycle s n))) c.as_slice.ensures.value c.lowest_on_cycle.ensures)
+    acyclic c.args.self.now c.args.nodes c.in_ok-targets.targets.items c.requires c.in_ok-targets.ensures.counted c.in_ok-targets.ensures.steps
+    (subst (λ (sets : List (BTreeSet ℕ)). HasNoCycle sets) c.as_slice.ensures.value
+    (subst (λ (o : Option ℕ). MatchOption o (HasNoCycle c.as_slice.result.now) (λ n. HasLowestOnCycle c.as_slice.result.now n)) c.in-None.is c.in_ok-n.ensures))

@@ -9,4 +9,4 @@ pub returns-clause-edges : goal.returns-clause-edges
 returns-clause-edges c =
     let s = c.self.inside in
     are_at s.records s.firsts.items c.self.invariant c.args.node c.args.end c.args.self.now c.self.view_is c.new.result.left
-    (c.new.ensures.left ∙ ap (map (λ (x : ℕ × Edge). x.1)) (c.records_at.ensures.list ∙ ap (λ (f : List Firsts). list_at s.records c.args.end (first_at c.args.end f c.args.node)) c.deref.ensures.value))
+    (c.new.ensures.left ∙ ap (map (λ (x : ℕ × Edge). x.1)) (c.records_at.ensures.list ∙ ap (λ (f : List Firsts). list_at s.records c.args.end (first_at c.args.end f c.args.node.0)) c.deref.ensures.value))
