@@ -364,7 +364,7 @@ module _ (old new : Graph) (plug socket : PackageId) (a run : Name) (p q : Packa
         h.1,
         still m.node socket_node refl socket_end,
         ap (λ (g : Graph). import_named g socket_node a) changed ∙ alias-imports m.mid end m.node socket_node run passed_on socket_node a socket_mid m.passing.2 ∙ subst (λ n. import_named m.mid n a ≡ Some h.1) same h.3,
-        ap (λ (g : Graph). set.contains g.edges (argument_edge given.0 (m.node).0 h.1.0)) changed ∙ passed_is.1.edges (argument_edge given.0 (m.node).0 h.1.0) h.4,
+        ap (λ (g : Graph). set.contains g.edges (argument_edge given m.node h.1.0)) changed ∙ passed_is.1.edges (argument_edge given m.node h.1.0) h.4,
       )
 
   package_new : (id : PackageId) (x : PackageParts) → package_at old id ≡ Some x → package_at new id ≡ Some x
