@@ -114,7 +114,7 @@ fn assert_disagree(
 }
 
 // The merge of these.
-fn merge(
+pub(crate) fn merge(
     alloc: Global,
     rt: &impl Abort,
     types: &Types,

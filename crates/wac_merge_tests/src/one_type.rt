@@ -1,6 +1,7 @@
 //! One named type has one id in the merged collection.
-ghost use Rattle.std.specs.Prelude.{◌≡◌, true, IfOk};
+ghost use Rattle.std.specs.Prelude.{◌≡◌, true};
 
+use crate::merging::merge;
 use std::alloc::Global;
 use std::process::Abort;
 use std::test::Fail;
@@ -45,27 +46,6 @@ fn instance(
 ) -> Result<InterfaceId, Fail> {
     let interface = Interface::with_uses(alloc, Some(id), uses, exports)?;
     Ok(types.add_interface(interface)?)
-}
-
-// The merge of these.
-fn merge(
-    alloc: Global,
-    rt: &impl Abort,
-    types: &Types,
-    asked: &[(&str, ItemKind)],
-) -> Result<TypeAggregator, Fail>
-    ensures { IfOk result (λ merged. merged.is_finished ≡ true) }
-{
-    let mut aggregator = TypeAggregator::new(alloc);
-    for i in 0..asked.len() {
-        let (name, kind) = asked[i];
-        assert!(rt; types.contains(kind.ty()));
-        aggregator = aggregator.aggregate(name, types, kind)?;
-    }
-    match aggregator.finish(types) {
-        Ok(merged) => Ok(merged),
-        Err(_) => Err(Fail::new("these have no merge")),
-    }
 }
 
 // The definition that an item is of: that of its type, or of its first parameter.
