@@ -1,5 +1,6 @@
 //! How long items of two collections take to add and to compare: tuples doubled so many deep, a chain of lists, aliases and
-//! options, a tuple of aliases of each other, and interfaces of functions over records.
+//! options, a tuple of aliases of each other, interfaces of functions over records, and levels of equal tuples that share their
+//! parts in one way in the one collection and in another in the other.
 
 use crate::times::{ROUNDS, Times, print_power, print_times};
 use crate::types::{defined, export, function, instance, primitive, record};
@@ -17,7 +18,11 @@ enum Sort {
     Chain,
     Aliases,
     Functions,
+    Sharing,
 }
+
+/// How many levels of equal tuples there are.
+const LEVELS: u64 = 16;
 
 /// How long the items took to add and to compare.
 #[derive(Clone, Copy)]
@@ -79,13 +84,64 @@ fn functions(alloc: Global, types: &mut Types, count: u64) -> Result<ItemKind> {
     instance(alloc, types, None, exports)
 }
 
-/// Adds an item of so many parts.
-fn item(alloc: Global, types: &mut Types, sort: Sort, count: u64) -> Result<ItemKind> {
+/// The tuple of two parts, each twice.
+fn doubled(
+    alloc: Global,
+    types: &mut Types,
+    a: ValueType,
+    b: ValueType,
+    crossed: bool,
+) -> Result<ValueType> {
+    let parts = if crossed { [a, b, a, b] } else { [a, a, b, b] };
+    let tuple = Sequence::new(alloc, parts.as_slice())?;
+    defined(types, DefinedType::Tuple(tuple))
+}
+
+/// Adds a tuple for each type of a level, of it and of the one so many after it.
+fn above(
+    alloc: Global,
+    types: &mut Types,
+    level: &[ValueType],
+    step: usize,
+    crossed: bool,
+) -> Result<Vec<ValueType>> {
+    let mut next = Vec::new(alloc);
+    let shifted = level.iter().cycle().skip(step);
+    for (a, b) in level.iter().zip(shifted) {
+        next.push(doubled(alloc, types, *a, *b, crossed)?)?;
+    }
+    Ok(next)
+}
+
+/// Adds levels of equal tuples, each of two of the level before, and a tuple of the last level.
+fn sharing(alloc: Global, types: &mut Types, count: u64, crossed: bool) -> Result<ItemKind> {
+    let mut level = Vec::new(alloc);
+    for _ in 0..count / LEVELS {
+        level.push(primitive(PrimitiveType::Bool))?;
+    }
+    let mut step = 1;
+    for _ in 0..LEVELS {
+        level = above(alloc, types, level.as_slice(), step, crossed)?;
+        step = step.saturating_mul(2);
+    }
+    let tuple = Sequence::new(alloc, level.as_slice())?;
+    Ok(ItemKind::Value(defined(types, DefinedType::Tuple(tuple))?))
+}
+
+/// Adds an item of so many parts, which are shared in one of two ways.
+fn item(
+    alloc: Global,
+    types: &mut Types,
+    sort: Sort,
+    count: u64,
+    crossed: bool,
+) -> Result<ItemKind> {
     match sort {
         Sort::Tuples => tuples(alloc, types, count),
         Sort::Chain => chain(types, count),
         Sort::Aliases => aliases(alloc, types, count),
         Sort::Functions => functions(alloc, types, count),
+        Sort::Sharing => sharing(alloc, types, count, crossed),
     }
 }
 
@@ -106,8 +162,8 @@ fn measured(rt: &HostRuntime, what: &str, sort: Sort, count: u64) -> Result<Cost
         let mut first = Types::new(rt.alloc());
         let mut second = Types::new(rt.alloc());
         let start = Instant::now(rt)?;
-        let a = item(rt.alloc(), &mut first, sort, count)?;
-        let b = item(rt.alloc(), &mut second, sort, count)?;
+        let a = item(rt.alloc(), &mut first, sort, count, false)?;
+        let b = item(rt.alloc(), &mut second, sort, count, true)?;
         adding.push(start.elapsed(rt)?)?;
         let start = Instant::now(rt)?;
         answer = is_subtype(a, &first, b, &second) && answer;
@@ -155,5 +211,6 @@ pub fn measure(rt: &HostRuntime) -> Result<()> {
     measure_growth(rt, "tuples", Sort::Tuples, 12_500)?;
     measure_growth(rt, "chain", Sort::Chain, 12_500)?;
     measure_growth(rt, "aliases", Sort::Aliases, 12_500)?;
-    measure_growth(rt, "functions", Sort::Functions, 12_500)
+    measure_growth(rt, "functions", Sort::Functions, 12_500)?;
+    measure_growth(rt, "sharing", Sort::Sharing, 12_500)
 }

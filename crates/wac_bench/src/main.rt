@@ -1,9 +1,11 @@
 //! Measures how long calls of the libraries take: `names` reads names, `comparing` adds and compares items, `merging` merges
-//! imports, `writing` writes components. With such a word it takes a workload at some counts and prints its times and by which
-//! power of the count they grow; without one it does a little of each and prints no time. Another word ends it with status 2.
+//! imports, `writing` writes components; `chain`, `fan`, `aliases` and `plug` make graphs and encode them. With such a word it
+//! takes a workload at some counts and prints its times and by which power of the count they grow; without one it does a little
+//! of each and prints no time. Another word ends it with status 2.
 #![tactic(auto)]
 
 mod comparing;
+mod graphs;
 mod merging;
 mod names;
 mod times;
@@ -11,6 +13,7 @@ mod types;
 mod writing;
 
 use anyhow::Result;
+use graphs::Sort;
 use std::env;
 use std::process::ExitCode;
 
@@ -19,7 +22,8 @@ fn show(rt: &HostRuntime) -> Result<()> {
     names::show(rt)?;
     comparing::show(rt)?;
     merging::show(rt)?;
-    writing::show(rt)
+    writing::show(rt)?;
+    graphs::show(rt)
 }
 
 /// Measures what the word names. Answers whether it names a workload.
@@ -29,6 +33,10 @@ fn measure(rt: &HostRuntime, word: &str) -> Result<bool> {
         "comparing" => comparing::measure(rt)?,
         "merging" => merging::measure(rt)?,
         "writing" => writing::measure(rt)?,
+        "chain" => graphs::measure(rt, Sort::Chain)?,
+        "fan" => graphs::measure(rt, Sort::Fan)?,
+        "aliases" => graphs::measure(rt, Sort::Aliases)?,
+        "plug" => graphs::measure(rt, Sort::Plug)?,
         _ => return Ok(false),
     }
     Ok(true)
@@ -42,6 +50,6 @@ fn main(rt: HostRuntime) -> Result<ExitCode> {
     if measure(&rt, word.as_str())? {
         return Ok(ExitCode::SUCCESS);
     }
-    println!(rt; "names, comparing, merging or writing")?;
+    println!(rt; "names, comparing, merging, writing, chain, fan, aliases or plug")?;
     Ok(ExitCode::from(2))
 }

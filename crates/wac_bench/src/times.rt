@@ -7,11 +7,25 @@ use std::time::Duration;
 /// How often each is timed.
 pub const ROUNDS: usize = 5;
 
-/// Eight times the count takes so many times as long for each tenth of the power: the tenth root of 8.
-const TENTH: f64 = 1.2311444133449163;
+/// How many times as long a larger count takes for each tenth of the power, and the square root of that, to round to the
+/// nearest tenth.
+#[derive(Clone, Copy)]
+struct Tenth {
+    whole: f64,
+    half: f64,
+}
 
-/// The square root of that, to round to the nearest tenth.
-const HALF_TENTH: f64 = 1.109569472067845;
+/// Of eight times the count: the tenth root of 8.
+const OF_EIGHT: Tenth = Tenth {
+    whole: 1.2311444133449163,
+    half: 1.109569472067845,
+};
+
+/// Of ten times the count: the tenth root of 10.
+const OF_TEN: Tenth = Tenth {
+    whole: 1.2589254117941673,
+    half: 1.1220184543019633,
+};
 
 /// The least and the middle one of some times.
 #[derive(Clone, Copy)]
@@ -44,22 +58,31 @@ pub fn print_times(rt: &HostRuntime, what: &str, count: u64, times: Times) -> Re
 
 /// Prints by which power of the count the time grows, where `last` was of eight times the count of `first`.
 pub fn print_power(rt: &HostRuntime, what: &str, first: Times, last: Times) -> Result<()> {
-    let tenths = power_in_tenths(first.least, last.least);
+    print_tenths(rt, what, power_in_tenths(first.least, last.least, OF_EIGHT))
+}
+
+/// Prints by which power of the count the time grows, where `last` was of ten times the count of `first`.
+pub fn print_power_of_ten(rt: &HostRuntime, what: &str, first: Times, last: Times) -> Result<()> {
+    print_tenths(rt, what, power_in_tenths(first.least, last.least, OF_TEN))
+}
+
+/// Prints a power in tenths.
+fn print_tenths(rt: &HostRuntime, what: &str, tenths: u32) -> Result<()> {
     let whole = tenths / 10;
     let rest = tenths % 10;
     println!(rt; "{what}: the time grows by the power {whole}.{rest} of the count")?;
     Ok(())
 }
 
-/// By which power of the count the time grows, in tenths, where `last` was of eight times the count of `first`.
-fn power_in_tenths(first: Duration, last: Duration) -> u32 {
+/// By which power of the count the time grows, in tenths, where each tenth takes so many times as long.
+fn power_in_tenths(first: Duration, last: Duration, tenth: Tenth) -> u32 {
     let last = last.as_secs_f64();
-    let mut reached = first.as_secs_f64() * HALF_TENTH;
+    let mut reached = first.as_secs_f64() * tenth.half;
     for tenths in 0..100 {
         if reached > last {
             return tenths;
         }
-        reached *= TENTH;
+        reached *= tenth.whole;
     }
     100
 }

@@ -1,0 +1,352 @@
+//! How long graphs take to make and to encode: a chain of packages, each given what the one before exports; an instance of
+//! which each of many instances is given eight exports; the aliases of one instance; and a plug with its socket.
+
+ghost use Rattle.std.specs.Prelude.{◌≡◌, IfOk, IsSome};
+ghost use Rattle.wac_nodes.specs.Graph.{package_at};
+
+use crate::times::{ROUNDS, Times, print_power_of_ten, print_times};
+use anyhow::{Result, bail};
+use std::alloc::Global;
+use std::time::{Duration, Instant};
+use wac_graph::types::{FuncType, ItemKind, Named, PrimitiveType, ValueType, World};
+use wac_graph::{CompositionGraph, EncodeOptions, NodeId, PackageId, plug};
+
+/// A component with nothing in it.
+const EMPTY_COMPONENT: [u8; 8] = [0x00, 0x61, 0x73, 0x6d, 0x0d, 0x00, 0x01, 0x00];
+
+/// How many arguments each instance of a fan is given.
+const ARGUMENTS: u64 = 8;
+
+/// What a graph is made of.
+#[derive(Clone, Copy)]
+pub enum Sort {
+    Chain,
+    Fan,
+    Aliases,
+    Plug,
+}
+
+/// How long a graph took to make and to encode.
+#[derive(Clone, Copy)]
+struct Costs {
+    made: Times,
+    encoded: Times,
+}
+
+/// One graph: how long it took to make and to encode, and how many bytes that gave.
+#[derive(Clone, Copy)]
+struct Round {
+    made: Duration,
+    encoded: Duration,
+    length: usize,
+}
+
+/// Adds a function type without parameters and result.
+fn plain(alloc: Global, graph: &mut CompositionGraph) -> Result<ItemKind> {
+    let function = FuncType::new(alloc, &[], None, false)?;
+    Ok(ItemKind::Func(graph.add_func_type(function)?))
+}
+
+/// One item under a name.
+fn one(alloc: Global, name: &str, kind: ItemKind) -> Result<Named<ItemKind>> {
+    let mut items = Named::new(alloc);
+    items.insert(alloc, name, kind)?;
+    Ok(items)
+}
+
+/// Adds a function type for each name.
+fn functions(
+    alloc: Global,
+    graph: &mut CompositionGraph,
+    names: &[String],
+) -> Result<Named<ItemKind>> {
+    let params = [
+        ("x", ValueType::Primitive(PrimitiveType::U32)),
+        ("y", ValueType::Primitive(PrimitiveType::String)),
+    ];
+    let returned = Some(ValueType::Primitive(PrimitiveType::Bool));
+    let mut items = Named::new(alloc);
+    for name in names {
+        let function = FuncType::new(alloc, &params, returned, false)?;
+        let kind = ItemKind::Func(graph.add_func_type(function)?);
+        items.insert(alloc, name.as_str(), kind)?;
+    }
+    Ok(items)
+}
+
+/// The names `f0`, `f1` and so on.
+fn function_names(alloc: Global, count: u64) -> Result<Vec<String>> {
+    let mut names = Vec::new(alloc);
+    for number in 0..count {
+        names.push(format!(in alloc; "f{number}")?)?;
+    }
+    Ok(names)
+}
+
+/// Registers an empty component of a new world.
+fn register(
+    alloc: Global,
+    graph: &mut CompositionGraph,
+    name: &str,
+    imports: Named<ItemKind>,
+    exports: Named<ItemKind>,
+) -> Result<PackageId> {
+    let world = World {
+        id: None,
+        uses: Named::new(alloc),
+        imports,
+        exports,
+    };
+    let world = graph.add_world(world)?;
+    let bytes = Vec::from_array(alloc, EMPTY_COMPONENT)?;
+    let package = graph.new_package(name, None, bytes, world)?;
+    Ok(graph.register_package(package)?)
+}
+
+/// Makes an instance of a package.
+fn instantiate(graph: &mut CompositionGraph, package: PackageId) -> Result<NodeId> {
+    if !graph.has_package(package) {
+        bail!("a package is not registered");
+    }
+    Ok(graph.instantiate(package)?)
+}
+
+/// Makes an alias of an export.
+fn alias(graph: &mut CompositionGraph, instance: NodeId, name: &str) -> Result<NodeId> {
+    if !graph.has_node(instance) {
+        bail!("an instance is not there");
+    }
+    Ok(graph.alias_instance_export(instance, name)?)
+}
+
+/// Gives a node to an instance as its argument of this name.
+fn pass(
+    graph: &mut CompositionGraph,
+    instance: NodeId,
+    name: &str,
+    argument: NodeId,
+) -> Result<()> {
+    if !graph.has_node(instance) || !graph.has_node(argument) {
+        bail!("an instance or its argument is not there");
+    }
+    Ok(graph.set_instantiation_argument(instance, name, argument)?)
+}
+
+/// Exports a node.
+fn export(graph: &mut CompositionGraph, node: NodeId, name: &str) -> Result<()> {
+    if !graph.has_node(node) {
+        bail!("what is exported is not there");
+    }
+    Ok(graph.export(node, name)?)
+}
+
+/// Registers so many packages, each with the export `a`, all but the first with the import `b`.
+fn links(alloc: Global, graph: &mut CompositionGraph, count: u64) -> Result<Vec<PackageId>> {
+    let kind = plain(alloc, graph)?;
+    let mut packages = Vec::new(alloc);
+    for number in 0..count {
+        let name = format!(in alloc; "n:p{number}")?;
+        let imports = if number == 0 {
+            Named::new(alloc)
+        } else {
+            one(alloc, "b", kind)?
+        };
+        let exports = one(alloc, "a", kind)?;
+        packages.push(register(alloc, graph, name.as_str(), imports, exports)?)?;
+    }
+    Ok(packages)
+}
+
+/// So many packages, each given `a` of the one before as its `b`; `a` of the last is exported.
+fn chain(alloc: Global, graph: &mut CompositionGraph, count: u64) -> Result<()> {
+    let packages = links(alloc, graph, count)?;
+    let mut last: Option<NodeId> = None;
+    for package in &packages {
+        let instance = instantiate(graph, *package)?;
+        if let Some(a) = last {
+            pass(graph, instance, "b", a)?;
+        }
+        last = Some(alias(graph, instance, "a")?);
+    }
+    match last {
+        Some(a) => export(graph, a, "out"),
+        None => Ok(()),
+    }
+}
+
+/// An instance with eight exports, and so many that are given all of them.
+fn fan(alloc: Global, graph: &mut CompositionGraph, count: u64) -> Result<()> {
+    let names = function_names(alloc, ARGUMENTS)?;
+    let exports = functions(alloc, graph, &names)?;
+    let imports = functions(alloc, graph, &names)?;
+    let provider = register(alloc, graph, "n:provider", Named::new(alloc), exports)?;
+    let consumer = register(alloc, graph, "n:consumer", imports, Named::new(alloc))?;
+    let instance = instantiate(graph, provider)?;
+    let mut arguments = Vec::new(alloc);
+    for name in &names {
+        arguments.push(alias(graph, instance, name.as_str())?)?;
+    }
+    for _ in 0..count {
+        let instance = instantiate(graph, consumer)?;
+        for (name, argument) in names.iter().zip(&arguments) {
+            pass(graph, instance, name.as_str(), *argument)?;
+        }
+    }
+    Ok(())
+}
+
+/// Registers a plug that exports these names, and a socket that imports them and exports `run`.
+fn parts(alloc: Global, graph: &mut CompositionGraph, names: &[String]) -> Result<()> {
+    let exports = functions(alloc, graph, names)?;
+    let imports = functions(alloc, graph, names)?;
+    let run = plain(alloc, graph)?;
+    let _plug = register(alloc, graph, "n:plug", Named::new(alloc), exports)?;
+    let run = one(alloc, "run", run)?;
+    let _socket = register(alloc, graph, "n:socket", imports, run)?;
+    Ok(())
+}
+
+/// The package of this name.
+fn package(graph: &CompositionGraph, name: &str) -> Result<PackageId>
+    ensures { IfOk result (λ id. IsSome (package_at graph.now id)) }
+{
+    let Some((id, _)) = graph.get_package_by_name(name, None) else {
+        bail!("a package is not registered");
+    };
+    if !graph.has_package(id) {
+        bail!("a package is not registered");
+    }
+    Ok(id)
+}
+
+/// Aliases each of these exports of an instance of the plug.
+fn aliases(graph: &mut CompositionGraph, names: &[String]) -> Result<()> {
+    let id = package(graph, "n:plug")?;
+    let instance = instantiate(graph, id)?;
+    for name in names {
+        let _alias = alias(graph, instance, name.as_str())?;
+    }
+    Ok(())
+}
+
+/// Plugs the plug into the socket.
+fn plugged(alloc: Global, graph: &mut CompositionGraph) -> Result<()> {
+    let socket = package(graph, "n:socket")?;
+    let id = package(graph, "n:plug")?;
+    let plugs = vec![in alloc; id]?;
+    Ok(plug(graph, plugs, socket)?)
+}
+
+/// Makes what is not timed: the packages of aliases and plugs.
+fn prepare(
+    alloc: Global,
+    graph: &mut CompositionGraph,
+    sort: Sort,
+    names: &[String],
+) -> Result<()> {
+    match sort {
+        Sort::Chain | Sort::Fan => Ok(()),
+        Sort::Aliases | Sort::Plug => parts(alloc, graph, names),
+    }
+}
+
+/// Makes what is timed.
+fn make(
+    alloc: Global,
+    graph: &mut CompositionGraph,
+    sort: Sort,
+    count: u64,
+    names: &[String],
+) -> Result<()> {
+    match sort {
+        Sort::Chain => chain(alloc, graph, count),
+        Sort::Fan => fan(alloc, graph, count),
+        Sort::Aliases => aliases(graph, names),
+        Sort::Plug => plugged(alloc, graph),
+    }
+}
+
+/// Makes a graph and encodes it.
+fn timed(rt: &HostRuntime, graph: &mut CompositionGraph, sort: Sort, count: u64) -> Result<Round> {
+    let names = match sort {
+        Sort::Chain | Sort::Fan => Vec::new(rt.alloc()),
+        Sort::Aliases | Sort::Plug => function_names(rt.alloc(), count)?,
+    };
+    prepare(rt.alloc(), graph, sort, &names)?;
+    let start = Instant::now(rt)?;
+    make(rt.alloc(), graph, sort, count, &names)?;
+    let made = start.elapsed(rt)?;
+    let start = Instant::now(rt)?;
+    let length = graph.encode(EncodeOptions::default())?.len();
+    let encoded = start.elapsed(rt)?;
+    Ok(Round {
+        made,
+        encoded,
+        length,
+    })
+}
+
+/// Makes a new graph and encodes it.
+fn measured_once(rt: &HostRuntime, sort: Sort, count: u64) -> Result<Round> {
+    let mut graph = CompositionGraph::new(rt.alloc());
+    timed(rt, &mut graph, sort, count)
+}
+
+/// Makes a graph of so many parts and encodes it, and prints how long each takes.
+fn measured(rt: &HostRuntime, what: &str, sort: Sort, count: u64) -> Result<Costs> {
+    let mut making = Vec::new(rt.alloc());
+    let mut encoding = Vec::new(rt.alloc());
+    for _ in 0..ROUNDS {
+        let round = measured_once(rt, sort, count)?;
+        making.push(round.made)?;
+        encoding.push(round.encoded)?;
+    }
+    let made = Times::of(making)?;
+    let encoded = Times::of(encoding)?;
+    println!(rt; "{what} {count}:")?;
+    print_times(rt, "  made", count, made)?;
+    print_times(rt, "  encoded", count, encoded)?;
+    Ok(Costs { made, encoded })
+}
+
+/// Prints by which powers of the count the times grow to ten times it.
+fn print_growth(rt: &HostRuntime, first: Costs, last: Costs) -> Result<()> {
+    print_power_of_ten(rt, "  making", first.made, last.made)?;
+    print_power_of_ten(rt, "  encoding", first.encoded, last.encoded)
+}
+
+/// The word of a sort.
+fn word(sort: Sort) -> &'static str {
+    match sort {
+        Sort::Chain => "chain",
+        Sort::Fan => "fan",
+        Sort::Aliases => "aliases",
+        Sort::Plug => "plug",
+    }
+}
+
+/// Makes a few of each and prints how many bytes they have.
+pub fn show(rt: &HostRuntime) -> Result<()> {
+    let chain = measured_once(rt, Sort::Chain, 10)?.length;
+    let fan = measured_once(rt, Sort::Fan, 10)?.length;
+    let plug = measured_once(rt, Sort::Plug, 10)?.length;
+    println!(rt;
+        "a chain of 10: {chain} bytes, a fan of 10: {fan} bytes, a plug with 10 functions: {plug} bytes"
+    )?;
+    Ok(())
+}
+
+/// Measures graphs of a sort, and prints how the times grow.
+pub fn measure(rt: &HostRuntime, sort: Sort) -> Result<()> {
+    let what = word(sort);
+    let few = measured(rt, what, sort, 1_000)?;
+    let more = measured(rt, what, sort, 10_000)?;
+    print_growth(rt, few, more)?;
+    match sort {
+        Sort::Chain | Sort::Fan => {
+            let many = measured(rt, what, sort, 100_000)?;
+            print_growth(rt, more, many)
+        }
+        Sort::Aliases | Sort::Plug => Ok(()),
+    }
+}
