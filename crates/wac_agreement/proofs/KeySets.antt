@@ -5,8 +5,8 @@ use Rattle.std.specs.Ordering.{nat_cmp}
 use Rattle.std.specs.declared.cmp.Ordering.TheVariants.{Less}
 use Rattle.std.specs.BTreeSet.{insert_key}
 use Rattle.std.proofs.lemmas.Cmp.{ranked}
-use Rattle.wac_edges.specs.Numbers.{Has}
-use Rattle.wac_edges.proofs.Numbers.{has_head, has_tail, has_split, has_insert, has_old, has_new}
+use Rattle.wac_cycles.specs.Numbers.{Has}
+use Rattle.wac_cycles.proofs.Numbers.{has_head, has_tail, has_split, has_insert, has_old, has_new}
 use Rattle.wac_agreement.specs.ReachSteps.{with_all}
 
 -- a number of a list

@@ -11,7 +11,7 @@ use Rattle.std.proofs.lemmas.Cmp.{ranked}
 use Rattle.std.proofs.lemmas.Map.Keys.{sorted_head, sorted_tail}
 use Rattle.std.proofs.lemmas.Option.{get_or_from_slice_get, slice_get-get_or, slice_get_within}
 use Rattle.wac_terms.specs.ClassOrder.{Selects, none, takes, leaves}
-use Rattle.wac_edges.specs.Numbers.{AreBelow, Has}
+use Rattle.wac_cycles.specs.Numbers.{AreBelow, Has}
 use Rattle.wac_agreement.specs.Order.{IsOnce, AreAll, AreRanks}
 use Rattle.wac_agreement.specs.ReachSteps.{with_all}
 use Rattle.wac_agreement.proofs.KeySets.{In, has_all, all_new}

@@ -8,11 +8,11 @@ use Rattle.wac_shapes.proofs.Names.{take_at}
 use Rattle.wac_agreement.specs.declared.order.Step.{Step}
 use Rattle.wac_agreement.specs.declared.order.Step.TheVariants.{Open, Place}
 use Rattle.wac_terms.specs.ClassOrder.{Arranges, done, there, new, Selects}
-use Rattle.wac_edges.specs.Cycles.{Path, step, further, IsStep, AreWithin, HasNoCycle}
-use Rattle.wac_edges.specs.Numbers.{AreBelow, Has}
-use Rattle.wac_edges.specs.CycleSearch.{is_reached}
+use Rattle.wac_cycles.specs.Cycles.{Path, step, further, IsStep, AreWithin, HasNoCycle}
+use Rattle.wac_cycles.specs.Numbers.{AreBelow, Has}
+use Rattle.wac_cycles.specs.CycleSearch.{is_reached}
 use Rattle.wac_agreement.specs.Order.{AreAll, openings}
-use Rattle.wac_edges.proofs.CycleSearch.{unreached}
+use Rattle.wac_cycles.proofs.CycleSearch.{unreached}
 use Rattle.wac_agreement.proofs.KeySets.{In}
 use Rattle.wac_agreement.proofs.RestSets.{has_in}
 use Rattle.wac_agreement.proofs.OrderLaws.{in_front, in_behind, in_either, contains_in, in_contains, selects_alike, selects_in, selects_long}

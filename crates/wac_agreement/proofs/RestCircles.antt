@@ -18,13 +18,13 @@ use Rattle.wac_shapes.specs.declared.component.ResourceId.{ResourceId}
 use Rattle.wac_shapes.specs.declared.component.ItemKind.{ItemKind}
 use Rattle.wac_shapes.specs.declared.component.ItemKind.TheVariants as kind
 use Rattle.wac_entries.specs.Binding.{binding_class, binding_from, class_binds, root_bindings}
-use Rattle.wac_edges.specs.Cycles.{AreWithin, HasLowestOnCycle, IsStep}
-use Rattle.wac_edges.specs.Cycles as cycles
+use Rattle.wac_cycles.specs.Cycles.{AreWithin, HasLowestOnCycle, IsStep}
+use Rattle.wac_cycles.specs.Cycles as cycles
 use Rattle.wac_entries.specs.Classes.{Entry, by_names, class_names}
 use Rattle.wac_terms.specs.ClassOrder.{IsFirstOnCircle, RestsOn, by_resource, by_use}
 use Rattle.wac_agreement.specs.Faults.{HasNoCircle}
 use Rattle.wac_terms.specs.Union.{inside_member, member_tree}
-use Rattle.wac_edges.proofs.CycleSearch.{along}
+use Rattle.wac_cycles.proofs.CycleSearch.{along}
 use Rattle.wac_agreement.proofs.Resting.{No, Nothing, Quiet, free_class, held, no_first, no_none, no_outer, no_some, quiet_item, quiet_items, quiet_to, Free}
 
 module _ (c : Collection) (es : List Entry) where

@@ -14,14 +14,14 @@ use Rattle.wac_shapes.specs.declared.component.InterfaceId.{InterfaceId}
 use Rattle.wac_shapes.specs.declared.component.UsedType.{UsedType}
 use Rattle.wac_shapes.specs.declared.component.«Type».TheVariants as ty
 use Rattle.wac_entries.specs.Bindings.{ClassBindings}
-use Rattle.wac_edges.specs.Cycles.{IsStep}
+use Rattle.wac_cycles.specs.Cycles.{IsStep}
 use Rattle.wac_entries.specs.Classes.{Entry}
 use Rattle.wac_entries.specs.Nodes.{Node, Item, and_optional}
-use Rattle.wac_edges.specs.Numbers.{Has}
+use Rattle.wac_cycles.specs.Numbers.{Has}
 use Rattle.wac_agreement.specs.ReachSteps.{with_all}
 use Rattle.wac_agreement.specs.Resting.{EntryLeads, Gains, ItemLeads, classes_used, interface_class, used_classes}
 use Rattle.wac_agreement.proofs.KeySets.{In, has_all, all_old, all_new}
-use Rattle.wac_edges.proofs.Numbers.{has_head, has_tail, has_split, has_insert, has_old, has_new}
+use Rattle.wac_cycles.proofs.Numbers.{has_head, has_tail, has_split, has_insert, has_old, has_new}
 use Rattle.wac_entries.proofs.Lists.{set-cases}
 
 -- ---- numbers of lists

@@ -2,7 +2,7 @@
 use Rattle.std.specs.Prelude.{ℕ, ◌<◌, ◌⊎◌, List, [], Option, Some, None, length, fold}
 use Rattle.std.specs.Ordering.{nat_cmp}
 use Rattle.std.specs.BTreeSet.{insert_key}
-use Rattle.wac_edges.specs.Numbers.{Has}
+use Rattle.wac_cycles.specs.Numbers.{Has}
 use Rattle.wac_subtyping.specs.Called.{Called, of_class}
 use Rattle.wac_entries.specs.Nodes.{Node, of_resource, of_own, of_borrow, of_component, mentions, tree_at}
 use Rattle.wac_agreement.specs.Reach.{Reaches, IsOfClass}

@@ -14,7 +14,7 @@ use Rattle.wac_entries.specs.Bindings.{ClassBindings, first_in}
 use Rattle.wac_entries.specs.Classes.{Entry}
 use Rattle.wac_entries.specs.Nodes.{Node, Item, and_optional, tree_at, type_of}
 use Rattle.wac_agreement.specs.Reach.{Reaches, IsOfClass}
-use Rattle.wac_edges.specs.Numbers.{Has}
+use Rattle.wac_cycles.specs.Numbers.{Has}
 
 -- the class under the id of an interface
 abbrev pub interface_class : Collection → List (Name × ℕ) → InterfaceId → Option ℕ

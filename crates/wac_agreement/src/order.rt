@@ -3,8 +3,8 @@
 //! A class whose turn has come waits in a list of steps, below those that it rests on, so that no chain of classes is too
 //! long. Each is opened once and placed once.
 ghost use Rattle.std.specs.Prelude.{◌≡◌, ◌<◌, ◌↔◌, ◌++◌, ℕ, [], length, map, slice_get, slice_index, Contains, IfOk, OnOk, Some};
-ghost use Rattle.wac_edges.specs.Numbers.{AreBelow, Has};
-ghost use Rattle.wac_edges.specs.Cycles.{AreWithin, HasNoCycle, IsStep};
+ghost use Rattle.wac_cycles.specs.Numbers.{AreBelow, Has};
+ghost use Rattle.wac_cycles.specs.Cycles.{AreWithin, HasNoCycle, IsStep};
 ghost use Rattle.wac_entries.specs.Classes.{AreClasses, by_names, class_names};
 ghost use Rattle.wac_terms.specs.ClassOrder.{Arranges, IsWrittenOrder, RestsOn, Selects, grouped};
 ghost use Rattle.wac_agreement.specs.Faults as faults;

@@ -4,7 +4,7 @@ ghost use Rattle.wac_collection.specs.Collection.{holds_type, holds_all, used_ty
 ghost use Rattle.wac_shapes.specs.Kinds.{kind_type};
 ghost use Rattle.wac_shapes.specs.declared.component.ItemKind.TheVariants as kind_of;
 ghost use Rattle.wac_entries.specs.Bindings.{AreBindings, AreHeld};
-ghost use Rattle.wac_edges.specs.Cycles.{IsStep};
+ghost use Rattle.wac_cycles.specs.Cycles.{IsStep};
 ghost use Rattle.wac_entries.specs.Classes.{AreClasses, by_names, class_names};
 ghost use Rattle.wac_terms.specs.ClassOrder.{RestsOn};
 ghost use Rattle.wac_agreement.specs.Compared.{AreCompared};
@@ -12,7 +12,7 @@ ghost use Rattle.wac_terms.specs.NoDisagreement.{HasNoDisagreement};
 ghost use Rattle.wac_entries.specs.Nodes.{tree_at, type_of as type_in};
 ghost use Rattle.wac_entries.specs.NodeViews.{item_view};
 ghost use Rattle.wac_agreement.specs.Reach.{IsOfClass, Reaches};
-ghost use Rattle.wac_edges.specs.Numbers.{Has};
+ghost use Rattle.wac_cycles.specs.Numbers.{Has};
 ghost use Rattle.wac_agreement.specs.ReachSteps.{with_all};
 ghost use Rattle.wac_agreement.specs.Resting.{Gains, ItemLeads, classes_used, first_class, interface_class, used_classes};
 
@@ -20,7 +20,7 @@ use crate::reach::{classes_reached, put, put_optional, type_of};
 use std::alloc::{AllocError, Global};
 use std::collections::BTreeSet;
 use wac_collection::{InterfaceId, ItemKind, Named, ResourceId, Type, Types, UsedType};
-use wac_edges::cycles::empty_sets;
+use wac_cycles::cycles::empty_sets;
 use wac_entries::bindings::Bindings;
 use wac_entries::classes::Classes;
 use wac_entries::entry::Entry;

@@ -14,7 +14,7 @@ use Rattle.wac_merge.specs.Aggregate.{IsFault}
 use Rattle.wac_entries.specs.Bindings.{AreHeld}
 use Rattle.wac_entries.specs.Classes as merge
 use Rattle.wac_entries.specs.Classes.{by_names}
-use Rattle.wac_edges.specs.Cycles.{Path, step, further}
+use Rattle.wac_cycles.specs.Cycles.{Path, step, further}
 use Rattle.wac_terms.specs.NoDisagreement.{HasNoDisagreement}
 use Rattle.wac_terms.specs.ClassOrder.{RestsOn, by_use, by_resource}
 use Rattle.wac_agreement.specs.Faults.{Disagrees, HasFault, HasNoCircle, UseEachOther, disagree, fault_of, use_each_other}

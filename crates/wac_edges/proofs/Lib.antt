@@ -3,9 +3,6 @@ pub mod OrderLemmas
 pub mod CycleLemmas
 pub mod WrittenOrder
 pub mod ReachLemmas
-pub mod Numbers
-pub mod StepLemmas
-pub mod CycleSearch
 pub mod TargetLemmas
 pub mod ReadyLemmas
 pub mod LinkLemmas

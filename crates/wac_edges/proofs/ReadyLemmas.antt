@@ -13,15 +13,15 @@ use Rattle.std.proofs.lemmas.Cmp.{ranked}
 use Rattle.std.proofs.lemmas.List.{get_or_past}
 use Rattle.std.proofs.lemmas.Map.Keys.{sorted_head, sorted_tail}
 use Rattle.wac_edges.specs.declared.node.NodeId.{NodeId}
-use Rattle.wac_edges.specs.Cycles.{IsStep}
+use Rattle.wac_cycles.specs.Cycles.{IsStep}
 use Rattle.wac_edges.specs.Edge.{is_left, node_number, IsBlocked, IsFree}
-use Rattle.wac_edges.specs.Numbers.{Has}
+use Rattle.wac_cycles.specs.Numbers.{Has}
 use Rattle.wac_edges.specs.Order.{Edges, IsEdge, IsLowestReady, IsStuck, without}
 use Rattle.wac_edges.specs.Ready.{occurs, incoming, AreCounted, AreReady}
-use Rattle.wac_edges.proofs.Numbers.{has_head, has_tail, has_split, same_key}
+use Rattle.wac_cycles.proofs.Numbers.{has_head, has_tail, has_split, same_key}
 use Rattle.wac_edges.proofs.OrderLemmas.{flags_after}
 use Rattle.wac_edges.proofs.CycleLemmas.{within}
-use Rattle.wac_edges.proofs.StepLemmas.{has_none}
+use Rattle.wac_cycles.proofs.StepLemmas.{has_none}
 
 -- ---- how often a number stands in a list
 occurs_same : (q k : ℕ) (ks : List ℕ) → q ≡ k → occurs (k ∷ ks) q ≡ 1 + occurs ks q

@@ -10,7 +10,7 @@ use Rattle.wac_edges.specs.declared.edges.Edge.{Edge}
 use Rattle.wac_edges.specs.declared.node.NodeId.{NodeId}
 use Rattle.wac_edges.specs.declared.edges.End.TheVariants.{Outgoing}
 use Rattle.wac_edges.specs.Edge.{node_number}
-use Rattle.wac_edges.specs.Cycles.{IsStep, AreWithin, LeadsBack, HasNoCycle, HasLowestOnCycle, Path, step, further}
+use Rattle.wac_cycles.specs.Cycles.{IsStep, AreWithin, LeadsBack, HasNoCycle, HasLowestOnCycle, Path, step, further}
 use Rattle.wac_edges.specs.Order.{Edges, IsEdge, Leads, IsOnCycle, IsAcyclic, IsLowestOnCycle}
 use Rattle.wac_edges.specs.Ends.{AreAt, LeadsTo}
 use Rattle.wac_edges.proofs.ReachLemmas.{cycle_target}

@@ -2,7 +2,7 @@
 use Rattle.std.specs.Prelude.{ℕ, ◌≡◌, ◌<◌, ◌+◌, ◌==◌, ◌↔◌, Bool, true, false, if◌then◌else◌, List, [], ◌∷◌, length, slice_index}
 use Rattle.std.specs.BTreeSet.{BTreeSet}
 use Rattle.wac_edges.specs.Edge.{is_left}
-use Rattle.wac_edges.specs.Numbers.{Has}
+use Rattle.wac_cycles.specs.Numbers.{Has}
 
 -- how often a number stands among these
 abbrev pub occurs : List ℕ → ℕ → ℕ

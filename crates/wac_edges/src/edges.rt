@@ -7,9 +7,8 @@ ghost use Rattle.wac_edges.specs.declared.node.NodeId.{NodeId as AnId};
 ghost use Rattle.wac_edges.specs.Edge.{node_number, edge_cmp, alias_edge, argument_edge};
 ghost use Rattle.wac_edges.specs.Ends.{at_end, AreAt, HasLabel, LeadsTo};
 ghost use Rattle.wac_edges.specs.Order.{IsAcyclic, IsEdge, IsLowestOnCycle};
-ghost use Rattle.wac_edges.specs.Cycles.{IsStep};
+ghost use Rattle.wac_cycles.specs.Cycles.{IsStep};
 
-use crate::cycles::{add_step, empty_sets, lowest_on_cycle};
 use crate::node::NodeId;
 use crate::records::{Firsts, Record, find, make_firsts, put, take};
 use crate::walk::{Walk, records_at};
@@ -17,6 +16,7 @@ use slab::Slab;
 use std::alloc::{AllocError, Global};
 use std::collections::BTreeSet;
 use std::marker::Model;
+use wac_cycles::cycles::{add_step, empty_sets, lowest_on_cycle};
 
 /// What an edge says.
 #[derive(Clone, Copy, Debug, PartialEq, Eq)]

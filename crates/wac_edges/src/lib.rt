@@ -1,10 +1,8 @@
 //! Labelled edges between numbered nodes: which form a cycle, and an order in which each node comes after those that lead to it.
 #![tactic(auto)]
 
-pub mod cycles;
 pub mod edges;
 pub mod node;
 pub mod order;
-mod ranks;
 mod records;
 pub mod walk;

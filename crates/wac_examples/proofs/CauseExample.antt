@@ -33,7 +33,7 @@ use Rattle.wac_entries.specs.Agreement.{Agree, compared, here, below}
 use Rattle.wac_entries.specs.Classes.{by_names, same_class}
 use Rattle.wac_entries.specs.Classes as merge
 use Rattle.wac_terms.specs.ClassOrder.{RestsOn, by_use}
-use Rattle.wac_edges.specs.Cycles.{step, further}
+use Rattle.wac_cycles.specs.Cycles.{step, further}
 use Rattle.wac_terms.specs.NoDisagreement.{HasNoDisagreement}
 use Rattle.wac_agreement.specs.Faults.{Disagrees, UseEachOther}
 use Rattle.wac_edges.specs.declared.edges.Edge.{Edge}

@@ -16,7 +16,7 @@ use Rattle.wac_agreement.specs.declared.fault.MergeFault.TheVariants as merge
 use Rattle.wac_entries.specs.Classes.{Entry, by_names, class_names, canonical}
 use Rattle.wac_entries.specs.Agreement.{compared, AreInstances, AgreesAt, IsDisagreement, LeadsApart, here, below, joined}
 use Rattle.wac_terms.specs.ClassOrder.{IsOnCircle, RestsOn, by_use, by_resource}
-use Rattle.wac_edges.specs.Cycles.{Path, step, further}
+use Rattle.wac_cycles.specs.Cycles.{Path, step, further}
 use Rattle.wac_terms.specs.NoDisagreement.{HasNoDisagreement}
 use Rattle.wac_agreement.specs.Faults.{HasNoCircle, Disagrees, UseEachOther, Fault, disagree, use_each_other, HasFault, fault_of}
 use Rattle.wac_merge.specs.Aggregate.{IsFault}

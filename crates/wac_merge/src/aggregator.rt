@@ -22,12 +22,12 @@ use wac_agreement::compared::{entry_items, first_pair};
 use wac_agreement::fault::MergeFault;
 use wac_agreement::order::written_order;
 use wac_agreement::rests::rests;
-use wac_edges::cycles::lowest_on_cycle;
+use wac_collection::{ItemKind, Named, ResourceId, Type, Types};
+use wac_cycles::cycles::lowest_on_cycle;
 use wac_entries::bindings::Bindings;
 use wac_entries::classes::Classes;
 use wac_entries::entry::Entry;
 use wac_entries::nodes::Nodes;
-use wac_collection::{ItemKind, Named, ResourceId, Type, Types};
 use wac_unions::bound::class_binds;
 use wac_unions::merged::Merged;
 

@@ -1,12 +1,12 @@
 //! The set of edges beside a plain list, and the lowest number on a cycle of steps.
 ghost use Rattle.std.specs.Prelude.{OnOk};
-ghost use Rattle.wac_edges.specs.Cycles.{AreWithin};
+ghost use Rattle.wac_cycles.specs.Cycles.{AreWithin};
 
 use std::alloc::{AllocError, Global};
 use std::collections::BTreeSet;
 use std::process::Abort;
 use std::test::Fail;
-use wac_edges::cycles::{add_step, empty_sets, lowest_on_cycle};
+use wac_cycles::cycles::{add_step, empty_sets, lowest_on_cycle};
 use wac_edges::edges::{Edge, Edges, End, Label};
 use wac_edges::node::NodeId;
 

@@ -3,7 +3,7 @@ use Rattle.std.proofs.lemmas.Option.{slice_get_read}
 use Rattle.wac_agreement.specs.declared.order.Step.{Step}
 use Rattle.wac_agreement.specs.declared.order.Step.TheVariants.{Place}
 use Rattle.wac_agreement.specs.Order.{AreAll, openings}
-use Rattle.wac_edges.proofs.CycleSearch.{below_kept, within_set}
+use Rattle.wac_cycles.proofs.CycleSearch.{below_kept, within_set}
 use Rattle.wac_agreement.proofs.OrderSteps.{IsArranging, all_below, first_step, flag_read, low_taken, open_arranges, open_less, placed_next, there_next}
 use Rattle.wac_agreement.proofs.order.arranged.Goals as goal
 

@@ -1,7 +1,7 @@
 use Rattle.std.proofs.Common.{◌<◌, List, ℕ, map, length, rules, sym, ap, ◌∙◌}
 use Rattle.std.specs.Prelude.{slice_index}
 use Rattle.wac_agreement.specs.ReachSteps.{with_all}
-use Rattle.wac_edges.proofs.CycleSearch.{below_first, below_rest}
+use Rattle.wac_cycles.proofs.CycleSearch.{below_first, below_rest}
 use Rattle.wac_agreement.proofs.order.positions.Goals as goal
 
 pub offset_bounds-ranks-number : goal.offset_bounds-ranks-number

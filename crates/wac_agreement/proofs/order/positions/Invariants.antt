@@ -1,6 +1,6 @@
 use Rattle.std.proofs.Common.{◌≡◌, [], length, map}
 use Rattle.std.specs.Prelude.{slice_index}
-use Rattle.wac_edges.specs.Numbers.{AreBelow}
+use Rattle.wac_cycles.specs.Numbers.{AreBelow}
 use Rattle.wac_agreement.specs.ReachSteps.{with_all}
 use Rattle.wac_agreement.proofs.order.positions.Given as goal
 

@@ -2,9 +2,9 @@ use Rattle.std.proofs.Common.{◌≡◌, ◌<◌, ◌++◌, List, [], ◌∷◌,
 use Rattle.std.specs.List.Sorted.{IsStrictlySortedBy}
 use Rattle.std.specs.Ordering.{nat_cmp}
 use Rattle.std.specs.Prelude.{slice_index}
-use Rattle.wac_edges.specs.Numbers.{AreBelow, Has}
+use Rattle.wac_cycles.specs.Numbers.{AreBelow, Has}
 use Rattle.wac_terms.specs.ClassOrder.{Selects}
-use Rattle.wac_edges.proofs.CycleSearch.{below_first, below_rest}
+use Rattle.wac_cycles.proofs.CycleSearch.{below_first, below_rest}
 use Rattle.wac_agreement.proofs.OrderPlaces.{positions, positions_below, positions_select}
 use Rattle.wac_agreement.proofs.order.selected.Goals as goal
 

@@ -1,10 +1,10 @@
 use Rattle.std.proofs.Common.{List, ℕ, sym, ◌∙◌, subst, length}
 use Rattle.std.proofs.lemmas.Result.{IfOk-weaker}
-use Rattle.wac_edges.specs.Cycles.{IsStep}
+use Rattle.wac_cycles.specs.Cycles.{IsStep}
 use Rattle.wac_entries.specs.Classes.{by_names}
 use Rattle.wac_terms.specs.ClassOrder.{RestsOn, grouped}
 use Rattle.wac_agreement.specs.Order.{AreAll, IsOnce}
-use Rattle.wac_edges.proofs.CycleSearch.{along}
+use Rattle.wac_cycles.proofs.CycleSearch.{along}
 use Rattle.wac_agreement.proofs.OrderLaws.{grouped_all, grouped_once, once_at, order_each, order_once, written_from}
 use Rattle.wac_agreement.proofs.RestCircles.{are_within}
 use Rattle.wac_agreement.proofs.order.written_order.Goals as goal

@@ -1,6 +1,6 @@
 use Rattle.std.proofs.Common.{◌≡◌, ℕ, length, map}
 use Rattle.std.specs.Prelude.{◌↔◌}
-use Rattle.wac_edges.specs.Cycles.{IsStep}
+use Rattle.wac_cycles.specs.Cycles.{IsStep}
 use Rattle.wac_entries.specs.Classes.{by_names, class_names}
 use Rattle.wac_entries.specs.NodeViews.{item_view}
 use Rattle.wac_agreement.specs.Resting.{EntryLeads}

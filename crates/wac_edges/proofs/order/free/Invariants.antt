@@ -1,7 +1,7 @@
 use Rattle.std.proofs.Common.{◌≡◌, ℕ, ◌<◌, true}
 use Rattle.std.specs.Prelude.{slice_index, ◌↔◌}
 use Rattle.wac_edges.specs.Edge.{is_left}
-use Rattle.wac_edges.specs.Numbers.{Has}
+use Rattle.wac_cycles.specs.Numbers.{Has}
 use Rattle.wac_edges.proofs.order.free.Given as goal
 
 abbrev pub invariant-loop-b : goal.invariant-loop-b

@@ -2,8 +2,8 @@ use Rattle.std.proofs.Common.{ℕ, List, map, refl, sym, subst, string_bytes, in
 use Rattle.std.specs.BTreeSet.{BTreeSet}
 use Rattle.std.specs.Option.{MatchOption}
 use Rattle.std.proofs.lemmas.Option.{slice_get_within}
-use Rattle.wac_edges.specs.Cycles.{AreWithin, HasLowestOnCycle}
-use Rattle.wac_edges.specs.Cycles as cycles
+use Rattle.wac_cycles.specs.Cycles.{AreWithin, HasLowestOnCycle}
+use Rattle.wac_cycles.specs.Cycles as cycles
 use Rattle.wac_entries.specs.Classes.{by_names, class_names, canonical}
 use Rattle.wac_terms.specs.ClassOrder.{IsFirstOnCircle}
 use Rattle.wac_agreement.specs.Compared.{AreCompared}

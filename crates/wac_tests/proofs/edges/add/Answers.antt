@@ -2,7 +2,7 @@ use Rattle.std.proofs.Common.{◌≡◌, ◌<◌, ◌⊎◌, inl, inr, ℕ, List
 use Rattle.std.specs.Prelude.{◌↔◌}
 use Rattle.std.specs.BTreeSet.{BTreeSet}
 use Rattle.std.proofs.lemmas.Result.{on_ok_weaker}
-use Rattle.wac_edges.specs.Cycles.{AreWithin, IsStep}
+use Rattle.wac_cycles.specs.Cycles.{AreWithin, IsStep}
 use Rattle.wac_tests.proofs.edges.add.Goals as goal
 
 within_more : (old new : List (BTreeSet ℕ)) (from to : ℕ) → length new ≡ length old → to < length old → AreWithin old

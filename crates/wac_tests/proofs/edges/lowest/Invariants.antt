@@ -1,4 +1,4 @@
-use Rattle.wac_edges.specs.Cycles.{AreWithin}
+use Rattle.wac_cycles.specs.Cycles.{AreWithin}
 use Rattle.wac_tests.proofs.edges.lowest.Given as goal
 
 abbrev pub invariant-loop-step : goal.invariant-loop-step

@@ -2,7 +2,7 @@ use Rattle.std.proofs.Common.{◌≡◌, ◌<◌, ℕ, length, ap, ◌∙◌, su
 use Rattle.std.specs.Prelude.{◌↔◌}
 use Rattle.std.proofs.lemmas.List.{with_items_is}
 use Rattle.wac_edges.specs.Edge.{node_number}
-use Rattle.wac_edges.specs.Cycles.{IsStep}
+use Rattle.wac_cycles.specs.Cycles.{IsStep}
 use Rattle.wac_edges.specs.Order.{IsEdge}
 use Rattle.wac_edges.specs.Ends.{LeadsTo}
 use Rattle.wac_edges.proofs.TargetLemmas.{next_row, step_as, leads_at}

@@ -1,0 +1,4 @@
+pub mod Numbers
+pub mod Cycles
+pub mod CycleSearch
+pub mod RankSearch

@@ -1,0 +1,11 @@
+-- The search that gives numbers their ranks. Private functions alone cite this.
+use Rattle.std.specs.Prelude.{ℕ, ◌≡◌, length}
+use Rattle.wac_cycles.specs.declared.ranks.Search.{Search}
+use Rattle.wac_cycles.specs.Numbers.{AreBelow}
+
+-- the search is one among the numbers below this
+pub record IsAmong (count : ℕ) (s : Search) : Type 0 where
+  pub placed : length s.places.items ≡ count
+  pub ranked : length s.ranks.items ≡ count
+  pub members : AreBelow count s.members.items
+  pub pending : AreBelow count s.pending.items
