@@ -1,7 +1,7 @@
 -- Laws of trees and of subtyping, which calls give to their callers.
 use Rattle.std.specs.Prelude.{ℕ, ◌≡◌, ◌<◌, true, Some, slice_get}
 use Rattle.wac_collection.specs.Collection.{Collection, size, holds_type, with_resource, with_func, with_defined, with_interface, with_world, with_module}
-use Rattle.wac_collection.specs.Held.{Naming, Names, unfolded, unfolded_to}
+use Rattle.wac_collection.specs.Held.{Naming, Names, step, unfolded, unfolded_to}
 use Rattle.wac_collection.specs.Bound.{Bindings, held_tree}
 use Rattle.wac_subtyping.specs.Subtype.{type_tree}
 use Rattle.wac_collection.specs.Aliases.{target_of}
@@ -20,6 +20,10 @@ use Rattle.wac_shapes.specs.declared.component.«Type».TheVariants as ty
 -- an unfolding deeper than there are items is no other one
 abbrev pub IsDeepEnough : {L : Type 0} → Naming L → Collection → Type 0
 IsDeepEnough naming c = (n : ℕ) → size c < n → (m : Names _) (t : AnyType) → holds_type c t ≡ true → unfolded_to naming c n m t ≡ unfolded naming c m t
+
+-- what is held unfolds to its parts unfolded
+abbrev pub UnfoldsByParts : {L : Type 0} → Naming L → Collection → Type 0
+UnfoldsByParts naming c = (m : Names _) (t : AnyType) → holds_type c t ≡ true → unfolded naming c m t ≡ step naming c (unfolded naming c) m t
 
 -- an alias has the trees of what it names
 abbrev pub AliasesAgree : Collection → Type 0

@@ -3,7 +3,7 @@ ghost use Rattle.std.specs.Prelude.{◌≡◌};
 ghost use Rattle.wac_collection.specs.Bound.{by_place};
 ghost use Rattle.wac_subtyping.specs.Called.{by_binding};
 ghost use Rattle.wac_subtyping.specs.Subtype.{IsSubtype, by_name};
-ghost use Rattle.wac_subtyping.specs.TreeLaws.{IsDeepEnough, AliasesAgree, GrowthKeepsTrees, GrowthKeepsCalledTrees};
+ghost use Rattle.wac_subtyping.specs.TreeLaws.{IsDeepEnough, UnfoldsByParts, AliasesAgree, GrowthKeepsTrees, GrowthKeepsCalledTrees};
 
 use wac_collection::{ItemKind, Types};
 
@@ -37,6 +37,15 @@ pub fn trees_are_whole(types: &Types)
     ensures named { IsDeepEnough by_name types.now }
     ensures placed { IsDeepEnough (by_place types.now) types.now }
     ensures bound { IsDeepEnough (by_binding types.now) types.now }
+{
+    types.law();
+}
+
+/// The tree of a held type is made of the trees of its parts.
+pub fn trees_are_made_of_parts(types: &Types)
+    ensures named { UnfoldsByParts by_name types.now }
+    ensures placed { UnfoldsByParts (by_place types.now) types.now }
+    ensures bound { UnfoldsByParts (by_binding types.now) types.now }
 {
     types.law();
 }
