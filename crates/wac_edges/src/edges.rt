@@ -86,6 +86,18 @@ impl Model for Edges {
     ghost invariant = { λ a. AreListed (get a.records) a.firsts.items };
 }
 
+/// The clone is the same set, and both change on their own. This takes as many steps as there are edges, and nodes up to the
+/// greatest of a source or a target that was given. Answers `AllocError` where memory ran out.
+impl Clone for Edges {
+    ghost is_clone = { λ a b. b ≡ a };
+
+    fn clone(&self) -> Result<Edges, AllocError> {
+        let records = self.records.clone()?;
+        let firsts = self.firsts.clone()?;
+        Ok(Edges { records, firsts })
+    }
+}
+
 impl Edges {
     /// The empty set.
     pub fn new(alloc: Global) -> Edges
