@@ -24,7 +24,8 @@ use Rattle.wac_subtyping.proofs.Unfolding.{all_map}
 use Rattle.wac_types.proofs.Lighter.{resource_in}
 use Rattle.wac_types.proofs.Asking.{all_at, ordered, asks_put, linked_more, settles_iff}
 use Rattle.wac_types.proofs.Agreeing.{same_some}
-use Rattle.wac_types.proofs.Values.{plain_sub, plain_same, value_plain}
+use Rattle.wac_subtyping.proofs.Relation.{plain_sub, plain_same}
+use Rattle.wac_types.proofs.Values.{value_plain}
 use Rattle.wac_types.proofs.Subtyping.{func_plain}
 use Rattle.wac_types.proofs.Typing.{sub_to, plain_resource}
 

@@ -24,7 +24,8 @@ use Rattle.wac_types.specs.Settling.{Asks}
 use Rattle.wac_types.proofs.Opens.{Opens, opens_defined}
 use Rattle.wac_types.proofs.Lighter.{Lowers, lowers_defined, lowers_func}
 use Rattle.wac_types.proofs.Asking.{rests_on}
-use Rattle.wac_types.proofs.Values.{plain_sub, plain_same, asks_now}
+use Rattle.wac_subtyping.proofs.Relation.{plain_sub, plain_same}
+use Rattle.wac_types.proofs.Values.{asks_now}
 use Rattle.wac_types.proofs.Definitions.{asks_lists, asks_options, asks_records, list_inj, option_inj}
 use Rattle.wac_types.proofs.Subtyping.{func_plain, function_item_inj}
 use Rattle.wac_types.proofs.Typing.{sub_to, funcs_refuse}

@@ -22,8 +22,7 @@ use Rattle.wac_shapes.specs.declared.core_types.ModuleType.{ModuleType}
 use Rattle.wac_shapes.specs.declared.core_types.CoreExtern.{CoreExtern}
 use Rattle.wac_shapes.specs.declared.core_types.CoreExtern.TheVariants as core
 use Rattle.wac_subtyping.specs.Subtype.{Sub, IsCoreSubtype, type_tree}
-use Rattle.wac_types.proofs.Values.{plain_sub}
-use Rattle.wac_subtyping.proofs.Relation.{sub_refl}
+use Rattle.wac_subtyping.proofs.Relation.{sub_refl, plain_sub}
 use Rattle.wac_types.proofs.Subtyping.{of_instances}
 use Rattle.wac_types.proofs.CoreItems.{modules_from, modules_back}
 

@@ -29,7 +29,8 @@ use Rattle.wac_types.specs.Questions.{AreBelow}
 use Rattle.wac_types.specs.Settling.{Asks}
 use Rattle.wac_shapes.proofs.Names.{find_name-at, find_position}
 use Rattle.wac_subtyping.proofs.Unfolding.{all_left, all_right}
-use Rattle.wac_types.proofs.Values.{plain_sub, plain_same, asks_now, asks_iff, asks_of, asks_then}
+use Rattle.wac_subtyping.proofs.Relation.{plain_sub, plain_same}
+use Rattle.wac_types.proofs.Values.{asks_now, asks_iff, asks_of, asks_then}
 use Rattle.wac_types.proofs.Agreeing.{kind_among, same_some}
 
 module _ {L : Type 0} where

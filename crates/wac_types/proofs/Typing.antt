@@ -25,7 +25,8 @@ use Rattle.wac_types.specs.Settling.{Asks, RestsOn}
 use Rattle.wac_types.proofs.Opens.{Opens, opens_func, opens_interface, opens_world, opens_module}
 use Rattle.wac_types.proofs.Lighter.{Lowers, lowers_func, lowers_interface, lowers_world, resource_in}
 use Rattle.wac_types.proofs.Asking.{rests_now, rests_iff, rests_on, differ}
-use Rattle.wac_types.proofs.Values.{plain_sub, plain_same, value_plain}
+use Rattle.wac_subtyping.proofs.Relation.{plain_sub, plain_same}
+use Rattle.wac_types.proofs.Values.{value_plain}
 use Rattle.wac_types.proofs.Sorts.{type_sort, sorts_differ, are_there}
 use Rattle.wac_types.proofs.Subtyping.{of_instances}
 use Rattle.wac_types.proofs.CoreItems.{modules_from, modules_back}
