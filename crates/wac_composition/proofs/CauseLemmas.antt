@@ -127,7 +127,7 @@ module _ (g : Graph) (law : OneFault) where
 
 -- of one kind no two causes are named
 one_named : (g : Graph) → IsSound g → OneFault → (o : EncodeOptions) (a b : Cause) → kind_of_cause a ≡ kind_of_cause b → Stands g o a → Stands g o b → a ≡ b
-one_named g sound law o (cycle n) (cycle m) e a b = ap cycle (same_id n m (a.1.lowest m.0 b.1.here) (b.1.lowest n.0 a.1.here))
+one_named g sound law o (cycle n) (cycle m) e a b = ap cycle (same_id n m (a.1.lowest m b.1.here) (b.1.lowest n a.1.here))
 one_named g sound law o (cycle n) (conflict j m l t) e a b = cc
 one_named g sound law o (cycle n) (implicit_merge i f s p q x) e a b = cc
 one_named g sound law o (cycle n) (explicit_merge i m k) e a b = cc

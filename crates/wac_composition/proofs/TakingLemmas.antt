@@ -198,8 +198,8 @@ module _ (a : Inside) (id : NodeId) (nodes : Slab Node) (before after : Node) (h
   invariant_rewritten v names gone left =
       record {
         sound = sound_part (graph_of a) v.sound (nodes_of nodes.slots) nodes.vacant_key a.edges (names_of names.entries) a.slots.items [] is_part is_closed;
-        marked = λ s t i stands. satisfied_same t i ∙ v.marked s t i stands;
-        edged = λ t i is. v.edged t i (sym (satisfied_same t i) ∙ is);
+        marked = λ s t i stands. satisfied_same t.0 i ∙ v.marked s t i stands;
+        edged = λ t i is. v.edged t i (sym (satisfied_same t.0 i) ∙ is);
         keyed = v.keyed;
         found = v.found;
         named = λ other n h. v.named other n (imports_as (map.get (nodes_of a.nodes.slots) n.0) (map.get (nodes_of nodes.slots) n.0) other (sym (kinds n.0)) h);
