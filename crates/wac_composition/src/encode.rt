@@ -201,11 +201,11 @@ impl CompositionGraph {
         let imports = self.imports_at(n);
         let mut arguments = Vec::new(self.alloc);
         for i in 0..imports.len() {
-            let Some(NodeId(source)) = self.edges.argument(NodeId(n), i) else {
+            let Some(source) = self.edges.argument(NodeId(n), i) else {
                 unreachable!()
             };
-            let sort = sort_of(self.nodes[source].item_kind);
-            arguments.push((imports.name_at(i), sort, indexes[source]))?;
+            let sort = sort_of(self.nodes[source.0].item_kind);
+            arguments.push((imports.name_at(i), sort, indexes[source.0]))?;
         }
         Ok(arguments)
     }
@@ -218,15 +218,15 @@ impl CompositionGraph {
         ensures kept { encoder.new.indexes ≡ encoder.old.indexes }
         ensures fault { IfErr result (λ e. cause_of e ≡ None) }
     {
-        let Some((NodeId(source), position)) = self.edges.alias_source(NodeId(n)) else {
+        let Some((source, position)) = self.edges.alias_source(NodeId(n)) else {
             unreachable!()
         };
-        let ItemKind::Instance(interface) = self.nodes[source].item_kind else {
+        let ItemKind::Instance(interface) = self.nodes[source.0].item_kind else {
             unreachable!()
         };
         let name = self.types[interface].exports.name_at(position);
         let sort = sort_of(self.nodes[n].item_kind);
-        let instance = encoder.indexes[source];
+        let instance = encoder.indexes[source.0];
         Ok(encoder.builder.alias_export(sort, instance, name)?)
     }
 

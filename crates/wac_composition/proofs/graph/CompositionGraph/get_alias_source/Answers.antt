@@ -1,5 +1,5 @@
 use Rattle.std.proofs.Common.{sym}
-use Rattle.wac_nodes.specs.Graph.{node_number}
+use Rattle.wac_edges.specs.Edge.{node_number}
 use Rattle.wac_composition.proofs.AliasLemmas.{interface_there}
 use Rattle.wac_composition.proofs.WriteAliasLemmas.{alias_target, source_there, source_is_instance, position_there, alias_of}
 use Rattle.wac_composition.proofs.graph.CompositionGraph.get_alias_source.Goals as goal
