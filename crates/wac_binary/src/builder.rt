@@ -94,6 +94,7 @@ impl ComponentBuilder {
     }
 
     /// Adds an item at the end, and answers the index that it adds to this space.
+    #[inline(always)]
     fn append(&mut self, item: &ItemRef<'_>, space: IndexSpace) -> Result<u32, BinaryFault>
         requires { adds (item_of item.now) ≡ Some (number_of space) }
         ensures index { IfOk result (λ i. i ≡ indexes (number_of space) self.old) }

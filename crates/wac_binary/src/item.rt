@@ -33,6 +33,7 @@ pub(crate) enum ItemRef<'a> {
 }
 
 /// Puts the bytes of an item at the end of a buffer.
+#[inline(always)]
 pub(crate) fn put_item(out: &mut Vec<u8>, item: &ItemRef<'_>) -> Result<(), AllocError>
     ensures written { OnOk result (out.new.items ≡ out.old.items ++ item_bytes (item_of item.now)) }
     ensures grows { (more : List ℕ) × (out.new.items ≡ out.old.items ++ more) }
@@ -63,6 +64,7 @@ pub(crate) fn put_item(out: &mut Vec<u8>, item: &ItemRef<'_>) -> Result<(), Allo
 }
 
 /// The id of the section in which an item stands.
+#[inline(always)]
 pub(crate) fn section_id(item: &ItemRef<'_>) -> u8
     ensures { result ≡ id_of (item_of item.now) }
 {

@@ -28,14 +28,21 @@ fn put_leb(out: &mut Vec<u8>, limit: u64, n: u64) -> Result<(), AllocError>
 }
 
 /// Appends an unsigned number, as shortest LEB128.
+#[inline(always)]
+#[tactic(auto, using(crate::specs::LebLaws::leb_last, std::proofs::lemmas::Grind::common_steps))]
 pub(crate) fn put_unsigned(out: &mut Vec<u8>, n: u64) -> Result<(), AllocError>
     ensures written { OnOk result (out.new.items ≡ out.old.items ++ unsigned n) }
     ensures grows { (more : List ℕ) × (out.new.items ≡ out.old.items ++ more) }
 {
+    if n < 128 {
+        out.push(n as u8)?;
+        return Ok(());
+    }
     put_leb(out, 128, n)
 }
 
 /// Appends a text behind its length.
+#[inline(always)]
 pub(crate) fn put_text(out: &mut Vec<u8>, t: &str) -> Result<(), AllocError>
     ensures written { OnOk result (out.new.items ≡ out.old.items ++ text t.now) }
     ensures grows { (more : List ℕ) × (out.new.items ≡ out.old.items ++ more) }
@@ -101,6 +108,7 @@ pub(crate) fn put_sort(out: &mut Vec<u8>, s: Sort) -> Result<(), AllocError>
 }
 
 /// Appends a byte and an index.
+#[inline(always)]
 pub(crate) fn put_indexed(out: &mut Vec<u8>, byte: u8, index: u32) -> Result<(), AllocError>
     ensures written { OnOk result (out.new.items ≡ out.old.items ++ byte ∷ unsigned index) }
     ensures grows { (more : List ℕ) × (out.new.items ≡ out.old.items ++ more) }
@@ -110,6 +118,7 @@ pub(crate) fn put_indexed(out: &mut Vec<u8>, byte: u8, index: u32) -> Result<(),
 }
 
 /// Appends what an import, or an exported declaration, is.
+#[inline(always)]
 pub(crate) fn put_described(out: &mut Vec<u8>, d: Description) -> Result<(), AllocError>
     ensures written { OnOk result (out.new.items ≡ out.old.items ++ described d) }
     ensures grows { (more : List ℕ) × (out.new.items ≡ out.old.items ++ more) }
@@ -135,6 +144,7 @@ pub(crate) fn put_described(out: &mut Vec<u8>, d: Description) -> Result<(), All
 }
 
 /// A name and what stands under it.
+#[inline(always)]
 pub(crate) fn put_named(out: &mut Vec<u8>, name: &str, d: Description) -> Result<(), AllocError>
     ensures written { OnOk result (out.new.items ≡ out.old.items ++ (text name.now ++ described d)) }
     ensures grows { (more : List ℕ) × (out.new.items ≡ out.old.items ++ more) }

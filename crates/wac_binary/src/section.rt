@@ -60,6 +60,7 @@ fn fits(last: Open, size: u128) -> bool
 }
 
 /// Whether there is room for an item: its space has so many indexes, and the section that it goes to fits 32 bits with it.
+#[inline(always)]
 pub(crate) fn has_room(indexes: u64, last: &Option<Open>, things: &[u8], item: &ItemRef<'_>) -> bool
     requires { IfSome (section_of last.now things.now) SectionFits }
     ensures { IsTrue result ↔ ((indexes < 2 ^ 32) × SectionFits (next_section (section_of last.now things.now) (item_of item.now))) }
@@ -68,6 +69,7 @@ pub(crate) fn has_room(indexes: u64, last: &Option<Open>, things: &[u8], item: &
 }
 
 /// Whether the section that an item goes to fits 32 bits with it.
+#[inline(always)]
 fn section_has_room(last: &Option<Open>, things: &[u8], item: &ItemRef<'_>) -> bool
     requires { IfSome (section_of last.now things.now) SectionFits }
     ensures { IsTrue result ↔ SectionFits (next_section (section_of last.now things.now) (item_of item.now)) }
@@ -146,6 +148,7 @@ fn close(bytes: &mut Vec<u8>, last: Option<Open>, things: &[u8]) -> Result<(), A
 }
 
 /// Writes an item at the end of an open section, and answers how many things that has then; or leaves them as they were.
+#[inline(always)]
 fn join(things: &mut Vec<u8>, last: Open, item: &ItemRef<'_>) -> Result<u64, AllocError>
     requires { last.count < 2 ^ 32 }
     ensures counted { IfOk result (λ n. n ≡ last.count + 1) }
@@ -164,6 +167,7 @@ fn join(things: &mut Vec<u8>, last: Open, item: &ItemRef<'_>) -> Result<u64, All
 
 /// Writes an item into the open section, or into the next one, which is then the open one, and answers how many things
 /// the open section has.
+#[inline(always)]
 pub(crate) fn put_shared(
     bytes: &mut Vec<u8>,
     things: &mut Vec<u8>,

@@ -24,14 +24,17 @@ fn leb_size(limit: u64, n: u64) -> u64
 }
 
 /// How long an unsigned number is.
+#[inline(always)]
+#[tactic(auto, using(crate::specs::LebLaws::leb_last, std::proofs::lemmas::Grind::common_steps))]
 pub(crate) fn unsigned_size(n: u64) -> u64
     ensures is { result ≡ length (unsigned n) }
     ensures bound { result ≤ n + 1 }
 {
-    leb_size(128, n)
+    if n < 128 { 1 } else { leb_size(128, n) }
 }
 
 /// How long an index is.
+#[inline(always)]
 pub(crate) fn index_size(i: u32) -> u128
     ensures is { result ≡ length (unsigned i) }
     ensures small { result ≤ 2 ^ 32 }
@@ -40,6 +43,7 @@ pub(crate) fn index_size(i: u32) -> u128
 }
 
 /// How long a text is, with its length.
+#[inline(always)]
 pub(crate) fn text_size(t: &str) -> u128
     ensures is { result ≡ length (text t.now) }
     ensures small { result ≤ 2 ^ 64 }
@@ -93,6 +97,7 @@ pub(crate) fn sort_size(s: Sort) -> u128
 }
 
 /// How long is what an import, or an exported declaration, is.
+#[inline(always)]
 fn described_size(d: Description) -> u128
     ensures is { result ≡ length (described d) }
     ensures small { result ≤ 2 ^ 33 }
@@ -108,6 +113,7 @@ fn described_size(d: Description) -> u128
 }
 
 /// How long a name is with what stands under it.
+#[inline(always)]
 pub(crate) fn named_size(name: &str, d: Description) -> u128
     ensures is { result ≡ length (text name.now ++ described d) }
     ensures small { result ≤ 2 ^ 65 }

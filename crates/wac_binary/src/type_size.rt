@@ -90,6 +90,7 @@ pub(crate) fn decl_size(d: &DeclRef<'_>) -> u128
 }
 
 /// How many bytes an item has, without its section.
+#[inline(always)]
 pub(crate) fn item_size(item: &ItemRef<'_>) -> u128
     ensures is { result ≡ length (item_bytes (item_of item.now)) }
     ensures small { result < 2 ^ 127 + 2 ^ 103 }
