@@ -123,6 +123,13 @@ not_exported h = h.1.1.0.1
 missing_instance : HasMeaning (imports (alias_item (export_alias s.Func 1 (102 ∷ [])) ∷ [])) → ⊥
 missing_instance h = h.1.1.0.0
 
+-- a handle of the resource, and of a missing type
+own_row : HasMeaning (imports (alias_item (export_alias s.Type 0 (114 ∷ [])) ∷ type_item (value_def (own_def 1)) ∷ []))
+own_row = search rules
+
+own_of_missing : HasMeaning (imports (alias_item (export_alias s.Type 0 (114 ∷ [])) ∷ type_item (value_def (own_def 7)) ∷ [])) → ⊥
+own_of_missing h = h.1.1.1.0
+
 -- so in a component type
 abbrev in_component : Decls → Item
 in_component ds = type_item (component_def (next (type_decl interface) (next (import_decl (105 ∷ []) (e.Instance 0)) ds)))
@@ -132,6 +139,16 @@ declared_alias_row = search rules
 
 declared_function_as_type : HasMeaning (in_component (next (alias_decl (export_alias s.Type 0 (102 ∷ []))) end) ∷ []) → ⊥
 declared_function_as_type h = h.0.1.1.0
+
+declared_function_row : HasMeaning (in_component (next (alias_decl (export_alias s.Func 0 (102 ∷ []))) end) ∷ [])
+declared_function_row = search rules
+
+declared_missing_instance : HasMeaning (in_component (next (alias_decl (export_alias s.Func 1 (102 ∷ []))) end) ∷ []) → ⊥
+declared_missing_instance h = h.0.1.1.0
+
+-- a declared export of a missing type
+declared_missing_type : HasMeaning (type_item (instance_def (next (export_decl (102 ∷ []) (e.Func 0)) end)) ∷ []) → ⊥
+declared_missing_type h = h.0.0.0.1
 
 -- a name that is declared twice
 two_names : HasMeaning (type_item (instance_def (next (export_decl (97 ∷ []) e.Fresh) (next (export_decl (98 ∷ []) e.Fresh) end))) ∷ [])
@@ -202,6 +219,12 @@ missing_export h = h.1.0.1
 -- an import of what its type is not
 import_of_value : HasMeaning (a_string ∷ import_item (97 ∷ []) (e.Func 0) ∷ []) → ⊥
 import_of_value h = h.1.0.1
+
+module_import_row : HasMeaning (core_type with_function ∷ import_item (97 ∷ []) (e.CoreModule 0) ∷ [])
+module_import_row = search rules
+
+import_of_missing_module_type : HasMeaning (core_type with_function ∷ import_item (97 ∷ []) (e.CoreModule 1) ∷ []) → ⊥
+import_of_missing_module_type h = h.1.0.1
 
 import_of_missing_type : HasMeaning (import_item (97 ∷ []) (e.Equal 0) ∷ []) → ⊥
 import_of_missing_type h = h.0.1
