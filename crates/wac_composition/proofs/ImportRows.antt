@@ -43,7 +43,7 @@ abbrev Row : Type 0
 Row = Name × ItemKind × Option NodeId
 
 -- the rest of a list from an element on
-at_drop : {X : Type 0} (xs : List X) (i : ℕ) (x : X) → slice_get xs i ≡ Some x → drop i xs ≡ x ∷ drop (suc i) xs
+pub at_drop : {X : Type 0} (xs : List X) (i : ℕ) (x : X) → slice_get xs i ≡ Some x → drop i xs ≡ x ∷ drop (suc i) xs
 at_drop [] i x h = cc
 at_drop (y ∷ xs) zero x h = let e : y ≡ x = cc in ap (λ z. z ∷ xs) e
 at_drop (y ∷ xs) (suc i) x h = at_drop xs i x h
@@ -91,7 +91,7 @@ label_is i (Argument j) h = ap Argument (sym (eqb-true i j h))
 label_is i (Alias j) h = cc
 label_is i Dependency h = cc
 
-edge_is : (n i : ℕ) (e : Edge) → is_argument n i e ≡ true → e ≡ argument_edge e.source (node_number n) i
+pub edge_is : (n i : ℕ) (e : Edge) → is_argument n i e ≡ true → e ≡ argument_edge e.source (node_number n) i
 edge_is n i e h =
     let (at, labelled) = and_both (eqb e.target.0 n) (is_argument_label i e.label) h in
     let target : e.target.0 ≡ n = eqb-true e.target.0 n at in
@@ -236,7 +236,7 @@ module _ (g : Graph) where
   node_taken n end row h first = ap (nodes_left g n) (one_more n end h) ∙ ap (λ rows. rows ++ nodes_left g (n + 1) (end - (n + 1))) first
 
 -- the numbers of the nodes are those of the occupied slots, in order
-abbrev entries_of : ℕ → List (Option Node) → List (ℕ × GraphNode)
+abbrev pub entries_of : ℕ → List (Option Node) → List (ℕ × GraphNode)
 entries_of j slots = map (λ e. (e.0, node_of e.1)) (entries_from j slots)
 
 put_first : (slots : List (Option Node)) (j k : ℕ) (node : GraphNode) → k < j → put nat_cmp k node (entries_of j slots) ≡ (k, node) ∷ entries_of j slots
@@ -248,7 +248,7 @@ no_entries : (es : List (ℕ × GraphNode)) → length es ≡ 0 → es ≡ []
 no_entries [] h = refl
 no_entries (e ∷ es) h = absurd (omega arith)
 
-entries_are : (slots : List (Option Node)) (j : ℕ) → finite.entries (finite.from_entries {R = nat_cmp} (entries_of j slots)) ≡ entries_of j slots
+pub entries_are : (slots : List (Option Node)) (j : ℕ) → finite.entries (finite.from_entries {R = nat_cmp} (entries_of j slots)) ≡ entries_of j slots
 entries_are [] j = no_entries (finite.entries (finite.empty {R = nat_cmp})) (sym (finite.len-entries finite.empty) ∙ finite.len-empty nat_cmp GraphNode)
 entries_are (None ∷ slots) j = entries_are slots (j + 1)
 entries_are (Some x ∷ slots) j =

@@ -13,6 +13,7 @@ pub mod ConflictLemmas
 pub mod WriteAliasLemmas
 pub mod WriteArgumentsLemmas
 pub mod ImportRows
+pub mod ListedLemmas
 pub mod AskingWalk
 pub mod AskedHeld
 pub mod MergeLemmas

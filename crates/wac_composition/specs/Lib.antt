@@ -1,3 +1,5 @@
 pub mod Inside
+pub mod Listed
+pub mod Left
 pub mod Arguments
 pub mod EncoderView

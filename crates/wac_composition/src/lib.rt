@@ -5,13 +5,17 @@
 #![tactic(auto)]
 
 mod arguments;
+mod arguments_of;
 mod asked;
 mod conflicts;
 mod encode;
 mod graph;
 mod imports;
+mod iterators;
 mod lookups;
 mod merging;
 
+pub use arguments_of::Arguments;
 pub use graph::CompositionGraph;
 pub use imports::Imports;
+pub use iterators::{NodeIds, Nodes, Packages};

@@ -1,5 +1,6 @@
 mod bench;
 mod graph;
+mod listed;
 mod names;
 mod packages;
 mod program;

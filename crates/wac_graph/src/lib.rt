@@ -5,7 +5,7 @@
 #![tactic(auto)]
 
 pub use wac_causes::EncodeError;
-pub use wac_composition::{CompositionGraph, Imports};
+pub use wac_composition::{Arguments, CompositionGraph, Imports, NodeIds, Nodes, Packages};
 pub use wac_merge::MergeFault;
 pub use wac_names::NameFault;
 pub use wac_nodes::{

@@ -458,6 +458,43 @@ impl Bench {
         Ok(rows)
     }
 
+    // The nodes, each with what it is, and their ids.
+    pub fn listed_nodes(&self) -> Result<String, Fail> {
+        let mut rows = String::new(self.alloc);
+        for (id, node) in self.graph.nodes() {
+            let item = node.item_kind().desc(self.graph.types());
+            let row = format!(in self.alloc; "{id}: {item}; ")?;
+            rows.push_str(row.as_str())?;
+        }
+        for id in self.graph.node_ids() {
+            let row = format!(in self.alloc; "{id}; ")?;
+            rows.push_str(row.as_str())?;
+        }
+        Ok(rows)
+    }
+
+    // The packages, each by its slot.
+    pub fn listed_packages(&self) -> Result<String, Fail> {
+        let mut rows = String::new(self.alloc);
+        for (id, package) in self.graph.packages() {
+            let slot = id.slot;
+            let name = package.name();
+            let row = format!(in self.alloc; "{slot}: {name}; ")?;
+            rows.push_str(row.as_str())?;
+        }
+        Ok(rows)
+    }
+
+    // The arguments of a node, each by its import's name.
+    pub fn listed_arguments(&self, id: NodeId) -> Result<String, Fail> {
+        let mut rows = String::new(self.alloc);
+        for (name, node) in self.graph.get_instantiation_arguments(id) {
+            let row = format!(in self.alloc; "{name}: {node}; ")?;
+            rows.push_str(row.as_str())?;
+        }
+        Ok(rows)
+    }
+
     // Whether the node at a place is exported by a name.
     pub fn exports(&self, place: usize, name: &str) -> bool {
         match self.nodes.get(place) {

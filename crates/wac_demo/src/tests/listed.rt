@@ -1,0 +1,68 @@
+// What a graph lists.
+use super::bench::Bench;
+use super::bench::Call::{Alias, Import, Instantiate, Register, Set, Unset};
+use super::bench::Item::Plain;
+use std::test::Fail;
+use wac_graph::NodeId;
+
+#[test]
+fn nodes_and_packages_are_listed_by_number(rt: HostRuntime) -> Result<(), Fail> {
+    let mut bench = Bench::new(rt.alloc());
+    bench.calls(
+        &rt,
+        &[
+            (Register("my:first", &[], &[("a", Plain)]), ""),
+            (Register("my:second", &[], &[]), ""),
+            (Import("i", Plain), "0"),
+            (Instantiate(1), "1"),
+            (Instantiate(0), "2"),
+            (Alias(2, "a"), "3"),
+        ],
+    )?;
+    assert_eq!(rt;
+        bench.listed_nodes()?.as_str(),
+        "0: function; 1: instance; 2: instance; 3: function; 0; 1; 2; 3; "
+    );
+    assert_eq!(rt;
+        bench.listed_packages()?.as_str(),
+        "0: my:first; 1: my:second; "
+    );
+    Ok(())
+}
+
+// Set in another order than that of the world, of which one import has no argument.
+#[test]
+fn arguments_are_listed_in_world_order(rt: HostRuntime) -> Result<(), Fail> {
+    let mut bench = Bench::new(rt.alloc());
+    let imports = &[("x", Plain), ("y", Plain), ("z", Plain)];
+    bench.calls(
+        &rt,
+        &[
+            (Register("my:package", imports, &[]), ""),
+            (Instantiate(0), "0"),
+            (Instantiate(0), "1"),
+            (Import("i", Plain), "2"),
+            (Import("j", Plain), "3"),
+            (Set(0, "z", 2), ""),
+            (Set(0, "x", 3), ""),
+            (Set(1, "y", 2), ""),
+        ],
+    )?;
+    assert_eq!(rt; bench.listed_arguments(NodeId(0))?.as_str(), "x: 3; z: 2; ");
+    assert_eq!(rt; bench.listed_arguments(NodeId(1))?.as_str(), "y: 2; ");
+    // An import, and no node.
+    assert_eq!(rt; bench.listed_arguments(NodeId(2))?.as_str(), "");
+    assert_eq!(rt; bench.listed_arguments(NodeId(9))?.as_str(), "");
+    bench.calls(&rt, &[(Unset(0, "x", 3), "")])?;
+    assert_eq!(rt; bench.listed_arguments(NodeId(0))?.as_str(), "z: 2; ");
+    Ok(())
+}
+
+#[test]
+fn an_empty_graph_lists_nothing(rt: HostRuntime) -> Result<(), Fail> {
+    let bench = Bench::new(rt.alloc());
+    assert_eq!(rt; bench.listed_nodes()?.as_str(), "");
+    assert_eq!(rt; bench.listed_packages()?.as_str(), "");
+    assert_eq!(rt; bench.listed_arguments(NodeId(0))?.as_str(), "");
+    Ok(())
+}
