@@ -17,8 +17,7 @@ use Rattle.wac_collection.specs.Tree.{TypeTree, absent, function, function_item,
 use Rattle.wac_collection.specs.Collection.{Collection}
 use Rattle.wac_collection.specs.declared.collection.Held.{Held}
 use Rattle.wac_subtyping.specs.Subtype.{IsSubtype, kind_tree, type_tree}
-use Rattle.wac_subtyping.proofs.Relation.{sub_refl}
-use Rattle.wac_types.proofs.Values.{plain_sub}
+use Rattle.wac_subtyping.proofs.Relation.{sub_refl, plain_sub}
 use Rattle.wac_edges.specs.declared.node.NodeId.{NodeId}
 use Rattle.wac_nodes.specs.declared.packages.PackageId.{PackageId}
 use Rattle.wac_nodes.specs.Graph.{Graph}
