@@ -1,14 +1,13 @@
 -- What is not written yet.
-use Rattle.std.specs.Prelude.{ℕ, ◌≡◌, ◌<◌, false, Some, IsSome, length, ◌⊎◌, None}
+use Rattle.std.specs.Prelude.{ℕ, ◌≡◌, ◌<◌, false, Some, length, ◌⊎◌}
 use Rattle.wac_nodes.specs.declared.options.EncodeOptions.{EncodeOptions}
 use Rattle.wac_shapes.specs.Name.{Name}
 use Rattle.wac_nodes.specs.Graph as graph
 use Rattle.wac_edges.specs.Edge.{node_number}
 use Rattle.wac_nodes.specs.Graph.{Graph, GraphNode, node_at, imports_of, IsSatisfied, IsUnsatisfied}
 
--- the node is an instantiation of which every argument is set, or an alias, and has no name
+-- the node is an instantiation of which every argument is set, or an alias
 pub record IsWritable (g : Graph) (n : ℕ) (node : GraphNode) : Type 0 where
-  pub unnamed : node.name ≡ None
   pub plain : (node.kind ≡ graph.instantiation) ⊎ (node.kind ≡ graph.alias)
   pub set : node.kind ≡ graph.instantiation → (i : ℕ) → i < length (imports_of g node) → IsSatisfied g (node_number n) i
 
@@ -23,7 +22,5 @@ pub data IsNotYet (g : Graph) (o : EncodeOptions) : Type 0 where
   -- a node is a definition or an import
   defined : (n : ℕ) (node : GraphNode) → node_at g (node_number n) ≡ Some node → node.kind ≡ graph.definition → IsNotYet g o
   imported : (n : ℕ) (node : GraphNode) (name : Name) → node_at g (node_number n) ≡ Some node → node.kind ≡ graph.import name → IsNotYet g o
-  -- a node has a name
-  named : (n : ℕ) (node : GraphNode) → node_at g (node_number n) ≡ Some node → IsSome node.name → IsNotYet g o
   -- components are to be imported
   undefined_components : o.define_components ≡ false → IsNotYet g o

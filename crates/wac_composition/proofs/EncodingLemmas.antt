@@ -28,7 +28,7 @@ use Rattle.wac_nodes.specs.Nodes.{node_of, kind_of, satisfied, satisfied_at}
 use Rattle.wac_composition.specs.Inside.{graph_of, Invariant}
 use Rattle.wac_meaning.specs.Means.{is_there}
 use Rattle.wac_nodes.specs.Gives.{GivesNode}
-use Rattle.wac_causes.specs.NotYet.{IsNotYet, IsWritable, AllWritable, unset, defined, imported, named}
+use Rattle.wac_causes.specs.NotYet.{IsNotYet, IsWritable, AllWritable, unset, defined, imported}
 use Rattle.wac_nodes.proofs.NodeLemmas.{get-nodes_of}
 use Rattle.wac_composition.proofs.ArgumentLemmas.{owned, registered}
 use Rattle.wac_nodes.proofs.JoinLemmas.{imports_of_package}
@@ -152,16 +152,6 @@ if_none a n P had = subst (λ o. IfSome o P) (sym (node_is a n None had)) tt
 pub a_definition : (a : Inside) (n : ℕ) (node : Node) (o : EncodeOptions) → get a.nodes n ≡ Some node → node.kind ≡ code.Definition → IsNotYet (graph_of a) o
 a_definition a n node o had is = defined n (node_of node) (node_is a n (Some node) had) (ap kind_of is)
 
-pub a_name : (a : Inside) (n : ℕ) (node : Node) (o : EncodeOptions) → get a.nodes n ≡ Some node → IsSome node.name → IsNotYet (graph_of a) o
-a_name a n node o had is = named n (node_of node) (node_is a n (Some node) had) (of_some node.name is) where
-  of_some : (name : Option (String Global)) → IsSome name → IsSome (option_map string_bytes name)
-  of_some None h = h
-  of_some (Some name) h = refl
-
--- a node without a name has none in the graph
-no_name : (node : Node) → node.name ≡ None → (node_of node).name ≡ None
-no_name node is = ap (option_map string_bytes) is
-
 pub an_import : (a : Inside) (n : ℕ) (node : Node) (name : String Global) (o : EncodeOptions) → get a.nodes n ≡ Some node → node.kind ≡ code.Import name → IsNotYet (graph_of a) o
 an_import a n node name o had is = imported n (node_of node) (string_bytes name) (node_is a n (Some node) had) (ap kind_of is)
 
@@ -177,16 +167,14 @@ module _ (a : Inside) (v : Invariant a) (n : ℕ) (node : Node) (s : BTreeSet �
         clash true _ h = cc
         clash false h _ = cc
 
-  pub no_gap : (count : ℕ) → count ≡ length (imports_of (graph_of a) (node_of node)) → ((i : ℕ) → i < count → positions.contains nat_cmp s i ≡ true) → node.name ≡ None → IfSome (node_at (graph_of a) (node_number n)) (IsWritable (graph_of a) n)
-  no_gap count many full unnamed = if_node a n node (IsWritable (graph_of a) n) had (record {
-    unnamed = no_name node unnamed;
+  pub no_gap : (count : ℕ) → count ≡ length (imports_of (graph_of a) (node_of node)) → ((i : ℕ) → i < count → positions.contains nat_cmp s i ≡ true) → IfSome (node_at (graph_of a) (node_number n)) (IsWritable (graph_of a) n)
+  no_gap count many full = if_node a n node (IsWritable (graph_of a) n) had (record {
     plain = inl (ap kind_of is);
     set = λ _ i small. v.edged (node_number n) i (marked i true (full i (omega (arith, many))));
   })
 
-pub an_alias : (a : Inside) (n : ℕ) (node : Node) → get a.nodes n ≡ Some node → node.kind ≡ code.Alias → node.name ≡ None → IfSome (node_at (graph_of a) (node_number n)) (IsWritable (graph_of a) n)
-an_alias a n node had is unnamed = if_node a n node (IsWritable (graph_of a) n) had (record {
-  unnamed = no_name node unnamed;
+pub an_alias : (a : Inside) (n : ℕ) (node : Node) → get a.nodes n ≡ Some node → node.kind ≡ code.Alias → IfSome (node_at (graph_of a) (node_number n)) (IsWritable (graph_of a) n)
+an_alias a n node had is = if_node a n node (IsWritable (graph_of a) n) had (record {
   plain = inr (ap kind_of is);
   set = λ wrong. absurd (two_kinds (ap kind_of is) wrong);
 }) where

@@ -17,3 +17,4 @@ pub mod ListedLemmas
 pub mod AskingWalk
 pub mod AskedHeld
 pub mod MergeLemmas
+pub mod NamingLemmas

@@ -5,8 +5,9 @@ use Rattle.std.specs.List.{flat_map}
 use Rattle.std.specs.FinSet as set
 use Rattle.std.specs.Prelude.{slice_get, slice_set}
 use Rattle.std.proofs.lemmas.Bool.Decides.{nat_tests}
-use Rattle.std.proofs.lemmas.List.{append-nil, length-set, get_or-set_same, get_or-set_other}
+use Rattle.std.proofs.lemmas.List.{append-nil, map-append, length-set, get_or-set_same, get_or-set_other}
 use Rattle.wac_shapes.specs.Name.{Name, option_case}
+use Rattle.wac_binary.specs.declared.sorts.Sort.{Sort}
 use Rattle.wac_binary.specs.Items.{Item, export_item}
 use Rattle.wac_binary.specs.Meaning.{Thing}
 use Rattle.wac_edges.specs.declared.edges.Edge.{Edge}
@@ -20,9 +21,9 @@ use Rattle.wac_nodes.specs.Graph.{Graph, GraphNode, Kind, node_at}
 use Rattle.wac_composition.specs.Inside.{graph_of, Invariant}
 use Rattle.wac_nodes.specs.Sound.{IsSound}
 use Rattle.wac_edges.specs.Order.{Writes, IsOnCycle, IsAcyclic, IsLowestOnCycle}
-use Rattle.wac_meaning.specs.Means.{is_there, is_written, is_import, IsThing, sort_of_kind, export_item_of, processor_customs, custom_item, Means}
+use Rattle.wac_meaning.specs.Means.{is_there, is_written, is_import, IsThing, sort_of_kind, export_item_of, name_customs, processor_customs, custom_item, AreNames, Means}
 use Rattle.wac_meaning.specs.Encoding.{WritesNode, Progress, WroteAll, HasRoom, index_in}
-use Rattle.wac_causes.specs.NotYet.{AllWritable, IsNotYet, unset, defined, imported, undefined_components, named}
+use Rattle.wac_causes.specs.NotYet.{AllWritable, IsNotYet, unset, defined, imported, undefined_components}
 use Rattle.wac_edges.proofs.WrittenOrder.{has, written_left, minus-push, minus-true, split_writes, slice_get-middle}
 use Rattle.wac_meaning.proofs.ThingLemmas.{IsPlain, is_written-node, node_of_written, all_things}
 use Rattle.wac_composition.proofs.EncodingLemmas.{node_is, none_past, by_lt}
@@ -107,20 +108,28 @@ module _ (counted : Counted) (earlier : Earlier) (g : Graph) (sound : IsSound g)
         (all_exported base index place rest (es ++ x ∷ []) (items ++ export_item x.0 (sort_of_kind node.item_kind) (index (x.1).0) ∷ []) (here ∙ sym (append_assoc es (x ∷ []) rest)) next)
 
     means_written : (o : EncodeOptions) → o.define_components ≡ true → (indexes : List ℕ) → HasRoom g indexes → (q : Progress) → WroteAll g order (record { items = []; components = []; indexes = indexes }) q
-        → Means ((q.items ++ flat_map (export_item_of g (index_in q.indexes)) g.exports) ++ map custom_item (processor_customs o.processor)) g o
-    means_written o define indexes room q wrote =
+        → (names : List (Sort × ℕ × Name)) → AreNames g (index_in q.indexes) names
+        → Means ((q.items ++ flat_map (export_item_of g (index_in q.indexes)) g.exports) ++ map custom_item (name_customs names ++ processor_customs o.processor)) g o
+    means_written o define indexes room q wrote names named =
         let d = all_done order [] (record { items = []; components = []; indexes = indexes }) q refl room wrote (nothing_done counted earlier g sound (plain g all) order at is_thing (index_in indexes)) in
         let e = all_exported q.items (index_in q.indexes) d.place g.exports [] q.items refl (no_exports counted earlier g sound (plain g all) order at is_thing q.items q.components (index_in q.indexes) writes d) in
-        let c = closed counted earlier g sound (plain g all) order at is_thing q.items (q.items ++ flat_map (export_item_of g (index_in q.indexes)) g.exports) (index_in q.indexes) d.place o.processor e in
-        means counted earlier g sound (plain g all) order at is_thing o define (no_first g sound (plain g all)) (λ n node there. (all n node there).unnamed) q.items
-        ((q.items ++ flat_map (export_item_of g (index_in q.indexes)) g.exports) ++ map custom_item (processor_customs o.processor)) (index_in q.indexes) d.place writes (all_set g all) c d.in_place
+        let c = closed counted earlier g sound (plain g all) order at is_thing q.items (q.items ++ flat_map (export_item_of g (index_in q.indexes)) g.exports) (index_in q.indexes) d.place (name_customs names ++ processor_customs o.processor) e in
+        means counted earlier g sound (plain g all) order at is_thing o define (no_first g sound (plain g all)) names q.items
+        ((q.items ++ flat_map (export_item_of g (index_in q.indexes)) g.exports) ++ map custom_item (name_customs names ++ processor_customs o.processor)) (index_in q.indexes) d.place named writes (all_set g all) c d.in_place
 
-  -- all nodes are written, the exports behind them, and the processor last
+  -- all nodes are written, the exports behind them, then the names, and the processor last
   pub means_all : (o : EncodeOptions) → o.define_components ≡ true → (indexes : List ℕ) → HasRoom g indexes → (p q : Progress) → p ≡ record { items = []; components = []; indexes = indexes } → WroteAll g order p q
-      → (items written : List Item) → items ≡ q.items ++ flat_map (export_item_of g (index_in q.indexes)) g.exports → written ≡ items ++ map custom_item (processor_customs o.processor) → Means written g o
-  means_all o define indexes room p q start wrote items written end last =
+      → (names : List (Sort × ℕ × Name)) → AreNames g (index_in q.indexes) names
+      → (items with_names written : List Item) → items ≡ q.items ++ flat_map (export_item_of g (index_in q.indexes)) g.exports
+      → with_names ≡ items ++ map custom_item (name_customs names) → written ≡ with_names ++ map custom_item (processor_customs o.processor) → Means written g o
+  means_all o define indexes room p q start wrote names named items with_names written end next last =
       let (at, is_thing) = all_things g sound (plain g all) order writes in
-      subst (λ its. Means its g o) (sym (last ∙ ap (λ its. its ++ map custom_item (processor_customs o.processor)) end)) (means_written at is_thing o define indexes room q (subst (λ x. WroteAll g order x q) start wrote))
+      let shown : List Item = q.items ++ flat_map (export_item_of g (index_in q.indexes)) g.exports in
+      let whole : written ≡ shown ++ map custom_item (name_customs names ++ processor_customs o.processor) =
+      last ∙ ap (λ its. its ++ map custom_item (processor_customs o.processor)) (next ∙ ap (λ its. its ++ map custom_item (name_customs names)) end)
+      ∙ append_assoc shown (map custom_item (name_customs names)) (map custom_item (processor_customs o.processor))
+      ∙ ap (λ its. shown ++ its) (sym (map-append custom_item (name_customs names) (processor_customs o.processor))) in
+      subst (λ its. Means its g o) (sym whole) (means_written at is_thing o define indexes room q (subst (λ x. WroteAll g order x q) start wrote) names named)
 
 -- where all nodes can be written and components are defined, nothing is left for later
 pub none_left : (g : Graph) → AllWritable g → (o : EncodeOptions) → o.define_components ≡ true → IsNotYet g o → ⊥
@@ -133,10 +142,6 @@ none_left g all o define (imported n node name there is) = not_plain ((all n nod
   not_plain : {k : Kind} → (k ≡ graph.instantiation) ⊎ (k ≡ graph.alias) → k ≡ graph.import name → ⊥
   not_plain (inl p) q = cc
   not_plain (inr p) q = cc
-none_left g all o define (named n node there is) = unnamed node.name ((all n node there).unnamed) is where
-  unnamed : {A : Type 0} (x : Option A) → x ≡ None → IsSome x → ⊥
-  unnamed None _ h = cc
-  unnamed (Some y) h _ = cc
 none_left g all o define (undefined_components is) = clash o.define_components define is where
   clash : (b : Bool) → b ≡ true → b ≡ false → ⊥
   clash true _ h = cc

@@ -3,3 +3,4 @@ pub mod Listed
 pub mod Left
 pub mod Arguments
 pub mod EncoderView
+pub mod Naming

@@ -7,11 +7,13 @@ ghost use Rattle.std.specs.List.{list_any, flat_map};
 ghost use Rattle.std.specs.BTreeSet as positions;
 ghost use Rattle.std.specs.Ordering.{nat_cmp};
 ghost use Rattle.wac_binary.specs.Views.{arguments_of};
+ghost use Rattle.wac_binary.specs.declared.sorts.Sort.{Sort as ASort};
+ghost use Rattle.wac_shapes.specs.Name.{Name as AName};
 ghost use Rattle.wac_edges.specs.declared.node.NodeId.{NodeId as AnId};
 ghost use Rattle.wac_edges.specs.Edge.{is_left};
 ghost use Rattle.wac_edges.specs.Edge.{node_number};
 ghost use Rattle.wac_nodes.specs.Graph.{node_at, imports_of, instantiation, alias};
-ghost use Rattle.wac_meaning.specs.Means.{Means, is_there, same_package, sort_of_kind, export_item_of, custom_item, processor_customs};
+ghost use Rattle.wac_meaning.specs.Means.{Means, is_there, same_package, sort_of_kind, export_item_of, custom_item, name_customs, AreNames, processor_customs};
 ghost use Rattle.wac_meaning.specs.Encoding.{WritesNode, AreArgumentItems, Wrote, WroteAll, HasRoom, index_in};
 ghost use Rattle.std.specs.Result.{IsErrAnd};
 ghost use Rattle.wac_causes.specs.Cause.{Cause, cause_of, Stands};
@@ -23,7 +25,7 @@ ghost use Rattle.wac_nodes.specs.declared.options.EncodeOptions.{EncodeOptions a
 use crate::graph::CompositionGraph;
 use std::alloc::{AllocError, Global};
 use std::collections::BTreeSet;
-use wac_binary::{ComponentBuilder, Sort, producers};
+use wac_binary::{ComponentBuilder, Sort, component_names, producers};
 use wac_causes::EncodeError;
 use wac_edges::order::order;
 use wac_merge::laws::fault_law;
@@ -50,7 +52,7 @@ impl CompositionGraph {
     /// agree, with the first that does not agree with an earlier one and the first that it does not agree with,
     /// `ImportTypeMergeConflict` where an instantiation asks for it and `ExplicitImportMergeConflict` where it is an import
     /// node; else `ImportsUseEachOther` where imports rest on each other in a circle; else `NotYet` where an argument is not
-    /// set, a node is an import or has a name, or the options ask for imported components; else `TooLarge` where a size
+    /// set, a node is an import, or the options ask for imported components; else `TooLarge` where a size
     /// does not fit 32 bits. Where memory ran out it answers `OutOfMemory`.
     pub fn encode(&self, options: EncodeOptions<'_>) -> Result<Vec<u8>, EncodeError>
         ensures means { IfOk result (λ bytes. (items : List AnItem) × (bytes.items ≡ bytes_of items) × Means items self.now options.entry) }
@@ -69,6 +71,7 @@ impl CompositionGraph {
         let mut encoder = Encoder::new(self.alloc, self.nodes.capacity())?;
         self.write_nodes(&mut encoder, &order)?;
         self.write_exports(&mut encoder)?;
+        self.write_names(&mut encoder)?;
         encoder.write_processor(options.processor)?;
         Ok(encoder.builder.into_bytes()?)
     }
@@ -99,7 +102,7 @@ impl CompositionGraph {
         Ok(EncodeError::GraphContainsCycle { node: n })
     }
 
-    /// Whether a node has a name, is a definition or an import, or an instantiation of which an argument is not set.
+    /// Whether a node is a definition or an import, or an instantiation of which an argument is not set.
     fn holds_unwritten(&self) -> bool
         ensures unwritten { OnTrue result ((o : Asked) → IsNotYet self.now o) }
         ensures writable { OnFalse result (AllWritable self.now) }
@@ -120,9 +123,6 @@ impl CompositionGraph {
         let Some(node) = self.nodes.get(n) else {
             return false;
         };
-        if node.name.is_some() {
-            return true;
-        }
         match &node.kind {
             NodeKind::Definition => true,
             NodeKind::Import(_) => true,
@@ -234,6 +234,7 @@ impl CompositionGraph {
     fn write_exports(&self, encoder: &mut Encoder) -> Result<(), EncodeError>
         requires { HasRoom self.now encoder.old.indexes.items }
         ensures written { OnOk result (encoder.new.builder ≡ encoder.old.builder ++ flat_map (export_item_of self.now (index_in encoder.old.indexes.items)) self.now.exports) }
+        ensures kept { OnOk result (encoder.new.indexes ≡ encoder.old.indexes) }
         ensures fault { IfErr result (λ e. cause_of e ≡ None) }
     {
         for i in 0..self.exports.len() {
@@ -244,6 +245,21 @@ impl CompositionGraph {
             let index = encoder.indexes[id.0];
             encoder.builder.export(name.as_str(), sort, index)?;
         }
+        Ok(())
+    }
+
+    /// Writes the custom section with the names of nodes, where any has one.
+    fn write_names(&self, encoder: &mut Encoder) -> Result<(), EncodeError>
+        requires { HasRoom self.now encoder.old.indexes.items }
+        ensures written { OnOk result ((names : List (ASort × ℕ × AName)) × AreNames self.now (index_in encoder.old.indexes.items) names × (encoder.new.builder ≡ encoder.old.builder ++ map custom_item (name_customs names))) }
+        ensures fault { IfErr result (λ e. cause_of e ≡ None) }
+    {
+        let names = self.index_names(&encoder.indexes)?;
+        if names.is_empty() {
+            return Ok(());
+        }
+        let content = component_names(self.alloc, &names)?;
+        encoder.builder.custom("component-name", &content)?;
         Ok(())
     }
 }
@@ -321,7 +337,7 @@ fn has_gap(satisfied: &BTreeSet<usize>, count: usize) -> bool
 }
 
 /// The sort of an item's index.
-fn sort_of(kind: ItemKind) -> Sort
+pub(crate) fn sort_of(kind: ItemKind) -> Sort
     ensures { result ≡ sort_of_kind kind }
 {
     match kind {

@@ -14,6 +14,7 @@ mod imports;
 mod iterators;
 mod lookups;
 mod merging;
+mod naming;
 
 pub use arguments_of::Arguments;
 pub use graph::CompositionGraph;

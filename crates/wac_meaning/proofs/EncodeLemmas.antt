@@ -13,10 +13,7 @@ use Rattle.wac_shapes.specs.declared.component.ItemKind.{ItemKind}
 use Rattle.wac_binary.specs.declared.sorts.Sort.{Sort}
 use Rattle.wac_binary.specs.declared.sorts.Sort.TheVariants as sort
 use Rattle.wac_binary.specs.Items.{Item, custom, alias_item, export_alias, export_item}
-use Rattle.wac_binary.specs.Customs as custom_section
-use Rattle.wac_binary.specs.Customs.{producers_bytes}
 use Rattle.std.proofs.lemmas.List.{map-append}
-use Rattle.wac_nodes.specs.declared.options.Processor.{Processor}
 use Rattle.wac_binary.specs.Indexes.{space, indexes}
 use Rattle.wac_binary.specs.Meaning.{Thing, stands_for, meaning}
 use Rattle.wac_binary.specs.HasMeaning.{HasMeaning, IsSomething}
@@ -34,7 +31,7 @@ use Rattle.wac_edges.specs.Order.{Writes, IsLowestReady}
 use Rattle.wac_nodes.specs.Asked.{is_argument, is_satisfied, unsatisfied, asked_by, imported_by, asked}
 use Rattle.wac_nodes.specs.Entries.{with_used, once, to_merge}
 use Rattle.wac_nodes.specs.OuterImports.{AreOuterImports}
-use Rattle.wac_meaning.specs.Means.{node_is, is_instantiation, is_written, instantiations, IsThing, sort_of_kind, with_package, used_after, used_packages, package_bytes, HasItem, shown, export_of, export_item_of, Means, further_exports, processor_customs, custom_item}
+use Rattle.wac_meaning.specs.Means.{node_is, is_instantiation, is_written, instantiations, IsThing, sort_of_kind, with_package, used_after, used_packages, package_bytes, HasItem, shown, export_of, export_item_of, AreNames, Means, further_exports, name_customs, processor_customs, custom_item}
 use Rattle.wac_meaning.specs.Encoding.{WritesNode, writes_instantiation, writes_alias}
 use Rattle.wac_edges.proofs.EdgeLemmas.{exact_edges}
 use Rattle.wac_edges.proofs.WrittenOrder.{minus, eqb_same, all_in}
@@ -42,7 +39,7 @@ use Rattle.wac_meaning.proofs.ThingLemmas.{IsPlain, is_written-node}
 use Rattle.wac_meaning.proofs.MeantLemmas.{meant-push, something, IsAmong, new_name}
 use Rattle.wac_meaning.proofs.MeaningLemmas.{export_shown, export_others, custom_rest, indexes-push}
 use Rattle.wac_meaning.proofs.WrittenLemmas.{Counted, Earlier, Written, with_component, instance_more, alias_more, used-append, HasItem-push, used_prefix}
-use Rattle.wac_meaning.proofs.DefinedLemmas.{AreMade, defined_components, no_package_imports, made_instantiations, HasNoFirst, further_all, no_first_exports, no_names}
+use Rattle.wac_meaning.proofs.DefinedLemmas.{AreMade, defined_components, no_package_imports, made_instantiations, HasNoFirst, further_all, no_first_exports}
 use Rattle.wac_nodes.specs.declared.options.EncodeOptions.{EncodeOptions}
 
 -- where nothing is asked for there are no imports
@@ -270,16 +267,24 @@ module _ (counted : Counted) (earlier : Earlier) (g : Graph) (sound : IsSound g)
         indexes_rise : (k : ℕ) (j : ℕ) → j < indexes k items → j < indexes k (items ++ custom name bytes ∷ [])
         indexes_rise k j small = omega (arith, indexes-push k items (custom name bytes))
 
-  -- the processor is named, where one is given
-  pub closed : (base items : List Item) (index place : ℕ → ℕ) (p : Option Processor) → Exported base g.exports items index place → Closed base (processor_customs p) (items ++ map custom_item (processor_customs p)) index place
-  closed base items index place None e = subst (λ its. Closed base [] its index place) (sym (append-nil items)) (no_customs base items index place e)
-  closed base items index place (Some p) e = custom_more base [] items index place custom_section.producers (producers_bytes p.name.now p.version.now) (no_customs base items index place e)
+  -- these custom sections behind those
+  customs_more : (base : List Item) (more customs : List (Name × List ℕ)) (items : List Item) (index place : ℕ → ℕ) → Closed base customs items index place → Closed base (customs ++ more) (items ++ map custom_item more) index place
+  customs_more base [] customs items index place c =
+      subst (λ cs. Closed base cs (items ++ []) index place) (sym (append-nil customs)) (subst (λ its. Closed base customs its index place) (sym (append-nil items)) c)
+  customs_more base (e ∷ more) customs items index place c =
+      subst (λ cs. Closed base cs (items ++ custom e.0 e.1 ∷ map custom_item more) index place) (append_assoc customs (e ∷ []) more)
+      (subst (λ its. Closed base ((customs ++ e ∷ []) ++ more) its index place) (append_assoc items (custom e.0 e.1 ∷ []) (map custom_item more))
+      (customs_more base more (customs ++ e ∷ []) (items ++ custom e.0 e.1 ∷ []) index place (custom_more base customs items index place e.0 e.1 c)))
+
+  -- these custom sections are behind all exports
+  pub closed : (base items : List Item) (index place : ℕ → ℕ) (customs : List (Name × List ℕ)) → Exported base g.exports items index place → Closed base customs (items ++ map custom_item customs) index place
+  closed base items index place customs e = customs_more base customs [] items index place (no_customs base items index place e)
 
   -- the items mean the graph
-  pub means : (o : EncodeOptions) → o.define_components ≡ true → HasNoFirst g → ((n : ℕ) (node : GraphNode) → node_at g (node_number n) ≡ Some node → node.name ≡ None)
-      → (base items : List Item) (index place : ℕ → ℕ) → Writes g.edges (is_written g) order → AllSet g → Closed base (processor_customs o.processor) items index place
+  pub means : (o : EncodeOptions) → o.define_components ≡ true → HasNoFirst g → (names : List (Sort × ℕ × Name))
+      → (base items : List Item) (index place : ℕ → ℕ) → AreNames g index names → Writes g.edges (is_written g) order → AllSet g → Closed base (name_customs names ++ processor_customs o.processor) items index place
       → ((i j n m : ℕ) → i < j → slice_get order i ≡ Some n → slice_get order j ≡ Some m → place n < place m) → Means items g o
-  means o define no_first unnamed base items index place writes all e in_place = record {
+  means o define no_first names base items index place named writes all e in_place = record {
     order = order;
     in_order = writes;
     at = at;
@@ -296,10 +301,10 @@ module _ (counted : Counted) (earlier : Earlier) (g : Graph) (sound : IsSound g)
     place = place;
     own_items = λ n node there written. e.own n node there;
     in_place = in_place;
-    names = [];
-    named = no_names g index unnamed;
+    names = names;
+    named = named;
     customs = e.customs_are;
     body = base;
-    last = e.split ∙ ap (λ es. base ++ flat_map (export_item_of g index) es ++ map custom_item (processor_customs o.processor)) (sym (further_all g no_first))
+    last = e.split ∙ ap (λ es. base ++ flat_map (export_item_of g index) es ++ map custom_item (name_customs names ++ processor_customs o.processor)) (sym (further_all g no_first))
         ∙ ap (λ cs. base ++ flat_map (export_item_of g index) (further_exports g) ++ map custom_item cs) (sym e.customs_are);
   }

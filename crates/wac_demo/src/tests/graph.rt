@@ -282,6 +282,18 @@ const TITLED: &[(Call<'static>, &str)] = &[
     (Named(0), "n"),
 ];
 
+// Two instances and an alias that are named, the last one first and one by the empty text.
+const TITLES: &[(Call<'static>, &str)] = &[
+    (Register("my:package1", &[], &[("a", Plain)]), ""),
+    (Instantiate(0), "0"),
+    (Alias(0, "a"), "1"),
+    (Instantiate(0), "2"),
+    (Name(2, "b"), ""),
+    (Name(0, "a"), ""),
+    (Name(1, ""), ""),
+    (Export(1, "x"), ""),
+];
+
 // What `encode` answers after the calls.
 fn encoded(
     rt: &(impl Abort + AllocGlobal),
@@ -514,7 +526,37 @@ fn exports_that_are_left(rt: HostRuntime) -> Result<(), Fail> {
 
 #[test]
 fn a_node_is_named(rt: HostRuntime) -> Result<(), Fail> {
-    assert_encoded(&rt, TITLED, NOT_YET)
+    assert_encoded(
+        &rt,
+        TITLED,
+        "0061736d0d00010004080061736d0d00010005040100000000160e636f6d706f6e656e742d6e616d650105050100016e",
+    )
+}
+
+#[test]
+fn nodes_are_named_by_sort_and_index(rt: HostRuntime) -> Result<(), Fail> {
+    assert_encoded(
+        &rt,
+        TITLES,
+        "0061736d0d00010004080061736d0d00010005040100000006060101000001610504010000000b0701000178010000001f0e636f6d706f6e656e742d6e616d6501040101000001080502000161010162",
+    )
+}
+
+#[test]
+fn names_are_written_before_the_processor(rt: HostRuntime) -> Result<(), Fail> {
+    let processor = Some(Processor {
+        name: "x",
+        version: "1",
+    });
+    let options = EncodeOptions {
+        processor,
+        ..EncodeOptions::default()
+    };
+    assert_eq!(rt;
+        encoded(&rt, TITLED, options)?.as_str(),
+        "0061736d0d00010004080061736d0d00010005040100000000160e636f6d706f6e656e742d6e616d650105050100016e001d0970726f647563657273010c70726f6365737365642d62790101780131"
+    );
+    Ok(())
 }
 
 #[test]

@@ -3,7 +3,8 @@ use Rattle.std.specs.List.{list_any}
 use Rattle.wac_causes.specs.declared.errors.EncodeError.TheVariants.{NotYet, OutOfMemory}
 use Rattle.wac_causes.specs.NotYet.{undefined_components}
 use Rattle.wac_causes.specs.Cause.{Stands, cause_of}
-use Rattle.wac_meaning.specs.Encoding.{WroteAll}
+use Rattle.wac_meaning.specs.Means.{AreNames}
+use Rattle.wac_meaning.specs.Encoding.{WroteAll, HasRoom, index_in}
 use Rattle.wac_composition.specs.EncoderView.{progress}
 use Rattle.wac_composition.proofs.MeansLemmas.{writes_all, has_room, in_order, means_all}
 use Rattle.wac_composition.proofs.WriteArgumentsLemmas.{room_kept}
@@ -57,6 +58,9 @@ returns-in_err-write_processor-clause-refused c = λ cause stands. absurd (none_
 pub returns-in_err-write_exports-clause-refused : goal.returns-in_err-write_exports-clause-refused
 returns-in_err-write_exports-clause-refused c = λ cause stands. absurd (none_stands c.args.self.now c.args.options c.in_ok-order.ensures.acyclic c.in_ok-check_conflicts.ensures.none c.in_ok-check_merge.ensures.merges c.if-holds_unwritten.ensures.writable c.if-not-options.false cause stands)
 
+pub returns-in_err-write_names-clause-refused : goal.returns-in_err-write_names-clause-refused
+returns-in_err-write_names-clause-refused c = λ cause stands. absurd (none_stands c.args.self.now c.args.options c.in_ok-order.ensures.acyclic c.in_ok-check_conflicts.ensures.none c.in_ok-check_merge.ensures.merges c.if-holds_unwritten.ensures.writable c.if-not-options.false cause stands)
+
 pub returns-clause-refused : goal.returns-clause-refused
 returns-clause-refused c = λ cause stands. absurd (none_stands c.args.self.now c.args.options c.in_ok-order.ensures.acyclic c.in_ok-check_conflicts.ensures.none c.in_ok-check_merge.ensures.merges c.if-holds_unwritten.ensures.writable c.if-not-options.false cause stands)
 
@@ -83,10 +87,17 @@ returns-clause-means c =
           (ap (λ b. record { items = b; components = c.in_ok-encoder.encoder.components.items; indexes = c.in_ok-encoder.encoder.indexes.items }) c.in_ok-encoder.ensures.items
           ∙ ap (λ cs. record { items = []; components = cs; indexes = c.in_ok-encoder.encoder.indexes.items }) c.in_ok-encoder.ensures.components)
           (subst (λ xs. WroteAll c.args.self.now xs (progress c.in_ok-encoder.encoder) (progress c.write_nodes.new.encoder)) c.deref.ensures.value c.in_ok-write_nodes.ensures.written)
-          c.write_exports.new.encoder.builder c.write_processor.new.self.builder
-          c.in_ok-write_exports.ensures.written c.in_ok-write_processor.ensures.written,
+          c.in_ok-write_names.ensures.written.0
+          (subst (λ v. AreNames c.args.self.now (index_in v.items) c.in_ok-write_names.ensures.written.0) c.in_ok-write_exports.ensures.kept c.in_ok-write_names.ensures.written.1)
+          c.write_exports.new.encoder.builder c.write_names.new.encoder.builder c.write_processor.new.self.builder
+          c.in_ok-write_exports.ensures.written c.in_ok-write_names.ensures.written.2 c.in_ok-write_processor.ensures.written,
     )
 
 pub write_exports-requires : goal.write_exports-requires
 write_exports-requires c = room_kept c.args.self.now c.in_ok-encoder.encoder.indexes.items c.write_nodes.new.encoder.indexes.items c.in_ok-write_nodes.ensures.kept
     (λ n h. let small = has_room c.self.inside c.self.invariant c.args.self.now c.self.view_is c.capacity.result (omega (arith, c.capacity.ensures.slots)) n h in omega (arith, small, c.in_ok-encoder.ensures.indexes))
+
+pub write_names-requires : goal.write_names-requires
+write_names-requires c = subst (λ v. HasRoom c.args.self.now v.items) (sym c.in_ok-write_exports.ensures.kept)
+    (room_kept c.args.self.now c.in_ok-encoder.encoder.indexes.items c.write_nodes.new.encoder.indexes.items c.in_ok-write_nodes.ensures.kept
+    (λ n h. let small = has_room c.self.inside c.self.invariant c.args.self.now c.self.view_is c.capacity.result (omega (arith, c.capacity.ensures.slots)) n h in omega (arith, small, c.in_ok-encoder.ensures.indexes)))

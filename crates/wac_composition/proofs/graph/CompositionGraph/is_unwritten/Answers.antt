@@ -1,20 +1,10 @@
-use Rattle.std.proofs.Common.{◌≡◌, sym, ap, ◌∙◌, length, refl, Option, Some, None, is_some, IsSome, true, false}
+use Rattle.std.proofs.Common.{◌≡◌, sym, ap, ◌∙◌, length}
 use Rattle.std.proofs.lemmas.Bool.{OnTrue_from, OnTrue_at, OnFalse_from, OnFalse_at}
 use Rattle.wac_nodes.specs.Nodes.{kind_of, node_of}
 use Rattle.wac_composition.specs.Inside.{graph_of}
 use Rattle.wac_nodes.specs.Graph.{instantiation, imports_of}
-use Rattle.wac_composition.proofs.EncodingLemmas.{if_none, some_and, a_definition, an_import, an_alias, a_gap, no_gap, of_if, a_name}
+use Rattle.wac_composition.proofs.EncodingLemmas.{if_none, some_and, a_definition, an_import, an_alias, a_gap, no_gap, of_if}
 use Rattle.wac_composition.proofs.graph.CompositionGraph.is_unwritten.Goals as goal
-
-no_name_there : {A : Type 0} (x : Option A) → is_some x ≡ false → x ≡ None
-no_name_there None h = refl
-no_name_there (Some y) h = cc
-
-some_name_there : {A : Type 0} (x : Option A) → is_some x ≡ true → IsSome x
-some_name_there x h = h
-
-pub returns-then-is_some-clause-unwritten : goal.returns-then-is_some-clause-unwritten
-returns-then-is_some-clause-unwritten c = λ o. rw (← c.self.view_is) (a_name c.self.inside c.args.n c.in-Some.node.now o (sym c.in-Some.ensures) (some_name_there c.in-Some.node.now.name (sym c.is_some.ensures ∙ c.if-is_some.true)))
 
 pub returns-in_default-clause-writable : goal.returns-in_default-clause-writable
 returns-in_default-clause-writable c = rw (← c.self.view_is) (if_none c.self.inside c.args.n _ (sym c.in_default.ensures))
@@ -29,7 +19,7 @@ pub returns-in-Import-clause-unwritten : goal.returns-in-Import-clause-unwritten
 returns-in-Import-clause-unwritten c = λ o. rw (← c.self.view_is) (an_import c.self.inside c.args.n c.in-Some.node.now _ o (sym c.in-Some.ensures) c.in-Import.is)
 
 pub returns-in-Alias-clause-writable : goal.returns-in-Alias-clause-writable
-returns-in-Alias-clause-writable c = rw (← c.self.view_is) (an_alias c.self.inside c.args.n c.in-Some.node.now (sym c.in-Some.ensures) c.in-Alias.is (no_name_there c.in-Some.node.now.name (sym c.is_some.ensures ∙ c.if-is_some.false)))
+returns-in-Alias-clause-writable c = rw (← c.self.view_is) (an_alias c.self.inside c.args.n c.in-Some.node.now (sym c.in-Some.ensures) c.in-Alias.is)
 
 count_is : (c : goal.After-has_gap) → c.len.result ≡ length (imports_of (graph_of c.self.inside) (node_of c.in-Some.node.now))
 count_is c = c.len.ensures ∙ ap length (of_if c.self.inside c.args.n c.in-Some.node.now (λ x. c.imports_at.result.now ≡ imports_of (graph_of c.self.inside) x) (rw (← c.self.view_is) at c.imports_at.ensures) (sym c.in-Some.ensures))
@@ -41,4 +31,4 @@ returns-in-Instantiation-clause-unwritten c =
 
 pub returns-in-Instantiation-clause-writable : goal.returns-in-Instantiation-clause-writable
 returns-in-Instantiation-clause-writable c =
-    OnFalse_from c.has_gap.result _ (λ no. rw (← c.self.view_is) (no_gap c.self.inside c.self.invariant c.args.n c.in-Some.node.now c.in-Instantiation.satisfied (sym c.in-Some.ensures) c.in-Instantiation.is c.len.result (count_is c) (OnFalse_at no c.has_gap.ensures.full) (no_name_there c.in-Some.node.now.name (sym c.is_some.ensures ∙ c.if-is_some.false))))
+    OnFalse_from c.has_gap.result _ (λ no. rw (← c.self.view_is) (no_gap c.self.inside c.self.invariant c.args.n c.in-Some.node.now c.in-Instantiation.satisfied (sym c.in-Some.ensures) c.in-Instantiation.is c.len.result (count_is c) (OnFalse_at no c.has_gap.ensures.full)))

@@ -28,3 +28,6 @@ returns-clause-written c =
 pub index-index-requires : goal.index-index-requires
 index-index-requires c = subst (λ k. (c.in-Some.id.now).0 < k) (sym c.loop-i.encoder.indexes.ok.0)
     (subst (λ v. (c.in-Some.id.now).0 < length v.items) (sym c.loop-i.invariant.1) (export_noted c.self.inside c.self.invariant c.args.self.now c.self.view_is c.args.encoder.now.indexes.items c.requires c.loop-i.i c.in-Some.name.now c.in-Some.id.now c.in-Some.ensures.entry))
+
+pub returns-clause-kept : goal.returns-clause-kept
+returns-clause-kept c = c.loop-i.invariant.1

@@ -1,0 +1,79 @@
+//! The names of nodes, as names of the indexes at which these stand.
+ghost use Rattle.std.specs.Prelude.{◌≡◌, ◌↔◌, Some, IfOk, IsSome, IsSomeAnd, IsTrue};
+ghost use Rattle.wac_binary.specs.Views.{names_of};
+ghost use Rattle.wac_edges.specs.Edge.{node_number};
+ghost use Rattle.wac_nodes.specs.Graph.{node_at};
+ghost use Rattle.wac_meaning.specs.Means.{AreNames};
+ghost use Rattle.wac_meaning.specs.Encoding.{HasRoom, index_in};
+ghost use Rattle.wac_composition.specs.Naming.{AreLowest, AreNamesOf, IsNamed, IsNamedAt};
+
+use crate::encode::sort_of;
+use crate::graph::CompositionGraph;
+use std::alloc::AllocError;
+use std::collections::BTreeMap;
+use wac_binary::Sort;
+
+impl CompositionGraph {
+    /// The names of the indexes at which named nodes stand, those of each sort by rising indexes. Of several nodes with one
+    /// index the lowest named one gives the name.
+    pub(crate) fn index_names(&self, indexes: &[u32]) -> Result<Vec<(Sort, u32, &str)>, AllocError>
+        requires { HasRoom self.now indexes.now }
+        ensures { IfOk result (λ names. AreNames self.now (index_in indexes.now) (names_of names.items)) }
+    {
+        let mut names = self.sort_names(indexes, Sort::Type)?;
+        names.append(&mut self.sort_names(indexes, Sort::Func)?)?;
+        names.append(&mut self.sort_names(indexes, Sort::Instance)?)?;
+        names.append(&mut self.sort_names(indexes, Sort::Component)?)?;
+        names.append(&mut self.sort_names(indexes, Sort::CoreModule)?)?;
+        names.append(&mut self.sort_names(indexes, Sort::Value)?)?;
+        Ok(names)
+    }
+
+    /// The names of the indexes of one sort, by rising indexes.
+    fn sort_names(&self, indexes: &[u32], sort: Sort) -> Result<Vec<(Sort, u32, &str)>, AllocError>
+        requires { HasRoom self.now indexes.now }
+        ensures { IfOk result (λ names. AreNamesOf self.now (index_in indexes.now) sort (names_of names.items)) }
+    {
+        let lowest = self.lowest_named(indexes, sort)?;
+        let mut names = Vec::new(self.alloc);
+        for (index, n) in &lowest {
+            names.push((sort, *index, self.name_of(*n)))?;
+        }
+        Ok(names)
+    }
+
+    /// For each index of a sort at which a named node stands the lowest of these.
+    fn lowest_named(&self, indexes: &[u32], sort: Sort) -> Result<BTreeMap<u32, usize>, AllocError>
+        requires { HasRoom self.now indexes.now }
+        ensures { IfOk result (AreLowest (IsNamedAt self.now (index_in indexes.now) sort) 0) }
+    {
+        let mut lowest = BTreeMap::new(self.alloc);
+        for n in (0..self.nodes.capacity()).rev() {
+            if self.is_named(n, sort) {
+                lowest.insert(indexes[n], n)?;
+            }
+        }
+        Ok(lowest)
+    }
+
+    /// Whether the node of this number is of this sort and has a name.
+    fn is_named(&self, n: usize, sort: Sort) -> bool
+        ensures { IsTrue result ↔ IsNamed self.now sort n }
+    {
+        let Some(node) = self.nodes.get(n) else {
+            return false;
+        };
+        node.name.is_some() && sort_of(node.item_kind) == sort
+    }
+
+    /// The name of a node that has one.
+    fn name_of(&self, n: usize) -> &str
+        requires { IsSomeAnd (node_at self.now (node_number n)) (λ node. IsSome node.name) }
+        ensures { IsSomeAnd (node_at self.now (node_number n)) (λ node. node.name ≡ Some result.now) }
+    {
+        let Some(name) = &self.nodes[n].name else {
+            unreachable!()
+        };
+        name.as_str()
+    }
+}
