@@ -10,3 +10,4 @@ pub mod TableLemmas
 pub mod ListLemmas
 pub mod FindLemmas
 pub mod SetLemmas
+pub mod AliasLemmas

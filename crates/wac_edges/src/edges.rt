@@ -9,6 +9,7 @@ ghost use Rattle.wac_edges.specs.Ends.{at_end, AreAt, HasLabel, LeadsTo};
 ghost use Rattle.wac_edges.specs.Order.{IsAcyclic, IsEdge, IsLowestOnCycle};
 ghost use Rattle.wac_cycles.specs.Cycles.{IsStep};
 
+use crate::aliases::{first_alias, forget_alias, note_alias};
 use crate::node::NodeId;
 use crate::records::{Firsts, Record, find, make_firsts, put, take};
 use crate::walk::{Walk, records_at};
@@ -63,11 +64,14 @@ pub enum End {
 
 /// A set of edges. Each has one record in a table; a record whose edge is taken out is used again. The record stands in a
 /// list of the edges from its source and in one of those to its target, so that each look-up reads the records at one node.
+/// The alias of an export is found without that, among those that are noted.
 #[derive(Drop)]
 pub struct Edges {
     records: Slab<Record>,
     // For each node up to the greatest of a source or a target that was given.
     firsts: Vec<Firsts>,
+    // The numbers of each alias's source, of the export's position, and of the alias.
+    aliases: BTreeSet<(usize, usize, usize)>,
 }
 
 impl Model for Edges {
@@ -80,10 +84,11 @@ impl Model for Edges {
 
     ghost use Rattle.slab.specs.Slab.{get};
     ghost use Rattle.wac_edges.specs.Records.{all_edges, AreListed};
+    ghost use Rattle.wac_edges.specs.Aliases.{AreNoted};
 
     ghost view = { λ a. set.from_list (all_edges a.records.slots) };
 
-    ghost invariant = { λ a. AreListed (get a.records) a.firsts.items };
+    ghost invariant = { λ a. AreListed (get a.records) a.firsts.items × AreNoted a.aliases (get a.records) };
 }
 
 /// The clone is the same set, and both change on their own. This takes as many steps as there are edges, and nodes up to the
@@ -94,7 +99,12 @@ impl Clone for Edges {
     fn clone(&self) -> Result<Edges, AllocError> {
         let records = self.records.clone()?;
         let firsts = self.firsts.clone()?;
-        Ok(Edges { records, firsts })
+        let aliases = self.aliases.clone()?;
+        Ok(Edges {
+            records,
+            firsts,
+            aliases,
+        })
     }
 }
 
@@ -106,6 +116,7 @@ impl Edges {
         Edges {
             records: Slab::new(alloc),
             firsts: Vec::new(alloc),
+            aliases: BTreeSet::new(alloc),
         }
     }
 
@@ -120,6 +131,7 @@ impl Edges {
         make_firsts(&mut self.firsts, edge.source.0)?;
         make_firsts(&mut self.firsts, edge.target.0)?;
         self.records.reserve(1)?;
+        note_alias(&mut self.aliases, edge)?;
         put(&mut self.records, &mut self.firsts, edge);
         Ok(())
     }
@@ -138,6 +150,7 @@ impl Edges {
     {
         if let Some(key) = find(&self.records, &self.firsts, edge) {
             take(&mut self.records, &mut self.firsts, key);
+            forget_alias(&mut self.aliases, edge);
         }
     }
 
@@ -162,17 +175,13 @@ impl Edges {
         false
     }
 
-    /// The alias of an instance's export at this position.
+    /// The alias of an instance's export at this position. This takes as many steps as the logarithm of how many there are.
     pub fn alias(&self, source: NodeId, position: usize) -> Option<NodeId>
         ensures some { IfSome result (λ target. set.contains self.now (alias_edge source target position) ≡ true) }
         ensures none { IfNone result ((target : AnId) → set.contains self.now (alias_edge source target position) ≡ false) }
     {
-        for edge in self.walk(source, End::Outgoing) {
-            if edge.label == Label::Alias(position) {
-                return Some(edge.target);
-            }
-        }
-        None
+        let target = first_alias(&self.aliases, source.0, position)?;
+        Some(NodeId(target))
     }
 
     /// The instance and the position of the export that an alias stands for.

@@ -5,6 +5,8 @@ use Rattle.wac_edges.specs.declared.records.Record.{Record}
 use Rattle.wac_edges.specs.declared.records.Firsts.{Firsts}
 use Rattle.wac_edges.specs.Order.{Edges}
 use Rattle.wac_edges.specs.Records.{AreListed, edge_at}
+use Rattle.wac_edges.specs.Aliases.{AreNoted}
+use Rattle.wac_edges.proofs.AliasLemmas.{noted_as, noted_with, listed_back}
 use Rattle.wac_edges.proofs.TableLemmas.{listed_same}
 use Rattle.wac_edges.proofs.SetLemmas.{the_set, of_table, value_with, inserted_same}
 use Rattle.wac_edges.proofs.edges.Edges.add.Goals as goal
@@ -13,22 +15,31 @@ pub returns-then-contains-clause-ok : goal.returns-then-contains-clause-ok
 returns-then-contains-clause-ok c = inserted_same c.args.self.now c.args.edge (sym c.contains.ensures ∙ c.if-contains.true)
 
 pub invariant_of-self : goal.invariant_of-self
-invariant_of-self c = listed_same (get c.self.inside.records) c.self.inside.firsts.items c.make_firsts.new.firsts.items c.make_firsts.ensures.same c.self.invariant
+invariant_of-self c = (listed_same (get c.self.inside.records) c.self.inside.firsts.items c.make_firsts.new.firsts.items c.make_firsts.ensures.same c.self.invariant.0, c.self.invariant.1)
 
 pub invariant_of-self-in_err-make_firsts-2 : goal.invariant_of-self-in_err-make_firsts-2
-invariant_of-self-in_err-make_firsts-2 c =
-    listed_same (get c.self.inside.records) c.self.inside.firsts.items c.make_firsts-2.new.firsts.items (λ end n. c.make_firsts-2.ensures.same end n ∙ c.make_firsts.ensures.same end n) c.self.invariant
+invariant_of-self-in_err-make_firsts-2 c = (
+  listed_same (get c.self.inside.records) c.self.inside.firsts.items c.make_firsts-2.new.firsts.items (λ end n. c.make_firsts-2.ensures.same end n ∙ c.make_firsts.ensures.same end n) c.self.invariant.0,
+  c.self.invariant.1,
+)
 
 pub invariant_of-self-in_err-reserve : goal.invariant_of-self-in_err-reserve
 invariant_of-self-in_err-reserve c =
-    subst (λ (s : Slab Record). AreListed (get s) c.make_firsts-2.new.firsts.items) (sym c.reserve.ensures.rest_kept)
-    (listed_same (get c.self.inside.records) c.self.inside.firsts.items c.make_firsts-2.new.firsts.items (λ end n. c.make_firsts-2.ensures.same end n ∙ c.make_firsts.ensures.same end n) c.self.invariant)
+    subst (λ (s : Slab Record). AreListed (get s) c.make_firsts-2.new.firsts.items × AreNoted c.self.inside.aliases (get s)) (sym c.reserve.ensures.rest_kept)
+    (listed_same (get c.self.inside.records) c.self.inside.firsts.items c.make_firsts-2.new.firsts.items (λ end n. c.make_firsts-2.ensures.same end n ∙ c.make_firsts.ensures.same end n) c.self.invariant.0, c.self.invariant.1)
+
+pub invariant_of-self-in_err-note_alias : goal.invariant_of-self-in_err-note_alias
+invariant_of-self-in_err-note_alias c =
+    subst (λ (s : Slab Record). AreListed (get s) c.make_firsts-2.new.firsts.items × AreNoted c.note_alias.new.aliases (get s)) (sym c.reserve.ensures.rest_kept) (
+      listed_same (get c.self.inside.records) c.self.inside.firsts.items c.make_firsts-2.new.firsts.items (λ end n. c.make_firsts-2.ensures.same end n ∙ c.make_firsts.ensures.same end n) c.self.invariant.0,
+      noted_as c.self.inside.aliases c.note_alias.new.aliases (get c.self.inside.records) c.self.invariant.1 c.in_err-note_alias.ensures.err,
+    )
 
 pub put-requires-clause-listed : goal.put-requires-clause-listed
 put-requires-clause-listed c =
     subst (λ (f : List Firsts). AreListed (get c.reserve.new.self) f) (sym c.deref_mut.ensures.value)
     (subst (λ (s : Slab Record). AreListed (get s) c.make_firsts-2.new.firsts.items) (sym c.reserve.ensures.rest_kept)
-    (listed_same (get c.self.inside.records) c.self.inside.firsts.items c.make_firsts-2.new.firsts.items (λ end n. c.make_firsts-2.ensures.same end n ∙ c.make_firsts.ensures.same end n) c.self.invariant))
+    (listed_same (get c.self.inside.records) c.self.inside.firsts.items c.make_firsts-2.new.firsts.items (λ end n. c.make_firsts-2.ensures.same end n ∙ c.make_firsts.ensures.same end n) c.self.invariant.0))
 
 pub put-requires-clause-absent : goal.put-requires-clause-absent
 put-requires-clause-absent c =
@@ -41,3 +52,10 @@ pub returns-clause-ok : goal.returns-clause-ok
 returns-clause-ok c =
     value_with c.reserve.new.self c.put.new.records c.args.edge c.put.ensures.edges
     ∙ ap (λ (s : Edges). set.insert s c.args.edge) (ap (λ (s : Slab Record). the_set s) c.reserve.ensures.rest_kept ∙ c.self.view_is)
+
+pub invariant_of-self-2 : goal.invariant_of-self-2
+invariant_of-self-2 c = (
+  listed_back (get c.put.new.records) c.put.new.firsts c.make_firsts-2.new.firsts.items c.make_firsts-2.new.firsts.len (c.put.auto.firsts ∙ c.deref_mut.ensures.len) c.put.ensures.listed,
+  noted_with c.self.inside.aliases c.note_alias.new.aliases (get c.reserve.new.self) (get c.put.new.records) c.args.edge
+      (subst (λ (s : Slab Record). AreNoted c.self.inside.aliases (get s)) (sym c.reserve.ensures.rest_kept) c.self.invariant.1) c.in_ok-note_alias.ensures.ok c.put.ensures.edges,
+)

@@ -1,4 +1,8 @@
-use Rattle.std.proofs.Common.{ap, ◌∙◌}
+use Rattle.std.proofs.Common.{List, ap, sym, subst, ◌∙◌}
+use Rattle.slab.specs.Slab.{get}
+use Rattle.wac_edges.specs.declared.records.Firsts.{Firsts}
+use Rattle.wac_edges.specs.Records.{AreListed}
+use Rattle.wac_edges.proofs.AliasLemmas.{noted_without, listed_back}
 use Rattle.std.specs.FinSet as set
 use Rattle.wac_edges.specs.Order.{Edges}
 use Rattle.wac_edges.proofs.SetLemmas.{in_table, value_taken, removed_same}
@@ -13,3 +17,15 @@ pub returns-in_default : goal.returns-in_default
 returns-in_default c =
     removed_same c.args.self.now c.args.edge
     (λ h. let (k, at) = in_table c.self.inside.records c.args.edge (ap (λ (s : Edges). set.contains s c.args.edge) c.self.view_is ∙ h) in c.in_default.ensures.none k at)
+
+pub find-requires : goal.find-requires
+find-requires c = subst (λ (f : List Firsts). AreListed (get c.self.inside.records) f) (sym c.deref.ensures.value) c.self.invariant.0
+
+pub take-requires-clause-listed : goal.take-requires-clause-listed
+take-requires-clause-listed c = subst (λ (f : List Firsts). AreListed (get c.self.inside.records) f) (sym c.deref_mut.ensures.value) c.self.invariant.0
+
+pub invariant_of-self : goal.invariant_of-self
+invariant_of-self c = (
+  listed_back (get c.take.new.records) c.take.new.firsts c.self.inside.firsts.items c.self.inside.firsts.len (c.take.auto.firsts ∙ c.deref_mut.ensures.len) c.take.ensures.listed,
+  noted_without c.self.inside.aliases c.forget_alias.new.aliases (get c.self.inside.records) (get c.take.new.records) c.args.edge c.in-Some.key c.in-Some.ensures.some c.self.invariant.1 c.forget_alias.ensures c.take.ensures.edges,
+)

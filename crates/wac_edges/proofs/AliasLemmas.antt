@@ -1,0 +1,198 @@
+-- Aliases that are noted.
+use Rattle.std.proofs.Common.{◌≡◌, ◌↔◌, ◌⊎◌, ℕ, ◌<◌, Bool, true, false, cond, List, [], ◌∷◌, Option, Some, None, refl, sym, ap, ◌∙◌, subst, inl, inr, arith}
+use Rattle.std.specs.List.{list_any}
+use Rattle.std.specs.BTreeSet.{BTreeSet, contains, IsKeyRangeOf, IsKeyInRange}
+use Rattle.std.specs.BTreeMap.Range.{IsLeBy}
+use Rattle.std.specs.declared.ops.Bound.TheVariants.{Included, Unbounded}
+use Rattle.std.specs.Prelude.{slice_get, IfSome, IfNone}
+use Rattle.std.specs.BTreeMap.{is_at}
+use Rattle.std.specs.declared.cmp.Ordering.{Ordering}
+use Rattle.std.specs.declared.cmp.Ordering.TheVariants.{Less, Equal, Greater}
+use Rattle.std.specs.Ordering.{nat_cmp, ordering_then, is_gt, is_eq, MatchOrdering}
+use Rattle.std.specs.Cmp.{ranks, tied_itself}
+use Rattle.std.proofs.lemmas.Bool.{false_from_ne_true}
+use Rattle.std.proofs.lemmas.Cmp.{nat_cmp_total}
+use Rattle.std.proofs.lemmas.Map.Lookups.{exact_unsigned}
+use Rattle.std.proofs.Common.{option_map, slice_index_or}
+use Rattle.std.specs.FinSet as set
+use Rattle.slab.specs.Slab.{Slab, get}
+use Rattle.wac_edges.specs.declared.records.Record.{Record}
+use Rattle.wac_edges.specs.Order.{Edges}
+use Rattle.wac_edges.proofs.SetLemmas.{the_set, in_table, of_table}
+use Rattle.wac_edges.specs.declared.edges.Label.TheVariants.{Alias}
+use Rattle.wac_edges.specs.declared.edges.Edge.{Edge}
+use Rattle.wac_edges.specs.declared.node.NodeId.{NodeId}
+use Rattle.wac_edges.specs.Edge.{node_number, alias_edge}
+use Rattle.std.proofs.Common.{◌++◌, length, take, drop}
+use Rattle.std.proofs.Math.Seq.{take-append_seam}
+use Rattle.wac_edges.specs.declared.records.Firsts.{Firsts}
+use Rattle.wac_edges.specs.Records.{Table, HasEdge, AreListed, edge_at}
+use Rattle.wac_edges.specs.Aliases.{triple_cmp, is_noted, AreNoted}
+use Rattle.wac_edges.proofs.EdgeLemmas.{same_node}
+
+-- ---- triples
+then_equal : (r s : Ordering) → is_eq (ordering_then r s) ≡ true → (r ≡ Equal) × (s ≡ Equal)
+then_equal Less s h = cc
+then_equal Greater s h = cc
+then_equal Equal Less h = cc
+then_equal Equal Greater h = cc
+then_equal Equal Equal h = (refl, refl)
+
+is_eq_of : (r : Ordering) → r ≡ Equal → is_eq r ≡ true
+is_eq_of r h = ap is_eq h
+
+triple_parts : (a b c x y z : ℕ) → is_at (triple_cmp (a, b, c)) (x, y, z) ≡ true → (a ≡ x) × (b ≡ y) × (c ≡ z)
+triple_parts a b c x y z h =
+    let (first, third) = then_equal (ordering_then (nat_cmp a x) (nat_cmp b y)) (nat_cmp c z) h in
+    let (one, two) = then_equal (nat_cmp a x) (nat_cmp b y) (is_eq_of (ordering_then (nat_cmp a x) (nat_cmp b y)) first) in
+    (exact_unsigned a x one, exact_unsigned b y two, exact_unsigned c z third)
+
+triple_itself : (a b c x y z : ℕ) → a ≡ x → b ≡ y → c ≡ z → is_at (triple_cmp (a, b, c)) (x, y, z) ≡ true
+triple_itself a b c x y z p q r = rw (sym p, sym q, sym r, tied_itself nat_cmp_total a, tied_itself nat_cmp_total b, tied_itself nat_cmp_total c) refl
+
+-- ---- an alias's edge
+the_edge : (edge : Edge) (position : ℕ) (source target : NodeId) (i : ℕ) → edge.label ≡ Alias position → edge.source.0 ≡ source.0 → position ≡ i → edge.target.0 ≡ target.0 → alias_edge source target i ≡ edge
+the_edge edge position source target i is s p t =
+    let from : source ≡ edge.source = sym (same_node edge.source source s) in
+    let to : target ≡ edge.target = sym (same_node edge.target target t) in
+    let label : Alias i ≡ edge.label = ap (λ (k : ℕ). Alias k) (sym p) ∙ sym is in
+    λ j. record { source = from j; target = to j; label = label j }
+
+same_position : (i j : ℕ) → Alias i ≡ Alias j → i ≡ j
+same_position i j h = cc
+
+is_the_triple : (edge : Edge) (position : ℕ) (source target : NodeId) (i : ℕ) → edge.label ≡ Alias position → alias_edge source target i ≡ edge → is_at (triple_cmp (edge.source.0, position, edge.target.0)) (source.0, i, target.0) ≡ true
+is_the_triple edge position source target i is same =
+    triple_itself edge.source.0 position edge.target.0 source.0 i target.0
+    (ap (λ (e : Edge). e.source.0) (sym same))
+    (same_position position i (sym is ∙ ap (λ (e : Edge). e.label) (sym same)))
+    (ap (λ (e : Edge). e.target.0) (sym same))
+
+-- ---- one more, and one less
+module _ (old new : BTreeSet (ℕ × ℕ × ℕ)) (edge : Edge) (position : ℕ) (is : edge.label ≡ Alias position) (source target : NodeId) (i : ℕ) where
+  abbrev tied : Bool
+  tied = is_at (triple_cmp (edge.source.0, position, edge.target.0)) (source.0, i, target.0)
+
+  its_edge : tied ≡ true → alias_edge source target i ≡ edge
+  its_edge h = let (s, p, t) = triple_parts edge.source.0 position edge.target.0 source.0 i target.0 h in the_edge edge position source target i is s p t
+
+  pub noted_more : is_noted new source i target ≡ cond tied true (is_noted old source i target) → (is_noted new source i target ≡ true) ↔ ((is_noted old source i target ≡ true) ⊎ (alias_edge source target i ≡ edge))
+  noted_more now = split tied refl now where
+    split : (b : Bool) → tied ≡ b → is_noted new source i target ≡ cond b true (is_noted old source i target) → (is_noted new source i target ≡ true) ↔ ((is_noted old source i target ≡ true) ⊎ (alias_edge source target i ≡ edge))
+    split true same h = (λ _. inr (its_edge same), λ _. h)
+    split false differ h = (λ w. inl (sym h ∙ w), λ w. elim w [ inl was ↦ h ∙ was | inr here ↦ absurd (clash here) ]) where
+      clash : alias_edge source target i ≡ edge → ⊥
+      clash here = let wrong : true ≡ false = sym (is_the_triple edge position source target i is here) ∙ differ in cc
+
+  pub noted_less : is_noted new source i target ≡ cond tied false (is_noted old source i target) → (is_noted new source i target ≡ true) ↔ ((is_noted old source i target ≡ true) × (alias_edge source target i ≡ edge → ⊥))
+  noted_less now = split tied refl now where
+    split : (b : Bool) → tied ≡ b → is_noted new source i target ≡ cond b false (is_noted old source i target) → (is_noted new source i target ≡ true) ↔ ((is_noted old source i target ≡ true) × (alias_edge source target i ≡ edge → ⊥))
+    split true same h = (λ w. absurd (let wrong : false ≡ true = sym h ∙ w in cc), λ w. absurd (w.1 (its_edge same)))
+    split false differ h = (λ w. (sym h ∙ w, λ here. let wrong : true ≡ false = sym (is_the_triple edge position source target i is here) ∙ differ in cc), λ w. h ∙ w.0)
+
+-- an edge of another label is none of an alias
+module _ (s : BTreeSet (ℕ × ℕ × ℕ)) (edge : Edge) (other : (position : ℕ) → edge.label ≡ Alias position → ⊥) (source target : NodeId) (i : ℕ) where
+  none_here : alias_edge source target i ≡ edge → ⊥
+  none_here here = other i (ap (λ (e : Edge). e.label) (sym here))
+
+  pub noted_same : (is_noted s source i target ≡ true) ↔ ((is_noted s source i target ≡ true) ⊎ (alias_edge source target i ≡ edge))
+  noted_same = (λ w. inl w, λ w. elim w [ inl was ↦ was | inr here ↦ absurd (none_here here) ])
+
+  pub noted_still : (is_noted s source i target ≡ true) ↔ ((is_noted s source i target ≡ true) × (alias_edge source target i ≡ edge → ⊥))
+  noted_still = (λ w. (w, none_here), λ w. w.0)
+
+pub noted_kept : (old new : BTreeSet (ℕ × ℕ × ℕ)) → new.keys ≡ old.keys → (source target : NodeId) (i : ℕ) → is_noted new source i target ≡ is_noted old source i target
+noted_kept old new same source target i = ap (λ ks. list_any (is_at (triple_cmp (source.0, i, target.0))) ks) same
+
+-- ---- the first of those of an export
+-- what stands between two triples of the same two numbers has them too
+between : (s p n i m t : ℕ) → is_gt (triple_cmp (s, p, 0) (n, i, m)) ≡ false → is_gt (triple_cmp (n, i, m) (s, p, t)) ≡ false → (n ≡ s) × (i ≡ p)
+between s p n i m t = by_cases (nat_cmp s n) (nat_cmp n s) (nat_cmp p i) (nat_cmp i p) (nat_cmp 0 m) (nat_cmp m t) (ranks s n) (ranks n s) (ranks p i) (ranks i p) where
+  by_cases : (r1 r1' r2 r2' r3 r3' : Ordering) → MatchOrdering r1 (s < n) (s ≡ n) (n < s) → MatchOrdering r1' (n < s) (n ≡ s) (s < n) → MatchOrdering r2 (p < i) (p ≡ i) (i < p) → MatchOrdering r2' (i < p) (i ≡ p) (p < i)
+      → is_gt (ordering_then (ordering_then r1 r2) r3) ≡ false → is_gt (ordering_then (ordering_then r1' r2') r3') ≡ false → (n ≡ s) × (i ≡ p)
+  by_cases Greater r1' r2 r2' r3 r3' a b c d h g = cc
+  by_cases Less Greater r2 r2' r3 r3' a b c d h g = cc
+  by_cases Less Less r2 r2' r3 r3' a b c d h g = absurd (omega (arith, a, b))
+  by_cases Less Equal r2 r2' r3 r3' a b c d h g = absurd (omega (arith, a, b))
+  by_cases Equal Less r2 r2' r3 r3' a b c d h g = absurd (omega (arith, a, b))
+  by_cases Equal Greater r2 r2' r3 r3' a b c d h g = cc
+  by_cases Equal Equal Greater r2' r3 r3' a b c d h g = cc
+  by_cases Equal Equal Less Greater r3 r3' a b c d h g = cc
+  by_cases Equal Equal Less Less r3 r3' a b c d h g = absurd (omega (arith, c, d))
+  by_cases Equal Equal Less Equal r3 r3' a b c d h g = absurd (omega (arith, c, d))
+  by_cases Equal Equal Equal r2' r3 r3' a b c d h g = (b, sym c)
+
+-- no triple of these two numbers is below the one that ends with 0
+pub begins : (s p t : ℕ) → is_gt (triple_cmp (s, p, 0) (s, p, t)) ≡ false
+begins s p t = rw (tied_itself nat_cmp_total s, tied_itself nat_cmp_total p) (at_zero (nat_cmp 0 t) (ranks 0 t)) where
+  at_zero : (r : Ordering) → MatchOrdering r (0 < t) (0 ≡ t) (t < 0) → is_gt r ≡ false
+  at_zero Less h = refl
+  at_zero Equal h = refl
+  at_zero Greater h = absurd (omega (arith, h))
+
+-- where the first has other numbers, none has these
+pub none_of : (aliases : BTreeSet (ℕ × ℕ × ℕ)) (s p : ℕ) (k : ℕ × ℕ × ℕ) → is_gt (triple_cmp (s, p, 0) k) ≡ false → ((q : ℕ × ℕ × ℕ) → is_gt (triple_cmp (s, p, 0) q) ≡ false → contains triple_cmp aliases q ≡ true → is_gt (triple_cmp k q) ≡ false)
+    → ((k.0 ≡ s) → (k.1 ≡ p) → ⊥) → (target : NodeId) → is_noted aliases (node_number s) p target ≡ false
+none_of aliases s p k from least other target = false_from_ne_true (is_noted aliases (node_number s) p target) wrong where
+  wrong : is_noted aliases (node_number s) p target ≡ true → ⊥
+  wrong there =
+      let (one, two) = between s p k.0 k.1 k.2 target.0 from (least (s, p, target.0) (begins s p target.0) there) in
+      other one two
+
+pub none_at : (aliases : BTreeSet (ℕ × ℕ × ℕ)) (s p : ℕ) (r : List (ℕ × ℕ × ℕ)) → IsKeyRangeOf triple_cmp (Included (s, p, 0)) Unbounded aliases r → r ≡ [] → (target : NodeId) → is_noted aliases (node_number s) p target ≡ false
+none_at aliases s p r range empty target = range.5 empty (s, p, target.0) (begins s p target.0, tt)
+
+pub none_first : (aliases : BTreeSet (ℕ × ℕ × ℕ)) (s p : ℕ) (r rest : List (ℕ × ℕ × ℕ)) (k : ℕ × ℕ × ℕ) → IsKeyRangeOf triple_cmp (Included (s, p, 0)) Unbounded aliases r → r ≡ k ∷ rest → (k.0 ≡ s → k.1 ≡ p → ⊥) → (target : NodeId) → is_noted aliases (node_number s) p target ≡ false
+none_first aliases s p r rest k range is other =
+    let first : IsKeyInRange triple_cmp (Included (s, p, 0)) Unbounded aliases k = subst (λ (l : List (ℕ × ℕ × ℕ)). IfSome (slice_get l 0) (IsKeyInRange triple_cmp (Included (s, p, 0)) Unbounded aliases)) is range.1 in
+    none_of aliases s p k first.0.0 (λ q from there. subst (λ (l : List (ℕ × ℕ × ℕ)). IfSome (slice_get l 0) (λ x. IsLeBy triple_cmp x q)) is (range.2 q (from, tt) there)) other
+
+pub if_none : {T : Type 0} (o : Option T) {P : Type 0} → P → IfNone o P
+if_none None p = p
+if_none (Some x) p = tt
+
+-- ---- the notes of a table
+pub noted_with : (old new : BTreeSet (ℕ × ℕ × ℕ)) (t u : Table) (edge : Edge) → AreNoted old t
+    → ((source target : NodeId) (i : ℕ) → (is_noted new source i target ≡ true) ↔ ((is_noted old source i target ≡ true) ⊎ (alias_edge source target i ≡ edge)))
+    → ((e : Edge) → HasEdge u e ↔ (HasEdge t e ⊎ (e ≡ edge))) → AreNoted new u
+noted_with old new t u edge noted now edges source target i = (
+  λ w. (edges (alias_edge source target i)).1 (elim ((now source target i).0 w) [ inl was ↦ inl ((noted source target i).0 was) | inr same ↦ inr same ]),
+  λ h. (now source target i).1 (elim ((edges (alias_edge source target i)).0 h) [ inl was ↦ inl ((noted source target i).1 was) | inr same ↦ inr same ]),
+)
+
+pub noted_without : (old new : BTreeSet (ℕ × ℕ × ℕ)) (t u : Table) (edge : Edge) (key : ℕ) → edge_at t key ≡ Some edge → AreNoted old t
+    → ((source target : NodeId) (i : ℕ) → (is_noted new source i target ≡ true) ↔ ((is_noted old source i target ≡ true) × (alias_edge source target i ≡ edge → ⊥)))
+    → ((e : Edge) → HasEdge u e ↔ (HasEdge t e × (edge_at t key ≡ Some e → ⊥))) → AreNoted new u
+noted_without old new t u edge key at noted now edges source target i = (
+  λ w.
+      let (was, other) = (now source target i).0 w in
+      (edges (alias_edge source target i)).1 ((noted source target i).0 was, λ here. other (let both : Some edge ≡ Some (alias_edge source target i) = sym at ∙ here in let same : edge ≡ alias_edge source target i = cc in sym same)),
+  λ h.
+      let (was, other) = (edges (alias_edge source target i)).0 h in
+      (now source target i).1 ((noted source target i).1 was, λ same. other (at ∙ ap (λ (e : Edge). Some e) (sym same))),
+)
+
+pub noted_as : (old new : BTreeSet (ℕ × ℕ × ℕ)) (t : Table) → AreNoted old t → ((source target : NodeId) (i : ℕ) → is_noted new source i target ≡ is_noted old source i target) → AreNoted new t
+noted_as old new t noted same source target i = (λ w. (noted source target i).0 (sym (same source target i) ∙ w), λ h. same source target i ∙ (noted source target i).1 h)
+
+pub noted_none : (s : Slab Record) (aliases : BTreeSet (ℕ × ℕ × ℕ)) → s.slots ≡ [] → aliases.keys ≡ [] → AreNoted aliases (get s)
+noted_none s aliases empty none source target i = (
+  λ w. let wrong : false ≡ true = sym (ap (λ ks. list_any (is_at (triple_cmp (source.0, i, target.0))) ks) none) ∙ w in cc,
+  λ h. let (k, at) = h in let wrong : None ≡ Some (alias_edge source target i) = sym (nothing k) ∙ at in cc,
+) where
+  nothing : (k : ℕ) → edge_at (get s) k ≡ None
+  nothing k = ap (λ (slots : List (Option Record)). option_map (λ (r : Record). r.edge) (slice_index_or slots k None)) empty
+
+-- ---- the alias that a look-up answers
+module _ (s : Slab Record) (aliases : BTreeSet (ℕ × ℕ × ℕ)) (edges : Edges) (noted : AreNoted aliases (get s)) (shown : the_set s ≡ edges) (source : NodeId) (i : ℕ) where
+  pub alias_found : (target : ℕ) → is_noted aliases source i (node_number target) ≡ true → set.contains edges (alias_edge source (node_number target) i) ≡ true
+  alias_found target there = ap (λ (v : Edges). set.contains v (alias_edge source (node_number target) i)) (sym shown) ∙ of_table s (alias_edge source (node_number target) i) ((noted source (node_number target) i).0 there)
+
+  pub alias_absent : ((target : NodeId) → is_noted aliases source i target ≡ false) → (target : NodeId) → set.contains edges (alias_edge source target i) ≡ false
+  alias_absent none target = false_from_ne_true (set.contains edges (alias_edge source target i)) (λ h.
+      let there : is_noted aliases source i target ≡ true = (noted source target i).1 (in_table s (alias_edge source target i) (ap (λ (v : Edges). set.contains v (alias_edge source target i)) shown ∙ h)) in
+      let wrong : false ≡ true = sym (none target) ∙ there in cc)
+
+-- ---- the first records that were written through a borrow of all of them
+pub listed_back : (t : Table) (xs ys : List Firsts) (n : ℕ) → length xs ≡ n → AreListed t xs → AreListed t (take n (xs ++ drop (length xs) ys))
+listed_back t xs ys n long listed = subst (λ (zs : List Firsts). AreListed t zs) (sym (ap (λ k. take k (xs ++ drop (length xs) ys)) (sym long) ∙ take-append_seam xs (drop (length xs) ys))) listed
