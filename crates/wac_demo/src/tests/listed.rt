@@ -1,24 +1,45 @@
 // What a graph lists.
-use super::bench::Bench;
 use super::bench::Call::{Alias, Import, Instantiate, Register, Set, Unset};
 use super::bench::Item::Plain;
+use super::bench::{Bench, Call};
 use std::test::Fail;
 use wac_graph::NodeId;
+
+// Two packages, the second instantiated first.
+const NUMBERED: &[(Call<'static>, &str)] = &[
+    (Register("my:first", &[], &[("a", Plain)]), ""),
+    (Register("my:second", &[], &[]), ""),
+    (Import("i", Plain), "0"),
+    (Instantiate(1), "1"),
+    (Instantiate(0), "2"),
+    (Alias(2, "a"), "3"),
+];
+
+// Arguments that are set in another order than that of the world, of which one import has none.
+const GIVEN: &[(Call<'static>, &str)] = &[
+    (
+        Register(
+            "my:package",
+            &[("x", Plain), ("y", Plain), ("z", Plain)],
+            &[],
+        ),
+        "",
+    ),
+    (Instantiate(0), "0"),
+    (Instantiate(0), "1"),
+    (Import("i", Plain), "2"),
+    (Import("j", Plain), "3"),
+    (Set(0, "z", 2), ""),
+    (Set(0, "x", 3), ""),
+    (Set(1, "y", 2), ""),
+];
+
+const TAKEN: &[(Call<'static>, &str)] = &[(Unset(0, "x", 3), "")];
 
 #[test]
 fn nodes_and_packages_are_listed_by_number(rt: HostRuntime) -> Result<(), Fail> {
     let mut bench = Bench::new(rt.alloc());
-    bench.calls(
-        &rt,
-        &[
-            (Register("my:first", &[], &[("a", Plain)]), ""),
-            (Register("my:second", &[], &[]), ""),
-            (Import("i", Plain), "0"),
-            (Instantiate(1), "1"),
-            (Instantiate(0), "2"),
-            (Alias(2, "a"), "3"),
-        ],
-    )?;
+    bench.calls(&rt, NUMBERED)?;
     assert_eq!(rt;
         bench.listed_nodes()?.as_str(),
         "0: function; 1: instance; 2: instance; 3: function; 0; 1; 2; 3; "
@@ -30,30 +51,16 @@ fn nodes_and_packages_are_listed_by_number(rt: HostRuntime) -> Result<(), Fail> 
     Ok(())
 }
 
-// Set in another order than that of the world, of which one import has no argument.
 #[test]
 fn arguments_are_listed_in_world_order(rt: HostRuntime) -> Result<(), Fail> {
     let mut bench = Bench::new(rt.alloc());
-    let imports = &[("x", Plain), ("y", Plain), ("z", Plain)];
-    bench.calls(
-        &rt,
-        &[
-            (Register("my:package", imports, &[]), ""),
-            (Instantiate(0), "0"),
-            (Instantiate(0), "1"),
-            (Import("i", Plain), "2"),
-            (Import("j", Plain), "3"),
-            (Set(0, "z", 2), ""),
-            (Set(0, "x", 3), ""),
-            (Set(1, "y", 2), ""),
-        ],
-    )?;
+    bench.calls(&rt, GIVEN)?;
     assert_eq!(rt; bench.listed_arguments(NodeId(0))?.as_str(), "x: 3; z: 2; ");
     assert_eq!(rt; bench.listed_arguments(NodeId(1))?.as_str(), "y: 2; ");
     // An import, and no node.
     assert_eq!(rt; bench.listed_arguments(NodeId(2))?.as_str(), "");
     assert_eq!(rt; bench.listed_arguments(NodeId(9))?.as_str(), "");
-    bench.calls(&rt, &[(Unset(0, "x", 3), "")])?;
+    bench.calls(&rt, TAKEN)?;
     assert_eq!(rt; bench.listed_arguments(NodeId(0))?.as_str(), "z: 2; ");
     Ok(())
 }
