@@ -4,3 +4,4 @@ pub mod Counting
 pub mod Below
 pub mod Stepping
 pub mod Answering
+pub mod Rows

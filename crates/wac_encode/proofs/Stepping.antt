@@ -69,7 +69,7 @@ known-end s s' (val.Defined e) more h = by_index_of (value_index s e) refl h
     by_index_of None is k = let both : false ≡ true = k in cc
     by_index_of (Some j) is k = subst (λ (o : Option ℕ). IsSome (by_index o)) (sym (more e j is)) k
 
-known-more : (c : Collection) (s s' : Scope) → ((e : DefinedTypeId) (j : ℕ) → value_index s e ≡ Some j → value_index s' e ≡ Some j) → (v : ValueType) → IsKnown c s v → IsKnown c s' v
+pub known-more : (c : Collection) (s s' : Scope) → ((e : DefinedTypeId) (j : ℕ) → value_index s e ≡ Some j → value_index s' e ≡ Some j) → (v : ValueType) → IsKnown c s v → IsKnown c s' v
 known-more c s s' more v h = known-end s s' (value_resolved c v) more h
 
 -- a task that waits, as another definition is written
@@ -119,7 +119,7 @@ pub still-under-way : (c : Collection) → IsWellFormed c → Follows → (d : D
 still-under-way c wf follows d old now new t left next w (wrote one is) =
     let ready : IsReady c now t = all-last (IsReady c now) left t w.ready in
     subst (λ (ts : List Task). IsUnderWay c d old new ts) (sym is) (record {
-      written = writes-more c follows (val.Defined d) old now new t.id w.written (all-last (λ (u : Task). MadeOf c (val.Defined d) (val.Defined u.id)) left t w.made) ready.held ready.unwritten one;
+      written = writes-more c follows 0 (MadeOf c (val.Defined d)) old now new t.id w.written (all-last (λ (u : Task). MadeOf c (val.Defined d) (val.Defined u.id)) left t w.made) ready.held ready.unwritten one;
       ready = all-both (IsReady c now) (λ (u : Task). t.id.0 < u.id.0) (IsReady c new) (λ (u : Task) r below. still-ready c now new t.id ready.unwritten one u r below) left (all-front (IsReady c now) left t w.ready) (falls-last left t w.falls);
       made = all-front (λ (u : Task). MadeOf c (val.Defined d) (val.Defined u.id)) left t w.made;
       falls = falls-front left t w.falls;

@@ -37,3 +37,7 @@ parts (def.Future v) = v ∷ []
 pub data MadeOf (c : Collection) (v : ValueType) : ValueType → Type 0 where
   itself : MadeOf c v v
   part : (d : DefinedTypeId) (x : DefinedType) (k : ℕ) (w : ValueType) → MadeOf c v (val.Defined d) → item_at c.defined d.0 ≡ Some x → slice_get (parts x) k ≡ Some (Some w) → MadeOf c v (value_resolved c w)
+
+-- what one of these value types is made of, aliases followed to the ends
+abbrev pub OneIsMadeOf : Collection → List ValueType → ValueType → Type 0
+OneIsMadeOf c vs w = (k : ℕ) × (v : ValueType) × (slice_get vs k ≡ Some v) × MadeOf c (value_resolved c v) w

@@ -1,5 +1,5 @@
 -- What is still to be written, and what a step of that does. Private functions alone cite this.
-use Rattle.std.specs.Prelude.{ℕ, ◌+◌, ◌^◌, suc, ◌<◌, ◌≡◌, List, [], ◌∷◌, ◌++◌, length, Option, Some, None, IsSome, slice_get, Result, Ok, Err}
+use Rattle.std.specs.Prelude.{ℕ, ◌+◌, ◌^◌, ◌<◌, ◌≡◌, List, [], ◌∷◌, ◌++◌, Option, Some, None, IsSome, slice_get, Result, Ok, Err}
 use Rattle.std.specs.Borrow.{Bor}
 use Rattle.std.specs.List.{AllByRecursion}
 use Rattle.wac_shapes.specs.Name.{Name}
@@ -12,7 +12,7 @@ use Rattle.wac_collection.specs.Collection.{Collection, HasDefined, item_at, hol
 use Rattle.wac_collection.specs.Aliases.{target_of, value_resolved}
 use Rattle.wac_binary.specs.declared.types.ComponentValType.{ComponentValType}
 use Rattle.wac_binary.specs.Fits.{DeclarationsFit}
-use Rattle.wac_binary.specs.Items.{ValueDef, type_decl, value_def}
+use Rattle.wac_binary.specs.Items.{ValueDef, TypeDef, type_decl, value_def}
 use Rattle.wac_scopes.specs.declared.scope.Scope.{Scope}
 use Rattle.wac_scopes.specs.declared.fault.EncodeFault.{EncodeFault}
 use Rattle.wac_scopes.specs.declared.fault.EncodeFault.TheVariants as fault
@@ -20,11 +20,11 @@ use Rattle.wac_scopes.specs.declared.fault.WriteFault.TheVariants as write
 use Rattle.wac_scopes.specs.Scoped.{value_index, HasToo}
 use Rattle.wac_encode.specs.declared.task.Task.{Task}
 use Rattle.wac_encode.specs.Made.{MadeOf, parts}
-use Rattle.wac_encode.specs.Written.{Says, MaybeSays, SaysDefinition, GoesOn, IsKnown, IsHandle, WritesFor}
+use Rattle.wac_encode.specs.Written.{Says, MaybeSays, SaysDefinition, GoesOn, IsByRecord, IsKnown, IsHandle, WritesFor}
 
 -- a field and a case as they are written
 abbrev pub FieldSays : Collection → Scope → Name × ValueType → Bor (List ℕ) × ComponentValType → Type 0
-FieldSays c s e y = (y.0.now ≡ e.0) × Says c s e.1 y.1
+FieldSays c s e y = (y.0.now ≡ e.0) × Says c s e.1 y.1 × IsByRecord c s e.1 y.1
 
 abbrev pub CaseSays : Collection → Scope → Name × Option ValueType → Bor (List ℕ) × Option ComponentValType → Type 0
 CaseSays c s e y = (y.0.now ≡ e.0) × MaybeSays c s e.1 y.1
@@ -72,7 +72,8 @@ pub record WritesOne (c : Collection) (old new : Scope) (d : DefinedTypeId) : Ty
   pub onward : GoesOn c old new
   pub index : ℕ
   pub recorded : HasToo old d index new
-  pub one : length new.declarations ≡ suc (length old.declarations)
+  pub definition : TypeDef
+  pub appended : new.declarations ≡ old.declarations ++ type_decl definition ∷ []
 
 -- the definition does not fit behind what is written
 pub record LargeOne (c : Collection) (s : Scope) (d : DefinedTypeId) : Type 0 where
@@ -122,7 +123,7 @@ Covers s d (t ∷ ts) = t.id ≡ d
 
 -- between two steps
 pub record IsUnderWay (c : Collection) (d : DefinedTypeId) (old now : Scope) (tasks : List Task) : Type 0 where
-  pub written : WritesFor c (val.Defined d) old now
+  pub written : WritesFor c 0 (MadeOf c (val.Defined d)) old now
   pub ready : AllByRecursion (IsReady c now) tasks
   pub made : AllByRecursion (λ t. MadeOf c (val.Defined d) (val.Defined t.id)) tasks
   pub falls : Falls tasks

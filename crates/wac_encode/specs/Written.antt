@@ -1,25 +1,32 @@
--- What the writers of value types do to an open scope.
-use Rattle.std.specs.Prelude.{ℕ, zero, suc, ◌+◌, ◌≡◌, List, [], ◌∷◌, ◌++◌, length, Option, Some, None, IsSome, Result, Ok, Err}
+-- What the writers of value types and function types do to an open scope.
+use Rattle.std.specs.Prelude.{ℕ, zero, suc, ◌+◌, ◌≡◌, ◌⊎◌, List, [], ◌∷◌, ◌++◌, length, map, Option, Some, None, IsSome, Result, Ok, Err}
+use Rattle.std.specs.List.{AllZip}
+use Rattle.wac_shapes.specs.Name.{option_case}
 use Rattle.wac_shapes.specs.declared.component.DefinedType.{DefinedType}
 use Rattle.wac_shapes.specs.declared.component.DefinedTypeId.{DefinedTypeId}
+use Rattle.wac_shapes.specs.declared.component.FuncType.{FuncType}
+use Rattle.wac_shapes.specs.declared.component.FuncTypeId.{FuncTypeId}
 use Rattle.wac_shapes.specs.declared.component.ValueType.{ValueType}
 use Rattle.wac_shapes.specs.declared.component.ValueType.TheVariants as val
 use Rattle.wac_shapes.specs.declared.component.«Type».TheVariants as ty
-use Rattle.wac_collection.specs.Collection.{Collection, item_at}
+use Rattle.wac_collection.specs.Tree.{Tree}
+use Rattle.wac_collection.specs.Collection.{Collection, item_at, func_values}
 use Rattle.wac_collection.specs.Aliases.{value_resolved}
 use Rattle.wac_collection.specs.Bound.{Bindings}
 use Rattle.wac_binary.specs.declared.types.ComponentValType.{ComponentValType}
 use Rattle.wac_binary.specs.Fits.{DeclarationsFit}
-use Rattle.wac_binary.specs.Items.{ValueDef, type_decl, value_def}
+use Rattle.wac_binary.specs.HasMeaning.{IsFunction}
+use Rattle.wac_binary.specs.Items.{ValueDef, TypeDef, func_def, Decl, type_decl, value_def}
 use Rattle.wac_scopes.specs.declared.scope.Scope.{Scope}
 use Rattle.wac_scopes.specs.declared.fault.EncodeFault.{EncodeFault}
 use Rattle.wac_scopes.specs.declared.fault.EncodeFault.TheVariants as fault
 use Rattle.wac_scopes.specs.declared.fault.WriteFault.TheVariants as write
 use Rattle.wac_scopes.specs.Scopes.{Open, Stack, env, envs}
-use Rattle.wac_scopes.specs.Good.{Good, Onward}
-use Rattle.wac_scopes.specs.Parts.{Is, IsWritten}
+use Rattle.wac_scopes.specs.Good.{IsHeld, Good, Onward}
+use Rattle.wac_scopes.specs.Laws.{Adds}
+use Rattle.wac_scopes.specs.Parts.{Is, IsWritten, IsWrittenFunc}
 use Rattle.wac_scopes.specs.Scoped.{value_index, in_use, opened}
-use Rattle.wac_encode.specs.Made.{MadeOf}
+use Rattle.wac_encode.specs.Made.{OneIsMadeOf}
 
 -- the value type in use is the held one, in each good stack in which the scope is the innermost
 abbrev pub Says : Collection → Scope → ValueType → ComponentValType → Type 0
@@ -39,6 +46,15 @@ SaysDefinition c s x y = (m : Bindings) (ms : List Bindings) (o : Open) (os : St
 abbrev pub GoesOn : Collection → Scope → Scope → Type 0
 GoesOn c old new = (m : Bindings) (ms : List Bindings) (o : Open) (os : Stack) → Good c (m ∷ ms) (opened old o ∷ os) → Onward c (m ∷ ms) (opened old o ∷ os) (opened new o ∷ os)
 
+-- and what is recorded of it, aliases followed to the end
+abbrev pub IsByRecord : Collection → Scope → ValueType → ComponentValType → Type 0
+IsByRecord c s v x = in_use s (value_resolved c v) ≡ Some x
+
+abbrev pub MaybeByRecord : Collection → Scope → Option ValueType → Option ComponentValType → Type 0
+MaybeByRecord c s None None = Unit {0}
+MaybeByRecord c s (Some v) (Some x) = IsByRecord c s v x
+MaybeByRecord c s _ _ = ⊥
+
 -- the end of the aliases of a value type is primitive or is written
 abbrev pub IsKnown : Collection → Scope → ValueType → Type 0
 IsKnown c s v = IsSome (in_use s (value_resolved c v))
@@ -52,21 +68,28 @@ abbrev pub unwritten : Scope → ℕ → ℕ
 unwritten s zero = 0
 unwritten s (suc n) = one_if_none (value_index s (record { 0 = n })) + unwritten s n
 
--- From old to new, while this value type of the collection was written.
-pub record WritesFor (c : Collection) (v : ValueType) (old new : Scope) : Type 0 where
+-- type definitions are written behind what was
+abbrev pub with_types : List Decl → List TypeDef → List Decl
+with_types ds ys = ds ++ map type_decl ys
+
+-- From old to new, while definitions that are needed were written, and so many function types.
+pub record WritesFor (c : Collection) (n : ℕ) (Needed : ValueType → Type 0) (old new : Scope) : Type 0 where
   -- good stacks go onward
   pub onward : GoesOn c old new
+  -- type definitions are written, and nothing else is
+  pub types : List TypeDef
+  pub appended : new.declarations ≡ with_types old.declarations types
   -- what was written is written where it was
   pub kept : (d : DefinedTypeId) (i : ℕ) → value_index old d ≡ Some i → value_index new d ≡ Some i
-  -- what is written since, it is made of
-  pub needed : (d : DefinedTypeId) (i : ℕ) → value_index old d ≡ None → value_index new d ≡ Some i → MadeOf c v (val.Defined d)
-  -- and is written once, and nothing else is
-  pub once : length new.declarations + unwritten new (length c.defined) ≡ length old.declarations + unwritten old (length c.defined)
+  -- what is written since is needed
+  pub needed : (d : DefinedTypeId) (i : ℕ) → value_index old d ≡ None → value_index new d ≡ Some i → Needed (val.Defined d)
+  -- and is written once
+  pub once : length new.declarations + unwritten new (length c.defined) ≡ n + (length old.declarations + unwritten old (length c.defined))
 
--- a definition that v is made of is not written, and does not fit behind what is
-pub record DoesNotFit (c : Collection) (v : ValueType) (s : Scope) : Type 0 where
+-- a definition that is needed is not written, and does not fit behind what is
+pub record DoesNotFit (c : Collection) (Needed : ValueType → Type 0) (s : Scope) : Type 0 where
   pub id : DefinedTypeId
-  pub made : MadeOf c v (val.Defined id)
+  pub made : Needed (val.Defined id)
   pub unwritten : value_index s id ≡ None
   pub definition : DefinedType
   pub found : item_at c.defined id.0 ≡ Some definition
@@ -79,13 +102,52 @@ IsHandle (val.Own r) = Unit {0}
 IsHandle (val.Borrow r) = Unit {0}
 IsHandle v = ⊥
 
--- v is made of a handle
-abbrev pub HasHandle : Collection → ValueType → Type 0
-HasHandle c v = (w : ValueType) × MadeOf c v w × IsHandle w
+-- a handle is needed
+abbrev pub HasHandle : (ValueType → Type 0) → Type 0
+HasHandle Needed = (w : ValueType) × Needed w × IsHandle w
 
--- what stands where a value type is refused: a handle, whose resource this scope does not bind; a definition that does not fit
-abbrev pub IsRefused : {A : Type 0} → Collection → ValueType → Scope → Result A EncodeFault → Type 0
-IsRefused c v s (Ok x) = Unit {0}
-IsRefused c v s (Err (fault.Write f)) = (f ≡ write.UnboundResource) × HasHandle c v
-IsRefused c v s (Err fault.TooLarge) = DoesNotFit c v s
-IsRefused c v s (Err fault.OutOfMemory) = Unit {0}
+-- what stands where value types are refused: a handle, whose resource this scope does not bind; a definition that does not fit
+abbrev pub IsRefused : {A : Type 0} → Collection → (ValueType → Type 0) → Scope → Result A EncodeFault → Type 0
+IsRefused c Needed s (Ok x) = Unit {0}
+IsRefused c Needed s (Err (fault.Write f)) = (f ≡ write.UnboundResource) × HasHandle Needed
+IsRefused c Needed s (Err fault.TooLarge) = DoesNotFit c Needed s
+IsRefused c Needed s (Err fault.OutOfMemory) = Unit {0}
+
+-- the value types of a held function type
+abbrev pub values_of : Collection → FuncTypeId → List ValueType
+values_of c f = option_case (item_at c.funcs f.0) [] func_values
+
+-- what they are made of
+abbrev pub IsOfFunc : Collection → FuncTypeId → ValueType → Type 0
+IsOfFunc c f = OneIsMadeOf c (values_of c f)
+
+-- index k is the held function type, in each stack that was good with the scope as the innermost; and that stack goes onward
+abbrev pub AddsHeldFunc : Collection → Scope → Scope → FuncTypeId → ℕ → Type 0
+AddsHeldFunc c old new f k = (m : Bindings) (ms : List Bindings) (o : Open) (os : Stack) → Good c (m ∷ ms) (opened old o ∷ os)
+    → (t : Tree) × IsHeld c m (ty.Func f) t × IsFunction t × Adds c (m ∷ ms) (opened old o ∷ os) (opened new o ∷ os) k t
+
+-- a function type is written with the value types in use that are recorded
+abbrev pub IsFuncByRecord : Collection → Scope → FuncType → TypeDef → Type 0
+IsFuncByRecord c s x (func_def is_async xs y) = AllZip (λ v z. (z.0 ≡ v.0) × IsByRecord c s v.1 z.1) x.params xs × MaybeByRecord c s x.result y
+IsFuncByRecord c s x _ = ⊥
+
+-- and is the last declaration
+abbrev pub EndsWithFunc : Collection → FuncTypeId → Scope → Type 0
+EndsWithFunc c f s = (x : FuncType) × (item_at c.funcs f.0 ≡ Some x) × (ds : List Decl) × (y : TypeDef) × (s.declarations ≡ ds ++ type_decl y ∷ []) × IsFuncByRecord c s x y
+
+-- the function type does not fit behind what is written
+pub record FuncDoesNotFit (c : Collection) (f : FuncTypeId) (s : Scope) : Type 0 where
+  pub func : FuncType
+  pub found : item_at c.funcs f.0 ≡ Some func
+  pub written : TypeDef
+  pub says : (m : Bindings) (ms : List Bindings) (o : Open) (os : Stack) → Good c (m ∷ ms) (opened s o ∷ os) → IsWrittenFunc c m (env (opened s o) (envs os)) func written
+  pub large : DeclarationsFit (s.declarations ++ type_decl written ∷ []) → ⊥
+
+-- what stands where a function type is refused: what stands where its value types are, or it does not fit itself
+abbrev pub IsFuncRefused : {A : Type 0} → Collection → FuncTypeId → Scope → Result A EncodeFault → Type 0
+IsFuncRefused c f s (Err fault.TooLarge) = DoesNotFit c (IsOfFunc c f) s ⊎ FuncDoesNotFit c f s
+IsFuncRefused c f s r = IsRefused c (IsOfFunc c f) s r
+
+abbrev pub one_if_ok : {A : Type 0} → Result A EncodeFault → ℕ
+one_if_ok (Ok x) = 1
+one_if_ok (Err e) = 0

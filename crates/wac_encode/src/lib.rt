@@ -2,6 +2,7 @@
 #![tactic(auto)]
 
 mod encoder;
+mod functions;
 mod parts;
 mod task;
 

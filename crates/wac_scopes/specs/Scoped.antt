@@ -1,5 +1,7 @@
 -- What a scope that is written in the code says of a stack of open scopes, whatever else is recorded there and around it.
 use Rattle.std.specs.Prelude.{ℕ, ◌≡◌, cond, nat_eq, List, ◌∷◌, Option, Some, None, Result, Ok, Err}
+use Rattle.wac_shapes.specs.Name.{Name}
+use Rattle.wac_shapes.specs.declared.component.PrimitiveType.{PrimitiveType}
 use Rattle.std.specs.HashMap.{get}
 use Rattle.wac_shapes.specs.declared.component.DefinedTypeId.{DefinedTypeId}
 use Rattle.wac_shapes.specs.declared.component.FuncTypeId.{FuncTypeId}
@@ -8,20 +10,21 @@ use Rattle.wac_shapes.specs.declared.component.FuncType.{FuncType}
 use Rattle.wac_shapes.specs.declared.component.ValueType.{ValueType}
 use Rattle.wac_shapes.specs.declared.component.ValueType.TheVariants as val
 use Rattle.wac_shapes.specs.declared.component.«Type».TheVariants as ty
-use Rattle.wac_collection.specs.Tree.{Tree}
+use Rattle.wac_collection.specs.Tree.{exported, Tree, primitive, type_equal, function_item}
 use Rattle.wac_collection.specs.Collection.{Collection, IsWellFormed, item_at}
 use Rattle.wac_collection.specs.Bound.{Bindings}
 use Rattle.wac_binary.specs.declared.types.ComponentValType.{ComponentValType}
 use Rattle.wac_binary.specs.declared.types.ComponentValType.TheVariants.{Primitive, Index}
 use Rattle.wac_binary.specs.Items.{ValueDef, TypeDef}
-use Rattle.wac_binary.specs.HasMeaning.{IsValue, IsFunction}
+use Rattle.wac_binary.specs.HasMeaning.{IsValue, IsFunction, IsType}
 use Rattle.wac_scopes.specs.declared.fault.EncodeFault.{EncodeFault}
 use Rattle.wac_scopes.specs.declared.fault.EncodeFault.TheVariants as fault
 use Rattle.wac_scopes.specs.declared.scope.Scope.{Scope}
 use Rattle.wac_scopes.specs.Scopes.{declarations, Where, at_type, Open, Stack, env, envs}
-use Rattle.wac_scopes.specs.Good.{IsHeld, Good}
+use Rattle.wac_scopes.specs.Good.{At, IsHeld, Good}
 use Rattle.wac_scopes.specs.Parts.{Is, IsWritten, IsWrittenFunc}
 use Rattle.wac_scopes.specs.Laws.{Adds}
+use Rattle.wac_scopes.specs.Listed.{IsNewName, Lists}
 
 -- the type index of a definition, where it is written
 abbrev pub value_index : Scope → DefinedTypeId → Option ℕ
@@ -78,6 +81,29 @@ abbrev pub AddsFunc : Scope → Scope → TypeDef → ℕ → Type 0
 AddsFunc old new y k = (c : Collection) → IsWellFormed c → (m : Bindings) (ms : List Bindings) (o : Open) (os : Stack) (f : FuncTypeId) (x : FuncType)
     → Good c (m ∷ ms) (opened old o ∷ os) → item_at c.funcs f.0 ≡ Some x → IsWrittenFunc c m (env (opened old o) (envs os)) x y
     → (t : Tree) × IsHeld c m (ty.Func f) t × IsFunction t × Adds c (m ∷ ms) (opened old o ∷ os) (opened new o ∷ os) k t
+
+-- index k is the primitive type, and each good stack goes onward
+abbrev pub AddsPrimitive : Scope → Scope → PrimitiveType → ℕ → Type 0
+AddsPrimitive old new p k = (c : Collection) (m : Bindings) (ms : List Bindings) (o : Open) (os : Stack)
+    → Good c (m ∷ ms) (opened old o ∷ os) → Adds c (m ∷ ms) (opened old o ∷ os) (opened new o ∷ os) k (primitive p)
+
+-- where no item has the name yet, the type at index i is listed under it, and is at index k too
+abbrev pub ListsType : Scope → Scope → Name → ℕ → ℕ → Type 0
+ListsType old new n i k = (c : Collection) (m : Bindings) (ms : List Bindings) (o : Open) (os : Stack) (t : Tree)
+    → Good c (m ∷ ms) (opened old o ∷ os) → IsNewName (opened old o) os exported n → IsType t → At ((env (opened old o) (envs os)).types) i t
+    → Lists c m ms (opened old o) (opened new o) os exported n (type_equal t) × At ((env (opened new o) (envs os)).types) k t
+
+-- and so of one that is the held value type of a definition
+abbrev pub ListsValue : Scope → Scope → Name → DefinedTypeId → ℕ → ℕ → Type 0
+ListsValue old new n d i k = (c : Collection) (m : Bindings) (ms : List Bindings) (o : Open) (os : Stack) (t : Tree)
+    → Good c (m ∷ ms) (opened old o ∷ os) → IsNewName (opened old o) os exported n → IsHeld c m (ty.Value (val.Defined d)) t → IsValue t → At ((env (opened old o) (envs os)).types) i t
+    → Lists c m ms (opened old o) (opened new o) os exported n (type_equal t) × At ((env (opened new o) (envs os)).types) k t
+
+-- and a function of the function type at index i
+abbrev pub ListsFunction : Scope → Scope → Name → ℕ → Type 0
+ListsFunction old new n i = (c : Collection) (m : Bindings) (ms : List Bindings) (o : Open) (os : Stack) (t : Tree)
+    → Good c (m ∷ ms) (opened old o ∷ os) → IsNewName (opened old o) os exported n → IsFunction t → At ((env (opened old o) (envs os)).types) i t
+    → Lists c m ms (opened old o) (opened new o) os exported n (function_item t)
 
 -- an answer is `TooLarge` exactly where something does not fit, also where memory is refused; and all can be written where it stands
 abbrev pub WritesUnlessTooLarge : {A : Type 0} → Result A EncodeFault → Type 0 → Type 0

@@ -28,13 +28,13 @@ pub optional-requires-in-Future : goal.optional-requires-in-Future
 optional-requires-in-Future c v is = c.requires.known 0 v (ap (λ (y : DefinedType). slice_get (parts y) 0) c.in-Future.is ∙ some-part is)
 
 pub returns-in-List : goal.returns-in-List
-returns-in-List c = says-list c.args.self.now.types.now c.args.scope.now c.args.held.now c.in-List.part c.known.result c.in-List.is c.known.ensures
+returns-in-List c = says-list c.args.self.now.types.now c.args.scope.now c.args.held.now c.in-List.part c.known.result c.in-List.is c.known.ensures.says
 
 pub returns-in-FixedSizeList : goal.returns-in-FixedSizeList
-returns-in-FixedSizeList c = says-fixed-list c.args.self.now.types.now c.args.scope.now c.args.held.now c.in-FixedSizeList.part c.in-FixedSizeList.size c.known-in-FixedSizeList.result c.in-FixedSizeList.is c.known-in-FixedSizeList.ensures
+returns-in-FixedSizeList c = says-fixed-list c.args.self.now.types.now c.args.scope.now c.args.held.now c.in-FixedSizeList.part c.in-FixedSizeList.size c.known-in-FixedSizeList.result c.in-FixedSizeList.is c.known-in-FixedSizeList.ensures.says
 
 pub returns-in-Option : goal.returns-in-Option
-returns-in-Option c = says-option c.args.self.now.types.now c.args.scope.now c.args.held.now c.in-Option.part c.known-in-Option.result c.in-Option.is c.known-in-Option.ensures
+returns-in-Option c = says-option c.args.self.now.types.now c.args.scope.now c.args.held.now c.in-Option.part c.known-in-Option.result c.in-Option.is c.known-in-Option.ensures.says
 
 pub returns-in-Result : goal.returns-in-Result
 returns-in-Result c = says-result c.args.self.now.types.now c.args.scope.now c.args.held.now c.in-Result.ok c.in-Result.err c.optional-ok.result c.optional-err.result c.in-Result.is c.optional-ok.ensures c.optional-err.ensures

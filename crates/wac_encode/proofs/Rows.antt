@@ -1,0 +1,219 @@
+-- Value types in a row.
+use Rattle.std.specs.Prelude.{length, ℕ, zero, suc, ◌+◌, ◌<◌, ◌≡◌, nat_eq, Bool, true, false, List, [], ◌∷◌, ◌++◌, Option, Some, None, IsSome, slice_get, Result, Ok, Err, IfOk}
+use Rattle.std.specs.List.{AllZip, AllByRecursion}
+use Rattle.std.specs.Borrow.{Bor}
+use Rattle.std.specs.Option.{option_map}
+use Rattle.std.proofs.Common.{refl, ap, ◌∙◌, sym, subst, arith, inl, inr}
+use Rattle.wac_shapes.specs.Name.{Name, option_case}
+use Rattle.wac_shapes.specs.declared.component.FuncType.{FuncType}
+use Rattle.wac_shapes.specs.declared.component.FuncTypeId.{FuncTypeId}
+use Rattle.wac_shapes.specs.declared.component.ValueType.{ValueType}
+use Rattle.wac_shapes.specs.declared.component.«Type».TheVariants as ty
+use Rattle.wac_collection.specs.declared.collection.Held.{Held}
+use Rattle.wac_collection.specs.Collection.{Collection, IsWellFormed, IsBefore, IsValueBefore, item_at, item_of, and_maybe, seconds, func_values, value_types, holds_value}
+use Rattle.wac_collection.specs.Aliases.{value_resolved}
+use Rattle.wac_collection.specs.Bound.{Bindings}
+use Rattle.wac_collection.proofs.Growth.{value_within}
+use Rattle.wac_binary.specs.declared.types.ComponentValType.{ComponentValType}
+use Rattle.wac_binary.specs.Fits.{DeclarationsFit}
+use Rattle.wac_binary.specs.Items.{TypeDef, func_def, type_decl}
+use Rattle.wac_binary.specs.Views.{named}
+use Rattle.wac_scopes.specs.Scopes.{Open, Stack, env, envs}
+use Rattle.wac_scopes.specs.Good.{Good}
+use Rattle.wac_scopes.specs.Parts.{Is, IsWrittenFunc}
+use Rattle.wac_scopes.specs.declared.scope.Scope.{Scope}
+use Rattle.wac_scopes.specs.declared.fault.EncodeFault.{EncodeFault}
+use Rattle.wac_scopes.specs.declared.fault.EncodeFault.TheVariants as fault
+use Rattle.wac_scopes.specs.Scoped.{value_index, opened, AddsFunc, WritesUnlessTooLarge}
+use Rattle.wac_scopes.specs.Laws.{Follows, StaysOnward}
+use Rattle.wac_encode.specs.Made.{MadeOf, OneIsMadeOf}
+use Rattle.wac_encode.specs.Written.{Says, MaybeSays, IsByRecord, MaybeByRecord, GoesOn, IsKnown, unwritten, WritesFor, IsRefused, values_of, IsOfFunc, AddsHeldFunc, IsFuncByRecord, EndsWithFunc, FuncDoesNotFit, IsFuncRefused}
+use Rattle.wac_encode.specs.Tasks.{FieldSays}
+use Rattle.wac_encode.proofs.Saying.{maybe-is, zip-map}
+use Rattle.wac_encode.proofs.Counting.{unwritten-same}
+use Rattle.wac_encode.proofs.Answering.{as-it-was}
+use Rattle.wac_encode.proofs.Stacks.{writes-none, writes-then, one-longer}
+use Rattle.wac_encode.proofs.Stepping.{known-more}
+
+-- the second of an entry is one of the seconds
+pub second-at : (es : List (Name × ValueType)) (k : ℕ) (e : Name × ValueType) → slice_get es k ≡ Some e → slice_get (seconds es) k ≡ Some e.1
+second-at [] k e is = let none_some : None ≡ Some e = is in cc
+second-at (x ∷ es) zero e is = let some_some : Some x ≡ Some e = is in let same : x ≡ e = cc in ap (λ (y : Name × ValueType). Some y.1) same
+second-at (x ∷ es) (suc k) e is = second-at es k e is
+
+pub second-given : (es : List (Name × ValueType)) (k : ℕ) (v : ValueType) → option_map (λ (e : Name × ValueType). e.1) (slice_get es k) ≡ Some v → slice_get (seconds es) k ≡ Some v
+second-given [] k v is = let none_some : None ≡ Some v = is in cc
+second-given (x ∷ es) zero v is = is
+second-given (x ∷ es) (suc k) v is = second-given es k v is
+
+pub within-list : {A : Type 0} (xs : List A) (k : ℕ) (x : A) → slice_get xs k ≡ Some x → k < length xs
+within-list [] k x at = let none_some : None ≡ Some x = at in cc
+within-list (y ∷ xs) zero x at = omega arith
+within-list (y ∷ xs) (suc k) x at = let below : k < length xs = within-list xs k x at in omega (arith, below)
+
+-- what one of them is made of is made of one of them
+pub of-one : (c : Collection) (vs : List ValueType) (k : ℕ) (v : ValueType) → slice_get vs k ≡ Some v → (w : ValueType) → MadeOf c (value_resolved c v) w → OneIsMadeOf c vs w
+of-one c vs k v at w made = (k, v, at, made)
+
+pub result-of : (c : Collection) (o : Option ValueType) (vs : List ValueType) (w : ValueType) → OneIsMadeOf c (and_maybe o []) w → OneIsMadeOf c (and_maybe o vs) w
+result-of c None vs w h = let none_some : None ≡ Some h.1 = h.2 in cc
+result-of c (Some v) vs w h = by_place h.0 h.1 h.2 h.3
+  where
+    by_place : (k : ℕ) (u : ValueType) → slice_get (v ∷ []) k ≡ Some u → MadeOf c (value_resolved c u) w → OneIsMadeOf c (v ∷ vs) w
+    by_place zero u at made = (zero, u, at, made)
+    by_place (suc k) u at made = let none_some : None ≡ Some u = at in cc
+
+pub params-of : (c : Collection) (o : Option ValueType) (vs : List ValueType) (w : ValueType) → OneIsMadeOf c vs w → OneIsMadeOf c (and_maybe o vs) w
+params-of c None vs w h = h
+params-of c (Some v) vs w h = (suc h.0, h.1, h.2, h.3)
+
+values-are : (c : Collection) (f : FuncTypeId) (x : FuncType) → item_at c.funcs f.0 ≡ Some x → func_values x ≡ values_of c f
+values-are c f x at = ap (λ (o : Option FuncType). option_case o [] func_values) (sym at)
+
+pub params-of-func : (c : Collection) (f : FuncTypeId) (x : FuncType) → item_at c.funcs f.0 ≡ Some x → (w : ValueType) → OneIsMadeOf c (seconds x.params) w → IsOfFunc c f w
+params-of-func c f x at w h = subst (λ (vs : List ValueType). OneIsMadeOf c vs w) (values-are c f x at) (params-of c x.result (seconds x.params) w h)
+
+pub result-of-func : (c : Collection) (f : FuncTypeId) (x : FuncType) → item_at c.funcs f.0 ≡ Some x → (w : ValueType) → OneIsMadeOf c (and_maybe x.result []) w → IsOfFunc c f w
+result-of-func c f x at w h = subst (λ (vs : List ValueType). OneIsMadeOf c vs w) (values-are c f x at) (result-of c x.result (seconds x.params) w h)
+
+pub one-of : (c : Collection) (o : Option ValueType) (v : ValueType) → o ≡ Some v → (w : ValueType) → MadeOf c (value_resolved c v) w → OneIsMadeOf c (and_maybe o []) w
+one-of c o v is w made = subst (λ (p : Option ValueType). OneIsMadeOf c (and_maybe p []) w) (sym is) (zero, v, refl, made)
+
+pub maybe-says : (c : Collection) (s : Scope) (o : Option ValueType) (v : ValueType) (x : ComponentValType) → o ≡ Some v → Says c s v x → MaybeSays c s o (Some x)
+maybe-says c s o v x is h = subst (λ (p : Option ValueType). MaybeSays c s p (Some x)) (sym is) h
+
+pub maybe-by-record : (c : Collection) (s : Scope) (o : Option ValueType) (v : ValueType) (x : ComponentValType) → o ≡ Some v → IsByRecord c s v x → MaybeByRecord c s o (Some x)
+maybe-by-record c s o v x is h = subst (λ (p : Option ValueType). MaybeByRecord c s p (Some x)) (sym is) h
+
+-- a refusal says the same of more
+
+pub refused-as : (A B : Type 0) (c : Collection) (P Q : ValueType → Type 0) (s : Scope) (e : EncodeFault) → ((v : ValueType) → P v → Q v) → IsRefused {A = A} c P s (Err e) → IsRefused {A = B} c Q s (Err e)
+refused-as A B c P Q s (fault.Write f) ok h = (h.0, (h.1.0, ok h.1.0 h.1.1, h.1.2))
+refused-as A B c P Q s fault.TooLarge ok h = record {
+  id = h.id;
+  made = ok _ h.made;
+  unwritten = h.unwritten;
+  definition = h.definition;
+  found = h.found;
+  written = h.written;
+  says = h.says;
+  large = h.large;
+}
+refused-as A B c P Q s fault.OutOfMemory ok h = tt
+
+pub func-refused-as : (A B : Type 0) (c : Collection) (P : ValueType → Type 0) (f : FuncTypeId) (s : Scope) (e : EncodeFault) → ((v : ValueType) → P v → IsOfFunc c f v) → IsRefused {A = A} c P s (Err e) → IsFuncRefused {A = B} c f s (Err e)
+func-refused-as A B c P f s (fault.Write g) ok h = refused-as A B c P (IsOfFunc c f) s (fault.Write g) ok h
+func-refused-as A B c P f s fault.TooLarge ok h = inl (refused-as A B c P (IsOfFunc c f) s fault.TooLarge ok h)
+func-refused-as A B c P f s fault.OutOfMemory ok h = tt
+
+-- one more of a row
+
+pub row-written : (c : Collection) → Follows → (es : List (Name × ValueType)) (old now new : Scope) (i : ℕ) (e : Name × ValueType) → slice_get es i ≡ Some e → WritesFor c 0 (OneIsMadeOf c (seconds es)) old now → WritesFor c 0 (MadeOf c (value_resolved c e.1)) now new → WritesFor c 0 (OneIsMadeOf c (seconds es)) old new
+row-written c follows es old now new i e at w u = writes-then c follows 0 0 (OneIsMadeOf c (seconds es)) (MadeOf c (value_resolved c e.1)) old now new w u (OneIsMadeOf c (seconds es)) (λ v m. m) (of-one c (seconds es) i e.1 (second-at es i e at))
+
+pub known-now : (c : Collection) (s : Scope) (v : ValueType) (x : ComponentValType) → IsByRecord c s v x → IsKnown c s v
+known-now c s v x is = subst (λ (o : Option ComponentValType). IsSome o) (sym is) refl
+
+-- what a row of value types has come to
+abbrev pub RowSoFar : Collection → List (Name × ValueType) → Scope → Scope → ℕ → Type 0
+RowSoFar c es old now i = WritesFor c 0 (OneIsMadeOf c (seconds es)) old now × ((k : ℕ) (e : Name × ValueType) → k < i → slice_get es k ≡ Some e → IsKnown c now e.1)
+
+pub row-starts : (c : Collection) → StaysOnward → (es : List (Name × ValueType)) (s : Scope) → RowSoFar c es s s 0
+row-starts c stays es s = (writes-none c stays (OneIsMadeOf c (seconds es)) s s (as-it-was s), λ k e less at. absurd (omega (arith, less)))
+
+pub row-further : (c : Collection) → Follows → (es : List (Name × ValueType)) (old now new : Scope) (i : ℕ) (e : Name × ValueType) → slice_get es i ≡ Some e → RowSoFar c es old now i → WritesFor c 0 (MadeOf c (value_resolved c e.1)) now new → IsKnown c new e.1 → RowSoFar c es old new (i + 1)
+row-further c follows es old now new i e at so_far w known = (row-written c follows es old now new i e at so_far.0 w, λ k x less there. by_place k x less there (nat_eq k i) refl)
+  where
+    by_place : (k : ℕ) (x : Name × ValueType) → k < i + 1 → slice_get es k ≡ Some x → (b : Bool) → nat_eq k i ≡ b → IsKnown c new x.1
+    by_place k x less there true is = let here : k ≡ i = grind arith in let both : Some e ≡ Some x = sym at ∙ ap (slice_get es) (sym here) ∙ there in let same : e ≡ x = cc in subst (λ (y : Name × ValueType). IsKnown c new y.1) same known
+    by_place k x less there false is = let below : k < i = grind arith in known-more c now new w.kept x.1 (so_far.1 k x below there)
+
+-- what a held function type mentions is held
+
+all-values : (c : Collection) (n : ℕ) (vs : List ValueType) → AllByRecursion (IsBefore c n) (value_types vs) → (k : ℕ) (v : ValueType) → slice_get vs k ≡ Some v → IsValueBefore c n v
+all-values c n [] a k v at = let none_some : None ≡ Some v = at in cc
+all-values c n (u ∷ vs) a zero v at = let both : Some u ≡ Some v = at in let same : u ≡ v = cc in subst (IsValueBefore c n) same a.0
+all-values c n (u ∷ vs) a (suc k) v at = all-values c n vs a.1 k v at
+
+pub held-values : (c : Collection) → IsWellFormed c → (f : FuncTypeId) (x : FuncType) → item_at c.funcs f.0 ≡ Some x → (k : ℕ) (v : ValueType) → slice_get (func_values x) k ≡ Some v → holds_value c v ≡ true
+held-values c wf f x at k v is = by_item (slice_get c.funcs f.0) refl at
+  where
+    by_item : (o : Option (Held FuncType)) → slice_get c.funcs f.0 ≡ o → item_of o ≡ Some x → holds_value c v ≡ true
+    by_item None e no_item = let none_some : None ≡ Some x = no_item in cc
+    by_item (Some h) e item = let both : Some h.item ≡ Some x = item in let same : h.item ≡ x = cc in value_within c h.before v (all-values c h.before (func_values h.item) (wf.funcs f.0 h e).1 k v (ap (λ (y : FuncType). slice_get (func_values y) k) same ∙ is))
+
+behind-result : (o : Option ValueType) (vs : List ValueType) (k : ℕ) (v : ValueType) → slice_get vs k ≡ Some v → (j : ℕ) × (slice_get (and_maybe o vs) j ≡ Some v)
+behind-result None vs k v at = (k, at)
+behind-result (Some u) vs k v at = (suc k, at)
+
+pub held-params : (c : Collection) → IsWellFormed c → (f : FuncTypeId) (x : FuncType) → item_at c.funcs f.0 ≡ Some x → (k : ℕ) (e : Name × ValueType) → slice_get x.params k ≡ Some e → holds_value c e.1 ≡ true
+held-params c wf f x at k e is = let there = behind-result x.result (seconds x.params) k e.1 (second-at x.params k e is) in held-values c wf f x at there.0 e.1 there.1
+
+pub held-result : (c : Collection) → IsWellFormed c → (f : FuncTypeId) (x : FuncType) → item_at c.funcs f.0 ≡ Some x → (v : ValueType) → x.result ≡ Some v → holds_value c v ≡ true
+held-result c wf f x at v is = held-values c wf f x at zero v (ap (λ (o : Option ValueType). slice_get (and_maybe o (seconds x.params)) 0) is)
+
+-- a function type
+
+pub func-says : (c : Collection) (s : Scope) (x : FuncType) (a : Bool) (ys : List (Bor (List ℕ) × ComponentValType)) (y : Option ComponentValType) → a ≡ x.is_async → AllZip (FieldSays c s) x.params ys → MaybeSays c s x.result y → (m : Bindings) (ms : List Bindings) (o : Open) (os : Stack) → Good c (m ∷ ms) (opened s o ∷ os) → IsWrittenFunc c m (env (opened s o) (envs os)) x (func_def a (named ys) y)
+func-says c s x a ys y is z r m ms o os g = (is, zip-map (FieldSays c s) (λ e u. (u.0 ≡ e.0) × Is c m (env (opened s o) (envs os)) (ty.Value e.1) u.1) (λ u. (u.0.now, u.1)) (λ e u h. (h.0, h.1 m ms o os g)) x.params ys z, maybe-is c s x.result y r m ms o os g)
+
+pub func-by-record : (c : Collection) (s : Scope) (x : FuncType) (a : Bool) (ys : List (Bor (List ℕ) × ComponentValType)) (y : Option ComponentValType) → AllZip (FieldSays c s) x.params ys → MaybeByRecord c s x.result y → IsFuncByRecord c s x (func_def a (named ys) y)
+func-by-record c s x a ys y z r = (zip-map (FieldSays c s) (λ e u. (u.0 ≡ e.0) × IsByRecord c s e.1 u.1) (λ u. (u.0.now, u.1)) (λ e u h. (h.0, h.2)) x.params ys z, r)
+
+abbrev with_type : Scope → TypeDef → Scope
+with_type s y = record s { declarations = s.declarations ++ type_decl y ∷ [] }
+
+-- a definition that is no value type
+pub writes-type : (c : Collection) (P : ValueType → Type 0) (old new : Scope) (y : TypeDef) → new ≡ with_type old y → GoesOn c old new → WritesFor c 1 P old new
+writes-type c P old new y is on = record {
+  onward = on;
+  types = y ∷ [];
+  appended = ap (λ (s : Scope). s.declarations) is;
+  kept = λ d i h. ap (λ (s : Scope). value_index s d) is ∙ h;
+  needed = λ d i none some. let both : None ≡ Some i = sym none ∙ sym (ap (λ (s : Scope). value_index s d) is) ∙ some in cc;
+  once =
+      let same : unwritten new (length c.defined) ≡ unwritten old (length c.defined) = unwritten-same old new (length c.defined) (λ k l. ap (λ (s : Scope). value_index s (record { 0 = k })) is) in
+      let one : length new.declarations ≡ suc (length old.declarations) = one-longer old.declarations new.declarations (type_decl y) (ap (λ (s : Scope). s.declarations) is) in
+      omega (arith, same, one);
+}
+
+pub adds-held : (c : Collection) → IsWellFormed c → (old new : Scope) (f : FuncTypeId) (x : FuncType) (y : TypeDef) (k : ℕ) → item_at c.funcs f.0 ≡ Some x → ((m : Bindings) (ms : List Bindings) (o : Open) (os : Stack) → Good c (m ∷ ms) (opened old o ∷ os) → IsWrittenFunc c m (env (opened old o) (envs os)) x y) → AddsFunc old new y k → AddsHeldFunc c old new f k
+adds-held c wf old new f x y k at says adds m ms o os g = adds c wf m ms o os f x g at (says m ms o os g)
+
+pub func-onward : (c : Collection) (old new : Scope) (f : FuncTypeId) (k : ℕ) → AddsHeldFunc c old new f k → GoesOn c old new
+func-onward c old new f k adds m ms o os g = (adds m ms o os g).3.0
+
+-- behind what was written for it
+pub adds-after : (c : Collection) → Follows → (old now new : Scope) (f : FuncTypeId) (k : ℕ) → GoesOn c old now → AddsHeldFunc c now new f k → AddsHeldFunc c old new f k
+adds-after c follows old now new f k on adds m ms o os g =
+    let first = on m ms o os g in
+    let r = adds m ms o os first.0 in
+    (r.0, r.1, r.2, (follows c (m ∷ ms) (opened old o ∷ os) (opened now o ∷ os) (opened new o ∷ os) first r.3.0, r.3.1))
+
+pub adds-when : (c : Collection) → Follows → (old now new : Scope) (f : FuncTypeId) (r : Result ℕ EncodeFault) → GoesOn c old now → IfOk r (AddsHeldFunc c now new f) → IfOk r (AddsHeldFunc c old new f)
+adds-when c follows old now new f (Ok k) on adds = adds-after c follows old now new f k on adds
+adds-when c follows old now new f (Err e) on adds = tt
+
+pub ends-with : (c : Collection) (f : FuncTypeId) (x : FuncType) (y : TypeDef) (old new : Scope) → item_at c.funcs f.0 ≡ Some x → new ≡ with_type old y → IsFuncByRecord c old x y → EndsWithFunc c f new
+ends-with c f x y old new at is h = subst (λ (s : Scope). EndsWithFunc c f s) (sym is) (x, at, old.declarations, y, refl, still y h)
+  where
+    still : (z : TypeDef) → IsFuncByRecord c old x z → IsFuncByRecord c (with_type old y) x z
+    still z k = k
+
+pub put-adds : (c : Collection) → IsWellFormed c → (old new : Scope) (f : FuncTypeId) (x : FuncType) (ys : List (Bor (List ℕ) × ComponentValType)) (y : Option ComponentValType) (k : ℕ) → item_at c.funcs f.0 ≡ Some x → AllZip (FieldSays c old) x.params ys → MaybeSays c old x.result y → AddsFunc old new (func_def x.is_async (named ys) y) k → AddsHeldFunc c old new f k
+put-adds c wf old new f x ys y k at z r adds = adds-held c wf old new f x (func_def x.is_async (named ys) y) k at (func-says c old x x.is_async ys y refl z r) adds
+
+pub put-writes : (c : Collection) (P : ValueType → Type 0) (old new : Scope) (f : FuncTypeId) (y : TypeDef) (k : ℕ) → new ≡ with_type old y → AddsHeldFunc c old new f k → WritesFor c 1 P old new
+put-writes c P old new f y k is adds = writes-type c P old new y is (func-onward c old new f k adds)
+
+pub put-refused : (A B : Type 0) (c : Collection) (old new : Scope) (f : FuncTypeId) (x : FuncType) (ys : List (Bor (List ℕ) × ComponentValType)) (y : Option ComponentValType) (e : EncodeFault) → item_at c.funcs f.0 ≡ Some x → AllZip (FieldSays c old) x.params ys → MaybeSays c old x.result y → new ≡ old → WritesUnlessTooLarge {A = A} (Err e) (DeclarationsFit (old.declarations ++ type_decl (func_def x.is_async (named ys) y) ∷ [])) → IsFuncRefused {A = B} c f new (Err e)
+put-refused A B c old new f x ys y (fault.Write g) at z r is h = absurd h
+put-refused A B c old new f x ys y fault.TooLarge at z r is h =
+    let d : FuncDoesNotFit c f old = record {
+      func = x;
+      found = at;
+      written = func_def x.is_async (named ys) y;
+      says = func-says c old x x.is_async ys y refl z r;
+      large = h;
+    } in inr (subst (λ (s : Scope). FuncDoesNotFit c f s) (sym is) d)
+put-refused A B c old new f x ys y fault.OutOfMemory at z r is h = tt
