@@ -25,7 +25,7 @@ use Rattle.wac_subtyping.specs.TreeLaws.{GrowthKeepsTrees, IsKeptBy}
 use Rattle.wac_terms.specs.Became.{AreFresh, IsNew, became}
 use Rattle.wac_entries.specs.Bindings.{ClassBindings}
 use Rattle.wac_terms.specs.Renaming.{AreEnds, IsExtended, IsRenamed}
-use Rattle.wac_renaming.specs.Made.{AreMade}
+use Rattle.wac_renaming.specs.Made.{AreMade, IsFuncMadeOf}
 use Rattle.wac_renaming.specs.Shapes.{shape_view}
 use Rattle.wac_renaming.specs.declared.made.Made.{Made}
 use Rattle.wac_renaming.specs.RenamedTypes.{AreRenamed, CanRename, CanRenameAll, becomes}
@@ -283,14 +283,21 @@ module _ (m more : Collection) (x : IsExtended m more) where
   }
 
   pub still_made : (made : Made) → AreMade m made → AreMade more made
-  still_made made are f e is = kept_item m.defined more.defined x.kept.defined e.0 (shape_view f.shape) (are f e is)
+  still_made made are = record {
+    there = λ f e is. kept_item m.defined more.defined x.kept.defined e.0 (shape_view f.shape) (are.there f e is);
+    apart = are.apart;
+  }
 
   pub still_all_renamed : (s : Renaming) (memo : Renamed) → AreRenamed m s memo → AreRenamed more s memo
   still_all_renamed s memo r = record {
     defined = λ d e is. still_renamed s.types.now (becomes s) _ _ (r.defined d e is);
     funcs = λ f g is. still_renamed s.types.now (becomes s) _ _ (r.funcs f g is);
     made = still_made memo.made r.made;
-  }
+    once = r.once;
+    once_funcs = λ f g is. still_made_func f g (r.once_funcs f g is);
+  } where
+    still_made_func : (f g : FuncTypeId) → IsFuncMadeOf s.types.now m s.became.now.named.now memo.made f g → IsFuncMadeOf s.types.now more s.became.now.named.now memo.made f g
+    still_made_func f g h = record { before = h.before; after = h.after; is = h.is; became = kept_item m.funcs more.funcs x.kept.funcs g.0 h.after h.became; values = h.values }
 
   pub still_alias : (n : Name) (q a : ResourceId) → IsAliasOf m n q a → IsAliasOf more n q a
   still_alias n q a r = record { there = still_resource m more x a r.there; is = same_resource m more x a r.there ∙ r.is }

@@ -1,5 +1,5 @@
 -- `==` tells keys of definitions apart by what they stand for, and what one more definition leaves.
-use Rattle.std.proofs.Common.{◌≡◌, Bool, true, false, cond, ◌&&◌, ℕ, ◌+◌, nat_eq, List, [], ◌∷◌, ◌++◌, map, take, Option, Some, None, refl, ap, sym, ◌∙◌, subst, eq-eqb, rules, add-one, inl, inr}
+use Rattle.std.proofs.Common.{◌≡◌, Bool, true, false, cond, ◌&&◌, ℕ, ◌+◌, nat_eq, List, [], ◌∷◌, ◌++◌, map, take, Option, Some, None, refl, ap, sym, ◌∙◌, subst, eq-eqb, rules, add-one, ◌⊎◌, inl, inr}
 use Rattle.std.proofs.lemmas.Bool.{cases_Bool, eqb-true}
 use Rattle.std.proofs.lemmas.List.{map-append}
 use Rattle.std.specs.Cmp.Lexicographic.{pointwise, pointwise_decides}
@@ -86,20 +86,8 @@ same_shape (shape.Stream a) (shape.Stream b) e = ap def.Stream ((optional_tells 
 same_shape (shape.Future a) (shape.Future b) e = ap def.Future ((optional_tells a b).0 e)
 same_shape _ _ e = cc e
 
-same_form : (a b : Form) → (FormEq.ghosts).eq a b ≡ true → shape_view a.shape ≡ shape_view b.shape
-same_form a b e = same_shape a.shape b.shape (both (option_eq (λ x y. nat_eq x.0 y.0) a.named b.named) ((ShapeEq.ghosts).eq a.shape b.shape) e).1
-
 one_some : {A : Type 0} (a b : A) → Some a ≡ Some b → a ≡ b
 one_some a b e = cc
-
--- what was made stays so with one more definition
-module _ (m : Collection) (old new : Made) (f : Form) (id : DefinedTypeId) (put : HasMadeToo old f id new) (are : AreMade m old) (at : item_at m.defined id.0 ≡ Some (shape_view f.shape)) where
-  split_made : (k : Form) (e : DefinedTypeId) (b : Bool) → (FormEq.ghosts).eq f k ≡ b → cond b (Some id) (made_in old k) ≡ Some e → item_at m.defined e.0 ≡ Some (shape_view k.shape)
-  split_made k e true same is = subst (λ (x : DefinedTypeId). item_at m.defined x.0 ≡ Some (shape_view k.shape)) (one_some id e is) (at ∙ ap Some (same_form f k same))
-  split_made k e false same is = are k e is
-
-  pub made_too : AreMade m new
-  made_too k e is = split_made k e ((FormEq.ghosts).eq f k) refl (sym (put k) ∙ is)
 
 -- ---- copies, as far as a loop has come
 pub texts_further : (labels : List Name) (i : ℕ) (n : Name) (t : Text) (ns ms : List Text) → slice_get labels i ≡ Some n → string_bytes t ≡ n → ms ≡ ns ++ t ∷ [] → map string_bytes ns ≡ take i labels → map string_bytes ms ≡ take (i + 1) labels
@@ -174,6 +162,37 @@ pub made_alike : (made : Made) (a b : Form) → a.named ≡ b.named → shape_vi
 made_alike made a b n v = λ i. get_by (λ k. alike a b n v k i) made.ids
 
 -- ---- one more definition
+
+-- what was made stays so with one more definition
+module _ (m : Collection) (old new : Made) (f : Form) (id : DefinedTypeId) (put : HasMadeToo old f id new) (are : AreMade m old) (at : item_at m.defined id.0 ≡ Some (shape_view f.shape)) (free : (k : Form) → made_in old k ≡ Some id → ⊥) where
+  -- what is looked up is the new one, or was there
+  looked_up : (k : Form) (e : DefinedTypeId) → made_in new k ≡ Some e → ((f.named ≡ k.named) × (shape_view f.shape ≡ shape_view k.shape) × (id ≡ e)) ⊎ (made_in old k ≡ Some e)
+  looked_up k e is = elim (cases_Bool ((FormEq.ghosts).eq f k)) [
+    | inl same ↦ let (p, q) = form_there f k same in inl (p, q, one_some id e (sym (put k ∙ ap (λ b. cond b (Some id) (made_in old k)) same) ∙ is))
+    | inr other ↦ inr (sym (put k ∙ ap (λ b. cond b (Some id) (made_in old k)) other) ∙ is)
+  ]
+
+  is_there : (k : Form) (e : DefinedTypeId) → made_in new k ≡ Some e → item_at m.defined e.0 ≡ Some (shape_view k.shape)
+  is_there k e is = elim (looked_up k e is) [
+    | inl new ↦ subst (λ (x : DefinedTypeId). item_at m.defined x.0 ≡ Some (shape_view k.shape)) new.2 (at ∙ ap Some new.1)
+    | inr before ↦ are.there k e before
+  ]
+
+  is_apart : (g k : Form) (e : DefinedTypeId) → made_in new g ≡ Some e → made_in new k ≡ Some e → g.named ≡ k.named
+  is_apart g k e p q = elim (looked_up g e p) [
+    | inl one ↦ elim (looked_up k e q) [
+      | inl other ↦ sym one.0 ∙ other.0
+      | inr before ↦ absurd (free k (before ∙ ap Some (sym one.2)))
+    ]
+    | inr before ↦ elim (looked_up k e q) [
+      | inl other ↦ absurd (free g (before ∙ ap Some (sym other.2)))
+      | inr both ↦ are.apart g k e before both
+    ]
+  ]
+
+  pub made_too : AreMade m new
+  made_too = record { there = is_there; apart = is_apart }
+
 module _ (old new : Made) (f : Form) (id : DefinedTypeId) (put : HasMadeToo old f id new) where
   pub put_there : (k : Form) → k.named ≡ f.named → shape_view k.shape ≡ shape_view f.shape → made_in new k ≡ Some id
   put_there k n v = put k ∙ ap (λ b. cond b (Some id) (made_in old k)) (form_itself f k (sym n) (sym v))

@@ -2,6 +2,7 @@
 use Rattle.std.proofs.Common.{◌≡◌, Bool, true, false, cond, nat_eq, Some, Result, Ok, Err, OnOk, refl, ap, sym, ◌∙◌, subst}
 use Rattle.std.proofs.lemmas.Bool.{eqb-true}
 use Rattle.std.specs.HashMap.{get}
+use Rattle.std.specs.Prelude.{IsSome}
 use Rattle.std.specs.declared.alloc.AllocError.{AllocError}
 use Rattle.wac_collection.specs.Collection.{Collection, item_at}
 use Rattle.wac_shapes.specs.declared.component.DefinedType.{DefinedType}
@@ -11,10 +12,11 @@ use Rattle.wac_shapes.specs.declared.component.FuncTypeId.{FuncTypeId}
 use Rattle.wac_shapes.specs.declared.component.ValueType.{ValueType}
 use Rattle.wac_shapes.specs.declared.component.ValueType.TheVariants as val
 use Rattle.wac_shapes.specs.declared.component.«Type».TheVariants as ty
-use Rattle.wac_renaming.specs.Made.{AreMade}
+use Rattle.wac_renaming.specs.Made.{AreMade, IsFuncMadeOf, IsMadeOf, StayMade}
+use Rattle.wac_renaming.specs.declared.made.Made.{Made}
 use Rattle.wac_renaming.specs.RenamedTypes.{AreRenamed, becomes, defined_in, func_in}
-use Rattle.wac_terms.specs.Renaming.{IsRenamed}
-use Rattle.wac_renaming.specs.RenamingSteps.{FieldsGoTogether, GoTogether, HasDefinedToo, HasFuncToo, HaveOneShape, IsDefinedBehind, IsFuncBehind, IsRenamedIn}
+use Rattle.wac_terms.specs.Renaming.{IsExtended, IsRenamed}
+use Rattle.wac_renaming.specs.RenamingSteps.{FieldsGoTogether, GoTogether, HasDefinedToo, HasFuncToo, HaveOneShape, IsDefinedBehind, IsFuncBehind, IsMore, IsRenamedIn, IsRenamedValue}
 use Rattle.wac_renaming.specs.declared.renamer.Renamed.{Renamed}
 use Rattle.wac_renaming.specs.declared.renamer.Renaming.{Renaming}
 use Rattle.wac_renaming.proofs.Extending.{still_renamed}
@@ -32,43 +34,66 @@ one_some a b e = cc
 
 module _ (s : Renaming) (m : Collection) (old new : Renamed) where
   module _ (d e : DefinedTypeId) (put : HasDefinedToo old d e new) where
-    split_defined : AreRenamed m s old → IsRenamedIn s m (val.Defined d) (val.Defined e) → (k i : DefinedTypeId) (b : Bool) → nat_eq d.0 k.0 ≡ b → cond b (Some e) (defined_in old k) ≡ Some i → IsRenamedIn s m (val.Defined k) (val.Defined i)
-    split_defined r h k i true same is = subst (λ (x : DefinedTypeId). IsRenamedIn s m (val.Defined x) (val.Defined i)) (same_defined d k same) (subst (λ (x : DefinedTypeId). IsRenamedIn s m (val.Defined d) (val.Defined x)) (one_some e i is) h)
-    split_defined r h k i false same is = r.defined k i is
+    split_defined : AreRenamed m s old → IsRenamedIn s m old.made (val.Defined d) (val.Defined e) → (k i : DefinedTypeId) (b : Bool) → nat_eq d.0 k.0 ≡ b → cond b (Some e) (defined_in old k) ≡ Some i → IsRenamedIn s m old.made (val.Defined k) (val.Defined i)
+    split_defined r h k i true same is = subst (λ (x : DefinedTypeId). IsRenamedIn s m old.made (val.Defined x) (val.Defined i)) (same_defined d k same) (subst (λ (x : DefinedTypeId). IsRenamedIn s m old.made (val.Defined d) (val.Defined x)) (one_some e i is) h)
+    split_defined r h k i false same is = (r.defined k i is, r.once k i is)
 
-    defined_right : AreRenamed m s old → IsRenamedIn s m (val.Defined d) (val.Defined e) → AreRenamed m s new
+    became_now : AreRenamed m s old → IsRenamedIn s m old.made (val.Defined d) (val.Defined e) → (k i : DefinedTypeId) → defined_in new k ≡ Some i → IsRenamedIn s m old.made (val.Defined k) (val.Defined i)
+    became_now r h k i is = split_defined r h k i (nat_eq d.0 k.0) refl (sym (put.defined k) ∙ is)
+
+    defined_right : AreRenamed m s old → IsRenamedIn s m old.made (val.Defined d) (val.Defined e) → AreRenamed m s new
     defined_right r h = record {
-      defined = λ k i is. split_defined r h k i (nat_eq d.0 k.0) refl (sym (put.defined k) ∙ is);
+      defined = λ k i is. (became_now r h k i is).0;
       funcs = λ f i is. r.funcs f i (ap (λ x. get (λ a b. nat_eq a.0 b.0) x f) (sym put.funcs) ∙ is);
       made = subst (AreMade m) (sym put.made) r.made;
+      once = λ k i is. subst (λ (made : Made). IsMadeOf s.types.now s.became.now.named.now made (val.Defined k) (val.Defined i)) (sym put.made) (became_now r h k i is).1;
+      once_funcs = λ f i is. subst (λ (made : Made). IsFuncMadeOf s.types.now m s.became.now.named.now made f i) (sym put.made) (r.once_funcs f i (ap (λ x. get (λ a b. nat_eq a.0 b.0) x f) (sym put.funcs) ∙ is));
     }
 
   module _ (f g : FuncTypeId) (put : HasFuncToo old f g new) where
-    split_func : AreRenamed m s old → IsRenamed s.types.now m (becomes s) (ty.Func f) (ty.Func g) → (k i : FuncTypeId) (b : Bool) → nat_eq f.0 k.0 ≡ b → cond b (Some g) (func_in old k) ≡ Some i → IsRenamed s.types.now m (becomes s) (ty.Func k) (ty.Func i)
-    split_func r h k i true same is = subst (λ (x : FuncTypeId). IsRenamed s.types.now m (becomes s) (ty.Func x) (ty.Func i)) (same_func f k same) (subst (λ (x : FuncTypeId). IsRenamed s.types.now m (becomes s) (ty.Func f) (ty.Func x)) (one_some g i is) h)
-    split_func r h k i false same is = r.funcs k i is
+    split_func : (P : FuncTypeId → FuncTypeId → Type 0) → ((k i : FuncTypeId) → func_in old k ≡ Some i → P k i) → P f g → (k i : FuncTypeId) (b : Bool) → nat_eq f.0 k.0 ≡ b → cond b (Some g) (func_in old k) ≡ Some i → P k i
+    split_func P r h k i true same is = subst (λ (x : FuncTypeId). P x i) (same_func f k same) (subst (λ (x : FuncTypeId). P f x) (one_some g i is) h)
+    split_func P r h k i false same is = r k i is
 
-    pub func_right : AreRenamed m s old → IsRenamed s.types.now m (becomes s) (ty.Func f) (ty.Func g) → AreRenamed m s new
-    func_right r h = record {
+    pub func_right : AreRenamed m s old → IsRenamed s.types.now m (becomes s) (ty.Func f) (ty.Func g) → IsFuncMadeOf s.types.now m s.became.now.named.now old.made f g → AreRenamed m s new
+    func_right r h o = record {
       defined = λ d i is. r.defined d i (ap (λ x. get (λ a b. nat_eq a.0 b.0) x d) (sym put.defined) ∙ is);
-      funcs = λ k i is. split_func r h k i (nat_eq f.0 k.0) refl (sym (put.funcs k) ∙ is);
+      funcs = λ k i is. split_func (λ a b. IsRenamed s.types.now m (becomes s) (ty.Func a) (ty.Func b)) r.funcs h k i (nat_eq f.0 k.0) refl (sym (put.funcs k) ∙ is);
       made = subst (AreMade m) (sym put.made) r.made;
+      once = λ d i is. subst (λ (made : Made). IsMadeOf s.types.now s.became.now.named.now made (val.Defined d) (val.Defined i)) (sym put.made) (r.once d i (ap (λ x. get (λ a b. nat_eq a.0 b.0) x d) (sym put.defined) ∙ is));
+      once_funcs = λ k i is. subst (λ (made : Made). IsFuncMadeOf s.types.now m s.became.now.named.now made k i) (sym put.made)
+          (split_func (λ a b. IsFuncMadeOf s.types.now m s.became.now.named.now old.made a b) r.once_funcs o k i (nat_eq f.0 k.0) refl (sym (put.funcs k) ∙ is));
     }
 
   -- where a definition was put
-  pub defined_put : (d e : DefinedTypeId) (r : Result (Unit {0}) AllocError) → OnOk r (HasDefinedToo old d e new) → AreRenamed m s old → IsRenamedIn s m (val.Defined d) (val.Defined e) → OnOk r (AreRenamed m s new)
+  pub defined_put : (d e : DefinedTypeId) (r : Result (Unit {0}) AllocError) → OnOk r (HasDefinedToo old d e new) → AreRenamed m s old → IsRenamedIn s m old.made (val.Defined d) (val.Defined e) → OnOk r (AreRenamed m s new)
   defined_put d e (Ok _) put r h = defined_right d e put r h
   defined_put d e (Err _) put r h = put
 
--- ---- what was added behind is what it was made of
-module _ (s : Renaming) (m more : Collection) (wc : AreWhole s.types.now) (wm : AreWhole more) where
-  pub defined_closed : (d e : DefinedTypeId) (x y : DefinedType) → item_at s.types.now.defined d.0 ≡ Some x → IsDefinedBehind m more y e → HaveOneShape (IsRenamedIn s m) x y → IsRenamedIn s more (val.Defined d) (val.Defined e)
-  defined_closed d e x y at behind shape =
-      defined_renamed s.types.now more (becomes s) wc wm d e x y at behind.there
-      (shape_more (IsRenamedIn s m) (IsRenamedIn s more) (λ v w r. still_renamed m more behind.extended s.types.now (becomes s) (ty.Value v) (ty.Value w) r) x y shape)
+-- with one more definition there are more, and what was made still is
+module _ (old mid new : Renamed) (d e : DefinedTypeId) (same : mid.defined ≡ old.defined) (stay : StayMade old.made mid.made) where
+  is_some_more : (put : HasDefinedToo mid d e new) (k : DefinedTypeId) → IsSome (defined_in old k) → IsSome (defined_in new k)
+  is_some_more put k h = subst IsSome (sym (put.defined k)) (by (nat_eq d.0 k.0) (subst (λ x. IsSome (get (λ a b. nat_eq a.0 b.0) x k)) (sym same) h)) where
+    by : (b : Bool) → IsSome (defined_in mid k) → IsSome (cond b (Some e) (defined_in mid k))
+    by true h = refl
+    by false h = h
 
-  pub func_closed : (f g : FuncTypeId) (x y : FuncType) → item_at s.types.now.funcs f.0 ≡ Some x → IsFuncBehind m more y g → FieldsGoTogether (IsRenamedIn s m) x.params y.params → GoTogether (IsRenamedIn s m) x.result y.result → y.is_async ≡ x.is_async
+  pub more_put : (r : Result (Unit {0}) AllocError) → OnOk r (HasDefinedToo mid d e new) → OnOk r (IsMore old new)
+  more_put (Ok _) put = record { defined = is_some_more put; made = subst (StayMade old.made) (sym put.made) stay }
+  more_put (Err _) put = put
+
+-- ---- what was added behind is what it was made of
+module _ (s : Renaming) (m more : Collection) (wc : AreWhole s.types.now) (wm : AreWhole more) (made : Made) where
+  on : IsExtended m more → (v w : ValueType) → IsRenamedIn s m made v w → IsRenamedValue s.types.now more (becomes s) v w
+  on x v w r = still_renamed m more x s.types.now (becomes s) (ty.Value v) (ty.Value w) r.0
+
+  pub defined_closed : (d e : DefinedTypeId) (x y : DefinedType) → item_at s.types.now.defined d.0 ≡ Some x → IsDefinedBehind m more y e → HaveOneShape (IsRenamedIn s m made) x y → IsRenamedValue s.types.now more (becomes s) (val.Defined d) (val.Defined e)
+  defined_closed d e x y at behind shape =
+      defined_renamed s.types.now more (becomes s) wc wm d e x y at behind.there (shape_more (IsRenamedIn s m made) (IsRenamedValue s.types.now more (becomes s)) (on behind.extended) x y shape)
+
+  pub func_closed : (f g : FuncTypeId) (x y : FuncType) → item_at s.types.now.funcs f.0 ≡ Some x → IsFuncBehind m more y g → FieldsGoTogether (IsRenamedIn s m made) x.params y.params → GoTogether (IsRenamedIn s m made) x.result y.result → y.is_async ≡ x.is_async
       → IsRenamed s.types.now more (becomes s) (ty.Func f) (ty.Func g)
   func_closed f g x y at behind fields result same =
-      let on : (v w : ValueType) → IsRenamedIn s m v w → IsRenamedIn s more v w = λ v w r. still_renamed m more behind.extended s.types.now (becomes s) (ty.Value v) (ty.Value w) r in
-      func_renamed s.types.now more (becomes s) wc wm f g x y at behind.there (fields_more (IsRenamedIn s m) (IsRenamedIn s more) on x.params y.params fields) (option_more (IsRenamedIn s m) (IsRenamedIn s more) on x.result y.result result) same
+      let R = IsRenamedIn s m made in
+      let S = IsRenamedValue s.types.now more (becomes s) in
+      func_renamed s.types.now more (becomes s) wc wm f g x y at behind.there (fields_more R S (on behind.extended) x.params y.params fields) (option_more R S (on behind.extended) x.result y.result result) same

@@ -66,7 +66,7 @@ held_is : {A L : Type 0} (t : A → TypeTree L) (o : Option (Held A)) (x : A) �
 held_is t None x e = cc
 held_is t (Some h) x e = let same : h.item ≡ x = cc in ap t same
 
-within_held : {A : Type 0} (xs : List (Held A)) (i : ℕ) (x : A) → item_at xs i ≡ Some x → i < length xs
+pub within_held : {A : Type 0} (xs : List (Held A)) (i : ℕ) (x : A) → item_at xs i ≡ Some x → i < length xs
 within_held [] i x e = cc
 within_held (h ∷ xs) zero x e = omega arith
 within_held (h ∷ xs) (suc i) x e = let low = within_held xs i x e in omega (arith, low)

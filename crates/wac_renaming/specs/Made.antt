@@ -1,8 +1,20 @@
 -- Definitions that were made in a merged collection. Private functions alone cite this.
-use Rattle.std.specs.Prelude.{◌≡◌, cond, Option, Some}
+use Rattle.std.specs.Prelude.{ℕ, ◌≡◌, cond, List, Option, Some, None, slice_get}
 use Rattle.std.specs.HashMap.{get}
+use Rattle.wac_shapes.specs.declared.component.DefinedType.{DefinedType}
+use Rattle.wac_shapes.specs.declared.component.DefinedType.TheVariants as def
 use Rattle.wac_shapes.specs.declared.component.DefinedTypeId.{DefinedTypeId}
-use Rattle.wac_collection.specs.Collection.{Collection, item_at}
+use Rattle.wac_shapes.specs.declared.component.FuncType.{FuncType}
+use Rattle.wac_shapes.specs.declared.component.FuncTypeId.{FuncTypeId}
+use Rattle.wac_shapes.specs.declared.component.ItemKind.{ItemKind}
+use Rattle.wac_shapes.specs.declared.component.ItemKind.TheVariants as kind
+use Rattle.wac_shapes.specs.declared.component.ValueType.{ValueType}
+use Rattle.wac_shapes.specs.declared.component.ValueType.TheVariants as val
+use Rattle.wac_shapes.specs.declared.component.«Type».TheVariants as ty
+use Rattle.wac_collection.specs.Collection.{Collection, defined_values, func_values, item_at}
+use Rattle.wac_terms.specs.Values.{definition}
+use Rattle.wac_values.specs.NamedTypes.{named_type}
+use Rattle.wac_values.specs.declared.named.NamedTypes.{NamedTypes}
 use Rattle.wac_renaming.specs.Shapes.{shape_view}
 use Rattle.wac_renaming.specs.contracts.made.FormPartialEq.TheImpl as FormEq
 use Rattle.wac_renaming.specs.declared.made.Form.{Form}
@@ -12,10 +24,56 @@ use Rattle.wac_renaming.specs.declared.made.Made.{Made}
 abbrev pub made_in : Made → Form → Option DefinedTypeId
 made_in made f = get (FormEq.ghosts).eq made.ids f
 
--- each id is that of its definition
-abbrev pub AreMade : Collection → Made → Type 0
-AreMade m made = (f : Form) (e : DefinedTypeId) → made_in made f ≡ Some e → item_at m.defined e.0 ≡ Some (shape_view f.shape)
+-- each id is that of its definition, and of one named type
+pub record AreMade (m : Collection) (made : Made) : Type 0 where
+  pub there : (f : Form) (e : DefinedTypeId) → made_in made f ≡ Some e → item_at m.defined e.0 ≡ Some (shape_view f.shape)
+  pub apart : (f g : Form) (e : DefinedTypeId) → made_in made f ≡ Some e → made_in made g ≡ Some e → f.named ≡ g.named
 
 -- with one more definition
 abbrev pub HasMadeToo : Made → Form → DefinedTypeId → Made → Type 0
 HasMadeToo old f e new = (k : Form) → made_in new k ≡ cond ((FormEq.ghosts).eq f k) (Some e) (made_in old k)
+
+-- what was made still is
+abbrev pub StayMade : Made → Made → Type 0
+StayMade old new = (f : Form) (e : DefinedTypeId) → made_in old f ≡ Some e → made_in new f ≡ Some e
+
+-- an id under which a definition was made for a named type
+abbrev pub IsMadeFor : Made → Option DefinedTypeId → DefinedType → DefinedTypeId → Type 0
+IsMadeFor made named x e = (f : Form) × (f.named ≡ named) × (shape_view f.shape ≡ x) × (made_in made f ≡ Some e)
+
+-- the definition that a definition is another name of
+abbrev pub other_name : DefinedType → Option DefinedTypeId
+other_name (def.Alias (val.Defined d)) = Some d
+other_name x = None
+
+-- A value type became one whose definition was made for the named type that its own is, at the end of the names that are another's; and so did what it is made of.
+pub data IsMadeOf (c : Collection) (t : NamedTypes) (made : Made) : ValueType → ValueType → Type 0 where
+  plain : (v w : ValueType) → definition v ≡ None → IsMadeOf c t made v w
+  alias : (v w : ValueType) (d end : DefinedTypeId) (y : DefinedType) → definition v ≡ Some d → item_at c.defined d.0 ≡ Some y → other_name y ≡ Some end → IsMadeOf c t made (val.Defined end) w → IsMadeOf c t made v w
+  anew : (v w : ValueType) (d e : DefinedTypeId) (y x : DefinedType) → definition v ≡ Some d → definition w ≡ Some e → item_at c.defined d.0 ≡ Some y → other_name y ≡ None → IsMadeFor made (named_type t d) x e
+      → ((i : ℕ) (a b : ValueType) → slice_get (defined_values y) i ≡ Some a → slice_get (defined_values x) i ≡ Some b → IsMadeOf c t made a b) → IsMadeOf c t made v w
+
+-- so did value types, in order
+abbrev pub AreMadeOf : Collection → NamedTypes → Made → List ValueType → List ValueType → Type 0
+AreMadeOf c t made vs ws = (i : ℕ) (a b : ValueType) → slice_get vs i ≡ Some a → slice_get ws i ≡ Some b → IsMadeOf c t made a b
+
+-- so did what a function type mentions
+pub record IsFuncMadeOf (c m : Collection) (t : NamedTypes) (made : Made) (f g : FuncTypeId) : Type 0 where
+  pub before : FuncType
+  pub after : FuncType
+  pub is : item_at c.funcs f.0 ≡ Some before
+  pub became : item_at m.funcs g.0 ≡ Some after
+  pub values : AreMadeOf c t made (func_values before) (func_values after)
+
+-- so did what an item mentions, where it became no resource
+abbrev pub IsKindMadeOf : Collection → Collection → NamedTypes → Made → ItemKind → ItemKind → Type 0
+IsKindMadeOf c m t made k (kind.TypeItem (ty.Resource q)) = Unit {0}
+IsKindMadeOf c m t made (kind.Value v) (kind.Value w) = IsMadeOf c t made v w
+IsKindMadeOf c m t made (kind.TypeItem (ty.Value v)) (kind.TypeItem (ty.Value w)) = IsMadeOf c t made v w
+IsKindMadeOf c m t made (kind.Func f) (kind.Func g) = IsFuncMadeOf c m t made f g
+IsKindMadeOf c m t made (kind.TypeItem (ty.Func f)) (kind.TypeItem (ty.Func g)) = IsFuncMadeOf c m t made f g
+IsKindMadeOf c m t made (kind.Value v) l = ⊥
+IsKindMadeOf c m t made (kind.TypeItem (ty.Value v)) l = ⊥
+IsKindMadeOf c m t made (kind.Func f) l = ⊥
+IsKindMadeOf c m t made (kind.TypeItem (ty.Func f)) l = ⊥
+IsKindMadeOf c m t made k l = Unit {0}

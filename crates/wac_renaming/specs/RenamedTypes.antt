@@ -12,7 +12,7 @@ use Rattle.wac_terms.specs.Became.{AreBoundParts, became}
 use Rattle.wac_renaming.specs.declared.became.Became.{Became}
 use Rattle.wac_renaming.specs.declared.renamer.Renamed.{Renamed}
 use Rattle.wac_renaming.specs.declared.renamer.Renaming.{Renaming}
-use Rattle.wac_renaming.specs.Made.{AreMade}
+use Rattle.wac_renaming.specs.Made.{AreMade, IsFuncMadeOf, IsMadeOf}
 use Rattle.wac_terms.specs.Renaming.{AreEnds, IsExtended, IsRenamed}
 
 -- what a resource at the end of its aliases becomes where types are renamed
@@ -46,3 +46,6 @@ pub record AreRenamed (m : Collection) (s : Renaming) (memo : Renamed) : Type 0 
   pub defined : (d e : DefinedTypeId) → defined_in memo d ≡ Some e → IsRenamed s.types.now m (becomes s) (ty.Value (val.Defined d)) (ty.Value (val.Defined e))
   pub funcs : (f g : FuncTypeId) → func_in memo f ≡ Some g → IsRenamed s.types.now m (becomes s) (ty.Func f) (ty.Func g)
   pub made : AreMade m memo.made
+  -- what became another has the id that was made for the named type that it is
+  pub once : (d e : DefinedTypeId) → defined_in memo d ≡ Some e → IsMadeOf s.types.now s.became.now.named.now memo.made (val.Defined d) (val.Defined e)
+  pub once_funcs : (f g : FuncTypeId) → func_in memo f ≡ Some g → IsFuncMadeOf s.types.now m s.became.now.named.now memo.made f g

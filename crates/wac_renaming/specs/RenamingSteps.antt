@@ -17,6 +17,8 @@ use Rattle.wac_shapes.specs.declared.component.ValueType.TheVariants as val
 use Rattle.wac_shapes.specs.declared.component.Variant.{Variant}
 use Rattle.wac_shapes.specs.declared.component.«Type».TheVariants as ty
 use Rattle.wac_renaming.specs.RenamedTypes.{AreRenamed, becomes, defined_in, func_in}
+use Rattle.wac_renaming.specs.Made.{IsMadeOf, StayMade}
+use Rattle.wac_renaming.specs.declared.made.Made.{Made}
 use Rattle.wac_terms.specs.Renaming.{IsExtended, IsRenamed}
 use Rattle.wac_entries.specs.Tasks.{task_id, parts_of, openings, IsHeldTask, HasTask}
 use Rattle.wac_renaming.specs.declared.renamer.Renamed.{Renamed}
@@ -28,9 +30,9 @@ use Rattle.wac_entries.specs.declared.tasks.Task.TheVariants.{Open, Close}
 abbrev pub IsRenamedValue : Collection → Collection → (ResourceId → ResourceId) → ValueType → ValueType → Type 0
 IsRenamedValue c m f v w = IsRenamed c m f (ty.Value v) (ty.Value w)
 
--- so it does in a renaming, where the collection is this
-abbrev pub IsRenamedIn : Renaming → Collection → ValueType → ValueType → Type 0
-IsRenamedIn s m = IsRenamedValue s.types.now m (becomes s)
+-- so it does in a renaming, where the collection is this and this was made
+abbrev pub IsRenamedIn : Renaming → Collection → Made → ValueType → ValueType → Type 0
+IsRenamedIn s m made v w = IsRenamedValue s.types.now m (becomes s) v w × IsMadeOf s.types.now s.became.now.named.now made v w
 
 -- with one more definition, or function type, that became another
 pub record HasDefinedToo (old : Renamed) (d e : DefinedTypeId) (new : Renamed) : Type 0 where
@@ -80,9 +82,10 @@ pub record IsFuncBehind (c m : Collection) (f : FuncType) (id : FuncTypeId) : Ty
   pub extended : IsExtended c m
   pub there : item_at m.funcs id.0 ≡ Some f
 
--- what became something still did
+-- what became something still did, and what was made still is
 pub record IsMore (old new : Renamed) : Type 0 where
   pub defined : (d : DefinedTypeId) → IsSome (defined_in old d) → IsSome (defined_in new d)
+  pub made : StayMade old.made new.made
 
 -- a value type became something, where it is a definition
 abbrev pub IsReady : Renamed → ValueType → Type 0

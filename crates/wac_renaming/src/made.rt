@@ -3,7 +3,7 @@ ghost use Rattle.std.specs.Prelude.{◌≡◌, Some, IfOk, OnOk};
 ghost use Rattle.wac_collection.specs.Collection.{Collection, defined_values};
 ghost use Rattle.wac_collection.specs.declared.collection.AddTypeError.TheVariants.{OutOfMemory};
 ghost use Rattle.wac_entries.specs.Tasks.{AreHeldValues};
-ghost use Rattle.wac_renaming.specs.Made.{AreMade, HasMadeToo, made_in};
+ghost use Rattle.wac_renaming.specs.Made.{AreMade, HasMadeToo, IsMadeFor, made_in};
 ghost use Rattle.wac_renaming.specs.RenamingSteps.{IsDefinedBehind};
 ghost use Rattle.wac_renaming.specs.Shapes.{shape_view};
 ghost use Rattle.wac_renaming.specs.declared.made.Form.{Form as AForm};
@@ -83,6 +83,7 @@ impl Made {
         ensures made { OnOk result (AreMade merged.new self.new) }
         ensures added { IfOk result (λ id. IsDefinedBehind merged.old merged.new definition id) }
         ensures once { IfOk result (λ id. (f : AForm) → f.named ≡ named → shape_view f.shape ≡ definition → made_in self.new f ≡ Some id) }
+        ensures named { IfOk result (λ id. IsMadeFor self.new named definition id) }
         ensures stay { OnOk result ((f : AForm) (e : Defined) → made_in self.old f ≡ Some e → made_in self.new f ≡ Some e) }
     {
         let shape = Shape::of(alloc, &definition)?;

@@ -4,7 +4,7 @@
 //! too long. Each is opened once and renamed once.
 ghost use Rattle.std.specs.Prelude.{◌≡◌, ◌++◌, ◌∷◌, [], true, None, IfOk, IfSome, OnOk};
 ghost use Rattle.std.specs.List.{AllByRecursion, AllZip};
-ghost use Rattle.wac_renaming.specs.Made.{AreMade};
+ghost use Rattle.wac_renaming.specs.Made.{AreMade, IsFuncMadeOf, IsMadeOf, StayMade, other_name};
 ghost use Rattle.wac_collection.specs.Collection.{Collection, HasDefined, HasFunc, and_maybe, case_values, defined_values, func_values, holds_value, seconds};
 ghost use Rattle.wac_collection.specs.Held.{resolved};
 ghost use Rattle.wac_shapes.specs.Name.{find_name};
@@ -93,7 +93,8 @@ fn copied(alloc: Global, labels: &Labels) -> Result<Labels, AllocError>
 
 /// The definition that this is another name of, where it is one.
 fn alias_end(definition: &DefinedType) -> Option<DefinedTypeId>
-    ensures { IfSome result (λ end. definition.now ≡ def.Alias (val.Defined end)) }
+    ensures alias { IfSome result (λ end. definition.now ≡ def.Alias (val.Defined end)) }
+    ensures named { result ≡ other_name definition.now }
 {
     let DefinedType::Alias(value) = definition else {
         return None;
@@ -179,7 +180,7 @@ impl Renamed {
         requires ready { IsReady self.now value }
         requires known { CanRename merged.now renaming.now }
         requires right { AreRenamed merged.now renaming.now self.now }
-        ensures { IsRenamedIn renaming.now merged.now value result }
+        ensures { IsRenamedIn renaming.now merged.now self.now.made value result }
     {
         let _ = merged;
         match value {
@@ -201,7 +202,7 @@ impl Renamed {
         requires ready { AreReady self.now (and_maybe value []) }
         requires known { CanRename merged.now renaming.now }
         requires right { AreRenamed merged.now renaming.now self.now }
-        ensures { GoTogether (IsRenamedIn renaming.now merged.now) value result }
+        ensures { GoTogether (IsRenamedIn renaming.now merged.now self.now.made) value result }
     {
         match value {
             Some(value) => Some(self.part(merged, renaming, value)),
@@ -220,7 +221,7 @@ impl Renamed {
         requires ready { AreReady self.now values.now }
         requires known { CanRename merged.now renaming.now }
         requires right { AreRenamed merged.now renaming.now self.now }
-        ensures { IfOk result (λ ws. AllZip (IsRenamedIn renaming.now merged.now) values.now ws.items) }
+        ensures { IfOk result (λ ws. AllZip (IsRenamedIn renaming.now merged.now self.now.made) values.now ws.items) }
     {
         let mut renamed = Vec::new(renaming.alloc);
         for i in 0..values.len() {
@@ -240,7 +241,7 @@ impl Renamed {
         requires ready { AreReady self.now (seconds fields.now) }
         requires known { CanRename merged.now renaming.now }
         requires right { AreRenamed merged.now renaming.now self.now }
-        ensures { IfOk result (λ es. FieldsGoTogether (IsRenamedIn renaming.now merged.now) fields.now es) }
+        ensures { IfOk result (λ es. FieldsGoTogether (IsRenamedIn renaming.now merged.now self.now.made) fields.now es) }
     {
         fields.law();
         let mut renamed = Named::with_capacity(renaming.alloc, fields.len())?;
@@ -263,7 +264,7 @@ impl Renamed {
         requires ready { AreReady self.now (case_values cases.now) }
         requires known { CanRename merged.now renaming.now }
         requires right { AreRenamed merged.now renaming.now self.now }
-        ensures { IfOk result (λ es. CasesGoTogether (IsRenamedIn renaming.now merged.now) cases.now es) }
+        ensures { IfOk result (λ es. CasesGoTogether (IsRenamedIn renaming.now merged.now self.now.made) cases.now es) }
     {
         cases.law();
         let mut renamed = Named::with_capacity(renaming.alloc, cases.len())?;
@@ -286,7 +287,7 @@ impl Renamed {
         requires ready { AreReady self.now (defined_values definition.now) }
         requires known { CanRename merged.now renaming.now }
         requires right { AreRenamed merged.now renaming.now self.now }
-        ensures { IfOk result (λ d. HaveOneShape (IsRenamedIn renaming.now merged.now) definition.now d) }
+        ensures { IfOk result (λ d. HaveOneShape (IsRenamedIn renaming.now merged.now self.now.made) definition.now d) }
     {
         let alloc = renaming.alloc;
         let renamed = match definition {
@@ -397,6 +398,7 @@ impl Renamed {
         ensures extended { IsExtended merged.old merged.new }
         ensures right { OnOk result (AreRenamed merged.new renaming.now self.new) }
         ensures done { OnOk result (AllByRecursion (IsDone self.new) tasks.items) }
+        ensures stay { OnOk result (StayMade self.old.made self.new.made) }
     {
         renaming.types.law();
         merged.law();
@@ -419,6 +421,8 @@ impl Renamed {
         ensures extended { IsExtended merged.old merged.new }
         ensures right { OnOk result (AreRenamed merged.new renaming.now self.new) }
         ensures value { IfOk result (λ w. IsRenamed renaming.now.types.now merged.new (becomes renaming.now) (ty.Value value) (ty.Value w)) }
+        ensures once { IfOk result (λ w. IsMadeOf renaming.now.types.now renaming.now.became.now.named.now self.new.made value w) }
+        ensures stay { OnOk result (StayMade self.old.made self.new.made) }
     {
         if let ValueType::Defined(id) = value {
             if let Some(became) = self.defined(id) {
@@ -445,6 +449,8 @@ impl Renamed {
         ensures extended { IsExtended merged.old merged.new }
         ensures right { OnOk result (AreRenamed merged.new renaming.now self.new) }
         ensures func { IfOk result (λ g. IsRenamed renaming.now.types.now merged.new (becomes renaming.now) (ty.Func id) (ty.Func g)) }
+        ensures once { IfOk result (λ g. IsFuncMadeOf renaming.now.types.now merged.new renaming.now.became.now.named.now self.new.made id g) }
+        ensures stay { OnOk result (StayMade self.old.made self.new.made) }
     {
         if let Some(became) = self.func_type(id) {
             return Ok(became);

@@ -1,6 +1,7 @@
 pub mod ClassFolds
 pub mod WritingItems
 pub mod WritingUnions
+pub mod OneIds
 pub mod ImportKinds
 pub mod Assembled
 pub mod AssembledKinds

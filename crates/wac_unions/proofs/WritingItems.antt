@@ -138,7 +138,7 @@ module _ (m more : Collection) (x : IsExtended m more) where
 
 -- ---- one more
 
-zip-push : {A B : Type 0} (R : A → B → Type 0) (xs : List A) (ys : List B) (a : A) (b : B) → AllZip R xs ys → R a b → AllZip R (xs ++ a ∷ []) (ys ++ b ∷ [])
+pub zip-push : {A B : Type 0} (R : A → B → Type 0) (xs : List A) (ys : List B) (a : A) (b : B) → AllZip R xs ys → R a b → AllZip R (xs ++ a ∷ []) (ys ++ b ∷ [])
 zip-push R [] [] a b h r = (r, tt)
 zip-push R (x ∷ xs) (y ∷ ys) a b h r = (h.0, zip-push R xs ys a b h.1 r)
 zip-push R _ _ a b h r = absurd h

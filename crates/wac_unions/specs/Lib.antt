@@ -1,4 +1,5 @@
 pub mod MergedClasses
 pub mod WritingSteps
+pub mod OneId
 pub mod BoundNames
 pub mod MergedScope

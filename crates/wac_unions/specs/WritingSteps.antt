@@ -9,14 +9,18 @@ use Rattle.wac_shapes.specs.declared.component.Interface.{Interface}
 use Rattle.wac_shapes.specs.declared.component.InterfaceId.{InterfaceId}
 use Rattle.wac_shapes.specs.declared.component.ItemKind.{ItemKind}
 use Rattle.wac_terms.specs.Became.{AreFresh}
+use Rattle.wac_entries.specs.Classes.{Entry}
+use Rattle.wac_renaming.specs.Made.{IsKindMadeOf}
 use Rattle.wac_renaming.specs.RenamedTypes.{AreRenamed, CanRenameAll}
 use Rattle.wac_terms.specs.Unions.{AreUnions}
 use Rattle.wac_terms.specs.Writing.{IsWrittenExport}
 use Rattle.wac_renaming.specs.declared.became.Became.{Became}
+use Rattle.wac_renaming.specs.declared.made.Made.{Made}
 use Rattle.wac_renaming.specs.declared.renamer.Renamed.{Renamed}
 use Rattle.wac_renaming.specs.declared.renamer.Renaming.{Renaming}
 use Rattle.wac_terms.specs.declared.parts.Export.{Export}
 use Rattle.wac_terms.specs.declared.parts.Union.{Union}
+use Rattle.wac_values.specs.declared.named.NamedTypes.{NamedTypes}
 
 -- where so many are written from the last on, the list in order has what was written
 abbrev pub HasWritten : ℕ → List InterfaceId → List InterfaceId → Type 0
@@ -66,3 +70,21 @@ pub record CanWrite (c m : Collection) (us : List Union) (b : Became) (written :
 -- the same for each renaming of these types in this part
 abbrev pub AreRenamedIn : Collection → Collection → Became → Option ℕ → Renamed → Type 0
 AreRenamedIn c m b part memo = (s : Renaming) → s.types.now ≡ c → s.became.now ≡ b → s.part ≡ part → AreRenamed m s memo
+
+-- what exports of a union mention was made once
+abbrev pub AreItemsMadeOf : Collection → Collection → NamedTypes → Made → List (Name × Export) → List (Name × ItemKind) → Type 0
+AreItemsMadeOf c m t made = AllZip (λ e k. IsKindMadeOf c m t made e.1.kind k.1)
+
+-- so it was for a union that became an interface
+pub record IsUnionMadeOf (c m : Collection) (t : NamedTypes) (made : Made) (x : Union) (w : InterfaceId) : Type 0 where
+  pub interface : Interface
+  pub there : item_at m.interfaces w.0 ≡ Some interface
+  pub items : AreItemsMadeOf c m t made x.exports interface.exports
+
+-- so for each union
+abbrev pub AreUnionsMadeOf : Collection → Collection → NamedTypes → Made → List Union → List InterfaceId → Type 0
+AreUnionsMadeOf c m t made us ws = (u : ℕ) (x : Union) (w : InterfaceId) → slice_get us u ≡ Some x → slice_get ws u ≡ Some w → IsUnionMadeOf c m t made x w
+
+-- so for each import, which is what the entry at the position of its class became
+abbrev pub AreImportsMadeOf : Collection → Collection → NamedTypes → Made → List Entry → List ℕ → List ℕ → List Entry → Type 0
+AreImportsMadeOf c m t made es positions order imports = (p k q : ℕ) (e x : Entry) → slice_get order p ≡ Some k → slice_get positions k ≡ Some q → slice_get es q ≡ Some e → slice_get imports p ≡ Some x → IsKindMadeOf c m t made e.kind x.kind

@@ -12,9 +12,11 @@ ghost use Rattle.wac_terms.specs.ClassOrder.{IsWrittenOrder};
 ghost use Rattle.wac_entries.specs.Classes.{AreClasses, Entry as AnEntry, by_names, class_names, same_class};
 ghost use Rattle.wac_terms.specs.Merge.{IsMerge, import_entries, is_on_track};
 ghost use Rattle.wac_unions.specs.MergedScope.{BindsAsClasses};
+ghost use Rattle.wac_unions.specs.OneId.{AreMadeOnce, HasOneIdEach};
+ghost use Rattle.wac_unions.specs.WritingSteps.{AreImportsMadeOf};
 ghost use Rattle.wac_unions.specs.MergedClasses.{AreClassUnions, AreIds, AreImports, AreOnTrack, AreRoots, AreWrittenImports, IsClassKind, IsUnionId, first_id, with_root};
 ghost use Rattle.wac_terms.specs.MergedKinds.{AreListedOnce};
-ghost use Rattle.wac_renaming.specs.Made.{AreMade};
+ghost use Rattle.wac_renaming.specs.Made.{AreMade, IsKindMadeOf, StayMade};
 ghost use Rattle.wac_renaming.specs.RenamedTypes.{CanRenameAll};
 ghost use Rattle.wac_terms.specs.Renaming.{IsExtended};
 ghost use Rattle.wac_terms.specs.Unions.{AreUnions};
@@ -213,6 +215,8 @@ fn class_kind(
     ensures extended { IsExtended merged.old merged.new }
     ensures made { OnOk result (AreMade merged.new renamed.new.made) }
     ensures kind { IfOk result (λ k. IsClassKind types.now merged.new became.now.parts.now became.now.bindings.now became.now.fresh.now written.now number entry.now k) }
+    ensures once { IfOk result (λ k. IsKindMadeOf types.now merged.new became.now.named.now renamed.new.made entry.now.kind k) }
+    ensures stay { OnOk result (StayMade renamed.old.made renamed.new.made) }
 {
     if let Some(resource) = became.fresh.whole(number) {
         return Ok(ItemKind::TypeItem(Type::Resource(resource)));
@@ -255,7 +259,10 @@ fn class_imports(
     requires once { (i j k : ℕ) → slice_get order.now i ≡ Some k → slice_get order.now j ≡ Some k → i ≡ j }
     requires made { AreMade merged.old renamed.old.made }
     ensures extended { IsExtended merged.old merged.new }
+    ensures made { OnOk result (AreMade merged.new renamed.new.made) }
     ensures imports { IfOk result (λ is. AreImports types.now merged.new entries.now became.now.parts.now became.now.bindings.now became.now.fresh.now written.now order.now (import_entries is)) }
+    ensures once { IfOk result (λ is. AreImportsMadeOf types.now merged.new became.now.named.now renamed.new.made entries.now classes.now.positions.items order.now (import_entries is)) }
+    ensures stay { OnOk result (StayMade renamed.old.made renamed.new.made) }
 {
     merged.law();
     let positions = classes.positions();
@@ -347,6 +354,7 @@ fn write_imports<'a>(
     requires once { (i j k : ℕ) → slice_get order.now i ≡ Some k → slice_get order.now j ≡ Some k → i ≡ j }
     ensures extended { IsExtended merged.old merged.new }
     ensures imports { IfOk result (λ is. AreWrittenImports types.now merged.new entries.now unions.now.unions.items unions.now.parts.items became.now.bindings.now became.now.fresh.now order.now (import_entries is)) }
+    ensures once { IfOk result (λ is. AreMadeOnce types.now merged.new entries.now unions.now.unions.items unions.now.parts.items became.now.bindings.now became.now.fresh.now became.now.named.now classes.now.positions.items order.now (import_entries is)) }
 {
     merged.law();
     let ids = union_ids(alloc, types, entries, classes, unions)?;
@@ -410,6 +418,7 @@ impl Merged {
         requires once { (i j k : ℕ) → slice_get order.now i ≡ Some k → slice_get order.now j ≡ Some k → i ≡ j }
         ensures merged { IfOk result (λ m. IsMerge by_names types.now entries.now m) }
         ensures bound { IfOk result (λ m. BindsAsClasses by_names types.now entries.now m) }
+        ensures once { IfOk result (λ m. HasOneIdEach types.now entries.now m) }
         ensures begins { IfOk result (λ m. IsExtended types.now m.types) }
         ensures holds { IfOk result (λ m. AreHeld m.types m.imports) }
         ensures asked { IfOk result (λ m. AreHeld m.types entries.now) }

@@ -8,12 +8,12 @@ ghost use Rattle.wac_collection.specs.Uses.{is_named_right};
 ghost use Rattle.wac_shapes.specs.declared.component.InterfaceId.{InterfaceId as AnId};
 ghost use Rattle.wac_shapes.specs.declared.component.ItemKind.TheVariants as kind_of;
 ghost use Rattle.wac_terms.specs.Became.{AreFresh};
-ghost use Rattle.wac_renaming.specs.Made.{AreMade};
+ghost use Rattle.wac_renaming.specs.Made.{AreMade, IsKindMadeOf, StayMade};
 ghost use Rattle.wac_renaming.specs.RenamedTypes.{AreRenamed, CanRename, CanRenameAll, becomes};
 ghost use Rattle.wac_terms.specs.Renaming.{IsExtended};
 ghost use Rattle.wac_terms.specs.Unions.{AreUnions};
 ghost use Rattle.wac_terms.specs.Writing.{AreWritten, IsAliasOf, IsGiven, IsWrittenAs};
-ghost use Rattle.wac_unions.specs.WritingSteps.{AreRenamedIn, AreWrittenItems, CanWrite, HasExport, IsBehind, IsFoundIn, IsWrittenItem, IsWrittenUnion};
+ghost use Rattle.wac_unions.specs.WritingSteps.{AreItemsMadeOf, AreRenamedIn, AreUnionsMadeOf, IsUnionMadeOf, AreWrittenItems, CanWrite, HasExport, IsBehind, IsFoundIn, IsWrittenItem, IsWrittenUnion};
 ghost use Rattle.wac_renaming.specs.declared.became.Became.{Became as ABecame};
 ghost use Rattle.wac_terms.specs.declared.parts.Union.{Union as AUnion};
 
@@ -65,6 +65,8 @@ fn write_type(
     ensures right { OnOk result (AreRenamed merged.new renaming.now renamed.new) }
     ensures held { IfOk result (λ t. holds_type merged.new t ≡ true) }
     ensures written { IfOk result (λ t. IsWrittenAs renaming.now.types.now merged.new (becomes renaming.now) inner name.now (kind_of.TypeItem ty) (kind_of.TypeItem t)) }
+    ensures once { IfOk result (λ t. IsKindMadeOf renaming.now.types.now merged.new renaming.now.became.now.named.now renamed.new.made (kind_of.TypeItem ty) (kind_of.TypeItem t)) }
+    ensures stay { OnOk result (StayMade renamed.old.made renamed.new.made) }
 {
     match ty {
         Type::Resource(id) => {
@@ -103,6 +105,8 @@ pub fn write_kind(
     ensures right { OnOk result (AreRenamed merged.new renaming.now renamed.new) }
     ensures held { IfOk result (λ k. holds_type merged.new (kind_type k) ≡ true) }
     ensures written { IfOk result (λ k. IsWrittenAs renaming.now.types.now merged.new (becomes renaming.now) inner name.now kind k) }
+    ensures once { IfOk result (λ k. IsKindMadeOf renaming.now.types.now merged.new renaming.now.became.now.named.now renamed.new.made kind k) }
+    ensures stay { OnOk result (StayMade renamed.old.made renamed.new.made) }
 {
     match kind {
         ItemKind::TypeItem(ty) => {
@@ -154,6 +158,8 @@ fn write_export(
     ensures extended { IsExtended merged.old merged.new }
     ensures right { OnOk result (AreRenamed merged.new renaming.now renamed.new) }
     ensures written { IfOk result (IsWrittenItem renaming.now.types.now merged.new renaming.now.became.now (length unions.now.unions.items) written.now union name.now export.now) }
+    ensures once { IfOk result (λ k. IsKindMadeOf renaming.now.types.now merged.new renaming.now.became.now.named.now renamed.new.made export.now.kind k) }
+    ensures stay { OnOk result (StayMade renamed.old.made renamed.new.made) }
 {
     if export.is_own {
         let own = renaming.became.fresh.own_in(union, name).unwrap();
@@ -167,6 +173,7 @@ fn write_export(
 /// Nothing was renamed yet in a part, where another was before it.
 fn begin(alloc: Global, renamed: &mut Renamed, part: &mut Option<usize>, next: usize)
     ensures part { part.new ≡ Some next }
+    ensures made { renamed.new.made ≡ renamed.old.made }
     ensures right { (c m : Collection) (b : ABecame) → AreMade m renamed.old.made → AreRenamedIn c m b part.old renamed.old → AreRenamedIn c m b part.new renamed.new }
 {
     if *part != Some(next) {
@@ -191,6 +198,8 @@ fn write_exports<'a>(
     ensures extended { IsExtended merged.old merged.new }
     ensures made { OnOk result (AreMade merged.new renamed.new.made) }
     ensures written { IfOk result (λ ks. (x : AUnion) → slice_get unions.now.unions.items union ≡ Some x → AreWrittenItems types.now merged.new became.now (length unions.now.unions.items) written.now union x.exports ks) }
+    ensures once { IfOk result (λ ks. (x : AUnion) → slice_get unions.now.unions.items union ≡ Some x → AreItemsMadeOf types.now merged.new became.now.named.now renamed.new.made x.exports ks) }
+    ensures stay { OnOk result (StayMade renamed.old.made renamed.new.made) }
 {
     merged.law();
     let exports = &unions.unions[union].exports;
@@ -267,6 +276,8 @@ fn write_union<'a>(
     ensures extended { IsExtended merged.old merged.new }
     ensures made { OnOk result (AreMade merged.new renamed.new.made) }
     ensures written { IfOk result (λ w. (x : AUnion) → slice_get unions.now.unions.items union ≡ Some x → IsWrittenUnion types.now merged.new became.now (length unions.now.unions.items) written.now union x (option_map string_bytes id.now) w) }
+    ensures once { IfOk result (λ w. (x : AUnion) → slice_get unions.now.unions.items union ≡ Some x → IsUnionMadeOf types.now merged.new became.now.named.now renamed.new.made x w) }
+    ensures stay { OnOk result (StayMade renamed.old.made renamed.new.made) }
 {
     let exports = write_exports(
         alloc, merged, renamed, types, unions, became, written, union,
@@ -294,6 +305,8 @@ pub fn write_unions<'a>(
     ensures extended { IsExtended merged.old merged.new }
     ensures made { OnOk result (AreMade merged.new renamed.new.made) }
     ensures written { IfOk result (λ ws. AreWritten types.now merged.new unions.now.unions.items unions.now.parts.items became.now.bindings.now became.now.fresh.now (map (option_map string_bytes) ids.now) ws.items) }
+    ensures once { IfOk result (λ ws. AreUnionsMadeOf types.now merged.new became.now.named.now renamed.new.made unions.now.unions.items ws.items) }
+    ensures stay { OnOk result (StayMade renamed.old.made renamed.new.made) }
 {
     merged.law();
     let count = unions.unions.len();

@@ -1,4 +1,5 @@
 use Rattle.std.proofs.Common.{◌≡◌, ℕ, suc, ◌<◌, List, [], ◌∷◌, ◌++◌, Some, IsSome, Err, take, slice_get, get_or, length, refl, sym, ap, ◌∙◌, subst, arith, add-one}
+use Rattle.std.proofs.lemmas.List.{take_all}
 use Rattle.std.proofs.lemmas.Option.{slice_get_read, slice_get_within, slice_get-get_or}
 use Rattle.wac_collection.specs.Collection.{Collection}
 use Rattle.wac_shapes.specs.Name.{Name, find_name}
@@ -9,6 +10,10 @@ use Rattle.wac_unions.specs.MergedClasses.{AreImports, IsClassKind}
 use Rattle.wac_terms.specs.Writing.{IsGiven}
 use Rattle.wac_unions.proofs.AssembledItemsFirst.{first-member}
 use Rattle.wac_terms.proofs.Found.{some_same}
+use Rattle.wac_renaming.specs.Made.{IsKindMadeOf}
+use Rattle.wac_renaming.proofs.OneIds.{stay_twice}
+use Rattle.wac_unions.specs.WritingSteps.{AreImportsMadeOf}
+use Rattle.wac_unions.proofs.OneIds.{imports-long, imports-made-more}
 use Rattle.wac_renaming.proofs.Extending.{extended_twice, still_can_all}
 use Rattle.wac_fitting.proofs.FittingClasses.{contains-at}
 use Rattle.wac_unions.proofs.ImportKinds.{namesake, still-given, imports-more, imported-once}
@@ -105,6 +110,7 @@ loop-i-preserved c =
     let bs = c.args.became.now.bindings.now in
     let f = c.args.became.now.fresh.now in
     let ws = c.args.written.now in
+    let n = c.args.became.now.named.now in
     let l : ItemKind = c.in_ok-kind.kind in
     let m : Collection = c.class_kind.new.merged in
     let kind : IsClassKind t m ps bs f ws k w.entry l = subst (λ (v : Entry). IsClassKind t m ps bs f ws k v l) (sym same) c.in_ok-kind.ensures.kind in
@@ -112,6 +118,12 @@ loop-i-preserved c =
     record {
       extended = extended_twice c.args.merged.now c.loop-i.merged m c.loop-i.invariant.extended c.class_kind.ensures.extended;
       made = c.in_ok-kind.ensures.made;
+      once = rw add-one (subst (λ (is : List (Name × ItemKind)). AreImportsMadeOf t m n c.class_kind.new.renamed.made es c.args.classes.now.positions.items (take (suc i) order) (import_entries is)) (sym inserted)
+          (imports-made-more t c.loop-i.merged m c.class_kind.ensures.extended n c.loop-i.renamed.made c.class_kind.new.renamed.made c.in_ok-kind.ensures.stay es c.args.classes.now.positions.items order i k p c.loop-i.imports w.entry.name w.entry l at
+          (slice_get-get_or c.args.classes.now.positions.items k 0 (omega (arith, low, c.requires.classes.positioned))) w.there
+          (sym (imports-long c.loop-i.imports) ∙ c.loop-i.invariant.imports.counted) c.loop-i.invariant.once
+          (subst (λ (v : Entry). IsKindMadeOf t m n c.class_kind.new.renamed.made v.kind l) (sym same) c.in_ok-kind.ensures.once)));
+      stay = stay_twice c.args.renamed.now.made c.loop-i.renamed.made c.class_kind.new.renamed.made c.loop-i.invariant.stay c.in_ok-kind.ensures.stay;
       imports = rw add-one (subst (λ (is : List (Name × ItemKind)). AreImports t m es ps bs f ws (take (suc i) order) (import_entries is)) (sym inserted)
           (imports-more t es ps bs f ws order c.requires.once c.loop-i.merged m c.class_kind.ensures.extended i k p c.loop-i.imports l w at
           (λ v rest plain are. first-member es w.class plain c.args.classes.now.numbers.items c.args.classes.now.positions.items c.args.classes.now.names c.requires.classes k p w.entry v rest w.numbered (slice_get-get_or c.args.classes.now.positions.items k 0 (omega (arith, low, c.requires.classes.positioned))) w.there are)
@@ -135,3 +147,14 @@ offset_bounds-entries-positions c =
     let w = namesake es c.args.classes.now.numbers.items c.args.classes.now.positions.items c.args.classes.now.names c.requires.classes k low in
     let within : get_or c.positions-positions.result.now k 0 < length es = subst (λ (l : List ℕ). get_or l k 0 < length es) (sym c.positions-positions.ensures) (slice_get_within es (get_or c.args.classes.now.positions.items k 0) w.entry w.there) in
     omega arith
+
+pub returns-clause-once : goal.returns-clause-once
+returns-clause-once c =
+    let order = c.args.order.now in
+    subst (λ (o : List ℕ). AreImportsMadeOf c.args.types.now c.loop-i.merged c.args.became.now.named.now c.loop-i.renamed.made c.args.entries.now c.args.classes.now.positions.items o (import_entries c.loop-i.imports)) (take_all c.loop-i.i order (omega arith)) c.loop-i.invariant.once
+
+pub returns-clause-made : goal.returns-clause-made
+returns-clause-made c = c.loop-i.invariant.made
+
+pub returns-clause-stay : goal.returns-clause-stay
+returns-clause-stay c = c.loop-i.invariant.stay

@@ -9,6 +9,8 @@ use Rattle.wac_shapes.specs.declared.component.ResourceId.{ResourceId}
 use Rattle.wac_shapes.specs.declared.component.«Type».TheVariants as ty
 use Rattle.wac_terms.specs.Became.{became, whole_in}
 use Rattle.wac_terms.specs.Writing.{IsGiven, IsWrittenAs}
+use Rattle.wac_renaming.specs.Made.{IsKindMadeOf, StayMade}
+use Rattle.wac_renaming.specs.declared.made.Made.{Made}
 use Rattle.wac_unions.proofs.merged.class_kind.Goals as goal
 
 if_ok : {A E : Type 0} {P Q : A → Type 0} (r : Result A E) → ((x : A) → P x → Q x) → IfOk r P → IfOk r Q
@@ -51,3 +53,13 @@ returns-clause-kind c =
     (subst (λ (n : Name). IsWrittenAs t m (became t b.parts.now b.bindings.now b.fresh.now None) c.interface_at-inner.result n e.kind k) c.name.ensures
     (subst (λ (l : ItemKind). IsWrittenAs t m (became t b.parts.now b.bindings.now b.fresh.now None) c.interface_at-inner.result c.name.result.now l k) c.kind.ensures h))))
     c.write_kind.ensures.written
+
+pub returns-clause-once : goal.returns-clause-once
+returns-clause-once c =
+    let t = c.args.types.now in
+    let m = c.write_kind.new.merged in
+    let n = c.args.became.now.named.now in
+    if_ok c.write_kind.result (λ k h. subst (λ (l : ItemKind). IsKindMadeOf t m n c.write_kind.new.renamed.made l k) c.kind.ensures h) c.write_kind.ensures.once
+
+pub returns-clause-stay : goal.returns-clause-stay
+returns-clause-stay c = on_ok c.write_kind.result (λ h. subst (λ (made : Made). StayMade made c.write_kind.new.renamed.made) c.forget.ensures.made h) c.write_kind.ensures.stay

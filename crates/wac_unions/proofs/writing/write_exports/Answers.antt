@@ -6,13 +6,17 @@ use Rattle.wac_shapes.specs.Named.{names_of}
 use Rattle.wac_shapes.specs.declared.component.ItemKind.{ItemKind}
 use Rattle.wac_shapes.proofs.Names.{find_name-at, none_before, take_at}
 use Rattle.wac_shapes.proofs.Under.{not_some}
-use Rattle.wac_unions.specs.WritingSteps.{AreWrittenItems}
+use Rattle.wac_renaming.specs.Made.{StayMade}
+use Rattle.wac_renaming.specs.declared.made.Made.{Made}
+use Rattle.wac_renaming.proofs.OneIds.{stay_twice}
+use Rattle.wac_unions.specs.WritingSteps.{AreItemsMadeOf, AreWrittenItems}
 use Rattle.wac_renaming.specs.declared.renamer.Renaming.{Renaming}
 use Rattle.wac_terms.specs.declared.parts.Export.{Export}
 use Rattle.wac_terms.specs.declared.parts.Union.{Union}
 use Rattle.wac_terms.proofs.Found.{one_some}
 use Rattle.wac_renaming.proofs.Extending.{extended_none, extended_twice}
 use Rattle.wac_uniting.proofs.SameNames.{none_alike, push_alike}
+use Rattle.wac_unions.proofs.OneIds.{items-made-more}
 use Rattle.wac_unions.proofs.WritingItems.{items-more, items-none}
 use Rattle.wac_unions.proofs.WritingUnions.{renamed-alike, still-can}
 use Rattle.wac_unions.proofs.writing.write_exports.Goals as goal
@@ -27,6 +31,8 @@ loop-i-init c =
       extended = extended_none m;
       right = λ s p q r. c.forget.ensures.right m s c.requires.made;
       written = subst (λ (ks : List (Name × ItemKind)). AreWrittenItems t m b count c.args.written.now c.args.union [] ks) (sym c.in_ok-items.ensures.empty) (items-none t m b count c.args.written.now c.args.union);
+      once = subst (λ (ks : List (Name × ItemKind)). AreItemsMadeOf t m b.named.now c.forget.new.self.made [] ks) (sym c.in_ok-items.ensures.empty) tt;
+      stay = subst (StayMade c.args.renamed.now.made) (sym c.forget.ensures.made) (λ f e is. is);
       names = ap names_of c.in_ok-items.ensures.empty;
     }
 
@@ -77,11 +83,15 @@ loop-i-preserved c =
     let e : Export = c.entry_at.result.1.now in
     let renaming : Renaming = record { alloc = c.args.alloc; types = c.args.types; became = c.args.became; part = c.begin.new.part } in
     let v = c.loop-i.invariant in
+    let step : StayMade c.loop-i.renamed.made c.write_export.new.renamed.made = subst (λ (made : Made). StayMade made c.write_export.new.renamed.made) c.begin.ensures.made c.in_ok-item.ensures.stay in
     record {
       extended = extended_twice c.args.merged.now now more v.extended c.write_export.ensures.extended;
       right = λ s p q r. renamed-alike more c.write_export.new.renamed renaming s (sym p) (sym q) (sym r) c.in_ok-item.ensures.right;
       written = rw (add-one, take_at es i (n, e) c.entry_at.ensures, c.in-Ok.ensures.inserted)
           (items-more t now more b count c.args.written.now c.args.union (take i es) c.loop-i.items n e c.in_ok-item.item c.write_export.ensures.extended v.written c.in_ok-item.ensures.written);
+      once = rw (add-one, take_at es i (n, e) c.entry_at.ensures, c.in-Ok.ensures.inserted)
+          (items-made-more t now more c.write_export.ensures.extended b.named.now c.loop-i.renamed.made c.write_export.new.renamed.made step (take i es) c.loop-i.items n e c.in_ok-item.item v.once c.in_ok-item.ensures.once);
+      stay = stay_twice c.args.renamed.now.made c.loop-i.renamed.made c.write_export.new.renamed.made v.stay step;
       names = rw (add-one, take_at es i (n, e) c.entry_at.ensures, c.in-Ok.ensures.inserted) (push_alike c.loop-i.items (take i es) n c.in_ok-item.item e v.names);
     }
 
@@ -100,3 +110,18 @@ returns-clause-written c x there =
     let same : y ≡ x = one_some (slice_get us u) y x (slice_get_read us (length us) u y refl low c.index.ensures) there in
     subst (λ (z : Union). AreWrittenItems c.args.types.now c.loop-i.merged c.args.became.now (length us) c.args.written.now u z.exports c.loop-i.items) same
     (subst (λ (es : List (Name × Export)). AreWrittenItems c.args.types.now c.loop-i.merged c.args.became.now (length us) c.args.written.now u es c.loop-i.items) (take_all c.loop-i.i y.exports (omega arith)) c.loop-i.invariant.written)
+
+pub returns-clause-once : goal.returns-clause-once
+returns-clause-once c x there =
+    let us = c.args.unions.now.unions.items in
+    let u = c.args.union in
+    let y : Union = c.index.result.now in
+    let held = c.requires.writing.counted in
+    let low : u < length us = omega (arith, held) in
+    let same : y ≡ x = one_some (slice_get us u) y x (slice_get_read us (length us) u y refl low c.index.ensures) there in
+    let t = c.args.became.now.named.now in
+    subst (λ (z : Union). AreItemsMadeOf c.args.types.now c.loop-i.merged t c.loop-i.renamed.made z.exports c.loop-i.items) same
+    (subst (λ (es : List (Name × Export)). AreItemsMadeOf c.args.types.now c.loop-i.merged t c.loop-i.renamed.made es c.loop-i.items) (take_all c.loop-i.i y.exports (omega arith)) c.loop-i.invariant.once)
+
+pub returns-clause-stay : goal.returns-clause-stay
+returns-clause-stay c = c.loop-i.invariant.stay

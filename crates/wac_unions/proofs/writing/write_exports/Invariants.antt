@@ -1,6 +1,7 @@
 use Rattle.std.proofs.Common.{◌≡◌, map, length, take}
 use Rattle.wac_terms.specs.Renaming.{IsExtended}
-use Rattle.wac_unions.specs.WritingSteps.{AreRenamedIn, AreWrittenItems}
+use Rattle.wac_renaming.specs.Made.{StayMade}
+use Rattle.wac_unions.specs.WritingSteps.{AreItemsMadeOf, AreRenamedIn, AreWrittenItems}
 use Rattle.wac_unions.proofs.writing.write_exports.Given as goal
 
 abbrev pub invariant-loop-i : goal.invariant-loop-i
@@ -8,5 +9,7 @@ invariant-loop-i l = record {
   extended : IsExtended l.initial.merged l.merged;
   right : AreRenamedIn l.types l.merged l.became l.part l.renamed;
   written : AreWrittenItems l.types l.merged l.became (length l.unions.unions.items) l.written l.union (take l.i l.exports) l.items;
+  once : AreItemsMadeOf l.types l.merged l.became.named.now l.renamed.made (take l.i l.exports) l.items;
+  stay : StayMade l.fn.renamed.made l.renamed.made;
   names : map (λ e. e.0) l.items ≡ map (λ e. e.0) (take l.i l.exports);
 }

@@ -1,7 +1,8 @@
-use Rattle.std.proofs.Common.{◌<◌, length, arith, Result, Ok, Err, OnOk}
+use Rattle.std.proofs.Common.{◌<◌, [], length, arith, Result, Ok, Err, OnOk}
 use Rattle.wac_renaming.proofs.Extending.{extended_twice, still_made}
 use Rattle.wac_entries.proofs.Lists.{some-at}
 use Rattle.wac_entries.proofs.Walking.{if-ok}
+use Rattle.wac_unions.proofs.OneIds.{still-items}
 use Rattle.wac_unions.proofs.WritingUnions.{union-written}
 use Rattle.wac_unions.proofs.writing.write_union.Goals as goal
 
@@ -39,3 +40,17 @@ returns-clause-written c =
     union-written c.args.types.now c.write_exports.new.merged c.add_interface.new.merged c.args.became.now (length c.args.unions.now.unions.items) c.args.written.now c.args.union x
     c.in_ok-id.id _ c.in_ok-exports.exports w c.add_interface.ensures.extended c.in_ok-id.ensures (c.in_ok-exports.ensures.written x there) at)
     c.add_interface.ensures.added
+
+pub returns-clause-once : goal.returns-clause-once
+returns-clause-once c =
+    let made = c.write_exports.new.renamed.made in
+    if-ok c.add_interface.result
+    (λ w at x there. record {
+      interface = record { id = c.in_ok-id.id; uses = []; exports = c.in_ok-exports.exports };
+      there = at;
+      items = still-items c.args.types.now c.write_exports.new.merged c.add_interface.new.merged c.add_interface.ensures.extended c.args.became.now.named.now made made (λ f e is. is) x.exports c.in_ok-exports.exports (c.in_ok-exports.ensures.once x there);
+    })
+    c.add_interface.ensures.added
+
+pub returns-clause-stay : goal.returns-clause-stay
+returns-clause-stay c = always c.add_interface.result c.in_ok-exports.ensures.stay

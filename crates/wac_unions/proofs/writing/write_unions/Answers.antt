@@ -7,11 +7,13 @@ use Rattle.wac_shapes.specs.Name.{Name}
 use Rattle.wac_shapes.specs.declared.component.InterfaceId.{InterfaceId}
 use Rattle.wac_terms.specs.Unions.{AreUnions}
 use Rattle.wac_terms.specs.Writing.{AreWritten}
-use Rattle.wac_unions.specs.WritingSteps.{CanWrite, IsWrittenUnion}
+use Rattle.wac_renaming.proofs.OneIds.{stay_twice}
+use Rattle.wac_unions.specs.WritingSteps.{AreUnionsMadeOf, CanWrite, IsUnionMadeOf, IsWrittenUnion}
 use Rattle.wac_terms.specs.declared.parts.Part.{Part}
 use Rattle.wac_terms.specs.declared.parts.Union.{Union}
 use Rattle.wac_renaming.proofs.Extending.{extended_none, extended_twice, still_can_all, still_fresh}
 use Rattle.wac_entries.proofs.Lists.{some-at}
+use Rattle.wac_unions.proofs.OneIds.{unions-made, unions-made-more}
 use Rattle.wac_unions.proofs.WritingUnions.{AreAllWritten, are-written, at-empty, held-more, length-mapped, union-held, union-more}
 use Rattle.wac_unions.proofs.writing.write_unions.Goals as goal
 
@@ -23,6 +25,8 @@ loop-done-init c =
       made = c.requires.made;
       counted = ap length empty;
       held = λ j w at. absurd (at-empty c.new-written.result.items j w empty at);
+      once = λ j u w x at place there. absurd (at-empty c.new-written.result.items j w empty at);
+      stay = λ f e is. is;
       written = λ j u w x id at place there named. absurd (at-empty c.new-written.result.items j w empty at);
     }
 
@@ -85,6 +89,9 @@ loop-done-preserved c =
       counted = ap length items ∙ (length-append written (w ∷ []) ∙ ap (λ n. n + 1) v.counted);
       held = subst (λ (l : List InterfaceId). (j : ℕ) (y : InterfaceId) → slice_get l j ≡ Some y → HasInterface more y) (sym items)
           (held-more now more written w c.write_union.ensures.extended (union-held t more b (length us) written u x.0 name w (is x.0 x.1)) v.held);
+      once = subst (λ (l : List InterfaceId). (j v : ℕ) (a : InterfaceId) (y : Union) → slice_get l j ≡ Some a → j + v + 1 ≡ length us → slice_get us v ≡ Some y → IsUnionMadeOf t more b.named.now c.write_union.new.renamed.made y a) (sym items)
+          (unions-made-more t now more c.write_union.ensures.extended b.named.now c.loop-done.renamed.made c.write_union.new.renamed.made c.in_ok-id.ensures.stay us written u w place v.once c.in_ok-id.ensures.once);
+      stay = stay_twice c.args.renamed.now.made c.loop-done.renamed.made c.write_union.new.renamed.made v.stay c.in_ok-id.ensures.stay;
       written = subst (λ (l : List InterfaceId). AreAllWritten t more b us views l) (sym items) (union-more t now more b us views written u w name c.write_union.ensures.extended place view v.written is);
     }
 
@@ -100,3 +107,16 @@ returns-clause-written c =
     let all : length c.loop-done.written.items ≡ length us = omega (arith, done, c.len-count.ensures, c.args.unions.now.unions.ok.0, c.loop-done-test.false, c.loop-done.auto.done-end) in
     subst (λ (l : List InterfaceId). AreWritten t c.loop-done.merged us c.args.unions.now.parts.items b.bindings.now b.fresh.now views l) (sym c.reverse.ensures.items)
     (are-written t c.loop-done.merged b us c.args.unions.now.parts.items views c.loop-done.written.items c.requires.parts all (length-mapped (option_map string_bytes) ids ∙ c.requires.counted) v.written)
+
+pub returns-clause-once : goal.returns-clause-once
+returns-clause-once c =
+    let t = c.args.types.now in
+    let us = c.args.unions.now.unions.items in
+    let n = c.args.became.now.named.now in
+    let v = c.loop-done.invariant in
+    let done = v.counted in
+    let all : length c.loop-done.written.items ≡ length us = omega (arith, done, c.len-count.ensures, c.args.unions.now.unions.ok.0, c.loop-done-test.false, c.loop-done.auto.done-end) in
+    subst (λ (l : List InterfaceId). AreUnionsMadeOf t c.loop-done.merged n c.loop-done.renamed.made us l) (sym c.reverse.ensures.items) (unions-made t c.loop-done.merged n c.loop-done.renamed.made us c.loop-done.written.items all v.once)
+
+pub returns-clause-stay : goal.returns-clause-stay
+returns-clause-stay c = c.loop-done.invariant.stay

@@ -1,9 +1,11 @@
-use Rattle.std.proofs.Common.{◌≡◌, ℕ, length, map, slice_get, string_bytes, Some}
+use Rattle.std.proofs.Common.{◌≡◌, ◌+◌, ℕ, length, map, slice_get, string_bytes, Some}
 use Rattle.std.specs.Option.{option_map}
 use Rattle.wac_collection.specs.Collection.{HasInterface}
 use Rattle.wac_shapes.specs.declared.component.InterfaceId.{InterfaceId}
-use Rattle.wac_renaming.specs.Made.{AreMade}
+use Rattle.wac_renaming.specs.Made.{AreMade, StayMade}
 use Rattle.wac_terms.specs.Renaming.{IsExtended}
+use Rattle.wac_terms.specs.declared.parts.Union.{Union}
+use Rattle.wac_unions.specs.WritingSteps.{IsUnionMadeOf}
 use Rattle.wac_unions.proofs.WritingUnions.{AreAllWritten}
 use Rattle.wac_unions.proofs.writing.write_unions.Given as goal
 
@@ -13,5 +15,7 @@ invariant-loop-done l = record {
   made : AreMade l.merged l.renamed.made;
   counted : length l.written.items ≡ l.done;
   held : (j : ℕ) (w : InterfaceId) → slice_get l.written.items j ≡ Some w → HasInterface l.merged w;
+  once : (j u : ℕ) (w : InterfaceId) (x : Union) → slice_get l.written.items j ≡ Some w → j + u + 1 ≡ length l.unions.unions.items → slice_get l.unions.unions.items u ≡ Some x → IsUnionMadeOf l.types l.merged l.became.named.now l.renamed.made x w;
+  stay : StayMade l.initial.renamed.made l.renamed.made;
   written : AreAllWritten l.types l.merged l.became l.unions.unions.items (map (option_map string_bytes) l.ids) l.written.items;
 }

@@ -7,7 +7,7 @@ use Rattle.wac_renaming.proofs.renamer.Renamed.definition.Goals.{in-Tuple+in_ok-
 
 pub returns : goal.returns
 returns c =
-    let R = IsRenamedIn c.args.renaming.now c.args.merged.now in
+    let R = IsRenamedIn c.args.renaming.now c.args.merged.now c.args.self.now.made in
     elim c.match-definition.branch [
       | in-Tuple+in_ok-parts-in-Tuple+in_ok-renamed-in-Tuple w ↦
           let slice = w.as_slice-in-Tuple in

@@ -3,4 +3,4 @@ use Rattle.wac_renaming.specs.RenamingSteps.{FieldsGoTogether, IsRenamedIn}
 use Rattle.wac_renaming.proofs.renamer.Renamed.fields.Given as goal
 
 abbrev pub invariant-loop-i : goal.invariant-loop-i
-invariant-loop-i l = FieldsGoTogether (IsRenamedIn l.renaming l.merged) (take l.i l.fields) l.renamed
+invariant-loop-i l = FieldsGoTogether (IsRenamedIn l.renaming l.merged l.self.made) (take l.i l.fields) l.renamed

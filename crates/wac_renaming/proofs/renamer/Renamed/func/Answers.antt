@@ -5,11 +5,15 @@ use Rattle.wac_shapes.specs.declared.component.FuncType.{FuncType}
 use Rattle.wac_entries.specs.declared.tasks.Task.{Task}
 use Rattle.wac_entries.specs.Tasks.{IsHeldTask, IsOpening}
 use Rattle.wac_renaming.specs.RenamedTypes.{becomes}
-use Rattle.wac_renaming.specs.RenamingSteps.{IsDone, IsReady}
+use Rattle.wac_renaming.specs.Made.{IsFuncMadeOf, StayMade}
+use Rattle.wac_renaming.specs.RenamingSteps.{IsDone, IsReady, IsRenamedIn, IsRenamedValue}
+use Rattle.wac_renaming.specs.declared.made.Made.{Made}
 use Rattle.wac_entries.proofs.TaskOpenings.{first_of, openings_two, rest_of}
 use Rattle.wac_entries.proofs.TaskLemmas.{all_openings, func_held, func_values_hold}
 use Rattle.wac_renaming.proofs.Extending.{extended_none, extended_twice, still_all_renamed, still_can}
+use Rattle.wac_renaming.proofs.OneIds.{func_once}
 use Rattle.wac_renaming.proofs.RenamingMemo.{func_closed, func_right}
+use Rattle.wac_renaming.proofs.RenamingShapes.{fields_more, option_more}
 use Rattle.wac_renaming.proofs.RenamingTasks.{ready_values}
 use Rattle.wac_renaming.proofs.RenamingTrees as trees
 use Rattle.wac_renaming.proofs.renamer.Renamed.func.Goals as goal
@@ -62,7 +66,9 @@ add_func-requires c =
     let s = c.args.renaming.now in
     let x = c.index-func.result.now in
     let y : FuncType = record { params = c.in_ok-fields.field-0; result = c.optional.result; is_async = x.is_async } in
-    record { held = trees.func_held s.types.now c.finish.new.merged (becomes s) x y c.in_ok-fields.ensures c.optional.ensures }
+    let R = IsRenamedIn s c.finish.new.merged c.finish.new.self.made in
+    let S = IsRenamedValue s.types.now c.finish.new.merged (becomes s) in
+    record { held = trees.func_held s.types.now c.finish.new.merged (becomes s) x y (fields_more R S (λ v w r. r.0) x.params y.params c.in_ok-fields.ensures) (option_more R S (λ v w r. r.0) x.result y.result c.optional.ensures) }
 
 pub returns-in_err-became-clause-extended : goal.returns-in_err-became-clause-extended
 returns-in_err-became-clause-extended c = extended_twice c.args.merged.now c.finish.new.merged c.add_func.new.merged c.finish.ensures.extended c.add_func.ensures.extended
@@ -78,7 +84,7 @@ returns-clause-func c =
     let s = c.args.renaming.now in
     let x = c.index-func.result.now in
     let y : FuncType = record { params = c.in_ok-fields.field-0; result = c.optional.result; is_async = x.is_async } in
-    func_closed s c.finish.new.merged c.add_func.new.merged (record { named = c.trees_are_whole.ensures.named; placed = c.trees_are_whole.ensures.placed }) (record { named = c.trees_are_whole-2.ensures.named; placed = c.trees_are_whole-2.ensures.placed })
+    func_closed s c.finish.new.merged c.add_func.new.merged (record { named = c.trees_are_whole.ensures.named; placed = c.trees_are_whole.ensures.placed }) (record { named = c.trees_are_whole-2.ensures.named; placed = c.trees_are_whole-2.ensures.placed }) c.finish.new.self.made
     c.args.id c.in_ok-became.became x y c.index-func.ensures c.in_ok-became.ensures.added c.in_ok-fields.ensures c.optional.ensures refl
 
 pub returns-clause-right : goal.returns-clause-right
@@ -86,4 +92,22 @@ returns-clause-right c =
     let s = c.args.renaming.now in
     let m = c.finish.new.merged in
     let more = c.add_func.new.merged in
+    let x = c.index-func.result.now in
+    let y : FuncType = record { params = c.in_ok-fields.field-0; result = c.optional.result; is_async = x.is_async } in
     func_right s more c.finish.new.self c.put_func.new.self c.args.id c.in_ok-became.became c.in_ok-put_func.ensures (still_all_renamed m more c.add_func.ensures.extended s c.finish.new.self c.in_ok-finish.ensures.right) (returns-clause-func c)
+    (func_once c.args.renaming.now m more c.finish.new.self.made c.args.id c.in_ok-became.became x y c.index-func.ensures c.in_ok-became.ensures.added.there c.in_ok-fields.ensures c.optional.ensures)
+
+pub returns-clause-once : goal.returns-clause-once
+returns-clause-once c =
+    let s = c.args.renaming.now in
+    let more = c.add_func.new.merged in
+    let x = c.index-func.result.now in
+    let y : FuncType = record { params = c.in_ok-fields.field-0; result = c.optional.result; is_async = x.is_async } in
+    subst (λ (made : Made). IsFuncMadeOf s.types.now more s.became.now.named.now made c.args.id c.in_ok-became.became) (sym c.in_ok-put_func.ensures.made)
+    (func_once s c.finish.new.merged more c.finish.new.self.made c.args.id c.in_ok-became.became x y c.index-func.ensures c.in_ok-became.ensures.added.there c.in_ok-fields.ensures c.optional.ensures)
+
+pub returns-clause-stay : goal.returns-clause-stay
+returns-clause-stay c = subst (StayMade c.args.self.now.made) (sym c.in_ok-put_func.ensures.made) c.in_ok-finish.ensures.stay
+
+pub returns-in-Some-clause-once : goal.returns-in-Some-clause-once
+returns-in-Some-clause-once c = c.requires.right.once_funcs c.args.id c.in-Some.became (sym c.func_type.ensures ∙ c.in-Some.is)

@@ -6,4 +6,4 @@ use Rattle.wac_renaming.proofs.renamer.Renamed.parts.Goals as goal
 
 pub loop-i-preserved : goal.loop-i-preserved
 loop-i-preserved c =
-    parts_further (IsRenamedIn c.args.renaming.now c.args.merged.now) c.args.values.now c.loop-i.i (val.Primitive primitive.Bool) c.loop-i.renamed.items c.push.new.self.items c.part.result c.loop-i-test.true c.in_ok-push.ensures.items c.loop-i.invariant c.part.ensures
+    parts_further (IsRenamedIn c.args.renaming.now c.args.merged.now c.args.self.now.made) c.args.values.now c.loop-i.i (val.Primitive primitive.Bool) c.loop-i.renamed.items c.push.new.self.items c.part.result c.loop-i-test.true c.in_ok-push.ensures.items c.loop-i.invariant c.part.ensures

@@ -1,7 +1,9 @@
 use Rattle.std.proofs.Common.{sym, ◌∙◌, subst}
 use Rattle.wac_shapes.specs.declared.component.ValueType.{ValueType}
 use Rattle.wac_shapes.specs.declared.component.ValueType.TheVariants as val
-use Rattle.wac_renaming.specs.RenamingSteps.{IsRenamedIn}
+use Rattle.wac_renaming.specs.Made.{IsMadeOf}
+use Rattle.wac_renaming.specs.RenamedTypes.{becomes}
+use Rattle.wac_renaming.specs.RenamingSteps.{IsRenamedValue}
 use Rattle.wac_renaming.proofs.Extending.{extended_none, still_can}
 use Rattle.wac_renaming.proofs.renamer.Renamed.value.Goals as goal
 
@@ -12,10 +14,15 @@ pub returns-in-Some-clause-value : goal.returns-in-Some-clause-value
 returns-in-Some-clause-value c =
     let s = c.args.renaming.now in
     let m = c.args.merged.now in
-    subst (λ (v : ValueType). IsRenamedIn s m v (val.Defined c.in-Some.became)) (sym c.in-Defined.is) (c.requires.right.defined c.in-Defined.id c.in-Some.became (sym c.defined.ensures ∙ c.in-Some.is))
+    subst (λ (v : ValueType). IsRenamedValue s.types.now m (becomes s) v (val.Defined c.in-Some.became)) (sym c.in-Defined.is) (c.requires.right.defined c.in-Defined.id c.in-Some.became (sym c.defined.ensures ∙ c.in-Some.is))
 
 pub returns-in_err-open_value-clause-extended : goal.returns-in_err-open_value-clause-extended
 returns-in_err-open_value-clause-extended c = extended_none c.args.merged.now
 
 pub part-requires-clause-known : goal.part-requires-clause-known
 part-requires-clause-known c = still_can c.args.merged.now c.finish.new.merged c.finish.ensures.extended c.law.ensures c.args.renaming.now c.requires.known
+
+pub returns-in-Some-clause-once : goal.returns-in-Some-clause-once
+returns-in-Some-clause-once c =
+    let s = c.args.renaming.now in
+    subst (λ (v : ValueType). IsMadeOf s.types.now s.became.now.named.now c.args.self.now.made v (val.Defined c.in-Some.became)) (sym c.in-Defined.is) (c.requires.right.once c.in-Defined.id c.in-Some.became (sym c.defined.ensures ∙ c.in-Some.is))

@@ -10,6 +10,7 @@ use Rattle.wac_unions.proofs.AssembledHeld.{imports-held}
 use Rattle.wac_unions.proofs.AssembledMerge.{agreed-pairs, can-rename-all, merge-is}
 use Rattle.wac_shapes.specs.Kinds.{kind_type}
 use Rattle.wac_renaming.proofs.Extending.{extended_twice, still_fresh, still_holds}
+use Rattle.wac_unions.proofs.OneIds.{apart-named, one-id}
 use Rattle.wac_unions.proofs.merged.Merged.new.Goals as goal
 
 pub named_in-requires : goal.named_in-requires
@@ -43,6 +44,7 @@ returns c =
     let m = c.write_imports.new.merged in
     let u = c.in_ok-unions.ensures.unions in
     let w = c.in_ok-imports.ensures.imports in
+    let o = c.in_ok-imports.ensures.once in
     let begins : IsExtended t started = rw (sym c.in_ok-merged.ensures.cases) c.add_fresh.ensures.extended in
     let fresh : AreFresh t us bs f started = subst (λ (xs : List Union). AreFresh t xs bs f started) c.as_slice-2.ensures.value c.in_ok-fresh.ensures.fresh in
     let after = c.write_imports.ensures.extended in
@@ -79,6 +81,24 @@ returns c =
     record {
       merged = merge-is t m es u.roots us ps bs f w.ids w.ws c.args.order.now (import_entries c.in_ok-imports.imports) all deep c.requires.agreed;
       bound = bound-is t m es u.roots us ps bs f w.ids w.ws c.args.order.now (import_entries c.in_ok-imports.imports) all;
+      once = record {
+        us = us;
+        ps = ps;
+        bs = bs;
+        f = f;
+        numbers = c.args.classes.now.numbers.items;
+        positions = c.args.classes.now.positions.items;
+        names = c.args.classes.now.names;
+        order = c.args.order.now;
+        t = c.in_ok-named.named;
+        classes = c.requires.classes;
+        unions = u;
+        written = o.written;
+        united = c.in_ok-named.ensures.united;
+        classed = c.in_ok-named.ensures.classed;
+        one = one-id t m es us ps bs f c.in_ok-named.named c.args.classes.now.positions.items c.args.order.now (import_entries c.in_ok-imports.imports) o;
+        apart = apart-named t m es us ps bs f c.in_ok-named.named c.args.classes.now.positions.items c.args.order.now (import_entries c.in_ok-imports.imports) o;
+      };
       begins = all.extended;
       asked = λ i e at. still_holds t m all.extended (kind_type e.kind) (c.requires.held i e at);
       holds = imports-held t m es u.roots us ps bs f w.ids w.ws c.args.order.now (import_entries c.in_ok-imports.imports) all;

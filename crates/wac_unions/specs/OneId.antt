@@ -1,0 +1,83 @@
+-- One id for one named type.
+use Rattle.std.specs.Prelude.{ℕ, ◌≡◌, List, [], ◌∷◌, Option, Some, None, slice_get}
+use Rattle.wac_shapes.specs.Name.{Name, option_case}
+use Rattle.wac_shapes.specs.declared.component.DefinedType.{DefinedType}
+use Rattle.wac_shapes.specs.declared.component.DefinedTypeId.{DefinedTypeId}
+use Rattle.wac_shapes.specs.declared.component.Interface.{Interface}
+use Rattle.wac_shapes.specs.declared.component.InterfaceId.{InterfaceId}
+use Rattle.wac_shapes.specs.declared.component.ItemKind.{ItemKind}
+use Rattle.wac_shapes.specs.declared.component.ItemKind.TheVariants as kind
+use Rattle.wac_shapes.specs.declared.component.ValueType.{ValueType}
+use Rattle.wac_shapes.specs.declared.component.ValueType.TheVariants as val
+use Rattle.wac_shapes.specs.declared.component.«Type».TheVariants as ty
+use Rattle.wac_collection.specs.Collection.{Collection, defined_values, func_values, item_at}
+use Rattle.wac_entries.specs.Bindings.{ClassBindings}
+use Rattle.wac_entries.specs.Classes.{AreClasses, Entry, by_names}
+use Rattle.wac_terms.specs.Merge.{Merged}
+use Rattle.wac_terms.specs.Values.{definition}
+use Rattle.wac_terms.specs.declared.fresh.Fresh.{Fresh}
+use Rattle.wac_terms.specs.declared.parts.Export.{Export}
+use Rattle.wac_terms.specs.declared.parts.Part.{Part}
+use Rattle.wac_terms.specs.declared.parts.Union.{Union}
+use Rattle.wac_values.specs.NamedTypes.{AreClassed, AreUnited, IsOneType, named_type}
+use Rattle.wac_values.specs.declared.named.NamedTypes.{NamedTypes}
+use Rattle.wac_renaming.specs.Made.{AreMade, other_name}
+use Rattle.wac_renaming.specs.declared.made.Made.{Made}
+use Rattle.wac_unions.specs.MergedClasses.{AreClassUnions, AreWrittenImports}
+use Rattle.wac_unions.specs.WritingSteps.{AreImportsMadeOf, AreUnionsMadeOf}
+
+-- the value types that an item mentions
+abbrev pub kind_values : Collection → ItemKind → List ValueType
+kind_values c (kind.Value v) = v ∷ []
+kind_values c (kind.TypeItem (ty.Value v)) = v ∷ []
+kind_values c (kind.Func f) = option_case (item_at c.funcs f.0) [] func_values
+kind_values c (kind.TypeItem (ty.Func f)) = option_case (item_at c.funcs f.0) [] func_values
+kind_values c k = []
+
+-- the definition that a definition of a collection is another name of
+abbrev pub another : Collection → DefinedTypeId → Option DefinedTypeId
+another c d = option_case (item_at c.defined d.0) None other_name
+
+-- values that stand at one position
+abbrev pub AreBeside : List ValueType → List ValueType → ValueType → ValueType → Type 0
+AreBeside vs ws v w = (i : ℕ) × (slice_get vs i ≡ Some v) × (slice_get ws i ≡ Some w)
+
+-- A mention of a value type, and what it became: in what stands under a name of a union, in the entry at the position of a class, at the end of the names that are another's, and in what a definition is made of.
+pub data Became (c m : Collection) (es imports : List Entry) (us : List Union) (ws : List InterfaceId) (positions order : List ℕ) : ValueType → ValueType → Type 0 where
+  in_union : (v w : ValueType) (u i : ℕ) (x : Union) (y : InterfaceId) (it : Interface) (e : Name × Export) (k : Name × ItemKind) → slice_get us u ≡ Some x → slice_get ws u ≡ Some y → item_at m.interfaces y.0 ≡ Some it
+      → slice_get x.exports i ≡ Some e → slice_get it.exports i ≡ Some k → AreBeside (kind_values c e.1.kind) (kind_values m k.1) v w → Became c m es imports us ws positions order v w
+  in_import : (v w : ValueType) (p k q : ℕ) (e x : Entry) → slice_get order p ≡ Some k → slice_get positions k ≡ Some q → slice_get es q ≡ Some e → slice_get imports p ≡ Some x → AreBeside (kind_values c e.kind) (kind_values m x.kind) v w
+      → Became c m es imports us ws positions order v w
+  at_end : (v w : ValueType) (d end : DefinedTypeId) → Became c m es imports us ws positions order (val.Defined d) w → another c d ≡ Some end → v ≡ val.Defined end → Became c m es imports us ws positions order v w
+  in_definition : (v w : ValueType) (d e : DefinedTypeId) (y x : DefinedType) → Became c m es imports us ws positions order (val.Defined d) (val.Defined e) → another c d ≡ None → item_at c.defined d.0 ≡ Some y → item_at m.defined e.0 ≡ Some x
+      → AreBeside (defined_values y) (defined_values x) v w → Became c m es imports us ws positions order v w
+
+-- the merged types are those that were made, each once for the named type that it is
+pub record AreMadeOnce (c m : Collection) (es : List Entry) (us : List Union) (ps : List Part) (bs : ClassBindings) (f : Fresh) (t : NamedTypes) (positions order : List ℕ) (imports : List Entry) : Type 0 where
+  pub made : Made
+  pub are : AreMade m made
+  pub written : AreWrittenImports c m es us ps bs f order imports
+  pub unions : AreUnionsMadeOf c m t made us written.ws
+  pub imported : AreImportsMadeOf c m t made es positions order imports
+
+-- The unions of what entries list, and the interfaces and imports that they became, where what stands under one name of one union is one named type, and so are the entries of one class.
+-- Two mentions of one named type that have equal definitions in the merged collection have one id, and mentions that have one id are one named type, or of none both.
+pub record HasOneIdEach (c : Collection) (es : List Entry) (m : Merged) : Type 0 where
+  pub us : List Union
+  pub ps : List Part
+  pub bs : ClassBindings
+  pub f : Fresh
+  pub numbers : List ℕ
+  pub positions : List ℕ
+  pub names : List (Name × ℕ)
+  pub order : List ℕ
+  pub t : NamedTypes
+  pub classes : AreClasses by_names es numbers positions names
+  pub unions : AreClassUnions c es us ps
+  pub written : AreWrittenImports c m.types es us ps bs f order m.imports
+  pub united : AreUnited c us ps t
+  pub classed : AreClassed c es numbers positions t
+  pub one : (d e a b : DefinedTypeId) (x : DefinedType) → Became c m.types es m.imports us written.ws positions order (val.Defined d) (val.Defined a) → Became c m.types es m.imports us written.ws positions order (val.Defined e) (val.Defined b)
+      → another c d ≡ None → another c e ≡ None → IsOneType t d e → item_at m.types.defined a.0 ≡ Some x → item_at m.types.defined b.0 ≡ Some x → a ≡ b
+  pub apart : (d e a : DefinedTypeId) → Became c m.types es m.imports us written.ws positions order (val.Defined d) (val.Defined a) → Became c m.types es m.imports us written.ws positions order (val.Defined e) (val.Defined a)
+      → another c d ≡ None → another c e ≡ None → named_type t d ≡ named_type t e
