@@ -13,6 +13,7 @@ ghost use Rattle.wac_agreement.specs.Faults.{Fault as AFault, HasFault, HasNoCir
 ghost use Rattle.wac_terms.specs.NoDisagreement.{HasNoDisagreement};
 ghost use Rattle.wac_terms.specs.Merge.{IsMerge, bound_resource, import_entries, listed_resource, own_resource};
 ghost use Rattle.wac_unions.specs.MergedScope.{BindsAsClasses, BindsUnder, IsBoundAs};
+ghost use Rattle.wac_unions.specs.OneId.{HasOneIdEach};
 ghost use Rattle.wac_subtyping.specs.TreeLaws.{IsKeptBy, KeepsTrees};
 ghost use Rattle.wac_shapes.specs.declared.component.ResourceId.{ResourceId as AResource};
 
@@ -105,7 +106,7 @@ impl TypeAggregator {
     ///
     /// Answers one import for each class, under its canonical name, in the order in which they are written, with the
     /// collection of their types, which holds each: the items of the entries' collection, which mean what they meant, and behind
-    /// them what is merged. Each import is a subtype of each entry of its class.
+    /// them what is merged. Each import is a subtype of each entry of its class. Value types have one id for each named type.
     ///
     /// Answers `Disagree` exactly where two entries of one class do not agree, with the first that does not and the first
     /// that it disagrees with; else `UseEachOther` where classes rest on each other in a circle, with the one that is asked
@@ -115,6 +116,7 @@ impl TypeAggregator {
         ensures finished { IfOk result (λ a. (a.entries ≡ self.entries) × (a.is_finished ≡ true)) }
         ensures merged { IfOk result (λ a. IsMerge by_names types.now self.entries a.merge) }
         ensures bound { IfOk result (λ a. BindsAsClasses by_names types.now self.entries a.merge) }
+        ensures once { IfOk result (λ a. HasOneIdEach types.now self.entries a.merge) }
         ensures kept { IfOk result (λ a. IsKeptBy types.now a.merge.types) }
         ensures meant { IfOk result (λ a. KeepsTrees types.now a.merge.types) }
         ensures held { IfOk result (λ a. AreHeld a.merge.types a.merge.imports) }
