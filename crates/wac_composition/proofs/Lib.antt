@@ -18,3 +18,4 @@ pub mod AskingWalk
 pub mod AskedHeld
 pub mod MergeLemmas
 pub mod NamingLemmas
+pub mod ComponentLemmas

@@ -132,15 +132,15 @@ added_instantiation g n id p bytes places read args given c components component
   by_node (Some x) k w h = writes_instantiation id c mid (arguments_of args) k w its (subst (λ r. AreArgumentItems g (index_in r) n 0 (imports_of g x) (arguments_of args)) placed h) last counted
 
 -- a node's index is noted
-pub noted : (g : Graph) (n : ℕ) (old new last : Encoder) (i k : ℕ) → last ≡ new → k ≡ i → IfSome (node_at g (node_number n)) (λ x. WritesNode g n x (index_in old.indexes.items) old.components.items new.components.items old.builder new.builder i) → new.indexes ≡ old.indexes
-    → Wrote g n (progress old) (record { items = last.builder; components = last.components.items; indexes = slice_set last.indexes.items n k })
+pub noted : (g : Graph) (n : ℕ) (old new last : Encoder) (i k : ℕ) → last ≡ new → k ≡ i → IfSome (node_at g (node_number n)) (λ x. WritesNode g n x (index_in old.indexes.items) old.components.entries new.components.entries old.builder new.builder i) → new.indexes ≡ old.indexes
+    → Wrote g n (progress old) (record { items = last.builder; components = last.components.entries; indexes = slice_set last.indexes.items n k })
 noted g n old new last i k same placed added kept = by_node (node_at g (node_number n)) added where
-  by_node : (o : Option GraphNode) → IfSome o (λ x. WritesNode g n x (index_in old.indexes.items) old.components.items new.components.items old.builder new.builder i)
-      → IfSome o (λ x. (j : ℕ) × WritesNode g n x (index_in old.indexes.items) old.components.items last.components.items old.builder last.builder j × (slice_set last.indexes.items n k ≡ slice_set old.indexes.items n j))
+  by_node : (o : Option GraphNode) → IfSome o (λ x. WritesNode g n x (index_in old.indexes.items) old.components.entries new.components.entries old.builder new.builder i)
+      → IfSome o (λ x. (j : ℕ) × WritesNode g n x (index_in old.indexes.items) old.components.entries last.components.entries old.builder last.builder j × (slice_set last.indexes.items n k ≡ slice_set old.indexes.items n j))
   by_node None h = tt
   by_node (Some x) h = (
     i,
-    subst (λ (e : Encoder). WritesNode g n x (index_in old.indexes.items) old.components.items e.components.items old.builder e.builder i) (sym same) h,
+    subst (λ (e : Encoder). WritesNode g n x (index_in old.indexes.items) old.components.entries e.components.entries old.builder e.builder i) (sym same) h,
     ap (λ (e : Encoder). slice_set e.indexes.items n k) same ∙ ap (λ v. slice_set v.items n k) kept ∙ ap (λ j. slice_set old.indexes.items n j) placed,
   )
 

@@ -3,4 +3,4 @@ use Rattle.wac_composition.specs.declared.encode.Encoder.{Encoder}
 use Rattle.wac_meaning.specs.Encoding.{Progress}
 
 abbrev pub progress : Encoder → Progress
-progress e = record { items = e.builder; components = e.components.items; indexes = e.indexes.items }
+progress e = record { items = e.builder; components = e.components.entries; indexes = e.indexes.items }

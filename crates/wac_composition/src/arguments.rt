@@ -108,6 +108,21 @@ impl CompositionGraph {
         }
     }
 
+    /// Whether a node is given for an instantiation's import at this position. Where no node is, this reads no edge.
+    pub(crate) fn is_given(&self, instantiation: NodeId, position: usize, argument: NodeId) -> bool
+        requires { IsInstantiation self.now instantiation }
+        ensures { result ≡ set.contains self.now.edges (labelled argument instantiation position) }
+    {
+        let NodeKind::Instantiation(satisfied) = &self.nodes[instantiation.0].kind else {
+            unreachable!()
+        };
+        if !satisfied.contains(&position) {
+            return false;
+        }
+        self.edges
+            .contains(argument_edge(instantiation, position, argument))
+    }
+
     /// Gives a node as the argument for an import that it fits; where memory runs out nothing has changed.
     pub(crate) fn give_argument(
         &mut self,

@@ -1,5 +1,5 @@
 //! From a graph to the bytes of one component.
-ghost use Rattle.std.specs.Prelude.{◌≡◌, ◌≢◌, ◌⊎◌, ◌++◌, [], ℕ, ◌<◌, nat_eq, IsSomeAnd, Bool, true, false, IsSome, IsTrue, OnOk, OnErr, IfOk, IfErr, IfSome, IfNone, Some, None, Ok, Err, List, length, map, slice_get, slice_set, slice_index_or};
+ghost use Rattle.std.specs.Prelude.{◌≡◌, ◌≢◌, ◌⊎◌, ◌++◌, [], ℕ, ◌<◌, nat_eq, IsSomeAnd, Bool, true, false, IsSome, IsTrue, OnOk, OnErr, IfOk, IfErr, IfSome, Some, None, Ok, Err, List, length, map, slice_set, slice_index_or};
 ghost use Rattle.std.specs.Bool.{OnTrue, OnFalse};
 ghost use Rattle.wac_binary.specs.Bytes.{bytes_of};
 ghost use Rattle.wac_binary.specs.Items.{Item as AnItem};
@@ -13,7 +13,7 @@ ghost use Rattle.wac_edges.specs.declared.node.NodeId.{NodeId as AnId};
 ghost use Rattle.wac_edges.specs.Edge.{is_left};
 ghost use Rattle.wac_edges.specs.Edge.{node_number};
 ghost use Rattle.wac_nodes.specs.Graph.{node_at, imports_of, instantiation, alias};
-ghost use Rattle.wac_meaning.specs.Means.{Means, is_there, same_package, sort_of_kind, export_item_of, custom_item, name_customs, AreNames, processor_customs};
+ghost use Rattle.wac_meaning.specs.Means.{Means, is_there, sort_of_kind, export_item_of, custom_item, name_customs, AreNames, processor_customs};
 ghost use Rattle.wac_meaning.specs.Encoding.{WritesNode, AreArgumentItems, Wrote, WroteAll, HasRoom, index_in};
 ghost use Rattle.std.specs.Result.{IsErrAnd};
 ghost use Rattle.wac_causes.specs.Cause.{Cause, cause_of, Stands};
@@ -23,6 +23,7 @@ ghost use Rattle.wac_edges.specs.Order.{Writes, IsOnCycle, IsAcyclic};
 ghost use Rattle.wac_nodes.specs.declared.options.EncodeOptions.{EncodeOptions as Asked};
 
 use crate::graph::CompositionGraph;
+use indexmap::IndexMap;
 use std::alloc::{AllocError, Global};
 use std::collections::BTreeSet;
 use wac_binary::{ComponentBuilder, Sort, component_names, producers};
@@ -37,7 +38,7 @@ use wac_types::ItemKind;
 struct Encoder {
     alloc: Global,
     builder: ComponentBuilder,
-    components: Vec<(PackageId, u32)>,
+    components: IndexMap<PackageId, u32>,
     indexes: Vec<u32>,
 }
 
@@ -180,7 +181,7 @@ impl CompositionGraph {
         requires instantiation { IsSomeAnd (node_at self.now (node_number n)) (λ node. node.kind ≡ instantiation) }
         requires set { IsSomeAnd (node_at self.now (node_number n)) (IsWritable self.now n) }
         requires room { HasRoom self.now encoder.old.indexes.items }
-        ensures written { IfOk result (λ i. IfSome (node_at self.now (node_number n)) (λ node. WritesNode self.now n node (index_in encoder.old.indexes.items) encoder.old.components.items encoder.new.components.items encoder.old.builder encoder.new.builder i)) }
+        ensures written { IfOk result (λ i. IfSome (node_at self.now (node_number n)) (λ node. WritesNode self.now n node (index_in encoder.old.indexes.items) encoder.old.components.entries encoder.new.components.entries encoder.old.builder encoder.new.builder i)) }
         ensures kept { encoder.new.indexes ≡ encoder.old.indexes }
         ensures fault { IfErr result (λ e. cause_of e ≡ None) }
     {
@@ -214,7 +215,7 @@ impl CompositionGraph {
     fn write_alias(&self, encoder: &mut Encoder, n: usize) -> Result<u32, EncodeError>
         requires alias { IsSomeAnd (node_at self.now (node_number n)) (λ node. node.kind ≡ alias) }
         requires room { HasRoom self.now encoder.old.indexes.items }
-        ensures written { IfOk result (λ i. IfSome (node_at self.now (node_number n)) (λ node. WritesNode self.now n node (index_in encoder.old.indexes.items) encoder.old.components.items encoder.new.components.items encoder.old.builder encoder.new.builder i)) }
+        ensures written { IfOk result (λ i. IfSome (node_at self.now (node_number n)) (λ node. WritesNode self.now n node (index_in encoder.old.indexes.items) encoder.old.components.entries encoder.new.components.entries encoder.old.builder encoder.new.builder i)) }
         ensures kept { encoder.new.indexes ≡ encoder.old.indexes }
         ensures fault { IfErr result (λ e. cause_of e ≡ None) }
     {
@@ -270,14 +271,14 @@ impl Encoder {
     /// Nothing is written yet, and there is room for the indexes of so many nodes.
     fn new(alloc: Global, nodes: usize) -> Result<Encoder, AllocError>
         ensures items { IfOk result (λ e. e.builder ≡ []) }
-        ensures components { IfOk result (λ e. e.components.items ≡ []) }
+        ensures components { IfOk result (λ e. e.components.entries ≡ []) }
         ensures indexes { IfOk result (λ e. length e.indexes.items ≡ nodes) }
     {
         let indexes = vec![in alloc; 0u32; nodes]?;
         Ok(Encoder {
             alloc,
             builder: ComponentBuilder::new(alloc),
-            components: Vec::new(alloc),
+            components: IndexMap::new(alloc),
             indexes,
         })
     }
@@ -297,30 +298,17 @@ impl Encoder {
 
     /// The component index of a package, whose bytes are written where they were not.
     fn component(&mut self, id: PackageId, bytes: &[u8]) -> Result<u32, EncodeError>
-        ensures there { IfOk result (λ c. HasComponent bytes.now id c self.old.components.items self.new.components.items self.old.builder self.new.builder) }
+        ensures there { IfOk result (λ c. HasComponent bytes.now id c self.old.components.entries self.new.components.entries self.old.builder self.new.builder) }
         ensures kept { self.new.indexes ≡ self.old.indexes }
         ensures fault { IfErr result (λ e. cause_of e ≡ None) }
     {
-        if let Some(index) = component_in(&self.components, id) {
-            return Ok(index);
+        if let Some(index) = self.components.get(&id) {
+            return Ok(*index);
         }
         let index = self.builder.component(bytes)?;
-        self.components.push((id, index))?;
+        self.components.insert(id, index)?;
         Ok(index)
     }
-}
-
-/// The component index that is noted for a package.
-fn component_in(components: &[(PackageId, u32)], id: PackageId) -> Option<u32>
-    ensures some { IfSome result (λ c. (k : ℕ) × (slice_get components.now k ≡ Some (id, c))) }
-    ensures none { IfNone result (list_any (λ e. same_package id e.0) components.now ≡ false) }
-{
-    for (other, index) in components {
-        if id.slot == other.slot && id.generation == other.generation {
-            return Some(*index);
-        }
-    }
-    None
 }
 
 /// Whether one of the first so many positions is not in the set.

@@ -17,7 +17,6 @@ ghost use Rattle.wac_nodes.specs.Steps.{IsEmpty, Adds, Registers, Imports, Insta
 ghost use Rattle.wac_nodes.specs.TakenOut.{without, taken_at};
 ghost use Rattle.wac_nodes.specs.Nodes.{names_of};
 
-use crate::arguments::argument_edge;
 use indexmap::IndexMap;
 use semver::Version;
 use slab::Slab;
@@ -389,8 +388,7 @@ impl CompositionGraph {
         ensures { SetsArgument self.old instantiation argument_name.now argument result self.new }
     {
         let (position, kind) = self.import_of(instantiation, argument_name)?;
-        let edge = argument_edge(instantiation, position, argument);
-        if self.edges.contains(edge) {
+        if self.is_given(instantiation, position, argument) {
             return Ok(());
         }
         self.check_argument(instantiation, argument_name, position, kind, argument)?;

@@ -84,7 +84,7 @@ returns-clause-means c =
           c.in_ok-encoder.encoder.indexes.items
           (λ n h. let small = has_room c.self.inside c.self.invariant c.args.self.now c.self.view_is c.capacity.result (omega (arith, c.capacity.ensures.slots)) n h in omega (arith, small, c.in_ok-encoder.ensures.indexes))
           (progress c.in_ok-encoder.encoder) (progress c.write_nodes.new.encoder)
-          (ap (λ b. record { items = b; components = c.in_ok-encoder.encoder.components.items; indexes = c.in_ok-encoder.encoder.indexes.items }) c.in_ok-encoder.ensures.items
+          (ap (λ b. record { items = b; components = c.in_ok-encoder.encoder.components.entries; indexes = c.in_ok-encoder.encoder.indexes.items }) c.in_ok-encoder.ensures.items
           ∙ ap (λ cs. record { items = []; components = cs; indexes = c.in_ok-encoder.encoder.indexes.items }) c.in_ok-encoder.ensures.components)
           (subst (λ xs. WroteAll c.args.self.now xs (progress c.in_ok-encoder.encoder) (progress c.write_nodes.new.encoder)) c.deref.ensures.value c.in_ok-write_nodes.ensures.written)
           c.in_ok-write_names.ensures.written.0
