@@ -19,3 +19,8 @@ pub mod AskedHeld
 pub mod MergeLemmas
 pub mod NamingLemmas
 pub mod ComponentLemmas
+pub mod WayLemmas
+pub mod TiedLemmas
+pub mod RemovingLemmas
+pub mod RemovedLemmas
+pub mod RemovalLaws

@@ -175,7 +175,7 @@ fn satisfy(nodes: &mut Slab<Node>, number: usize, position: usize) -> Result<(),
 }
 
 /// Marks the import of an instantiation at this position as not satisfied.
-fn unsatisfy(nodes: &mut Slab<Node>, number: usize, position: usize)
+pub(crate) fn unsatisfy(nodes: &mut Slab<Node>, number: usize, position: usize)
     requires { IsInstantiationAt (get nodes.old number) }
     ensures same { (q : ℕ) → option_map node_of (get nodes.new q) ≡ option_map node_of (get nodes.old q) }
     ensures next { nodes.new.vacant_key ≡ nodes.old.vacant_key }

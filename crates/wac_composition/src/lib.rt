@@ -12,9 +12,11 @@ mod encode;
 mod graph;
 mod imports;
 mod iterators;
+pub mod laws;
 mod lookups;
 mod merging;
 mod naming;
+mod removing;
 
 pub use arguments_of::Arguments;
 pub use graph::CompositionGraph;

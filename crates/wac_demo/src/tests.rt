@@ -4,3 +4,4 @@ mod listed;
 mod names;
 mod packages;
 mod program;
+mod removal;

@@ -55,6 +55,11 @@ pub enum Call<'a> {
     Source(usize),
     // The node that is exported by this name.
     Exported(&'a str),
+    Remove(usize),
+    // Whether a node is there.
+    Has(usize),
+    // How many imports of an instantiation have an argument.
+    Satisfied(usize),
 }
 
 // A graph, and what it answered so far.
@@ -314,6 +319,28 @@ impl Bench {
         }
     }
 
+    fn remove(&mut self, rt: &impl Abort, place: usize) -> Result<String, Fail> {
+        let node = self.node(place)?;
+        let held = self.graph.has_node(node);
+        assert!(rt; held);
+        self.graph.remove_node(node);
+        Ok(String::new(self.alloc))
+    }
+
+    fn has(&self, place: usize) -> Result<String, Fail> {
+        shown(self.alloc, self.graph.has_node(self.node(place)?))
+    }
+
+    fn satisfied(&self, rt: &impl Abort, place: usize) -> Result<String, Fail> {
+        let node = self.node(place)?;
+        let held = self.graph.has_node(node);
+        assert!(rt; held);
+        match self.graph[node].kind() {
+            NodeKind::Instantiation(positions) => shown(self.alloc, positions.len()),
+            _ => Ok(String::from_str(self.alloc, "none")?),
+        }
+    }
+
     // The answer's number, or its error's text; an empty text for an answer without a number.
     fn call(&mut self, rt: &impl Abort, call: Call<'_>) -> Result<String, Fail> {
         match call {
@@ -329,6 +356,9 @@ impl Bench {
             Call::Named(place) => self.named(rt, place),
             Call::Source(place) => self.source(place),
             Call::Exported(name) => self.exported(name),
+            Call::Remove(place) => self.remove(rt, place),
+            Call::Has(place) => self.has(place),
+            Call::Satisfied(place) => self.satisfied(rt, place),
         }
     }
 

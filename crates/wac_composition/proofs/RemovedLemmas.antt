@@ -1,0 +1,354 @@
+-- A graph is still one where nodes were taken out with all that goes with them, and it is the graph without them.
+use Rattle.std.proofs.Common.{◌≡◌, ◌≢◌, ℕ, zero, suc, Bool, true, false, cond, not, ◌&&◌, List, [], ◌∷◌, length, refl, ap, ◌∙◌, sym, subst, ◌⊎◌, inl, inr, Option, Some, None, IsSome, is_some, IsTrue, ◌↔◌, String, Global, string_bytes}
+use Rattle.std.specs.Prelude.{slice_get, IsSomeAnd, swap_remove}
+use Rattle.std.specs.Option.{option_map}
+use Rattle.std.proofs.lemmas.Option.{slice_get-map}
+use Rattle.std.specs.Map.{lookup, KeepsOthers}
+use Rattle.std.specs.Str.{bytes_eq}
+use Rattle.std.specs.String.{string_eq}
+use Rattle.std.specs.FinMap as map
+use Rattle.std.specs.FinSet as set
+use Rattle.std.specs.HashMap.{HashMap}
+use Rattle.std.specs.declared.hash.FoldHasher.{FoldHasher}
+use Rattle.std.specs.declared.hash.BuildHasherDefault.{BuildHasherDefault}
+use Rattle.slab.specs.Slab.{Slab, get}
+use Rattle.wac_shapes.specs.Name.{Name, same_name, find_name}
+use Rattle.wac_shapes.proofs.Names.{same_name-true, same_name-from, same_name-refl, same_name-bytes_eq}
+use Rattle.wac_edges.specs.declared.edges.Edge.{Edge}
+use Rattle.wac_edges.specs.declared.edges.Label.{Label}
+use Rattle.wac_edges.specs.declared.edges.Label.TheVariants as label
+use Rattle.wac_edges.specs.declared.node.NodeId.{NodeId}
+use Rattle.wac_edges.specs.Edge.{alias_edge, argument_edge, node_number}
+use Rattle.wac_edges.specs.Order.{Edges}
+use Rattle.wac_nodes.specs.declared.node.Node.{Node}
+use Rattle.wac_nodes.specs.declared.node.NodeKind.{NodeKind}
+use Rattle.wac_nodes.specs.declared.node.NodeKind.TheVariants as code
+use Rattle.wac_nodes.specs.Graph as graph
+use Rattle.wac_nodes.specs.Graph.{Graph, GraphNode, Kind, node_at, IsImportOf}
+use Rattle.wac_nodes.specs.Nodes.{node_of, nodes_of, names_of, kind_of, satisfied_at, IsInstantiationAt}
+use Rattle.wac_nodes.specs.Sound.{Joins}
+use Rattle.wac_nodes.specs.TakenOut.{taken_at, taken_below, without}
+use Rattle.wac_nodes.proofs.JoinLemmas.{alike_itself}
+use Rattle.wac_nodes.proofs.NodeLemmas.{get-nodes_of, is_some-node_of, lookup_text}
+use Rattle.wac_nodes.proofs.PartLemmas.{IsPart, IsClosed, sound_part}
+use Rattle.wac_nodes.proofs.TakenOut.{Left, left_without, none_without, was_at}
+use Rattle.wac_composition.specs.declared.graph.CompositionGraph.TheInside.{Inside}
+use Rattle.wac_composition.specs.Inside.{graph_of, Invariant}
+use Rattle.wac_composition.specs.Removal.{Follows, GoesWith, itself, behind, Removes}
+use Rattle.wac_composition.specs.Removing.{AreTied, AreTaken, imports, AreLeft}
+use Rattle.wac_composition.proofs.WayLemmas.{IsIn}
+use Rattle.wac_composition.proofs.TakingLemmas.{names_taken}
+use Rattle.wac_composition.proofs.TiedLemmas.{clash, none_some}
+
+-- ---- lists of exports
+abbrev Alike : (NodeId → Bool) → (NodeId → Bool) → List (Name × NodeId) → Type 0
+Alike f g es = (i : ℕ) (e : Name × NodeId) → slice_get es i ≡ Some e → f e.1 ≡ g e.1
+
+alike_taken : (f g : NodeId → Bool) (k : ℕ) (es : List (Name × NodeId)) → Alike f g es → (taken_at f k (slice_get es k) es ≡ taken_at g k (slice_get es k) es) × Alike f g (taken_at g k (slice_get es k) es)
+alike_taken f g k es alike = by_entry (slice_get es k) refl where
+  by_gone : (e : Name × NodeId) → slice_get es k ≡ Some e → (b : Bool) → Alike f g (cond b (swap_remove es k e) es)
+  by_gone e at false = alike
+  by_gone e at true = λ i x h. alike _ x (was_at es k e at i x h)
+
+  by_entry : (o : Option (Name × NodeId)) → slice_get es k ≡ o → (taken_at f k o es ≡ taken_at g k o es) × Alike f g (taken_at g k o es)
+  by_entry None at = (refl, alike)
+  by_entry (Some e) at = (ap (λ b. cond b (swap_remove es k e) es) (alike k e at), by_gone e at (g e.1))
+
+alike_below : (f g : NodeId → Bool) (k : ℕ) (es : List (Name × NodeId)) → Alike f g es → taken_below f k es ≡ taken_below g k es
+alike_below f g zero es alike = refl
+alike_below f g (suc k) es alike =
+    let (same, still) = alike_taken f g k es alike in
+    ap (taken_below f k) same ∙ alike_below f g k (taken_at g k (slice_get es k) es) still
+
+-- tests that agree on a list's nodes leave the same of it
+pub alike_without : (f g : NodeId → Bool) (es : List (Name × NodeId)) → Alike f g es → without f es ≡ without g es
+alike_without f g es alike = alike_below f g (length es) es alike
+
+-- the node is not there
+abbrev pub lost : Slab Node → NodeId → Bool
+lost nodes m = not (is_some (get nodes m.0))
+
+pub absent : (nodes : Slab Node) (k : ℕ) (b : Bool) → IsTrue b ↔ IsSome (get nodes k) → b ≡ false → not (is_some (get nodes k)) ≡ true
+absent nodes k b h is = none (is_some (get nodes k)) (λ there. clash b (h.1 there) is) where
+  none : (x : Bool) → (x ≡ true → ⊥) → not x ≡ true
+  none true h = absurd (h refl)
+  none false h = refl
+
+pub stored : (nodes : Slab Node) (k : ℕ) (b : Bool) → IsTrue b ↔ IsSome (get nodes k) → b ≡ true → not (is_some (get nodes k)) ≡ false
+stored nodes k b h is = ap not (h.0 is)
+
+-- one entry of a map, where its node is gone and where it is not
+module _ (gone : NodeId → Bool) (entries : List (String Global × NodeId)) (k : ℕ) where
+  at_names : (o : Option (String Global × NodeId)) → slice_get entries k ≡ o → taken_at gone k (slice_get (names_of entries) k) (names_of entries) ≡ taken_at gone k (option_map (λ x. (string_bytes x.0, x.1)) o) (names_of entries)
+  at_names o at = ap (λ p. taken_at gone k p (names_of entries)) (slice_get-map (λ x. (string_bytes x.0, x.1)) entries k ∙ ap (option_map (λ x. (string_bytes x.0, x.1))) at)
+
+  pub entry_gone : (now : List (String Global × NodeId)) (e : String Global × NodeId) → slice_get entries k ≡ Some e → gone e.1 ≡ true → now ≡ swap_remove entries k e → names_of now ≡ taken_at gone k (slice_get (names_of entries) k) (names_of entries)
+  entry_gone now e at is taken = ap names_of taken ∙ names_taken entries k e ∙ sym (at_names (Some e) at ∙ ap (λ b. cond b (swap_remove (names_of entries) k (string_bytes e.0, e.1)) (names_of entries)) is)
+
+  pub entry_stays : (e : String Global × NodeId) → slice_get entries k ≡ Some e → gone e.1 ≡ false → names_of entries ≡ taken_at gone k (slice_get (names_of entries) k) (names_of entries)
+  entry_stays e at is = sym (at_names (Some e) at ∙ ap (λ b. cond b (swap_remove (names_of entries) k (string_bytes e.0, e.1)) (names_of entries)) is)
+
+  pub entry_none : slice_get entries k ≡ None → names_of entries ≡ taken_at gone k (slice_get (names_of entries) k) (names_of entries)
+  entry_none at = sym (at_names None at)
+
+-- ---- names of imports
+abbrev Names : Type 0
+Names = HashMap (String Global) NodeId (BuildHasherDefault FoldHasher)
+
+imports_is : (k : NodeKind) (other : Name) → imports k other ≡ true → kind_of k ≡ graph.import other
+imports_is (code.Import name) other h = ap graph.import (sym (same_name-true other (string_bytes name) h))
+imports_is code.Definition other h = cc
+imports_is (code.Instantiation s) other h = cc
+imports_is code.Alias other h = cc
+
+is_imports : (k : NodeKind) (other : Name) → kind_of k ≡ graph.import other → imports k other ≡ true
+is_imports (code.Import name) other h = let same : string_bytes name ≡ other = cc in same_name-from other (string_bytes name) (sym same)
+is_imports code.Definition other h = cc
+is_imports (code.Instantiation s) other h = cc
+is_imports code.Alias other h = cc
+
+pub left_all : (k : NodeKind) (es : List (String Global × NodeId)) → ((name : String Global) → k ≡ code.Import name → ⊥) → AreLeft k es es
+left_all (code.Import name) es other = absurd (other name refl)
+left_all code.Definition es other = λ q. refl
+left_all (code.Instantiation s) es other = λ q. refl
+left_all code.Alias es other = λ q. refl
+
+pub left_others : (name : String Global) (old new : List (String Global × NodeId)) → lookup (λ k. bytes_eq (string_bytes name) (string_bytes k)) new ≡ None → KeepsOthers string_eq (λ k. bytes_eq (string_bytes name) (string_bytes k)) old new → AreLeft (code.Import name) old new
+unfolding KeepsOthers
+left_others name old new absent kept other = split (same_name other (string_bytes name)) refl where
+  split : (b : Bool) → same_name other (string_bytes name) ≡ b → find_name (names_of new) other ≡ cond b None (find_name (names_of old) other)
+  split true is = lookup_text new other ∙ ap (λ q. lookup (λ k. bytes_eq q (string_bytes k)) new) (same_name-true other (string_bytes name) is) ∙ absent
+  split false is = lookup_text new other ∙ kept (λ k. bytes_eq other (string_bytes k))
+      (λ x y h. ap (λ q. bytes_eq q (string_bytes y)) (same_name-true other (string_bytes x) (sym (same_name-bytes_eq other (string_bytes x)) ∙ h)))
+      (λ k h. apart k (same_name-true (string_bytes name) (string_bytes k) (sym (same_name-bytes_eq (string_bytes name) (string_bytes k)) ∙ h)))
+      ∙ sym (lookup_text old other) where
+        apart : (k : String Global) → string_bytes name ≡ string_bytes k → bytes_eq other (string_bytes k) ≡ false
+        apart k same = same_name-bytes_eq other (string_bytes k) ∙ ap (same_name other) (sym same) ∙ is
+
+pub left_named : (k : NodeKind) (name : String Global) (key : Name) (old new : List (String Global × NodeId)) → k ≡ code.Import name → key ≡ string_bytes name → lookup (λ s. bytes_eq key (string_bytes s)) new ≡ None → KeepsOthers string_eq (λ s. bytes_eq key (string_bytes s)) old new → AreLeft k old new
+left_named k name key old new is key_is absent kept =
+    subst (λ x. AreLeft x old new) (sym is) (left_others name old new (subst (λ q. lookup (λ s. bytes_eq q (string_bytes s)) new ≡ None) key_is absent) (subst (λ q. KeepsOthers string_eq (λ s. bytes_eq q (string_bytes s)) old new) key_is kept))
+
+-- ---- bits
+iff_same : (a b : Bool) → (a ≡ true → b ≡ true) → (b ≡ true → a ≡ true) → a ≡ b
+iff_same true b f g = sym (f refl)
+iff_same false true f g = g refl
+iff_same false false f g = refl
+
+both_true : (x y : Bool) → (x && y) ≡ true → (x ≡ true) × (y ≡ true)
+both_true true y h = (refl, h)
+both_true false y h = cc
+
+not_true : (b : Bool) → not b ≡ true → b ≡ false
+not_true true h = cc
+not_true false h = refl
+
+no_some : {A : Type 0} {x : A} → None ≡ Some x → ⊥
+no_some h = cc
+
+-- ---- a node is taken out of a graph
+module _ (a : Inside) (v : Invariant a) where
+  -- the fields of a graph agree
+  pub tied_inside : AreTied a.nodes a.edges
+  tied_inside = record {
+    ends = λ e h. let both = v.sound.ends e h in (stored e.source both.0, stored e.target both.1);
+    consumers = consumer;
+    one_argument = λ s o t i h k. v.sound.one_argument t i s o h k;
+    marked = v.marked;
+    edged = v.edged;
+  } where
+    stored : (n : NodeId) → IsSome (map.get (nodes_of a.nodes.slots) n.0) → IsSome (get a.nodes n.0)
+    stored n h = sym (is_some-node_of (get a.nodes n.0)) ∙ ap is_some (sym (get-nodes_of a.nodes.slots n.0)) ∙ h
+
+    by_stored : (s t : NodeId) (i : ℕ) → IsIn a.edges (argument_edge s t i) → (x y : Option Node) → get a.nodes s.0 ≡ x → get a.nodes t.0 ≡ y → IsSome x → IsSome y → IsInstantiationAt y
+    by_stored s t i h None y is_x is_y p q = absurd (none_some {A = Node} None refl p)
+    by_stored s t i h (Some x) None is_x is_y p q = absurd (none_some {A = Node} None refl q)
+    by_stored s t i h (Some x) (Some y) is_x is_y p q = (v.sound.joins (argument_edge s t i) (node_of x) (node_of y) h (get-nodes_of a.nodes.slots s.0 ∙ ap (option_map node_of) is_x) (get-nodes_of a.nodes.slots t.0 ∙ ap (option_map node_of) is_y)).0
+
+    consumer : (s t : NodeId) (i : ℕ) → IsIn a.edges (argument_edge s t i) → IsInstantiationAt (get a.nodes t.0)
+    consumer s t i h = let both = v.sound.ends (argument_edge s t i) h in by_stored s t i h (get a.nodes s.0) (get a.nodes t.0) refl refl (stored s both.0) (stored t both.1)
+
+  module _ (id : NodeId) (removed : Node) (had : option_map node_of (get a.nodes id.0) ≡ Some (node_of removed)) (nodes : Slab Node) (edges : Edges) (next : nodes.vacant_key ≡ id.0) (t : AreTaken id a.nodes a.edges nodes edges) (tied : AreTied nodes edges)
+      (names exports : Names) (left : AreLeft removed.kind a.imports.entries names.entries) (lost : names_of exports.entries ≡ without (λ m. not (is_some (get nodes m.0))) (names_of a.exports.entries)) where
+    gone : NodeId → Bool
+    gone n = is_some (get a.nodes n.0) && not (is_some (get nodes n.0))
+
+    abbrev Was : NodeId → Type 0
+    Was n = (option_map node_of (get nodes n.0) ≡ option_map node_of (get a.nodes n.0)) ⊎ ((get nodes n.0 ≡ None) × GoesWith a.edges id n)
+
+    goes_there : (n : NodeId) → GoesWith a.edges id n → IsSome (get a.nodes n.0)
+    goes_there n itself = sym (is_some-node_of (get a.nodes n.0)) ∙ ap is_some had
+    goes_there n (behind e from stands follows) = (tied_inside.ends e stands).1
+
+    same_stays : (n : NodeId) → option_map node_of (get nodes n.0) ≡ option_map node_of (get a.nodes n.0) → gone n ≡ false
+    unfolding gone
+    same_stays n same = stays (is_some (get a.nodes n.0)) (is_some (get nodes n.0)) (sym (is_some-node_of (get a.nodes n.0)) ∙ ap is_some (sym same) ∙ is_some-node_of (get nodes n.0)) where
+      stays : (x y : Bool) → x ≡ y → (x && not y) ≡ false
+      stays true y h = ap not (sym h)
+      stays false y h = refl
+
+    goes_gone : (n : NodeId) → GoesWith a.edges id n → gone n ≡ true
+    unfolding gone
+    goes_gone n goes = ap (λ b. b && not (is_some (get nodes n.0))) (goes_there n goes) ∙ ap (λ o. not (is_some o)) (t.gone n goes)
+
+    gone_goes : (n : NodeId) → gone n ≡ true → GoesWith a.edges id n
+    gone_goes n h = split (t.others n) where
+      split : Was n → GoesWith a.edges id n
+      split (inl same) = absurd (clash (gone n) h (same_stays n same))
+      split (inr both) = both.1
+
+    there_stays : (n : NodeId) → IsSome (get nodes n.0) → gone n ≡ false
+    unfolding gone
+    there_stays n h = ap (λ b. is_some (get a.nodes n.0) && not b) h ∙ off (is_some (get a.nodes n.0)) where
+      off : (b : Bool) → (b && false) ≡ false
+      off true = refl
+      off false = refl
+
+    stays_there : (n : NodeId) → gone n ≡ false → IsSome (get a.nodes n.0) → IsSome (get nodes n.0)
+    unfolding gone
+    stays_there n h there = on (is_some (get nodes n.0)) (sym (ap (λ b. b && not (is_some (get nodes n.0))) there) ∙ h) where
+      on : (b : Bool) → not b ≡ false → b ≡ true
+      on true h = refl
+      on false h = cc
+
+    nodes_left : (n : NodeId) → map.get (nodes_of nodes.slots) n.0 ≡ cond (gone n) None (map.get (nodes_of a.nodes.slots) n.0)
+    nodes_left n = get-nodes_of nodes.slots n.0 ∙ split (t.others n) where
+      split : Was n → option_map node_of (get nodes n.0) ≡ cond (gone n) None (map.get (nodes_of a.nodes.slots) n.0)
+      split (inl same) = same ∙ sym (get-nodes_of a.nodes.slots n.0) ∙ ap (λ b. cond b None (map.get (nodes_of a.nodes.slots) n.0)) (sym (same_stays n same))
+      split (inr both) = ap (option_map node_of) both.0 ∙ ap (λ b. cond b None (map.get (nodes_of a.nodes.slots) n.0)) (sym (goes_gone n both.1))
+
+    edge_left : (e : Edge) → IsIn a.edges e → gone e.source ≡ false → gone e.target ≡ false → IsIn edges e
+    edge_left e h p q = split (t.taken e h) where
+      split : IsIn edges e ⊎ (GoesWith a.edges id e.source ⊎ GoesWith a.edges id e.target) → IsIn edges e
+      split (inl still) = still
+      split (inr (inl goes)) = absurd (clash (gone e.source) (goes_gone e.source goes) p)
+      split (inr (inr goes)) = absurd (clash (gone e.target) (goes_gone e.target goes) q)
+
+    edges_left : (e : Edge) → set.contains edges e ≡ (set.contains a.edges e && (not (gone e.source) && not (gone e.target)))
+    edges_left e = iff_same (set.contains edges e) (set.contains a.edges e && (not (gone e.source) && not (gone e.target)))
+        (λ h. let both = tied.ends e h in all (set.contains a.edges e) (gone e.source) (gone e.target) (t.less e h) (there_stays e.source both.0) (there_stays e.target both.1))
+        (λ h. let (stands, ends) = both_true (set.contains a.edges e) (not (gone e.source) && not (gone e.target)) h in
+        let (p, q) = both_true (not (gone e.source)) (not (gone e.target)) ends in edge_left e stands (not_true (gone e.source) p) (not_true (gone e.target) q)) where
+          all : (x y z : Bool) → x ≡ true → y ≡ false → z ≡ false → (x && (not y && not z)) ≡ true
+          all x y z p q r = ap (λ b. b && (not y && not z)) p ∙ ap (λ b. not b && not z) q ∙ ap not r
+
+    exports_left : names_of exports.entries ≡ without gone (names_of a.exports.entries)
+    unfolding gone
+    exports_left = lost ∙ alike_without (λ m. not (is_some (get nodes m.0))) gone (names_of a.exports.entries)
+        (λ i e h. ap (λ b. b && not (is_some (get nodes e.1.0))) (sym (stored e.1 (v.sound.exported i e.0 e.1 h)))) where
+          stored : (n : NodeId) → IsSome (map.get (nodes_of a.nodes.slots) n.0) → IsSome (get a.nodes n.0)
+          stored n h = sym (is_some-node_of (get a.nodes n.0)) ∙ ap is_some (sym (get-nodes_of a.nodes.slots n.0)) ∙ h
+
+    abbrev now : Inside
+    now = record a { nodes = nodes; edges = edges; imports = names; exports = exports }
+
+    pub removes : Removes (graph_of a) id (graph_of now)
+    removes = record {
+      gone = gone;
+      goes = λ n. (gone_goes n, goes_gone n);
+      rest = record { types = refl; nodes = nodes_left; edges = edges_left };
+      exports = exports_left;
+      slots = refl;
+      vacant = refl;
+      next = next;
+    }
+
+    was_there : (n : NodeId) (node : GraphNode) → map.get (nodes_of nodes.slots) n.0 ≡ Some node → (gone n ≡ false) × (map.get (nodes_of a.nodes.slots) n.0 ≡ Some node)
+    was_there n node at = split (gone n) refl (sym (nodes_left n) ∙ at) where
+      split : (b : Bool) → gone n ≡ b → cond b None (map.get (nodes_of a.nodes.slots) n.0) ≡ Some node → (gone n ≡ false) × (map.get (nodes_of a.nodes.slots) n.0 ≡ Some node)
+      split true is h = absurd (no_some h)
+      split false is h = (is, h)
+
+    still_there : (n : NodeId) → gone n ≡ false → map.get (nodes_of nodes.slots) n.0 ≡ map.get (nodes_of a.nodes.slots) n.0
+    still_there n is = nodes_left n ∙ ap (λ b. cond b None (map.get (nodes_of a.nodes.slots) n.0)) is
+
+    goes_behind : (e : Edge) → IsIn a.edges e → Follows e.label → gone e.source ≡ true → gone e.target ≡ true
+    goes_behind e stands follows h = goes_gone e.target (behind e (gone_goes e.source h) stands follows)
+
+    -- no stored node has a first name
+    no_first : (m : NodeId) (x : GraphNode) → map.get (nodes_of nodes.slots) m.0 ≡ Some x → x.first_name ≡ None
+    no_first m x at = by_stored (get nodes m.0) (sym (get-nodes_of nodes.slots m.0) ∙ at) where
+      by_stored : (o : Option Node) → option_map node_of o ≡ Some x → x.first_name ≡ None
+      by_stored None h = absurd (no_some h)
+      by_stored (Some y) h = let same : node_of y ≡ x = cc in ap (λ (z : GraphNode). z.first_name) (sym same)
+
+    kept : Left gone (names_of a.exports.entries) (names_of exports.entries)
+    kept = subst (Left gone (names_of a.exports.entries)) (sym exports_left) (left_without gone (names_of a.exports.entries))
+
+    is_part : IsPart (graph_of a) (graph_of now)
+    is_part = record {
+      nodes = λ n node at. (node, (was_there n node at).1, alike_itself node);
+      edges = t.less;
+      place = kept.place;
+      exports = kept.was;
+      apart = kept.apart;
+      packages = λ p parts at. at;
+    }
+
+    is_closed : IsClosed (graph_of a) (graph_of now)
+    is_closed = record {
+      ends = λ e h. let both = tied.ends e h in (shown e.source both.0, shown e.target both.1);
+      exported = λ i name n at. ap is_some (still_there n (none_without gone (names_of a.exports.entries) i (name, n) (ap (λ es. slice_get es i) (sym exports_left) ∙ at))) ∙ v.sound.exported (kept.place i) name n (kept.was i (name, n) at);
+      aliases = λ n node at is instance i stands. edge_left (alias_edge instance n i) stands (source_stays instance n i stands (was_there n node at).0) (was_there n node at).0;
+      instances = λ n node at is p parts owned registered. registered;
+      first_names = λ n node other at first. absurd (no_some (sym (no_first n node at) ∙ first));
+      vacant = v.sound.vacant;
+      vacant_once = v.sound.vacant_once;
+    } where
+      shown : (n : NodeId) → IsSome (get nodes n.0) → IsSome (map.get (nodes_of nodes.slots) n.0)
+      shown n h = ap is_some (get-nodes_of nodes.slots n.0) ∙ is_some-node_of (get nodes n.0) ∙ h
+
+      source_stays : (instance n : NodeId) (i : ℕ) → IsIn a.edges (alias_edge instance n i) → gone n ≡ false → gone instance ≡ false
+      source_stays instance n i stands is = split (gone instance) refl where
+        split : (b : Bool) → gone instance ≡ b → b ≡ false
+        split false _ = refl
+        split true h = absurd (clash (gone n) (goes_behind (alias_edge instance n i) stands tt h) is)
+
+    -- of what goes with the node only the node itself can be an import
+    imported : (n : NodeId) (name : Name) → IsImportOf (graph_of a) name n → GoesWith a.edges id n → imports removed.kind name ≡ true
+    imported n name is itself = is_imports removed.kind name (subst (λ o. IsSomeAnd o (λ x. x.kind ≡ graph.import name)) (get-nodes_of a.nodes.slots n.0 ∙ had) is)
+    imported n name is (behind e from stands follows) = by_nodes (map.get (nodes_of a.nodes.slots) e.source.0) (map.get (nodes_of a.nodes.slots) e.target.0) refl refl (v.sound.ends e stands).0 is where
+      no_import : (l : Label) (x y : GraphNode) → Follows l → Joins (graph_of a) l x y → y.kind ≡ graph.import name → ⊥
+      no_import (label.Alias i) x y follows j k = let wrong : graph.alias ≡ graph.import name = sym j.0 ∙ k in cc
+      no_import (label.Argument i) x y follows j k = follows
+      no_import label.Dependency x y follows j k = let wrong : graph.definition ≡ graph.import name = sym j.1 ∙ k in cc
+
+      by_nodes : (o p : Option GraphNode) → map.get (nodes_of a.nodes.slots) e.source.0 ≡ o → map.get (nodes_of a.nodes.slots) e.target.0 ≡ p → IsSome o → IsSomeAnd p (λ x. x.kind ≡ graph.import name) → imports removed.kind name ≡ true
+      by_nodes None p at_o at_p h k = absurd (none_some {A = GraphNode} None refl h)
+      by_nodes (Some x) None at_o at_p h k = absurd k
+      by_nodes (Some x) (Some y) at_o at_p h k = absurd (no_import e.label x y follows (v.sound.joins e x y stands at_o at_p) k)
+
+    removed_imports : (name : Name) → imports removed.kind name ≡ true → IsImportOf (graph_of a) name id
+    removed_imports name h = subst (λ o. IsSomeAnd o (λ x. x.kind ≡ graph.import name)) (sym (get-nodes_of a.nodes.slots id.0 ∙ had)) (imports_is removed.kind name h)
+
+    pub invariant_removed : Invariant now
+    invariant_removed = record {
+      sound = sound_part (graph_of a) v.sound (nodes_of nodes.slots) nodes.vacant_key edges (names_of exports.entries) a.slots.items [] is_part is_closed;
+      marked = tied.marked;
+      edged = tied.edged;
+      keyed = v.keyed;
+      found = v.found;
+      named = λ name n h. named name n h (gone n) refl;
+      importing = λ name n at. importing name n (imports removed.kind name) refl (sym (left name) ∙ at);
+    } where
+      named : (name : Name) (n : NodeId) → IsImportOf (graph_of now) name n → (b : Bool) → gone n ≡ b → find_name (names_of names.entries) name ≡ Some n
+      named name n h true is = absurd (subst (λ o. IsSomeAnd o (λ x. x.kind ≡ graph.import name)) (nodes_left n ∙ ap (λ b. cond b None (map.get (nodes_of a.nodes.slots) n.0)) is) h)
+      named name n h false is = left name ∙ other (imports removed.kind name) refl where
+        before : IsImportOf (graph_of a) name n
+        before = subst (λ o. IsSomeAnd o (λ x. x.kind ≡ graph.import name)) (still_there n is) h
+
+        other : (b : Bool) → imports removed.kind name ≡ b → cond b None (find_name (names_of a.imports.entries) name) ≡ Some n
+        other false _ = v.named name n before
+        other true does =
+            let same : n ≡ id = v.sound.one_import name n id before (removed_imports name does) in
+            absurd (clash (gone n) (goes_gone n (subst (GoesWith a.edges id) (sym same) itself)) is)
+
+      importing : (name : Name) (n : NodeId) (b : Bool) → imports removed.kind name ≡ b → cond b None (find_name (names_of a.imports.entries) name) ≡ Some n → IsImportOf (graph_of now) name n
+      importing name n true does at = absurd (no_some at)
+      importing name n false does_not at = stays (gone n) refl where
+        before : IsImportOf (graph_of a) name n
+        before = v.importing name n at
+
+        stays : (b : Bool) → gone n ≡ b → IsImportOf (graph_of now) name n
+        stays true is = absurd (clash (imports removed.kind name) (imported n name before (gone_goes n is)) does_not)
+        stays false is = subst (λ o. IsSomeAnd o (λ x. x.kind ≡ graph.import name)) (sym (still_there n is)) before
