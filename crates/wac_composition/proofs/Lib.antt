@@ -24,3 +24,4 @@ pub mod TiedLemmas
 pub mod RemovingLemmas
 pub mod RemovedLemmas
 pub mod RemovalLaws
+pub mod SourceLemmas

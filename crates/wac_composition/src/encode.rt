@@ -200,9 +200,11 @@ impl CompositionGraph {
         ensures { IfOk result (λ v. IfSome (node_at self.now (node_number n)) (λ node. AreArgumentItems self.now (index_in indexes.now) n 0 (imports_of self.now node) (arguments_of v.items))) }
     {
         let imports = self.imports_at(n);
+        let count = imports.len();
+        let sources = self.sources(n, count)?;
         let mut arguments = Vec::new(self.alloc);
-        for i in 0..imports.len() {
-            let Some(source) = self.edges.argument(NodeId(n), i) else {
+        for i in 0..count {
+            let Some(source) = sources[i] else {
                 unreachable!()
             };
             let sort = sort_of(self.nodes[source.0].item_kind);

@@ -17,6 +17,7 @@ mod lookups;
 mod merging;
 mod naming;
 mod removing;
+mod sources;
 
 pub use arguments_of::Arguments;
 pub use graph::CompositionGraph;
