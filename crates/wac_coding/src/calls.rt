@@ -7,13 +7,13 @@ ghost use Rattle.wac_coding.specs.CallsView.{names_in, AreNamed};
 ghost use Rattle.wac_coding.specs.Listings.{at_scope};
 
 use std::alloc::{AllocError, Global};
+use wac_collection::{ItemKind, ResourceId, Types};
 use wac_entries::bindings::Bindings;
 use wac_entries::bound::Bound;
 use wac_entries::called::Called;
 use wac_entries::entry::Entry;
 use wac_entries::naming::{called, called_outside};
 use wac_entries::scopes::Scopes;
-use wac_collection::{ItemKind, ResourceId, Types};
 
 /// What resources are called in a scope of an entry of a class.
 #[derive(Clone, Copy)]

@@ -18,10 +18,10 @@ ghost use Rattle.wac_coding.specs.Coding.{source_tree, values_of, IsGrown, HasTr
 use crate::calls::Calls;
 use crate::memo::Memo;
 use std::alloc::{AllocError, Global};
+use wac_collection::{DefinedType, DefinedTypeId, FuncTypeId, Labels, Named, Types, ValueType};
 use wac_entries::nodes::{Node, Nodes};
 use wac_entries::tasks::{Task, open_fields, open_optional, open_parts, open_value};
 use wac_subtyping::laws::trees_are_whole;
-use wac_collection::{DefinedType, DefinedTypeId, FuncTypeId, Labels, Named, Types, ValueType};
 
 /// Where a scope's types are held, and what resources are called in it.
 #[derive(Clone, Copy)]

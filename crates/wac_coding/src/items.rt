@@ -15,8 +15,8 @@ use crate::coder::{Source, add};
 use crate::memo::Memo;
 use crate::modules::module_type;
 use std::alloc::AllocError;
-use wac_entries::nodes::{Item, Node, Nodes};
 use wac_collection::{ItemKind, Type};
+use wac_entries::nodes::{Item, Node, Nodes};
 
 impl Memo {
     /// The number of a type that opens no scope.

@@ -12,9 +12,9 @@ use crate::coder::{Source, add};
 use crate::modules::{in_order, put};
 use std::alloc::AllocError;
 use std::collections::BTreeMap;
+use wac_collection::{ItemKind, Named, WorldId};
 use wac_entries::nodes::{Item, Node, Nodes};
 use wac_entries::scopes::Opener;
-use wac_collection::{ItemKind, Named, WorldId};
 
 /// Items under their names, sorted by name.
 fn entries(

@@ -18,10 +18,10 @@ use crate::coder::Source;
 use crate::listing::{component, scope_instance};
 use crate::memo::Memo;
 use std::alloc::{AllocError, Global};
+use wac_collection::{ItemKind, Named, Type};
 use wac_entries::nodes::{Item, Nodes};
 use wac_entries::scopes::Opener;
 use wac_subtyping::laws::trees_are_whole;
-use wac_collection::{ItemKind, Named, Type};
 
 /// An item of an instance type or of a component type, of this number.
 fn opened_item(kind: ItemKind, number: usize) -> Item

@@ -12,8 +12,8 @@ ghost use Rattle.wac_coding.specs.ModuleCoding.{AreCores, AreImports};
 use crate::coder::{Source, add};
 use std::alloc::{AllocError, Global};
 use std::collections::BTreeMap;
-use wac_entries::nodes::{Core, Node, Nodes};
 use wac_collection::{CoreExtern, ModuleTypeId, Named};
+use wac_entries::nodes::{Core, Node, Nodes};
 
 /// The entries of a map, in the order of their names.
 pub fn in_order<V: Drop>(

@@ -8,8 +8,8 @@ ghost use Rattle.wac_terms.specs.Unions.{part_lists};
 use indexmap::IndexMap;
 use std::alloc::{AllocError, Global};
 use std::marker::Model;
-use wac_terms::parts::Part;
 use wac_collection::{ItemKind, Named, Types};
+use wac_terms::parts::Part;
 
 /// What interfaces list under each name, in order of first appearance: which of them, and what.
 #[derive(Drop)]

@@ -7,9 +7,9 @@ ghost use Rattle.wac_terms.specs.Unions.{AreUnions, instances_in, is_own_of, IsE
 
 use crate::grouped::Grouped;
 use std::alloc::{AllocError, Global};
+use wac_collection::{InterfaceId, ItemKind, Named, ShapeError, Type, Types};
 use wac_entries::bound::own_resource;
 use wac_terms::parts::{Export, Part, Union};
-use wac_collection::{InterfaceId, ItemKind, Named, ShapeError, Type, Types};
 
 /// Unions, and the parts of all.
 #[derive(Drop)]
