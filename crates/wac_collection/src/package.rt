@@ -146,6 +146,24 @@ impl Package {
     }
 }
 
+/// The clone is the same package, in memory of its own. Answers `AllocError` where memory ran out.
+impl Clone for Package {
+    ghost is_clone = { λ a b. b ≡ a };
+
+    fn clone(&self) -> Result<Package, AllocError> {
+        let name = self.name.clone()?;
+        let version = cloned(self.version.as_ref())?;
+        let bytes = self.bytes.clone()?;
+        Ok(Package {
+            name,
+            version,
+            bytes,
+            world: self.world,
+            instance_type: self.instance_type,
+        })
+    }
+}
+
 // The version, in memory of its own.
 fn cloned(version: Option<&Version>) -> Result<Option<Version>, AllocError>
     ensures { IfOk result (λ v. option_map parts_of v ≡ option_map (λ x. parts_of x.now) version.entry) }
@@ -187,6 +205,17 @@ impl PackageKey {
         ensures { option_map (λ v. parts_of v.now) result ≡ self.now.1 }
     {
         self.version.as_ref()
+    }
+}
+
+/// The clone is the same key, in memory of its own. Answers `AllocError` where memory ran out.
+impl Clone for PackageKey {
+    ghost is_clone = { λ a b. b ≡ a };
+
+    fn clone(&self) -> Result<PackageKey, AllocError> {
+        let name = self.name.clone()?;
+        let version = cloned(self.version.as_ref())?;
+        Ok(PackageKey { name, version })
     }
 }
 

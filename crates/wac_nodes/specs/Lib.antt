@@ -1,6 +1,7 @@
 pub mod Graph
 pub mod Options
 pub mod Nodes
+pub mod Clones
 pub mod PackageKeys
 pub mod Sound
 pub mod ExternName

@@ -1,10 +1,12 @@
 //! Nodes of a graph.
-ghost use Rattle.std.specs.Prelude.{◌≡◌, string_bytes};
+ghost use Rattle.std.specs.Prelude.{◌≡◌, IfOk, string_bytes};
 ghost use Rattle.std.specs.Option.{option_map};
 ghost use Rattle.wac_nodes.specs.Graph.{import_name};
+ghost use Rattle.wac_nodes.specs.Clones.{IsKindClone, IsNodeClone};
 ghost use Rattle.wac_nodes.specs.Nodes.{kind_of};
 
 use crate::packages::PackageId;
+use std::alloc::AllocError;
 use std::collections::BTreeSet;
 use wac_types::ItemKind;
 
@@ -21,6 +23,21 @@ pub enum NodeKind {
     Alias,
 }
 
+/// The clone is of the same kind, with the same name or the same positions, in memory of its own. Answers `AllocError` where
+/// memory ran out.
+impl Clone for NodeKind {
+    ghost is_clone = { IsKindClone };
+
+    fn clone(&self) -> Result<NodeKind, AllocError> {
+        match self {
+            NodeKind::Definition => Ok(NodeKind::Definition),
+            NodeKind::Import(name) => Ok(NodeKind::Import(name.clone()?)),
+            NodeKind::Instantiation(positions) => Ok(NodeKind::Instantiation(positions.clone()?)),
+            NodeKind::Alias => Ok(NodeKind::Alias),
+        }
+    }
+}
+
 /// A node of a graph.
 #[derive(Debug, Drop)]
 pub struct Node {
@@ -34,6 +51,34 @@ pub struct Node {
     pub name: Option<String>,
     /// The name by which it was exported last.
     pub export_name: Option<String>,
+}
+
+/// The clone says of the node what this one does, in memory of its own. Answers `AllocError` where memory ran out.
+impl Clone for Node {
+    ghost is_clone = { IsNodeClone };
+
+    fn clone(&self) -> Result<Node, AllocError> {
+        let kind = self.kind.clone()?;
+        let name = cloned(&self.name)?;
+        let export_name = cloned(&self.export_name)?;
+        Ok(Node {
+            kind,
+            package: self.package,
+            item_kind: self.item_kind,
+            name,
+            export_name,
+        })
+    }
+}
+
+/// The text, if there is one, in memory of its own.
+fn cloned(text: &Option<String>) -> Result<Option<String>, AllocError>
+    ensures { IfOk result (λ t. option_map string_bytes t ≡ option_map string_bytes text.now) }
+{
+    match text {
+        Some(text) => Ok(Some(text.clone()?)),
+        None => Ok(None),
+    }
 }
 
 impl Node {

@@ -10,6 +10,7 @@ ghost use Rattle.wac_nodes.specs.PackageKeys.{borrowed_key};
 
 use indexmap::Equivalent;
 use semver::Version;
+use std::alloc::AllocError;
 use std::hash::{Hash, Hasher};
 use wac_types::{Package, PackageKey};
 
@@ -29,6 +30,22 @@ pub struct Slot {
     pub generation: usize,
     /// The package, if it holds one.
     pub package: Option<Package>,
+}
+
+/// The clone is the same slot, with the package in memory of its own. Answers `AllocError` where memory ran out.
+impl Clone for Slot {
+    ghost is_clone = { λ a b. b ≡ a };
+
+    fn clone(&self) -> Result<Slot, AllocError> {
+        let package = match &self.package {
+            Some(package) => Some(package.clone()?),
+            None => None,
+        };
+        Ok(Slot {
+            generation: self.generation,
+            package,
+        })
+    }
 }
 
 /// A package's name and version where they are, to look its key up by.
