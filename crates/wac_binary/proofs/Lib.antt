@@ -1,4 +1,5 @@
 pub mod Vectors
+pub mod Short
 pub mod Counts
 pub mod SectionLaws
 pub mod ItemLaws
