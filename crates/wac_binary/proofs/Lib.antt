@@ -15,5 +15,3 @@ pub mod HasMeaningLaws
 pub mod AddedLaws
 pub mod KeptLaws
 pub mod ListedLaws
-pub mod Rows
-pub mod MeaningRows

@@ -169,13 +169,16 @@ fn put_described_reserved(out: &mut Vec<u8>, d: Description)
     }
 }
 
+/// How many bytes stand around a name at most: one before its length, ten of that, and twelve of what stands under it.
+const AROUND_NAME: usize = 23;
+
 /// A name, behind the byte that says that it is one, and what stands under it. Room for the whole is made at once.
 #[inline(always)]
 pub(crate) fn put_named(out: &mut Vec<u8>, name: &str, d: Description) -> Result<(), AllocError>
     ensures written { OnOk result (out.new.items ≡ out.old.items ++ 0 ∷ (text name.now ++ described d)) }
     ensures grows { (more : List ℕ) × (out.new.items ≡ out.old.items ++ more) }
 {
-    out.reserve(name.len() + 23)?;
+    out.reserve(name.len() + AROUND_NAME)?;
     out.push_reserved(0);
     put_unsigned_reserved(out, name.len() as u64);
     out.extend_from_slice(name.as_bytes())?;
