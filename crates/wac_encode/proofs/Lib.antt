@@ -5,3 +5,9 @@ pub mod Below
 pub mod Stepping
 pub mod Answering
 pub mod Rows
+pub mod Ordered
+pub mod Listed
+pub mod Naming
+pub mod Behind
+pub mod Plain
+pub mod Together
