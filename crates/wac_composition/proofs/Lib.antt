@@ -25,3 +25,4 @@ pub mod RemovingLemmas
 pub mod RemovedLemmas
 pub mod RemovalLaws
 pub mod SourceLemmas
+pub mod OuterLemmas
