@@ -41,12 +41,12 @@ use Rattle.wac_composition.proofs.MeansLemmas.{plain, all_set, no_first, writes_
 use Rattle.wac_composition.proofs.WriteAliasLemmas.{take_at, entry_at}
 
 module _ (g : Graph) (o : EncodeOptions) (define : o.define_components ≡ true) (none_asked : asked g ≡ []) (no_first : HasNoFirst g) where
-  no_first_names : (order : List ℕ) → flat_map (first_name_of g) order ≡ []
+  no_first_names : (order : List NodeId) → flat_map (first_name_of g) order ≡ []
   no_first_names [] = refl
-  no_first_names (n ∷ ns) = rw (here (node_at g (node_number n)) refl) (no_first_names ns) where
-    here : (x : Option GraphNode) → node_at g (node_number n) ≡ x → first_name_of g n ≡ []
+  no_first_names (n ∷ ns) = rw (here (node_at g n) refl) (no_first_names ns) where
+    here : (x : Option GraphNode) → node_at g n ≡ x → first_name_of g n ≡ []
     here None is = rw is refl
-    here (Some node) is = rw is (rw (no_first (node_number n) node is) refl)
+    here (Some node) is = rw is (rw (no_first n node is) refl)
 
   empty : {A : Type 0} (xs : List A) → length xs ≡ 0 → xs ≡ []
   empty [] h = refl
@@ -58,7 +58,7 @@ module _ (g : Graph) (o : EncodeOptions) (define : o.define_components ≡ true)
       empty classes (outer.count ∙ ap length (one_order g outer.order none.order outer.written none.written) ∙ sym none.count)
 
   -- these are its outer names
-  names_today : (order : List ℕ) → Writes g.edges (is_written g) order → AreOuterNames g o [] (map (λ e. e.0) g.exports)
+  names_today : (order : List NodeId) → Writes g.edges (is_written g) order → AreOuterNames g o [] (map (λ e. e.0) g.exports)
   names_today order writes = record {
     order = order;
     in_order = writes;
@@ -78,7 +78,7 @@ module _ (g : Graph) (o : EncodeOptions) (define : o.define_components ≡ true)
       named.exported ∙ (λ i. no_first_names named.order i ++ map (λ e. e.0) (further_all g no_first i))
 
   -- a fault of these is one of the graph
-  pub fault_today : (order : List ℕ) → Writes g.edges (is_written g) order → (f : Fault) → IsFirstFault [] (map (λ e. e.0) g.exports) f → IsOuterFault g o f
+  pub fault_today : (order : List NodeId) → Writes g.edges (is_written g) order → (f : Fault) → IsFirstFault [] (map (λ e. e.0) g.exports) f → IsOuterFault g o f
   fault_today order writes f first = record { imports = []; exports = map (λ e. e.0) g.exports; named = names_today order writes; first = first }
 
   -- and the other way
@@ -91,7 +91,7 @@ module _ (g : Graph) (o : EncodeOptions) (define : o.define_components ≡ true)
   shown_names [] = refl
   shown_names (e ∷ es) = ap (λ r. e.name ∷ r) (shown_names es)
 
-  exported_names : (at : ℕ → Thing) (es : List (Name × NodeId)) → ((i : ℕ) (name : Name) (n : NodeId) → slice_get es i ≡ Some (name, n) → IsSome (node_at g n))
+  exported_names : (at : NodeId → Thing) (es : List (Name × NodeId)) → ((i : ℕ) (name : Name) (n : NodeId) → slice_get es i ≡ Some (name, n) → IsSome (node_at g n))
       → map (λ (x : Name × Sort × Thing). x.0) (flat_map (export_of g at) es) ≡ map (λ (e : Name × NodeId). e.0) es
   exported_names at [] there = refl
   exported_names at (e ∷ es) there = one (node_at g e.1) refl (there 0 e.0 e.1 refl) (exported_names at es (λ i name n h. there (suc i) name n h)) where
@@ -142,7 +142,7 @@ pub refusal_names : (P : Fault → Type 0) → ((f other : Fault) → P f → P 
 refusal_names P one (validation.Fault f) h = inr (fault_view f, refl, h, λ other is. one other (fault_view f) is h)
 refusal_names P one validation.OutOfMemory h = inl refl
 
-module _ (g : Graph) (sound : IsSound g) (all : AllWritable g) (o : EncodeOptions) (define : o.define_components ≡ true) (order : List ℕ) (writes : Writes g.edges (is_there g) order) where
+module _ (g : Graph) (sound : IsSound g) (all : AllWritable g) (o : EncodeOptions) (define : o.define_components ≡ true) (order : List NodeId) (writes : Writes g.edges (is_there g) order) where
   abbrev AreWrong : Fault → Type 0
   AreWrong = IsFirstFault [] (map (λ e. e.0) g.exports)
 
