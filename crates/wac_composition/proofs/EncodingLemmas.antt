@@ -38,7 +38,7 @@ pub node_is : (a : Inside) (n : ℕ) (o : Option Node) → get a.nodes n ≡ o �
 node_is a n o had = get-nodes_of a.nodes.slots n ∙ ap (option_map node_of) had
 
 -- whether a node of the number is there
-pub there_is : (a : Inside) (n : ℕ) → is_there (graph_of a) n ≡ is_some (get a.nodes n)
+pub there_is : (a : Inside) (n : ℕ) → is_there (graph_of a) (node_number n) ≡ is_some (get a.nodes n)
 there_is a n = ap (λ o. option_case o false (λ x. true)) (get-nodes_of a.nodes.slots n) ∙ decide (get a.nodes n) where
   decide : (o : Option Node) → option_case (option_map node_of o) false (λ x. true) ≡ is_some o
   decide None = refl
@@ -101,7 +101,7 @@ imports_now g n id p w owner there at = by_node (node_at g (node_number n)) (pac
   by_node (Some x) h = sym (imports_of_package g x p h ∙ ap (λ y. option_case y [] (λ z. z.imports)) at)
 
 -- whether a node is there
-pub there_now : (g : Graph) (n : ℕ) (b : Bool) → (IsTrue b → IsSome (node_at g (node_number n))) × (IsSome (node_at g (node_number n)) → IsTrue b) → b ≡ is_there g n
+pub there_now : (g : Graph) (n : ℕ) (b : Bool) → (IsTrue b → IsSome (node_at g (node_number n))) × (IsSome (node_at g (node_number n)) → IsTrue b) → b ≡ is_there g (node_number n)
 there_now g n b h = by_node b (node_at g (node_number n)) h where
   by_node : (t : Bool) (o : Option GraphNode) → (IsTrue t → IsSome o) × (IsSome o → IsTrue t) → t ≡ option_case o false (λ x. true)
   by_node true None h = sym (h.0 refl)
@@ -120,26 +120,26 @@ none_past a n far = past a.nodes.slots n far where
 pub by_lt : {P : Type 0} (m n : ℕ) → (m < n → P) → (n ≤ m → P) → P
 by_lt {P} m n below above = elim (nat_lt m n) as (λ b. nat_lt m n ≡ b → P) [ true ↦ λ e. below (grind (arith, nat_tests)) | false ↦ λ e. above (grind (arith, nat_tests)) ] refl
 
-flag_past : (flags : List Bool) (m : ℕ) → length flags ≤ m → is_left flags m ≡ false
+flag_past : (flags : List Bool) (m : ℕ) → length flags ≤ m → is_left flags (node_number m) ≡ false
 flag_past [] m h = refl
 flag_past (b ∷ flags) zero h = absurd (omega arith)
 flag_past (b ∷ flags) (suc m) h = flag_past flags m (omega arith)
 
 -- flags for all nodes
-pub all_flags : (a : Inside) (flags : List Bool) (k : ℕ) → length flags ≡ k → length a.nodes.slots ≤ k → ((m : ℕ) → m < k → is_left flags m ≡ is_there (graph_of a) m) → (m : ℕ) → is_left flags m ≡ is_there (graph_of a) m
-all_flags a flags k many slots below m = by_lt m k (below m) (λ above. flag_past flags m (omega arith) ∙ sym (there_is a m ∙ ap is_some (none_past a m (omega arith))))
+pub all_flags : (a : Inside) (flags : List Bool) (k : ℕ) → length flags ≡ k → length a.nodes.slots ≤ k → ((m : NodeId) → m.0 < k → is_left flags m ≡ is_there (graph_of a) m) → (m : NodeId) → is_left flags m ≡ is_there (graph_of a) m
+all_flags a flags k many slots below m = by_lt m.0 k (below m) (λ above. flag_past flags m.0 (omega (arith, many, above)) ∙ sym (there_is a m.0 ∙ ap is_some (none_past a m.0 (omega (arith, slots, above)))))
 
 -- one flag more
-pub next_flag : (g : Graph) (flags : List Bool) (k : ℕ) (b : Bool) → length flags ≡ k → ((m : ℕ) → m < k → is_left flags m ≡ is_there g m) → b ≡ is_there g k → (m : ℕ) → m < k + 1 → is_left (flags ++ b ∷ []) m ≡ is_there g m
-next_flag g flags k b many below now m small = by_lt m k
-    (λ under. get_or_append_left flags (b ∷ []) false m (omega (arith, many, under)) ∙ below m under)
-    (λ over. let same : m ≡ length flags = omega (arith, many, over, small) in let last : k ≡ m = omega (arith, over, small) in ap (is_left (flags ++ b ∷ [])) same ∙ get_or-append_seam flags b [] false ∙ now ∙ ap (is_there g) last)
+pub next_flag : (g : Graph) (flags : List Bool) (k : ℕ) (b : Bool) → length flags ≡ k → ((m : NodeId) → m.0 < k → is_left flags m ≡ is_there g m) → b ≡ is_there g (node_number k) → (m : NodeId) → m.0 < k + 1 → is_left (flags ++ b ∷ []) m ≡ is_there g m
+next_flag g flags k b many below now m small = by_lt m.0 k
+    (λ under. get_or_append_left flags (b ∷ []) false m.0 (omega (arith, many, under)) ∙ below m under)
+    (λ over. let same : m.0 ≡ length flags = omega (arith, many, over, small) in let last : k ≡ m.0 = omega (arith, over, small) in ap (λ q. is_left (flags ++ b ∷ []) (node_number q)) same ∙ get_or-append_seam flags b [] false ∙ now ∙ ap (λ q. is_there g (node_number q)) last)
 
 -- all nodes are writable where those below the capacity are
-pub all_writable : (a : Inside) (k : ℕ) → length a.nodes.slots ≤ k → ((m : ℕ) → m < k → IfSome (node_at (graph_of a) (node_number m)) (IsWritable (graph_of a) m)) → AllWritable (graph_of a)
-all_writable a k slots below m node there = by_lt m k
+pub all_writable : (a : Inside) (k : ℕ) → length a.nodes.slots ≤ k → ((m : NodeId) → m.0 < k → IfSome (node_at (graph_of a) m) (IsWritable (graph_of a) m)) → AllWritable (graph_of a)
+all_writable a k slots below m node there = by_lt m.0 k
     (λ small. subst (λ o. IfSome o (IsWritable (graph_of a) m)) there (below m small))
-    (λ above. absurd (nothing (node_at (graph_of a) (node_number m)) (node_is a m None (none_past a m (omega arith))) there)) where
+    (λ above. absurd (nothing (node_at (graph_of a) m) (node_is a m.0 None (none_past a m.0 (omega (arith, slots, above)))) there)) where
       nothing : (o : Option GraphNode) → o ≡ None → o ≡ Some node → ⊥
       nothing o p q = cc
 
@@ -150,10 +150,10 @@ pub if_none : (a : Inside) (n : ℕ) (P : GraphNode → Type 0) → get a.nodes 
 if_none a n P had = subst (λ o. IfSome o P) (sym (node_is a n None had)) tt
 
 pub a_definition : (a : Inside) (n : ℕ) (node : Node) (o : EncodeOptions) → get a.nodes n ≡ Some node → node.kind ≡ code.Definition → IsNotYet (graph_of a) o
-a_definition a n node o had is = defined n (node_of node) (node_is a n (Some node) had) (ap kind_of is)
+a_definition a n node o had is = defined (node_number n) (node_of node) (node_is a n (Some node) had) (ap kind_of is)
 
 pub an_import : (a : Inside) (n : ℕ) (node : Node) (name : String Global) (o : EncodeOptions) → get a.nodes n ≡ Some node → node.kind ≡ code.Import name → IsNotYet (graph_of a) o
-an_import a n node name o had is = imported n (node_of node) (string_bytes name) (node_is a n (Some node) had) (ap kind_of is)
+an_import a n node name o had is = imported (node_number n) (node_of node) (string_bytes name) (node_is a n (Some node) had) (ap kind_of is)
 
 module _ (a : Inside) (v : Invariant a) (n : ℕ) (node : Node) (s : BTreeSet ℕ) (had : get a.nodes n ≡ Some node) (is : node.kind ≡ code.Instantiation s) where
   marked : (i : ℕ) (b : Bool) → positions.contains nat_cmp s i ≡ b → satisfied_at (get a.nodes n) i ≡ b
@@ -161,20 +161,20 @@ module _ (a : Inside) (v : Invariant a) (n : ℕ) (node : Node) (s : BTreeSet �
 
   pub a_gap : (i : ℕ) (count : ℕ) (o : EncodeOptions) → count ≡ length (imports_of (graph_of a) (node_of node)) → i < count → positions.contains nat_cmp s i ≡ false → IsNotYet (graph_of a) o
   a_gap i count o many small gap =
-      unset n (node_of node) i (node_is a n (Some node) had) (ap kind_of is) (omega (arith, many))
+      unset (node_number n) (node_of node) i (node_is a n (Some node) had) (ap kind_of is) (omega (arith, many))
       (λ source stands. clash (satisfied_at (get a.nodes n) i) (v.marked source (node_number n) i stands) (marked i false gap)) where
         clash : (b : Bool) → b ≡ true → b ≡ false → ⊥
         clash true _ h = cc
         clash false h _ = cc
 
-  pub no_gap : (count : ℕ) → count ≡ length (imports_of (graph_of a) (node_of node)) → ((i : ℕ) → i < count → positions.contains nat_cmp s i ≡ true) → IfSome (node_at (graph_of a) (node_number n)) (IsWritable (graph_of a) n)
-  no_gap count many full = if_node a n node (IsWritable (graph_of a) n) had (record {
+  pub no_gap : (count : ℕ) → count ≡ length (imports_of (graph_of a) (node_of node)) → ((i : ℕ) → i < count → positions.contains nat_cmp s i ≡ true) → IfSome (node_at (graph_of a) (node_number n)) (IsWritable (graph_of a) (node_number n))
+  no_gap count many full = if_node a n node (IsWritable (graph_of a) (node_number n)) had (record {
     plain = inl (ap kind_of is);
     set = λ _ i small. v.edged (node_number n) i (marked i true (full i (omega (arith, many))));
   })
 
-pub an_alias : (a : Inside) (n : ℕ) (node : Node) → get a.nodes n ≡ Some node → node.kind ≡ code.Alias → IfSome (node_at (graph_of a) (node_number n)) (IsWritable (graph_of a) n)
-an_alias a n node had is = if_node a n node (IsWritable (graph_of a) n) had (record {
+pub an_alias : (a : Inside) (n : ℕ) (node : Node) → get a.nodes n ≡ Some node → node.kind ≡ code.Alias → IfSome (node_at (graph_of a) (node_number n)) (IsWritable (graph_of a) (node_number n))
+an_alias a n node had is = if_node a n node (IsWritable (graph_of a) (node_number n)) had (record {
   plain = inr (ap kind_of is);
   set = λ wrong. absurd (two_kinds (ap kind_of is) wrong);
 }) where

@@ -134,7 +134,7 @@ module _ (a : Inside) (v : Invariant a) (n : ℕ) (node : Node) (had : get a.nod
       marked i b h = ap (λ x. satisfied_at x i) had ∙ ap (λ k. satisfied k i) is ∙ h
 
       same : (i : ℕ) (b : Bool) → positions.contains nat_cmp s i ≡ b → (c : Bool) → is_satisfied (graph_of a) n i ≡ c → positions.contains nat_cmp s i ≡ is_satisfied (graph_of a) n i
-      same i true h c k = h ∙ sym (set_by_edge (graph_of a) n i (v.edged (node_number n) i (marked i true h)))
+      same i true h c k = h ∙ sym (set_by_edge (graph_of a) (node_number n) i (v.edged (node_number n) i (marked i true h)))
       same i false h false k = h ∙ sym k
       same i false h true k = let (source, stands) = edge_there a.edges n i k in clash (satisfied_at (get a.nodes n) i) (v.marked source (node_number n) i stands) (marked i false h) where
         clash : (b : Bool) → b ≡ true → b ≡ false → positions.contains nat_cmp s i ≡ is_satisfied (graph_of a) n i

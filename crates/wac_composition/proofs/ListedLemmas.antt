@@ -66,7 +66,7 @@ module _ (g : Graph) (id : NodeId) where
     clash false q _ = cc
 
     by_edge : (o : Option Edge) → find (is_argument id.0 i) (set.items g.edges) ≡ o → option_map (λ e. e.source) o ≡ None → ⊥
-    by_edge None first _ = clash (list_any (is_argument id.0 i) (set.items g.edges)) (set_by_edge g id.0 i (node, stands)) (missed (is_argument id.0 i) (set.items g.edges) first)
+    by_edge None first _ = clash (list_any (is_argument id.0 i) (set.items g.edges)) (set_by_edge g id i (node, stands)) (missed (is_argument id.0 i) (set.items g.edges) first)
     by_edge (Some e) _ is = cc
 
   rows_are : (i : ℕ) (imports : List (Name × ItemKind)) → AreSet g id i imports (set_rows g id i imports)

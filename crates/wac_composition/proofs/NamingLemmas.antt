@@ -23,6 +23,7 @@ use Rattle.wac_binary.specs.Customs.{same_sort, of_sort, RiseFrom, Rising, names
 use Rattle.std.specs.Option.{option_map}
 use Rattle.slab.specs.Slab.{get, ContainsKey}
 use Rattle.wac_binary.specs.Views.{names_of}
+use Rattle.wac_edges.specs.declared.node.NodeId.{NodeId}
 use Rattle.wac_edges.specs.Edge.{node_number}
 use Rattle.wac_nodes.specs.declared.node.Node.{Node}
 use Rattle.wac_composition.specs.declared.graph.CompositionGraph.TheInside.{Inside}
@@ -32,78 +33,85 @@ use Rattle.wac_nodes.specs.Graph.{Graph, GraphNode, node_at}
 use Rattle.wac_meaning.specs.Means.{sort_of_kind, IsNameOf, AreNames, name_customs}
 use Rattle.wac_composition.specs.Naming.{IsNamed, IsNamedAt, AreLowest, AreNamesOf}
 
-module _ (P : ℕ → ℕ → Type 0) where
-  abbrev IsLowestAt : ℕ → ℕ → Option ℕ → Type 0
-  IsLowestAt k i o = MatchOption o ((n : ℕ) → k ≤ n → P i n → ⊥) (λ n. P i n × ((m : ℕ) → k ≤ m → P i m → n ≤ m))
+module _ (P : ℕ → NodeId → Type 0) where
+  abbrev IsLowestAt : ℕ → ℕ → Option NodeId → Type 0
+  IsLowestAt k i o = MatchOption o ((n : NodeId) → k ≤ n.0 → P i n → ⊥) (λ n. P i n × ((m : NodeId) → k ≤ m.0 → P i m → n.0 ≤ m.0))
 
   -- none are looked at yet
-  pub lowest_none : (k : ℕ) (m : BTreeMap ℕ ℕ) → m.entries ≡ [] → ((i n : ℕ) → k ≤ n → P i n → ⊥) → AreLowest P k m
+  pub lowest_none : (k : ℕ) (m : BTreeMap ℕ NodeId) → m.entries ≡ [] → ((i : ℕ) (n : NodeId) → k ≤ n.0 → P i n → ⊥) → AreLowest P k m
   lowest_none k m empty past i = subst (λ o. IsLowestAt k i o) (ap (lookup (is_at (nat_cmp i))) (sym empty)) (past i)
 
-  above : (k n : ℕ) (Q : Type 0) → k ≤ n → (n ≡ k → Q) → (k + 1 ≤ n → Q) → Q
-  above k n Q le same more = elim (eq_by_cmp nat_cmp n k) as (λ b. eq_by_cmp nat_cmp n k ≡ b → Q) [ true ↦ λ e. same (grind (arith, nat_tests)) | false ↦ λ e. more (grind (arith, nat_tests)) ] refl
+  above : (k : ℕ) (n : NodeId) (Q : Type 0) → k ≤ n.0 → (n ≡ node_number k → Q) → (k + 1 ≤ n.0 → Q) → Q
+  above k n Q le same more = elim (eq_by_cmp nat_cmp n.0 k) as (λ b. eq_by_cmp nat_cmp n.0 k ≡ b → Q) [ true ↦ λ e. same (let at : n.0 ≡ k = grind (arith, nat_tests) in ap node_number at) | false ↦ λ e. more (grind (arith, nat_tests)) ] refl
 
-  -- the number is none of them
-  pub lowest_skip : (k : ℕ) (m : BTreeMap ℕ ℕ) → ((i : ℕ) → P i k → ⊥) → AreLowest P (k + 1) m → AreLowest P k m
+  -- the node of the number is none of them
+  pub lowest_skip : (k : ℕ) (m : BTreeMap ℕ NodeId) → ((i : ℕ) → P i (node_number k) → ⊥) → AreLowest P (k + 1) m → AreLowest P k m
   lowest_skip k m none h i = at (tree.get nat_cmp m i) (h i) where
-    at : (o : Option ℕ) → IsLowestAt (k + 1) i o → IsLowestAt k i o
+    at : (o : Option NodeId) → IsLowestAt (k + 1) i o → IsLowestAt k i o
     at None h = λ n le is. above k n ⊥ le (λ same. none i (subst (λ y. P i y) same is)) (λ more. h n more is)
-    at (Some n) (here, low) = (here, λ x le is. above k x (n ≤ x) le (λ same. absurd (none i (subst (λ y. P i y) same is))) (λ more. low x more is))
+    at (Some n) (here, low) = (here, λ x le is. above k x (n.0 ≤ x.0) le (λ same. absurd (none i (subst (λ y. P i y) same is))) (λ more. low x more is))
 
-  -- the number is one, under this key alone
-  pub lowest_put : (k j : ℕ) (m m' : BTreeMap ℕ ℕ) → P j k → ((i : ℕ) → P i k → i ≡ j) → tree.Updates nat_cmp m m' j (Some k) → AreLowest P (k + 1) m → AreLowest P k m'
+  -- the node of the number is one, under this key alone
+  pub lowest_put : (k j : ℕ) (m m' : BTreeMap ℕ NodeId) → P j (node_number k) → ((i : ℕ) → P i (node_number k) → i ≡ j) → tree.Updates nat_cmp m m' j (Some (node_number k)) → AreLowest P (k + 1) m → AreLowest P k m'
   lowest_put k j m m' here one put h i = split (is_at (nat_cmp j) i) refl where
-    others : (none : P i k → ⊥) (o : Option ℕ) → IsLowestAt (k + 1) i o → IsLowestAt k i o
+    others : (none : P i (node_number k) → ⊥) (o : Option NodeId) → IsLowestAt (k + 1) i o → IsLowestAt k i o
     others none None h = λ n le is. above k n ⊥ le (λ same. none (subst (λ y. P i y) same is)) (λ more. h n more is)
-    others none (Some n) (there, low) = (there, λ x le is. above k x (n ≤ x) le (λ same. absurd (none (subst (λ y. P i y) same is))) (λ more. low x more is))
+    others none (Some n) (there, low) = (there, λ x le is. above k x (n.0 ≤ x.0) le (λ same. absurd (none (subst (λ y. P i y) same is))) (λ more. low x more is))
 
     split : (b : Bool) → is_at (nat_cmp j) i ≡ b → IsLowestAt k i (tree.get nat_cmp m' i)
     split true is =
         let same : i ≡ j = grind (arith, nat_tests) in
-        subst (λ o. IsLowestAt k i o) (sym (put.0 i ∙ ap (λ b. cond b (Some k) (tree.get nat_cmp m i)) is)) (subst (λ y. P y k) (sym same) here, λ x le _. le)
+        subst (λ o. IsLowestAt k i o) (sym (put.0 i ∙ ap (λ b. cond b (Some (node_number k)) (tree.get nat_cmp m i)) is)) (subst (λ y. P y (node_number k)) (sym same) here, λ x le _. le)
     split false is =
         let apart : i ≡ j → ⊥ = λ same. grind (arith, nat_tests) in
-        subst (λ o. IsLowestAt k i o) (sym (put.0 i ∙ ap (λ b. cond b (Some k) (tree.get nat_cmp m i)) is)) (others (λ p. apart (one i p)) (tree.get nat_cmp m i) (h i))
+        subst (λ o. IsLowestAt k i o) (sym (put.0 i ∙ ap (λ b. cond b (Some (node_number k)) (tree.get nat_cmp m i)) is)) (others (λ p. apart (one i p)) (tree.get nat_cmp m i) (h i))
 
   -- what is found under a key stands in the list
-  pub placed : (m : BTreeMap ℕ ℕ) (i n : ℕ) → tree.get nat_cmp m i ≡ Some n → (k : ℕ) × (slice_get m.entries k ≡ Some (i, n))
+  pub placed : (m : BTreeMap ℕ NodeId) (i : ℕ) (n : NodeId) → tree.get nat_cmp m i ≡ Some n → (k : ℕ) × (slice_get m.entries k ≡ Some (i, n))
   placed m i n found =
       let (k, key, at, test) = place_from_lookup (is_at (nat_cmp i)) m.entries n found in
       let same : key ≡ i = grind (arith, nat_tests) in
       (k, at ∙ ap (λ (x : ℕ). Some (x, n)) same)
 
-  -- the entries are the keys with the lowest numbers
-  pub listed : (m : BTreeMap ℕ ℕ) → tree.IsOrdered nat_cmp m → AreLowest P 0 m → (i n : ℕ) → ((k : ℕ) × (slice_get m.entries k ≡ Some (i, n))) ↔ (P i n × ((x : ℕ) → P i x → n ≤ x))
+  -- the entries are the keys with the lowest nodes
+  pub listed : (m : BTreeMap ℕ NodeId) → tree.IsOrdered nat_cmp m → AreLowest P 0 m → (i : ℕ) (n : NodeId) → ((k : ℕ) × (slice_get m.entries k ≡ Some (i, n))) ↔ (P i n × ((x : NodeId) → P i x → n.0 ≤ x.0))
   listed m ordered h i n = (to, from (tree.get nat_cmp m i) refl (h i)) where
-    to : (k : ℕ) × (slice_get m.entries k ≡ Some (i, n)) → P i n × ((x : ℕ) → P i x → n ≤ x)
+    to : (k : ℕ) × (slice_get m.entries k ≡ Some (i, n)) → P i n × ((x : NodeId) → P i x → n.0 ≤ x.0)
     to (k, at) =
         let found : tree.get nat_cmp m i ≡ Some n = btree_map_get_place nat_cmp_total m k i n ordered at in
         let (here, low) = subst (λ o. IsLowestAt 0 i o) found (h i) in
         (here, λ x is. low x (omega arith) is)
 
-    from : (o : Option ℕ) → tree.get nat_cmp m i ≡ o → IsLowestAt 0 i o → P i n × ((x : ℕ) → P i x → n ≤ x) → (k : ℕ) × (slice_get m.entries k ≡ Some (i, n))
+    from : (o : Option NodeId) → tree.get nat_cmp m i ≡ o → IsLowestAt 0 i o → P i n × ((x : NodeId) → P i x → n.0 ≤ x.0) → (k : ℕ) × (slice_get m.entries k ≡ Some (i, n))
     from None is none (here, low) = absurd (none n (omega arith) here)
     from (Some y) is (there, least) (here, low) =
-        let down : n ≤ y = low y there in
-        let up : y ≤ n = least n (omega arith) here in
-        let same : y ≡ n = omega (arith, down, up) in
-        placed m i n (is ∙ ap (λ (x : ℕ). Some x) same)
+        let down : n.0 ≤ y.0 = low y there in
+        let up : y.0 ≤ n.0 = least n (omega arith) here in
+        let same : y.0 ≡ n.0 = omega (arith, down, up) in
+        placed m i n (is ∙ ap (λ (x : ℕ). Some (node_number x)) same)
 
 -- keys that are in order rise
-rise : (f : ℕ × ℕ → Name) (i : ℕ) (es : List (ℕ × ℕ)) → AllByRecursion (λ y. nat_cmp i y ≡ Less) (keys_of es) → IsStrictlySortedBy nat_cmp (keys_of es) → RiseFrom i (map (λ e. (e.0, f e)) es)
+rise : (f : ℕ × NodeId → Name) (i : ℕ) (es : List (ℕ × NodeId)) → AllByRecursion (λ y. nat_cmp i y ≡ Less) (keys_of es) → IsStrictlySortedBy nat_cmp (keys_of es) → RiseFrom i (map (λ e. (e.0, f e)) es)
 rise f i [] all sorted = tt
 rise f i (e ∷ es) all sorted = (grind (arith, nat_tests, all.0), rise f e.0 es (sorted_head nat_cmp e.0 (keys_of es) sorted) (sorted_tail nat_cmp e.0 (keys_of es) sorted))
 
-rising : (f : ℕ × ℕ → Name) (es : List (ℕ × ℕ)) → IsStrictlySortedBy nat_cmp (keys_of es) → Rising (map (λ e. (e.0, f e)) es)
+rising : (f : ℕ × NodeId → Name) (es : List (ℕ × NodeId)) → IsStrictlySortedBy nat_cmp (keys_of es) → Rising (map (λ e. (e.0, f e)) es)
 rising f [] sorted = tt
 rising f (e ∷ es) sorted = rise f e.0 es (sorted_head nat_cmp e.0 (keys_of es) sorted) (sorted_tail nat_cmp e.0 (keys_of es) sorted)
 
 -- ---- of a graph's nodes
-abbrev pub name_at : Graph → ℕ → Name
-name_at g n = option_case (node_at g (node_number n)) [] (λ node. option_case node.name [] (λ name. name))
+-- a node that has a name is there
+pub named_there_is : (g : Graph) (t : Sort) (n : NodeId) → IsNamed g t n → IsSome (node_at g n)
+named_there_is g t n is = some_of (node_at g n) is where
+  some_of : (o : Option GraphNode) → IsSomeAnd o (λ node. IsSome node.name × (sort_of_kind node.item_kind ≡ t)) → IsSome o
+  some_of None h = absurd h
+  some_of (Some node) h = refl
+
+abbrev pub name_at : Graph → NodeId → Name
+name_at g n = option_case (node_at g n) [] (λ node. option_case node.name [] (λ name. name))
 
 -- these indexes with the names of these nodes, of one sort
-abbrev pub with_names : Graph → Sort → List (ℕ × ℕ) → List (Sort × ℕ × Name)
+abbrev pub with_names : Graph → Sort → List (ℕ × NodeId) → List (Sort × ℕ × Name)
 with_names g t es = map (λ e. (t, e.0, name_at g e.1)) es
 
 slice_get-map : {A B : Type 0} (f : A → B) (xs : List A) (k : ℕ) (y : B) → slice_get (map f xs) k ≡ Some y → (x : A) × (slice_get xs k ≡ Some x) × (f x ≡ y)
@@ -120,40 +128,40 @@ map-map : {A B C : Type 0} (f : A → B) (h : B → C) (xs : List A) → map h (
 map-map f h [] = refl
 map-map f h (x ∷ xs) = ap (λ ys. h (f x) ∷ ys) (map-map f h xs)
 
-module _ (g : Graph) (index : ℕ → ℕ) (t : Sort) where
-  record Named (n : ℕ) : Type 0 where
+module _ (g : Graph) (index : NodeId → ℕ) (t : Sort) where
+  record Named (n : NodeId) : Type 0 where
     node : GraphNode
     name : Name
-    there : node_at g (node_number n) ≡ Some node
+    there : node_at g n ≡ Some node
     named : node.name ≡ Some name
     sorted : sort_of_kind node.item_kind ≡ t
 
   -- a node that has a name, with the name
-  named_node : (n : ℕ) → IsNamed g t n → Named n
-  named_node n is = of_found (node_at g (node_number n)) refl is where
-    of_name : (node : GraphNode) → node_at g (node_number n) ≡ Some node → sort_of_kind node.item_kind ≡ t → (o : Option Name) → node.name ≡ o → IsSome o → Named n
+  named_node : (n : NodeId) → IsNamed g t n → Named n
+  named_node n is = of_found (node_at g n) refl is where
+    of_name : (node : GraphNode) → node_at g n ≡ Some node → sort_of_kind node.item_kind ≡ t → (o : Option Name) → node.name ≡ o → IsSome o → Named n
     of_name node there sorted None is h = cc
     of_name node there sorted (Some name) is h = record { node = node; name = name; there = there; named = is; sorted = sorted }
 
-    of_found : (o : Option GraphNode) → node_at g (node_number n) ≡ o → IsSomeAnd o (λ node. IsSome node.name × (sort_of_kind node.item_kind ≡ t)) → Named n
+    of_found : (o : Option GraphNode) → node_at g n ≡ o → IsSomeAnd o (λ node. IsSome node.name × (sort_of_kind node.item_kind ≡ t)) → Named n
     of_found None at h = absurd h
     of_found (Some node) at (some, sorted) = of_name node at sorted node.name refl some
 
-  is_named : (n : ℕ) (node : GraphNode) → node_at g (node_number n) ≡ Some node → IsSome node.name → sort_of_kind node.item_kind ≡ t → IsNamed g t n
+  is_named : (n : NodeId) (node : GraphNode) → node_at g n ≡ Some node → IsSome node.name → sort_of_kind node.item_kind ≡ t → IsNamed g t n
   is_named n node there some sorted = subst (λ o. IsSomeAnd o (λ x. IsSome x.name × (sort_of_kind x.item_kind ≡ t))) (sym there) (some, sorted)
 
-  name_is : (n : ℕ) (node : GraphNode) (name : Name) → node_at g (node_number n) ≡ Some node → node.name ≡ Some name → name_at g n ≡ name
+  name_is : (n : NodeId) (node : GraphNode) (name : Name) → node_at g n ≡ Some node → node.name ≡ Some name → name_at g n ≡ name
   name_is n node name there named = ap (λ o. option_case o [] (λ x. option_case x.name [] (λ y. y))) there ∙ ap (λ o. option_case o [] (λ y. y)) named
 
   -- the lowest named nodes give the names
-  pub named_by : (m : BTreeMap ℕ ℕ) → tree.IsOrdered nat_cmp m → AreLowest (IsNamedAt g index t) 0 m → (names : List (Sort × ℕ × Name)) → names ≡ with_names g t m.entries → AreNamesOf g index t names
+  pub named_by : (m : BTreeMap ℕ NodeId) → tree.IsOrdered nat_cmp m → AreLowest (IsNamedAt g index t) 0 m → (names : List (Sort × ℕ × Name)) → names ≡ with_names g t m.entries → AreNamesOf g index t names
   named_by m ordered low names same = record {
     pairs = map named_pair m.entries;
     tagged = same ∙ sym (map-map named_pair (λ e. (t, e.0, e.1)) m.entries);
     each = λ i name. (to i name, from i name);
     rising = rising (λ e. name_at g e.1) m.entries ordered;
   } where
-    named_pair : ℕ × ℕ → ℕ × Name
+    named_pair : ℕ × NodeId → ℕ × Name
     named_pair e = (e.0, name_at g e.1)
 
     to : (i : ℕ) (name : Name) → (k : ℕ) × (slice_get (map named_pair m.entries) k ≡ Some (i, name)) → IsNameOf g index t i name
@@ -183,23 +191,23 @@ module _ (g : Graph) (index : ℕ → ℕ) (t : Sort) where
         (k, map-slice_get named_pair m.entries k (i, is.n) at ∙ ap (λ text. Some (i, text)) (name_is is.n is.node name is.there is.named))
 
 -- what is found under an index has a name
-pub named_found : (g : Graph) (index : ℕ → ℕ) (t : Sort) (m : BTreeMap ℕ ℕ) (i n : ℕ) → AreLowest (IsNamedAt g index t) 0 m → tree.get nat_cmp m i ≡ Some n → IsSomeAnd (node_at g (node_number n)) (λ node. IsSome node.name)
-named_found g index t m i n low found = some (node_at g (node_number n)) (subst (λ o. MatchOption o ((y : ℕ) → 0 ≤ y → IsNamedAt g index t i y → ⊥) (λ y. IsNamedAt g index t i y × ((x : ℕ) → 0 ≤ x → IsNamedAt g index t i x → y ≤ x))) found (low i)).0.0 where
+pub named_found : (g : Graph) (index : NodeId → ℕ) (t : Sort) (m : BTreeMap ℕ NodeId) (i : ℕ) (n : NodeId) → AreLowest (IsNamedAt g index t) 0 m → tree.get nat_cmp m i ≡ Some n → IsSomeAnd (node_at g n) (λ node. IsSome node.name)
+named_found g index t m i n low found = some (node_at g n) (subst (λ o. MatchOption o ((y : NodeId) → 0 ≤ y.0 → IsNamedAt g index t i y → ⊥) (λ y. IsNamedAt g index t i y × ((x : NodeId) → 0 ≤ x.0 → IsNamedAt g index t i x → y.0 ≤ x.0))) found (low i)).0.0 where
   some : (o : Option GraphNode) → IsSomeAnd o (λ node. IsSome node.name × (sort_of_kind node.item_kind ≡ t)) → IsSomeAnd o (λ node. IsSome node.name)
   some None h = h
   some (Some node) h = h.0
 
 -- one name more
-pub names_more : (g : Graph) (t : Sort) (items more : List (Sort × ℕ × Bor (List ℕ))) (ys : List (Bor ℕ × Bor ℕ)) (i n : Bor ℕ) (text : Bor (List ℕ)) → more ≡ items ++ (t, i.now, text) ∷ []
-    → IsSomeAnd (node_at g (node_number n.now)) (λ node. node.name ≡ Some text.now) → names_of items ≡ with_names g t (map deref_pair ys) → names_of more ≡ with_names g t (map deref_pair (ys ++ (i, n) ∷ []))
+pub names_more : (g : Graph) (t : Sort) (items more : List (Sort × ℕ × Bor (List ℕ))) (ys : List (Bor ℕ × Bor NodeId)) (i : Bor ℕ) (n : Bor NodeId) (text : Bor (List ℕ)) → more ≡ items ++ (t, i.now, text) ∷ []
+    → IsSomeAnd (node_at g n.now) (λ node. node.name ≡ Some text.now) → names_of items ≡ with_names g t (map deref_pair ys) → names_of more ≡ with_names g t (map deref_pair (ys ++ (i, n) ∷ []))
 names_more g t items more ys i n text added named h =
     ap names_of added ∙ map-append name_of_item items ((t, i.now, text) ∷ [])
-    ∙ (λ k. h k ++ (t, i.now, called (node_at g (node_number n.now)) named k) ∷ [])
+    ∙ (λ k. h k ++ (t, i.now, called (node_at g n.now) named k) ∷ [])
     ∙ sym (ap (with_names g t) (map-append deref_pair ys ((i, n) ∷ [])) ∙ map-append tag (map deref_pair ys) ((i.now, n.now) ∷ [])) where
       name_of_item : Sort × ℕ × Bor (List ℕ) → Sort × ℕ × Name
       name_of_item e = (e.0, e.1, e.2.now)
 
-      tag : ℕ × ℕ → Sort × ℕ × Name
+      tag : ℕ × NodeId → Sort × ℕ × Name
       tag e = (t, e.0, name_at g e.1)
 
       called : (o : Option GraphNode) → IsSomeAnd o (λ node. node.name ≡ Some text.now) → text.now ≡ option_case o [] (λ node. option_case node.name [] (λ name. name))
@@ -223,34 +231,34 @@ not_empty [] h is = cc
 not_empty (x ∷ names) h is = cc
 
 -- ---- of the nodes that are kept
-module _ (a : Inside) (n : ℕ) (t : Sort) where
-  pub none_there : get a.nodes n ≡ None → IsNamed (graph_of a) t n → ⊥
-  none_there had h = nothing (node_at (graph_of a) (node_number n)) (node_is a n None had) h where
+module _ (a : Inside) (n : NodeId) (t : Sort) where
+  pub none_there : get a.nodes n.0 ≡ None → IsNamed (graph_of a) t n → ⊥
+  none_there had h = nothing (node_at (graph_of a) n) (node_is a n.0 None had) h where
     nothing : (o : Option GraphNode) → o ≡ None → IsSomeAnd o (λ node. IsSome node.name × (sort_of_kind node.item_kind ≡ t)) → ⊥
     nothing None _ h = h
     nothing (Some x) e h = cc
 
-  pub named_there : (node : Node) → get a.nodes n ≡ Some node → is_some node.name ≡ true → sort_of_kind node.item_kind ≡ t → IsNamed (graph_of a) t n
-  named_there node had some sorted = some_and a n node (λ x. IsSome x.name × (sort_of_kind x.item_kind ≡ t)) had (of_name node.name some, sorted) where
+  pub named_there : (node : Node) → get a.nodes n.0 ≡ Some node → is_some node.name ≡ true → sort_of_kind node.item_kind ≡ t → IsNamed (graph_of a) t n
+  named_there node had some sorted = some_and a n.0 node (λ x. IsSome x.name × (sort_of_kind x.item_kind ≡ t)) had (of_name node.name some, sorted) where
     of_name : (o : Option (String Global)) → is_some o ≡ true → IsSome (option_map string_bytes o)
     of_name None h = h
     of_name (Some name) h = refl
 
-  pub name_there : (node : Node) → get a.nodes n ≡ Some node → IsNamed (graph_of a) t n → (is_some node.name ≡ true) × (sort_of_kind node.item_kind ≡ t)
-  name_there node had h = let (some, sorted) = of_node a n node (λ x. IsSome x.name × (sort_of_kind x.item_kind ≡ t)) h had in (of_name node.name some, sorted) where
+  pub name_there : (node : Node) → get a.nodes n.0 ≡ Some node → IsNamed (graph_of a) t n → (is_some node.name ≡ true) × (sort_of_kind node.item_kind ≡ t)
+  name_there node had h = let (some, sorted) = of_node a n.0 node (λ x. IsSome x.name × (sort_of_kind x.item_kind ≡ t)) h had in (of_name node.name some, sorted) where
     of_name : (o : Option (String Global)) → IsSome (option_map string_bytes o) → is_some o ≡ true
     of_name None h = h
     of_name (Some name) h = refl
 
 -- a node that has a name
-pub named_number : (a : Inside) (n : ℕ) → IsSomeAnd (node_at (graph_of a) (node_number n)) (λ node. IsSome node.name) → ContainsKey a.nodes n
-named_number a n h = has_number a n (some_of (node_at (graph_of a) (node_number n)) h) where
+pub named_number : (a : Inside) (n : NodeId) → IsSomeAnd (node_at (graph_of a) n) (λ node. IsSome node.name) → ContainsKey a.nodes n.0
+named_number a n h = has_number a n.0 (some_of (node_at (graph_of a) n) h) where
   some_of : (o : Option GraphNode) → IsSomeAnd o (λ node. IsSome node.name) → IsSome o
   some_of None h = absurd h
   some_of (Some node) h = refl
 
-pub has_name : (a : Inside) (n : ℕ) (node : Node) → get a.nodes n ≡ Some node → IsSomeAnd (node_at (graph_of a) (node_number n)) (λ x. IsSome x.name) → node.name ≡ None → ⊥
-has_name a n node had h none = nothing (option_map string_bytes node.name) (ap (option_map string_bytes) none) (of_node a n node (λ x. IsSome x.name) h had) where
+pub has_name : (a : Inside) (n : NodeId) (node : Node) → get a.nodes n.0 ≡ Some node → IsSomeAnd (node_at (graph_of a) n) (λ x. IsSome x.name) → node.name ≡ None → ⊥
+has_name a n node had h none = nothing (option_map string_bytes node.name) (ap (option_map string_bytes) none) (of_node a n.0 node (λ x. IsSome x.name) h had) where
   nothing : {A : Type 0} (o : Option A) → o ≡ None → IsSome o → ⊥
   nothing None _ h = cc
   nothing (Some x) h _ = cc
@@ -273,7 +281,7 @@ of_sort-tagged t u (p ∷ ps) = split (same_sort u t) (of_sort-tagged t u ps) wh
   split true h = ap (λ zs. p ∷ zs) h
   split false h = h
 
-module _ (g : Graph) (index : ℕ → ℕ) (a b c d e f : List (Sort × ℕ × Name))
+module _ (g : Graph) (index : NodeId → ℕ) (a b c d e f : List (Sort × ℕ × Name))
     (types : AreNamesOf g index sort.«Type» a) (funcs : AreNamesOf g index sort.Func b) (instances : AreNamesOf g index sort.Instance c)
     (components : AreNamesOf g index sort.Component d) (modules : AreNamesOf g index sort.CoreModule e) (values : AreNamesOf g index sort.Value f) where
   abbrev whole : List (Sort × ℕ × Name)

@@ -47,19 +47,19 @@ exported_there a v i name id h = there a.nodes.slots id.0 ((v.sound).exported i 
 
 -- and has an index
 pub export_noted : (a : Inside) → Invariant a → (g : Graph) → graph_of a ≡ g → (xs : List ℕ) → HasRoom g xs → (i : ℕ) (name : String Global) (id : NodeId) → Some (name, id) ≡ slice_get a.exports.entries i → id.0 < length xs
-export_noted a v g is xs room i name id h = room id.0 (subst (λ x. IsSome (node_at x id)) is ((v.sound).exported i (string_bytes name) id (entry_at a i name id h)))
+export_noted a v g is xs room i name id h = room id (subst (λ x. IsSome (node_at x id)) is ((v.sound).exported i (string_bytes name) id (entry_at a i name id h)))
 
 -- one more export is written
-one_more : (a : Inside) (f : ℕ → ℕ) (i : ℕ) (name : String Global) (id : NodeId) (node : Node) (old mid : List Item)
+one_more : (a : Inside) (f : NodeId → ℕ) (i : ℕ) (name : String Global) (id : NodeId) (node : Node) (old mid : List Item)
     → Some (name, id) ≡ slice_get a.exports.entries i → get a.nodes id.0 ≡ Some node
     → mid ≡ old ++ flat_map (export_item_of (graph_of a) f) (take i (graph_of a).exports)
-    → mid ++ export_item (string_bytes name) (sort_of_kind node.item_kind) (f id.0) ∷ [] ≡ old ++ flat_map (export_item_of (graph_of a) f) (take (i + 1) (graph_of a).exports)
+    → mid ++ export_item (string_bytes name) (sort_of_kind node.item_kind) (f id) ∷ [] ≡ old ++ flat_map (export_item_of (graph_of a) f) (take (i + 1) (graph_of a).exports)
 one_more a f i name id node old mid h had is =
     let g : Graph = graph_of a in
     let F : _ = export_item_of g f in
     let e : List ℕ × NodeId = (string_bytes name, id) in
-    let one : F e ≡ export_item (string_bytes name) (sort_of_kind node.item_kind) (f id.0) ∷ [] =
-    ap (λ o. option_case o [] (λ (x : GraphNode). export_item (string_bytes name) (sort_of_kind x.item_kind) (f id.0) ∷ [])) (node_is a id.0 (Some node) had) in
+    let one : F e ≡ export_item (string_bytes name) (sort_of_kind node.item_kind) (f id) ∷ [] =
+    ap (λ o. option_case o [] (λ (x : GraphNode). export_item (string_bytes name) (sort_of_kind x.item_kind) (f id) ∷ [])) (node_is a id.0 (Some node) had) in
     let next : i + 1 ≡ suc i = omega arith in
     ap (λ xs. mid ++ xs) (sym one)
     ∙ ap (λ xs. xs ++ F e) is
@@ -67,8 +67,8 @@ one_more a f i name id node old mid h had is =
     ∙ ap (λ xs. old ++ flat_map F xs) (sym (take_at g.exports i e (entry_at a i name id h)))
     ∙ ap (λ k. old ++ flat_map F (take k g.exports)) (sym next)
 
-pub export_more : (a : Inside) (g : Graph) → graph_of a ≡ g → (f : ℕ → ℕ) (i : ℕ) (name : String Global) (id : NodeId) (node : Node) (text : Name) (s : Sort) (index : ℕ) (old mid new : List Item)
-    → Some (name, id) ≡ slice_get a.exports.entries i → get a.nodes id.0 ≡ Some node → text ≡ string_bytes name → s ≡ sort_of_kind node.item_kind → index ≡ f id.0
+pub export_more : (a : Inside) (g : Graph) → graph_of a ≡ g → (f : NodeId → ℕ) (i : ℕ) (name : String Global) (id : NodeId) (node : Node) (text : Name) (s : Sort) (index : ℕ) (old mid new : List Item)
+    → Some (name, id) ≡ slice_get a.exports.entries i → get a.nodes id.0 ≡ Some node → text ≡ string_bytes name → s ≡ sort_of_kind node.item_kind → index ≡ f id
     → mid ≡ old ++ flat_map (export_item_of g f) (take i g.exports) → new ≡ mid ++ export_item text s index ∷ []
     → new ≡ old ++ flat_map (export_item_of g f) (take (i + 1) g.exports)
 export_more a g e f i name id node text s index old mid new h had named sorted placed =
@@ -76,7 +76,7 @@ export_more a g e f i name id node text s index old mid new h had named sorted p
     (λ is added. added ∙ (λ j. mid ++ export_item (named j) (sorted j) (placed j) ∷ []) ∙ one_more a f i name id node old mid h had is)
 
 -- past the last export all are written
-pub export_all : (a : Inside) (g : Graph) → graph_of a ≡ g → (f : ℕ → ℕ) (i : ℕ) (old new : List Item) → length a.exports.entries ≤ i
+pub export_all : (a : Inside) (g : Graph) → graph_of a ≡ g → (f : NodeId → ℕ) (i : ℕ) (old new : List Item) → length a.exports.entries ≤ i
     → new ≡ old ++ flat_map (export_item_of g f) (take i g.exports) → new ≡ old ++ flat_map (export_item_of g f) g.exports
 export_all a g e f i old new past is =
     let many : length g.exports ≡ length a.exports.entries = ap (λ x. length x.exports) (sym e) ∙ length-map a.exports.entries (λ e. text_pair e) in
@@ -146,17 +146,17 @@ module _ (a : Inside) (v : Invariant a) (n : ℕ) (h : IsSomeAnd (node_at (graph
       alias_there = let (m, at, _) = some_node a n (λ x. x.kind ≡ graph.alias) h in ap is_some at
 
       pub alias_added : (m : Node) → get a.nodes n ≡ Some m → (text : Name) → option_map (λ e. e.0) (slice_get it.exports position) ≡ Some text
-          → (t : Sort) → t ≡ sort_of_kind m.item_kind → (f : ℕ → ℕ) (index : ℕ) → index ≡ f source
+          → (t : Sort) → t ≡ sort_of_kind m.item_kind → (f : NodeId → ℕ) (index : ℕ) → index ≡ f (node_number source)
           → (components components' : List (PackageId × ℕ)) → components' ≡ components
           → (items items' : List Item) → items' ≡ items ++ alias_item (export_alias t index text) ∷ [] → (place : ℕ) → place ≡ indexes (space t) items
-          → IfSome (node_at (graph_of a) (node_number n)) (λ x. WritesNode (graph_of a) n x f components components' items items' place)
+          → IfSome (node_at (graph_of a) (node_number n)) (λ x. WritesNode (graph_of a) (node_number n) x f components components' items items' place)
       alias_added m at text named t sorted f index placed components components' kept items items' added place counted =
           let (other, found, kind) = some_node a n (λ x. x.kind ≡ graph.alias) h in
           let k : other ≡ m = one (sym found ∙ at) in
           let (name, here) = exported_at m at in
           let same_name : name ≡ text = text_is (sym (ap (option_map (λ e. e.0)) here) ∙ named) in
           let first : exports_of (graph_of a) (node_of s) ≡ it.exports = exports_are a s i it is held in
-          if_node a n m (λ x. WritesNode (graph_of a) n x f components components' items items' place) at
+          if_node a n m (λ x. WritesNode (graph_of a) (node_number n) x f components components' items items' place) at
           (writes_alias (node_number source) (node_of s) position text
           (ap (λ x. kind_of x.kind) (sym k) ∙ kind) stands (node_is a source (Some s) had)
           (ap (λ es. slice_get es position) first ∙ here ∙ ap (λ (x : Name). Some (x, m.item_kind)) same_name)

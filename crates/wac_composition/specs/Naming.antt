@@ -6,27 +6,27 @@ use Rattle.std.specs.Ordering.{nat_cmp}
 use Rattle.wac_shapes.specs.Name.{Name}
 use Rattle.wac_binary.specs.declared.sorts.Sort.{Sort}
 use Rattle.wac_binary.specs.Customs.{Rising}
-use Rattle.wac_edges.specs.Edge.{node_number}
+use Rattle.wac_edges.specs.declared.node.NodeId.{NodeId}
 use Rattle.wac_nodes.specs.Graph.{Graph, node_at}
 use Rattle.wac_meaning.specs.Means.{sort_of_kind, IsNameOf}
 
--- the node of this number is of this sort and has a name
-abbrev pub IsNamed : Graph → Sort → ℕ → Type 0
-IsNamed g t n = IsSomeAnd (node_at g (node_number n)) (λ node. IsSome node.name × (sort_of_kind node.item_kind ≡ t))
+-- the node is of this sort and has a name
+abbrev pub IsNamed : Graph → Sort → NodeId → Type 0
+IsNamed g t n = IsSomeAnd (node_at g n) (λ node. IsSome node.name × (sort_of_kind node.item_kind ≡ t))
 
 -- such a node stands at this index
-abbrev pub IsNamedAt : Graph → (ℕ → ℕ) → Sort → ℕ → ℕ → Type 0
+abbrev pub IsNamedAt : Graph → (NodeId → ℕ) → Sort → ℕ → NodeId → Type 0
 IsNamedAt g index t i n = IsNamed g t n × (index n ≡ i)
 
--- under each key stands the lowest of the numbers from k on that belong to it
-abbrev pub AreLowest : (ℕ → ℕ → Type 0) → ℕ → BTreeMap ℕ ℕ → Type 0
+-- under each key stands the lowest of the nodes from number k on that belong to it
+abbrev pub AreLowest : (ℕ → NodeId → Type 0) → ℕ → BTreeMap ℕ NodeId → Type 0
 AreLowest Belongs k lowest =
     (i : ℕ) → MatchOption (tree.get nat_cmp lowest i)
-    ((n : ℕ) → k ≤ n → Belongs i n → ⊥)
-    (λ n. Belongs i n × ((m : ℕ) → k ≤ m → Belongs i m → n ≤ m))
+    ((n : NodeId) → k ≤ n.0 → Belongs i n → ⊥)
+    (λ n. Belongs i n × ((m : NodeId) → k ≤ m.0 → Belongs i m → n.0 ≤ m.0))
 
 -- these are the names of the indexes of this sort, by rising indexes
-pub record AreNamesOf (g : Graph) (index : ℕ → ℕ) (t : Sort) (names : List (Sort × ℕ × Name)) : Type 0 where
+pub record AreNamesOf (g : Graph) (index : NodeId → ℕ) (t : Sort) (names : List (Sort × ℕ × Name)) : Type 0 where
   pub pairs : List (ℕ × Name)
   pub tagged : names ≡ map (λ e. (t, e.0, e.1)) pairs
   pub each : (i : ℕ) (name : Name) → ((k : ℕ) × (slice_get pairs k ≡ Some (i, name))) ↔ IsNameOf g index t i name

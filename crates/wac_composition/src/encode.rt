@@ -1,9 +1,9 @@
 //! From a graph to the bytes of one component.
-ghost use Rattle.std.specs.Prelude.{◌≡◌, ◌≢◌, ◌⊎◌, ◌++◌, [], ℕ, ◌<◌, nat_eq, IsSomeAnd, Bool, true, false, IsSome, IsTrue, OnOk, OnErr, IfOk, IfErr, IfSome, Some, None, Ok, Err, List, length, map, slice_set, slice_index_or};
+ghost use Rattle.std.specs.Prelude.{◌≡◌, ◌≢◌, ◌⊎◌, ◌++◌, [], ℕ, ◌<◌, IsSomeAnd, Bool, true, false, IsSome, IsTrue, OnOk, OnErr, IfOk, IfErr, IfSome, Some, None, Ok, Err, List, length, map, slice_get, slice_set, slice_index_or};
 ghost use Rattle.std.specs.Bool.{OnTrue, OnFalse};
 ghost use Rattle.wac_binary.specs.Bytes.{bytes_of};
 ghost use Rattle.wac_binary.specs.Items.{Item as AnItem};
-ghost use Rattle.std.specs.List.{list_any, flat_map};
+ghost use Rattle.std.specs.List.{flat_map};
 ghost use Rattle.std.specs.BTreeSet as positions;
 ghost use Rattle.std.specs.Ordering.{nat_cmp};
 ghost use Rattle.wac_binary.specs.Views.{arguments_of};
@@ -78,7 +78,7 @@ impl CompositionGraph {
     }
 
     /// The nodes, each the lowest of those that are left to which no edge leads from one that is left.
-    fn ordered(&self) -> Result<Vec<usize>, EncodeError>
+    fn ordered(&self) -> Result<Vec<NodeId>, EncodeError>
         ensures whole { IfOk result (λ ns. Writes self.now.edges (is_there self.now) ns.items) }
         ensures acyclic { OnOk result (IsAcyclic self.now.edges) }
         ensures refused { IfErr result (λ e. (o : Asked) → IsRefused self.now o e) }
@@ -119,7 +119,7 @@ impl CompositionGraph {
     /// Whether the node of this number is one that is not written yet.
     fn is_unwritten(&self, n: usize) -> bool
         ensures unwritten { OnTrue result ((o : Asked) → IsNotYet self.now o) }
-        ensures writable { OnFalse result (IfSome (node_at self.now (node_number n)) (IsWritable self.now n)) }
+        ensures writable { OnFalse result (IfSome (node_at self.now (node_number n)) (IsWritable self.now (node_number n))) }
     {
         let Some(node) = self.nodes.get(n) else {
             return false;
@@ -134,7 +134,7 @@ impl CompositionGraph {
 
     /// Which numbers are those of nodes.
     fn there(&self) -> Result<Vec<bool>, AllocError>
-        ensures { IfOk result (λ there. (n : ℕ) → is_left there.items n ≡ is_there self.now n) }
+        ensures { IfOk result (λ there. (n : AnId) → is_left there.items n ≡ is_there self.now n) }
     {
         let mut there = Vec::new(self.alloc);
         for n in 0..self.nodes.capacity() {
@@ -144,9 +144,9 @@ impl CompositionGraph {
     }
 
     /// Writes these nodes one after another.
-    fn write_nodes(&self, encoder: &mut Encoder, order: &[usize]) -> Result<(), EncodeError>
+    fn write_nodes(&self, encoder: &mut Encoder, order: &[NodeId]) -> Result<(), EncodeError>
         requires writable { AllWritable self.now }
-        requires nodes { (n : ℕ) → list_any (nat_eq n) order.now ≡ true → IsSome (node_at self.now (node_number n)) }
+        requires nodes { (i : ℕ) (n : AnId) → slice_get order.now i ≡ Some n → IsSome (node_at self.now n) }
         requires room { HasRoom self.now encoder.old.indexes.items }
         ensures written { OnOk result (WroteAll self.now order.now (progress encoder.old) (progress encoder.new)) }
         ensures kept { length encoder.new.indexes.items ≡ length encoder.old.indexes.items }
@@ -159,33 +159,33 @@ impl CompositionGraph {
     }
 
     /// Writes a node, and notes the index at which it stands.
-    fn write_node(&self, encoder: &mut Encoder, n: usize) -> Result<(), EncodeError>
-        requires writable { IsSomeAnd (node_at self.now (node_number n)) (IsWritable self.now n) }
+    fn write_node(&self, encoder: &mut Encoder, n: NodeId) -> Result<(), EncodeError>
+        requires writable { IsSomeAnd (node_at self.now n) (IsWritable self.now n) }
         requires room { HasRoom self.now encoder.old.indexes.items }
-        requires noted { n < length encoder.old.indexes.items }
+        requires noted { n.0 < length encoder.old.indexes.items }
         ensures written { OnOk result (Wrote self.now n (progress encoder.old) (progress encoder.new)) }
         ensures kept { length encoder.new.indexes.items ≡ length encoder.old.indexes.items }
         ensures fault { IfErr result (λ e. cause_of e ≡ None) }
     {
-        let index = match &self.nodes[n].kind {
+        let index = match &self.nodes[n.0].kind {
             NodeKind::Instantiation(_) => self.write_instantiation(encoder, n)?,
             NodeKind::Alias => self.write_alias(encoder, n)?,
             NodeKind::Definition | NodeKind::Import(_) => unreachable!(),
         };
-        encoder.indexes[n] = index;
+        encoder.indexes[n.0] = index;
         Ok(())
     }
 
     /// Writes an instantiation behind its package's component, and answers its index.
-    fn write_instantiation(&self, encoder: &mut Encoder, n: usize) -> Result<u32, EncodeError>
-        requires instantiation { IsSomeAnd (node_at self.now (node_number n)) (λ node. node.kind ≡ instantiation) }
-        requires set { IsSomeAnd (node_at self.now (node_number n)) (IsWritable self.now n) }
+    fn write_instantiation(&self, encoder: &mut Encoder, n: NodeId) -> Result<u32, EncodeError>
+        requires instantiation { IsSomeAnd (node_at self.now n) (λ node. node.kind ≡ instantiation) }
+        requires set { IsSomeAnd (node_at self.now n) (IsWritable self.now n) }
         requires room { HasRoom self.now encoder.old.indexes.items }
-        ensures written { IfOk result (λ i. IfSome (node_at self.now (node_number n)) (λ node. WritesNode self.now n node (index_in encoder.old.indexes.items) encoder.old.components.entries encoder.new.components.entries encoder.old.builder encoder.new.builder i)) }
+        ensures written { IfOk result (λ i. IfSome (node_at self.now n) (λ node. WritesNode self.now n node (index_in encoder.old.indexes.items) encoder.old.components.entries encoder.new.components.entries encoder.old.builder encoder.new.builder i)) }
         ensures kept { encoder.new.indexes ≡ encoder.old.indexes }
         ensures fault { IfErr result (λ e. cause_of e ≡ None) }
     {
-        let (id, package) = self.package_of(n);
+        let (id, package) = self.package_of(n.0);
         let arguments = self.arguments(&encoder.indexes, n)?;
         let component = encoder.component(id, package.bytes())?;
         Ok(encoder.builder.instantiate(component, &arguments)?)
@@ -193,15 +193,15 @@ impl CompositionGraph {
 
     /// An instantiation's arguments in world order: the import's name, with the sort and the index of the node that
     /// was set.
-    fn arguments(&self, indexes: &[u32], n: usize) -> Result<Vec<(&str, Sort, u32)>, AllocError>
-        requires instantiation { IsSomeAnd (node_at self.now (node_number n)) (λ node. node.kind ≡ instantiation) }
-        requires set { IsSomeAnd (node_at self.now (node_number n)) (IsWritable self.now n) }
+    fn arguments(&self, indexes: &[u32], n: NodeId) -> Result<Vec<(&str, Sort, u32)>, AllocError>
+        requires instantiation { IsSomeAnd (node_at self.now n) (λ node. node.kind ≡ instantiation) }
+        requires set { IsSomeAnd (node_at self.now n) (IsWritable self.now n) }
         requires room { HasRoom self.now indexes.now }
-        ensures { IfOk result (λ v. IfSome (node_at self.now (node_number n)) (λ node. AreArgumentItems self.now (index_in indexes.now) n 0 (imports_of self.now node) (arguments_of v.items))) }
+        ensures { IfOk result (λ v. IfSome (node_at self.now n) (λ node. AreArgumentItems self.now (index_in indexes.now) n 0 (imports_of self.now node) (arguments_of v.items))) }
     {
-        let imports = self.imports_at(n);
+        let imports = self.imports_at(n.0);
         let count = imports.len();
-        let sources = self.sources(n, count)?;
+        let sources = self.sources(n.0, count)?;
         let mut arguments = Vec::new(self.alloc);
         for i in 0..count {
             let Some(source) = sources[i] else {
@@ -214,21 +214,21 @@ impl CompositionGraph {
     }
 
     /// Writes an alias, and answers its index.
-    fn write_alias(&self, encoder: &mut Encoder, n: usize) -> Result<u32, EncodeError>
-        requires alias { IsSomeAnd (node_at self.now (node_number n)) (λ node. node.kind ≡ alias) }
+    fn write_alias(&self, encoder: &mut Encoder, n: NodeId) -> Result<u32, EncodeError>
+        requires alias { IsSomeAnd (node_at self.now n) (λ node. node.kind ≡ alias) }
         requires room { HasRoom self.now encoder.old.indexes.items }
-        ensures written { IfOk result (λ i. IfSome (node_at self.now (node_number n)) (λ node. WritesNode self.now n node (index_in encoder.old.indexes.items) encoder.old.components.entries encoder.new.components.entries encoder.old.builder encoder.new.builder i)) }
+        ensures written { IfOk result (λ i. IfSome (node_at self.now n) (λ node. WritesNode self.now n node (index_in encoder.old.indexes.items) encoder.old.components.entries encoder.new.components.entries encoder.old.builder encoder.new.builder i)) }
         ensures kept { encoder.new.indexes ≡ encoder.old.indexes }
         ensures fault { IfErr result (λ e. cause_of e ≡ None) }
     {
-        let Some((source, position)) = self.edges.alias_source(NodeId(n)) else {
+        let Some((source, position)) = self.edges.alias_source(n) else {
             unreachable!()
         };
         let ItemKind::Instance(interface) = self.nodes[source.0].item_kind else {
             unreachable!()
         };
         let name = self.types[interface].exports.name_at(position);
-        let sort = sort_of(self.nodes[n].item_kind);
+        let sort = sort_of(self.nodes[n.0].item_kind);
         let instance = encoder.indexes[source.0];
         Ok(encoder.builder.alias_export(sort, instance, name)?)
     }

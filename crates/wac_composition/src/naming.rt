@@ -1,7 +1,6 @@
 //! The names of nodes, as names of the indexes at which these stand.
 ghost use Rattle.std.specs.Prelude.{◌≡◌, ◌↔◌, Some, IfOk, IsSome, IsSomeAnd, IsTrue};
 ghost use Rattle.wac_binary.specs.Views.{names_of};
-ghost use Rattle.wac_edges.specs.Edge.{node_number};
 ghost use Rattle.wac_nodes.specs.Graph.{node_at};
 ghost use Rattle.wac_meaning.specs.Means.{AreNames};
 ghost use Rattle.wac_meaning.specs.Encoding.{HasRoom, index_in};
@@ -12,6 +11,7 @@ use crate::graph::CompositionGraph;
 use std::alloc::AllocError;
 use std::collections::BTreeMap;
 use wac_binary::Sort;
+use wac_nodes::NodeId;
 
 impl CompositionGraph {
     /// The names of the indexes at which named nodes stand, those of each sort by rising indexes. Of several nodes with one
@@ -43,35 +43,36 @@ impl CompositionGraph {
     }
 
     /// For each index of a sort at which a named node stands the lowest of these.
-    fn lowest_named(&self, indexes: &[u32], sort: Sort) -> Result<BTreeMap<u32, usize>, AllocError>
+    fn lowest_named(&self, indexes: &[u32], sort: Sort) -> Result<BTreeMap<u32, NodeId>, AllocError>
         requires { HasRoom self.now indexes.now }
         ensures { IfOk result (AreLowest (IsNamedAt self.now (index_in indexes.now) sort) 0) }
     {
         let mut lowest = BTreeMap::new(self.alloc);
         for n in (0..self.nodes.capacity()).rev() {
-            if self.is_named(n, sort) {
-                lowest.insert(indexes[n], n)?;
+            let id = NodeId(n);
+            if self.is_named(id, sort) {
+                lowest.insert(indexes[n], id)?;
             }
         }
         Ok(lowest)
     }
 
-    /// Whether the node of this number is of this sort and has a name.
-    fn is_named(&self, n: usize, sort: Sort) -> bool
+    /// Whether the node is there, is of this sort and has a name.
+    fn is_named(&self, n: NodeId, sort: Sort) -> bool
         ensures { IsTrue result ↔ IsNamed self.now sort n }
     {
-        let Some(node) = self.nodes.get(n) else {
+        let Some(node) = self.nodes.get(n.0) else {
             return false;
         };
         node.name.is_some() && sort_of(node.item_kind) == sort
     }
 
     /// The name of a node that has one.
-    fn name_of(&self, n: usize) -> &str
-        requires { IsSomeAnd (node_at self.now (node_number n)) (λ node. IsSome node.name) }
-        ensures { IsSomeAnd (node_at self.now (node_number n)) (λ node. node.name ≡ Some result.now) }
+    fn name_of(&self, n: NodeId) -> &str
+        requires { IsSomeAnd (node_at self.now n) (λ node. IsSome node.name) }
+        ensures { IsSomeAnd (node_at self.now n) (λ node. node.name ≡ Some result.now) }
     {
-        let Some(name) = &self.nodes[n].name else {
+        let Some(name) = &self.nodes[n.0].name else {
             unreachable!()
         };
         name.as_str()

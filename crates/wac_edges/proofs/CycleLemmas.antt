@@ -5,19 +5,20 @@ use Rattle.std.proofs.lemmas.Map.Steps.{length-le_from_distinct_below}
 use Rattle.wac_edges.specs.declared.node.NodeId.{NodeId}
 use Rattle.wac_edges.specs.Edge.{is_left, node_number}
 use Rattle.wac_edges.specs.Order.{Edges, IsEdge, Leads, IsOnCycle, IsStuck}
+use Rattle.wac_edges.specs.Ready.{is_set}
 
 -- each node of the list has an edge to the next, and all are left
 abbrev Chain : Edges → List Bool → ℕ → List ℕ → Type 0
-Chain edges left a [] = is_left left a ≡ true
-Chain edges left a (b ∷ bs) = (is_left left a ≡ true) × IsEdge edges (node_number a) (node_number b) × Chain edges left b bs
+Chain edges left a [] = is_set left a ≡ true
+Chain edges left a (b ∷ bs) = (is_set left a ≡ true) × IsEdge edges (node_number a) (node_number b) × Chain edges left b bs
 
-back : (edges : Edges) (left : List Bool) → IsStuck edges (is_left left) → (k n : ℕ) → is_left left n ≡ true → (a : ℕ) × (bs : List ℕ) × Chain edges left a bs × (length bs ≡ k)
+back : (edges : Edges) (left : List Bool) → IsStuck edges (is_left left) → (k n : ℕ) → is_set left n ≡ true → (a : ℕ) × (bs : List ℕ) × Chain edges left a bs × (length bs ≡ k)
 back edges left stuck zero n is = (n, [], is, refl)
 back edges left stuck (suc k) n is =
     let (a, bs, chain, long) = back edges left stuck k n is in
-    let (e, stands, leads, also) = stuck a (first a bs chain) in
-    (e.source.0, a ∷ bs, (also, (e, stands, refl, ap node_number leads), chain), ap suc long) where
-      first : (a : ℕ) (bs : List ℕ) → Chain edges left a bs → is_left left a ≡ true
+    let (e, stands, leads, also) = stuck (node_number a) (first a bs chain) in
+    (e.source.0, a ∷ bs, (also, (e, stands, refl, leads), chain), ap suc long) where
+      first : (a : ℕ) (bs : List ℕ) → Chain edges left a bs → is_set left a ≡ true
       first a [] h = h
       first a (b ∷ bs) h = h.0
 
@@ -53,25 +54,25 @@ repeats edges left a (b ∷ bs) chain =
       further (inl d) new = inl (new, d)
       further (inr c) new = inr c
 
-at_head : (left : List Bool) (a q : ℕ) (b : Bool) → (eqb q a || b) ≡ true → is_left left a ≡ true → (b ≡ true → is_left left q ≡ true) → is_left left q ≡ true
-at_head left a q b h is rest = elim (eqb q a) as (λ t. eqb q a ≡ t → (t || b) ≡ true → is_left left q ≡ true) [
-  | true ↦ λ same _. ap (λ k. is_left left k) (eqb-true q a same) ∙ is
+at_head : (left : List Bool) (a q : ℕ) (b : Bool) → (eqb q a || b) ≡ true → is_set left a ≡ true → (b ≡ true → is_set left q ≡ true) → is_set left q ≡ true
+at_head left a q b h is rest = elim (eqb q a) as (λ t. eqb q a ≡ t → (t || b) ≡ true → is_set left q ≡ true) [
+  | true ↦ λ same _. ap (λ k. is_set left k) (eqb-true q a same) ∙ is
   | false ↦ λ _ other. rest other
 ] refl h
 
-all_left : (edges : Edges) (left : List Bool) (a : ℕ) (bs : List ℕ) → Chain edges left a bs → (q : ℕ) → list_any (eqb q) (a ∷ bs) ≡ true → is_left left q ≡ true
+all_left : (edges : Edges) (left : List Bool) (a : ℕ) (bs : List ℕ) → Chain edges left a bs → (q : ℕ) → list_any (eqb q) (a ∷ bs) ≡ true → is_set left q ≡ true
 all_left edges left a [] chain q h = at_head left a q false h chain (λ other. cc)
 all_left edges left a (b ∷ bs) chain q h = at_head left a q (list_any (eqb q) (b ∷ bs)) h chain.0 (λ other. all_left edges left b bs chain.2 q other)
 
-pub within : (left : List Bool) (q : ℕ) → is_left left q ≡ true → q < length left
+pub within : (left : List Bool) (q : ℕ) → is_set left q ≡ true → q < length left
 within [] q h = cc
 within (b ∷ left) zero h = omega arith
 within (b ∷ left) (suc q) h = let r = within left q h in omega arith
 
 -- where nodes are left and none is ready, the edges form a cycle
-pub stuck_cycle : (edges : Edges) (left : List Bool) → IsStuck edges (is_left left) → (m : ℕ) → is_left left m ≡ true → (n : NodeId) × IsOnCycle edges n
+pub stuck_cycle : (edges : Edges) (left : List Bool) → IsStuck edges (is_left left) → (m : NodeId) → is_left left m ≡ true → (n : NodeId) × IsOnCycle edges n
 stuck_cycle edges left stuck m is =
-    let (a, bs, chain, long) = back edges left stuck (length left) m is in
+    let (a, bs, chain, long) = back edges left stuck (length left) m.0 is in
     pick a bs chain long (repeats edges left a bs chain) where
       pick : (a : ℕ) (bs : List ℕ) → Chain edges left a bs → length bs ≡ length left → IsDistinct eqb (a ∷ bs) ⊎ ((n : NodeId) × IsOnCycle edges n) → (n : NodeId) × IsOnCycle edges n
       pick a bs chain long (inr c) = c

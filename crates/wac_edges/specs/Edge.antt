@@ -54,13 +54,13 @@ abbrev pub argument_edge : NodeId → NodeId → ℕ → Edge
 argument_edge source target position = record { source = source; target = target; label = Argument position }
 
 -- which nodes are left, by their flags
-abbrev pub is_left : List Bool → ℕ → Bool
-is_left flags n = slice_index_or flags n false
+abbrev pub is_left : List Bool → NodeId → Bool
+is_left flags n = slice_index_or flags n.0 false
 
 -- an edge leads to n from a node that is left
-abbrev pub IsBlocked : set.FinSet edge_cmp → (ℕ → Bool) → ℕ → Type 0
-IsBlocked edges left n = (e : Edge) × (set.contains edges e ≡ true) × (e.target.0 ≡ n) × (left e.source.0 ≡ true)
+abbrev pub IsBlocked : set.FinSet edge_cmp → (NodeId → Bool) → NodeId → Type 0
+IsBlocked edges left n = (e : Edge) × (set.contains edges e ≡ true) × (e.target ≡ n) × (left e.source ≡ true)
 
 -- no edge leads to n from a node that is left
-abbrev pub IsFree : set.FinSet edge_cmp → (ℕ → Bool) → ℕ → Type 0
-IsFree edges left n = (e : Edge) → set.contains edges e ≡ true → e.target.0 ≡ n → left e.source.0 ≡ false
+abbrev pub IsFree : set.FinSet edge_cmp → (NodeId → Bool) → NodeId → Type 0
+IsFree edges left n = (e : Edge) → set.contains edges e ≡ true → e.target ≡ n → left e.source ≡ false

@@ -1,5 +1,5 @@
 -- The order in which nodes are written: each is the lowest of those left to which no edge leads from one that is left.
-use Rattle.std.specs.Prelude.{◌≡◌, ℕ, ◌<◌, ◌≤◌, Bool, true, false, not, ◌&&◌, ◌==◌, List, [], ◌∷◌}
+use Rattle.std.specs.Prelude.{◌≡◌, ◌<◌, ◌≤◌, Bool, true, false, not, ◌&&◌, ◌==◌, List, [], ◌∷◌}
 use Rattle.std.specs.FinSet as set
 use Rattle.wac_edges.specs.declared.edges.Edge.{Edge}
 use Rattle.wac_edges.specs.declared.node.NodeId.{NodeId}
@@ -9,25 +9,25 @@ abbrev pub Edges : Type 0
 Edges = set.FinSet edge_cmp
 
 -- n is left, no edge leads to it from a node that is left, and to each lower node that is left one does
-pub record IsLowestReady (edges : Edges) (left : ℕ → Bool) (n : ℕ) : Type 0 where
+pub record IsLowestReady (edges : Edges) (left : NodeId → Bool) (n : NodeId) : Type 0 where
   pub here : left n ≡ true
   pub free : IsFree edges left n
-  pub lower : (m : ℕ) → m < n → left m ≡ true → IsBlocked edges left m
+  pub lower : (m : NodeId) → m.0 < n.0 → left m ≡ true → IsBlocked edges left m
 
 -- an edge leads to each node that is left from one that is left
-abbrev pub IsStuck : Edges → (ℕ → Bool) → Type 0
-IsStuck edges left = (m : ℕ) → left m ≡ true → IsBlocked edges left m
+abbrev pub IsStuck : Edges → (NodeId → Bool) → Type 0
+IsStuck edges left = (m : NodeId) → left m ≡ true → IsBlocked edges left m
 
 -- no node is left
-abbrev pub IsDone : (ℕ → Bool) → Type 0
-IsDone left = (m : ℕ) → left m ≡ false
+abbrev pub IsDone : (NodeId → Bool) → Type 0
+IsDone left = (m : NodeId) → left m ≡ false
 
 -- those that are left without n
-abbrev pub without : (ℕ → Bool) → ℕ → ℕ → Bool
-without left n m = left m && not (m == n)
+abbrev pub without : (NodeId → Bool) → NodeId → NodeId → Bool
+without left n m = left m && not (m.0 == n.0)
 
 -- the nodes that are left, one after another, each the lowest that is ready then
-abbrev pub Writes : Edges → (ℕ → Bool) → List ℕ → Type 0
+abbrev pub Writes : Edges → (NodeId → Bool) → List NodeId → Type 0
 Writes edges left [] = IsDone left
 Writes edges left (n ∷ ns) = IsLowestReady edges left n × Writes edges (without left n) ns
 

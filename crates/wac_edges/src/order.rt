@@ -3,10 +3,11 @@ ghost use Rattle.std.specs.Prelude.{◌≡◌, ℕ, ◌<◌, ◌≤◌, ◌+◌,
 ghost use Rattle.wac_edges.specs.Edge.{is_left};
 ghost use Rattle.wac_edges.specs.declared.node.NodeId.{NodeId as AnId};
 ghost use Rattle.std.specs.Bool.{OnTrue, OnFalse};
-ghost use Rattle.wac_edges.specs.Order.{Writes, IsDone, IsOnCycle};
-ghost use Rattle.wac_edges.specs.Ready.{occurs, AreCounted, AreReady};
+ghost use Rattle.wac_edges.specs.Order.{Writes, IsOnCycle};
+ghost use Rattle.wac_edges.specs.Ready.{occurs, AreCounted, AreReady, is_set};
 
 use crate::edges::Edges;
+use crate::node::NodeId;
 use std::alloc::{AllocError, Global};
 use std::collections::BTreeSet;
 
@@ -114,8 +115,8 @@ fn release(
 
 /// Whether no node is left.
 fn is_done(left: &[bool]) -> bool
-    ensures done { OnTrue result (IsDone (is_left left.now)) }
-    ensures more { OnFalse result ((n : ℕ) × (is_left left.now n ≡ true)) }
+    ensures done { OnTrue result ((n : ℕ) → is_set left.now n ≡ false) }
+    ensures more { OnFalse result ((n : ℕ) × (is_set left.now n ≡ true)) }
 {
     for n in 0..left.len() {
         if left[n] {
@@ -131,7 +132,7 @@ pub fn order(
     alloc: Global,
     edges: &Edges,
     left: Vec<bool>,
-) -> Result<Option<Vec<usize>>, AllocError>
+) -> Result<Option<Vec<NodeId>>, AllocError>
     ensures whole { IfOk result (λ o. IfSome o (λ ns. Writes edges.now (is_left left.items) ns.items)) }
     ensures cycle { IfOk result (λ o. IfNone o ((n : AnId) × IsOnCycle edges.now n)) }
 {
@@ -141,7 +142,7 @@ pub fn order(
     let mut ready = free(alloc, left.as_slice(), counts.as_slice())?;
     let mut written = Vec::new(alloc);
     while let Some(n) = ready.pop_first() {
-        written.push(n)?;
+        written.push(NodeId(n))?;
         left[n] = false;
         release(
             &targets[n],

@@ -96,7 +96,7 @@ module _ (types : Collection) (x y : GraphNode) where
       let b : eq_by_cmp nat_cmp (suc (suc n)) 1 ≡ false = grind (arith, nat_tests) in
       finite.get-from_entries nat_cmp_total nodes (suc (suc n)) ∙ rw (a, b) refl
 
-  by_node : (P : ℕ → GraphNode → Type 0) → P 0 x → P 1 y → (n : ℕ) (node : GraphNode) → node_at two_nodes (node_number n) ≡ Some node → P n node
+  by_node : (P : NodeId → GraphNode → Type 0) → P (node_number 0) x → P (node_number 1) y → (n : NodeId) (node : GraphNode) → node_at two_nodes n ≡ Some node → P n node
   by_node = by_two two_nodes x y at_0 at_1 at_more
 
   -- what the nodes ask for
@@ -114,13 +114,13 @@ module _ (types : Collection) (x y : GraphNode) where
   imports_none name (Some node) all h = let e : graph.instantiation ≡ graph.import name = sym (all node refl) ∙ h in cc
 
   no_imports : x.kind ≡ graph.instantiation → y.kind ≡ graph.instantiation → HasNoConflict two_nodes
-  no_imports a b import instantiation position name c = imports_none name (node_at two_nodes import) (λ node there. by_node (λ n z. z.kind ≡ graph.instantiation) a b import.0 node there) c.imported
+  no_imports a b import instantiation position name c = imports_none name (node_at two_nodes import) (λ node there. by_node (λ n z. z.kind ≡ graph.instantiation) a b import node there) c.imported
 
   is_import : (kind : graph.Kind) → (name : Name) × (kind ≡ graph.import name) → kind ≡ graph.instantiation → ⊥
   is_import kind (name, is) wrong = let e : graph.import name ≡ graph.instantiation = sym is ∙ wrong in cc
 
   no_instantiations : (name : Name) × (x.kind ≡ graph.import name) → (name : Name) × (y.kind ≡ graph.import name) → HasNoConflict two_nodes
-  no_instantiations a b import instantiation position name c = is_import (c.node).kind (by_node (λ n z. (text : Name) × (z.kind ≡ graph.import text)) a b instantiation.0 c.node c.there) c.instantiated
+  no_instantiations a b import instantiation position name c = is_import (c.node).kind (by_node (λ n z. (text : Name) × (z.kind ≡ graph.import text)) a b instantiation c.node c.there) c.instantiated
 
 -- ---- two functions that differ
 abbrev function_of : Option ValueType → ℕ → Held FuncType

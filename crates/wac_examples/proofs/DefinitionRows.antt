@@ -1,12 +1,10 @@
 -- Worked examples: a definition that is exported twice, an interface that uses a type of another, and a package that is imported.
-use Rattle.std.proofs.Common.{◌≡◌, ℕ, zero, suc, ◌<◌, false, not, List, [], ◌∷◌, ◌++◌, length, map, Option, Some, None, codes, refl, ap, sym, ◌∙◌, subst, arith, ◌⊎◌, inl}
+use Rattle.std.proofs.Common.{◌≡◌, ℕ, suc, false, not, List, [], ◌∷◌, ◌++◌, map, Option, Some, None, codes, refl, ap, sym, ◌∙◌, subst}
 use Rattle.std.specs.FinMap as finite
 use Rattle.std.specs.List.{flat_map}
 use Rattle.std.proofs.lemmas.List.{append-nil}
-use Rattle.std.specs.Prelude.{slice_get}
-use Rattle.wac_shapes.specs.Name.{Name, option_case}
+use Rattle.wac_shapes.specs.Name.{Name}
 use Rattle.wac_shapes.specs.declared.component.DefinedType.TheVariants as def
-use Rattle.wac_shapes.specs.declared.component.ItemKind.{ItemKind}
 use Rattle.wac_shapes.specs.declared.component.ItemKind.TheVariants as item
 use Rattle.wac_shapes.specs.declared.component.PrimitiveType.TheVariants as prim
 use Rattle.wac_shapes.specs.declared.component.«Type».{«Type» as AnyType}
@@ -15,24 +13,21 @@ use Rattle.wac_shapes.specs.declared.component.ValueType.TheVariants as val
 use Rattle.wac_collection.specs.Bound.{held_tree}
 use Rattle.wac_collection.specs.Collection.{Collection}
 use Rattle.wac_collection.specs.Tree.{Tree, absent, primitive, enum_of, type_equal, component, items_in, type_in}
-use Rattle.wac_binary.specs.declared.sorts.Description.TheVariants as described
-use Rattle.wac_binary.specs.declared.sorts.Sort.{Sort}
 use Rattle.wac_binary.specs.declared.sorts.Sort.TheVariants as s
-use Rattle.wac_binary.specs.Bytes.{preamble}
-use Rattle.wac_binary.specs.Items.{Item, instantiate, import_item, export_item, type_item, component_def, value_def, primitive_def, end}
-use Rattle.wac_binary.specs.Meaning.{meaning, instance_at, stands_for, written, Thing}
-use Rattle.wac_nodes.specs.declared.options.EncodeOptions.{EncodeOptions}
+use Rattle.wac_binary.specs.Items.{Item, export_item, type_item, value_def, primitive_def}
+use Rattle.wac_binary.specs.Meaning.{meaning, stands_for, written, Thing}
+use Rattle.wac_edges.specs.declared.node.NodeId.{NodeId}
 use Rattle.wac_nodes.specs.Asked.{asked, asked_by, imported_by}
 use Rattle.wac_meaning.specs.Definition.{definition_tree, interface_definition}
 use Rattle.wac_nodes.specs.Graph as graph
 use Rattle.wac_edges.specs.Edge.{node_number}
-use Rattle.wac_nodes.specs.Graph.{Graph, GraphNode, node_at, imports_of}
-use Rattle.wac_meaning.specs.Means.{Means, is_written, instantiations, used_after, used_packages, package_import, sort_of_kind, AreInstantiations, IsThing, as_instantiation, as_definition, HasItem, shown, export_of, first_export, further_exports, export_item_of, custom_item}
+use Rattle.wac_nodes.specs.Graph.{Graph, GraphNode, node_at}
+use Rattle.wac_meaning.specs.Means.{Means, is_written, instantiations, sort_of_kind, AreInstantiations, IsThing, as_definition, HasItem, shown, export_of, first_export, further_exports, export_item_of, custom_item}
 use Rattle.wac_meaning.proofs.DefinedLemmas.{no_names}
-use Rattle.wac_meaning.proofs.EncodeLemmas.{AllSet, no_imports, asked_none}
+use Rattle.wac_meaning.proofs.EncodeLemmas.{no_imports}
 use Rattle.wac_examples.proofs.OptionRows.{with_one, node_0, by_one, one_in_order, in_one}
 use Rattle.wac_examples.proofs.Ordered.{one_order}
-use Rattle.wac_examples.proofs.Rows.{defining, first, readme_graph}
+use Rattle.wac_examples.proofs.Rows.{defining, readme_graph}
 
 -- ---- a definition `foo` of an alias of bool, exported as `bar` too
 abbrev of_bool : AnyType
@@ -65,31 +60,31 @@ asks_nothing =
 
       none_asked : (n : ℕ) (o : Option GraphNode) → node_at defining_bool (node_number n) ≡ o → asked_by defining_bool n o ≡ []
       none_asked n None is = refl
-      none_asked n (Some node) is = by_one base defined (λ k x. asked_by defining_bool k (Some x) ≡ []) refl n node is
+      none_asked n (Some node) is = by_one base defined (λ k x. asked_by defining_bool k.0 (Some x) ≡ []) refl (node_number n) node is
 
       none_imported : (n : ℕ) (o : Option GraphNode) → node_at defining_bool (node_number n) ≡ o → imported_by n o ≡ []
       none_imported n None is = refl
-      none_imported n (Some node) is = by_one base defined (λ k x. imported_by k (Some x) ≡ []) refl n node is
+      none_imported n (Some node) is = by_one base defined (λ k x. imported_by k.0 (Some x) ≡ []) refl (node_number n) node is
 
 -- what it is
 bool_is : written (primitive prim.Bool) ≡ written (definition_tree defining_bool.types of_bool)
 unfolding definition_tree held_tree
 bool_is = refl
 
-abbrev bool_at : ℕ → Thing
+abbrev bool_at : NodeId → Thing
 bool_at n = written (primitive prim.Bool)
 
 -- the other export
 bool_further : further_exports defining_bool ≡ (codes "bar", node_number 0) ∷ []
 bool_further = rw (node_0 base defined) refl
 
-bool_first : (at : ℕ → Thing) → flat_map (first_export defining_bool at) (0 ∷ []) ≡ (codes "foo", s.«Type», at 0) ∷ []
+bool_first : (at : NodeId → Thing) → flat_map (first_export defining_bool at) (node_number 0 ∷ []) ≡ (codes "foo", s.«Type», at (node_number 0)) ∷ []
 bool_first at = rw (node_0 base defined) refl
 
 bool_shown : map shown (meaning two_names).exports ≡ (codes "foo", s.«Type», written (primitive prim.Bool)) ∷ flat_map (export_of defining_bool bool_at) ((codes "bar", node_number 0) ∷ [])
 bool_shown = rw (node_0 base defined) refl
 
-bool_exports : map shown (meaning two_names).exports ≡ flat_map (first_export defining_bool bool_at) (0 ∷ []) ++ flat_map (export_of defining_bool bool_at) (further_exports defining_bool)
+bool_exports : map shown (meaning two_names).exports ≡ flat_map (first_export defining_bool bool_at) (node_number 0 ∷ []) ++ flat_map (export_of defining_bool bool_at) (further_exports defining_bool)
 bool_exports =
     bool_shown ∙ ap (λ es. (codes "foo", s.«Type», written (primitive prim.Bool)) ∷ flat_map (export_of defining_bool bool_at) es) (sym bool_further)
     ∙ ap (λ xs. xs ++ flat_map (export_of defining_bool bool_at) (further_exports defining_bool)) (sym (bool_first bool_at))
@@ -104,7 +99,7 @@ bool_last =
 
 pub definition_means : Means two_names defining_bool defining
 definition_means = record {
-  order = 0 ∷ [];
+  order = node_number 0 ∷ [];
   in_order = one_in_order base defined refl;
   at = bool_at;
   index = λ n. 1;
@@ -113,33 +108,33 @@ definition_means = record {
   outer = no_imports defining_bool asks_nothing;
   imports = refl;
   components = rw (node_0 base defined) refl;
-  instances = subst (λ ns. AreInstantiations defining_bool defining 0 bool_at (0 ∷ []) ns []) (sym no_instances) tt;
-  things = by_one base defined (λ n node. IsThing defining_bool bool_at (0 ∷ []) n node) (as_definition of_bool refl refl bool_is);
+  instances = subst (λ ns. AreInstantiations defining_bool defining 0 bool_at (node_number 0 ∷ []) ns []) (sym no_instances) tt;
+  things = by_one base defined (λ n node. IsThing defining_bool bool_at (node_number 0 ∷ []) n node) (as_definition of_bool refl refl bool_is);
   stand = by_one base defined (λ n node. stands_for (meaning two_names) (sort_of_kind node.item_kind) 1 ≡ bool_at n) refl;
   exports = bool_exports;
-  place = λ n. suc n;
-  own_items = λ n node there _. by_one base defined (λ k x. HasItem two_names x 1 (suc k))
+  place = λ n. suc n.0;
+  own_items = λ n node there _. by_one base defined (λ k x. HasItem two_names x 1 (suc k.0))
       (record { it = export_item (codes "foo") s.«Type» 0; before = type_item (value_def (primitive_def prim.Bool)) ∷ []; after = export_item (codes "bar") s.«Type» 1 ∷ []; split = refl; here = refl; own = refl; adds = refl; counted = refl }) n node there;
-  in_place = λ i j n m less a b. in_one i j n m (λ k. suc k) less a b;
+  in_place = λ i j n m less a b. in_one i j n m (λ k. suc k.0) less a b;
   names = [];
   named = no_names defining_bool (λ n. 1) (by_one base defined (λ _ node. node.name ≡ None) refl);
   customs = refl;
   body = type_item (value_def (primitive_def prim.Bool)) ∷ export_item (codes "foo") s.«Type» 0 ∷ [];
   last = bool_last;
 } where
-  no_instances : instantiations defining_bool (0 ∷ []) ≡ []
+  no_instances : instantiations defining_bool (node_number 0 ∷ []) ≡ []
   no_instances = rw (node_0 base defined) refl
 
 -- items that lose the second name do not mean the graph
 pub no_lost_export : Means (type_item (value_def (primitive_def prim.Bool)) ∷ export_item (codes "foo") s.«Type» 0 ∷ []) defining_bool defining → ⊥
 no_lost_export m = two_are_not_one (m.exports ∙ ap (λ ns. flat_map (first_export defining_bool m.at) ns ++ flat_map (export_of defining_bool m.at) (further_exports defining_bool)) order_is
     ∙ ap (λ xs. xs ++ flat_map (export_of defining_bool m.at) (further_exports defining_bool)) (bool_first m.at)
-    ∙ ap (λ es. (codes "foo", s.«Type», m.at 0) ∷ flat_map (export_of defining_bool m.at) es) bool_further ∙ other) where
-      other : (codes "foo", s.«Type», m.at 0) ∷ flat_map (export_of defining_bool m.at) ((codes "bar", node_number 0) ∷ []) ≡ (codes "foo", s.«Type», m.at 0) ∷ (codes "bar", s.«Type», m.at 0) ∷ []
+    ∙ ap (λ es. (codes "foo", s.«Type», m.at (node_number 0)) ∷ flat_map (export_of defining_bool m.at) es) bool_further ∙ other) where
+      other : (codes "foo", s.«Type», m.at (node_number 0)) ∷ flat_map (export_of defining_bool m.at) ((codes "bar", node_number 0) ∷ []) ≡ (codes "foo", s.«Type», m.at (node_number 0)) ∷ (codes "bar", s.«Type», m.at (node_number 0)) ∷ []
       other = rw (node_0 base defined) refl
 
-      order_is : m.order ≡ 0 ∷ []
-      order_is = one_order defining_bool.edges (is_written defining_bool) m.order (0 ∷ []) m.in_order (one_in_order base defined refl)
+      order_is : m.order ≡ node_number 0 ∷ []
+      order_is = one_order defining_bool.edges (is_written defining_bool) m.order (node_number 0 ∷ []) m.in_order (one_in_order base defined refl)
 
       two_are_not_one : {A : Type 0} {x y z : A} → x ∷ [] ≡ y ∷ z ∷ [] → ⊥
       two_are_not_one h = cc

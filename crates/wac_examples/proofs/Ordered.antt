@@ -10,7 +10,8 @@ use Rattle.std.proofs.lemmas.Bool.Decides.{nat_tests}
 use Rattle.std.proofs.lemmas.Cmp.{on_total}
 use Rattle.std.proofs.lemmas.Map.Views.{tells_apart}
 use Rattle.wac_edges.specs.declared.edges.Edge.{Edge}
-use Rattle.wac_edges.specs.Edge.{edge_cmp, edge_key, edge_of, edge_of-edge_key}
+use Rattle.wac_edges.specs.declared.node.NodeId.{NodeId}
+use Rattle.wac_edges.specs.Edge.{edge_cmp, edge_key, edge_of, edge_of-edge_key, node_number}
 use Rattle.wac_edges.specs.Order.{Edges, Writes, IsLowestReady, without}
 
 -- ---- sets of edges that a list gives
@@ -39,17 +40,18 @@ not_both : {b : Bool} → b ≡ true → b ≡ false → ⊥
 not_both h k = cc
 
 -- an edge leads to a lower node that is left, so that it is not ready
-lower_is_blocked : (edges : Edges) (left : ℕ → Bool) (n m : ℕ) → IsLowestReady edges left n → IsLowestReady edges left m → m < n → ⊥
+lower_is_blocked : (edges : Edges) (left : NodeId → Bool) (n m : NodeId) → IsLowestReady edges left n → IsLowestReady edges left m → m.0 < n.0 → ⊥
 lower_is_blocked edges left n m a b small = let (e, stands, to, from) = a.lower m small b.here in not_both from (b.free e stands to)
 
 -- of two nodes that are the lowest that are ready neither is lower
-one_next : (edges : Edges) (left : ℕ → Bool) (n m : ℕ) → IsLowestReady edges left n → IsLowestReady edges left m → n ≡ m
+one_next : (edges : Edges) (left : NodeId → Bool) (n m : NodeId) → IsLowestReady edges left n → IsLowestReady edges left m → n ≡ m
 one_next edges left n m a b =
-    let not_lower : m < n → ⊥ = lower_is_blocked edges left n m a b in
-    let not_higher : n < m → ⊥ = lower_is_blocked edges left m n b a in
-    omega (arith, not_lower, not_higher)
+    let not_lower : m.0 < n.0 → ⊥ = lower_is_blocked edges left n m a b in
+    let not_higher : n.0 < m.0 → ⊥ = lower_is_blocked edges left m n b a in
+    let same : n.0 ≡ m.0 = omega (arith, not_lower, not_higher) in
+    ap node_number same
 
-pub one_order : (edges : Edges) (left : ℕ → Bool) (ns ms : List ℕ) → Writes edges left ns → Writes edges left ms → ns ≡ ms
+pub one_order : (edges : Edges) (left : NodeId → Bool) (ns ms : List NodeId) → Writes edges left ns → Writes edges left ms → ns ≡ ms
 one_order edges left [] [] a b = refl
 one_order edges left [] (m ∷ ms) a b = absurd (not_both (b.0).here (a m))
 one_order edges left (n ∷ ns) [] a b = absurd (not_both (a.0).here (b n))
@@ -59,49 +61,49 @@ one_order edges left (n ∷ ns) (m ∷ ms) a b =
     cc
 
 -- ---- by number
--- so many numbers, from this one on
-abbrev pub counting : ℕ → ℕ → List ℕ
+-- so many nodes, from the one of this number on
+abbrev pub counting : ℕ → ℕ → List NodeId
 counting k zero = []
-counting k (suc count) = k ∷ counting (suc k) count
+counting k (suc count) = node_number k ∷ counting (suc k) count
 
 -- the nodes that are left are those of the numbers from k on, so many
-pub record Range (left : ℕ → Bool) (k count : ℕ) : Type 0 where
-  pub below : (m : ℕ) → m < k → left m ≡ false
-  pub within : (m : ℕ) → k ≤ m → m < k + count → left m ≡ true
-  pub above : (m : ℕ) → k + count ≤ m → left m ≡ false
+pub record Range (left : NodeId → Bool) (k count : ℕ) : Type 0 where
+  pub below : (m : NodeId) → m.0 < k → left m ≡ false
+  pub within : (m : NodeId) → k ≤ m.0 → m.0 < k + count → left m ≡ true
+  pub above : (m : NodeId) → k + count ≤ m.0 → left m ≡ false
 
 -- the same without the first
-range_after : (left : ℕ → Bool) (k count : ℕ) → Range left k (suc count) → Range (without left k) (suc k) count
+range_after : (left : NodeId → Bool) (k count : ℕ) → Range left k (suc count) → Range (without left (node_number k)) (suc k) count
 range_after left k count r = record {
-  below = λ m small. below m small (eqb m k) refl;
-  within = λ m from to. rw (r.within m (omega arith) (omega arith)) (other m from);
+  below = λ m small. below m small (eqb m.0 k) refl;
+  within = λ m from to. rw (r.within m (omega arith) (omega arith)) (other m.0 from);
   above = λ m from. rw (r.above m (omega arith)) refl;
 } where
   other : (m : ℕ) → suc k ≤ m → not (eqb m k) ≡ true
   other m from = grind (arith, nat_tests)
 
-  below : (m : ℕ) → m < suc k → (b : Bool) → eqb m k ≡ b → (left m && not b) ≡ false
+  below : (m : NodeId) → m.0 < suc k → (b : Bool) → eqb m.0 k ≡ b → (left m && not b) ≡ false
   below m small true _ = none (left m) where
     none : (b : Bool) → (b && false) ≡ false
     none true = refl
     none false = refl
   below m small false is = rw (r.below m (lower (grind (arith, nat_tests)))) refl where
-    lower : (m ≡ k → ⊥) → m < k
+    lower : (m.0 ≡ k → ⊥) → m.0 < k
     lower differ = omega (arith, differ)
 
 -- where edges lead to higher numbers
-pub by_number : (edges : Edges) → ((e : Edge) → set.contains edges e ≡ true → e.source.0 < e.target.0) → (k count : ℕ) (left : ℕ → Bool) → Range left k count → Writes edges left (counting k count)
+pub by_number : (edges : Edges) → ((e : Edge) → set.contains edges e ≡ true → e.source.0 < e.target.0) → (k count : ℕ) (left : NodeId → Bool) → Range left k count → Writes edges left (counting k count)
 by_number edges upward k zero left r = λ m. none m (left m) refl where
-  none : (m : ℕ) (b : Bool) → left m ≡ b → left m ≡ false
+  none : (m : NodeId) (b : Bool) → left m ≡ b → left m ≡ false
   none m false is = is
   none m true is =
-      let not_below : m < k → ⊥ = λ small. not_both is (r.below m small) in
+      let not_below : m.0 < k → ⊥ = λ small. not_both is (r.below m small) in
       r.above m (omega (arith, not_below))
 by_number edges upward k (suc count) left r = (
   record {
-    here = r.within k (omega arith) (omega arith);
-    free = λ e stands leads. (let up : e.source.0 < e.target.0 = upward e stands in r.below e.source.0 (omega (arith, up, leads)));
+    here = r.within (node_number k) (omega arith) (omega arith);
+    free = λ e stands leads. (let up : e.source.0 < e.target.0 = upward e stands in let at : e.target.0 ≡ k = ap (λ (n : NodeId). n.0) leads in r.below e.source (omega (arith, up, at)));
     lower = λ m small is. absurd (not_both is (r.below m small));
   },
-  by_number edges upward (suc k) count (without left k) (range_after left k count r),
+  by_number edges upward (suc k) count (without left (node_number k)) (range_after left k count r),
 )

@@ -18,10 +18,10 @@ use Rattle.wac_binary.specs.Bytes.{preamble}
 use Rattle.wac_binary.specs.Items.{Item, nested, instantiate, alias_item, export_alias, export_item}
 use Rattle.wac_binary.specs.Meaning.{meaning, projection, instance_at, stands_for, Thing}
 use Rattle.wac_edges.specs.declared.edges.Edge.{Edge}
+use Rattle.wac_edges.specs.declared.node.NodeId.{NodeId}
 use Rattle.wac_nodes.specs.declared.packages.PackageId.{PackageId}
-use Rattle.wac_edges.specs.Edge.{edge_cmp, alias_edge, argument_edge}
+use Rattle.wac_edges.specs.Edge.{edge_cmp, alias_edge, argument_edge, node_number}
 use Rattle.wac_nodes.specs.Graph as graph
-use Rattle.wac_edges.specs.Edge.{node_number}
 use Rattle.wac_nodes.specs.Graph.{Graph, GraphNode, node_at, imports_of, IsSatisfied}
 use Rattle.wac_edges.specs.Order.{Edges, Writes, IsLowestReady, without}
 use Rattle.wac_nodes.specs.OuterImports.{AreOuterImports}
@@ -118,11 +118,13 @@ none_some : {x : GraphNode} → None ≡ Some x → ⊥
 none_some e = cc
 
 -- what holds of the three nodes holds of each
-by_node : (P : ℕ → GraphNode → Type 0) → P 0 instance_of_first → P 1 alias_of_first → P 2 instance_of_second → (n : ℕ) (node : GraphNode) → node_at readme_graph (node_number n) ≡ Some node → P n node
-by_node P a b c zero node is = subst (λ x. P 0 x) (some_same (sym node_0 ∙ is)) a
-by_node P a b c (suc zero) node is = subst (λ x. P 1 x) (some_same (sym node_1 ∙ is)) b
-by_node P a b c (suc (suc zero)) node is = subst (λ x. P 2 x) (some_same (sym node_2 ∙ is)) c
-by_node P a b c (suc (suc (suc n))) node is = absurd (none_some (sym (no_more n) ∙ is))
+by_node : (P : NodeId → GraphNode → Type 0) → P (node_number 0) instance_of_first → P (node_number 1) alias_of_first → P (node_number 2) instance_of_second → (n : NodeId) (node : GraphNode) → node_at readme_graph n ≡ Some node → P n node
+by_node P a b c n node is = of_number n.0 node is where
+  of_number : (k : ℕ) (x : GraphNode) → node_at readme_graph (node_number k) ≡ Some x → P (node_number k) x
+  of_number zero x is = subst (λ y. P (node_number 0) y) (some_same (sym node_0 ∙ is)) a
+  of_number (suc zero) x is = subst (λ y. P (node_number 1) y) (some_same (sym node_1 ∙ is)) b
+  of_number (suc (suc zero)) x is = subst (λ y. P (node_number 2) y) (some_same (sym node_2 ∙ is)) c
+  of_number (suc (suc (suc k))) x is = absurd (none_some (sym (no_more k) ∙ is))
 
 either : (a b : Bool) → (a || (b || false)) ≡ true → (a ≡ true) ⊎ (b ≡ true)
 either true b h = inl refl
@@ -143,42 +145,51 @@ stands_alias = set.contains-from_list edge_cmp_total edge_list (alias_edge (node
 stands_argument : set.contains readme_graph.edges (argument_edge (node_number 1) (node_number 2) 0) ≡ true
 stands_argument = set.contains-from_list edge_cmp_total edge_list (argument_edge (node_number 1) (node_number 2) 0)
 
+-- the three nodes in the order of their numbers
+abbrev three_nodes : List NodeId
+three_nodes = node_number 0 ∷ node_number 1 ∷ node_number 2 ∷ []
+
 -- the instances are the first node and the third
-readme_instantiations : instantiations readme_graph (0 ∷ 1 ∷ 2 ∷ []) ≡ 0 ∷ 2 ∷ []
+readme_instantiations : instantiations readme_graph three_nodes ≡ node_number 0 ∷ node_number 2 ∷ []
 readme_instantiations = rw (node_0, node_1, node_2) refl
 
 -- both packages are used, in this order
-readme_packages : used_packages readme_graph (0 ∷ 1 ∷ 2 ∷ []) ≡ first ∷ second ∷ []
+readme_packages : used_packages readme_graph three_nodes ≡ first ∷ second ∷ []
 readme_packages = ap (used_after readme_graph []) readme_instantiations ∙ rw (node_0, node_2) refl
 
 -- the nested components are the bytes of the packages
-readme_components : (meaning readme).nested_bytes ≡ map (package_bytes readme_graph) (used_packages readme_graph (0 ∷ 1 ∷ 2 ∷ []))
+readme_components : (meaning readme).nested_bytes ≡ map (package_bytes readme_graph) (used_packages readme_graph three_nodes)
 readme_components = ap (map (package_bytes readme_graph)) (sym readme_packages)
 
--- which of the numbers are written
-abbrev three : ℕ → Bool
-three zero = true
-three (suc zero) = true
-three (suc (suc zero)) = true
-three (suc (suc (suc n))) = false
+-- which of the numbers are those of nodes that are written
+abbrev below_three : ℕ → Bool
+below_three zero = true
+below_three (suc zero) = true
+below_three (suc (suc zero)) = true
+below_three (suc (suc (suc n))) = false
+
+abbrev three : NodeId → Bool
+three n = below_three n.0
 
 -- the three nodes are written, and no others
-are_three : (n : ℕ) → is_written readme_graph n ≡ three n
-are_three zero = ap (λ o. option_case o false (λ node. not (is_import node.kind))) node_0
-are_three (suc zero) = ap (λ o. option_case o false (λ node. not (is_import node.kind))) node_1
-are_three (suc (suc zero)) = ap (λ o. option_case o false (λ node. not (is_import node.kind))) node_2
-are_three (suc (suc (suc n))) = ap (λ o. option_case o false (λ node. not (is_import node.kind))) (no_more n)
+are_three : (n : NodeId) → is_written readme_graph n ≡ three n
+are_three n = of_number n.0 where
+  of_number : (k : ℕ) → is_written readme_graph (node_number k) ≡ below_three k
+  of_number zero = ap (λ o. option_case o false (λ node. not (is_import node.kind))) node_0
+  of_number (suc zero) = ap (λ o. option_case o false (λ node. not (is_import node.kind))) node_1
+  of_number (suc (suc zero)) = ap (λ o. option_case o false (λ node. not (is_import node.kind))) node_2
+  of_number (suc (suc (suc k))) = ap (λ o. option_case o false (λ node. not (is_import node.kind))) (no_more k)
 
 -- the order speaks only of which nodes are left
-Writes-same : (edges : Edges) (p q : ℕ → Bool) → ((m : ℕ) → q m ≡ p m) → (order : List ℕ) → Writes edges p order → Writes edges q order
+Writes-same : (edges : Edges) (p q : NodeId → Bool) → ((m : NodeId) → q m ≡ p m) → (order : List NodeId) → Writes edges p order → Writes edges q order
 Writes-same edges p q h [] done = λ m. h m ∙ done m
 Writes-same edges p q h (n ∷ ns) (ready, later) = (
   record {
     here = h n ∙ ready.here;
-    free = λ e stands leads. h e.source.0 ∙ ready.free e stands leads;
-    lower = λ m small left. let (e, stands, to, from) = ready.lower m small (sym (h m) ∙ left) in (e, stands, to, h e.source.0 ∙ from);
+    free = λ e stands leads. h e.source ∙ ready.free e stands leads;
+    lower = λ m small left. let (e, stands, to, from) = ready.lower m small (sym (h m) ∙ left) in (e, stands, to, h e.source ∙ from);
   },
-  Writes-same edges (without p n) (without q n) (λ m. ap (λ b. b && not (eqb m n)) (h m)) ns later,
+  Writes-same edges (without p n) (without q n) (λ m. ap (λ b. b && not (eqb m.0 n.0)) (h m)) ns later,
 )
 
 not_below_0 : (m : ℕ) → m < 0 → ⊥
@@ -201,60 +212,75 @@ differ m n h k = clash (ap (λ x. eqb m x) (sym h) ∙ same m) k where
   same : (k : ℕ) → eqb k k ≡ true
   same k = grind (arith, nat_tests)
 
+-- an edge to a node is none to a node of another number
+elsewhere : (e f : Edge) (n : NodeId) → e ≡ f → e.target ≡ n → eqb f.target.0 n.0 ≡ false → ⊥
+elsewhere e f n is leads other = differ f.target.0 n.0 (ap (λ (x : Edge). x.target.0) (sym is) ∙ ap (λ (x : NodeId). x.0) leads) other
+
 -- the first node is ready at once, the alias after it, the second instance last
-ready_0 : IsLowestReady readme_graph.edges three 0
-ready_0 = record { here = refl; free = λ e stands leads. split e leads (edges_are e stands); lower = λ m small _. absurd (not_below_0 m small) } where
-  split : (e : Edge) → e.target.0 ≡ 0 → (e ≡ alias_edge (node_number 0) (node_number 1) 0) ⊎ (e ≡ argument_edge (node_number 1) (node_number 2) 0) → three e.source.0 ≡ false
-  split e leads (inl is) = absurd (differ 1 0 (ap (λ (x : Edge). x.target.0) (sym is) ∙ leads) refl)
-  split e leads (inr is) = absurd (differ 2 0 (ap (λ (x : Edge). x.target.0) (sym is) ∙ leads) refl)
+ready_0 : IsLowestReady readme_graph.edges three (node_number 0)
+ready_0 = record { here = refl; free = λ e stands leads. split e leads (edges_are e stands); lower = λ m small _. absurd (not_below_0 m.0 small) } where
+  split : (e : Edge) → e.target ≡ node_number 0 → (e ≡ alias_edge (node_number 0) (node_number 1) 0) ⊎ (e ≡ argument_edge (node_number 1) (node_number 2) 0) → three e.source ≡ false
+  split e leads (inl is) = absurd (elsewhere e (alias_edge (node_number 0) (node_number 1) 0) (node_number 0) is leads refl)
+  split e leads (inr is) = absurd (elsewhere e (argument_edge (node_number 1) (node_number 2) 0) (node_number 0) is leads refl)
 
-ready_1 : IsLowestReady readme_graph.edges (without three 0) 1
-ready_1 = record { here = refl; free = λ e stands leads. split e leads (edges_are e stands); lower = λ m small left. absurd (lower m small left) } where
-  split : (e : Edge) → e.target.0 ≡ 1 → (e ≡ alias_edge (node_number 0) (node_number 1) 0) ⊎ (e ≡ argument_edge (node_number 1) (node_number 2) 0) → without three 0 e.source.0 ≡ false
-  split e leads (inl is) = ap (λ (x : Edge). without three 0 x.source.0) is
-  split e leads (inr is) = absurd (differ 2 1 (ap (λ (x : Edge). x.target.0) (sym is) ∙ leads) refl)
+ready_1 : IsLowestReady readme_graph.edges (without three (node_number 0)) (node_number 1)
+ready_1 = record { here = refl; free = λ e stands leads. split e leads (edges_are e stands); lower = λ m small left. absurd (lower m.0 small left) } where
+  split : (e : Edge) → e.target ≡ node_number 1 → (e ≡ alias_edge (node_number 0) (node_number 1) 0) ⊎ (e ≡ argument_edge (node_number 1) (node_number 2) 0) → without three (node_number 0) e.source ≡ false
+  split e leads (inl is) = ap (λ (x : Edge). without three (node_number 0) x.source) is
+  split e leads (inr is) = absurd (elsewhere e (argument_edge (node_number 1) (node_number 2) 0) (node_number 1) is leads refl)
 
-  lower : (m : ℕ) → m < 1 → without three 0 m ≡ true → ⊥
+  lower : (m : ℕ) → m < 1 → without three (node_number 0) (node_number m) ≡ true → ⊥
   lower zero _ left = clash left refl
   lower (suc m) small _ = not_below_1 m small
 
-ready_2 : IsLowestReady readme_graph.edges (without (without three 0) 1) 2
-ready_2 = record { here = refl; free = λ e stands leads. split e leads (edges_are e stands); lower = λ m small left. absurd (lower m small left) } where
-  split : (e : Edge) → e.target.0 ≡ 2 → (e ≡ alias_edge (node_number 0) (node_number 1) 0) ⊎ (e ≡ argument_edge (node_number 1) (node_number 2) 0) → without (without three 0) 1 e.source.0 ≡ false
-  split e leads (inl is) = absurd (differ 1 2 (ap (λ (x : Edge). x.target.0) (sym is) ∙ leads) refl)
-  split e leads (inr is) = ap (λ (x : Edge). without (without three 0) 1 x.source.0) is
+ready_2 : IsLowestReady readme_graph.edges (without (without three (node_number 0)) (node_number 1)) (node_number 2)
+ready_2 = record { here = refl; free = λ e stands leads. split e leads (edges_are e stands); lower = λ m small left. absurd (lower m.0 small left) } where
+  split : (e : Edge) → e.target ≡ node_number 2 → (e ≡ alias_edge (node_number 0) (node_number 1) 0) ⊎ (e ≡ argument_edge (node_number 1) (node_number 2) 0) → without (without three (node_number 0)) (node_number 1) e.source ≡ false
+  split e leads (inl is) = absurd (elsewhere e (alias_edge (node_number 0) (node_number 1) 0) (node_number 2) is leads refl)
+  split e leads (inr is) = ap (λ (x : Edge). without (without three (node_number 0)) (node_number 1) x.source) is
 
-  lower : (m : ℕ) → m < 2 → without (without three 0) 1 m ≡ true → ⊥
+  lower : (m : ℕ) → m < 2 → without (without three (node_number 0)) (node_number 1) (node_number m) ≡ true → ⊥
   lower zero _ left = clash left refl
   lower (suc zero) _ left = clash left refl
   lower (suc (suc m)) small _ = not_below_2 m small
 
 -- none is left after the three
-none_left : (m : ℕ) → without (without (without three 0) 1) 2 m ≡ false
-none_left zero = refl
-none_left (suc zero) = refl
-none_left (suc (suc zero)) = refl
-none_left (suc (suc (suc m))) = refl
+none_left : (m : NodeId) → without (without (without three (node_number 0)) (node_number 1)) (node_number 2) m ≡ false
+none_left m = of_number m.0 where
+  of_number : (k : ℕ) → without (without (without three (node_number 0)) (node_number 1)) (node_number 2) (node_number k) ≡ false
+  of_number zero = refl
+  of_number (suc zero) = refl
+  of_number (suc (suc zero)) = refl
+  of_number (suc (suc (suc k))) = refl
 
 -- the nodes can be written in this order
-pub readme_in_order : Writes readme_graph.edges (is_written readme_graph) (0 ∷ 1 ∷ 2 ∷ [])
-readme_in_order = Writes-same readme_graph.edges three (is_written readme_graph) are_three (0 ∷ 1 ∷ 2 ∷ []) (ready_0, (ready_1, (ready_2, none_left)))
+pub readme_in_order : Writes readme_graph.edges (is_written readme_graph) three_nodes
+readme_in_order = Writes-same readme_graph.edges three (is_written readme_graph) are_three three_nodes (ready_0, (ready_1, (ready_2, none_left)))
 
 -- what each node stands for, its index and the place of its item
-abbrev readme_at : ℕ → Thing
-readme_at zero = instance_at 0
-readme_at (suc zero) = projection (instance_at 0) (97 ∷ [])
-readme_at (suc (suc n)) = instance_at 1
+abbrev thing_of : ℕ → Thing
+thing_of zero = instance_at 0
+thing_of (suc zero) = projection (instance_at 0) (97 ∷ [])
+thing_of (suc (suc k)) = instance_at 1
 
-abbrev readme_index : ℕ → ℕ
-readme_index zero = 0
-readme_index (suc zero) = 0
-readme_index (suc (suc n)) = 1
+abbrev readme_at : NodeId → Thing
+readme_at n = thing_of n.0
 
-abbrev readme_place : ℕ → ℕ
-readme_place zero = 1
-readme_place (suc zero) = 2
-readme_place (suc (suc n)) = 4
+abbrev index_of : ℕ → ℕ
+index_of zero = 0
+index_of (suc zero) = 0
+index_of (suc (suc k)) = 1
+
+abbrev readme_index : NodeId → ℕ
+readme_index n = index_of n.0
+
+abbrev place_of : ℕ → ℕ
+place_of zero = 1
+place_of (suc zero) = 2
+place_of (suc (suc k)) = 4
+
+abbrev readme_place : NodeId → ℕ
+readme_place n = place_of n.0
 
 readme_plain : IsPlain readme_graph
 readme_plain = by_node (λ n node. (node.kind ≡ graph.instantiation) ⊎ (node.kind ≡ graph.alias)) (inl refl) (inr refl) (inl refl)
@@ -264,7 +290,7 @@ alias_differs h = cc
 
 -- the second instance has its argument, the first needs none
 all_given : AllSet readme_graph
-all_given = by_node (λ n node. node.kind ≡ graph.instantiation → (i : ℕ) → i < length (imports_of readme_graph node) → IsSatisfied readme_graph (node_number n) i)
+all_given = by_node (λ n node. node.kind ≡ graph.instantiation → (i : ℕ) → i < length (imports_of readme_graph node) → IsSatisfied readme_graph n i)
     (λ _ i small. absurd (not_below_0 i small))
     (λ wrong. absurd (alias_differs wrong))
     (λ _ i small. of_second i small) where
@@ -277,44 +303,44 @@ readme_imports : AreOuterImports readme_graph (meaning readme).imports
 readme_imports = no_imports readme_graph (asked_none readme_graph readme_plain all_given)
 
 -- the two instantiations, the second with the alias as `b`
-readme_instances : AreInstantiations readme_graph defining 0 readme_at (0 ∷ 1 ∷ 2 ∷ []) (instantiations readme_graph (0 ∷ 1 ∷ 2 ∷ [])) (meaning readme).instantiations
-readme_instances = subst (λ ns. AreInstantiations readme_graph defining 0 readme_at (0 ∷ 1 ∷ 2 ∷ []) ns (meaning readme).instantiations) (sym readme_instantiations) (
+readme_instances : AreInstantiations readme_graph defining 0 readme_at three_nodes (instantiations readme_graph three_nodes) (meaning readme).instantiations
+readme_instances = subst (λ ns. AreInstantiations readme_graph defining 0 readme_at three_nodes ns (meaning readme).instantiations) (sym readme_instantiations) (
   record { node = instance_of_first; there = node_0; owner = first; owned = refl; place = 0; used = ap (λ ps. slice_get ps 0) readme_packages; component = refl; arguments = tt },
   (record { node = instance_of_second; there = node_2; owner = second; owned = refl; place = 1; used = ap (λ ps. slice_get ps 1) readme_packages; component = refl; arguments = (refl, given (node_number 1) stands_argument, tt) }, tt),
 )
 
 -- what each node is
-readme_things : (n : ℕ) (node : GraphNode) → node_at readme_graph (node_number n) ≡ Some node → IsThing readme_graph readme_at (0 ∷ 1 ∷ 2 ∷ []) n node
-readme_things = by_node (λ n node. IsThing readme_graph readme_at (0 ∷ 1 ∷ 2 ∷ []) n node)
+readme_things : (n : NodeId) (node : GraphNode) → node_at readme_graph n ≡ Some node → IsThing readme_graph readme_at three_nodes n node
+readme_things = by_node (λ n node. IsThing readme_graph readme_at three_nodes n node)
     (as_instantiation 0 refl (ap (λ ns. slice_get ns 0) readme_instantiations) refl)
     (as_alias (node_number 0) instance_of_first 0 (97 ∷ []) refl stands_alias node_0 refl refl)
     (as_instantiation 1 refl (ap (λ ns. slice_get ns 1) readme_instantiations) refl)
 
 -- each node stands at its index
-readme_stand : (n : ℕ) (node : GraphNode) → node_at readme_graph (node_number n) ≡ Some node → stands_for (meaning readme) (sort_of_kind node.item_kind) (readme_index n) ≡ readme_at n
+readme_stand : (n : NodeId) (node : GraphNode) → node_at readme_graph n ≡ Some node → stands_for (meaning readme) (sort_of_kind node.item_kind) (readme_index n) ≡ readme_at n
 readme_stand = by_node (λ n node. stands_for (meaning readme) (sort_of_kind node.item_kind) (readme_index n) ≡ readme_at n) refl refl refl
 
 -- each node has its item
-readme_items : (n : ℕ) (node : GraphNode) → node_at readme_graph (node_number n) ≡ Some node → HasItem readme node (readme_index n) (readme_place n)
+readme_items : (n : NodeId) (node : GraphNode) → node_at readme_graph n ≡ Some node → HasItem readme node (readme_index n) (readme_place n)
 readme_items = by_node (λ n node. HasItem readme node (readme_index n) (readme_place n))
     (record { it = instantiate 0 []; before = nested preamble ∷ []; after = alias_item (export_alias s.Func 0 (97 ∷ [])) ∷ nested preamble ∷ instantiate 1 ((98 ∷ [], s.Func, 0) ∷ []) ∷ []; split = refl; here = refl; own = refl; adds = refl; counted = refl })
     (record { it = alias_item (export_alias s.Func 0 (97 ∷ [])); before = nested preamble ∷ instantiate 0 [] ∷ []; after = nested preamble ∷ instantiate 1 ((98 ∷ [], s.Func, 0) ∷ []) ∷ []; split = refl; here = refl; own = refl; adds = refl; counted = refl })
     (record { it = instantiate 1 ((98 ∷ [], s.Func, 0) ∷ []); before = nested preamble ∷ instantiate 0 [] ∷ alias_item (export_alias s.Func 0 (97 ∷ [])) ∷ nested preamble ∷ []; after = []; split = refl; here = refl; own = refl; adds = refl; counted = refl })
 
-some_number : {x y : ℕ} → Some x ≡ Some y → x ≡ y
-some_number e = cc
+one_number : (x y : NodeId) → Some x ≡ Some y → x.0 ≡ y.0
+one_number x y e = let same : x ≡ y = cc in ap (λ (n : NodeId). n.0) same
 
-no_number : {x : ℕ} → None ≡ Some x → ⊥
-no_number e = cc
+no_node : {x : NodeId} → None ≡ Some x → ⊥
+no_node e = cc
 
--- the numbers stand at their own positions
-in_three : (i n : ℕ) → slice_get (0 ∷ 1 ∷ 2 ∷ []) i ≡ Some n → (i ≡ n) × (i < 3)
-in_three zero n h = (some_number h, omega arith)
-in_three (suc zero) n h = (some_number h, omega arith)
-in_three (suc (suc zero)) n h = (some_number h, omega arith)
-in_three (suc (suc (suc i))) n h = absurd (no_number h)
+-- the nodes stand at their own numbers
+in_three : (i : ℕ) (n : NodeId) → slice_get three_nodes i ≡ Some n → (i ≡ n.0) × (i < 3)
+in_three zero n h = (one_number (node_number 0) n h, omega arith)
+in_three (suc zero) n h = (one_number (node_number 1) n h, omega arith)
+in_three (suc (suc zero)) n h = (one_number (node_number 2) n h, omega arith)
+in_three (suc (suc (suc i))) n h = absurd (no_node h)
 
-rises : (i j : ℕ) → i < j → j < 3 → readme_place i < readme_place j
+rises : (i j : ℕ) → i < j → j < 3 → place_of i < place_of j
 rises zero zero h _ = absurd (not_below_0 zero h)
 rises zero (suc zero) _ _ = omega arith
 rises zero (suc (suc zero)) _ _ = omega arith
@@ -327,16 +353,16 @@ rises (suc (suc i)) (suc (suc zero)) h _ = absurd (not_below_2 i h)
 rises i (suc (suc (suc j))) _ h = absurd (not_below_3 j h)
 
 -- the items stand in the order of the nodes
-readme_in_place : (i j n m : ℕ) → i < j → slice_get (0 ∷ 1 ∷ 2 ∷ []) i ≡ Some n → slice_get (0 ∷ 1 ∷ 2 ∷ []) j ≡ Some m → readme_place n < readme_place m
+readme_in_place : (i j : ℕ) (n m : NodeId) → i < j → slice_get three_nodes i ≡ Some n → slice_get three_nodes j ≡ Some m → readme_place n < readme_place m
 readme_in_place i j n m less first_is second_is =
     let (a, _) = in_three i n first_is in
     let (b, small) = in_three j m second_is in
-    subst (λ k. readme_place k < readme_place m) a (subst (λ k. readme_place i < readme_place k) b (rises i j less small))
+    subst (λ k. place_of k < readme_place m) a (subst (λ k. place_of i < place_of k) b (rises i j less small))
 
 -- the items mean the graph
 pub readme_means : Means readme readme_graph defining
 readme_means = record {
-  order = 0 ∷ 1 ∷ 2 ∷ [];
+  order = three_nodes;
   in_order = readme_in_order;
   at = readme_at;
   index = readme_index;
@@ -360,37 +386,49 @@ readme_means = record {
 }
 
 -- of graphs with two nodes
-abbrev both : ℕ → Bool
-both zero = true
-both (suc zero) = true
-both (suc (suc n)) = false
+abbrev two_nodes : List NodeId
+two_nodes = node_number 0 ∷ node_number 1 ∷ []
+
+abbrev below_two : ℕ → Bool
+below_two zero = true
+below_two (suc zero) = true
+below_two (suc (suc n)) = false
+
+abbrev both : NodeId → Bool
+both n = below_two n.0
 
 module _ (g : Graph) (x y : GraphNode) (is_0 : node_at g (node_number 0) ≡ Some x) (is_1 : node_at g (node_number 1) ≡ Some y) (more : (n : ℕ) → node_at g (node_number (suc (suc n))) ≡ None) where
   -- what holds of the two nodes holds of each
-  pub by_two : (P : ℕ → GraphNode → Type 0) → P 0 x → P 1 y → (n : ℕ) (node : GraphNode) → node_at g (node_number n) ≡ Some node → P n node
-  by_two P a b zero node is = subst (λ z. P 0 z) (some_same (sym is_0 ∙ is)) a
-  by_two P a b (suc zero) node is = subst (λ z. P 1 z) (some_same (sym is_1 ∙ is)) b
-  by_two P a b (suc (suc n)) node is = absurd (none_some (sym (more n) ∙ is))
+  pub by_two : (P : NodeId → GraphNode → Type 0) → P (node_number 0) x → P (node_number 1) y → (n : NodeId) (node : GraphNode) → node_at g n ≡ Some node → P n node
+  by_two P a b n node is = of_number n.0 node is where
+    of_number : (k : ℕ) (z : GraphNode) → node_at g (node_number k) ≡ Some z → P (node_number k) z
+    of_number zero z is = subst (λ w. P (node_number 0) w) (some_same (sym is_0 ∙ is)) a
+    of_number (suc zero) z is = subst (λ w. P (node_number 1) w) (some_same (sym is_1 ∙ is)) b
+    of_number (suc (suc k)) z is = absurd (none_some (sym (more k) ∙ is))
 
-  are_both : not (is_import x.kind) ≡ true → not (is_import y.kind) ≡ true → (n : ℕ) → is_written g n ≡ both n
-  are_both a b zero = ap (λ o. option_case o false (λ node. not (is_import node.kind))) is_0 ∙ a
-  are_both a b (suc zero) = ap (λ o. option_case o false (λ node. not (is_import node.kind))) is_1 ∙ b
-  are_both a b (suc (suc n)) = ap (λ o. option_case o false (λ node. not (is_import node.kind))) (more n)
+  are_both : not (is_import x.kind) ≡ true → not (is_import y.kind) ≡ true → (n : NodeId) → is_written g n ≡ both n
+  are_both a b n = of_number n.0 where
+    of_number : (k : ℕ) → is_written g (node_number k) ≡ below_two k
+    of_number zero = ap (λ o. option_case o false (λ node. not (is_import node.kind))) is_0 ∙ a
+    of_number (suc zero) = ap (λ o. option_case o false (λ node. not (is_import node.kind))) is_1 ∙ b
+    of_number (suc (suc k)) = ap (λ o. option_case o false (λ node. not (is_import node.kind))) (more k)
 
-lower_1 : (m : ℕ) → m < 1 → without both 0 m ≡ true → ⊥
+lower_1 : (m : ℕ) → m < 1 → without both (node_number 0) (node_number m) ≡ true → ⊥
 lower_1 zero _ left = clash left refl
 lower_1 (suc m) small _ = not_below_1 m small
 
-none_of_both : (m : ℕ) → without (without both 0) 1 m ≡ false
-none_of_both zero = refl
-none_of_both (suc zero) = refl
-none_of_both (suc (suc m)) = refl
+none_of_both : (m : NodeId) → without (without both (node_number 0)) (node_number 1) m ≡ false
+none_of_both m = of_number m.0 where
+  of_number : (k : ℕ) → without (without both (node_number 0)) (node_number 1) (node_number k) ≡ false
+  of_number zero = refl
+  of_number (suc zero) = refl
+  of_number (suc (suc k)) = refl
 
--- the numbers stand at their own positions
-in_two : (i n : ℕ) → slice_get (0 ∷ 1 ∷ []) i ≡ Some n → (i ≡ n) × (i < 2)
-in_two zero n h = (some_number h, omega arith)
-in_two (suc zero) n h = (some_number h, omega arith)
-in_two (suc (suc i)) n h = absurd (no_number h)
+-- the nodes stand at their own numbers
+in_two : (i : ℕ) (n : NodeId) → slice_get two_nodes i ≡ Some n → (i ≡ n.0) × (i < 2)
+in_two zero n h = (one_number (node_number 0) n h, omega arith)
+in_two (suc zero) n h = (one_number (node_number 1) n h, omega arith)
+in_two (suc (suc i)) n h = absurd (no_node h)
 
 -- two instances of the first package: its component is there once
 abbrev twice_entries : List (ℕ × GraphNode)
@@ -418,7 +456,7 @@ twice_more n =
     let b : eq_by_cmp nat_cmp (suc (suc n)) 1 ≡ false = grind (arith, nat_tests) in
     twice_are (suc (suc n)) ∙ rw (a, b) refl
 
-by_twice : (P : ℕ → GraphNode → Type 0) → P 0 instance_of_first → P 1 instance_of_first → (n : ℕ) (node : GraphNode) → node_at twice_graph (node_number n) ≡ Some node → P n node
+by_twice : (P : NodeId → GraphNode → Type 0) → P (node_number 0) instance_of_first → P (node_number 1) instance_of_first → (n : NodeId) (node : GraphNode) → node_at twice_graph n ≡ Some node → P n node
 by_twice = by_two twice_graph instance_of_first instance_of_first twice_0 twice_1 twice_more
 
 -- there are no edges
@@ -426,25 +464,28 @@ twice_no_edge : (e : Edge) → set.contains twice_graph.edges e ≡ true → ⊥
 twice_no_edge e stands = clash stands (set.contains-from_list edge_cmp_total [] e)
 
 -- both nodes are instances
-twice_instantiations : instantiations twice_graph (0 ∷ 1 ∷ []) ≡ 0 ∷ 1 ∷ []
+twice_instantiations : instantiations twice_graph two_nodes ≡ two_nodes
 twice_instantiations = rw (twice_0, twice_1) refl
 
 -- one package is used
-twice_packages : used_packages twice_graph (0 ∷ 1 ∷ []) ≡ first ∷ []
+twice_packages : used_packages twice_graph two_nodes ≡ first ∷ []
 twice_packages = ap (used_after twice_graph []) twice_instantiations ∙ rw (twice_0, twice_1) refl
 
 -- by number, as no edge leads to either
-pub twice_in_order : Writes twice_graph.edges (is_written twice_graph) (0 ∷ 1 ∷ [])
-twice_in_order = Writes-same twice_graph.edges both (is_written twice_graph) (are_both twice_graph instance_of_first instance_of_first twice_0 twice_1 twice_more refl refl) (0 ∷ 1 ∷ []) (
-  record { here = refl; free = λ e stands _. absurd (twice_no_edge e stands); lower = λ m small _. absurd (not_below_0 m small) },
-  (record { here = refl; free = λ e stands _. absurd (twice_no_edge e stands); lower = λ m small left. absurd (lower_1 m small left) }, none_of_both),
+pub twice_in_order : Writes twice_graph.edges (is_written twice_graph) two_nodes
+twice_in_order = Writes-same twice_graph.edges both (is_written twice_graph) (are_both twice_graph instance_of_first instance_of_first twice_0 twice_1 twice_more refl refl) two_nodes (
+  record { here = refl; free = λ e stands _. absurd (twice_no_edge e stands); lower = λ m small _. absurd (not_below_0 m.0 small) },
+  (record { here = refl; free = λ e stands _. absurd (twice_no_edge e stands); lower = λ m small left. absurd (lower_1 m.0 small left) }, none_of_both),
 )
 
-abbrev twice_at : ℕ → Thing
-twice_at n = instance_at n
+abbrev twice_at : NodeId → Thing
+twice_at n = instance_at n.0
 
-abbrev twice_place : ℕ → ℕ
-twice_place n = suc n
+abbrev twice_index : NodeId → ℕ
+twice_index n = n.0
+
+abbrev twice_place : NodeId → ℕ
+twice_place n = suc n.0
 
 twice_imports : AreOuterImports twice_graph (meaning twice).imports
 twice_imports = no_imports twice_graph (asked_none twice_graph plain all) where
@@ -452,15 +493,15 @@ twice_imports = no_imports twice_graph (asked_none twice_graph plain all) where
   plain = by_twice (λ n node. (node.kind ≡ graph.instantiation) ⊎ (node.kind ≡ graph.alias)) (inl refl) (inl refl)
 
   all : AllSet twice_graph
-  all = by_twice (λ n node. node.kind ≡ graph.instantiation → (i : ℕ) → i < length (imports_of twice_graph node) → IsSatisfied twice_graph (node_number n) i) (λ _ i small. absurd (not_below_0 i small)) (λ _ i small. absurd (not_below_0 i small))
+  all = by_twice (λ n node. node.kind ≡ graph.instantiation → (i : ℕ) → i < length (imports_of twice_graph node) → IsSatisfied twice_graph n i) (λ _ i small. absurd (not_below_0 i small)) (λ _ i small. absurd (not_below_0 i small))
 
-twice_instances : AreInstantiations twice_graph defining 0 twice_at (0 ∷ 1 ∷ []) (instantiations twice_graph (0 ∷ 1 ∷ [])) (meaning twice).instantiations
-twice_instances = subst (λ ns. AreInstantiations twice_graph defining 0 twice_at (0 ∷ 1 ∷ []) ns (meaning twice).instantiations) (sym twice_instantiations) (
+twice_instances : AreInstantiations twice_graph defining 0 twice_at two_nodes (instantiations twice_graph two_nodes) (meaning twice).instantiations
+twice_instances = subst (λ ns. AreInstantiations twice_graph defining 0 twice_at two_nodes ns (meaning twice).instantiations) (sym twice_instantiations) (
   record { node = instance_of_first; there = twice_0; owner = first; owned = refl; place = 0; used = ap (λ ps. slice_get ps 0) twice_packages; component = refl; arguments = tt },
   (record { node = instance_of_first; there = twice_1; owner = first; owned = refl; place = 0; used = ap (λ ps. slice_get ps 0) twice_packages; component = refl; arguments = tt }, tt),
 )
 
-twice_in_place : (i j n m : ℕ) → i < j → slice_get (0 ∷ 1 ∷ []) i ≡ Some n → slice_get (0 ∷ 1 ∷ []) j ≡ Some m → suc n < suc m
+twice_in_place : (i j : ℕ) (n m : NodeId) → i < j → slice_get two_nodes i ≡ Some n → slice_get two_nodes j ≡ Some m → suc n.0 < suc m.0
 twice_in_place i j n m less first_is second_is =
     let (a, _) = in_two i n first_is in
     let (b, _) = in_two j m second_is in
@@ -469,29 +510,29 @@ twice_in_place i j n m less first_is second_is =
 -- the items mean the graph: each instance is one of its own
 pub twice_means : Means twice twice_graph defining
 twice_means = record {
-  order = 0 ∷ 1 ∷ [];
+  order = two_nodes;
   in_order = twice_in_order;
   at = twice_at;
-  index = λ n. n;
+  index = twice_index;
   meant = (tt, ((tt, tt), ((tt, tt), tt)));
   classes = [];
   outer = twice_imports;
   imports = refl;
   components = ap (map (package_bytes twice_graph)) (sym twice_packages);
   instances = twice_instances;
-  things = by_twice (λ n node. IsThing twice_graph twice_at (0 ∷ 1 ∷ []) n node)
+  things = by_twice (λ n node. IsThing twice_graph twice_at two_nodes n node)
       (as_instantiation 0 refl (ap (λ ns. slice_get ns 0) twice_instantiations) refl)
       (as_instantiation 1 refl (ap (λ ns. slice_get ns 1) twice_instantiations) refl);
-  stand = by_twice (λ n node. stands_for (meaning twice) (sort_of_kind node.item_kind) n ≡ twice_at n) refl refl;
+  stand = by_twice (λ n node. stands_for (meaning twice) (sort_of_kind node.item_kind) (twice_index n) ≡ twice_at n) refl refl;
   exports = rw (twice_0, twice_1) refl;
   place = twice_place;
-  own_items = λ n node there _. by_twice (λ k x. HasItem twice x k (twice_place k))
+  own_items = λ n node there _. by_twice (λ k x. HasItem twice x (twice_index k) (twice_place k))
       (record { it = instantiate 0 []; before = nested preamble ∷ []; after = instantiate 0 [] ∷ []; split = refl; here = refl; own = refl; adds = refl; counted = refl })
       (record { it = instantiate 0 []; before = nested preamble ∷ instantiate 0 [] ∷ []; after = []; split = refl; here = refl; own = refl; adds = refl; counted = refl })
       n node there;
   in_place = twice_in_place;
   names = [];
-  named = no_names twice_graph (λ n. n) (by_twice (λ _ node. node.name ≡ None) refl refl);
+  named = no_names twice_graph twice_index (by_twice (λ _ node. node.name ≡ None) refl refl);
   customs = refl;
   body = twice;
   last = refl;
@@ -529,7 +570,7 @@ exporting_more n =
     let b : eq_by_cmp nat_cmp (suc (suc n)) 1 ≡ false = grind (arith, nat_tests) in
     exporting_are (suc (suc n)) ∙ rw (a, b) refl
 
-by_exporting : (P : ℕ → GraphNode → Type 0) → P 0 instance_of_first → P 1 exported_alias → (n : ℕ) (node : GraphNode) → node_at exporting_graph (node_number n) ≡ Some node → P n node
+by_exporting : (P : NodeId → GraphNode → Type 0) → P (node_number 0) instance_of_first → P (node_number 1) exported_alias → (n : NodeId) (node : GraphNode) → node_at exporting_graph n ≡ Some node → P n node
 by_exporting = by_two exporting_graph instance_of_first exported_alias exporting_0 exporting_1 exporting_more
 
 or_false : (b : Bool) → (b || false) ≡ true → b ≡ true
@@ -544,18 +585,18 @@ exporting_stands : set.contains exporting_graph.edges (alias_edge (node_number 0
 exporting_stands = set.contains-from_list edge_cmp_total (alias_edge (node_number 0) (node_number 1) 0 ∷ []) (alias_edge (node_number 0) (node_number 1) 0)
 
 -- one node is an instance
-exporting_instantiations : instantiations exporting_graph (0 ∷ 1 ∷ []) ≡ 0 ∷ []
+exporting_instantiations : instantiations exporting_graph two_nodes ≡ node_number 0 ∷ []
 exporting_instantiations = rw (exporting_0, exporting_1) refl
 
 -- its package is used
-exporting_packages : used_packages exporting_graph (0 ∷ 1 ∷ []) ≡ first ∷ []
+exporting_packages : used_packages exporting_graph two_nodes ≡ first ∷ []
 exporting_packages = ap (used_after exporting_graph []) exporting_instantiations ∙ rw exporting_0 refl
 
 -- the instance before its alias
-pub exporting_in_order : Writes exporting_graph.edges (is_written exporting_graph) (0 ∷ 1 ∷ [])
-exporting_in_order = Writes-same exporting_graph.edges both (is_written exporting_graph) (are_both exporting_graph instance_of_first exported_alias exporting_0 exporting_1 exporting_more refl refl) (0 ∷ 1 ∷ []) (
-  record { here = refl; free = λ e stands leads. absurd (differ 1 0 (ap (λ (x : Edge). x.target.0) (sym (exporting_edge e stands)) ∙ leads) refl); lower = λ m small _. absurd (not_below_0 m small) },
-  (record { here = refl; free = λ e stands _. ap (λ (x : Edge). without both 0 x.source.0) (exporting_edge e stands); lower = λ m small left. absurd (lower_1 m small left) }, none_of_both),
+pub exporting_in_order : Writes exporting_graph.edges (is_written exporting_graph) two_nodes
+exporting_in_order = Writes-same exporting_graph.edges both (is_written exporting_graph) (are_both exporting_graph instance_of_first exported_alias exporting_0 exporting_1 exporting_more refl refl) two_nodes (
+  record { here = refl; free = λ e stands leads. absurd (elsewhere e (alias_edge (node_number 0) (node_number 1) 0) (node_number 0) (exporting_edge e stands) leads refl); lower = λ m small _. absurd (not_below_0 m.0 small) },
+  (record { here = refl; free = λ e stands _. ap (λ (x : Edge). without both (node_number 0) x.source) (exporting_edge e stands); lower = λ m small left. absurd (lower_1 m.0 small left) }, none_of_both),
 )
 
 exporting_imports : AreOuterImports exporting_graph (meaning exporting).imports
@@ -564,29 +605,29 @@ exporting_imports = no_imports exporting_graph (asked_none exporting_graph plain
   plain = by_exporting (λ n node. (node.kind ≡ graph.instantiation) ⊎ (node.kind ≡ graph.alias)) (inl refl) (inr refl)
 
   all : AllSet exporting_graph
-  all = by_exporting (λ n node. node.kind ≡ graph.instantiation → (i : ℕ) → i < length (imports_of exporting_graph node) → IsSatisfied exporting_graph (node_number n) i) (λ _ i small. absurd (not_below_0 i small)) (λ wrong. absurd (alias_differs wrong))
+  all = by_exporting (λ n node. node.kind ≡ graph.instantiation → (i : ℕ) → i < length (imports_of exporting_graph node) → IsSatisfied exporting_graph n i) (λ _ i small. absurd (not_below_0 i small)) (λ wrong. absurd (alias_differs wrong))
 
-exporting_instances : AreInstantiations exporting_graph defining 0 readme_at (0 ∷ 1 ∷ []) (instantiations exporting_graph (0 ∷ 1 ∷ [])) (meaning exporting).instantiations
-exporting_instances = subst (λ ns. AreInstantiations exporting_graph defining 0 readme_at (0 ∷ 1 ∷ []) ns (meaning exporting).instantiations) (sym exporting_instantiations) (
+exporting_instances : AreInstantiations exporting_graph defining 0 readme_at two_nodes (instantiations exporting_graph two_nodes) (meaning exporting).instantiations
+exporting_instances = subst (λ ns. AreInstantiations exporting_graph defining 0 readme_at two_nodes ns (meaning exporting).instantiations) (sym exporting_instantiations) (
   record { node = instance_of_first; there = exporting_0; owner = first; owned = refl; place = 0; used = ap (λ ps. slice_get ps 0) exporting_packages; component = refl; arguments = tt },
   tt,
 )
 
-exporting_in_place : (i j n m : ℕ) → i < j → slice_get (0 ∷ 1 ∷ []) i ≡ Some n → slice_get (0 ∷ 1 ∷ []) j ≡ Some m → readme_place n < readme_place m
+exporting_in_place : (i j : ℕ) (n m : NodeId) → i < j → slice_get two_nodes i ≡ Some n → slice_get two_nodes j ≡ Some m → readme_place n < readme_place m
 exporting_in_place i j n m less first_is second_is =
     let (a, _) = in_two i n first_is in
     let (b, small) = in_two j m second_is in
-    subst (λ k. readme_place k < readme_place m) a (subst (λ k. readme_place i < readme_place k) b (rises i j less (omega (arith, small))))
+    subst (λ k. place_of k < readme_place m) a (subst (λ k. place_of i < place_of k) b (rises i j less (omega (arith, small))))
 
 -- what is exported is the alias
 -- no export is a definition's
 exporting_further : further_exports exporting_graph ≡ exporting_graph.exports
 exporting_further = rw exporting_1 refl
 
-exporting_first : flat_map (first_export exporting_graph readme_at) (0 ∷ 1 ∷ []) ≡ []
+exporting_first : flat_map (first_export exporting_graph readme_at) two_nodes ≡ []
 exporting_first = rw (exporting_0, exporting_1) refl
 
-exporting_exports : map shown (meaning exporting).exports ≡ flat_map (first_export exporting_graph readme_at) (0 ∷ 1 ∷ []) ++ flat_map (export_of exporting_graph readme_at) (further_exports exporting_graph)
+exporting_exports : map shown (meaning exporting).exports ≡ flat_map (first_export exporting_graph readme_at) two_nodes ++ flat_map (export_of exporting_graph readme_at) (further_exports exporting_graph)
 exporting_exports =
     sym (ap (λ (o : Option GraphNode). option_case o [] (λ node. (120 ∷ [], sort_of_kind node.item_kind, projection (instance_at 0) (97 ∷ [])) ∷ []) ++ []) exporting_1)
     ∙ ap (flat_map (export_of exporting_graph readme_at)) (sym exporting_further)
@@ -602,7 +643,7 @@ exporting_last =
 -- the items mean the graph
 pub exporting_means : Means exporting exporting_graph defining
 exporting_means = record {
-  order = 0 ∷ 1 ∷ [];
+  order = two_nodes;
   in_order = exporting_in_order;
   at = readme_at;
   index = readme_index;
@@ -612,7 +653,7 @@ exporting_means = record {
   imports = refl;
   components = ap (map (package_bytes exporting_graph)) (sym exporting_packages);
   instances = exporting_instances;
-  things = by_exporting (λ n node. IsThing exporting_graph readme_at (0 ∷ 1 ∷ []) n node)
+  things = by_exporting (λ n node. IsThing exporting_graph readme_at two_nodes n node)
       (as_instantiation 0 refl (ap (λ ns. slice_get ns 0) exporting_instantiations) refl)
       (as_alias (node_number 0) instance_of_first 0 (97 ∷ []) refl exporting_stands exporting_0 refl refl);
   stand = by_exporting (λ n node. stands_for (meaning exporting) (sort_of_kind node.item_kind) (readme_index n) ≡ readme_at n) refl refl;

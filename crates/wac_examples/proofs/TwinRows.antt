@@ -17,9 +17,9 @@ use Rattle.wac_binary.specs.Bytes.{preamble}
 use Rattle.wac_binary.specs.Items.{Item, nested, instantiate, alias_item, export_alias, export_item}
 use Rattle.wac_binary.specs.Meaning.{meaning, projection, instance_at, stands_for, Thing}
 use Rattle.wac_edges.specs.declared.edges.Edge.{Edge}
-use Rattle.wac_edges.specs.Edge.{edge_cmp, alias_edge, argument_edge}
+use Rattle.wac_edges.specs.declared.node.NodeId.{NodeId}
+use Rattle.wac_edges.specs.Edge.{edge_cmp, alias_edge, argument_edge, node_number}
 use Rattle.wac_nodes.specs.Graph as graph
-use Rattle.wac_edges.specs.Edge.{node_number}
 use Rattle.wac_nodes.specs.Graph.{Graph, GraphNode, node_at, imports_of, IsSatisfied}
 use Rattle.wac_edges.specs.Order.{Writes}
 use Rattle.wac_nodes.specs.OuterImports.{AreOuterImports}
@@ -127,32 +127,35 @@ none_some : {x : GraphNode} → None ≡ Some x → ⊥
 none_some e = cc
 
 -- what holds of the five nodes holds of each
-by_node : (P : ℕ → GraphNode → Type 0) → P 0 instance_of_first → P 1 instance_of_first → P 2 alias_of_first → P 3 alias_of_first → P 4 instance_of_second → (n : ℕ) (node : GraphNode) → node_at twins (node_number n) ≡ Some node → P n node
-by_node P a b c d e zero node is = subst (P 0) (some_same (sym node_0 ∙ is)) a
-by_node P a b c d e (suc zero) node is = subst (P 1) (some_same (sym node_1 ∙ is)) b
-by_node P a b c d e (suc (suc zero)) node is = subst (P 2) (some_same (sym node_2 ∙ is)) c
-by_node P a b c d e (suc (suc (suc zero))) node is = subst (P 3) (some_same (sym node_3 ∙ is)) d
-by_node P a b c d e (suc (suc (suc (suc zero)))) node is = subst (P 4) (some_same (sym node_4 ∙ is)) e
-by_node P a b c d e (suc (suc (suc (suc (suc n))))) node is = absurd (none_some (sym (no_more n) ∙ is))
+by_node : (P : NodeId → GraphNode → Type 0) → P (node_number 0) instance_of_first → P (node_number 1) instance_of_first → P (node_number 2) alias_of_first → P (node_number 3) alias_of_first → P (node_number 4) instance_of_second
+    → (n : NodeId) (node : GraphNode) → node_at twins n ≡ Some node → P n node
+by_node P a b c d e n node is = of_number n.0 node is where
+  of_number : (k : ℕ) (x : GraphNode) → node_at twins (node_number k) ≡ Some x → P (node_number k) x
+  of_number zero x is = subst (P (node_number 0)) (some_same (sym node_0 ∙ is)) a
+  of_number (suc zero) x is = subst (P (node_number 1)) (some_same (sym node_1 ∙ is)) b
+  of_number (suc (suc zero)) x is = subst (P (node_number 2)) (some_same (sym node_2 ∙ is)) c
+  of_number (suc (suc (suc zero))) x is = subst (P (node_number 3)) (some_same (sym node_3 ∙ is)) d
+  of_number (suc (suc (suc (suc zero)))) x is = subst (P (node_number 4)) (some_same (sym node_4 ∙ is)) e
+  of_number (suc (suc (suc (suc (suc k))))) x is = absurd (none_some (sym (no_more k) ∙ is))
 
 -- ---- the order
-abbrev pub numbers : List ℕ
-numbers = 0 ∷ 1 ∷ 2 ∷ 3 ∷ 4 ∷ []
+abbrev pub by_their_numbers : List NodeId
+by_their_numbers = node_number 0 ∷ node_number 1 ∷ node_number 2 ∷ node_number 3 ∷ node_number 4 ∷ []
 
-is_there : (n : ℕ) (node : GraphNode) → node_at twins (node_number n) ≡ Some node → not (is_import node.kind) ≡ true → is_written twins n ≡ true
+is_there : (n : NodeId) (node : GraphNode) → node_at twins n ≡ Some node → not (is_import node.kind) ≡ true → is_written twins n ≡ true
 is_there n node is kept = ap (λ o. option_case o false (λ x. not (is_import x.kind))) is ∙ kept
 
 are_five : Range (is_written twins) 0 5
-are_five = record { below = λ m small. absurd (omega arith); within = λ m _ small. within m small; above = λ m from. above m from } where
-  within : (m : ℕ) → m < 0 + 5 → is_written twins m ≡ true
-  within zero _ = is_there 0 instance_of_first node_0 refl
-  within (suc zero) _ = is_there 1 instance_of_first node_1 refl
-  within (suc (suc zero)) _ = is_there 2 alias_of_first node_2 refl
-  within (suc (suc (suc zero))) _ = is_there 3 alias_of_first node_3 refl
-  within (suc (suc (suc (suc zero)))) _ = is_there 4 instance_of_second node_4 refl
+are_five = record { below = λ m small. absurd (omega arith); within = λ m _ small. within m.0 small; above = λ m from. above m.0 from } where
+  within : (m : ℕ) → m < 0 + 5 → is_written twins (node_number m) ≡ true
+  within zero _ = is_there (node_number 0) instance_of_first node_0 refl
+  within (suc zero) _ = is_there (node_number 1) instance_of_first node_1 refl
+  within (suc (suc zero)) _ = is_there (node_number 2) alias_of_first node_2 refl
+  within (suc (suc (suc zero))) _ = is_there (node_number 3) alias_of_first node_3 refl
+  within (suc (suc (suc (suc zero)))) _ = is_there (node_number 4) instance_of_second node_4 refl
   within (suc (suc (suc (suc (suc m))))) small = absurd (omega arith)
 
-  above : (m : ℕ) → 0 + 5 ≤ m → is_written twins m ≡ false
+  above : (m : ℕ) → 0 + 5 ≤ m → is_written twins (node_number m) ≡ false
   above zero from = absurd (omega arith)
   above (suc zero) from = absurd (omega arith)
   above (suc (suc zero)) from = absurd (omega arith)
@@ -161,7 +164,7 @@ are_five = record { below = λ m small. absurd (omega arith); within = λ m _ sm
   above (suc (suc (suc (suc (suc m))))) _ = ap (λ o. option_case o false (λ node. not (is_import node.kind))) (no_more m)
 
 -- edges lead to higher numbers, so the order is that of the numbers
-pub twins_in_order : Writes twins.edges (is_written twins) numbers
+pub twins_in_order : Writes twins.edges (is_written twins) by_their_numbers
 twins_in_order = by_number twins.edges (by_edge (λ e. e.source.0 < e.target.0) edge_list (omega arith, (omega arith, (omega arith, (omega arith, tt))))) 0 5 (is_written twins) are_five
 
 -- an edge of the list stands in the graph
@@ -169,34 +172,43 @@ pub stands : (e : Edge) → list_any (eq_by_cmp edge_cmp e) edge_list ≡ true �
 stands e is = set.contains-from_list edge_cmp_total edge_list e ∙ is
 
 -- three nodes are instances
-pub twins_instantiations : instantiations twins numbers ≡ 0 ∷ 1 ∷ 4 ∷ []
+pub twins_instantiations : instantiations twins by_their_numbers ≡ node_number 0 ∷ node_number 1 ∷ node_number 4 ∷ []
 twins_instantiations = rw (node_0, node_1, node_2, node_3, node_4) refl
 
 -- both packages are used, in this order
-pub twins_packages : used_packages twins numbers ≡ first ∷ second ∷ []
+pub twins_packages : used_packages twins by_their_numbers ≡ first ∷ second ∷ []
 twins_packages = ap (used_after twins []) twins_instantiations ∙ rw (node_0, node_1, node_4) refl
 
 -- ---- what each node stands for, its index and the place of its item
-abbrev pub twins_at : ℕ → Thing
-twins_at zero = instance_at 0
-twins_at (suc zero) = instance_at 1
-twins_at (suc (suc zero)) = projection (instance_at 0) (codes "a")
-twins_at (suc (suc (suc zero))) = projection (instance_at 1) (codes "a")
-twins_at (suc (suc (suc (suc n)))) = instance_at 2
+abbrev thing_of : ℕ → Thing
+thing_of zero = instance_at 0
+thing_of (suc zero) = instance_at 1
+thing_of (suc (suc zero)) = projection (instance_at 0) (codes "a")
+thing_of (suc (suc (suc zero))) = projection (instance_at 1) (codes "a")
+thing_of (suc (suc (suc (suc k)))) = instance_at 2
 
-abbrev twins_index : ℕ → ℕ
-twins_index zero = 0
-twins_index (suc zero) = 1
-twins_index (suc (suc zero)) = 0
-twins_index (suc (suc (suc zero))) = 1
-twins_index (suc (suc (suc (suc n)))) = 2
+abbrev pub twins_at : NodeId → Thing
+twins_at n = thing_of n.0
 
-abbrev twins_place : ℕ → ℕ
-twins_place zero = 1
-twins_place (suc zero) = 2
-twins_place (suc (suc zero)) = 3
-twins_place (suc (suc (suc zero))) = 4
-twins_place (suc (suc (suc (suc n)))) = suc (suc (suc (suc (suc (suc n)))))
+abbrev index_of : ℕ → ℕ
+index_of zero = 0
+index_of (suc zero) = 1
+index_of (suc (suc zero)) = 0
+index_of (suc (suc (suc zero))) = 1
+index_of (suc (suc (suc (suc k)))) = 2
+
+abbrev twins_index : NodeId → ℕ
+twins_index n = index_of n.0
+
+abbrev place_of : ℕ → ℕ
+place_of zero = 1
+place_of (suc zero) = 2
+place_of (suc (suc zero)) = 3
+place_of (suc (suc (suc zero))) = 4
+place_of (suc (suc (suc (suc k)))) = suc (suc (suc (suc (suc (suc k)))))
+
+abbrev twins_place : NodeId → ℕ
+twins_place n = place_of n.0
 
 differ : graph.alias ≡ graph.instantiation → ⊥
 differ h = cc
@@ -216,7 +228,7 @@ twins_imports = no_imports twins (asked_none twins plain all) where
   of_second (suc (suc i)) small = absurd (omega arith)
 
   all : AllSet twins
-  all = by_node (λ n node. node.kind ≡ graph.instantiation → (i : ℕ) → i < length (imports_of twins node) → IsSatisfied twins (node_number n) i)
+  all = by_node (λ n node. node.kind ≡ graph.instantiation → (i : ℕ) → i < length (imports_of twins node) → IsSatisfied twins n i)
       (λ _ i small. absurd (no_import i small))
       (λ _ i small. absurd (no_import i small))
       (λ wrong. absurd (differ wrong))
@@ -224,8 +236,8 @@ twins_imports = no_imports twins (asked_none twins plain all) where
       (λ _ i small. of_second i small)
 
 -- the three instantiations, the last with the aliases as `x` and `y`
-twins_instances : AreInstantiations twins defining 0 twins_at numbers (instantiations twins numbers) (meaning right).instantiations
-twins_instances = subst (λ ns. AreInstantiations twins defining 0 twins_at numbers ns (meaning right).instantiations) (sym twins_instantiations) (
+twins_instances : AreInstantiations twins defining 0 twins_at by_their_numbers (instantiations twins by_their_numbers) (meaning right).instantiations
+twins_instances = subst (λ ns. AreInstantiations twins defining 0 twins_at by_their_numbers ns (meaning right).instantiations) (sym twins_instantiations) (
   record { node = instance_of_first; there = node_0; owner = first; owned = refl; place = 0; used = ap (λ ps. slice_get ps 0) twins_packages; component = refl; arguments = tt },
   (
     record { node = instance_of_first; there = node_1; owner = first; owned = refl; place = 0; used = ap (λ ps. slice_get ps 0) twins_packages; component = refl; arguments = tt },
@@ -233,8 +245,8 @@ twins_instances = subst (λ ns. AreInstantiations twins defining 0 twins_at numb
   ),
 )
 
-twins_things : (n : ℕ) (node : GraphNode) → node_at twins (node_number n) ≡ Some node → IsThing twins twins_at numbers n node
-twins_things = by_node (λ n node. IsThing twins twins_at numbers n node)
+twins_things : (n : NodeId) (node : GraphNode) → node_at twins n ≡ Some node → IsThing twins twins_at by_their_numbers n node
+twins_things = by_node (λ n node. IsThing twins twins_at by_their_numbers n node)
     (as_instantiation 0 refl (ap (λ ns. slice_get ns 0) twins_instantiations) refl)
     (as_instantiation 1 refl (ap (λ ns. slice_get ns 1) twins_instantiations) refl)
     (as_alias (node_number 0) instance_of_first 0 (codes "a") refl (stands (alias_edge (node_number 0) (node_number 2) 0) refl) node_0 refl refl)
@@ -242,7 +254,7 @@ twins_things = by_node (λ n node. IsThing twins twins_at numbers n node)
     (as_instantiation 2 refl (ap (λ ns. slice_get ns 2) twins_instantiations) refl)
 
 -- the items of the nodes
-twins_items : (n : ℕ) (node : GraphNode) → node_at twins (node_number n) ≡ Some node → HasItem right node (twins_index n) (twins_place n)
+twins_items : (n : NodeId) (node : GraphNode) → node_at twins n ≡ Some node → HasItem right node (twins_index n) (twins_place n)
 twins_items = by_node (λ n node. HasItem right node (twins_index n) (twins_place n))
     (record { it = instantiate 0 []; before = take 1 right; after = drop 2 right; split = refl; here = refl; own = refl; adds = refl; counted = refl })
     (record { it = instantiate 0 []; before = take 2 right; after = drop 3 right; split = refl; here = refl; own = refl; adds = refl; counted = refl })
@@ -250,24 +262,27 @@ twins_items = by_node (λ n node. HasItem right node (twins_index n) (twins_plac
     (record { it = alias_of 1 (codes "a"); before = take 4 right; after = drop 5 right; split = refl; here = refl; own = refl; adds = refl; counted = refl })
     (record { it = given_both 1 0 1; before = take 6 right; after = drop 7 right; split = refl; here = refl; own = refl; adds = refl; counted = refl })
 
--- a number stands at its own position
-in_numbers : (i n : ℕ) → slice_get numbers i ≡ Some n → (i ≡ n) × (n < 5)
-in_numbers zero n h = let e : 0 ≡ n = cc in (e, omega arith)
-in_numbers (suc zero) n h = let e : 1 ≡ n = cc in (e, omega arith)
-in_numbers (suc (suc zero)) n h = let e : 2 ≡ n = cc in (e, omega arith)
-in_numbers (suc (suc (suc zero))) n h = let e : 3 ≡ n = cc in (e, omega arith)
-in_numbers (suc (suc (suc (suc zero)))) n h = let e : 4 ≡ n = cc in (e, omega arith)
+one_number : (x y : NodeId) → Some x ≡ Some y → x.0 ≡ y.0
+one_number x y e = let same : x ≡ y = cc in ap (λ (n : NodeId). n.0) same
+
+-- a node stands at its own number
+in_numbers : (i : ℕ) (n : NodeId) → slice_get by_their_numbers i ≡ Some n → (i ≡ n.0) × (n.0 < 5)
+in_numbers zero n h = let e : 0 ≡ n.0 = one_number (node_number 0) n h in (e, omega (arith, e))
+in_numbers (suc zero) n h = let e : 1 ≡ n.0 = one_number (node_number 1) n h in (e, omega (arith, e))
+in_numbers (suc (suc zero)) n h = let e : 2 ≡ n.0 = one_number (node_number 2) n h in (e, omega (arith, e))
+in_numbers (suc (suc (suc zero))) n h = let e : 3 ≡ n.0 = one_number (node_number 3) n h in (e, omega (arith, e))
+in_numbers (suc (suc (suc (suc zero)))) n h = let e : 4 ≡ n.0 = one_number (node_number 4) n h in (e, omega (arith, e))
 in_numbers (suc (suc (suc (suc (suc i))))) n h = let none : None ≡ Some n = h in absurd (cc)
 
 -- only the component of the second package stands between the items of nodes
-place_before : (n : ℕ) → n < 4 → twins_place n ≡ suc n
+place_before : (n : ℕ) → n < 4 → place_of n ≡ suc n
 place_before zero _ = refl
 place_before (suc zero) _ = refl
 place_before (suc (suc zero)) _ = refl
 place_before (suc (suc (suc zero))) _ = refl
 place_before (suc (suc (suc (suc n)))) small = absurd (omega arith)
 
-place_behind : (n : ℕ) → suc n ≤ twins_place n
+place_behind : (n : ℕ) → suc n ≤ place_of n
 place_behind zero = omega arith
 place_behind (suc zero) = omega arith
 place_behind (suc (suc zero)) = omega arith
@@ -275,25 +290,25 @@ place_behind (suc (suc (suc zero))) = omega arith
 place_behind (suc (suc (suc (suc n)))) = omega arith
 
 -- the items stand in the order of the nodes
-twins_in_place : (i j n m : ℕ) → i < j → slice_get numbers i ≡ Some n → slice_get numbers j ≡ Some m → twins_place n < twins_place m
+twins_in_place : (i j : ℕ) (n m : NodeId) → i < j → slice_get by_their_numbers i ≡ Some n → slice_get by_their_numbers j ≡ Some m → twins_place n < twins_place m
 twins_in_place i j n m less first_is second_is =
     let (a, _) = in_numbers i n first_is in
     let (b, small) = in_numbers j m second_is in
-    let early : n < 4 = omega (arith, less, a, b, small) in
-    omega (arith, less, a, b, place_before n early, place_behind m)
+    let early : n.0 < 4 = omega (arith, less, a, b, small) in
+    omega (arith, less, a, b, place_before n.0 early, place_behind m.0)
 
 -- what is exported is the two aliases
 -- no export is a definition's
 pub twins_further : further_exports twins ≡ twins.exports
 twins_further = rw (node_2, node_3) refl
 
-pub twins_first : (at : ℕ → Thing) → flat_map (first_export twins at) numbers ≡ []
+pub twins_first : (at : NodeId → Thing) → flat_map (first_export twins at) by_their_numbers ≡ []
 twins_first at = rw (node_0, node_1, node_2, node_3, node_4) refl
 
 twins_shown : map shown (meaning right).exports ≡ flat_map (export_of twins twins_at) twins.exports
 twins_shown = rw (node_2, node_3) refl
 
-twins_exports : map shown (meaning right).exports ≡ flat_map (first_export twins twins_at) numbers ++ flat_map (export_of twins twins_at) (further_exports twins)
+twins_exports : map shown (meaning right).exports ≡ flat_map (first_export twins twins_at) by_their_numbers ++ flat_map (export_of twins twins_at) (further_exports twins)
 twins_exports =
     twins_shown ∙ ap (flat_map (export_of twins twins_at)) (sym twins_further)
     ∙ ap (λ xs. xs ++ flat_map (export_of twins twins_at) (further_exports twins)) (sym (twins_first twins_at))
@@ -310,7 +325,7 @@ twins_last =
 -- the items mean the graph
 pub twins_mean : Means right twins defining
 twins_mean = record {
-  order = numbers;
+  order = by_their_numbers;
   in_order = twins_in_order;
   at = twins_at;
   index = twins_index;

@@ -1,22 +1,19 @@
 -- Where components are defined, no node has a name and no type is defined, what is written is what the options ask for.
-use Rattle.std.proofs.Common.{◌≡◌, ℕ, suc, Bool, true, false, not, cond, List, [], ◌∷◌, ◌++◌, map, refl, ap, ◌∙◌, sym, subst, Option, Some, None, IsSome}
+use Rattle.std.proofs.Common.{◌≡◌, ℕ, true, false, not, List, [], ◌∷◌, map, refl, ap, ◌∙◌, sym, Option, Some, None}
 use Rattle.std.specs.List.{filter, flat_map}
 use Rattle.std.specs.Prelude.{slice_get}
 use Rattle.wac_shapes.specs.Name.{Name, option_case}
-use Rattle.wac_binary.specs.declared.sorts.Sort.{Sort}
-use Rattle.wac_binary.specs.Customs.{of_sort}
 use Rattle.wac_binary.specs.Meaning.{Thing, component_at, Instantiation}
 use Rattle.wac_edges.specs.declared.node.NodeId.{NodeId}
 use Rattle.wac_nodes.specs.declared.options.EncodeOptions.{EncodeOptions}
 use Rattle.wac_nodes.specs.declared.packages.PackageId.{PackageId}
-use Rattle.wac_edges.specs.Edge.{node_number}
 use Rattle.wac_nodes.specs.Graph.{Graph, GraphNode, node_at, imports_of}
-use Rattle.wac_meaning.specs.Means.{used_packages, package_bytes, package_components, package_imports, package_thing, AreArguments, IsInstantiationOf, AreInstantiations, is_first, first_export, further_exports, IsNameOf, AreNames}
+use Rattle.wac_meaning.specs.Means.{used_packages, package_bytes, package_components, package_imports, package_thing, AreArguments, AreInstantiations, is_first, first_export, further_exports, AreNames}
 
 -- the instantiation is that of node n: of its package's component among those that are defined
-pub record IsMadeOf (g : Graph) (at : ℕ → Thing) (order : List ℕ) (n : ℕ) (it : Instantiation) : Type 0 where
+pub record IsMadeOf (g : Graph) (at : NodeId → Thing) (order : List NodeId) (n : NodeId) (it : Instantiation) : Type 0 where
   pub node : GraphNode
-  pub there : node_at g (node_number n) ≡ Some node
+  pub there : node_at g n ≡ Some node
   pub owner : PackageId
   pub owned : node.owner ≡ Some owner
   pub place : ℕ
@@ -24,22 +21,22 @@ pub record IsMadeOf (g : Graph) (at : ℕ → Thing) (order : List ℕ) (n : ℕ
   pub component : it.component ≡ component_at place
   pub arguments : AreArguments g at n 0 (imports_of g node) it.arguments
 
-abbrev pub AreMade : Graph → (ℕ → Thing) → List ℕ → List ℕ → List Instantiation → Type 0
+abbrev pub AreMade : Graph → (NodeId → Thing) → List NodeId → List NodeId → List Instantiation → Type 0
 AreMade g at order [] [] = Unit {0}
 AreMade g at order (n ∷ ns) (it ∷ its) = IsMadeOf g at order n it × AreMade g at order ns its
 AreMade g at order _ _ = ⊥
 
 module _ (g : Graph) (o : EncodeOptions) (define : o.define_components ≡ true) where
-  pub defined_components : (order : List ℕ) → package_components g o order ≡ map (package_bytes g) (used_packages g order)
+  pub defined_components : (order : List NodeId) → package_components g o order ≡ map (package_bytes g) (used_packages g order)
   defined_components order = rw define refl
 
-  pub no_package_imports : (order : List ℕ) → package_imports g o order ≡ []
+  pub no_package_imports : (order : List NodeId) → package_imports g o order ≡ []
   no_package_imports order = rw define refl
 
   defined_thing : (imports place : ℕ) → component_at place ≡ package_thing o imports place
   defined_thing imports place = rw define refl
 
-  pub made_instantiations : (imports : ℕ) (at : ℕ → Thing) (order ns : List ℕ) (its : List Instantiation) → AreMade g at order ns its → AreInstantiations g o imports at order ns its
+  pub made_instantiations : (imports : ℕ) (at : NodeId → Thing) (order ns : List NodeId) (its : List Instantiation) → AreMade g at order ns its → AreInstantiations g o imports at order ns its
   made_instantiations imports at order [] [] h = tt
   made_instantiations imports at order [] (it ∷ its) h = absurd h
   made_instantiations imports at order (n ∷ ns) [] h = absurd h
@@ -64,16 +61,16 @@ module _ (g : Graph) (none : HasNoFirst g) where
   pub further_all : further_exports g ≡ g.exports
   further_all = all_further g.exports
 
-  no_export : (at : ℕ → Thing) (n : ℕ) (o : Option GraphNode) → node_at g (node_number n) ≡ o → first_export g at n ≡ []
+  no_export : (at : NodeId → Thing) (n : NodeId) (o : Option GraphNode) → node_at g n ≡ o → first_export g at n ≡ []
   no_export at n None is = rw is refl
-  no_export at n (Some node) is = rw is (rw (none (node_number n) node is) refl)
+  no_export at n (Some node) is = rw is (rw (none n node is) refl)
 
-  pub no_first_exports : (at : ℕ → Thing) (order : List ℕ) → flat_map (first_export g at) order ≡ []
+  pub no_first_exports : (at : NodeId → Thing) (order : List NodeId) → flat_map (first_export g at) order ≡ []
   no_first_exports at [] = refl
-  no_first_exports at (n ∷ ns) = rw (no_export at n (node_at g (node_number n)) refl) (no_first_exports at ns)
+  no_first_exports at (n ∷ ns) = rw (no_export at n (node_at g n) refl) (no_first_exports at ns)
 
 -- where no node has a name no index has one
-pub no_names : (g : Graph) (index : ℕ → ℕ) → ((n : ℕ) (node : GraphNode) → node_at g (node_number n) ≡ Some node → node.name ≡ None) → AreNames g index []
+pub no_names : (g : Graph) (index : NodeId → ℕ) → ((n : NodeId) (node : GraphNode) → node_at g n ≡ Some node → node.name ≡ None) → AreNames g index []
 no_names g index none = record {
   each = λ t i name. (λ (k, at). absurd (nothing at), λ is. absurd (unnamed is.node (none is.n is.node is.there) name is.named));
   rising = (tt, (tt, (tt, (tt, (tt, (tt, tt))))));

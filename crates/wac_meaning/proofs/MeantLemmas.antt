@@ -90,7 +90,7 @@ module _ (items : List Item) (unknown : AreUnknown items) where
   alias_meant t i n there = (there, subst (λ (x : Tree). HasExport t x n) (sym (absent_at (meaning items).scope.instances i unknown)) tt)
 
 -- what a node stands for is something
-pub something : (g : Graph) (at : ℕ → Thing) (order : List ℕ) (n : ℕ) (node : GraphNode) → IsThing g at order n node → IsSomething (at n)
+pub something : (g : Graph) (at : NodeId → Thing) (order : List NodeId) (n : NodeId) (node : GraphNode) → IsThing g at order n node → IsSomething (at n)
 something g at order n node (as_import name p kind place is) = subst IsSomething (sym is) tt
 something g at order n node (as_instantiation k kind place is) = subst IsSomething (sym is) tt
 something g at order n node (as_definition t kind item is) = subst IsSomething (sym is) tt
@@ -103,7 +103,7 @@ IsAmong es name = (i : ℕ) × (n : NodeId) × (slice_get es i ≡ Some (name, n
 abbrev entry_of : Name → NodeId → Name × NodeId
 entry_of name n = (name, n)
 
-none_named : (g : Graph) (at : ℕ → Thing) (es : List (Name × NodeId)) (name : Name) → (IsAmong es name → ⊥) → list_any (same_name name) (map (λ e. e.0) (flat_map (export_of g at) es)) ≡ false
+none_named : (g : Graph) (at : NodeId → Thing) (es : List (Name × NodeId)) (name : Name) → (IsAmong es name → ⊥) → list_any (same_name name) (map (λ e. e.0) (flat_map (export_of g at) es)) ≡ false
 none_named g at [] name free = refl
 none_named g at (e ∷ es) name free = split (node_at g e.1) (none_named g at es name (λ h. free (suc h.0, h.1, h.2))) where
   differs : (b : Bool) → same_name name e.0 ≡ b → b ≡ false
@@ -111,7 +111,7 @@ none_named g at (e ∷ es) name free = split (node_at g e.1) (none_named g at es
   differs false is = refl
 
   split : (o : Option GraphNode) → list_any (same_name name) (map (λ e. e.0) (flat_map (export_of g at) es)) ≡ false
-      → list_any (same_name name) (map (λ x. x.0) (option_case o [] (λ node. (e.0, sort_of_kind node.item_kind, at (e.1).0) ∷ []) ++ flat_map (export_of g at) es)) ≡ false
+      → list_any (same_name name) (map (λ x. x.0) (option_case o [] (λ node. (e.0, sort_of_kind node.item_kind, at e.1) ∷ []) ++ flat_map (export_of g at) es)) ≡ false
   split None rest = rest
   split (Some node) rest = ap (λ b. b || list_any (same_name name) (map (λ x. x.0) (flat_map (export_of g at) es))) (differs (same_name name e.0) refl) ∙ rest
 
@@ -119,5 +119,5 @@ names_shown : (es : List Export) → map (λ (e : Export). e.name) es ≡ map (�
 names_shown [] = refl
 names_shown (e ∷ es) = ap (λ (ns : List Name). e.name ∷ ns) (names_shown es)
 
-pub new_name : (g : Graph) (at : ℕ → Thing) (items : List Item) (es : List (Name × NodeId)) (name : Name) → map shown (meaning items).exports ≡ flat_map (export_of g at) es → (IsAmong es name → ⊥) → IsNew name (map (λ (e : Export). e.name) (meaning items).exports)
+pub new_name : (g : Graph) (at : NodeId → Thing) (items : List Item) (es : List (Name × NodeId)) (name : Name) → map shown (meaning items).exports ≡ flat_map (export_of g at) es → (IsAmong es name → ⊥) → IsNew name (map (λ (e : Export). e.name) (meaning items).exports)
 new_name g at items es name exported free = ap (list_any (same_name name)) (names_shown (meaning items).exports ∙ ap (map (λ e. e.0)) exported) ∙ none_named g at es name free

@@ -1,5 +1,5 @@
 -- What is written of a graph after some of its nodes.
-use Rattle.std.proofs.Common.{◌≡◌, ℕ, zero, suc, ◌<◌, Bool, true, false, not, ◌||◌, cond, List, [], ◌∷◌, ◌++◌, length, map, refl, ap, ◌∙◌, sym, subst, arith, append_assoc, eqb, Option, Some, None, ◌⊎◌, inl, inr}
+use Rattle.std.proofs.Common.{◌≡◌, ℕ, zero, suc, ◌<◌, Bool, true, false, not, ◌||◌, cond, List, [], ◌∷◌, ◌++◌, length, map, refl, ap, ◌∙◌, sym, subst, arith, append_assoc, Option, Some, None, ◌⊎◌, inl, inr}
 use Rattle.std.specs.List.{AllByRecursion, list_any, filter}
 use Rattle.std.specs.Prelude.{slice_get}
 use Rattle.std.specs.FinSet as set
@@ -20,13 +20,12 @@ use Rattle.wac_edges.specs.declared.node.NodeId.{NodeId}
 use Rattle.wac_nodes.specs.declared.packages.PackageId.{PackageId}
 use Rattle.wac_edges.specs.Edge.{alias_edge, argument_edge}
 use Rattle.wac_nodes.specs.Graph as graph
-use Rattle.wac_edges.specs.Edge.{node_number}
 use Rattle.wac_nodes.specs.Graph.{Graph, GraphNode, Kind, node_at, package_at, imports_of, exports_of, IsAliasOf, IsArgumentOf}
 use Rattle.wac_nodes.specs.Sound.{IsSound}
 use Rattle.wac_edges.specs.Order.{Writes, IsLowestReady}
 use Rattle.wac_meaning.specs.Means.{node_is, is_import, is_instantiation, is_written, instantiations, IsThing, as_import, as_instantiation, as_alias, sort_of_kind, same_package, with_package, used_after, used_packages, package_bytes, IsArgument, given, AreArguments, HasItem, is_own_item, as_definition}
 use Rattle.wac_meaning.specs.Encoding.{HasComponent, IsArgumentItem, AreArgumentItems}
-use Rattle.wac_edges.proofs.WrittenOrder.{has, minus, minus-true, eqb_same, apart, in_push, now_in, slice_get-middle, written_left, only_place, has-filter}
+use Rattle.wac_edges.proofs.WrittenOrder.{has, minus, minus-true, same, same_itself, eqb_same, apart, in_list, in_push, now_in, slice_get-middle, written_left, only_place, has-filter}
 use Rattle.wac_meaning.proofs.ThingLemmas.{IsPlain, ready_sources}
 use Rattle.wac_meaning.proofs.MeantLemmas.{meant-push, AreUnknown, unknown-nested, unknown-instance, unknown-alias, alias_meant, something}
 use Rattle.wac_meaning.proofs.MeaningLemmas.{alias_stands, alias_rest, nested_bytes_more, nested_stands, instantiations_more, instance_stands, made_of, indexes-push}
@@ -78,15 +77,15 @@ any_first id [] = refl
 any_first id (e ∷ es) = ap (λ b. same_package id e.0 || b) (any_first id es)
 
 -- the packages of more nodes begin with those of fewer
-pub used-append : (g : Graph) (used : List PackageId) (xs ys : List ℕ) → used_after g used (xs ++ ys) ≡ used_after g (used_after g used xs) ys
+pub used-append : (g : Graph) (used : List PackageId) (xs ys : List NodeId) → used_after g used (xs ++ ys) ≡ used_after g (used_after g used xs) ys
 used-append g used [] ys = refl
-used-append g used (x ∷ xs) ys = used-append g (with_package used (option_case (node_at g (node_number x)) None (λ node. node.owner))) xs ys
+used-append g used (x ∷ xs) ys = used-append g (with_package used (option_case (node_at g x) None (λ node. node.owner))) xs ys
 
-pub used_prefix : (g : Graph) (used : List PackageId) (xs : List ℕ) (k : ℕ) (p : PackageId) → slice_get used k ≡ Some p → slice_get (used_after g used xs) k ≡ Some p
+pub used_prefix : (g : Graph) (used : List PackageId) (xs : List NodeId) (k : ℕ) (p : PackageId) → slice_get used k ≡ Some p → slice_get (used_after g used xs) k ≡ Some p
 used_prefix g used [] k p h = h
 used_prefix g used (x ∷ xs) k p h = used_prefix g (with_package used (owner x)) xs k p (one used (owner x) h) where
-  owner : ℕ → Option PackageId
-  owner n = option_case (node_at g (node_number n)) None (λ node. node.owner)
+  owner : NodeId → Option PackageId
+  owner n = option_case (node_at g n) None (λ node. node.owner)
 
   one : (us : List PackageId) (o : Option PackageId) → slice_get us k ≡ Some p → slice_get (with_package us o) k ≡ Some p
   one us None at = at
@@ -120,10 +119,10 @@ counted_up t items x is =
     let one : is_in (space t) (adds x) ≡ 1 = ap (is_in (space t)) is ∙ ap (λ b. cond b 1 0) (eqb_same (space t)) in
     omega (arith, indexes-push (space t) items x)
 
-module _ (counted : Counted) (earlier : Earlier) (g : Graph) (sound : IsSound g) (plain : IsPlain g) (order : List ℕ) (at : ℕ → Thing) (is_thing : (n : ℕ) (node : GraphNode) → node_at g (node_number n) ≡ Some node → IsThing g at order n node) where
+module _ (counted : Counted) (earlier : Earlier) (g : Graph) (sound : IsSound g) (plain : IsPlain g) (order : List NodeId) (at : NodeId → Thing) (is_thing : (n : NodeId) (node : GraphNode) → node_at g n ≡ Some node → IsThing g at order n node) where
   -- these items and indexes say what the nodes written so far stand for; `used` are the packages whose components are written
-  pub record Written (done : List ℕ) (used : List PackageId) (items : List Item) (components : List (PackageId × ℕ)) (index : ℕ → ℕ) : Type 0 where
-    pub nodes : (n : ℕ) → has done n ≡ true → is_written g n ≡ true
+  pub record Written (done : List NodeId) (used : List PackageId) (items : List Item) (components : List (PackageId × ℕ)) (index : NodeId → ℕ) : Type 0 where
+    pub nodes : (n : NodeId) → has done n ≡ true → is_written g n ≡ true
     pub meant : HasMeaning items
     pub unknown : AreUnknown items
     pub imports : (meaning items).imports ≡ []
@@ -133,14 +132,14 @@ module _ (counted : Counted) (earlier : Earlier) (g : Graph) (sound : IsSound g)
     pub packages : map (λ e. e.0) components ≡ used
     pub numbers : (k : ℕ) (e : PackageId × ℕ) → slice_get components k ≡ Some e → (e.1 < indexes (space sort.Component) items) × (stands_for (meaning items) sort.Component e.1 ≡ component_at k)
     pub made : AreMade g at order (instantiations g done) (meaning items).instantiations
-    pub stand : (n : ℕ) (node : GraphNode) → has done n ≡ true → node_at g (node_number n) ≡ Some node
+    pub stand : (n : NodeId) (node : GraphNode) → has done n ≡ true → node_at g n ≡ Some node
         → (index n < indexes (space (sort_of_kind node.item_kind)) items) × (stands_for (meaning items) (sort_of_kind node.item_kind) (index n) ≡ at n)
-    pub place : ℕ → ℕ
-    pub own : (n : ℕ) (node : GraphNode) → has done n ≡ true → node_at g (node_number n) ≡ Some node → HasItem items node (index n) (place n)
-    pub in_place : (i j n m : ℕ) → i < j → slice_get done i ≡ Some n → slice_get done j ≡ Some m → place n < place m
+    pub place : NodeId → ℕ
+    pub own : (n : NodeId) (node : GraphNode) → has done n ≡ true → node_at g n ≡ Some node → HasItem items node (index n) (place n)
+    pub in_place : (i j : ℕ) (n m : NodeId) → i < j → slice_get done i ≡ Some n → slice_get done j ≡ Some m → place n < place m
 
-  module _ (done : List ℕ) (used : List PackageId) (items : List Item) (components : List (PackageId × ℕ)) (index : ℕ → ℕ) (w : Written done used items components index) where
-    stand-push : (x : Item) (n : ℕ) (node : GraphNode) → has done n ≡ true → node_at g (node_number n) ≡ Some node
+  module _ (done : List NodeId) (used : List PackageId) (items : List Item) (components : List (PackageId × ℕ)) (index : NodeId → ℕ) (w : Written done used items components index) where
+    stand-push : (x : Item) (n : NodeId) (node : GraphNode) → has done n ≡ true → node_at g n ≡ Some node
         → (index n < indexes (space (sort_of_kind node.item_kind)) (items ++ x ∷ [])) × (stands_for (meaning (items ++ x ∷ [])) (sort_of_kind node.item_kind) (index n) ≡ at n)
     stand-push x n node here there =
         let s = w.stand n node here there in
@@ -186,7 +185,7 @@ module _ (counted : Counted) (earlier : Earlier) (g : Graph) (sound : IsSound g)
           )
 
   -- the component of a package, which is written where it was not
-  pub with_component : (done : List ℕ) (used : List PackageId) (items mid : List Item) (components after : List (PackageId × ℕ)) (index : ℕ → ℕ) (id : PackageId) (c : ℕ)
+  pub with_component : (done : List NodeId) (used : List PackageId) (items mid : List Item) (components after : List (PackageId × ℕ)) (index : NodeId → ℕ) (id : PackageId) (c : ℕ)
       → Written done used items components index → HasComponent (package_bytes g id) id c components after items mid
       → Written done (with_package used (Some id)) mid after index × ((k : ℕ) × (slice_get (with_package used (Some id)) k ≡ Some id) × (stands_for (meaning mid) sort.Component c ≡ component_at k))
   with_component done used items mid components after index id c w (inl (k, at_k, same, kept)) =
@@ -215,18 +214,18 @@ module _ (counted : Counted) (earlier : Earlier) (g : Graph) (sound : IsSound g)
       )
 
   -- what a node stands for is something
-  projected_thing : (m : ℕ) (node : GraphNode) (name : Name) → IsThing g at order m node → projected (at m) name ≡ projection (at m) name
+  projected_thing : (m : NodeId) (node : GraphNode) (name : Name) → IsThing g at order m node → projected (at m) name ≡ projection (at m) name
   projected_thing m node name (as_import n p k place is) = rw is refl
   projected_thing m node name (as_instantiation j k place is) = rw is refl
   projected_thing m node name (as_definition t k item is) = rw is refl
   projected_thing m node name (as_alias instance source i n k aliased there exported is) = rw is refl
 
   -- the next node, with the index at which it stands
-  module _ (done later : List ℕ) (n : ℕ) (node : GraphNode) (here : order ≡ done ++ n ∷ later) (ready : IsLowestReady g.edges (minus (is_written g) done) n) (writes : Writes g.edges (minus (is_written g) (done ++ n ∷ [])) later) (there : node_at g (node_number n) ≡ Some node) (index index' : ℕ → ℕ) (i : ℕ) (now : index' n ≡ i) (others : (m : ℕ) → eqb m n ≡ false → index' m ≡ index m) where
+  module _ (done later : List NodeId) (n : NodeId) (node : GraphNode) (here : order ≡ done ++ n ∷ later) (ready : IsLowestReady g.edges (minus (is_written g) done) n) (writes : Writes g.edges (minus (is_written g) (done ++ n ∷ [])) later) (there : node_at g n ≡ Some node) (index index' : NodeId → ℕ) (i : ℕ) (now : index' n ≡ i) (others : (m : NodeId) → same m n ≡ false → index' m ≡ index m) where
     absent : has done n ≡ false
     absent = (minus-true (is_written g) done n ready.here).1
 
-    source_done : (e : Edge) → set.contains g.edges e ≡ true → e.target.0 ≡ n → has done e.source.0 ≡ true
+    source_done : (e : Edge) → set.contains g.edges e ≡ true → e.target ≡ n → has done e.source ≡ true
     source_done e stands leads = ready_sources g sound plain done n ready e stands leads
 
     not_later : has later n ≡ false
@@ -236,39 +235,31 @@ module _ (counted : Counted) (earlier : Earlier) (g : Graph) (sound : IsSound g)
       split true is = absurd (clash (has (done ++ n ∷ []) n) (now_in done n) ((minus-true (is_written g) (done ++ n ∷ []) n (written_left g.edges (minus (is_written g) (done ++ n ∷ [])) later writes n is)).1))
 
     -- facts on each node written so far and the next
-    each : (P : ℕ → GraphNode → Type 0) → ((m : ℕ) (other : GraphNode) → has done m ≡ true → node_at g (node_number m) ≡ Some other → P m other) → P n node
-        → (m : ℕ) (other : GraphNode) → has (done ++ n ∷ []) m ≡ true → node_at g (node_number m) ≡ Some other → P m other
+    each : (P : NodeId → GraphNode → Type 0) → ((m : NodeId) (other : GraphNode) → has done m ≡ true → node_at g m ≡ Some other → P m other) → P n node
+        → (m : NodeId) (other : GraphNode) → has (done ++ n ∷ []) m ≡ true → node_at g m ≡ Some other → P m other
     each P before last m other within other_there = split (in_push done n m within) where
       split : (m ≡ n) ⊎ (has done m ≡ true) → P m other
       split (inl same) =
-          let e : node ≡ other = let f : node_at g (node_number n) ≡ Some other = ap (λ k. node_at g (node_number k)) (sym same) ∙ other_there in cc in
+          let e : node ≡ other = let f : node_at g n ≡ Some other = ap (λ k. node_at g k) (sym same) ∙ other_there in cc in
           subst (λ k. P k other) (sym same) (subst (λ x. P n x) e last)
       split (inr was) = before m other was other_there
 
-    place' : (ℕ → ℕ) → ℕ → ℕ → ℕ
-    place' place last m = cond (eqb m n) last (place m)
+    place' : (NodeId → ℕ) → ℕ → NodeId → ℕ
+    place' place last m = cond (same m n) last (place m)
 
-    place-here : (place : ℕ → ℕ) (last : ℕ) → place' place last n ≡ last
+    place-here : (place : NodeId → ℕ) (last : ℕ) → place' place last n ≡ last
     unfolding place'
-    place-here place last = rw (eqb_same n) refl
+    place-here place last = rw (same_itself n) refl
 
-    place-other : (place : ℕ → ℕ) (last m : ℕ) → eqb m n ≡ false → place' place last m ≡ place m
+    place-other : (place : NodeId → ℕ) (last : ℕ) (m : NodeId) → same m n ≡ false → place' place last m ≡ place m
     unfolding place'
     place-other place last m h = rw h refl
 
-    in_list : (xs : List ℕ) (k m : ℕ) → slice_get xs k ≡ Some m → has xs m ≡ true
-    in_list [] k m h = cc
-    in_list (x ∷ xs) zero m h = let e : x ≡ m = cc in rw e (ap (λ b. b || has xs m) (eqb_same m))
-    in_list (x ∷ xs) (suc k) m h = rw (in_list xs k m h) (or_yes (eqb m x)) where
-      or_yes : (b : Bool) → (b || true) ≡ true
-      or_yes true = refl
-      or_yes false = refl
-
     -- the last item is the node's own, and stands after the others
     placed : (used : List PackageId) (items : List Item) (components : List (PackageId × ℕ)) → Written done used items components index → (x : Item) → is_own_item node node.kind x ≡ true → sort_added x ≡ Some (sort_of_kind node.item_kind) → i ≡ indexes (space (sort_of_kind node.item_kind)) items
-        → (place : ℕ → ℕ)
-        × ((m : ℕ) (other : GraphNode) → has (done ++ n ∷ []) m ≡ true → node_at g (node_number m) ≡ Some other → HasItem (items ++ x ∷ []) other (index' m) (place m))
-        × ((a b k m : ℕ) → a < b → slice_get (done ++ n ∷ []) a ≡ Some k → slice_get (done ++ n ∷ []) b ≡ Some m → place k < place m)
+        → (place : NodeId → ℕ)
+        × ((m : NodeId) (other : GraphNode) → has (done ++ n ∷ []) m ≡ true → node_at g m ≡ Some other → HasItem (items ++ x ∷ []) other (index' m) (place m))
+        × ((a b : ℕ) (k m : NodeId) → a < b → slice_get (done ++ n ∷ []) a ≡ Some k → slice_get (done ++ n ∷ []) b ≡ Some m → place k < place m)
     placed used items components w x own sorted counts = (
       place' w.place (length items),
       each (λ m other. HasItem (items ++ x ∷ []) other (index' m) (place' w.place (length items) m))
@@ -280,13 +271,13 @@ module _ (counted : Counted) (earlier : Earlier) (g : Graph) (sound : IsSound g)
           (record { it = x; before = items; after = []; split = refl; here = refl; own = own; adds = sorted; counted = now ∙ counts })),
       λ a b k m less at_a at_b. rising a b k m less (slice_get-push done n a k at_a) (slice_get-push done n b m at_b),
     ) where
-      within : (k : ℕ) → has done k ≡ true → w.place k < length items
-      within k was = bound (node_at g (node_number k)) refl where
-        bound : (o : Option GraphNode) → node_at g (node_number k) ≡ o → w.place k < length items
+      within : (k : NodeId) → has done k ≡ true → w.place k < length items
+      within k was = bound (node_at g k) refl where
+        bound : (o : Option GraphNode) → node_at g k ≡ o → w.place k < length items
         bound (Some other) is = HasItem-within items other (index k) (w.place k) (w.own k other was is)
         bound None is = absurd (clash (is_written g k) (w.nodes k was) (ap (λ o. option_case o false (λ x. not (is_import x.kind))) is))
 
-      rising : (a b k m : ℕ) → a < b → (slice_get done a ≡ Some k) ⊎ ((a ≡ length done) × (k ≡ n)) → (slice_get done b ≡ Some m) ⊎ ((b ≡ length done) × (m ≡ n)) → place' w.place (length items) k < place' w.place (length items) m
+      rising : (a b : ℕ) (k m : NodeId) → a < b → (slice_get done a ≡ Some k) ⊎ ((a ≡ length done) × (k ≡ n)) → (slice_get done b ≡ Some m) ⊎ ((b ≡ length done) × (m ≡ n)) → place' w.place (length items) k < place' w.place (length items) m
       rising a b k m less (inl at_a) (inl at_b) =
           let e = place-other w.place (length items) k (apart done k n (in_list done a k at_a) absent) in
           let f = place-other w.place (length items) m (apart done m n (in_list done b m at_b) absent) in
@@ -307,18 +298,18 @@ module _ (counted : Counted) (earlier : Earlier) (g : Graph) (sound : IsSound g)
 
     -- an alias is written
     pub alias_more : (used : List PackageId) (items : List Item) (components : List (PackageId × ℕ)) (instance : NodeId) (source : GraphNode) (k : ℕ) (name : Name) → Written done used items components index
-        → node.kind ≡ graph.alias → IsAliasOf g instance k (node_number n) → node_at g instance ≡ Some source → slice_get (exports_of g source) k ≡ Some (name, node.item_kind)
+        → node.kind ≡ graph.alias → IsAliasOf g instance k n → node_at g instance ≡ Some source → slice_get (exports_of g source) k ≡ Some (name, node.item_kind)
         → i ≡ indexes (space (sort_of_kind node.item_kind)) items
-        → Written (done ++ n ∷ []) used (items ++ alias_item (export_alias (sort_of_kind node.item_kind) (index instance.0) name) ∷ []) components index'
+        → Written (done ++ n ∷ []) used (items ++ alias_item (export_alias (sort_of_kind node.item_kind) (index instance) name) ∷ []) components index'
     alias_more used items components instance source k name w kind aliased source_there exported counts =
         let t : Sort = sort_of_kind node.item_kind in
-        let x : Item = alias_item (export_alias t (index instance.0) name) in
-        let more = alias_rest items t (index instance.0) name in
+        let x : Item = alias_item (export_alias t (index instance) name) in
+        let more = alias_rest items t (index instance) name in
         let (place, own, in_place) = placed used items components w x (ap (λ q. is_own_item node q x) kind) refl counts in
         record {
           nodes = λ m within. nodes m (in_push done n m within);
-          meant = meant-push items x w.meant (alias_meant items w.unknown t (index instance.0) name (subst IsSomething (sym of_instance) (something g at order instance.0 source (is_thing instance.0 source source_there))));
-          unknown = unknown-alias items w.unknown t (index instance.0) name;
+          meant = meant-push items x w.meant (alias_meant items w.unknown t (index instance) name (subst IsSomething (sym of_instance) (something g at order instance source (is_thing instance source source_there))));
+          unknown = unknown-alias items w.unknown t (index instance) name;
           imports = ap (λ r. r.imports) more ∙ w.imports;
           customs = ap (λ r. r.customs) more ∙ w.customs;
           exports = ap (λ r. r.exports) more ∙ w.exports;
@@ -336,7 +327,7 @@ module _ (counted : Counted) (earlier : Earlier) (g : Graph) (sound : IsSound g)
           own = own;
           in_place = in_place;
         } where
-          nodes : (m : ℕ) → (m ≡ n) ⊎ (has done m ≡ true) → is_written g m ≡ true
+          nodes : (m : NodeId) → (m ≡ n) ⊎ (has done m ≡ true) → is_written g m ≡ true
           nodes m (inl same) = ap (is_written g) same ∙ (minus-true (is_written g) done n ready.here).0
           nodes m (inr was) = w.nodes m was
 
@@ -357,7 +348,7 @@ module _ (counted : Counted) (earlier : Earlier) (g : Graph) (sound : IsSound g)
           instance_sort (item.Value v) z is found = no_instance (item.Value v) z is (rw is refl) found
 
           -- what the alias is
-          is_projection : IsThing g at order n node → at n ≡ projection (at instance.0) name
+          is_projection : IsThing g at order n node → at n ≡ projection (at instance) name
           is_projection (as_import other p other_kind at_p is) = absurd (two_kinds kind other_kind) where
             two_kinds : {q : Kind} {m : Name} → q ≡ graph.alias → q ≡ graph.import m → ⊥
             two_kinds a b = cc
@@ -368,32 +359,32 @@ module _ (counted : Counted) (earlier : Earlier) (g : Graph) (sound : IsSound g)
             two_kinds : {q : Kind} → q ≡ graph.alias → q ≡ graph.definition → ⊥
             two_kinds a b = cc
           is_projection (as_alias other other_source j other_name _ other_aliased other_there other_exported is) =
-              let (same, at_same) = sound.one_source (node_number n) instance other k j aliased other_aliased in
+              let (same, at_same) = sound.one_source n instance other k j aliased other_aliased in
               let sources : source ≡ other_source = let e : node_at g instance ≡ Some other_source = ap (node_at g) same ∙ other_there in cc in
               let names : name ≡ other_name = first_of (slice_get (exports_of g source) k) name other_name node.item_kind node.item_kind exported (ap (λ z. slice_get (exports_of g z) k) sources ∙ ap (slice_get (exports_of g other_source)) at_same ∙ other_exported) in
-              is ∙ ap (λ z. projection (at z.0) other_name) (sym same) ∙ ap (projection (at instance.0)) (sym names)
+              is ∙ ap (λ z. projection (at z) other_name) (sym same) ∙ ap (projection (at instance)) (sym names)
 
           -- the instance is written
-          of_instance : stands_for (meaning items) sort.Instance (index instance.0) ≡ at instance.0
+          of_instance : stands_for (meaning items) sort.Instance (index instance) ≡ at instance
           of_instance =
-              let s = w.stand instance.0 source (source_done (alias_edge instance (node_number n) k) aliased refl) source_there in
-              ap (λ q. stands_for (meaning items) q (index instance.0)) (sym (instance_sort source.item_kind source refl exported)) ∙ s.1
+              let s = w.stand instance source (source_done (alias_edge instance n k) aliased refl) source_there in
+              ap (λ q. stands_for (meaning items) q (index instance)) (sym (instance_sort source.item_kind source refl exported)) ∙ s.1
 
-          here_stands : (indexes (space (sort_of_kind node.item_kind)) items < indexes (space (sort_of_kind node.item_kind)) (items ++ alias_item (export_alias (sort_of_kind node.item_kind) (index instance.0) name) ∷ []))
-              × (stands_for (meaning (items ++ alias_item (export_alias (sort_of_kind node.item_kind) (index instance.0) name) ∷ [])) (sort_of_kind node.item_kind) (indexes (space (sort_of_kind node.item_kind)) items) ≡ at n)
+          here_stands : (indexes (space (sort_of_kind node.item_kind)) items < indexes (space (sort_of_kind node.item_kind)) (items ++ alias_item (export_alias (sort_of_kind node.item_kind) (index instance) name) ∷ []))
+              × (stands_for (meaning (items ++ alias_item (export_alias (sort_of_kind node.item_kind) (index instance) name) ∷ [])) (sort_of_kind node.item_kind) (indexes (space (sort_of_kind node.item_kind)) items) ≡ at n)
           here_stands =
               let t : Sort = sort_of_kind node.item_kind in (
-                counted_up t items (alias_item (export_alias t (index instance.0) name)) refl,
-                alias_stands items t (index instance.0) name (indexes (space t) items) (sym (counted items t))
+                counted_up t items (alias_item (export_alias t (index instance) name)) refl,
+                alias_stands items t (index instance) name (indexes (space t) items) (sym (counted items t))
                     ∙ ap (λ z. projected z name) of_instance
-                    ∙ projected_thing instance.0 source name (is_thing instance.0 source source_there)
+                    ∙ projected_thing instance source name (is_thing instance source source_there)
                     ∙ sym (is_projection (is_thing n node there)),
               )
 
     -- where the node stands among the instantiations
     only_instance : (k : ℕ) → node.kind ≡ graph.instantiation → slice_get (instantiations g order) k ≡ Some n → k ≡ length (instantiations g done)
     only_instance k kind at_k =
-        let test : ℕ → Bool = node_is g (λ x. is_instantiation x.kind) in
+        let test : NodeId → Bool = node_is g (λ x. is_instantiation x.kind) in
         only_place (filter test done) (filter test later) n k (has-filter test done n absent) (has-filter test later n not_later)
         (ap (λ xs. slice_get xs k) (sym (ap (filter test) here ∙ filter-append test done (n ∷ later) ∙ ap (λ b. filter test done ++ cond b (n ∷ filter test later) (filter test later)) (kind_test true (ap is_instantiation kind)))) ∙ at_k)
 
@@ -431,25 +422,25 @@ module _ (counted : Counted) (earlier : Earlier) (g : Graph) (sound : IsSound g)
           own = own;
           in_place = in_place;
         } where
-          nodes : (m : ℕ) → (m ≡ n) ⊎ (has done m ≡ true) → is_written g m ≡ true
+          nodes : (m : NodeId) → (m ≡ n) ⊎ (has done m ≡ true) → is_written g m ≡ true
           nodes m (inl same) = ap (is_written g) same ∙ (minus-true (is_written g) done n ready.here).0
           nodes m (inr was) = w.nodes m was
 
-          are_push : (ns : List ℕ) (its : List Instantiation) → AreMade g at order ns its → IsMadeOf g at order n (made_of (meaning items) c arguments) → AreMade g at order (ns ++ n ∷ []) (its ++ made_of (meaning items) c arguments ∷ [])
+          are_push : (ns : List NodeId) (its : List Instantiation) → AreMade g at order ns its → IsMadeOf g at order n (made_of (meaning items) c arguments) → AreMade g at order (ns ++ n ∷ []) (its ++ made_of (meaning items) c arguments ∷ [])
           are_push [] [] h it = (it, tt)
           are_push [] (y ∷ its) h it = absurd h
           are_push (m ∷ ns) [] h it = absurd h
           are_push (m ∷ ns) (y ∷ its) h it = (h.0, are_push ns its h.1 it)
 
-          are_many : (ns : List ℕ) (its : List Instantiation) → AreMade g at order ns its → length its ≡ length ns
+          are_many : (ns : List NodeId) (its : List Instantiation) → AreMade g at order ns its → length its ≡ length ns
           are_many [] [] h = refl
           are_many [] (y ∷ its) h = absurd h
           are_many (m ∷ ns) [] h = absurd h
           are_many (m ∷ ns) (y ∷ its) h = ap suc (are_many ns its h.1)
 
-          argument_is : (j : ℕ) (name : Name) (a : Name × Sort × ℕ) (h : IsArgumentItem g index n j name a) → stands_for (meaning items) a.1 a.2 ≡ at (h.source).0
+          argument_is : (j : ℕ) (name : Name) (a : Name × Sort × ℕ) (h : IsArgumentItem g index n j name a) → stands_for (meaning items) a.1 a.2 ≡ at h.source
           argument_is j name a h =
-              let s = w.stand (h.source).0 h.node (source_done (argument_edge (h.source) (node_number n) j) h.given refl) h.there in
+              let s = w.stand h.source h.node (source_done (argument_edge (h.source) n j) h.given refl) h.there in
               ap (λ t. stands_for (meaning items) t a.2) h.of_sort ∙ ap (stands_for (meaning items) (sort_of_kind (h.node).item_kind)) h.placed ∙ s.1
 
           argument_thing : (j : ℕ) (name : Name) (a : Name × Sort × ℕ) → IsArgumentItem g index n j name a → IsArgument g at n j name (stands_for (meaning items) a.1 a.2)
@@ -460,7 +451,7 @@ module _ (counted : Counted) (earlier : Earlier) (g : Graph) (sound : IsSound g)
           arguments_meant j [] (a ∷ as_) h = absurd h
           arguments_meant j (e ∷ imports) [] h = absurd h
           arguments_meant j (e ∷ imports) (a ∷ as_) h = (
-            subst IsSomething (sym (argument_is j e.0 a h.0)) (something g at order (h.0.source).0 h.0.node (is_thing (h.0.source).0 h.0.node h.0.there)),
+            subst IsSomething (sym (argument_is j e.0 a h.0)) (something g at order h.0.source h.0.node (is_thing h.0.source h.0.node h.0.there)),
             arguments_meant (suc j) imports as_ h.1,
           )
 

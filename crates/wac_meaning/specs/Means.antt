@@ -21,7 +21,6 @@ use Rattle.wac_binary.specs.Meaning.{Thing, import_at, projection, instance_at, 
 use Rattle.wac_binary.specs.HasMeaning.{HasMeaning}
 use Rattle.wac_edges.specs.declared.node.NodeId.{NodeId}
 use Rattle.wac_nodes.specs.declared.packages.PackageId.{PackageId}
-use Rattle.wac_edges.specs.Edge.{node_number}
 use Rattle.wac_nodes.specs.Graph.{Graph, GraphNode, Kind, import, instantiation, alias, node_at, package_at, imports_of, exports_of, IsAliasOf, IsArgumentOf, IsUnsatisfied, definition}
 use Rattle.wac_edges.specs.Order.{Writes}
 use Rattle.wac_nodes.specs.OuterImports.{AreOuterImports, IsImportPlace}
@@ -46,20 +45,20 @@ abbrev pub is_instantiation : Kind → Bool
 is_instantiation instantiation = true
 is_instantiation _ = false
 
--- does a node of this number stand in the graph and pass the test
-abbrev pub node_is : Graph → (GraphNode → Bool) → ℕ → Bool
-node_is g test n = option_case (node_at g (node_number n)) false test
+-- does this node stand in the graph and pass the test
+abbrev pub node_is : Graph → (GraphNode → Bool) → NodeId → Bool
+node_is g test n = option_case (node_at g n) false test
 
--- does a node of this number stand in the graph
-abbrev pub is_there : Graph → ℕ → Bool
+-- does this node stand in the graph
+abbrev pub is_there : Graph → NodeId → Bool
 is_there g = node_is g (λ node. true)
 
 -- the nodes that are written: all that are not imports
-abbrev pub is_written : Graph → ℕ → Bool
+abbrev pub is_written : Graph → NodeId → Bool
 is_written g = node_is g (λ node. not (is_import node.kind))
 
 -- the nodes that are instantiations, in the order in which nodes are written
-abbrev pub instantiations : Graph → List ℕ → List ℕ
+abbrev pub instantiations : Graph → List NodeId → List NodeId
 instantiations g order = filter (node_is g (λ node. is_instantiation node.kind)) order
 
 abbrev pub same_package : PackageId → PackageId → Bool
@@ -71,18 +70,18 @@ with_package used None = used
 with_package used (Some p) = if list_any (same_package p) used then used else used ++ p ∷ []
 
 -- the packages of these instantiations, in order of first use
-abbrev pub used_after : Graph → List PackageId → List ℕ → List PackageId
+abbrev pub used_after : Graph → List PackageId → List NodeId → List PackageId
 used_after g used [] = used
-used_after g used (n ∷ ns) = used_after g (with_package used (option_case (node_at g (node_number n)) None (λ node. node.owner))) ns
+used_after g used (n ∷ ns) = used_after g (with_package used (option_case (node_at g n) None (λ node. node.owner))) ns
 
-abbrev pub used_packages : Graph → List ℕ → List PackageId
+abbrev pub used_packages : Graph → List NodeId → List PackageId
 used_packages g order = used_after g [] (instantiations g order)
 
 abbrev pub package_bytes : Graph → PackageId → List ℕ
 package_bytes g p = option_case (package_at g p) [] (λ it. it.bytes)
 
 -- the components: where they are defined, the bytes of the packages in order of first use
-abbrev pub package_components : Graph → EncodeOptions → List ℕ → List (List ℕ)
+abbrev pub package_components : Graph → EncodeOptions → List NodeId → List (List ℕ)
 package_components g o order = if o.define_components then map (package_bytes g) (used_packages g order) else []
 
 -- the name under which a package is imported: `unlocked-dep=<name>`, or `unlocked-dep=<name@{>=version}>`
@@ -95,7 +94,7 @@ abbrev pub package_import : Graph → PackageId → List (Name × Tree)
 package_import g id = option_case (package_at g id) [] (λ p. (dependency_name (p.name, p.version), component_item (held_tree g.types (λ _. None) (World p.world))) ∷ [])
 
 -- the imports that packages come to: where components are not defined, one for each, in order of first use
-abbrev pub package_imports : Graph → EncodeOptions → List ℕ → List (Name × Tree)
+abbrev pub package_imports : Graph → EncodeOptions → List NodeId → List (Name × Tree)
 package_imports g o order = if o.define_components then [] else flat_map (package_import g) (used_packages g order)
 
 -- the component of the package at a place of first use: its own, or the import behind so many others
@@ -103,20 +102,20 @@ abbrev pub package_thing : EncodeOptions → (imports place : ℕ) → Thing
 package_thing o imports place = if o.define_components then component_at place else import_at (imports + place)
 
 -- an argument: the node that was set, or the import into which the name fell
-pub data IsArgument (g : Graph) (at : ℕ → Thing) (n i : ℕ) (name : Name) : Thing → Type 0 where
-  given : (node : NodeId) → IsArgumentOf g (node_number n) i node → IsArgument g at n i name (at node.0)
-  asked : (p : ℕ) → IsUnsatisfied g (node_number n) i → IsImportPlace g name p → IsArgument g at n i name (import_at p)
+pub data IsArgument (g : Graph) (at : NodeId → Thing) (n : NodeId) (i : ℕ) (name : Name) : Thing → Type 0 where
+  given : (node : NodeId) → IsArgumentOf g n i node → IsArgument g at n i name (at node)
+  asked : (p : ℕ) → IsUnsatisfied g n i → IsImportPlace g name p → IsArgument g at n i name (import_at p)
 
 -- one argument for each import, in world order, under the import's name
-abbrev pub AreArguments : Graph → (ℕ → Thing) → ℕ → ℕ → List (Name × ItemKind) → List (Name × Thing) → Type 0
+abbrev pub AreArguments : Graph → (NodeId → Thing) → NodeId → ℕ → List (Name × ItemKind) → List (Name × Thing) → Type 0
 AreArguments g at n i [] [] = Unit {0}
 AreArguments g at n i (e ∷ imports) (a ∷ arguments) = (a.0 ≡ e.0) × IsArgument g at n i e.0 a.1 × AreArguments g at n (suc i) imports arguments
 AreArguments g at n i _ _ = ⊥
 
 -- the instantiation is that of node n: of its package's component, with its arguments
-pub record IsInstantiationOf (g : Graph) (o : EncodeOptions) (imports : ℕ) (at : ℕ → Thing) (order : List ℕ) (n : ℕ) (it : Instantiation) : Type 0 where
+pub record IsInstantiationOf (g : Graph) (o : EncodeOptions) (imports : ℕ) (at : NodeId → Thing) (order : List NodeId) (n : NodeId) (it : Instantiation) : Type 0 where
   pub node : GraphNode
-  pub there : node_at g (node_number n) ≡ Some node
+  pub there : node_at g n ≡ Some node
   pub owner : PackageId
   pub owned : node.owner ≡ Some owner
   pub place : ℕ
@@ -125,17 +124,17 @@ pub record IsInstantiationOf (g : Graph) (o : EncodeOptions) (imports : ℕ) (at
   pub arguments : AreArguments g at n 0 (imports_of g node) it.arguments
 
 -- one instantiation for each instantiation node, in order
-abbrev pub AreInstantiations : Graph → EncodeOptions → ℕ → (ℕ → Thing) → List ℕ → List ℕ → List Instantiation → Type 0
+abbrev pub AreInstantiations : Graph → EncodeOptions → ℕ → (NodeId → Thing) → List NodeId → List NodeId → List Instantiation → Type 0
 AreInstantiations g o imports at order [] [] = Unit {0}
 AreInstantiations g o imports at order (n ∷ ns) (it ∷ its) = IsInstantiationOf g o imports at order n it × AreInstantiations g o imports at order ns its
 AreInstantiations g o imports at order _ _ = ⊥
 
 -- what a node is, given what the others are
-pub data IsThing (g : Graph) (at : ℕ → Thing) (order : List ℕ) (n : ℕ) (node : GraphNode) : Type 0 where
+pub data IsThing (g : Graph) (at : NodeId → Thing) (order : List NodeId) (n : NodeId) (node : GraphNode) : Type 0 where
   as_import : (name : Name) (p : ℕ) → node.kind ≡ import name → IsImportPlace g name p → at n ≡ import_at p → IsThing g at order n node
   as_instantiation : (k : ℕ) → node.kind ≡ instantiation → slice_get (instantiations g order) k ≡ Some n → at n ≡ instance_at k → IsThing g at order n node
   as_definition : (t : AnyType) → node.kind ≡ definition → node.item_kind ≡ TypeItem t → at n ≡ written (definition_tree g.types t) → IsThing g at order n node
-  as_alias : (instance : NodeId) (source : GraphNode) (i : ℕ) (name : Name) → node.kind ≡ alias → IsAliasOf g instance i (node_number n) → node_at g instance ≡ Some source → slice_get (exports_of g source) i ≡ Some (name, node.item_kind) → at n ≡ projection (at instance.0) name → IsThing g at order n node
+  as_alias : (instance : NodeId) (source : GraphNode) (i : ℕ) (name : Name) → node.kind ≡ alias → IsAliasOf g instance i n → node_at g instance ≡ Some source → slice_get (exports_of g source) i ≡ Some (name, node.item_kind) → at n ≡ projection (at instance) name → IsThing g at order n node
 
 -- is this the name by which a definition was exported first
 abbrev pub is_first : GraphNode → Name → Bool
@@ -163,32 +162,32 @@ pub record HasItem (items : List Item) (node : GraphNode) (index k : ℕ) : Type
 abbrev pub shown : Export → Name × Sort × Thing
 shown e = (e.name, e.sort, e.thing)
 
-abbrev pub export_of : Graph → (ℕ → Thing) → Name × NodeId → List (Name × Sort × Thing)
-export_of g at e = option_case (node_at g e.1) [] (λ node. (e.0, sort_of_kind node.item_kind, at (e.1).0) ∷ [])
+abbrev pub export_of : Graph → (NodeId → Thing) → Name × NodeId → List (Name × Sort × Thing)
+export_of g at e = option_case (node_at g e.1) [] (λ node. (e.0, sort_of_kind node.item_kind, at e.1) ∷ [])
 
-abbrev pub export_item_of : Graph → (ℕ → ℕ) → Name × NodeId → List Item
-export_item_of g index e = option_case (node_at g e.1) [] (λ node. export_item e.0 (sort_of_kind node.item_kind) (index (e.1).0) ∷ [])
+abbrev pub export_item_of : Graph → (NodeId → ℕ) → Name × NodeId → List Item
+export_item_of g index e = option_case (node_at g e.1) [] (λ node. export_item e.0 (sort_of_kind node.item_kind) (index e.1) ∷ [])
 
 -- the export of a definition by its first name
-abbrev pub first_export : Graph → (ℕ → Thing) → ℕ → List (Name × Sort × Thing)
-first_export g at n = option_case (node_at g (node_number n)) [] (λ node. option_case node.first_name [] (λ name. (name, sort_of_kind node.item_kind, at n) ∷ []))
+abbrev pub first_export : Graph → (NodeId → Thing) → NodeId → List (Name × Sort × Thing)
+first_export g at n = option_case (node_at g n) [] (λ node. option_case node.first_name [] (λ name. (name, sort_of_kind node.item_kind, at n) ∷ []))
 
 -- the other exports, in the graph's order
 abbrev pub further_exports : Graph → List (Name × NodeId)
 further_exports g = filter (λ e. not (option_case (node_at g e.1) false (λ node. is_first node e.0))) g.exports
 
 -- the name of an index: that of the lowest of the named nodes that stand there
-pub record IsNameOf (g : Graph) (index : ℕ → ℕ) (t : Sort) (i : ℕ) (name : Name) : Type 0 where
-  pub n : ℕ
+pub record IsNameOf (g : Graph) (index : NodeId → ℕ) (t : Sort) (i : ℕ) (name : Name) : Type 0 where
+  pub n : NodeId
   pub node : GraphNode
-  pub there : node_at g (node_number n) ≡ Some node
+  pub there : node_at g n ≡ Some node
   pub named : node.name ≡ Some name
   pub sorted : sort_of_kind node.item_kind ≡ t
   pub placed : index n ≡ i
-  pub lowest : (m : ℕ) (other : GraphNode) → node_at g (node_number m) ≡ Some other → IsSome other.name → sort_of_kind other.item_kind ≡ t → index m ≡ i → n ≤ m
+  pub lowest : (m : NodeId) (other : GraphNode) → node_at g m ≡ Some other → IsSome other.name → sort_of_kind other.item_kind ≡ t → index m ≡ i → n.0 ≤ m.0
 
 -- these are the names of indexes, those of each sort by rising indexes
-pub record AreNames (g : Graph) (index : ℕ → ℕ) (names : List (Sort × ℕ × Name)) : Type 0 where
+pub record AreNames (g : Graph) (index : NodeId → ℕ) (names : List (Sort × ℕ × Name)) : Type 0 where
   pub each : (t : Sort) (i : ℕ) (name : Name) → ((k : ℕ) × (slice_get (of_sort t names) k ≡ Some (i, name))) ↔ IsNameOf g index t i name
   pub rising : AreRising names
 
@@ -208,10 +207,10 @@ custom_item e = custom e.0 e.1
 -- The items mean the graph as it is encoded with these options: node n stands at index `index n` of its sort, for `at n`.
 pub record Means (items : List Item) (g : Graph) (o : EncodeOptions) : Type 0 where
   -- the nodes that are no imports, each the lowest of those left whose edge sources are written
-  pub order : List ℕ
+  pub order : List NodeId
   pub in_order : Writes g.edges (is_written g) order
-  pub at : ℕ → Thing
-  pub index : ℕ → ℕ
+  pub at : NodeId → Thing
+  pub index : NodeId → ℕ
   -- each index that an item uses is there, and no name is imported or exported twice
   pub meant : HasMeaning items
   -- the imports are the classes of what is asked for, under their canonical names with their merged items; behind them packages that are not defined
@@ -221,14 +220,14 @@ pub record Means (items : List Item) (g : Graph) (o : EncodeOptions) : Type 0 wh
   -- the components are the instantiated packages' bytes, in order of first use
   pub components : (meaning items).nested_bytes ≡ package_components g o order
   pub instances : AreInstantiations g o (length classes) at order (instantiations g order) (meaning items).instantiations
-  pub things : (n : ℕ) (node : GraphNode) → node_at g (node_number n) ≡ Some node → IsThing g at order n node
-  pub stand : (n : ℕ) (node : GraphNode) → node_at g (node_number n) ≡ Some node → stands_for (meaning items) (sort_of_kind node.item_kind) (index n) ≡ at n
+  pub things : (n : NodeId) (node : GraphNode) → node_at g n ≡ Some node → IsThing g at order n node
+  pub stand : (n : NodeId) (node : GraphNode) → node_at g n ≡ Some node → stands_for (meaning items) (sort_of_kind node.item_kind) (index n) ≡ at n
   -- the exports are exactly the graph's: definitions by their first names in written order, then the others in the graph's order
   pub exports : map shown (meaning items).exports ≡ flat_map (first_export g at) order ++ flat_map (export_of g at) (further_exports g)
   -- each written node has an item of its own, in order
-  pub place : ℕ → ℕ
-  pub own_items : (n : ℕ) (node : GraphNode) → node_at g (node_number n) ≡ Some node → is_import node.kind ≡ false → HasItem items node (index n) (place n)
-  pub in_place : (i j n m : ℕ) → i < j → slice_get order i ≡ Some n → slice_get order j ≡ Some m → place n < place m
+  pub place : NodeId → ℕ
+  pub own_items : (n : NodeId) (node : GraphNode) → node_at g n ≡ Some node → is_import node.kind ≡ false → HasItem items node (index n) (place n)
+  pub in_place : (i j : ℕ) (n m : NodeId) → i < j → slice_get order i ≡ Some n → slice_get order j ≡ Some m → place n < place m
   -- the custom sections are the names of indexes and the processor
   pub names : List (Sort × ℕ × Name)
   pub named : AreNames g index names

@@ -1,5 +1,6 @@
-use Rattle.std.proofs.Common.{◌≡◌, ℕ, ◌++◌, List, length}
+use Rattle.std.proofs.Common.{◌≡◌, ◌++◌, List, length}
 use Rattle.std.specs.Prelude.{count_by}
+use Rattle.wac_edges.specs.declared.node.NodeId.{NodeId}
 use Rattle.wac_edges.specs.Edge.{is_left}
 use Rattle.wac_edges.specs.Order.{Writes}
 use Rattle.wac_edges.specs.Ready.{AreCounted, AreReady}
@@ -7,7 +8,7 @@ use Rattle.wac_edges.proofs.order.order.Given as goal
 
 abbrev pub invariant-loop-n : goal.invariant-loop-n
 invariant-loop-n l = record {
-  later : (ns : List ℕ) → Writes l.edges (is_left l.left.items) ns → Writes l.edges (is_left l.fn.left.items) (l.written.items ++ ns);
+  later : (ns : List NodeId) → Writes l.edges (is_left l.left.items) ns → Writes l.edges (is_left l.fn.left.items) (l.written.items ++ ns);
   left_long : length l.left.items ≡ length l.targets.items;
   counts_long : length l.counts.items ≡ length l.targets.items;
   counted : AreCounted l.left.items l.targets.items l.counts.items;

@@ -1,5 +1,4 @@
-use Rattle.std.proofs.Common.{◌≡◌, ◌⊎◌, Some, IfSome, [], arith, ap, ◌∙◌, sym, subst, nat_eq}
-use Rattle.std.specs.List.{list_any}
+use Rattle.std.proofs.Common.{◌≡◌, ◌⊎◌, Some, IfSome, [], slice_get, arith, ap, ◌∙◌, sym, subst}
 use Rattle.wac_causes.specs.declared.errors.EncodeError.TheVariants.{NotYet, OutOfMemory}
 use Rattle.wac_causes.specs.NotYet.{undefined_components}
 use Rattle.wac_causes.specs.Cause.{Stands, cause_of}
@@ -65,10 +64,10 @@ pub returns-clause-refused : goal.returns-clause-refused
 returns-clause-refused c = λ cause stands. absurd (none_stands c.args.self.now c.args.options c.in_ok-order.ensures.acyclic c.in_ok-check_conflicts.ensures.none c.in_ok-check_merge.ensures.merges c.if-holds_unwritten.ensures.writable c.if-not-options.false cause stands)
 
 pub write_nodes-requires-clause-nodes : goal.write_nodes-requires-clause-nodes
-write_nodes-requires-clause-nodes c = λ n h.
+write_nodes-requires-clause-nodes c = λ i n h.
     let sound = c.law-2.ensures in
     in_order c.args.self.now sound c.if-holds_unwritten.ensures.writable c.in_ok-order.order.items (writes_all c.args.self.now sound c.if-holds_unwritten.ensures.writable c.in_ok-order.order.items c.in_ok-order.ensures.whole)
-    n (sym (ap (λ xs. list_any (nat_eq n) xs) c.deref.ensures.value) ∙ h)
+    i n (sym (ap (λ xs. slice_get xs i) c.deref.ensures.value) ∙ h)
 
 pub write_nodes-requires-clause-room : goal.write_nodes-requires-clause-room
 write_nodes-requires-clause-room c = λ n h. let small = has_room c.self.inside c.self.invariant c.args.self.now c.self.view_is c.capacity.result (omega (arith, c.capacity.ensures.slots)) n h in omega (arith, small, c.in_ok-encoder.ensures.indexes)

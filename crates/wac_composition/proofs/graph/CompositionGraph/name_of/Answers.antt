@@ -11,5 +11,5 @@ pub unreachable-requires : goal.unreachable-requires
 unreachable-requires c = has_name c.self.inside c.args.n c.index.result.now c.index.ensures (rw (← c.self.view_is) at c.requires) c.in_default.is
 
 pub returns : goal.returns
-returns c = rw (← c.self.view_is) (some_and c.self.inside c.args.n c.index.result.now (λ node. node.name ≡ Some c.as_str.result.now) c.index.ensures
+returns c = rw (← c.self.view_is) (some_and c.self.inside c.args.n.0 c.index.result.now (λ node. node.name ≡ Some c.as_str.result.now) c.index.ensures
     (ap (option_map string_bytes) c.in-Some.is ∙ ap (λ text. Some text) (sym c.as_str.ensures.value)))

@@ -16,7 +16,7 @@ loop-i-preserved c = (
   export_more c.self.inside c.args.self.now c.self.view_is (index_in c.args.encoder.now.indexes.items) c.loop-i.i c.in-Some.name.now c.in-Some.id.now c.index.result.now c.as_str.result.now c.sort_of-sort.result c.index-index.result.now
       c.args.encoder.now.builder c.loop-i.encoder.builder c.export.new.self
       c.in-Some.ensures.entry c.index.ensures c.as_str.ensures.value c.sort_of-sort.ensures
-      (index_is c.loop-i.encoder.indexes.items c.in-Some.id.now.0 c.index-index.result.now (subst (λ v. (c.in-Some.id.now).0 < length v.items) (sym c.loop-i.invariant.1) (export_noted c.self.inside c.self.invariant c.args.self.now c.self.view_is c.args.encoder.now.indexes.items c.requires c.loop-i.i c.in-Some.name.now c.in-Some.id.now c.in-Some.ensures.entry)) c.index-index.ensures ∙ ap (λ v. index_in v.items c.in-Some.id.now.0) c.loop-i.invariant.1)
+      (index_is c.loop-i.encoder.indexes.items c.in-Some.id.now.0 c.index-index.result.now (subst (λ v. (c.in-Some.id.now).0 < length v.items) (sym c.loop-i.invariant.1) (export_noted c.self.inside c.self.invariant c.args.self.now c.self.view_is c.args.encoder.now.indexes.items c.requires c.loop-i.i c.in-Some.name.now c.in-Some.id.now c.in-Some.ensures.entry)) c.index-index.ensures ∙ ap (λ v. index_in v.items c.in-Some.id.now) c.loop-i.invariant.1)
       c.loop-i.invariant.0 c.in_ok-export.ensures.appended,
   c.loop-i.invariant.1,
 )

@@ -1,4 +1,4 @@
-use Rattle.std.proofs.Common.{◌≡◌, ℕ, true, false, sym, ap, ◌∙◌, subst}
+use Rattle.std.proofs.Common.{◌≡◌, true, false, sym, ap, ◌∙◌, subst}
 use Rattle.std.specs.FinSet as set
 use Rattle.wac_edges.specs.declared.edges.End.TheVariants.{Incoming}
 use Rattle.wac_edges.specs.declared.edges.Label.{Label}
