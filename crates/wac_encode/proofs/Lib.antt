@@ -5,3 +5,4 @@ pub mod Below
 pub mod Stepping
 pub mod Answering
 pub mod Rows
+pub mod Imported
