@@ -62,22 +62,21 @@ module _ {ds : List Decl} {bytes counts : List ℕ} {count : ℕ} (s : DeclState
     pub room_for : (n len : ℕ) → n ≡ length (decl_bytes d) → len ≡ length bytes → DeclarationsFit (ds ++ d ∷ []) → (slice_index counts k < 2 ^ 32) × (count + 1 < 2 ^ 32) × (len + n < 2 ^ 32)
     room_for n len e l f = let h = fits_before f in let z = size_before f in (h.0, omega arith, omega (arith, length-append bytes (decl_bytes d)))
 
-    pub type_snoc : length counts ≡ 7 → slice_index counts k < 2 ^ 32 → count < 2 ^ 32 - 1 → length (bytes ++ decl_bytes d) < 2 ^ 32 → DeclState (ds ++ d ∷ []) (bytes ++ decl_bytes d) (count + 1) (slice_set counts k (slice_index counts k + 1))
-    type_snoc l g c z = record {
+    -- where there is room it fits
+    pub room_fits : (n len : ℕ) → n ≡ length (decl_bytes d) → len ≡ length bytes → (slice_index counts k < 2 ^ 32) × (count + 1 < 2 ^ 32) × (len + n < 2 ^ 32) → DeclarationsFit (ds ++ d ∷ [])
+    room_fits n len e l r = record {
+      count = let h = r.1 in omega (arith, longer);
+      size = let h = r.2 in rw (texts ds d, ← s.bytes_are) (omega (arith, length-append bytes (decl_bytes d)));
+      indexes_fit = λ j. rw (added j) (bounded k j (declared j ds) (2 ^ 32) (s.fits.indexes_fit j) (λ e. rw (← e, ← s.counted k q) r.0));
+    }
+
+    pub type_more : length counts ≡ 7 → DeclarationsFit (ds ++ d ∷ []) → DeclState (ds ++ d ∷ []) (bytes ++ decl_bytes d) (count + 1) (slice_set counts k (slice_index counts k + 1))
+    type_more l f = record {
       count_is = sym longer;
       bytes_are = rw (s.bytes_are) (sym (texts ds d));
       counted = λ j r. grown k j (declared j ds) (declared j (ds ++ d ∷ [])) counts (s.counted j r) (omega arith) (added j);
-      fits = record {
-        count = omega (arith, longer);
-        size = rw (texts ds d, ← s.bytes_are) z;
-        indexes_fit = λ j. rw (added j) (bounded k j (declared j ds) (2 ^ 32) (s.fits.indexes_fit j) (λ e. rw (← e, ← s.counted k q) g));
-      };
+      fits = f;
     }
-
-    -- where there is room
-    pub type_more : length counts ≡ 7 → (n len : ℕ) → n ≡ length (decl_bytes d) → len ≡ length bytes → (slice_index counts k < 2 ^ 32) × (count + 1 < 2 ^ 32) × (len + n < 2 ^ 32)
-        → DeclState (ds ++ d ∷ []) (bytes ++ decl_bytes d) (count + 1) (slice_set counts k (slice_index counts k + 1))
-    type_more l n len e m r = type_snoc l r.0 (let h = r.1 in omega arith) (let h = r.2 in omega (arith, length-append bytes (decl_bytes d)))
 
 pub type_none : DeclState [] [] 0 (0 ∷ 0 ∷ 0 ∷ 0 ∷ 0 ∷ 0 ∷ 0 ∷ [])
 type_none = record {
@@ -109,10 +108,6 @@ on_ok x a b (Err e) h = tt
 pub scope_bytes : (o : Scope) (ds : Decls) → type_bytes (scope_def o ds) ≡ scope_byte o ∷ (unsigned (count_of ds) ++ decls_bytes ds)
 scope_bytes o.Component ds = refl
 scope_bytes o.Instance ds = refl
-
-pub scope_size : (o : Scope) (ds : Decls) (n : ℕ) → n ≡ length (unsigned (count_of ds) ++ decls_bytes ds) → 2 + n ≡ length (decl_bytes (type_decl (scope_def o ds)))
-scope_size o.Component ds n h = omega arith
-scope_size o.Instance ds n h = omega arith
 
 -- what stands around a type of declarations, and they
 pub scope_around : (o : Scope) (before : List ℕ) {bytes : List ℕ} {count : ℕ} (w : WrittenDecls bytes count)

@@ -3,7 +3,7 @@ use Rattle.std.proofs.Common.{◌≡◌, ℕ, zero, suc, ◌+◌, ◌/◌, ◌%�
 use Rattle.std.specs.Prelude.{Option, Some, None, if◌then◌else◌, eqb, ◌&&◌}
 use Rattle.std.specs.List.{AllByRecursion, flat_map}
 use Rattle.wac_binary.specs.Leb.{groups, leb, unsigned}
-use Rattle.wac_binary.specs.Items.{ValueDef, primitive_def, TypeDef, value_def, func_def, component_def, instance_def, ModuleDecl, module_import, module_func, module_export, Decl, type_decl, decls, export_alias, outer_alias, Item, custom, core_type, nested, instantiate, alias_item, type_item, import_item, export_item}
+use Rattle.wac_binary.specs.Items.{ValueDef, primitive_def, TypeDef, value_def, ModuleDecl, module_func, Decl, type_decl, decls, export_alias, outer_alias, Item, custom, core_type, nested, instantiate, alias_item, type_item, import_item, export_item}
 use Rattle.wac_binary.specs.Bytes.{text, sort, value_def_bytes, type_bytes, module_decl_bytes, decl_bytes, decls_bytes, item_bytes, section_id, is_shared, Section, alone, joins, joined, sections_from, sections, contents, section_bytes, preamble, bytes_of}
 use Rattle.wac_binary.specs.Indexes.{adds, is_in, indexes, decl_adds, declared}
 use Rattle.wac_binary.specs.Fits.{SectionFits, Fits, DeclarationsFit, ModuleFits}

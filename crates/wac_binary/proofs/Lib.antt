@@ -1,4 +1,5 @@
 pub mod Vectors
+pub mod Short
 pub mod Counts
 pub mod SectionLaws
 pub mod ItemLaws
@@ -14,5 +15,3 @@ pub mod HasMeaningLaws
 pub mod AddedLaws
 pub mod KeptLaws
 pub mod ListedLaws
-pub mod Rows
-pub mod MeaningRows

@@ -1,7 +1,7 @@
 -- The imports and exports after one more item or declaration.
 use Rattle.std.proofs.Common.{◌≡◌, ℕ, List, [], ◌∷◌, ◌++◌, refl, ap, sym, ◌∙◌, append-nil}
 use Rattle.wac_shapes.specs.Name.{Name}
-use Rattle.wac_collection.specs.Tree.{Side, Place, Tree}
+use Rattle.wac_collection.specs.Tree.{Side, Place}
 use Rattle.wac_binary.specs.declared.sorts.Sort.{Sort}
 use Rattle.wac_binary.specs.declared.sorts.Sort.TheVariants as s
 use Rattle.wac_binary.specs.declared.sorts.Description.{Description}
@@ -9,7 +9,7 @@ use Rattle.wac_binary.specs.declared.sorts.Description.TheVariants as e
 use Rattle.wac_binary.specs.Items.{export_alias, outer_alias, decls, Decl, core_type_decl, type_decl, alias_decl, import_decl, export_decl, Item, custom, core_type, nested, instantiate, alias_item, type_item, import_item, export_item}
 use Rattle.wac_binary.specs.Indexes.{described_sort}
 use Rattle.wac_binary.specs.Unfold.{Scope, Bound, empty, described_item, with_bound, with_alias, with_outer, after, with_decl}
-use Rattle.wac_binary.specs.Meaning.{Thing, Root, start, Export, with_thing, with_exported, read, read_all, meaning}
+use Rattle.wac_binary.specs.Meaning.{Thing, Root, start, with_thing, with_exported, read, read_all, meaning}
 use Rattle.wac_binary.specs.Added.{imports_added, exports_added, imports_declared, exports_declared}
 use Rattle.wac_binary.proofs.MeaningLaws.{read_append, one_more, scope_with}
 use Rattle.wac_binary.proofs.ScopeLaws.{one_more as one_more_declared}

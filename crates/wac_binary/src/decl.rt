@@ -94,12 +94,10 @@ pub(crate) fn put_decl(out: &mut Vec<u8>, d: &DeclRef<'_>) -> Result<(), AllocEr
         }
         DeclRef::Import(name, d) => {
             out.push(3)?;
-            out.push(0)?;
             put_named(out, name, d)
         }
         DeclRef::Export(name, d) => {
             out.push(4)?;
-            out.push(0)?;
             put_named(out, name, d)
         }
     }

@@ -66,6 +66,15 @@ impl Declarations {
         let _ = &self.bytes;
     }
 
+    /// Whether one more declaration fits, which adds an index to this space.
+    pub(crate) fn has_room(&self, d: &DeclRef<'_>, space: IndexSpace) -> bool
+        requires { decl_adds (decl_of d.now) ≡ number_of space }
+        ensures { IsTrue result ↔ DeclarationsFit (self.now ++ decl_of d.now ∷ []) }
+    {
+        let index = self.counts[number(space)];
+        fits(index, self.count, self.bytes.len(), decl_size(d))
+    }
+
     /// Adds a declaration at the end, and answers the index that it adds to this space.
     pub(crate) fn append(&mut self, d: &DeclRef<'_>, space: IndexSpace) -> Result<u32, BinaryFault>
         requires { decl_adds (decl_of d.now) ≡ number_of space }
@@ -75,11 +84,11 @@ impl Declarations {
         ensures refused { OnErr result (self.new ≡ self.old) }
         ensures too_large { TooLargeUnless result (DeclarationsFit (self.old ++ decl_of d.now ∷ [])) }
     {
-        let at = number(space);
-        let index = self.counts[at];
-        if !fits(index, self.count, self.bytes.len(), decl_size(d)) {
+        if !self.has_room(d, space) {
             return Err(BinaryFault::TooLarge);
         }
+        let at = number(space);
+        let index = self.counts[at];
         self.bytes.append(d)?;
         self.count += 1;
         self.counts[at] = index + 1;
@@ -128,11 +137,12 @@ impl Declarations {
         ensures refused { OnErr result (self.new ≡ self.old) }
         ensures too_large { TooLargeUnless result (DeclarationsFit (self.old ++ type_decl (scope_def scope (decls inner)) ∷ [])) }
     {
-        let types = number(IndexSpace::Types);
-        let index = self.counts[types];
-        if !fits(index, self.count, self.bytes.len(), 2 + inner.size()) {
+        let t = TypeRef::Scope(scope, &inner);
+        if !self.has_room(&DeclRef::Type(t), IndexSpace::Types) {
             return Err(BinaryFault::TooLarge);
         }
+        let types = number(IndexSpace::Types);
+        let index = self.counts[types];
         let bytes = inner.behind(&self.bytes, scope)?;
         self.bytes = bytes;
         self.count += 1;

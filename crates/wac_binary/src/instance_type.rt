@@ -1,6 +1,6 @@
 //! An instance type that is being written, declaration by declaration.
 
-ghost use Rattle.std.specs.Prelude.{◌≡◌, ◌++◌, ◌∷◌, [], OnOk, OnErr, IfOk};
+ghost use Rattle.std.specs.Prelude.{◌≡◌, ◌++◌, ◌∷◌, [], OnOk, OnErr, IfOk, IsTrue, ◌↔◌};
 ghost use Rattle.wac_binary.specs.Items.{value_def, component_def, instance_def, decls, core_type_decl, type_decl, alias_decl, export_alias, outer_alias, export_decl};
 ghost use Rattle.wac_binary.specs.Indexes.{space, core_types, described_sort, declared};
 ghost use Rattle.wac_binary.specs.Fits.{DeclarationsFit, TooLargeUnless};
@@ -80,6 +80,22 @@ impl InstanceType {
     {
         self.declarations
             .append(&DeclRef::Type(TypeRef::Defined(t)), IndexSpace::Types)
+    }
+
+    /// Whether one more value type fits.
+    pub fn has_room_for_type(&self, t: &DefinedType<'_>) -> bool
+        ensures { IsTrue result ↔ DeclarationsFit (self.now ++ type_decl (value_def (defined_of t.now)) ∷ []) }
+    {
+        self.declarations
+            .has_room(&DeclRef::Type(TypeRef::Defined(t)), IndexSpace::Types)
+    }
+
+    /// Whether one more export fits.
+    pub fn has_room_for_export(&self, name: &str, d: Description) -> bool
+        ensures { IsTrue result ↔ DeclarationsFit (self.now ++ export_decl name.now d ∷ []) }
+    {
+        self.declarations
+            .has_room(&DeclRef::Export(name, d), space(described_sort(d)))
     }
 
     /// Declares a function type, and answers its type index.

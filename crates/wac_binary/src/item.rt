@@ -50,10 +50,7 @@ pub(crate) fn put_item(out: &mut Vec<u8>, item: &ItemRef<'_>) -> Result<(), Allo
         }
         ItemRef::Alias(a) => put_alias(out, a),
         ItemRef::Type(t) => put_type(out, t),
-        ItemRef::Import(name, d) => {
-            out.push(0)?;
-            put_named(out, name, d)
-        }
+        ItemRef::Import(name, d) => put_named(out, name, d),
         ItemRef::Export { name, sort, index } => {
             out.push(0)?;
             put_argument(out, name, sort, index)?;

@@ -1,6 +1,6 @@
 //! The bytes of the parts of items, each put at the end of a buffer.
 
-ghost use Rattle.std.specs.Prelude.{◌≡◌, List, ℕ, ◌<◌, ◌≤◌, ◌++◌, ◌∷◌, [], length, OnOk};
+ghost use Rattle.std.specs.Prelude.{◌≡◌, List, ℕ, ◌+◌, ◌<◌, ◌≤◌, ◌++◌, ◌∷◌, [], length, OnOk, vec_len, vec_capacity};
 ghost use Rattle.wac_binary.specs.Leb.{leb, unsigned};
 ghost use Rattle.wac_binary.specs.Bytes.{text, value, primitive, vector, argument, alias_bytes, sort, described};
 ghost use Rattle.wac_binary.specs.Items.{export_alias, outer_alias};
@@ -117,40 +117,73 @@ pub(crate) fn put_indexed(out: &mut Vec<u8>, byte: u8, index: u32) -> Result<(),
     put_unsigned(out, u64::from(index))
 }
 
-/// Appends what an import, or an exported declaration, is.
+/// Appends an unsigned number where there is room for any.
 #[inline(always)]
-pub(crate) fn put_described(out: &mut Vec<u8>, d: Description) -> Result<(), AllocError>
-    ensures written { OnOk result (out.new.items ≡ out.old.items ++ described d) }
-    ensures grows { (more : List ℕ) × (out.new.items ≡ out.old.items ++ more) }
+#[tactic(auto, using(crate::specs::LebLaws::leb_more, crate::specs::LebLaws::leb_last, crate::proofs::Short::unsigned_length, std::proofs::lemmas::Grind::common_steps))]
+fn put_unsigned_reserved(out: &mut Vec<u8>, n: u64)
+    requires { vec_len out.old + 10 ≤ vec_capacity out.old }
+    ensures written { out.new.items ≡ out.old.items ++ unsigned n }
+    ensures len { vec_len out.new ≤ vec_len out.old + 10 }
+    ensures capacity { vec_capacity out.new ≡ vec_capacity out.old }
+{
+    let mut rest = n;
+    while rest >= 128 {
+        out.push_reserved((rest % 128 + 128) as u8);
+        rest /= 128;
+    }
+    out.push_reserved(rest as u8);
+}
+
+/// Appends a byte and an index where there is room for any.
+#[inline(always)]
+fn put_indexed_reserved(out: &mut Vec<u8>, byte: u8, index: u32)
+    requires { vec_len out.old + 11 ≤ vec_capacity out.old }
+    ensures { out.new.items ≡ out.old.items ++ byte ∷ unsigned index }
+{
+    out.push_reserved(byte);
+    put_unsigned_reserved(out, u64::from(index));
+}
+
+/// Appends what an import, or an exported declaration, is, where there is room for any.
+#[inline(always)]
+fn put_described_reserved(out: &mut Vec<u8>, d: Description)
+    requires { vec_len out.old + 12 ≤ vec_capacity out.old }
+    ensures { out.new.items ≡ out.old.items ++ described d }
 {
     match d {
         Description::CoreModule(i) => {
-            out.push(0)?;
-            put_indexed(out, 0x11, i)
+            out.push_reserved(0);
+            put_indexed_reserved(out, 0x11, i);
         }
-        Description::Func(i) => put_indexed(out, 1, i),
+        Description::Func(i) => put_indexed_reserved(out, 1, i),
         Description::Equal(i) => {
-            out.push(3)?;
-            put_indexed(out, 0, i)
+            out.push_reserved(3);
+            put_indexed_reserved(out, 0, i);
         }
         Description::Fresh => {
-            out.push(3)?;
-            out.push(1)?;
-            Ok(())
+            out.push_reserved(3);
+            out.push_reserved(1);
         }
-        Description::Component(i) => put_indexed(out, 4, i),
-        Description::Instance(i) => put_indexed(out, 5, i),
+        Description::Component(i) => put_indexed_reserved(out, 4, i),
+        Description::Instance(i) => put_indexed_reserved(out, 5, i),
     }
 }
 
-/// A name and what stands under it.
+/// How many bytes stand around a name at most: one before its length, ten of that, and twelve of what stands under it.
+const AROUND_NAME: usize = 23;
+
+/// A name, behind the byte that says that it is one, and what stands under it. Room for the whole is made at once.
 #[inline(always)]
 pub(crate) fn put_named(out: &mut Vec<u8>, name: &str, d: Description) -> Result<(), AllocError>
-    ensures written { OnOk result (out.new.items ≡ out.old.items ++ (text name.now ++ described d)) }
+    ensures written { OnOk result (out.new.items ≡ out.old.items ++ 0 ∷ (text name.now ++ described d)) }
     ensures grows { (more : List ℕ) × (out.new.items ≡ out.old.items ++ more) }
 {
-    put_text(out, name)?;
-    put_described(out, d)
+    out.reserve(name.len() + AROUND_NAME)?;
+    out.push_reserved(0);
+    put_unsigned_reserved(out, name.len() as u64);
+    out.extend_from_slice(name.as_bytes())?;
+    put_described_reserved(out, d);
+    Ok(())
 }
 
 /// Appends an alias of an instance's export.

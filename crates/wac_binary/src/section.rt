@@ -37,18 +37,20 @@ fn is_shared(id: u8) -> bool
     id != 0 && id != 4
 }
 
-/// Whether a section with things of so many bytes fits 32 bits.
+/// Whether a section with things of so many bytes, and of so many more, fits 32 bits.
+#[inline(always)]
 #[tactic(auto, using(crate::specs::LebLaws::leb_length, std::proofs::lemmas::Grind::common_steps))]
-fn fits(last: Open, size: u128) -> bool
+fn fits(last: Open, before: u64, more: u128) -> bool
     requires count { last.count ≤ 2 ^ 32 }
-    requires small { size < 2 ^ 127 + 2 ^ 104 }
-    ensures { (things : List ℕ) → length things ≡ size → IsTrue result ↔ SectionFits (section last things) }
+    requires before { before < 2 ^ 32 }
+    ensures { (things : List ℕ) → length things ≡ before + more → IsTrue result ↔ SectionFits (section last things) }
 {
-    if size >= 1 << 32 {
+    if more >= 1 << 32 {
         return false;
     }
+    let size = before + more as u64;
     // The count has at most one byte more than its value, so far from the limit its bytes need no counting.
-    if u128::from(last.count) + size < (1 << 32) - 1 {
+    if last.count + size < (1 << 32) - 1 {
         return true;
     }
     let head = if is_shared(last.id) {
@@ -56,7 +58,7 @@ fn fits(last: Open, size: u128) -> bool
     } else {
         0
     };
-    last.count < 1 << 32 && u128::from(head) + size < 1 << 32
+    last.count < 1 << 32 && head + size < 1 << 32
 }
 
 /// Whether there is room for an item: its space has so many indexes, and the section that it goes to fits 32 bits with it.
@@ -82,9 +84,9 @@ fn section_has_room(last: &Option<Open>, things: &[u8], item: &ItemRef<'_>) -> b
                 id,
                 count: o.count + 1,
             };
-            fits(more, u128::from(things.len() as u64) + size)
+            fits(more, things.len() as u64, size)
         }
-        _ => fits(Open { id, count: 1 }, size),
+        _ => fits(Open { id, count: 1 }, 0, size),
     }
 }
 

@@ -25,10 +25,11 @@ fn leb_size(limit: u64, n: u64) -> u64
 
 /// How long an unsigned number is.
 #[inline(always)]
-#[tactic(auto, using(crate::specs::LebLaws::leb_last, std::proofs::lemmas::Grind::common_steps))]
+#[tactic(auto, using(crate::specs::LebLaws::leb_last, crate::proofs::Short::unsigned_length, std::proofs::lemmas::Grind::common_steps))]
 pub(crate) fn unsigned_size(n: u64) -> u64
     ensures is { result ≡ length (unsigned n) }
     ensures bound { result ≤ n + 1 }
+    ensures short { result ≤ 10 }
 {
     if n < 128 { 1 } else { leb_size(128, n) }
 }
@@ -98,27 +99,26 @@ pub(crate) fn sort_size(s: Sort) -> u128
 
 /// How long is what an import, or an exported declaration, is.
 #[inline(always)]
-fn described_size(d: Description) -> u128
+fn described_size(d: Description) -> u64
     ensures is { result ≡ length (described d) }
-    ensures small { result ≤ 2 ^ 33 }
+    ensures small { result ≤ 12 }
 {
     match d {
-        Description::CoreModule(i) => 2 + index_size(i),
-        Description::Func(i) => 1 + index_size(i),
-        Description::Equal(i) => 2 + index_size(i),
+        Description::CoreModule(i) => 2 + unsigned_size(u64::from(i)),
+        Description::Func(i) => 1 + unsigned_size(u64::from(i)),
+        Description::Equal(i) => 2 + unsigned_size(u64::from(i)),
         Description::Fresh => 2,
-        Description::Component(i) => 1 + index_size(i),
-        Description::Instance(i) => 1 + index_size(i),
+        Description::Component(i) => 1 + unsigned_size(u64::from(i)),
+        Description::Instance(i) => 1 + unsigned_size(u64::from(i)),
     }
 }
 
-/// How long a name is with what stands under it.
+/// How long a name is, behind the byte that says that it is one, with what stands under it.
 #[inline(always)]
-pub(crate) fn named_size(name: &str, d: Description) -> u128
-    ensures is { result ≡ length (text name.now ++ described d) }
-    ensures small { result ≤ 2 ^ 65 }
+pub(crate) fn named_size(name: &str, d: Description) -> u64
+    ensures { result ≡ length (0 ∷ (text name.now ++ described d)) }
 {
-    text_size(name) + described_size(d)
+    1 + unsigned_size(name.len() as u64) + name.len() as u64 + described_size(d)
 }
 
 /// How long an alias of an instance's export is.

@@ -84,8 +84,8 @@ pub(crate) fn decl_size(d: &DeclRef<'_>) -> u128
         DeclRef::CoreModule(t) => 1 + t.size(),
         DeclRef::Type(t) => 1 + type_size(t),
         DeclRef::Alias(a) => 1 + alias_size(a),
-        DeclRef::Import(name, d) => 2 + named_size(name, d),
-        DeclRef::Export(name, d) => 2 + named_size(name, d),
+        DeclRef::Import(name, d) => 1 + u128::from(named_size(name, d)),
+        DeclRef::Export(name, d) => 1 + u128::from(named_size(name, d)),
     }
 }
 
@@ -103,7 +103,7 @@ pub(crate) fn item_size(item: &ItemRef<'_>) -> u128
         } => 1 + index_size(component) + arguments_size(arguments),
         ItemRef::Alias(a) => alias_size(a),
         ItemRef::Type(t) => type_size(t),
-        ItemRef::Import(name, d) => 1 + named_size(name, d),
+        ItemRef::Import(name, d) => u128::from(named_size(name, d)),
         ItemRef::Export { name, sort, index } => 2 + argument_size(name, sort, index),
     }
 }

@@ -14,6 +14,7 @@ pub mod WriteAliasLemmas
 pub mod WriteArgumentsLemmas
 pub mod ImportRows
 pub mod ListedLemmas
+pub mod CloneLemmas
 pub mod AskingWalk
 pub mod AskedHeld
 pub mod MergeLemmas

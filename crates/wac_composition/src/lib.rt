@@ -7,6 +7,7 @@
 mod arguments;
 mod arguments_of;
 mod asked;
+mod clones;
 mod conflicts;
 mod encode;
 mod graph;

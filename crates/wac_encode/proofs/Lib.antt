@@ -6,3 +6,9 @@ pub mod Stepping
 pub mod Answering
 pub mod Rows
 pub mod Imported
+pub mod Ordered
+pub mod Listed
+pub mod Naming
+pub mod Behind
+pub mod Plain
+pub mod Together

@@ -1,3 +1,5 @@
 pub mod Made
 pub mod Written
 pub mod Tasks
+pub mod Listing
+pub mod Items

@@ -4,6 +4,7 @@
 mod encoder;
 mod functions;
 mod imports;
+mod interfaces;
 mod parts;
 mod task;
 

@@ -32,9 +32,12 @@ world-imports c w x h = rw h refl
 pub world-exports : (c : Collection) (w : WorldId) (x : World) → item_at c.worlds w.0 ≡ Some x → world_exports c w ≡ x.exports
 world-exports c w x h = rw h refl
 
--- what the world of a package imports, as it is read
+-- what the world of a package imports, and what it exports, as it is read
 pub listed-imports : (g : Graph) (id : PackageId) (p : PackageParts) (w : WorldId) (t : Collection) (x : World) → package_at g id ≡ Some p → w ≡ p.world → t ≡ g.types → item_at t.worlds w.0 ≡ Some x → imports_of_package g id ≡ x.imports
 listed-imports g id p w t x at is same there = imports-of g id p at ∙ ap (world_imports g.types) (sym is) ∙ ap (λ c. world_imports c w) (sym same) ∙ world-imports t w x there
+
+pub listed-exports : (g : Graph) (id : PackageId) (p : PackageParts) (w : WorldId) (t : Collection) (x : World) → package_at g id ≡ Some p → w ≡ p.world → t ≡ g.types → item_at t.worlds w.0 ≡ Some x → exports_of_package g id ≡ x.exports
+listed-exports g id p w t x at is same there = exports-of g id p at ∙ ap (world_exports g.types) (sym is) ∙ ap (λ c. world_exports c w) (sym same) ∙ world-exports t w x there
 
 pub on-ok : {A E : Type 0} (r : Result A E) (P : Type 0) → P → OnOk r P
 on-ok (Ok a) P h = h

@@ -14,3 +14,4 @@ mod Weaker
 mod Twice
 mod Passing
 mod Never
+mod Exporting

@@ -48,7 +48,7 @@ first-none g socket plug plugs h =
     let both = both-none h.0 h.1 h.2 in
     (subst (AreMatchesOf g socket plug) both.0 h.3, subst (AreAllMatches g socket plugs) both.1 h.4)
 
-all-none-only : (g : Graph) (socket : PackageId) (plugs : List PackageId) (ms : List Match) → AreAllMatches g socket plugs [] → AreAllMatches g socket plugs ms → ms ≡ []
+pub all-none-only : (g : Graph) (socket : PackageId) (plugs : List PackageId) (ms : List Match) → AreAllMatches g socket plugs [] → AreAllMatches g socket plugs ms → ms ≡ []
 all-none-only g socket [] ms none h = h
 all-none-only g socket (plug ∷ plugs) ms none h =
     let first = first-none g socket plug plugs none in

@@ -95,7 +95,7 @@ exported s i g new a name there w h =
 abbrev pub answer-of : PlugError → Answer
 answer-of e = Err e
 
-one-error : (e f : PlugError) → answer-of e ≡ answer-of f → e ≡ f
+pub one-error : (e f : PlugError) → answer-of e ≡ answer-of f → e ≡ f
 one-error e f h = cc
 
 pub not-ok : (e : PlugError) → answer-of e ≡ Ok tt → ⊥
@@ -110,7 +110,7 @@ export-is-no-alias (export_error.InvalidExportName text source) f h = cc
 export-is-no-alias export_error.OutOfMemory f h = cc
 
 -- an export is passed on
-passes-keep : (s : NodeId) (i : InterfaceId) (g new : Graph) (name : Name) → IsInstanceAt g s i → PassesOn s g name (Ok tt) new → IsInstanceAt new s i × (new.types ≡ g.types)
+pub passes-keep : (s : NodeId) (i : InterfaceId) (g new : Graph) (name : Name) → IsInstanceAt g s i → PassesOn s g name (Ok tt) new → IsInstanceAt new s i × (new.types ≡ g.types)
 passes-keep s i g new name w (inl h) = absurd (not-ok (of_alias h.0) (sym h.2))
 passes-keep s i g new name w (inr h) = by h.3.0 h.3.1 h.3.2 where
   there : IsSome (node_at g s)

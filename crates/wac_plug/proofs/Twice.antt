@@ -64,7 +64,7 @@ again-split given [] ys h = inr h
 again-split given (x ∷ xs) ys (inl h) = inl (inl h)
 again-split given (x ∷ xs) ys (inr h) = elim (again-split (x ∷ given) xs ys h) [ inl a ↦ inl (inr a) | inr b ↦ inr b ]
 
-the-node : (old new : Graph) (id : PackageId) (p : PackageParts) (n : NodeId) → package_at old id ≡ Some p → Instantiates old id (Ok n) new → AddsNode old n (instance_node id p) new
+pub the-node : (old new : Graph) (id : PackageId) (p : PackageParts) (n : NodeId) → package_at old id ≡ Some p → Instantiates old id (Ok n) new → AddsNode old n (instance_node id p) new
 the-node old new id p n at h = subst (λ o. IfSome o (λ p. AddsNode old n (instance_node id p) new)) at h
 
 module _ (old new : Graph) (id : PackageId) (p : PackageParts) (n : NodeId) (step : AddsNode old n (instance_node id p) new) where
@@ -111,7 +111,7 @@ module _ (s : NodeId) (socket : PackageId) (q : PackageParts) where
   abbrev Outcome : Graph → PackageId → List Match → Answer → Graph → Type 0
   Outcome now plug given answer new =
       (answer ≡ Err OutOfMemory)
-      ⊎ ((IsAlreadyPassed answer × ((own : List Match) × AreMatchesOf now socket plug own × IsMatchedAgain given own)) ⊎ ((answer ≡ Ok tt) × ((own : List Match) × AreMatchesOf now socket plug own × (IsMatchedAgain given own → ⊥) × IsWiring new s socket q (given_then given own) × (new.types ≡ now.types) × (new.slots ≡ now.slots))))
+      ⊎ ((IsAlreadyPassed answer × ((own : List Match) × AreMatchesOf now socket plug own × IsMatchedAgain given own)) ⊎ ((answer ≡ Ok tt) × ((own : List Match) × AreMatchesOf now socket plug own × (IsMatchedAgain given own → ⊥) × IsWiring new s socket q (given_then given own) × (new.types ≡ now.types) × (new.slots ≡ now.slots) × (new.exports ≡ now.exports))))
 
   wired-plug : (now new : Graph) (plug : PackageId) (p : PackageParts) (given ms : List Match) (answer : Answer) → IsWiring now s socket q given → NoNameTwice (imports_of_package now socket) → package_at now plug ≡ Some p → HoldsPackage now.types p
       → NoNameTwice (exports_of_package now plug) → AreMatchesOf now socket plug ms → (node : NodeId) (mid : Graph) → Instantiates now plug (Ok node) mid → InOrder (Wires node s) mid ms answer new → Outcome now plug given answer new
@@ -125,7 +125,7 @@ module _ (s : NodeId) (socket : PackageId) (q : PackageParts) where
         | inl memory ↦ inl memory
         | inr decided ↦ elim decided [
           | inl passed ↦ inr (inl (passed.0, (ms, are, passed.1)))
-          | inr done ↦ inr (inr (done.0, (ms, are, done.1.once, done.1.wiring, done.1.types ∙ types, done.1.slots ∙ ap (λ (k : Graph). k.slots) step.2)))
+          | inr done ↦ inr (inr (done.0, (ms, are, done.1.once, done.1.wiring, done.1.types ∙ types, done.1.slots ∙ ap (λ (k : Graph). k.slots) step.2, done.1.exports ∙ ap (λ (k : Graph). k.exports) step.2)))
         ]
       ]
     where
@@ -150,7 +150,7 @@ module _ (s : NodeId) (socket : PackageId) (q : PackageParts) where
   plug-decides now new plug p given answer w once at holds (inl h) = inl h.0
   plug-decides now new plug p given answer w once at holds (inr h) = by h.1.0 h.1.1 h.1.2 where
     by : (ms : List Match) → AreMatchesOf now socket plug ms → PlugsIn plug s now ms answer new → Outcome now plug given answer new
-    by [] are it = inr (inr (it.0, ([], are, (λ none. none), subst (λ (k : Graph). IsWiring k s socket q given) (sym it.1) w, ap (λ (k : Graph). k.types) it.1, ap (λ (k : Graph). k.slots) it.1)))
+    by [] are it = inr (inr (it.0, ([], are, (λ none. none), subst (λ (k : Graph). IsWiring k s socket q given) (sym it.1) w, ap (λ (k : Graph). k.types) it.1, ap (λ (k : Graph). k.slots) it.1, ap (λ (k : Graph). k.exports) it.1)))
     by (m ∷ ms) are (inl memory) = inl memory.0
     by (m ∷ ms) are (inr made) = wired-plug now new plug p given (m ∷ ms) answer w once at holds h.0 are made.0 made.1 made.2 made.3
 
@@ -212,8 +212,8 @@ module _ (s : NodeId) (socket : PackageId) (q : PackageParts) (old : Graph) (sou
   -- what the plugs answer: an argument that is passed already is that of an import that is matched again
   pub plugs-say : (plugs : List PackageId) (now new : Graph) (given : List Match) (answer : Answer) → now.types ≡ old.types → now.slots ≡ old.slots
       → ((i : ℕ) (id : PackageId) → slice_get plugs i ≡ Some id → IsSome (package_at old id)) → IsWiring now s socket q given → InOrder (PlugsNamed socket s) now plugs answer new
-      → (answer ≡ Err OutOfMemory) ⊎ ((IsAlreadyPassed answer × ((ms : List Match) → AreAllMatches old socket plugs ms → IsMatchedAgain given ms)) ⊎ ((answer ≡ Ok tt) × ((all : List Match) × IsWiring new s socket q all × (new.types ≡ old.types))))
-  plugs-say [] now new given answer types slots there w h = inr (inr (h.0, (given, subst (λ (k : Graph). IsWiring k s socket q given) (sym h.1) w, ap (λ (k : Graph). k.types) h.1 ∙ types)))
+      → (answer ≡ Err OutOfMemory) ⊎ ((IsAlreadyPassed answer × ((ms : List Match) → AreAllMatches old socket plugs ms → IsMatchedAgain given ms)) ⊎ ((answer ≡ Ok tt) × ((all : List Match) × IsWiring new s socket q all × (new.types ≡ old.types) × (new.exports ≡ now.exports))))
+  plugs-say [] now new given answer types slots there w h = inr (inr (h.0, (given, subst (λ (k : Graph). IsWiring k s socket q given) (sym h.1) w, ap (λ (k : Graph). k.types) h.1 ∙ types, ap (λ (k : Graph). k.exports) h.1)))
   plugs-say (plug ∷ plugs) now new given answer types slots there w (inl h) =
       elim (decides-in s socket q old sound once plug now given types slots (there 0 plug refl) w answer new h.1) [
         | inl memory ↦ inl memory
@@ -243,7 +243,7 @@ module _ (s : NodeId) (socket : PackageId) (q : PackageParts) (old : Graph) (sou
                         let own : all.0 ≡ o.0 = one-matches _ _ _ all.0 o.0 all.3 (matches-back s socket q old sound once now plug o.0 types slots o.1) in
                         subst (IsMatchedAgain given) (sym all.2) (again-second given all.0 all.1 (subst (λ l. IsMatchedAgain (given_then given l) all.1) (sym own) (passed.1 all.1 all.4))),
                   ))
-                  | inr all ↦ inr (inr all)
+                  | inr all ↦ inr (inr (all.0, (all.1.0, all.1.1, all.1.2, all.1.3 ∙ o.6)))
                 ]
               ]
         ]

@@ -1,9 +1,13 @@
 -- When `plug` is refused, by the matches.
-use Rattle.std.specs.Prelude.{◌≡◌, ◌⊎◌, List, [], ◌∷◌, Err}
+use Rattle.std.specs.Prelude.{◌≡◌, ◌⊎◌, List, [], ◌∷◌, Some, None, Err, string_bytes}
 use Rattle.wac_shapes.specs.Name.{Name}
+use Rattle.wac_nodes.specs.declared.errors.ExportError.{ExportError}
+use Rattle.wac_nodes.specs.declared.errors.ExportError.TheVariants as export_error
 use Rattle.wac_nodes.specs.declared.errors.InstantiationArgumentError.TheVariants.{ArgumentAlreadyPassed}
+use Rattle.wac_nodes.specs.ExternName.{IsExportName, HasExportFault}
+use Rattle.wac_nodes.specs.Graph.{Graph, export_at}
 use Rattle.wac_plug.specs.declared.errors.PlugError.TheVariants.{GraphError}
-use Rattle.wac_plug.specs.declared.errors.PlugFault.TheVariants.{Argument}
+use Rattle.wac_plug.specs.declared.errors.PlugFault.TheVariants.{Argument, Export}
 use Rattle.wac_plug.specs.Matching.{Match}
 use Rattle.wac_plug.specs.Plugging.{Answer}
 
@@ -25,3 +29,19 @@ IsMatchedTwice ms = IsMatchedAgain [] ms
 abbrev pub IsAlreadyPassed : Answer → Type 0
 IsAlreadyPassed (Err (GraphError (Argument (ArgumentAlreadyPassed node text)))) = Unit {0}
 IsAlreadyPassed _ = ⊥
+
+-- `export` refuses a name: one that is exported already, or that may not be exported, by its fault
+abbrev pub IsRefusedExport : Graph → Name → ExportError → Type 0
+IsRefusedExport g name (export_error.ExportAlreadyExists text node) = (string_bytes text ≡ name) × (export_at g name ≡ Some node)
+IsRefusedExport g name (export_error.InvalidExportName text source) = (string_bytes text ≡ name) × (export_at g name ≡ None) × HasExportFault name source
+IsRefusedExport g name export_error.OutOfMemory = ⊥
+
+-- the refusal of the first of these names that `export` refuses
+abbrev pub IsFirstRefused : Graph → List Name → ExportError → Type 0
+IsFirstRefused g [] refusal = ⊥
+IsFirstRefused g (name ∷ names) refusal = IsRefusedExport g name refusal ⊎ ((export_at g name ≡ None) × IsExportName name × IsFirstRefused g names refusal)
+
+-- an export is refused
+abbrev pub IsExportRefused : Answer → Type 0
+IsExportRefused (Err (GraphError (Export refusal))) = Unit {0}
+IsExportRefused _ = ⊥

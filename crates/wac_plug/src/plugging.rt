@@ -2,12 +2,13 @@
 ghost use Rattle.std.specs.Prelude.{◌≡◌, ◌⊎◌, ℕ, List, [], Some, IsSome, IfOk, IfErr, OnOk, slice_get, Ok, Err};
 ghost use Rattle.wac_nodes.specs.Graph.{node_at, package_at};
 ghost use Rattle.wac_nodes.specs.declared.errors.AliasError.{AliasError as AnAliasFault};
+ghost use Rattle.wac_nodes.specs.declared.errors.ExportError.{ExportError as AnExportFault};
 ghost use Rattle.wac_nodes.specs.declared.errors.InstantiationArgumentError.{InstantiationArgumentError as AFault};
 ghost use Rattle.wac_nodes.specs.declared.packages.PackageId.{PackageId as AnId};
-ghost use Rattle.wac_shapes.specs.Named.{NoNameTwice};
+ghost use Rattle.wac_shapes.specs.Named.{NoNameTwice, names_of};
 ghost use Rattle.wac_plug.specs.Matching.{Match, AreMatchesOf, AreAllMatches, imports_of_package, exports_of_package};
 ghost use Rattle.wac_plug.specs.Naming.{PlugsNamed, PlugsAllNamed};
-ghost use Rattle.wac_plug.specs.Outcome.{IsMatchedTwice, IsAlreadyPassed};
+ghost use Rattle.wac_plug.specs.Outcome.{IsMatchedTwice, IsAlreadyPassed, IsFirstRefused, IsExportRefused};
 ghost use Rattle.wac_plug.specs.Plugging.{InOrder, PlugsAll, PlugsIn, Keeps, has_any};
 ghost use Rattle.wac_plug.specs.Tracks.{AreFirsts};
 
@@ -16,7 +17,7 @@ use crate::matching::{find_matches, first_on_tracks};
 use crate::wiring::{pass_on_all, plug_in};
 use std::alloc::AllocError;
 use wac_composition::CompositionGraph;
-use wac_nodes::{NodeId, PackageId};
+use wac_nodes::{NodeId, PackageId, one_export_answer};
 use wac_types::Named;
 
 /// Finds the matches of a plug, and plugs it in by them. Answers whether there are any.
@@ -76,6 +77,16 @@ fn import_tracks(graph: &CompositionGraph, socket: PackageId) -> Result<Named<us
     first_on_tracks(graph.types().allocator(), imports)
 }
 
+/// A package's world exports nothing under a name twice.
+fn exports_law(graph: &CompositionGraph, id: PackageId)
+    requires { IsSome (package_at graph.now id) }
+    ensures { NoNameTwice (exports_of_package graph.now id) }
+{
+    graph.law();
+    let world = graph[id].ty();
+    graph.types()[world].exports.law();
+}
+
 /// Plugs packages into a socket, as [`plug`] says.
 fn plug_all(
     graph: &mut CompositionGraph,
@@ -118,9 +129,13 @@ pub fn plug(
     ensures twice { (ms : List Match) → AreAllMatches graph.old socket plugs.items ms → IsMatchedTwice ms → IsAlreadyPassed result ⊎ (result ≡ Err PlugError.OutOfMemory) }
     ensures only_twice { (e : AFault) → result ≡ Err (PlugError.GraphError (PlugFault.Argument e)) → IsAlreadyPassed result × ((ms : List Match) → AreAllMatches graph.old socket plugs.items ms → IsMatchedTwice ms) }
     ensures no_alias { (e : AnAliasFault) → result ≡ Err (PlugError.GraphError (PlugFault.Alias e)) → ⊥ }
+    ensures refused { (e : AnExportFault) → IsFirstRefused graph.old (names_of (exports_of_package graph.old socket)) e → (ms : List Match) → AreAllMatches graph.old socket plugs.items ms → (ms ≡ [] → ⊥) → (IsMatchedTwice ms → ⊥) → IsExportRefused result ⊎ (result ≡ Err PlugError.OutOfMemory) }
+    ensures only_refused { (e : AnExportFault) → result ≡ Err (PlugError.GraphError (PlugFault.Export e)) → IsFirstRefused graph.old (names_of (exports_of_package graph.old socket)) e }
     ensures nothing { AreAllMatches graph.old socket plugs.items [] → (result ≡ Err PlugError.NoPlugHappened) ⊎ (result ≡ Err PlugError.OutOfMemory) }
     ensures only_nothing { result ≡ Err PlugError.NoPlugHappened → AreAllMatches graph.old socket plugs.items [] }
 {
     graph.law();
+    one_export_answer();
+    exports_law(graph, socket);
     plug_all(graph, &plugs, socket)
 }

@@ -201,7 +201,7 @@ pub struct ResourceAlias {
 }
 
 /// A resource.
-#[derive(Clone, Drop)]
+#[derive(Clone, Debug, Drop, PartialEq, Eq)]
 pub struct Resource {
     /// Its name.
     pub name: Text,
@@ -234,7 +234,7 @@ impl Resource {
 }
 
 /// A variant.
-#[derive(Clone, Drop)]
+#[derive(Clone, Debug, Drop, PartialEq, Eq)]
 pub struct Variant {
     /// The cases, in order, each with the type of its payload where it has one.
     pub cases: Named<Option<ValueType>>,
@@ -255,7 +255,7 @@ impl Variant {
 }
 
 /// A record.
-#[derive(Clone, Drop)]
+#[derive(Clone, Debug, Drop, PartialEq, Eq)]
 pub struct Record {
     /// The fields, in order.
     pub fields: Named<ValueType>,
@@ -276,7 +276,7 @@ impl Record {
 }
 
 /// Flags.
-#[derive(Clone, Drop)]
+#[derive(Clone, Debug, Drop, PartialEq, Eq)]
 pub struct Flags(pub Labels);
 
 impl Flags {
@@ -294,7 +294,7 @@ impl Flags {
 }
 
 /// An enumeration.
-#[derive(Clone, Drop)]
+#[derive(Clone, Debug, Drop, PartialEq, Eq)]
 pub struct Enum(pub Labels);
 
 impl Enum {
@@ -312,7 +312,7 @@ impl Enum {
 }
 
 /// A value type with a definition.
-#[derive(Clone, Drop)]
+#[derive(Clone, Debug, Drop, PartialEq, Eq)]
 pub enum DefinedType {
     /// A tuple of these types.
     Tuple(Sequence<ValueType>),
@@ -356,7 +356,7 @@ impl DefinedType {
 }
 
 /// A function type.
-#[derive(Clone, Drop)]
+#[derive(Clone, Debug, Drop, PartialEq, Eq)]
 pub struct FuncType {
     /// The parameters, in order.
     pub params: Named<ValueType>,
@@ -390,7 +390,7 @@ impl FuncType {
 }
 
 /// A type that is taken from another interface.
-#[derive(Clone, Drop)]
+#[derive(Clone, Debug, Drop, PartialEq, Eq)]
 pub struct UsedType {
     /// The interface that it is taken from.
     pub interface: InterfaceId,
@@ -427,7 +427,7 @@ fn used_types(
 }
 
 /// An interface.
-#[derive(Clone, Drop)]
+#[derive(Clone, Debug, Drop, PartialEq, Eq)]
 pub struct Interface {
     /// The interface's name, as `namespace:package/interface`.
     pub id: Option<Text>,
@@ -477,7 +477,7 @@ impl Interface {
 }
 
 /// A world.
-#[derive(Clone, Drop)]
+#[derive(Clone, Debug, Drop, PartialEq, Eq)]
 pub struct World {
     /// The world's name, as `namespace:package/world`.
     pub id: Option<Text>,

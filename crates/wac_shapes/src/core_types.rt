@@ -34,7 +34,7 @@ pub enum CoreType {
 }
 
 /// The type of a core function.
-#[derive(Clone, Drop)]
+#[derive(Clone, Debug, Drop, PartialEq, Eq)]
 pub struct CoreFuncType {
     /// The types of the parameters.
     pub params: Sequence<CoreType>,
@@ -58,7 +58,7 @@ impl CoreFuncType {
 }
 
 /// What a core module imports or exports.
-#[derive(Clone, Drop)]
+#[derive(Clone, Debug, Drop, PartialEq, Eq)]
 pub enum CoreExtern {
     /// A function.
     Func(CoreFuncType),
@@ -102,7 +102,7 @@ pub enum CoreExtern {
 }
 
 /// The type of a core module.
-#[derive(Clone, Drop)]
+#[derive(Clone, Debug, Drop, PartialEq, Eq)]
 pub struct ModuleType {
     /// What it imports, by module and then by name.
     pub imports: Named<Named<CoreExtern>>,

@@ -11,4 +11,4 @@ pub use component::{
     UsedType, ValueType, Variant, World, WorldId,
 };
 pub use core_types::{CoreExtern, CoreFuncType, CoreRefType, CoreType, ModuleType};
-pub use named::{Labels, Named, Sequence, ShapeError, Text};
+pub use named::{Entries, LabelNames, Labels, Named, Sequence, ShapeError, Text};

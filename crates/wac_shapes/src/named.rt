@@ -4,8 +4,9 @@ ghost use Rattle.std.specs.Option.{option_map, option_copied};
 ghost use Rattle.wac_shapes.specs.Name.{find_name};
 ghost use Rattle.wac_shapes.specs.Named.{named_at, named_pairs, labelled, given_names, find_under, inserted_under, NoNameTwice};
 
-use indexmap::IndexMap;
+use indexmap::{IndexMap, map};
 use std::alloc::{AllocError, Global};
+use std::fmt;
 use std::marker::Model;
 use thiserror::Error;
 
@@ -20,8 +21,8 @@ pub enum ShapeError {
     OutOfMemory,
 }
 
-/// A text.
-#[derive(Debug, Drop)]
+/// A text. It shows as the text in quotes.
+#[derive(Drop)]
 pub struct Text {
     text: String,
 }
@@ -45,6 +46,32 @@ impl Clone for Text {
     }
 }
 
+/// Texts are equal where their bytes are.
+impl PartialEq for Text {
+    ghost use Rattle.wac_shapes.specs.Equal.{same_text, text_equiv};
+    ghost use Rattle.std.specs.Cmp.{partial_equiv_from_equiv};
+
+    ghost eq = { same_text };
+
+    ghost laws = { partial_equiv_from_equiv text_equiv };
+
+    fn eq(&self, other: &Text) -> bool {
+        self.as_str() == other.as_str()
+    }
+}
+
+impl Eq for Text {
+    ghost use Rattle.wac_shapes.specs.Equal.{text_equiv};
+
+    ghost laws = { text_equiv };
+}
+
+impl fmt::Debug for Text {
+    fn fmt<W: fmt::Write>(&self, f: &mut fmt::Formatter<W>) -> fmt::Result {
+        fmt::Debug::fmt(self.as_str(), f)
+    }
+}
+
 impl Text {
     /// The text, in memory of its own.
     pub fn new(alloc: Global, text: &str) -> Result<Text, AllocError>
@@ -62,8 +89,8 @@ impl Text {
     }
 }
 
-/// Values in order.
-#[derive(Debug, Drop)]
+/// Values in order. It shows as a list.
+#[derive(Drop)]
 pub struct Sequence<T> {
     items: Vec<T>,
 }
@@ -89,6 +116,32 @@ impl<T: Clone> Clone for Sequence<T> {
     }
 }
 
+/// Sequences are equal where they have equal values in the same order.
+impl<T: PartialEq> PartialEq for Sequence<T> {
+    ghost use Rattle.std.specs.Cmp.Lexicographic.{pointwise};
+    ghost use Rattle.std.specs.Cmp.Lexicographic.{lists_per};
+
+    ghost eq = { pointwise T.eq };
+
+    ghost laws = { lists_per T.laws };
+
+    fn eq(&self, other: &Sequence<T>) -> bool {
+        self.as_slice() == other.as_slice()
+    }
+}
+
+impl<T: Eq> Eq for Sequence<T> {
+    ghost use Rattle.std.specs.Cmp.Lexicographic.{lists_equiv};
+
+    ghost laws = { lists_equiv T.Eq.laws };
+}
+
+impl<T: fmt::Debug> fmt::Debug for Sequence<T> {
+    fn fmt<W: fmt::Write>(&self, f: &mut fmt::Formatter<W>) -> fmt::Result {
+        fmt::Debug::fmt(self.as_slice(), f)
+    }
+}
+
 impl<T> Sequence<T> {
     /// The values.
     pub fn as_slice(&self) -> &[T]
@@ -109,7 +162,7 @@ impl<T: Copy> Sequence<T> {
     }
 }
 
-/// Names in order. None stands twice.
+/// Names in order. None stands twice. It shows as a list of the names.
 #[derive(Drop)]
 pub struct Labels {
     names: Named<()>,
@@ -133,6 +186,48 @@ impl Clone for Labels {
         Ok(Labels {
             names: self.names.clone()?,
         })
+    }
+}
+
+/// Labels are equal where they have the same names in the same order.
+impl PartialEq for Labels {
+    ghost use Rattle.wac_shapes.specs.Equal.{same_labels, labels_equiv};
+    ghost use Rattle.std.specs.Cmp.{partial_equiv_from_equiv};
+
+    ghost eq = { same_labels };
+
+    ghost laws = { partial_equiv_from_equiv labels_equiv };
+
+    fn eq(&self, other: &Labels) -> bool {
+        self.names == other.names
+    }
+}
+
+impl Eq for Labels {
+    ghost use Rattle.wac_shapes.specs.Equal.{labels_equiv};
+
+    ghost laws = { labels_equiv };
+}
+
+impl fmt::Debug for Labels {
+    fn fmt<W: fmt::Write>(&self, f: &mut fmt::Formatter<W>) -> fmt::Result {
+        let mut out = f.debug_list();
+        for name in self {
+            out.entry(&name);
+        }
+        out.finish()
+    }
+}
+
+impl<'a> IntoIterator for &'a Labels {
+    type Item = &'a str;
+
+    type IntoIter = LabelNames<'a>;
+
+    ghost into_iter_gives = { λ l r. r ≡ l.now };
+
+    fn into_iter(self) -> LabelNames<'a> {
+        self.iter()
     }
 }
 
@@ -175,9 +270,49 @@ impl Labels {
     {
         self.names.name_at(index)
     }
+
+    /// The names, in order.
+    pub fn iter(&self) -> LabelNames<'_>
+        ensures { result ≡ self.now }
+    {
+        LabelNames {
+            entries: self.names.iter(),
+        }
+    }
 }
 
-/// Values under names, in order. No name stands twice.
+/// Names that are still to come, in order.
+#[derive(Drop)]
+pub struct LabelNames<'a> {
+    entries: Entries<'a, ()>,
+}
+
+impl<'a> Model for LabelNames<'a> {
+    ghost use Rattle.std.specs.Prelude.{List};
+    ghost use Rattle.wac_shapes.specs.Name.{Name};
+    ghost use Rattle.wac_shapes.specs.Named.{names_of};
+
+    ghost Value = { List Name };
+
+    ghost view = { λ n. names_of n.entries };
+}
+
+impl<'a> Iterator for LabelNames<'a> {
+    type Item = &'a str;
+
+    ghost use Rattle.std.specs.Iterator.{YieldsFirstBy, item_count};
+
+    ghost next_gives = { YieldsFirstBy (λ x. x.now) (λ s. s) };
+
+    ghost remaining = { item_count (λ s. s) };
+
+    fn next(&mut self) -> Option<&'a str> {
+        let (name, _) = self.entries.next()?;
+        Some(name)
+    }
+}
+
+/// Values under names, in order. No name stands twice. It shows as a map.
 #[derive(Drop)]
 pub struct Named<V> {
     entries: IndexMap<String, V>,
@@ -206,6 +341,74 @@ impl<V: Clone> Clone for Named<V> {
     }
 }
 
+/// They are equal where the same names stand in the same order, each with an equal value.
+impl<V: PartialEq> PartialEq for Named<V> {
+    ghost use Rattle.wac_shapes.specs.Equal.{same_named, named_per};
+
+    ghost eq = { same_named V.eq };
+
+    ghost laws = { named_per V.laws };
+
+    fn eq(&self, other: &Named<V>) -> bool {
+        self.entries.as_slice() == other.entries.as_slice()
+    }
+}
+
+impl<V: Eq> Eq for Named<V> {
+    ghost use Rattle.wac_shapes.specs.Equal.{named_equiv};
+
+    ghost laws = { named_equiv V.Eq.laws };
+}
+
+impl<V: fmt::Debug> fmt::Debug for Named<V> {
+    fn fmt<W: fmt::Write>(&self, f: &mut fmt::Formatter<W>) -> fmt::Result {
+        fmt::Debug::fmt(&self.entries, f)
+    }
+}
+
+/// Values under names that are still to come, in order.
+#[derive(Drop)]
+pub struct Entries<'a, V> {
+    entries: map::Iter<'a, String, V>,
+}
+
+impl<'a, V> Model for Entries<'a, V> {
+    ghost use Rattle.std.specs.Prelude.{List};
+    ghost use Rattle.wac_shapes.specs.Name.{Name};
+    ghost use Rattle.wac_shapes.specs.Named.{by_bytes};
+
+    ghost Value = { List (Name × V) };
+
+    ghost view = { λ e. by_bytes e.entries };
+}
+
+impl<'a, V> Iterator for Entries<'a, V> {
+    type Item = (&'a str, &'a V);
+
+    ghost use Rattle.std.specs.Iterator.{YieldsFirstBy, item_count};
+
+    ghost next_gives = { YieldsFirstBy (λ x. (x.0.now, x.1.now)) (λ s. s) };
+
+    ghost remaining = { item_count (λ s. s) };
+
+    fn next(&mut self) -> Option<(&'a str, &'a V)> {
+        let (name, value) = self.entries.next()?;
+        Some((name.as_str(), value))
+    }
+}
+
+impl<'a, V> IntoIterator for &'a Named<V> {
+    type Item = (&'a str, &'a V);
+
+    type IntoIter = Entries<'a, V>;
+
+    ghost into_iter_gives = { λ n r. r ≡ n.now };
+
+    fn into_iter(self) -> Entries<'a, V> {
+        self.iter()
+    }
+}
+
 impl<V> Named<V> {
     /// Nothing under any name.
     pub fn new(alloc: Global) -> Named<V>
@@ -230,6 +433,15 @@ impl<V> Named<V> {
         ensures { NoNameTwice self.now }
     {
         let _ = &self.entries;
+    }
+
+    /// The values under their names, in order.
+    pub fn iter(&self) -> Entries<'_, V>
+        ensures { result ≡ self.now }
+    {
+        Entries {
+            entries: self.entries.iter(),
+        }
     }
 
     /// The value under a name.

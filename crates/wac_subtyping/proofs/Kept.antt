@@ -432,3 +432,29 @@ growth_keeps_called c wf = record {
       let l = longer c.modules y in
       called_trees_kept c (with_module c x) wf (record { resources = stays c.resources; funcs = stays c.funcs; defined = stays c.defined; interfaces = stays c.interfaces; worlds = stays c.worlds; modules = get_grown c.modules _ }) (omega arith) (omega (arith, l));
 }
+
+-- a list of which each item stands in another is no longer
+no_longer : {A : Type 0} (xs ys : List A) → ((i : ℕ) (h : A) → slice_get xs i ≡ Some h → slice_get ys i ≡ Some h) → length xs ≤ length ys
+no_longer [] ys kept = omega arith
+no_longer (x ∷ xs) [] kept = none (kept zero x refl)
+  where
+    none : None ≡ Some x → suc (length xs) ≤ zero
+    none h = cc
+no_longer (x ∷ xs) (y ∷ ys) kept = let l = no_longer xs ys (λ i h e. kept (suc i) h e) in omega (arith, l)
+
+-- what one collection holds of another keeps its trees, however many additions lie between
+pub kept_trees : (c d : Collection) → IsWellFormed c → IsKeptBy c d → KeepsTrees c d × KeepsCalledTrees c d
+kept_trees c d wf kept = (trees_kept c d wf kept resources all, called_trees_kept c d wf kept resources all)
+  where
+    resources : length c.resources ≤ length d.resources
+    resources = no_longer c.resources d.resources kept.resources
+
+    all : size c ≤ size d
+    all =
+        let a = no_longer c.resources d.resources kept.resources in
+        let b = no_longer c.funcs d.funcs kept.funcs in
+        let e = no_longer c.defined d.defined kept.defined in
+        let f = no_longer c.interfaces d.interfaces kept.interfaces in
+        let g = no_longer c.worlds d.worlds kept.worlds in
+        let h = no_longer c.modules d.modules kept.modules in
+        omega (arith, a, b, e, f, g, h)

@@ -10,6 +10,7 @@ use Rattle.wac_shapes.specs.declared.component.«Type».TheVariants as ty
 use Rattle.wac_collection.specs.Collection.{Collection, size, IsWellFormed, item_at}
 use Rattle.wac_collection.specs.Held.{Naming, Names, of_held, defined_tree, unfolded}
 use Rattle.wac_collection.specs.Bound.{by_place, held_tree}
+use Rattle.wac_subtyping.specs.Called.{by_binding}
 use Rattle.wac_subtyping.specs.Subtype.{by_name, resource_names, type_tree}
 use Rattle.wac_collection.specs.Aliases.{aliased, target_of}
 use Rattle.wac_subtyping.specs.TreeLaws.{IsDeepEnough, AliasesAgree}
@@ -41,4 +42,4 @@ alias_unfolded naming c wf m (val.Defined d) w e =
 
 pub aliases_agree : (c : Collection) → IsWellFormed c → AliasesAgree c
 unfolding type_tree held_tree
-aliases_agree c wf v w e = (alias_unfolded by_name c wf (resource_names c) v w e, λ m. alias_unfolded (by_place c) c wf m v w e)
+aliases_agree c wf v w e = (alias_unfolded by_name c wf (resource_names c) v w e, (λ m. alias_unfolded (by_place c) c wf m v w e), (λ m. alias_unfolded (by_binding c) c wf m v w e))

@@ -1,30 +1,21 @@
 -- What is held unfolds to its parts unfolded.
-use Rattle.std.proofs.Common.{ℕ, zero, suc, Bool, true, false, List, [], ◌∷◌, ◌++◌, map, ◌≡◌, ◌<◌, ◌≤◌, length, refl, ap, ◌∙◌, subst, Option, Some, None, arith, nat_lt, slice_get}
+use Rattle.std.proofs.Common.{ℕ, zero, suc, Bool, true, false, List, [], ◌∷◌, ◌++◌, map, ◌≡◌, ◌<◌, ◌≤◌, length, refl, ap, Option, Some, None, arith, nat_lt, slice_get}
 use Rattle.std.specs.List.{AllByRecursion}
 use Rattle.wac_shapes.specs.Name.{Name}
 use Rattle.wac_collection.specs.declared.collection.Held.{Held}
-use Rattle.wac_shapes.specs.declared.component.PrimitiveType.{PrimitiveType}
 use Rattle.wac_shapes.specs.declared.component.FuncType.{FuncType}
-use Rattle.wac_shapes.specs.declared.component.FuncTypeId.{FuncTypeId}
 use Rattle.wac_shapes.specs.declared.component.DefinedType.{DefinedType}
 use Rattle.wac_shapes.specs.declared.component.DefinedType.TheVariants as def
-use Rattle.wac_shapes.specs.declared.component.DefinedTypeId.{DefinedTypeId}
-use Rattle.wac_shapes.specs.declared.component.Interface.{Interface}
-use Rattle.wac_shapes.specs.declared.component.InterfaceId.{InterfaceId}
-use Rattle.wac_shapes.specs.declared.component.World.{World}
-use Rattle.wac_shapes.specs.declared.component.WorldId.{WorldId}
-use Rattle.wac_shapes.specs.declared.component.ModuleTypeId.{ModuleTypeId}
-use Rattle.wac_shapes.specs.declared.core_types.ModuleType.{ModuleType}
 use Rattle.wac_shapes.specs.declared.component.ValueType.{ValueType}
 use Rattle.wac_shapes.specs.declared.component.ValueType.TheVariants as val
 use Rattle.wac_shapes.specs.declared.component.«Type».{«Type» as AnyType}
 use Rattle.wac_shapes.specs.declared.component.«Type».TheVariants as ty
 use Rattle.wac_shapes.specs.declared.component.ItemKind.{ItemKind}
 use Rattle.wac_shapes.specs.declared.component.ItemKind.TheVariants as kind
-use Rattle.wac_collection.specs.Collection.{Collection, size, seconds, and_maybe, case_values, func_values, defined_values, value_types, func_mentions, defined_mentions, interface_mentions, world_mentions, used_types, kind_types, IsWellFormed, IsBefore, IsValueBefore, AreBefore, AddedBefore, holds_type, item_of, item_at}
+use Rattle.wac_collection.specs.Collection.{Collection, size, seconds, and_maybe, case_values, func_values, defined_values, value_types, used_types, kind_types, IsWellFormed, IsBefore, IsValueBefore, AreBefore, AddedBefore, holds_type, item_of}
 use Rattle.wac_shapes.specs.Kinds.{kind_type}
-use Rattle.wac_collection.specs.Tree.{imported, exported, TypeTree, primitive, record_of, variant_of, list_of, fixed_list_of, tuple_of, option_of, result_of, stream_of, future_of, function, instance, component, type_equal, function_item, instance_item, component_item, module_item, value_item}
-use Rattle.wac_collection.specs.Held.{Naming, Names, Unfolding, part_at, items_under, option_tree, func_tree, defined_tree, item_tree, module_tree, of_held, step, unfolded_to, unfolded}
+use Rattle.wac_collection.specs.Tree.{imported, exported, TypeTree, record_of, variant_of, list_of, fixed_list_of, tuple_of, option_of, result_of, stream_of, future_of, function, instance, component, type_equal, function_item, instance_item, component_item, module_item, value_item}
+use Rattle.wac_collection.specs.Held.{Naming, Names, Unfolding, part_at, items_under, option_tree, func_tree, defined_tree, item_tree, of_held, step, unfolded_to, unfolded}
 use Rattle.wac_subtyping.specs.Subtype.{by_name, resource_names, type_tree}
 use Rattle.wac_subtyping.specs.Ranks.{rank_of_held, type_rank}
 

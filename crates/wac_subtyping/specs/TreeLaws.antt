@@ -27,7 +27,10 @@ UnfoldsByParts naming c = (m : Names _) (t : AnyType) → holds_type c t ≡ tru
 
 -- an alias has the trees of what it names
 abbrev pub AliasesAgree : Collection → Type 0
-AliasesAgree c = (v w : ValueType) → target_of c v ≡ Some w → (type_tree c (ty.Value v) ≡ type_tree c (ty.Value w)) × ((m : Bindings) → held_tree c m (ty.Value v) ≡ held_tree c m (ty.Value w))
+AliasesAgree c = (v w : ValueType) → target_of c v ≡ Some w →
+    (type_tree c (ty.Value v) ≡ type_tree c (ty.Value w))
+    × ((m : Bindings) → held_tree c m (ty.Value v) ≡ held_tree c m (ty.Value w))
+    × ((m : Names Called) → unfolded (by_binding c) c m (ty.Value v) ≡ unfolded (by_binding c) c m (ty.Value w))
 
 -- what the one holds stands in the other, at the same positions
 pub record IsKeptBy (c d : Collection) : Type 0 where

@@ -3,7 +3,7 @@ ghost use Rattle.std.specs.Prelude.{◌≡◌};
 ghost use Rattle.wac_collection.specs.Bound.{by_place};
 ghost use Rattle.wac_subtyping.specs.Called.{by_binding};
 ghost use Rattle.wac_subtyping.specs.Subtype.{IsSubtype, by_name};
-ghost use Rattle.wac_subtyping.specs.TreeLaws.{IsDeepEnough, UnfoldsByParts, AliasesAgree, GrowthKeepsTrees, GrowthKeepsCalledTrees};
+ghost use Rattle.wac_subtyping.specs.TreeLaws.{IsDeepEnough, UnfoldsByParts, AliasesAgree, IsKeptBy, KeepsTrees, KeepsCalledTrees, GrowthKeepsTrees, GrowthKeepsCalledTrees};
 
 use wac_collection::{ItemKind, Types};
 
@@ -69,4 +69,13 @@ pub fn growth_keeps_called_trees(types: &Types)
     ensures { GrowthKeepsCalledTrees types.now }
 {
     types.law();
+}
+
+/// Each type that a collection holds keeps its trees in any that holds the same items at the same positions, and maybe more.
+pub fn kept_types_keep_their_trees(before: &Types, after: &Types)
+    ensures trees { IsKeptBy before.now after.now → KeepsTrees before.now after.now }
+    ensures called { IsKeptBy before.now after.now → KeepsCalledTrees before.now after.now }
+{
+    before.law();
+    let _ = after;
 }

@@ -48,6 +48,30 @@ fn a_name_given_twice_is_refused(rt: HostRuntime) -> Result<(), Fail> {
     Ok(())
 }
 
+#[test]
+fn shapes_compare_and_show_what_they_hold(rt: HostRuntime) -> Result<(), Fail> {
+    let alloc = rt.alloc();
+    let mut types = Types::new(alloc);
+    let f = func(&mut types, alloc, &[("x", BOOL)], None, false)?;
+    let one = Interface::new(alloc, Some("n:p/i"), &[("f", f)])?;
+    let same = Interface::new(alloc, Some("n:p/i"), &[("f", f)])?;
+    let other = Interface::new(alloc, Some("n:p/i"), &[("g", f)])?;
+    assert!(rt; one == same);
+    assert!(rt; one != other);
+    let exports = &one.exports;
+    let text = format!(in alloc; "{exports:?}")?;
+    assert_eq!(rt; text.as_str(), "{\"f\": Func(FuncTypeId(0))}");
+    for (name, kind) in exports {
+        assert_eq!(rt; name, "f");
+        assert_eq!(rt; *kind, f);
+    }
+    let cases = Enum::new(alloc, &["a", "b"])?;
+    let text = format!(in alloc; "{cases:?}")?;
+    assert_eq!(rt; text.as_str(), "Enum([\"a\", \"b\"])");
+    assert_eq!(rt; cases.0.iter().count(), 2);
+    Ok(())
+}
+
 // A package of a new world that imports `f` and exports `g`.
 fn package(
     rt: &impl Abort,

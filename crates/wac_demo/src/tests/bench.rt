@@ -488,6 +488,16 @@ impl Bench {
         Ok(rows)
     }
 
+    // A clone of the graph, with what was answered so far.
+    pub fn cloned(&self) -> Result<Bench, Fail> {
+        Ok(Bench {
+            alloc: self.alloc,
+            graph: self.graph.clone()?,
+            packages: self.packages.clone()?,
+            nodes: self.nodes.clone()?,
+        })
+    }
+
     // The nodes, each with what it is, and their ids.
     pub fn listed_nodes(&self) -> Result<String, Fail> {
         let mut rows = String::new(self.alloc);

@@ -1,9 +1,9 @@
 // What a graph lists.
-use super::bench::Call::{Alias, Import, Instantiate, Register, Set, Unset};
+use super::bench::Call::{Alias, Export, Import, Instantiate, Name, Named, Register, Set, Unset};
 use super::bench::Item::Plain;
 use super::bench::{Bench, Call};
 use std::test::Fail;
-use wac_graph::NodeId;
+use wac_graph::{EncodeOptions, NodeId};
 
 // Two packages, the second instantiated first.
 const NUMBERED: &[(Call<'static>, &str)] = &[
@@ -35,6 +35,27 @@ const GIVEN: &[(Call<'static>, &str)] = &[
 ];
 
 const TAKEN: &[(Call<'static>, &str)] = &[(Unset(0, "x", 3), "")];
+
+// The function of one package given to another, and exported.
+const CLONED: &[(Call<'static>, &str)] = &[
+    (Register("my:first", &[], &[("a", Plain)]), ""),
+    (Register("my:second", &[("b", Plain)], &[]), ""),
+    (Instantiate(0), "0"),
+    (Instantiate(1), "1"),
+    (Alias(0, "a"), "2"),
+    (Set(1, "b", 2), ""),
+    (Export(2, "x"), ""),
+];
+
+// What is done to a clone of that.
+const CHANGED: &[(Call<'static>, &str)] = &[
+    (Export(2, "x"), "an export with the name `x` already exists"),
+    (Register("my:third", &[], &[]), ""),
+    (Instantiate(0), "3"),
+    (Unset(1, "b", 2), ""),
+    (Name(0, "n"), ""),
+    (Named(0), "n"),
+];
 
 #[test]
 fn nodes_and_packages_are_listed_by_number(rt: HostRuntime) -> Result<(), Fail> {
@@ -71,5 +92,34 @@ fn an_empty_graph_lists_nothing(rt: HostRuntime) -> Result<(), Fail> {
     assert_eq!(rt; bench.listed_nodes()?.as_str(), "");
     assert_eq!(rt; bench.listed_packages()?.as_str(), "");
     assert_eq!(rt; bench.listed_arguments(NodeId(0))?.as_str(), "");
+    Ok(())
+}
+
+// The clone has all that the graph has under the same ids, and what is done to it leaves the graph.
+#[test]
+fn a_clone_stands_on_its_own(rt: HostRuntime) -> Result<(), Fail> {
+    let mut bench = Bench::new(rt.alloc());
+    bench.calls(&rt, CLONED)?;
+    let bytes = bench.encoded(EncodeOptions::default())?;
+    let mut copy = bench.cloned()?;
+    assert_eq!(rt;
+        copy.encoded(EncodeOptions::default())?.as_str(),
+        bytes.as_str()
+    );
+    assert_eq!(rt;
+        copy.listed_nodes()?.as_str(),
+        bench.listed_nodes()?.as_str()
+    );
+    copy.calls(&rt, CHANGED)?;
+    assert_eq!(rt; copy.listed_arguments(NodeId(1))?.as_str(), "");
+    assert_eq!(rt;
+        bench.encoded(EncodeOptions::default())?.as_str(),
+        bytes.as_str()
+    );
+    assert_eq!(rt; bench.listed_arguments(NodeId(1))?.as_str(), "b: 2; ");
+    assert_eq!(rt;
+        bench.listed_packages()?.as_str(),
+        "0: my:first; 1: my:second; "
+    );
     Ok(())
 }

@@ -1,4 +1,4 @@
-use Rattle.std.proofs.Common.{arith, length-append, ℕ}
+use Rattle.std.proofs.Common.{arith, length-append}
 use Rattle.std.specs.List.{flat_map}
 use Rattle.wac_binary.specs.Leb.{unsigned}
 use Rattle.wac_binary.specs.Bytes.{core_val}

@@ -6,10 +6,10 @@ use Rattle.wac_encode_tests.proofs.StillOpen.{still-type, type-behind-export}
 use Rattle.wac_encode_tests.proofs.functions.takes_the_named_index.Goals as goal
 
 pub export_value-requires : goal.export_value-requires
-export_value-requires c = still-type c.new-scope.result.content c.value_type.new.scope.content c.in_ok-written.ensures.written.types c.in_ok-written.ensures.written.appended (subst IsOpenType (sym c.new-scope.ensures.content) tt)
+export_value-requires g c = still-type c.new-scope.result.content c.value_type.new.scope.content c.in_ok-written.ensures.written.types c.in_ok-written.ensures.written.appended (subst IsOpenType (sym c.new-scope.ensures.content) tt)
 
 pub export_func-requires : goal.export_func-requires
-export_func-requires c =
+export_func-requires g c =
     still-type c.export_value.new.self.content c.func.new.scope.content c.in_ok-index.ensures.written.types c.in_ok-index.ensures.written.appended
     (type-behind-export c.value_type.new.scope.content c.export_value.new.self.content (116 ∷ []) (e.Equal 0) c.in_ok-export_value.ensures.appended
     (still-type c.new-scope.result.content c.value_type.new.scope.content c.in_ok-written.ensures.written.types c.in_ok-written.ensures.written.appended (subst IsOpenType (sym c.new-scope.ensures.content) tt)))

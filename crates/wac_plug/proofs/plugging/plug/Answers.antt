@@ -3,6 +3,7 @@ use Rattle.wac_nodes.specs.declared.packages.PackageId.{PackageId}
 use Rattle.wac_plug.specs.Plugging.{Answer, PlugsAll}
 use Rattle.wac_plug.specs.Outcome.{IsAlreadyPassed}
 use Rattle.wac_plug.specs.Naming.{PlugsAllNamed}
+use Rattle.wac_plug.proofs.Exporting.{says-refused, export-said}
 use Rattle.wac_plug.proofs.Nothing.{says-nothing, nothing-said}
 use Rattle.wac_plug.proofs.Never.{alias-never}
 use Rattle.wac_plug.proofs.Twice.{says-twice, twice-said}
@@ -38,5 +39,16 @@ returns-clause-only_twice c = λ e is.
 pub returns-clause-no_alias : goal.returns-clause-no_alias
 returns-clause-no_alias c = λ e is.
     alias-never c.args.graph.now c.plug_all.new.graph c.args.plugs.items c.args.socket e c.law.ensures c.requires.socket c.requires.plugs
+    (subst (λ (r : Answer). PlugsAllNamed c.args.graph.now c.args.plugs.items c.args.socket r c.plug_all.new.graph) is
+    (subst (λ (l : List PackageId). PlugsAllNamed c.args.graph.now l c.args.socket c.plug_all.result c.plug_all.new.graph) c.deref.ensures.value c.plug_all.ensures))
+
+pub returns-clause-refused : goal.returns-clause-refused
+returns-clause-refused c = λ e first ms all some once.
+    says-refused c.args.graph.now c.args.plugs.items c.args.socket c.law.ensures c.requires.socket c.requires.plugs c.exports_law.ensures c.plug_all.new.graph c.plug_all.result c.one_export_answer.ensures
+    (subst (λ (l : List PackageId). PlugsAllNamed c.args.graph.now l c.args.socket c.plug_all.result c.plug_all.new.graph) c.deref.ensures.value c.plug_all.ensures) e first ms all some once
+
+pub returns-clause-only_refused : goal.returns-clause-only_refused
+returns-clause-only_refused c = λ e is.
+    export-said c.args.graph.now c.args.plugs.items c.args.socket c.law.ensures c.requires.socket c.requires.plugs c.exports_law.ensures c.plug_all.new.graph e
     (subst (λ (r : Answer). PlugsAllNamed c.args.graph.now c.args.plugs.items c.args.socket r c.plug_all.new.graph) is
     (subst (λ (l : List PackageId). PlugsAllNamed c.args.graph.now l c.args.socket c.plug_all.result c.plug_all.new.graph) c.deref.ensures.value c.plug_all.ensures))

@@ -36,6 +36,13 @@ result_row = search rules
 result_tree : second_type (a_string ∷ type_item (func_def false [] (Some (Index 0))) ∷ []) ≡ function false [] (λ i. absent) (primitive p.String)
 result_tree = refl
 
+-- a function without a result is another one, and a result that is not there is none of it
+no_result_row : HasMeaning (a_string ∷ type_item a_function ∷ [])
+no_result_row = search rules
+
+no_result_tree : second_type (a_string ∷ type_item a_function ∷ []) ≡ function false [] (λ i. absent) absent
+no_result_tree = refl
+
 missing_result : HasMeaning (a_string ∷ type_item (func_def false [] (Some (Index 7))) ∷ []) → ⊥
 missing_result h = h.1.0.1
 

@@ -1,0 +1,31 @@
+//! Clones of graphs.
+ghost use Rattle.std.specs.Prelude.{◌≡◌, IfOk};
+
+use crate::graph::CompositionGraph;
+use std::alloc::AllocError;
+
+impl CompositionGraph {
+    /// An equal graph with the same ids, in memory of its own: what is done to the one leaves the other. The items of its
+    /// collection of types are shared. Answers `AllocError` where memory ran out.
+    pub fn clone(&self) -> Result<CompositionGraph, AllocError>
+        ensures { IfOk result (λ graph. graph ≡ self.now) }
+    {
+        let types = self.types.clone()?;
+        let nodes = self.nodes.clone()?;
+        let edges = self.edges.clone()?;
+        let imports = self.imports.clone()?;
+        let exports = self.exports.clone()?;
+        let package_map = self.package_map.clone()?;
+        let slots = self.slots.clone()?;
+        Ok(CompositionGraph {
+            alloc: self.alloc,
+            types,
+            nodes,
+            edges,
+            imports,
+            exports,
+            package_map,
+            slots,
+        })
+    }
+}

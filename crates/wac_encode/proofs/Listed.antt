@@ -1,0 +1,241 @@
+-- Interfaces, item by item.
+use Rattle.std.specs.Prelude.{ℕ, zero, suc, ◌+◌, ◌<◌, ◌≤◌, ◌≡◌, ◌⊎◌, Bool, true, false, List, [], ◌∷◌, ◌++◌, length, map, Option, Some, None, slice_get, drop, Result, Ok, Err}
+use Rattle.std.proofs.Common.{refl, ap, ◌∙◌, sym, subst, take, add-one, arith, inl, inr}
+use Rattle.std.proofs.Math.Path.{fun_ext}
+use Rattle.std.proofs.Math.Seq.{take-length}
+use Rattle.wac_shapes.specs.Name.{Name, find_name, option_case}
+use Rattle.wac_shapes.specs.Named.{NoNameTwice}
+use Rattle.wac_shapes.proofs.Names.{take_at, none_before}
+use Rattle.wac_shapes.specs.declared.component.DefinedTypeId.{DefinedTypeId}
+use Rattle.wac_shapes.specs.declared.component.FuncTypeId.{FuncTypeId}
+use Rattle.wac_shapes.specs.declared.component.Interface.{Interface}
+use Rattle.wac_shapes.specs.declared.component.InterfaceId.{InterfaceId}
+use Rattle.wac_shapes.specs.declared.component.ItemKind.{ItemKind}
+use Rattle.wac_shapes.specs.declared.component.ItemKind.TheVariants as kind
+use Rattle.wac_shapes.specs.declared.component.PrimitiveType.{PrimitiveType}
+use Rattle.wac_shapes.specs.declared.component.ValueType.{ValueType}
+use Rattle.wac_shapes.specs.declared.component.ValueType.TheVariants as val
+use Rattle.wac_shapes.specs.declared.component.«Type».TheVariants as ty
+use Rattle.wac_collection.specs.Tree.{exported, Tree, absent, primitive, resource, function, instance, component, type_equal, function_item}
+use Rattle.wac_collection.specs.Collection.{Collection, IsWellFormed, item_at}
+use Rattle.wac_collection.specs.Aliases.{value_resolved}
+use Rattle.wac_collection.specs.Bound.{Bindings, inside_interface}
+use Rattle.wac_binary.specs.HasMeaning.{ImportNothing, IsFree, IsValue, IsType}
+use Rattle.wac_binary.specs.Items.{TypeDef, Decl, decls, core_type_decl, type_decl, alias_decl, import_decl, export_decl}
+use Rattle.wac_binary.specs.Unfold.{Scope as Env, with_item}
+use Rattle.wac_binary.specs.declared.sorts.Description.{Description}
+use Rattle.wac_scopes.specs.declared.fault.EncodeFault.{EncodeFault}
+use Rattle.wac_scopes.specs.declared.encodable.Encodable.{Encodable}
+use Rattle.wac_scopes.specs.declared.encodable.Encodable.TheVariants.{Builder, Instance, Component}
+use Rattle.wac_scopes.specs.declared.scope.Scope.{Scope}
+use Rattle.wac_scopes.specs.Contents.{content_of, IsOpenType, and_type, and_export}
+use Rattle.wac_scopes.specs.Scopes.{Open, Stack, env, envs, opening}
+use Rattle.wac_scopes.specs.Good.{Keeps, IsHeld, Good, Onward, top}
+use Rattle.wac_scopes.specs.Laws.{IsItsEnd, IsRecorded}
+use Rattle.wac_scopes.specs.Listed.{IsUnder, IsNewName, Lists, AreListed, has_own, declaring, ListsOneMore, ListsInAnyOrder, OpensInterface, ClosesInstance, HoldsInterface}
+use Rattle.wac_scopes.specs.Scoped.{value_index, at_index, recorded_value, opened, AddsPrimitive, ListsType, ListsValue, ListsFunction}
+use Rattle.wac_scopes.proofs.Values.{primitive-held}
+use Rattle.wac_encode.specs.Written.{GoesOn, with_types, AddsHeldFunc}
+use Rattle.wac_encode.specs.Listing.{SaysInterface, WritesItem, WritesItems, IsEmpty, IsItemRefused, IsStopped}
+use Rattle.wac_encode.specs.Items.{ListsHeld, CanClose, HasListed}
+
+keeps-both : (a b d : Env) → Keeps a b → Keeps b d → Keeps a d
+keeps-both a b d p q = record {
+  core_types = λ i t h. q.core_types i t (p.core_types i t h);
+  types = λ i t h. q.types i t (p.types i t h);
+  instances = λ i t h. q.instances i t (p.instances i t h);
+  modules = let one : a.modules ≤ b.modules = p.modules in let two : b.modules ≤ d.modules = q.modules in omega (arith, one, two);
+  components = let one : a.components ≤ b.components = p.components in let two : b.components ≤ d.components = q.components in omega (arith, one, two);
+}
+
+-- a listed item behind what was written for it
+lists-after : (c : Collection) (m : Bindings) (ms : List Bindings) (old now new : Scope) (o : Open) (os : Stack) (n : Name) (t : Tree) → Onward c (m ∷ ms) (opened old o ∷ os) (opened now o ∷ os) → Lists c m ms (opened now o) (opened new o) os exported n t → Lists c m ms (opened old o) (opened new o) os exported n t
+lists-after c m ms old now new o os n t on l = record {
+  good = l.good;
+  keeps = keeps-both (env (opened old o) (envs os)) (env (opened now o) (envs os)) (env (opened new o) (envs os)) on.1.0.keeps l.keeps;
+  this = l.this ∙ ap (λ (items : Name → Tree). with_item items n t) on.1.0.exports;
+  that = l.that ∙ on.1.0.imports;
+}
+
+free-after : (c : Collection) (m : Bindings) (ms : List Bindings) (old now : Scope) (o : Open) (os : Stack) (n : Name) → Onward c (m ∷ ms) (opened old o ∷ os) (opened now o ∷ os) → IsNewName (opened old o) os exported n → IsNewName (opened now o) os exported n
+free-after c m ms old now o os n on free = subst (λ (items : Name → Tree). IsFree (items n)) (sym on.1.0.exports) free
+
+value-is-type : (t : Tree) → IsValue t → IsType t
+value-is-type (resource l) h = absurd h
+value-is-type (function a names params result) h = absurd h
+value-is-type (instance exports) h = absurd h
+value-is-type (component imports exports) h = absurd h
+value-is-type t h = h
+
+held-at-end : (c : Collection) → IsWellFormed c → IsItsEnd → (m : Bindings) (v w : ValueType) (t : Tree) → value_resolved c v ≡ w → IsHeld c m (ty.Value w) t → IsHeld c m (ty.Value v) t
+held-at-end c wf end m v w t is held = end c wf m v t (subst (λ (u : ValueType). IsHeld c m (ty.Value u) t) (sym is) held)
+
+-- a type item of a definition, which names it
+pub first-listed : (c : Collection) → IsWellFormed c → IsItsEnd → IsRecorded → (old now new : Scope) (n : Name) (v : ValueType) (d : DefinedTypeId) (k j : ℕ) → value_resolved c v ≡ val.Defined d → GoesOn c old now → value_index now d ≡ Some k → ListsValue now new n d k j → ListsHeld c old new n (kind.TypeItem (ty.Value v))
+first-listed c wf end recorded old now new n v d k j is on at lists m ms o os g free =
+    let first = on m ms o os g in
+    let r = recorded c m ms (opened now o) os (val.Defined d) k first.0 (ap at_index at) in
+    let l = lists c m ms o os r.0 first.0 (free-after c m ms old now o os n first free) r.1 r.2.1 r.2.0 in
+    (type_equal r.0, (refl, held-at-end c wf end m v (val.Defined d) r.0 is r.1), lists-after c m ms old now new o os n (type_equal r.0) first l.0)
+
+-- another of one that has a name
+pub second-listed : (c : Collection) → IsWellFormed c → IsItsEnd → IsRecorded → (old new : Scope) (n : Name) (v : ValueType) (d : DefinedTypeId) (k j : ℕ) → value_resolved c v ≡ val.Defined d → value_index old d ≡ Some k → ListsType old new n k j → ListsHeld c old new n (kind.TypeItem (ty.Value v))
+second-listed c wf end recorded old new n v d k j is at lists m ms o os g free =
+    let r = recorded c m ms (opened old o) os (val.Defined d) k g (ap at_index at) in
+    let l = lists c m ms o os r.0 g free (value-is-type r.0 r.2.1) r.2.0 in
+    (type_equal r.0, (refl, held-at-end c wf end m v (val.Defined d) r.0 is r.1), l.0)
+
+-- a type item of a primitive
+pub primitive-listed : (c : Collection) → IsWellFormed c → IsItsEnd → (old now new : Scope) (n : Name) (v : ValueType) (p : PrimitiveType) (k j : ℕ) → value_resolved c v ≡ val.Primitive p → AddsPrimitive old now p k → ListsType now new n k j → ListsHeld c old new n (kind.TypeItem (ty.Value v))
+primitive-listed c wf end old now new n v p k j is adds lists m ms o os g free =
+    let first = adds c m ms o os g in
+    let l = lists c m ms o os (primitive p) first.0.0 (free-after c m ms old now o os n first.0 free) tt first.1 in
+    (type_equal (primitive p), (refl, held-at-end c wf end m v (val.Primitive p) (primitive p) is (primitive-held c m p)), lists-after c m ms old now new o os n (type_equal (primitive p)) first.0 l.0)
+
+-- a function
+pub function-listed : (c : Collection) (old now new : Scope) (n : Name) (f : FuncTypeId) (k : ℕ) → AddsHeldFunc c old now f k → ListsFunction now new n k → ListsHeld c old new n (kind.Func f)
+function-listed c old now new n f k adds lists m ms o os g free =
+    let r = adds m ms o os g in
+    let l = lists c m ms o os r.0 r.3.0.0 (free-after c m ms old now o os n r.3.0 free) r.2 r.3.1 in
+    (function_item r.0, r.1, lists-after c m ms old now new o os n (function_item r.0) r.3.0 l)
+
+-- one more item of an interface
+listed-more : (c : Collection) → ListsOneMore → (it : Interface) (old new : Scope) (es : List (Name × ItemKind)) (n : Name) (k : ItemKind) → HasListed c it old es → ListsHeld c old new n k → find_name es n ≡ None → HasListed c it new (es ++ (n, k) ∷ [])
+listed-more c more it old new es n k had item missing ms st g =
+    let o : Open = opening (has_own c it) in
+    let m : Bindings = inside_interface c it (top ms) in
+    let h = had ms st g in
+    let none : (env (opened old o) (envs st)).exports n ≡ absent = subst (λ (x : Option ItemKind). IsUnder c m exported n x ((env (opened old o) (envs st)).exports n)) missing (h.1 n) in
+    let r = item m ms o st h.0 (subst IsFree (sym none) tt) in
+    (r.2.good, subst (λ (items : Name → Tree). AreListed c m exported (es ++ (n, k) ∷ []) items) (sym r.2.this) (more c m exported es ((env (opened old o) (envs st)).exports) n k r.0 h.1 missing r.1))
+
+-- none yet
+none-listed : (c : Collection) → OpensInterface → (it : Interface) (s : Scope) → IsEmpty s → HasListed c it s []
+none-listed c opens it s empty ms st g =
+    let o : Open = opening (has_own c it) in
+    let memo_same : recorded_value s ≡ (λ v. None) = fun_ext by_value in
+    let same : opened s o ≡ o = (λ i. record o { content = content_of (empty.content i); memo = memo_same i }) in
+    subst (λ (p : Open). Good c (inside_interface c it (top ms) ∷ ms) (p ∷ st) × AreListed c (inside_interface c it (top ms)) exported [] ((env p (envs st)).exports)) (sym same) (opens c ms st it g)
+  where
+    by_value : (v : ValueType) → recorded_value s v ≡ None
+    by_value (val.Defined d) = ap at_index (empty.values d)
+    by_value (val.Primitive p) = refl
+    by_value (val.Own r) = refl
+    by_value (val.Borrow r) = refl
+
+-- nothing is imported
+
+types-import-nothing : (ys : List TypeDef) (n : Name) (d : Description) → ImportNothing (decls (map type_decl ys ++ export_decl n d ∷ []))
+types-import-nothing [] n d = tt
+types-import-nothing (y ∷ ys) n d = types-import-nothing ys n d
+
+import-nothing-more : (ds : List Decl) (ys : List TypeDef) (n : Name) (d : Description) → ImportNothing (decls ds) → ImportNothing (decls ((ds ++ map type_decl ys) ++ export_decl n d ∷ []))
+import-nothing-more [] ys n d h = types-import-nothing ys n d
+import-nothing-more (import_decl m x ∷ ds) ys n d h = absurd h
+import-nothing-more (core_type_decl x ∷ ds) ys n d h = import-nothing-more ds ys n d h
+import-nothing-more (type_decl x ∷ ds) ys n d h = import-nothing-more ds ys n d h
+import-nothing-more (alias_decl x ∷ ds) ys n d h = import-nothing-more ds ys n d h
+import-nothing-more (export_decl m x ∷ ds) ys n d h = import-nothing-more ds ys n d h
+
+closes-more : (x : Encodable) (ys : List TypeDef) (n : Name) (d : Description) → CanClose x → CanClose (and_export (with_types x ys) n d)
+closes-more (Builder items) ys n d h = absurd h
+closes-more (Instance ds) ys n d h = import-nothing-more ds ys n d h
+closes-more (Component ds) ys n d h = absurd h
+
+still-closes : (c : Collection) (old new : Scope) (n : Name) (k : ItemKind) → WritesItem c old new n k → CanClose old.content → CanClose new.content
+still-closes c old new n k item h = subst CanClose (sym (item.appended ∙ ap (λ (x : Encodable). and_export x n item.description) item.behind.appended)) (closes-more old.content item.behind.types n item.description h)
+
+-- what can be closed is a type that is open
+
+pub closes-open : (x : Encodable) → CanClose x → IsOpenType x
+closes-open (Builder items) h = absurd h
+closes-open (Instance ds) h = tt
+closes-open (Component ds) h = absurd h
+
+with-types-open : (x : Encodable) (ys : List TypeDef) → IsOpenType x → IsOpenType (with_types x ys)
+with-types-open (Builder items) ys h = absurd h
+with-types-open (Instance ds) ys h = tt
+with-types-open (Component ds) ys h = tt
+
+-- and stays so as types are written
+pub still-open : (x y : Encodable) (ys : List TypeDef) → y ≡ with_types x ys → IsOpenType x → IsOpenType y
+still-open x y ys is h = subst IsOpenType (sym is) (with-types-open x ys h)
+
+and-type-open : (x : Encodable) (y : TypeDef) → IsOpenType x → IsOpenType (and_type x y)
+and-type-open (Builder items) y h = absurd h
+and-type-open (Instance ds) y h = tt
+and-type-open (Component ds) y h = tt
+
+pub still-open-behind : (x z : Encodable) (y : TypeDef) → z ≡ and_type x y → IsOpenType x → IsOpenType z
+still-open-behind x z y is h = subst IsOpenType (sym is) (and-type-open x y h)
+
+-- items, one after the other
+
+writes-one-more : (c : Collection) (old now new : Scope) (es : List (Name × ItemKind)) (n : Name) (k : ItemKind) → WritesItems c old es now → WritesItem c now new n k → WritesItems c old (es ++ (n, k) ∷ []) new
+writes-one-more c old now new [] n k w item = (new, subst (λ (s : Scope). WritesItem c s new n k) w item, refl)
+writes-one-more c old now new (e ∷ es) n k w item = (w.0, w.1, writes-one-more c w.0 now new es n k w.2 item)
+
+-- what stands after some of them
+pub record SoFar (c : Collection) (it : Interface) (start now : Scope) (order : List (Name × ItemKind)) (i : ℕ) : Type 0 where
+  pub listed : HasListed c it now (take i order)
+  pub closes : CanClose now.content
+  pub written : WritesItems c start (take i order) now
+
+pub starts : (c : Collection) → OpensInterface → (it : Interface) (s : Scope) (order : List (Name × ItemKind)) → IsEmpty s → SoFar c it s s order 0
+starts c opens it s order empty = record {
+  listed = none-listed c opens it s empty;
+  closes = subst CanClose (sym empty.content) tt;
+  written = refl;
+}
+
+pub goes-further : (c : Collection) → ListsOneMore → (it : Interface) (start now new : Scope) (order : List (Name × ItemKind)) (i : ℕ) (n : Name) (k : ItemKind) → NoNameTwice order → slice_get order i ≡ Some (n, k) → SoFar c it start now order i → ListsHeld c now new n k → WritesItem c now new n k → SoFar c it start new order (i + 1)
+goes-further c more it start now new order i n k once at so_far item wrote =
+    let longer : take (suc i) order ≡ take i order ++ (n, k) ∷ [] = take_at order i (n, k) at in
+    subst (λ (j : ℕ). SoFar c it start new order j) (sym (add-one i)) (record {
+      listed = subst (λ (es : List (Name × ItemKind)). HasListed c it new es) (sym longer) (listed-more c more it now new (take i order) n k so_far.listed item (none_before order i n k once at));
+      closes = still-closes c now new n k wrote so_far.closes;
+      written = subst (λ (es : List (Name × ItemKind)). WritesItems c start es new) (sym longer) (writes-one-more c start now new (take i order) n k so_far.written wrote);
+    })
+
+pub all-of : {A : Type 0} (es : List A) (i : ℕ) → i ≡ length es → take i es ≡ es
+all-of {A} es i is = ap (λ (k : ℕ). take k es) is ∙ take-length es
+
+-- all of them
+pub record AtEnd (c : Collection) (it : Interface) (start now : Scope) (order : List (Name × ItemKind)) : Type 0 where
+  pub listed : HasListed c it now order
+  pub written : WritesItems c start order now
+
+pub at-end : (c : Collection) (it : Interface) (start now : Scope) (order : List (Name × ItemKind)) (i : ℕ) → i ≡ length order → SoFar c it start now order i → AtEnd c it start now order
+at-end c it start now order i is so_far = record {
+  listed = subst (λ (es : List (Name × ItemKind)). HasListed c it now es) (all-of order i is) so_far.listed;
+  written = subst (λ (es : List (Name × ItemKind)). WritesItems c start es now) (all-of order i is) so_far.written;
+}
+
+split-at : {A : Type 0} (es : List A) (i : ℕ) (e : A) → slice_get es i ≡ Some e → (rest : List A) × (es ≡ take i es ++ e ∷ rest)
+split-at {A} [] i e at = let none_some : None ≡ Some e = at in cc
+split-at {A} (x ∷ es) zero e at = let both : Some x ≡ Some e = at in let same : x ≡ e = cc in (es, ap (λ (y : A). y ∷ es) same)
+split-at {A} (x ∷ es) (suc i) e at = let r = split-at es i e at in (r.0, ap (λ (ys : List A). x ∷ ys) r.1)
+
+pub stops-at : (c : Collection) (it : Interface) (start now : Scope) (order : List (Name × ItemKind)) (i : ℕ) (n : Name) (k : ItemKind) (e : EncodeFault) → slice_get order i ≡ Some (n, k) → SoFar c it start now order i → IsItemRefused {A = Unit {0}} c n k now (Err e) → IsStopped c start order e
+stops-at c it start now order i n k e at so_far refused = let r = split-at order i (n, k) at in record {
+  before = take i order;
+  name = n;
+  item = k;
+  after = r.0;
+  split = r.1;
+  scope = now;
+  written = so_far.written;
+  refused = refused;
+}
+
+pub written-content : (x y : Encodable) (ds : List Decl) → y ≡ x → y ≡ Instance ds → x ≡ Instance ds
+written-content x y ds same is = sym same ∙ is
+
+-- the whole
+pub says-interface : (c : Collection) → IsWellFormed c → HoldsInterface → ClosesInstance → ListsInAnyOrder → (i : InterfaceId) (it : Interface) (s : Scope) (ds : List Decl) (order : List (Name × ItemKind)) → item_at c.interfaces i.0 ≡ Some it → ((n : Name) → find_name order n ≡ find_name it.exports n) → HasListed c it s order → s.content ≡ Instance ds → CanClose s.content → SaysInterface c i ds
+says-interface c wf holds closes any i it s ds order at same had is imports m ms o os g =
+    let inner : Open = record (opening (has_own c it)) { memo = recorded_value s } in
+    let h = subst (λ (x : Encodable). Good c (inside_interface c it m ∷ m ∷ ms) (record inner { content = content_of x } ∷ o ∷ os) × AreListed c (inside_interface c it m) exported order ((env (record inner { content = content_of x }) (env o (envs os) ∷ envs os)).exports)) is (had (m ∷ ms) (o ∷ os) g) in
+    let items : Name → Tree = (env (declaring ds inner) (env o (envs os) ∷ envs os)).exports in
+    let all : AreListed c (inside_interface c it m) exported it.exports items = any c (inside_interface c it m) exported order it.exports items h.1 (λ n. sym (same n)) in
+    (instance items, holds c wf m i it items at all, tt, closes c (inside_interface c it m) m ms ds inner o os h.0 (subst CanClose is imports))

@@ -1,0 +1,165 @@
+-- What is written for an item, and when one is refused.
+use Rattle.std.specs.Prelude.{ℕ, zero, suc, ◌+◌, ◌≡◌, ◌⊎◌, List, [], ◌∷◌, ◌++◌, Option, Some, None, Result, Ok, Err}
+use Rattle.std.proofs.Common.{refl, ap, ◌∙◌, sym, subst, inl, inr}
+use Rattle.wac_shapes.specs.Name.{Name}
+use Rattle.wac_shapes.specs.declared.component.DefinedTypeId.{DefinedTypeId}
+use Rattle.wac_shapes.specs.declared.component.FuncTypeId.{FuncTypeId}
+use Rattle.wac_shapes.specs.declared.component.ItemKind.{ItemKind}
+use Rattle.wac_shapes.specs.declared.component.ItemKind.TheVariants as kind
+use Rattle.wac_shapes.specs.declared.component.PrimitiveType.{PrimitiveType}
+use Rattle.wac_shapes.specs.declared.component.ResourceId.{ResourceId}
+use Rattle.wac_shapes.specs.declared.component.ValueType.{ValueType}
+use Rattle.wac_shapes.specs.declared.component.ValueType.TheVariants as val
+use Rattle.wac_shapes.specs.declared.component.«Type».TheVariants as ty
+use Rattle.wac_collection.specs.Collection.{Collection}
+use Rattle.wac_collection.specs.Aliases.{value_resolved}
+use Rattle.wac_binary.specs.Items.{value_def, primitive_def}
+use Rattle.wac_binary.specs.declared.sorts.Description.{Description}
+use Rattle.wac_binary.specs.declared.sorts.Description.TheVariants as e
+use Rattle.wac_binary.specs.declared.types.ComponentValType.TheVariants.{Primitive, Index}
+use Rattle.wac_scopes.specs.declared.fault.EncodeFault.{EncodeFault}
+use Rattle.wac_scopes.specs.declared.fault.EncodeFault.TheVariants as fault
+use Rattle.wac_scopes.specs.declared.fault.WriteFault.TheVariants as write
+use Rattle.wac_scopes.specs.declared.scope.Scope.{Scope}
+use Rattle.wac_scopes.specs.Contents.{and_type, and_export, ContentFits}
+use Rattle.wac_scopes.specs.Laws.{StaysOnward}
+use Rattle.wac_scopes.specs.Scoped.{value_index, by_index, in_use, HasToo, AddsPrimitive, ListsValue, WritesUnlessTooLarge, FitsUnlessTooLarge}
+use Rattle.wac_encode.specs.Made.{MadeOf, itself}
+use Rattle.wac_encode.specs.Written.{WritesFor, HasHandle, IsHandle, IsByRecord, IsRefused, IsOfFunc, AddsHeldFunc, EndsWithFunc, IsFuncRefused}
+use Rattle.wac_encode.specs.Listing.{NeededBy, own_types, one_if_primitive, IsListedAt, IsDescribed, SameRecords, IsNamedOnce, NamesValue, WritesItem, PrimitiveDoesNotFit, TypeDoesNotFit, ItemDoesNotFit, IsItemRefused}
+use Rattle.wac_encode.proofs.Answering.{as-it-was}
+use Rattle.wac_encode.proofs.Stacks.{writes-none}
+use Rattle.wac_encode.proofs.Rows.{writes-type}
+
+abbrev with_export : Scope → Name → Description → Scope
+with_export s n d = record s { content = and_export s.content n d }
+
+same-records : (old new : Scope) (n : Name) (d : Description) → new ≡ with_export old n d → SameRecords old new
+same-records old new n d is k = ap (λ (s : Scope). value_index s k) is
+
+declared-so : (old new : Scope) (n : Name) (d : Description) → new ≡ with_export old n d → new.content ≡ and_export old.content n d
+declared-so old new n d is = ap (λ (s : Scope). s.content) is
+
+pub primitive-behind : (c : Collection) (old now : Scope) (v : ValueType) (p : PrimitiveType) (k : ℕ) → value_resolved c v ≡ val.Primitive p → AddsPrimitive old now p k → now ≡ record old { content = and_type old.content (value_def (primitive_def p)) } → WritesFor c (own_types c (kind.TypeItem (ty.Value v))) (NeededBy c (kind.TypeItem (ty.Value v))) old now
+primitive-behind c old now v p k is adds same = subst (λ (w : ValueType). WritesFor c (one_if_primitive w) (NeededBy c (kind.TypeItem (ty.Value v))) old now) (sym is) (writes-type c (NeededBy c (kind.TypeItem (ty.Value v))) old now (value_def (primitive_def p)) same (λ m ms o os g. (adds c m ms o os g).0))
+
+pub primitive-described : (c : Collection) (old now : Scope) (v : ValueType) (p : PrimitiveType) (k : ℕ) → value_resolved c v ≡ val.Primitive p → AddsPrimitive old now p k → now ≡ record old { content = and_type old.content (value_def (primitive_def p)) } → IsDescribed c old now (kind.TypeItem (ty.Value v)) (e.Equal k)
+primitive-described c old now v p k is adds same = subst (λ (w : ValueType). IsListedAt old now w k) (sym is) (adds, ap (λ (s : Scope). s.content) same)
+
+pub primitive-wrote : (c : Collection) (old now new : Scope) (n : Name) (v : ValueType) (p : PrimitiveType) (k : ℕ) → value_resolved c v ≡ val.Primitive p → AddsPrimitive old now p k → now ≡ record old { content = and_type old.content (value_def (primitive_def p)) } → new ≡ record now { content = and_export now.content n (e.Equal k) } → WritesItem c old new n (kind.TypeItem (ty.Value v))
+primitive-wrote c old now new n v p k is adds same lists = record {
+  now = now;
+  behind = primitive-behind c old now v p k is adds same;
+  description = e.Equal k;
+  described = primitive-described c old now v p k is adds same;
+  appended = declared-so now new n (e.Equal k) lists;
+  named = subst (λ (w : ValueType). NamesValue old now new n w) (sym is) (same-records now new n (e.Equal k) lists);
+}
+
+pub definition-behind : (c : Collection) (old now : Scope) (v : ValueType) (d : DefinedTypeId) → value_resolved c v ≡ val.Defined d → WritesFor c 0 (MadeOf c (value_resolved c v)) old now → WritesFor c (own_types c (kind.TypeItem (ty.Value v))) (NeededBy c (kind.TypeItem (ty.Value v))) old now
+definition-behind c old now v d is w = subst (λ (u : ValueType). WritesFor c (one_if_primitive u) (NeededBy c (kind.TypeItem (ty.Value v))) old now) (sym is) w
+
+pub definition-described : (c : Collection) (old now : Scope) (v : ValueType) (d : DefinedTypeId) (k : ℕ) → value_resolved c v ≡ val.Defined d → value_index now d ≡ Some k → IsDescribed c old now (kind.TypeItem (ty.Value v)) (e.Equal k)
+definition-described c old now v d k is at = subst (λ (w : ValueType). IsListedAt old now w k) (sym is) at
+
+pub second-wrote : (c : Collection) → StaysOnward → (old new : Scope) (n : Name) (v : ValueType) (d : DefinedTypeId) (k : ℕ) → value_resolved c v ≡ val.Defined d → value_index old d ≡ Some k → new ≡ record old { content = and_export old.content n (e.Equal k) } → WritesItem c old new n (kind.TypeItem (ty.Value v))
+second-wrote c stays old new n v d k is at lists = record {
+  now = old;
+  behind = definition-behind c old old v d is (writes-none c stays (MadeOf c (value_resolved c v)) old old (as-it-was old));
+  description = e.Equal k;
+  described = definition-described c old old v d k is at;
+  appended = declared-so old new n (e.Equal k) lists;
+  named = subst (λ (w : ValueType). NamesValue old old new n w) (sym is) (subst (λ (o : Option ℕ). IsNamedOnce o old new n d) (sym at) (same-records old new n (e.Equal k) lists));
+}
+
+-- where nothing is written, a definition that is recorded
+pub still-described : (c : Collection) → StaysOnward → (s : Scope) (v : ValueType) (d : DefinedTypeId) (k : ℕ) → value_resolved c v ≡ val.Defined d → value_index s d ≡ Some k → WritesFor c 0 (NeededBy c (kind.TypeItem (ty.Value v))) s s × IsDescribed c s s (kind.TypeItem (ty.Value v)) (e.Equal k)
+still-described c stays s v d k is at = (writes-none c stays (MadeOf c (value_resolved c v)) s s (as-it-was s), definition-described c s s v d k is at)
+
+same-index : (s : Scope) (d : DefinedTypeId) (k i : ℕ) → value_index s d ≡ Some k → value_index s d ≡ Some i → k ≡ i
+same-index s d k i one two = let both : Some k ≡ Some i = sym one ∙ two in cc
+
+pub first-wrote : (c : Collection) (old now new : Scope) (n : Name) (v : ValueType) (d : DefinedTypeId) (k j : ℕ) → value_resolved c v ≡ val.Defined d → value_index old d ≡ None → WritesFor c 0 (MadeOf c (value_resolved c v)) old now → value_index now d ≡ Some k → new.content ≡ and_export now.content n (e.Equal k) → HasToo now d j new → ListsValue now new n d k j → WritesItem c old new n (kind.TypeItem (ty.Value v))
+first-wrote c old now new n v d k j is none w at appended too lists = record {
+  now = now;
+  behind = definition-behind c old now v d is w;
+  description = e.Equal k;
+  described = definition-described c old now v d k is at;
+  appended = appended;
+  named = subst (λ (u : ValueType). NamesValue old now new n u) (sym is) (subst (λ (o : Option ℕ). IsNamedOnce o now new n d) (sym none) (j, too, λ i also. subst (λ (i' : ℕ). ListsValue now new n d i' j) (same-index now d k i at also) lists));
+}
+
+pub function-wrote : (c : Collection) (old now new : Scope) (n : Name) (f : FuncTypeId) (k : ℕ) → WritesFor c 1 (IsOfFunc c f) old now → AddsHeldFunc c old now f k → EndsWithFunc c f now → new ≡ record now { content = and_export now.content n (e.Func k) } → WritesItem c old new n (kind.Func f)
+function-wrote c old now new n f k w adds ends lists = record {
+  now = now;
+  behind = w;
+  description = e.Func k;
+  described = (adds, ends);
+  appended = declared-so now new n (e.Func k) lists;
+  named = same-records now new n (e.Func k) lists;
+}
+
+-- refusals
+
+pub primitive-refused : (A B : Type 0) (c : Collection) → StaysOnward → (old : Scope) (n : Name) (v : ValueType) (p : PrimitiveType) (f : EncodeFault) → value_resolved c v ≡ val.Primitive p → WritesUnlessTooLarge {A = A} (Err f) (ContentFits (and_type old.content (value_def (primitive_def p)))) → IsItemRefused {A = B} c n (kind.TypeItem (ty.Value v)) old (Err f)
+primitive-refused A B c stays old n v p (fault.Write g) is h = absurd h
+primitive-refused A B c stays old n v p fault.TooLarge is h = record {
+  scope = old;
+  types = 0;
+  behind = writes-none c stays (NeededBy c (kind.TypeItem (ty.Value v))) old old (as-it-was old);
+  large = inl (inr (subst (λ (w : ValueType). PrimitiveDoesNotFit w old) (sym is) h));
+}
+primitive-refused A B c stays old n v p fault.OutOfMemory is h = tt
+
+-- where the item does not fit
+pub export-refused : (A B : Type 0) (c : Collection) (old now : Scope) (n : Name) (k : ItemKind) (types : ℕ) (d : Description) (f : EncodeFault) → WritesFor c types (NeededBy c k) old now → IsDescribed c old now k d → FitsUnlessTooLarge {A = A} (Err f) (ContentFits (and_export now.content n d)) → IsItemRefused {A = B} c n k old (Err f)
+export-refused A B c old now n k types d (fault.Write g) w described h = absurd h
+export-refused A B c old now n k types d fault.TooLarge w described h = record {
+  scope = now;
+  types = types;
+  behind = w;
+  large = inr (d, described, h);
+}
+export-refused A B c old now n k types d fault.OutOfMemory w described h = tt
+
+pub exactly-so : (A : Type 0) (fits : Type 0) (f : EncodeFault) → WritesUnlessTooLarge {A = A} (Err f) fits → FitsUnlessTooLarge {A = A} (Err f) fits
+exactly-so A fits (fault.Write g) h = h
+exactly-so A fits fault.TooLarge h = h
+exactly-so A fits fault.OutOfMemory h = tt
+
+pub value-item-refused : (A B : Type 0) (c : Collection) (old now : Scope) (n : Name) (v : ValueType) (f : EncodeFault) → WritesFor c 0 (MadeOf c (value_resolved c v)) old now → IsRefused {A = A} c (MadeOf c (value_resolved c v)) now (Err f) → IsItemRefused {A = B} c n (kind.TypeItem (ty.Value v)) old (Err f)
+value-item-refused A B c old now n v (fault.Write g) w h = h
+value-item-refused A B c old now n v fault.TooLarge w h = record { scope = now; types = 0; behind = w; large = inl (inl h) }
+value-item-refused A B c old now n v fault.OutOfMemory w h = tt
+
+pub function-item-refused : (A B : Type 0) (c : Collection) (old now : Scope) (n : Name) (g : FuncTypeId) (f : EncodeFault) → WritesFor c 0 (IsOfFunc c g) old now → IsFuncRefused {A = A} c g now (Err f) → IsItemRefused {A = B} c n (kind.Func g) old (Err f)
+function-item-refused A B c old now n g (fault.Write h) w refused = refused
+function-item-refused A B c old now n g fault.TooLarge w refused = record { scope = now; types = 0; behind = w; large = inl refused }
+function-item-refused A B c old now n g fault.OutOfMemory w refused = tt
+
+pub handle-fault : (c : Collection) (v w : ValueType) → w ≡ value_resolved c v → IsHandle w → (write.UnboundResource ≡ write.UnboundResource) × HasHandle (MadeOf c (value_resolved c v))
+handle-fault c v w is h = (refl, (value_resolved c v, itself, subst IsHandle is h))
+
+pub is-handle : (w : ValueType) → ((r : ResourceId) × (w ≡ val.Own r)) ⊎ ((r : ResourceId) × (w ≡ val.Borrow r)) → IsHandle w
+is-handle w (inl h) = subst IsHandle (sym h.1) tt
+is-handle w (inr h) = subst IsHandle (sym h.1) tt
+
+-- a definition that is known is so at an index
+
+no-primitive : (o : Option ℕ) (p : PrimitiveType) → by_index o ≡ Some (Primitive p) → ⊥
+no-primitive None p is = let none_some : None ≡ Some (Primitive p) = is in cc
+no-primitive (Some i) p is = let both : Some (Index i) ≡ Some (Primitive p) = is in cc
+
+pub index-is : (o : Option ℕ) (k : ℕ) → by_index o ≡ Some (Index k) → o ≡ Some k
+index-is None k is = let none_some : None ≡ Some (Index k) = is in cc
+index-is (Some i) k is = let both : Some (Index i) ≡ Some (Index k) = is in let number : i ≡ k = cc in ap (λ (n : ℕ). Some n) number
+
+pub no-index : (o : Option ℕ) → by_index o ≡ None → o ≡ None
+no-index None is = refl
+no-index (Some i) is = let some_none : Some (Index i) ≡ None = is in cc
+
+pub recorded-at : (c : Collection) (s : Scope) (v : ValueType) (d : DefinedTypeId) (k : ℕ) → value_resolved c v ≡ val.Defined d → IsByRecord c s v (Index k) → value_index s d ≡ Some k
+recorded-at c s v d k is r = index-is (value_index s d) k (ap (in_use s) (sym is) ∙ r)
+
+pub never-primitive : (c : Collection) (s : Scope) (v : ValueType) (d : DefinedTypeId) (p : PrimitiveType) → value_resolved c v ≡ val.Defined d → IsByRecord c s v (Primitive p) → ⊥
+never-primitive c s v d p is r = no-primitive (value_index s d) p (ap (in_use s) (sym is) ∙ r)

@@ -1,0 +1,40 @@
+-- What each item of an interface adds to a scope, under what is held. Private functions alone cite this.
+use Rattle.std.specs.Prelude.{◌≡◌, true, List, [], ◌∷◌}
+use Rattle.wac_shapes.specs.Name.{Name}
+use Rattle.wac_shapes.specs.Kinds.{kind_type}
+use Rattle.wac_shapes.specs.declared.component.Interface.{Interface}
+use Rattle.wac_shapes.specs.declared.component.ItemKind.{ItemKind}
+use Rattle.wac_collection.specs.Tree.{exported, Tree}
+use Rattle.wac_collection.specs.Collection.{Collection, holds_type}
+use Rattle.wac_collection.specs.Bound.{Bindings, inside_interface}
+use Rattle.wac_binary.specs.HasMeaning.{ImportNothing}
+use Rattle.wac_binary.specs.Items.{decls}
+use Rattle.wac_scopes.specs.declared.encodable.Encodable.{Encodable}
+use Rattle.wac_scopes.specs.declared.encodable.Encodable.TheVariants.{Builder, Instance, Component}
+use Rattle.wac_scopes.specs.declared.scope.Scope.{Scope}
+use Rattle.wac_scopes.specs.Scopes.{Open, Stack, env, envs, opening}
+use Rattle.wac_scopes.specs.Good.{Good, top}
+use Rattle.wac_scopes.specs.Listed.{IsItem, IsNewName, Lists, AreListed, has_own}
+use Rattle.wac_scopes.specs.Scoped.{opened}
+use Rattle.wac_encode.specs.Listing.{is_plain}
+
+-- good stacks in which nothing has the item's name list it
+abbrev pub ListsHeld : Collection → Scope → Scope → Name → ItemKind → Type 0
+ListsHeld c old new n k = (m : Bindings) (ms : List Bindings) (o : Open) (os : Stack) → Good c (m ∷ ms) (opened old o ∷ os) → IsNewName (opened old o) os exported n
+    → (t : Tree) × IsItem c m exported n k t × Lists c m ms (opened old o) (opened new o) os exported n t
+
+-- an instance type is written that imports nothing
+abbrev pub CanClose : Encodable → Type 0
+CanClose (Builder items) = ⊥
+CanClose (Instance ds) = ImportNothing (decls ds)
+CanClose (Component ds) = ⊥
+
+-- an item can be listed
+abbrev pub CanList : Collection → ItemKind → Type 0
+CanList c k = (holds_type c (kind_type k) ≡ true) × (is_plain k ≡ true)
+
+-- the scope lists these items of the interface, over each good stack
+abbrev pub HasListed : Collection → Interface → Scope → List (Name × ItemKind) → Type 0
+HasListed c it s es = (ms : List Bindings) (st : Stack) → Good c ms st
+    → Good c (inside_interface c it (top ms) ∷ ms) (opened s (opening (has_own c it)) ∷ st)
+    × AreListed c (inside_interface c it (top ms)) exported es ((env (opened s (opening (has_own c it))) (envs st)).exports)

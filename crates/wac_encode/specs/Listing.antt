@@ -1,0 +1,240 @@
+-- What the writer of interfaces writes.
+use Rattle.std.specs.Prelude.{ℕ, ◌-◌, ◌^◌, ◌<◌, ◌≡◌, ◌⊎◌, Bool, true, false, List, [], ◌∷◌, ◌++◌, Option, Some, None, slice_get, Result, Ok, Err, IsPermutation}
+use Rattle.std.specs.List.{list_all}
+use Rattle.std.specs.List.Sorted.{IsNonDecreasingBy, IsStableByKey}
+use Rattle.std.specs.Ordering.{nat_cmp}
+use Rattle.wac_shapes.specs.Name.{Name, option_case}
+use Rattle.wac_shapes.specs.declared.component.DefinedTypeId.{DefinedTypeId}
+use Rattle.wac_shapes.specs.declared.component.Interface.{Interface}
+use Rattle.wac_shapes.specs.declared.component.InterfaceId.{InterfaceId}
+use Rattle.wac_shapes.specs.declared.component.ItemKind.{ItemKind}
+use Rattle.wac_shapes.specs.declared.component.ItemKind.TheVariants as kind
+use Rattle.wac_shapes.specs.declared.component.PrimitiveType.{PrimitiveType}
+use Rattle.wac_shapes.specs.declared.component.ValueType.{ValueType}
+use Rattle.wac_shapes.specs.declared.component.ValueType.TheVariants as val
+use Rattle.wac_shapes.specs.declared.component.«Type».TheVariants as ty
+use Rattle.wac_collection.specs.Tree.{Tree}
+use Rattle.wac_collection.specs.Collection.{Collection, item_at}
+use Rattle.wac_collection.specs.Aliases.{value_resolved}
+use Rattle.wac_collection.specs.Bound.{Bindings}
+use Rattle.wac_binary.specs.HasMeaning.{IsInstance}
+use Rattle.wac_binary.specs.Items.{value_def, primitive_def, instance_def, Decl, decls}
+use Rattle.wac_binary.specs.declared.sorts.Description.{Description}
+use Rattle.wac_binary.specs.declared.sorts.Description.TheVariants as e
+use Rattle.wac_scopes.specs.declared.encodable.Encodable.TheVariants.{Instance}
+use Rattle.wac_scopes.specs.declared.scope.Scope.{Scope}
+use Rattle.wac_scopes.specs.declared.fault.EncodeFault.{EncodeFault}
+use Rattle.wac_scopes.specs.declared.fault.EncodeFault.TheVariants as fault
+use Rattle.wac_scopes.specs.declared.fault.WriteFault.{WriteFault}
+use Rattle.wac_scopes.specs.declared.fault.WriteFault.TheVariants as write
+use Rattle.wac_scopes.specs.Contents.{and_type, and_export, ContentFits}
+use Rattle.wac_scopes.specs.Scopes.{Open, Stack, next_type, with_def}
+use Rattle.wac_scopes.specs.Good.{IsHeld, Good}
+use Rattle.wac_scopes.specs.Laws.{Adds}
+use Rattle.wac_scopes.specs.Scoped.{value_index, HasToo, AddsPrimitive, ListsValue}
+use Rattle.wac_encode.specs.Made.{MadeOf}
+use Rattle.wac_encode.specs.Written.{WritesFor, HasHandle, DoesNotFit, IsOfFunc, AddsHeldFunc, EndsWithFunc, FuncDoesNotFit}
+
+-- closed, these declarations are the held interface, in each good stack, and that stack goes onward
+abbrev pub SaysInterface : Collection → InterfaceId → List Decl → Type 0
+SaysInterface c i ds = (m : Bindings) (ms : List Bindings) (o : Open) (os : Stack) → Good c (m ∷ ms) (o ∷ os)
+    → (t : Tree) × IsHeld c m (ty.Interface i) t × IsInstance t × Adds c (m ∷ ms) (o ∷ os) (with_def (instance_def (decls ds)) o ∷ os) (next_type o) t
+
+-- whether an item is of a sort that is written so far, or that no instance type can list
+abbrev pub is_plain : ItemKind → Bool
+is_plain (kind.TypeItem (ty.Value v)) = true
+is_plain (kind.TypeItem (ty.Module m)) = true
+is_plain (kind.TypeItem t) = false
+is_plain (kind.Instance i) = false
+is_plain k = true
+
+abbrev pub are_plain : List (Name × ItemKind) → Bool
+are_plain es = list_all (λ e. is_plain e.1) es
+
+-- whether all items of an interface are
+abbrev pub lists_plain : Collection → InterfaceId → Bool
+lists_plain c i = option_case (item_at c.interfaces i.0) true (λ it. are_plain it.exports)
+
+-- Where an item stands in the order of writing: type items first, by the positions of the definitions at the ends of their aliases,
+-- a primitive as the first definition; so each stands behind those that it mentions. All other items stand behind them.
+abbrev pub value_rank : ValueType → ℕ
+value_rank (val.Defined d) = d.0
+value_rank v = 0
+
+abbrev pub last_rank : ℕ
+last_rank = 2 ^ 64 - 1
+
+abbrev pub rank : Collection → ItemKind → ℕ
+rank c (kind.TypeItem (ty.Value v)) = value_rank (value_resolved c v)
+rank c k = last_rank
+
+-- the same items by rising ranks, those of one rank as they are listed
+pub record IsOrder (c : Collection) (es order : List (Name × ItemKind)) : Type 0 where
+  pub permutation : IsPermutation es order
+  pub rising : IsNonDecreasingBy (λ (e : Name × ItemKind). rank c e.1) order
+  pub stable : IsStableByKey (λ (e : Name × ItemKind). rank c e.1) nat_cmp es order
+
+-- a definition that another one is made of
+abbrev pub IsMadeOfOther : Collection → ValueType → ValueType → Type 0
+IsMadeOfOther c (val.Defined d) (val.Defined e) = MadeOf c (val.Defined d) (val.Defined e) × (e ≡ d → ⊥)
+IsMadeOfOther c v w = ⊥
+
+-- the first is a type item whose definition is made of that of the second
+abbrev pub Mentions : Collection → ItemKind → ItemKind → Type 0
+Mentions c (kind.TypeItem (ty.Value v)) (kind.TypeItem (ty.Value w)) = IsMadeOfOther c (value_resolved c v) (value_resolved c w)
+Mentions c k l = ⊥
+
+-- each type item stands behind those that it mentions
+abbrev pub StandBehind : Collection → List (Name × ItemKind) → Type 0
+StandBehind c order = (i j : ℕ) (e f : Name × ItemKind) → slice_get order i ≡ Some e → slice_get order j ≡ Some f → Mentions c e.1 f.1 → j < i
+
+-- what an item is made of
+abbrev pub NeededBy : Collection → ItemKind → ValueType → Type 0
+NeededBy c (kind.TypeItem (ty.Value v)) w = MadeOf c (value_resolved c v) w
+NeededBy c (kind.Func f) w = IsOfFunc c f w
+NeededBy c k w = ⊥
+
+-- how many types are written for an item beside the definitions that it is made of: the primitive of a type item, a function type
+abbrev pub one_if_primitive : ValueType → ℕ
+one_if_primitive (val.Primitive p) = 1
+one_if_primitive v = 0
+
+abbrev pub own_types : Collection → ItemKind → ℕ
+own_types c (kind.TypeItem (ty.Value v)) = one_if_primitive (value_resolved c v)
+own_types c (kind.Func f) = 1
+own_types c k = 0
+
+-- the type index of a value type that a type item lists: that of a primitive which was written for it, or the one that is recorded
+abbrev pub IsListedAt : Scope → Scope → ValueType → ℕ → Type 0
+IsListedAt old now (val.Primitive p) i = AddsPrimitive old now p i × (now.content ≡ and_type old.content (value_def (primitive_def p)))
+IsListedAt old now (val.Defined d) i = value_index now d ≡ Some i
+IsListedAt old now v i = ⊥
+
+-- what an item is described by, where its types were written since old: a function by the function type that was written last
+abbrev pub IsDescribed : Collection → Scope → Scope → ItemKind → Description → Type 0
+IsDescribed c old now (kind.TypeItem (ty.Value v)) (e.Equal i) = IsListedAt old now (value_resolved c v) i
+IsDescribed c old now (kind.Func f) (e.Func i) = AddsHeldFunc c old now f i × EndsWithFunc c f now
+IsDescribed c old now k d = ⊥
+
+-- the same is recorded
+abbrev pub SameRecords : Scope → Scope → Type 0
+SameRecords old new = (d : DefinedTypeId) → value_index new d ≡ value_index old d
+
+-- a definition that was not written before is recorded at the item's own index, and so written by its name from then on
+abbrev pub IsNamedOnce : Option ℕ → Scope → Scope → Name → DefinedTypeId → Type 0
+IsNamedOnce None now new n d = (j : ℕ) × HasToo now d j new × ((i : ℕ) → value_index now d ≡ Some i → ListsValue now new n d i j)
+IsNamedOnce (Some i) now new n d = SameRecords now new
+
+abbrev pub NamesValue : Scope → Scope → Scope → Name → ValueType → Type 0
+NamesValue old now new n (val.Defined d) = IsNamedOnce (value_index old d) now new n d
+NamesValue old now new n v = SameRecords now new
+
+abbrev pub NamesItem : Collection → Scope → Scope → Scope → Name → ItemKind → Type 0
+NamesItem c old now new n (kind.TypeItem (ty.Value v)) = NamesValue old now new n (value_resolved c v)
+NamesItem c old now new n k = SameRecords now new
+
+-- From old to new, an item is listed: what it is made of is written first, once, where it is not written yet.
+pub record WritesItem (c : Collection) (old new : Scope) (n : Name) (k : ItemKind) : Type 0 where
+  pub now : Scope
+  pub behind : WritesFor c (own_types c k) (NeededBy c k) old now
+  pub description : Description
+  pub described : IsDescribed c old now k description
+  pub appended : new.content ≡ and_export now.content n description
+  pub named : NamesItem c old now new n k
+
+-- items, one after the other
+abbrev pub WritesItems : Collection → Scope → List (Name × ItemKind) → Scope → Type 0
+WritesItems c old [] new = new ≡ old
+WritesItems c old (e ∷ es) new = (now : Scope) × WritesItem c old now e.0 e.1 × WritesItems c now es new
+
+-- an instance type in which nothing is written, and nothing recorded
+pub record IsEmpty (s : Scope) : Type 0 where
+  pub content : s.content ≡ Instance []
+  pub values : (d : DefinedTypeId) → value_index s d ≡ None
+
+-- the declarations list exactly the items of the interface, in order
+pub record WritesInterface (c : Collection) (i : InterfaceId) (ds : List Decl) : Type 0 where
+  pub interface : Interface
+  pub found : item_at c.interfaces i.0 ≡ Some interface
+  pub order : List (Name × ItemKind)
+  pub ordered : IsOrder c interface.exports order
+  pub behind : StandBehind c order
+  pub start : Scope
+  pub empty : IsEmpty start
+  pub scope : Scope
+  pub written : WritesItems c start order scope
+  pub is : scope.content ≡ Instance ds
+
+-- and so where there are declarations
+abbrev pub SaysIfThere : Collection → InterfaceId → Option (List Decl) → Type 0
+SaysIfThere c i None = Unit {0}
+SaysIfThere c i (Some ds) = SaysInterface c i ds
+
+abbrev pub WritesIfThere : Collection → InterfaceId → Option (List Decl) → Type 0
+WritesIfThere c i None = Unit {0}
+WritesIfThere c i (Some ds) = WritesInterface c i ds
+
+-- which of an item's types does not fit behind what is written
+abbrev pub PrimitiveDoesNotFit : ValueType → Scope → Type 0
+PrimitiveDoesNotFit (val.Primitive p) s = ContentFits (and_type s.content (value_def (primitive_def p))) → ⊥
+PrimitiveDoesNotFit v s = ⊥
+
+abbrev pub TypeDoesNotFit : Collection → ItemKind → Scope → Type 0
+TypeDoesNotFit c (kind.TypeItem (ty.Value v)) s = DoesNotFit c (MadeOf c (value_resolved c v)) s ⊎ PrimitiveDoesNotFit (value_resolved c v) s
+TypeDoesNotFit c (kind.Func f) s = DoesNotFit c (IsOfFunc c f) s ⊎ FuncDoesNotFit c f s
+TypeDoesNotFit c k s = ⊥
+
+-- the item itself does not
+abbrev pub ExportDoesNotFit : Collection → Name → ItemKind → Scope → Scope → Type 0
+ExportDoesNotFit c n k old s = (d : Description) × IsDescribed c old s k d × (ContentFits (and_export s.content n d) → ⊥)
+
+-- behind some of what it is made of
+pub record ItemDoesNotFit (c : Collection) (n : Name) (k : ItemKind) (old : Scope) : Type 0 where
+  pub scope : Scope
+  pub types : ℕ
+  pub behind : WritesFor c types (NeededBy c k) old scope
+  pub large : TypeDoesNotFit c k scope ⊎ ExportDoesNotFit c n k old scope
+
+-- which fault stands at an item: a handle, whose resource nothing binds; a core module type; what an instance type cannot list
+abbrev pub IsItemFault : Collection → ItemKind → WriteFault → Type 0
+IsItemFault c (kind.TypeItem (ty.Value v)) f = (f ≡ write.UnboundResource) × HasHandle (MadeOf c (value_resolved c v))
+IsItemFault c (kind.Func g) f = (f ≡ write.UnboundResource) × HasHandle (IsOfFunc c g)
+IsItemFault c (kind.TypeItem (ty.Module m)) f = f ≡ write.ModuleAsType
+IsItemFault c k f = f ≡ write.NestedItem
+
+-- what stands where an item is refused in a scope
+abbrev pub IsItemRefused : {A : Type 0} → Collection → Name → ItemKind → Scope → Result A EncodeFault → Type 0
+IsItemRefused c n k s (Ok x) = Unit {0}
+IsItemRefused c n k s (Err (fault.Write f)) = IsItemFault c k f
+IsItemRefused c n k s (Err fault.TooLarge) = ItemDoesNotFit c n k s
+IsItemRefused c n k s (Err fault.OutOfMemory) = Unit {0}
+
+-- an item is refused behind those before it
+pub record IsStopped (c : Collection) (start : Scope) (order : List (Name × ItemKind)) (e : EncodeFault) : Type 0 where
+  pub before : List (Name × ItemKind)
+  pub name : Name
+  pub item : ItemKind
+  pub after : List (Name × ItemKind)
+  pub split : order ≡ before ++ (name, item) ∷ after
+  pub scope : Scope
+  pub written : WritesItems c start before scope
+  pub refused : IsItemRefused {A = Unit {0}} c name item scope (Err e)
+
+abbrev pub AreRefused : {A : Type 0} → Collection → Scope → List (Name × ItemKind) → Result A EncodeFault → Type 0
+AreRefused c start order (Ok x) = Unit {0}
+AreRefused c start order (Err e) = IsStopped c start order e
+
+-- what stands where an interface is refused: the first of its items, in order, that is; or memory was refused
+pub record HasRefusedItem (c : Collection) (i : InterfaceId) (e : EncodeFault) : Type 0 where
+  pub interface : Interface
+  pub found : item_at c.interfaces i.0 ≡ Some interface
+  pub order : List (Name × ItemKind)
+  pub ordered : IsOrder c interface.exports order
+  pub start : Scope
+  pub empty : IsEmpty start
+  pub stopped : IsStopped c start order e
+
+abbrev pub IsInterfaceRefused : {A : Type 0} → Collection → InterfaceId → Result A EncodeFault → Type 0
+IsInterfaceRefused c i (Ok x) = Unit {0}
+IsInterfaceRefused c i (Err fault.OutOfMemory) = Unit {0}
+IsInterfaceRefused c i (Err e) = HasRefusedItem c i e

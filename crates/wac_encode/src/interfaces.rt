@@ -1,0 +1,287 @@
+//! The writer of interfaces.
+
+ghost use Rattle.std.specs.Prelude.{◌≡◌, ◌<◌, ◌↔◌, ℕ, List, true, false, None, Some, IfOk, OnOk, length, slice_get};
+ghost use Rattle.wac_shapes.specs.Named.{NoNameTwice, named_pairs};
+ghost use Rattle.wac_shapes.specs.declared.component.ItemKind.{ItemKind as AnyItem};
+ghost use Rattle.wac_shapes.specs.declared.component.ItemKind.TheVariants as kind;
+ghost use Rattle.wac_shapes.specs.declared.component.ValueType.TheVariants as val;
+ghost use Rattle.wac_shapes.specs.declared.component.«Type».TheVariants as ty;
+ghost use Rattle.wac_collection.specs.Collection.{HasFunc, HasInterface, holds_value};
+ghost use Rattle.wac_collection.specs.Aliases.{value_resolved};
+ghost use Rattle.wac_scopes.specs.declared.encodable.Encodable.TheVariants.{Instance};
+ghost use Rattle.wac_scopes.specs.Contents.{IsOpenType};
+ghost use Rattle.wac_scopes.specs.Scoped.{value_index};
+ghost use Rattle.wac_encode.specs.Listing.{SaysIfThere, WritesIfThere, is_plain as plain_item, are_plain as plain_items, lists_plain, rank as item_rank, IsOrder, WritesItem, WritesItems, IsEmpty, IsItemRefused, AreRefused, IsInterfaceRefused};
+ghost use Rattle.wac_encode.specs.Items.{ListsHeld, CanClose, CanList, HasListed};
+
+use crate::encoder::TypeEncoder;
+use std::alloc::AllocError;
+use wac_binary::{ComponentValType, InstanceType};
+use wac_collection::{
+    DefinedTypeId, FuncTypeId, Interface, InterfaceId, ItemKind, Named, PrimitiveType, Type,
+    ValueType,
+};
+use wac_scopes::{
+    Encodable, EncodeFault, Scope, WriteFault, alias_law, closing_law, listing_law, step_law,
+    still_law,
+};
+
+impl<'a> TypeEncoder<'a> {
+    /// Lists a primitive as a type item.
+    fn primitive_item(
+        &self,
+        scope: &mut Scope,
+        name: &str,
+        value: ValueType,
+        primitive: PrimitiveType,
+    ) -> Result<(), EncodeFault>
+        requires end { value_resolved self.now.types.now value ≡ val.Primitive primitive }
+        requires open { IsOpenType scope.old.content }
+        ensures listed { OnOk result (ListsHeld self.now.types.now scope.old scope.new name.now (kind.TypeItem (ty.Value value))) }
+        ensures wrote { OnOk result (WritesItem self.now.types.now scope.old scope.new name.now (kind.TypeItem (ty.Value value))) }
+        ensures fault { IsItemRefused self.now.types.now name.now (kind.TypeItem (ty.Value value)) scope.old result }
+    {
+        self.types.law();
+        alias_law();
+        still_law();
+        let index = scope.define_primitive(primitive)?;
+        scope.export_type(name, index)?;
+        Ok(())
+    }
+
+    /// Lists a definition that is written already as a type item. It is still written by the name that it has.
+    fn second_name(
+        &self,
+        scope: &mut Scope,
+        name: &str,
+        value: ValueType,
+        id: DefinedTypeId,
+        index: u32,
+    ) -> Result<(), EncodeFault>
+        requires end { value_resolved self.now.types.now value ≡ val.Defined id }
+        requires written { value_index scope.old id ≡ Some index }
+        requires open { IsOpenType scope.old.content }
+        ensures listed { OnOk result (ListsHeld self.now.types.now scope.old scope.new name.now (kind.TypeItem (ty.Value value))) }
+        ensures wrote { OnOk result (WritesItem self.now.types.now scope.old scope.new name.now (kind.TypeItem (ty.Value value))) }
+        ensures fault { IsItemRefused self.now.types.now name.now (kind.TypeItem (ty.Value value)) scope.old result }
+    {
+        self.types.law();
+        alias_law();
+        step_law();
+        still_law();
+        scope.export_type(name, index)?;
+        Ok(())
+    }
+
+    /// Writes a definition, and lists it as a type item, by whose index it is written from then on.
+    fn first_name(
+        &self,
+        scope: &mut Scope,
+        name: &str,
+        value: ValueType,
+        id: DefinedTypeId,
+    ) -> Result<(), EncodeFault>
+        requires held { holds_value self.now.types.now value ≡ true }
+        requires end { value_resolved self.now.types.now value ≡ val.Defined id }
+        requires unwritten { value_index scope.old id ≡ None }
+        requires open { IsOpenType scope.old.content }
+        ensures listed { OnOk result (ListsHeld self.now.types.now scope.old scope.new name.now (kind.TypeItem (ty.Value value))) }
+        ensures wrote { OnOk result (WritesItem self.now.types.now scope.old scope.new name.now (kind.TypeItem (ty.Value value))) }
+        ensures fault { IsItemRefused self.now.types.now name.now (kind.TypeItem (ty.Value value)) scope.old result }
+    {
+        self.types.law();
+        alias_law();
+        step_law();
+        let ComponentValType::Index(index) = self.value_type(scope, value)? else {
+            unreachable!()
+        };
+        scope.export_value(name, id, index)?;
+        Ok(())
+    }
+
+    /// Writes a value type, and lists it as a type item.
+    fn type_item(&self, scope: &mut Scope, name: &str, value: ValueType) -> Result<(), EncodeFault>
+        requires held { holds_value self.now.types.now value ≡ true }
+        requires open { IsOpenType scope.old.content }
+        ensures listed { OnOk result (ListsHeld self.now.types.now scope.old scope.new name.now (kind.TypeItem (ty.Value value))) }
+        ensures wrote { OnOk result (WritesItem self.now.types.now scope.old scope.new name.now (kind.TypeItem (ty.Value value))) }
+        ensures fault { IsItemRefused self.now.types.now name.now (kind.TypeItem (ty.Value value)) scope.old result }
+    {
+        let end = self.types.resolve_value_type(value);
+        match end {
+            ValueType::Primitive(primitive) => self.primitive_item(scope, name, value, primitive),
+            ValueType::Defined(id) => match scope.value(end) {
+                Some(ComponentValType::Index(index)) => {
+                    self.second_name(scope, name, value, id, index)
+                }
+                _ => self.first_name(scope, name, value, id),
+            },
+            ValueType::Own(_) | ValueType::Borrow(_) => {
+                Err(EncodeFault::Write(WriteFault::UnboundResource))
+            }
+        }
+    }
+
+    /// Writes a function type, and lists a function of it.
+    fn func_item(&self, scope: &mut Scope, name: &str, func: FuncTypeId) -> Result<(), EncodeFault>
+        requires held { HasFunc self.now.types.now func }
+        requires open { IsOpenType scope.old.content }
+        ensures listed { OnOk result (ListsHeld self.now.types.now scope.old scope.new name.now (kind.Func func)) }
+        ensures wrote { OnOk result (WritesItem self.now.types.now scope.old scope.new name.now (kind.Func func)) }
+        ensures fault { IsItemRefused self.now.types.now name.now (kind.Func func) scope.old result }
+    {
+        let index = self.func(scope, func)?;
+        scope.export_func(name, index)?;
+        Ok(())
+    }
+
+    /// Writes what an item is made of, and lists it under its name.
+    fn item(&self, scope: &mut Scope, name: &str, item: ItemKind) -> Result<(), EncodeFault>
+        requires held { CanList self.now.types.now item }
+        requires open { IsOpenType scope.old.content }
+        ensures listed { OnOk result (ListsHeld self.now.types.now scope.old scope.new name.now item) }
+        ensures wrote { OnOk result (WritesItem self.now.types.now scope.old scope.new name.now item) }
+        ensures fault { IsItemRefused self.now.types.now name.now item scope.old result }
+    {
+        match item {
+            ItemKind::TypeItem(Type::Value(value)) => self.type_item(scope, name, value),
+            ItemKind::Func(func) => self.func_item(scope, name, func),
+            ItemKind::TypeItem(Type::Module(_)) => {
+                Err(EncodeFault::Write(WriteFault::ModuleAsType))
+            }
+            ItemKind::Component(_) | ItemKind::Module(_) | ItemKind::Value(_) => {
+                Err(EncodeFault::Write(WriteFault::NestedItem))
+            }
+            _ => unreachable!(),
+        }
+    }
+
+    /// Writes items into a scope in which nothing is written, in this order.
+    fn items(
+        &self,
+        scope: &mut Scope,
+        held: &Interface,
+        order: &[(&str, ItemKind)],
+    ) -> Result<(), EncodeFault>
+        requires plain { (k : ℕ) (e : List ℕ × AnyItem) → slice_get (named_pairs order.now) k ≡ Some e → CanList self.now.types.now e.1 }
+        requires once { NoNameTwice (named_pairs order.now) }
+        requires empty { IsEmpty scope.old }
+        ensures listed { OnOk result (HasListed self.now.types.now held.now scope.new (named_pairs order.now)) }
+        ensures closes { OnOk result (CanClose scope.new.content) }
+        ensures wrote { OnOk result (WritesItems self.now.types.now scope.old (named_pairs order.now) scope.new) }
+        ensures fault { AreRefused self.now.types.now scope.old (named_pairs order.now) result }
+    {
+        closing_law();
+        listing_law();
+        for i in 0..order.len() {
+            let (name, item) = entry_of(order, i);
+            self.item(scope, name, item)?;
+        }
+        Ok(())
+    }
+
+    /// How far back an item is written.
+    fn rank(&self, item: ItemKind) -> usize
+        ensures { result ≡ item_rank self.now.types.now item }
+    {
+        match item {
+            ItemKind::TypeItem(Type::Value(value)) => match self.types.resolve_value_type(value) {
+                ValueType::Defined(id) => id.0,
+                _ => 0,
+            },
+            _ => usize::MAX,
+        }
+    }
+
+    /// Items in the order in which they are written.
+    fn order<'b>(&self, items: &'b Named<ItemKind>) -> Result<Vec<(&'b str, ItemKind)>, AllocError>
+        ensures { IfOk result (λ order. IsOrder self.now.types.now items.now (named_pairs order.items)) }
+    {
+        let mut order = Vec::new(self.types.allocator());
+        for i in 0..items.len() {
+            let (name, item) = items.entry_at(i);
+            order.push((name, *item))?;
+        }
+        order.sort_by_key(|entry| self.rank(entry.1))?;
+        Ok(order)
+    }
+
+    /// Writes a held interface as an instance type: type items by the positions of the definitions that they mean, aliases followed
+    /// to their ends, so each behind those that it mentions; then functions, as they are listed. A definition that a type item lists
+    /// is written by the first such item's index; all else is written once, just before what mentions it. Nothing around the interface
+    /// is looked at: what it uses of another is written in place.
+    ///
+    /// Answers none exactly where an item is of a sort that is not written: a resource, an instance, or a type item of a function type,
+    /// an interface or a world. Answers `UnboundResource` for an item that is made of a handle, `ModuleAsType` and `NestedItem` for
+    /// one that no instance type can list, and `TooLarge` where what is written next does not fit, the first in order; `OutOfMemory`
+    /// where memory was refused.
+    pub fn interface_type(
+        &self,
+        interface: InterfaceId,
+    ) -> Result<Option<InstanceType>, EncodeFault>
+        requires { HasInterface self.now.types.now interface }
+        ensures none { (result ≡ Ok None) ↔ (lists_plain self.now.types.now interface ≡ false) }
+        ensures says { IfOk result (SaysIfThere self.now.types.now interface) }
+        ensures written { IfOk result (WritesIfThere self.now.types.now interface) }
+        ensures fault { IsInterfaceRefused self.now.types.now interface result }
+    {
+        self.types.law();
+        closing_law();
+        listing_law();
+        let held = &self.types[interface];
+        if !are_plain(&held.exports) {
+            return Ok(None);
+        }
+        held.exports.law();
+        let order = self.order(&held.exports)?;
+        let alloc = self.types.allocator();
+        let mut scope = Scope::new(alloc, Encodable::Instance(InstanceType::new(alloc)));
+        self.items(&mut scope, held, order.as_slice())?;
+        let declarations = instance_type(scope.into_content());
+        Ok(Some(declarations))
+    }
+}
+
+/// The instance type that is written.
+fn instance_type(content: Encodable) -> InstanceType
+    requires { CanClose content }
+    ensures { content ≡ Instance result }
+{
+    match content {
+        Encodable::Instance(declarations) => declarations,
+        Encodable::Builder(_) | Encodable::Component(_) => unreachable!(),
+    }
+}
+
+/// The item at a position, which is one of the list.
+fn entry_of<'b>(order: &[(&'b str, ItemKind)], index: usize) -> (&'b str, ItemKind)
+    requires { index < length order.now }
+    ensures { slice_get order.now index ≡ Some result }
+{
+    order[index]
+}
+
+/// Whether an item is of a sort that is written, or that no instance type can list.
+fn is_plain(item: ItemKind) -> bool
+    ensures { result ≡ plain_item item }
+{
+    match item {
+        ItemKind::TypeItem(Type::Value(_) | Type::Module(_)) => true,
+        ItemKind::TypeItem(_) | ItemKind::Instance(_) => false,
+        ItemKind::Func(_) | ItemKind::Component(_) | ItemKind::Module(_) | ItemKind::Value(_) =>
+            true,
+    }
+}
+
+/// Whether all items are.
+fn are_plain(items: &Named<ItemKind>) -> bool
+    ensures { result ≡ plain_items items.now }
+{
+    for i in 0..items.len() {
+        let (_, item) = items.entry_at(i);
+        if !is_plain(*item) {
+            return false;
+        }
+    }
+    true
+}

@@ -1,0 +1,4 @@
+pub mod TypeKeys
+pub mod Lists
+pub mod Universe
+pub mod Reaching

@@ -1,0 +1,29 @@
+-- What a type mentions, and what it reaches.
+use Rattle.std.specs.Prelude.{◌≡◌, ◌⊎◌, List, [], ◌∷◌}
+use Rattle.wac_shapes.specs.Name.{option_case}
+use Rattle.wac_shapes.specs.declared.component.«Type».{«Type» as AnyType}
+use Rattle.wac_shapes.specs.declared.component.«Type».TheVariants as ty
+use Rattle.wac_shapes.specs.declared.component.ValueType.TheVariants as val
+use Rattle.wac_collection.specs.Collection.{Collection, item_at, resource_mentions, func_mentions, defined_mentions, interface_mentions, world_mentions}
+
+-- what a type of a collection mentions: the types whose ids stand in it
+abbrev pub mentions : Collection → AnyType → List AnyType
+mentions c (ty.Resource r) = option_case (item_at c.resources r.0) [] resource_mentions
+mentions c (ty.Func f) = option_case (item_at c.funcs f.0) [] func_mentions
+mentions c (ty.Value (val.Primitive p)) = []
+mentions c (ty.Value (val.Borrow r)) = ty.Resource r ∷ []
+mentions c (ty.Value (val.Own r)) = ty.Resource r ∷ []
+mentions c (ty.Value (val.Defined d)) = option_case (item_at c.defined d.0) [] defined_mentions
+mentions c (ty.Interface i) = option_case (item_at c.interfaces i.0) [] interface_mentions
+mentions c (ty.World w) = option_case (item_at c.worlds w.0) [] world_mentions
+mentions c (ty.Module m) = []
+
+-- the type is one of the list
+abbrev pub IsIn : AnyType → List AnyType → Type 0
+IsIn t [] = ⊥
+IsIn t (u ∷ us) = (t ≡ u) ⊎ IsIn t us
+
+-- the first type reaches the second: it mentions it, or what it mentions reaches it
+pub data Reaches (c : Collection) : AnyType → AnyType → Type 0 where
+  at_once : (a b : AnyType) → IsIn b (mentions c a) → Reaches c a b
+  further : (a b d : AnyType) → IsIn b (mentions c a) → Reaches c b d → Reaches c a d

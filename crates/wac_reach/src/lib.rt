@@ -1,0 +1,9 @@
+//! What a type of a collection reaches: what it mentions, in one or more steps.
+#![tactic(auto)]
+
+mod mentions;
+mod reached;
+#[cfg(test)]
+mod tests;
+
+pub use reached::{Reached, reach};

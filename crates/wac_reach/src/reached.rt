@@ -1,0 +1,76 @@
+//! The types that a type reaches.
+ghost use Rattle.std.specs.Prelude.{◌≡◌, ◌↔◌, [], IsTrue, IfOk, true};
+ghost use Rattle.wac_collection.specs.Collection.{holds_type};
+ghost use Rattle.wac_shapes.specs.declared.component.«Type».{«Type» as AnyType};
+ghost use Rattle.wac_reach.specs.Reach.{IsIn, Reaches};
+ghost use Rattle.wac_reach.specs.Found.{NoneTwice};
+
+use indexmap::IndexSet;
+use std::alloc::{AllocError, Global};
+use std::marker::Model;
+use wac_collection::{Type, Types};
+
+/// Types, each once, in the order in which they were found.
+pub struct Reached {
+    pub(crate) types: IndexSet<Type>,
+}
+
+/// The types are let go of here, and not anew at each place where they go out of scope.
+impl Drop for Reached {
+    fn drop(self) {
+        let Reached { types: _ } = self;
+    }
+}
+
+impl Model for Reached {
+    ghost use Rattle.std.specs.Prelude.{List};
+    ghost use Rattle.wac_shapes.specs.declared.component.«Type».{«Type» as AnyType};
+
+    ghost Value = { List AnyType };
+
+    ghost view = { λ r. r.types.keys };
+}
+
+impl Reached {
+    /// No type.
+    pub(crate) fn new(alloc: Global) -> Reached
+        ensures { result ≡ [] }
+    {
+        Reached {
+            types: IndexSet::new(alloc),
+        }
+    }
+
+    /// Whether the type is one of them.
+    pub fn contains(&self, ty: Type) -> bool
+        ensures { IsTrue result ↔ IsIn ty self.now }
+    {
+        self.types.contains(&ty)
+    }
+
+    /// The types, in the order in which they were found.
+    pub fn as_slice(&self) -> &[Type]
+        ensures types { result.now ≡ self.now }
+        ensures once { NoneTwice self.now }
+    {
+        self.types.as_slice()
+    }
+}
+
+/// The types that a held type reaches: those that it mentions, those that they mention, and so on. Answers `AllocError`
+/// where memory ran out. Linear, without recursion.
+pub fn reach(types: &Types, ty: Type) -> Result<Reached, AllocError>
+    requires { holds_type types.now ty ≡ true }
+    ensures { IfOk result (λ r. (t : AnyType) → IsIn t r ↔ Reaches types.now ty t) }
+{
+    types.law();
+    let mut reached = Reached::new(types.allocator());
+    reached.put_mentions(types, ty)?;
+    let mut next = 0;
+    while next < reached.types.len() {
+        let found = reached.types.as_slice()[next];
+        reached.put_mentions(types, found)?;
+        next += 1;
+    }
+    Ok(reached)
+}
