@@ -1,7 +1,7 @@
 -- Each type item stands behind those that it mentions.
-use Rattle.std.specs.Prelude.{ℕ, ◌<◌, ◌≤◌, ◌≡◌, ◌⊎◌, nat_lt, Bool, true, false, List, ◌∷◌, length, Some, slice_get}
+use Rattle.std.specs.Prelude.{◌<◌, ◌≤◌, ◌≡◌, ◌⊎◌, nat_lt, Bool, true, false, List}
 use Rattle.std.specs.List.Sorted.{IsNonDecreasingBy}
-use Rattle.std.proofs.Common.{refl, subst, sym, get_or, arith, inl, inr}
+use Rattle.std.proofs.Common.{refl, subst, get_or, arith, inl, inr}
 use Rattle.std.proofs.lemmas.Option.{get_or_from_slice_get, slice_get_within}
 use Rattle.wac_shapes.specs.Name.{Name}
 use Rattle.wac_shapes.specs.declared.component.DefinedTypeId.{DefinedTypeId}

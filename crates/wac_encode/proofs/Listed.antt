@@ -1,9 +1,9 @@
 -- Interfaces, item by item.
-use Rattle.std.specs.Prelude.{ℕ, zero, suc, ◌+◌, ◌<◌, ◌≤◌, ◌≡◌, ◌⊎◌, Bool, true, false, List, [], ◌∷◌, ◌++◌, length, map, Option, Some, None, slice_get, drop, Result, Ok, Err}
-use Rattle.std.proofs.Common.{refl, ap, ◌∙◌, sym, subst, take, add-one, arith, inl, inr}
+use Rattle.std.specs.Prelude.{ℕ, zero, suc, ◌+◌, ◌≤◌, ◌≡◌, List, [], ◌∷◌, ◌++◌, length, map, Option, Some, None, slice_get, Err}
+use Rattle.std.proofs.Common.{refl, ap, ◌∙◌, sym, subst, take, add-one, arith}
 use Rattle.std.proofs.Math.Path.{fun_ext}
 use Rattle.std.proofs.Math.Seq.{take-length}
-use Rattle.wac_shapes.specs.Name.{Name, find_name, option_case}
+use Rattle.wac_shapes.specs.Name.{Name, find_name}
 use Rattle.wac_shapes.specs.Named.{NoNameTwice}
 use Rattle.wac_shapes.proofs.Names.{take_at, none_before}
 use Rattle.wac_shapes.specs.declared.component.DefinedTypeId.{DefinedTypeId}

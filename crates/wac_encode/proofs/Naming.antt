@@ -1,5 +1,5 @@
 -- What is written for an item, and when one is refused.
-use Rattle.std.specs.Prelude.{ℕ, zero, suc, ◌+◌, ◌≡◌, ◌⊎◌, List, [], ◌∷◌, ◌++◌, Option, Some, None, Result, Ok, Err}
+use Rattle.std.specs.Prelude.{ℕ, ◌≡◌, ◌⊎◌, Option, Some, None, Err}
 use Rattle.std.proofs.Common.{refl, ap, ◌∙◌, sym, subst, inl, inr}
 use Rattle.wac_shapes.specs.Name.{Name}
 use Rattle.wac_shapes.specs.declared.component.DefinedTypeId.{DefinedTypeId}
@@ -26,7 +26,7 @@ use Rattle.wac_scopes.specs.Laws.{StaysOnward}
 use Rattle.wac_scopes.specs.Scoped.{value_index, by_index, in_use, HasToo, AddsPrimitive, ListsValue, WritesUnlessTooLarge, FitsUnlessTooLarge}
 use Rattle.wac_encode.specs.Made.{MadeOf, itself}
 use Rattle.wac_encode.specs.Written.{WritesFor, HasHandle, IsHandle, IsByRecord, IsRefused, IsOfFunc, AddsHeldFunc, EndsWithFunc, IsFuncRefused}
-use Rattle.wac_encode.specs.Listing.{NeededBy, own_types, one_if_primitive, IsListedAt, IsDescribed, SameRecords, IsNamedOnce, NamesValue, WritesItem, PrimitiveDoesNotFit, TypeDoesNotFit, ItemDoesNotFit, IsItemRefused}
+use Rattle.wac_encode.specs.Listing.{NeededBy, own_types, one_if_primitive, IsListedAt, IsDescribed, SameRecords, IsNamedOnce, NamesValue, WritesItem, PrimitiveDoesNotFit, IsItemRefused}
 use Rattle.wac_encode.proofs.Answering.{as-it-was}
 use Rattle.wac_encode.proofs.Stacks.{writes-none}
 use Rattle.wac_encode.proofs.Rows.{writes-type}

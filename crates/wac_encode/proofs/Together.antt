@@ -1,5 +1,5 @@
 -- The items of an interface, together.
-use Rattle.std.specs.Prelude.{ℕ, ◌≡◌, ◌↔◌, Bool, true, false, List, [], ◌∷◌, Option, Some, None, slice_get, Result, Ok, Err, IsPermutation}
+use Rattle.std.specs.Prelude.{ℕ, ◌≡◌, ◌↔◌, true, false, List, Option, Some, None, slice_get, Result, Ok, Err}
 use Rattle.std.specs.Borrow.{Bor}
 use Rattle.std.proofs.Common.{◌∙◌, sym, subst}
 use Rattle.std.proofs.lemmas.List.Sorted.{IsPermutation-sym}
@@ -14,7 +14,7 @@ use Rattle.wac_scopes.specs.declared.fault.EncodeFault.{EncodeFault}
 use Rattle.wac_scopes.specs.declared.fault.EncodeFault.TheVariants as fault
 use Rattle.wac_scopes.specs.declared.encodable.Encodable.TheVariants.{Instance}
 use Rattle.wac_scopes.specs.declared.scope.Scope.{Scope}
-use Rattle.wac_encode.specs.Listing.{are_plain, lists_plain, IsOrder, IsEmpty, WritesItems, WritesInterface, IsStopped, AreRefused, IsInterfaceRefused}
+use Rattle.wac_encode.specs.Listing.{are_plain, lists_plain, IsOrder, IsEmpty, WritesItems, WritesInterface, AreRefused, IsInterfaceRefused}
 use Rattle.wac_encode.specs.Items.{CanList}
 use Rattle.wac_encode.proofs.Ordered.{stands-there}
 use Rattle.wac_encode.proofs.Behind.{stand-behind}

@@ -1,5 +1,5 @@
 -- What each item of an interface adds to a scope, under what is held. Private functions alone cite this.
-use Rattle.std.specs.Prelude.{◌≡◌, true, List, [], ◌∷◌}
+use Rattle.std.specs.Prelude.{◌≡◌, true, List, ◌∷◌}
 use Rattle.wac_shapes.specs.Name.{Name}
 use Rattle.wac_shapes.specs.Kinds.{kind_type}
 use Rattle.wac_shapes.specs.declared.component.Interface.{Interface}
