@@ -31,7 +31,7 @@ module _ (c : Collection) (es : List Entry) where
   abbrev number_in : Option (ℕ × List Place) → ℕ
   number_in o = option_case o 0 (λ x. x.0)
 
-  number_low : (ns : List Name) (k : ℕ) (r : ResourceId) (b : ℕ) (p : List Place) → binding_from by_names c es k ns r ≡ Some (b, p) → b < k + length ns
+  pub number_low : (ns : List Name) (k : ℕ) (r : ResourceId) (b : ℕ) (p : List Place) → binding_from by_names c es k ns r ≡ Some (b, p) → b < k + length ns
   number_low [] k r b p is = cc
   number_low (n ∷ ns) k r b p is = split (class_binds by_names c es n r) (λ h. number_low ns (suc k) r b p h) is where
     split : (o : Option (List Place)) → (binding_from by_names c es (suc k) ns r ≡ Some (b, p) → b < suc k + length ns)
@@ -39,16 +39,17 @@ module _ (c : Collection) (es : List Entry) where
     split None more h = let low : b < suc k + length ns = more h in omega arith
     split (Some path) more h = let same : k ≡ b = ap number_in h in omega (arith, same)
 
-  abbrev root : ResourceId → Option Leaf
-  root = root_bindings by_names c es (λ k. k)
+  -- where no class stands at the position b
+  module _ (place : ℕ → ℕ) (b : ℕ) (past : (k : ℕ) → k < length (class_names by_names es) → place k ≡ b → ⊥) where
+    abbrev root : ResourceId → Option Leaf
+    root = root_bindings by_names c es place
 
-  module _ (b : ℕ) (past : length (class_names by_names es) ≤ b) where
     root_nothing : Nothing b root
     root_nothing r = split (binding_class by_names c es r) (λ j p is. number_low (class_names by_names es) 0 r j p is) where
       split : (o : Option (ℕ × List Place)) → ((j : ℕ) (p : List Place) → o ≡ Some (j, p) → j < 0 + length (class_names by_names es))
-          → No b (option_case o None (λ x. Some (record { out = 0; side = imported; path = position x.0 ∷ x.1 })))
+          → No b (option_case o None (λ x. Some (record { out = 0; side = imported; path = position (place x.0) ∷ x.1 })))
       split None low = no_none b
-      split (Some (j, p)) low = no_some b (record { out = 0; side = imported; path = position j ∷ p }) (λ h. let same : j ≡ b = h in let less : j < 0 + length (class_names by_names es) = low j p refl in absurd (omega (arith, past, same, less)))
+      split (Some (j, p)) low = no_some b (record { out = 0; side = imported; path = position (place j) ∷ p }) (λ h. let less : j < 0 + length (class_names by_names es) = low j p refl in past j (omega (arith, less)) h)
 
     own_nothing : (o : Option Name) → No b (option_case o None (λ n. Some (record { out = 0; side = exported; path = named n ∷ [] })))
     own_nothing None = no_none b
@@ -65,7 +66,7 @@ module _ (c : Collection) (es : List Entry) where
         (no_first b (option_case (class_binds by_names c es class r) None (λ path. Some (record { out = 0; side = exported; path = path }))) _
         (class_nothing (class_binds by_names c es class r) (free_class b by_names c es class r)) (no_outer b (root r) (root_nothing r)))
 
-    member_quiet : (class : Name) (a : ℕ) (k : ItemKind) → Quiet b (member_tree by_names c es class a root k)
+    pub member_quiet : (class : Name) (a : ℕ) (k : ItemKind) → Quiet b (member_tree by_names c es class a root k)
     unfolding held_tree
     member_quiet class a (kind.Instance i) = at (item_at c.interfaces i.0) where
       at : (o : Option Interface)
@@ -84,13 +85,13 @@ module _ (c : Collection) (es : List Entry) where
     member_quiet class a (kind.Value v) = quiet_item b (unfolded (by_place c) c root) (λ x. quiet_to b c (suc (size c)) root root_nothing x) (binds_here c root imported (position a ∷ []) (kind.Value v)) (kind.Value v)
 
   -- what a class rests on is a class
-  rests_low : (a b : ℕ) → RestsOn by_names c es a b → b < length (class_names by_names es)
+  pub rests_low : (a b : ℕ) → RestsOn by_names c es a b → b < length (class_names by_names es)
   rests_low a b (by_use _ _ class name_of name id e i it used u other is_class is_other member is there listed is_used has_id one) = slice_get_within (class_names by_names es) b name_of is_other
   rests_low a b (by_resource _ _ class e other is_class member h) = split (nat_cmp b (length (class_names by_names es))) refl where
     split : (o : Ordering) → o ≡ nat_cmp b (length (class_names by_names es)) → b < length (class_names by_names es)
     split Less is = ranked b (length (class_names by_names es)) Less is
-    split Equal is = let same : b ≡ length (class_names by_names es) = ranked b (length (class_names by_names es)) Equal is in absurd (member_quiet b (omega (arith, same)) class a e.kind h)
-    split Greater is = let more : length (class_names by_names es) < b = ranked b (length (class_names by_names es)) Greater is in absurd (member_quiet b (omega (arith, more)) class a e.kind h)
+    split Equal is = let same : b ≡ length (class_names by_names es) = ranked b (length (class_names by_names es)) Equal is in absurd (member_quiet (λ k. k) b (λ k low at. omega (arith, same, low, at)) class a e.kind h)
+    split Greater is = let more : length (class_names by_names es) < b = ranked b (length (class_names by_names es)) Greater is in absurd (member_quiet (λ k. k) b (λ k low at. omega (arith, more, low, at)) class a e.kind h)
 
   module _ (sets : List (BTreeSet ℕ)) (counted : length sets ≡ length (class_names by_names es)) (rests : (a b : ℕ) → IsStep sets a b ↔ RestsOn by_names c es a b) where
     pub are_within : AreWithin sets

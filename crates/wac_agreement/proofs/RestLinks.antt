@@ -41,10 +41,10 @@ use Rattle.wac_terms.proofs.Found.{at-filter}
 use Rattle.wac_agreement.proofs.RestNames.{compared-same}
 use Rattle.wac_agreement.proofs.RestSets.{has_in, in_has}
 
-contains_at : {X : Type 0} (xs : List X) (k : ℕ) (x : X) → slice_get xs k ≡ Some x → Contains xs x
+pub contains_at : {X : Type 0} (xs : List X) (k : ℕ) (x : X) → slice_get xs k ≡ Some x → Contains xs x
 contains_at xs k x at = (k, slice_get_within xs k x at, get_or_from_slice_get xs k x x at)
 
-at_contains : {X : Type 0} (xs : List X) (x : X) → Contains xs x → (k : ℕ) × (slice_get xs k ≡ Some x)
+pub at_contains : {X : Type 0} (xs : List X) (x : X) → Contains xs x → (k : ℕ) × (slice_get xs k ≡ Some x)
 at_contains xs x (k, low, is) = (k, slice_get_read xs (length xs) k x refl low (sym is))
 
 -- ---- items and their types
@@ -154,25 +154,29 @@ module _ (ns : List Node) (c : Collection) (es : List Entry) (xs : List Item) (n
     inside_class : Contains (members by_names es class) e
     inside_class = let w = filter-at (λ y. same_class by_names es class y.name) es i e at of in contains_at (members by_names es class) w.0 e w.1
 
+    -- each class stands at its number
+    in_place : (l : ℕ) → (l ≡ b) ↔ (l ≡ b)
+    in_place l = (λ h. h, λ h. h)
+
     abbrev Means : ItemKind → Type 0
     Means k = Mentions (λ l. begins_at b l.path) (member_tree by_names c es class a root k)
 
     item_is : (k : ItemKind) → e.kind ≡ k → item_tree (tree_at ns) x ≡ compared by_names c es class k
     item_is k is = (items i e x at x_at).is ∙ (compared-same c es e.name class (class-sym by_names es class e.name of) e.kind ∙ ap (compared by_names c es class) is)
 
-    reaches : (k : ItemKind) → e.kind ≡ k → Same b (member_tree by_names c es class a root k) (compared by_names c es class k) → Means k ↔ Reaches (IsOfClass b) (tree_at ns (type_of x))
+    reaches : (k : ItemKind) → e.kind ≡ k → Same b b (member_tree by_names c es class a root k) (compared by_names c es class k) → Means k ↔ Reaches (IsOfClass b) (tree_at ns (type_of x))
     reaches k is same = (
       λ h. of_item ns b x (subst (λ (t : TypeTree Called). Reaches (IsOfClass b) t) (sym (item_is k is)) (same.0 h)),
       λ h. same.1 (subst (λ (t : TypeTree Called). Reaches (IsOfClass b) t) (item_is k is) (to_item ns b x h)),
     )
 
     of_instance : (j : InterfaceId) → e.kind ≡ kind.Instance j → Means (kind.Instance j) ↔ Reaches (IsOfClass b) (tree_at ns (type_of x))
-    of_instance j is = reaches (kind.Instance j) is (same_member_instance b by_names c es class a j)
+    of_instance j is = reaches (kind.Instance j) is (same_member_instance b b (λ l. l) in_place by_names c es class a j)
 
     of_other : (k : ItemKind) → e.kind ≡ k → BindsNothing k → IsNoResource k → Means k ↔ Reaches (IsOfClass b) (tree_at ns (type_of x))
     of_other k is none plain =
         reaches k is
-        (same_member b by_names c es class a k (class_none by_names c es class (all_nothing c es agree class i e at of (subst (λ (y : ItemKind). BindsNothing y) (sym is) none))) plain)
+        (same_member b b (λ l. l) in_place by_names c es class a k (class_none by_names c es class (all_nothing c es agree class i e at of (subst (λ (y : ItemKind). BindsNothing y) (sym is) none))) plain)
 
     first_is : (q : ResourceId) → first_class c bs q ≡ option_map (λ p. p.0) (binding_class by_names c es (resolved c q))
     first_is q = ap (option_map (λ p. p.0)) (bindings.firsts (resolved c q))
@@ -183,7 +187,7 @@ module _ (ns : List Node) (c : Collection) (es : List Entry) (xs : List Item) (n
 
     of_resource : (q : ResourceId) → Means (kind.TypeItem (ty.Resource q)) ↔ (first_class c bs q ≡ Some b)
     of_resource q =
-        let m = member_resource b by_names c es class a q (λ s. other (sym s)) in (
+        let m = member_resource b b (λ l. l) in_place by_names c es class a q (λ s. other (sym s)) in (
           λ h. let w = m.0 h in first_is q ∙ ap (option_map (λ p. p.0)) w.1,
           λ h. m.1 (bound_by (binding_class by_names c es (resolved c q)) (sym (first_is q) ∙ h)),
         )

@@ -1,5 +1,5 @@
 -- Why `encode` is refused.
-use Rattle.std.specs.Prelude.{ℕ, ◌≡◌, ◌<◌, ◌≤◌, [], Option, Some, None, IsSomeAnd, slice_get, string_bytes}
+use Rattle.std.specs.Prelude.{ℕ, ◌≡◌, ◌<◌, ◌≤◌, ◌⊎◌, [], Option, Some, None, IsSomeAnd, IsTrue, slice_get, string_bytes}
 use Rattle.wac_shapes.specs.Name.{Name}
 use Rattle.wac_collection.specs.Package.{Key}
 use Rattle.wac_shapes.specs.declared.component.ItemKind.{ItemKind}
@@ -20,6 +20,8 @@ use Rattle.wac_edges.specs.Order.{IsOnCycle, IsLowestOnCycle}
 use Rattle.wac_nodes.specs.Asked.{Entry}
 use Rattle.wac_nodes.specs.Entries.{asked_entries, to_merge}
 use Rattle.wac_causes.specs.NotYet.{IsNotYet}
+use Rattle.wac_causes.specs.OuterNames.{IsOuterFault}
+use Rattle.wac_validation.specs.FirstFault.{Fault, fault_view}
 
 -- an import of an instantiation is not satisfied, and an import node has its name
 pub record IsConflict (g : Graph) (import instantiation : NodeId) (position : ℕ) (name : Name) : Type 0 where
@@ -98,6 +100,7 @@ pub data Cause : Type 0 where
   explicit_merge : Name → NodeId → NodeId → Cause
   import_circle : Name → Cause
   not_yet : Cause
+  invalid : Fault → Cause
 
 -- the kinds of causes
 pub data CauseKind : Type 0 where
@@ -106,6 +109,7 @@ pub data CauseKind : Type 0 where
   a_disagreement : CauseKind
   a_circle : CauseKind
   unwritten : CauseKind
+  an_invalid_name : CauseKind
 
 abbrev pub kind_of_cause : Cause → CauseKind
 kind_of_cause (cycle node) = a_cycle
@@ -114,6 +118,7 @@ kind_of_cause (implicit_merge import first second p q export) = a_disagreement
 kind_of_cause (explicit_merge import node other) = a_disagreement
 kind_of_cause (import_circle import) = a_circle
 kind_of_cause not_yet = unwritten
+kind_of_cause (invalid fault) = an_invalid_name
 
 -- their order
 abbrev pub rank : CauseKind → ℕ
@@ -122,6 +127,7 @@ rank a_conflict = 1
 rank a_disagreement = 2
 rank a_circle = 3
 rank unwritten = 4
+rank an_invalid_name = 5
 
 -- a cause of this kind is there
 abbrev pub Occurs : Graph → EncodeOptions → CauseKind → Type 0
@@ -130,23 +136,25 @@ Occurs g o a_conflict = (import : NodeId) × (instantiation : NodeId) × (positi
 Occurs g o a_disagreement = (first : ℕ) × (second : ℕ) × IsDisagreement by_names g.types (to_merge (asked_entries g)) first second
 Occurs g o a_circle = (class : ℕ) × IsOnCircle by_names g.types (to_merge (asked_entries g)) class
 Occurs g o unwritten = IsNotYet g o
+Occurs g o an_invalid_name = IsTrue o.validate × ((fault : Fault) × IsOuterFault g o fault)
 
 -- a cause of this kind is there, and none of a kind below it
 abbrev pub IsFirstKind : Graph → EncodeOptions → CauseKind → Type 0
 IsFirstKind g o kind = Occurs g o kind × ((below : CauseKind) → rank below < rank kind → Occurs g o below → ⊥)
 
 -- of the causes of its kind this is the one that is named: the lowest node on a cycle, the first conflict, the first entry that disagrees ..
-abbrev pub IsNamed : Graph → Cause → Type 0
-IsNamed g (cycle node) = IsLowestOnCycle g.edges node
-IsNamed g (conflict import instantiation key name) = IsFirstConflict g import instantiation key name
-IsNamed g (implicit_merge import first second p q export) = IsImplicitMerge g import first second p q export
-IsNamed g (explicit_merge import node other) = IsExplicitMerge g import node other
-IsNamed g (import_circle import) = IsImportCircle g import
-IsNamed g not_yet = Unit {0}
+abbrev pub IsNamed : Graph → EncodeOptions → Cause → Type 0
+IsNamed g o (cycle node) = IsLowestOnCycle g.edges node
+IsNamed g o (conflict import instantiation key name) = IsFirstConflict g import instantiation key name
+IsNamed g o (implicit_merge import first second p q export) = IsImplicitMerge g import first second p q export
+IsNamed g o (explicit_merge import node other) = IsExplicitMerge g import node other
+IsNamed g o (import_circle import) = IsImportCircle g import
+IsNamed g o not_yet = Unit {0}
+IsNamed g o (invalid fault) = IsOuterFault g o fault
 
 -- the cause stands: its kind is the first that is there, and of that kind it is the one that is named
 abbrev pub Stands : Graph → EncodeOptions → Cause → Type 0
-Stands g o cause = IsFirstKind g o (kind_of_cause cause) × IsNamed g cause
+Stands g o cause = IsFirstKind g o (kind_of_cause cause) × IsNamed g o cause
 
 -- the cause that a fault is where imports are asked for implicitly; one that is no disagreement names an entry twice, which never stands
 abbrev pub implicit_cause : Name → NodeId → NodeId → MergeFault → Option Cause
@@ -163,3 +171,9 @@ cause_of (error.ImportsUseEachOther import) = Some (import_circle (string_bytes 
 cause_of error.TooLarge = None
 cause_of error.OutOfMemory = None
 cause_of error.NotYet = Some not_yet
+cause_of (error.ValidationFailure fault) = Some (invalid (fault_view fault))
+
+-- The error answers for the cause: it names the cause, or memory ran out. Names are looked at when all is written, so for a fault of
+-- these alone it may also say that a size does not fit.
+abbrev pub AnswersFor : Cause → EncodeError → Type 0
+AnswersFor cause e = (cause_of e ≡ Some cause) ⊎ ((e ≡ error.OutOfMemory) ⊎ ((kind_of_cause cause ≡ an_invalid_name) × (e ≡ error.TooLarge)))

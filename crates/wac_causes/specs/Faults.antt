@@ -1,9 +1,15 @@
--- What a fault of the section writers is to `encode`.
+-- What a fault of the section writers, and a refusal of outer names, is to `encode`.
 use Rattle.wac_binary.specs.declared.fault.BinaryFault.{BinaryFault}
 use Rattle.wac_binary.specs.declared.fault.BinaryFault.TheVariants as fault
+use Rattle.wac_validation.specs.declared.fault.ValidationError.{ValidationError}
+use Rattle.wac_validation.specs.declared.fault.ValidationError.TheVariants as validation
 use Rattle.wac_causes.specs.declared.errors.EncodeError.{EncodeError}
 use Rattle.wac_causes.specs.declared.errors.EncodeError.TheVariants as error
 
 abbrev pub encode_error : BinaryFault → EncodeError
 encode_error fault.TooLarge = error.TooLarge
 encode_error fault.OutOfMemory = error.OutOfMemory
+
+abbrev pub validation_failure : ValidationError → EncodeError
+validation_failure (validation.Fault f) = error.ValidationFailure f
+validation_failure validation.OutOfMemory = error.OutOfMemory

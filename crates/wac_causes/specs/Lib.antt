@@ -1,4 +1,5 @@
 pub mod NotYet
+pub mod OuterNames
 pub mod Cause
 pub mod Search
 pub mod Faults

@@ -1,5 +1,5 @@
 -- How causes are found; cited by private functions alone, nothing public rests on it.
-use Rattle.std.specs.Prelude.{ℕ, ◌≡◌, ◌≤◌, Bool, false, List, Some, slice_get, ◌⊎◌}
+use Rattle.std.specs.Prelude.{ℕ, ◌≡◌, ◌≤◌, ◌<◌, Bool, false, List, Some, slice_get, ◌⊎◌}
 use Rattle.wac_shapes.specs.Name.{Name, find_name}
 use Rattle.wac_shapes.specs.declared.component.ItemKind.{ItemKind}
 use Rattle.wac_nodes.specs.declared.options.EncodeOptions.{EncodeOptions}
@@ -7,7 +7,8 @@ use Rattle.wac_causes.specs.declared.errors.EncodeError.{EncodeError}
 use Rattle.wac_causes.specs.declared.errors.EncodeError.TheVariants.{OutOfMemory}
 use Rattle.wac_edges.specs.declared.node.NodeId.{NodeId}
 use Rattle.wac_nodes.specs.Graph.{Graph}
-use Rattle.wac_causes.specs.Cause.{IsConflict, Cause, Stands, cause_of}
+use Rattle.wac_causes.specs.Cause.{IsConflict, Cause, invalid, kind_of_cause, an_invalid_name, rank, Stands, cause_of}
+use Rattle.wac_validation.specs.FirstFault.{Fault}
 
 -- the import at position i is not satisfied, and this node has its name
 pub record Clashes (satisfied : ℕ → Bool) (imports : List (Name × ItemKind)) (nodes : List (Name × NodeId)) (i : ℕ) (node : NodeId) : Type 0 where
@@ -27,6 +28,10 @@ pub record IsFirstOf (g : Graph) (instantiation : NodeId) (position : ℕ) (impo
 abbrev pub IsLowest : Graph → ℕ → Type 0
 IsLowest g n = (import m : NodeId) (i : ℕ) (name : Name) → IsConflict g import m i name → n ≤ m.0
 
--- memory ran out, or the cause that the refusal names stands
+-- memory ran out, or the cause that the refusal names stands, and is found before anything is written
 abbrev pub IsRefused : Graph → EncodeOptions → EncodeError → Type 0
-IsRefused g o e = (e ≡ OutOfMemory) ⊎ ((cause : Cause) × (cause_of e ≡ Some cause) × Stands g o cause)
+IsRefused g o e = (e ≡ OutOfMemory) ⊎ ((cause : Cause) × (cause_of e ≡ Some cause) × (rank (kind_of_cause cause) < rank an_invalid_name) × Stands g o cause)
+
+-- memory ran out, or the refusal names the one fault of names that is such
+abbrev pub NamesFault : (Fault → Type 0) → EncodeError → Type 0
+NamesFault P e = (e ≡ OutOfMemory) ⊎ ((f : Fault) × (cause_of e ≡ Some (invalid f)) × P f × ((other : Fault) → P other → other ≡ f))

@@ -7,6 +7,7 @@ use wac_agreement::fault::MergeFault;
 use wac_binary::BinaryFault;
 use wac_nodes::NodeId;
 use wac_types::PackageKey;
+use wac_validation::{ValidationError, ValidationFault};
 
 /// Why `encode` is refused.
 #[derive(Debug, Drop, Error)]
@@ -55,6 +56,11 @@ pub enum EncodeError {
     /// An argument is not set, a node is an import, or the options ask for what is not written yet.
     #[error("the graph holds something that is not written yet")]
     NotYet,
+    /// Validation is asked for, and the outer names may not stand together: their first fault.
+    #[error("encoding produced a component that failed validation")]
+    ValidationFailure {
+        source: ValidationFault,
+    },
 }
 
 impl From<AllocError> for EncodeError {
@@ -76,6 +82,19 @@ impl From<BinaryFault> for EncodeError {
         match fault {
             BinaryFault::TooLarge => EncodeError::TooLarge,
             BinaryFault::OutOfMemory => EncodeError::OutOfMemory,
+        }
+    }
+}
+
+impl From<ValidationError> for EncodeError {
+    ghost use Rattle.wac_causes.specs.Faults.{validation_failure};
+
+    ghost from_gives = { λ error e. e ≡ validation_failure error };
+
+    fn from(error: ValidationError) -> EncodeError {
+        match error {
+            ValidationError::Fault { source } => EncodeError::ValidationFailure { source },
+            ValidationError::OutOfMemory => EncodeError::OutOfMemory,
         }
     }
 }

@@ -1,5 +1,5 @@
 -- One cause stands at most; from what a call refuses to what `encode` does.
-use Rattle.std.proofs.Common.{Ok, Err, Result, IfErr, ◌≡◌, ℕ, ◌≤◌, refl, ap, ◌∙◌, sym, subst, arith, Option, Some, None, IfSome, IsSome, IsSomeAnd, true, ◌⊎◌, inl, inr}
+use Rattle.std.proofs.Common.{lit<, ◌<◌, IsTrue, Ok, Err, Result, IfErr, ◌≡◌, ℕ, ◌≤◌, refl, ap, ◌∙◌, sym, subst, arith, Option, Some, None, IfSome, IsSomeAnd, true, ◌⊎◌, inl, inr}
 use Rattle.std.specs.Prelude.{slice_get}
 use Rattle.std.specs.Result.{IsErrAnd}
 use Rattle.wac_shapes.specs.Name.{Name, option_case}
@@ -10,7 +10,6 @@ use Rattle.wac_causes.specs.declared.errors.EncodeError.{EncodeError}
 use Rattle.wac_causes.specs.declared.errors.EncodeError.TheVariants as error
 use Rattle.wac_edges.specs.declared.node.NodeId.{NodeId}
 use Rattle.wac_nodes.specs.Graph as graph
-use Rattle.wac_edges.specs.Edge.{node_number}
 use Rattle.wac_nodes.specs.Graph.{Graph, GraphNode, node_at, imports_of, package_of, IsImportOf}
 use Rattle.wac_nodes.specs.Sound.{IsSound}
 use Rattle.wac_edges.specs.Order.{IsAcyclic, IsLowestOnCycle}
@@ -20,10 +19,13 @@ use Rattle.wac_entries.specs.Classes.{by_names}
 use Rattle.wac_terms.specs.NoDisagreement.{HasNoDisagreement}
 use Rattle.wac_nodes.specs.Asked.{Entry}
 use Rattle.wac_nodes.specs.Entries.{asked_entries, to_merge}
-use Rattle.wac_causes.specs.Cause.{IsFirstConflict, HasNoConflict, HasMerge, IsMergeConflict, IsImplicitMerge, IsExplicitMerge, IsImportCircle, Cause, cycle, conflict, implicit_merge, explicit_merge, import_circle, not_yet, a_disagreement, kind_of_cause, Stands, cause_of}
+use Rattle.wac_causes.specs.Cause.{IsFirstConflict, HasNoConflict, HasMerge, IsMergeConflict, IsImplicitMerge, IsExplicitMerge, IsImportCircle, Cause, cycle, conflict, implicit_merge, explicit_merge, import_circle, not_yet, invalid, a_disagreement, an_invalid_name, rank, kind_of_cause, Stands, cause_of, AnswersFor}
 use Rattle.wac_causes.specs.Search.{IsRefused}
 use Rattle.wac_composition.proofs.MeansLemmas.{none_left}
-use Rattle.wac_causes.proofs.StandsLemmas.{stands_cycle, stands_not_yet, same_kind, none_there}
+use Rattle.wac_causes.proofs.StandsLemmas.{stands_cycle, stands_not_yet, same_kind, none_there, invalid_alone}
+use Rattle.wac_causes.specs.OuterNames.{IsOuterFault}
+use Rattle.wac_validation.specs.FirstFault as names
+use Rattle.wac_agreement.specs.declared.fault.MergeFault.TheVariants as merge
 
 same_id : (n m : NodeId) → n.0 ≤ m.0 → m.0 ≤ n.0 → n ≡ m
 same_id n m up down = let e : n.0 ≡ m.0 = omega arith in λ i. record { 0 = e i }
@@ -126,67 +128,105 @@ module _ (g : Graph) (law : OneFault) where
   one_circle i j agree a b = ap import_circle (ap text_in (law g.types (to_merge (asked_entries g)) (use_each_other i) (use_each_other j) (agree, a) (agree, b)))
 
 -- of one kind no two causes are named
-one_named : (g : Graph) → IsSound g → OneFault → (o : EncodeOptions) (a b : Cause) → kind_of_cause a ≡ kind_of_cause b → Stands g o a → Stands g o b → a ≡ b
-one_named g sound law o (cycle n) (cycle m) e a b = ap cycle (same_id n m (a.1.lowest m b.1.here) (b.1.lowest n a.1.here))
-one_named g sound law o (cycle n) (conflict j m l t) e a b = cc
-one_named g sound law o (cycle n) (implicit_merge i f s p q x) e a b = cc
-one_named g sound law o (cycle n) (explicit_merge i m k) e a b = cc
-one_named g sound law o (cycle n) (import_circle i) e a b = cc
-one_named g sound law o (cycle n) not_yet e a b = cc
-one_named g sound law o (conflict i n k s) (cycle m) e a b = cc
-one_named g sound law o (conflict i n k s) (conflict j m l t) e a b = one_conflict g sound i j n m k l s t a.1 b.1
-one_named g sound law o (conflict i n k s) (implicit_merge j f t p q x) e a b = cc
-one_named g sound law o (conflict i n k s) (explicit_merge j m t) e a b = cc
-one_named g sound law o (conflict i n k s) (import_circle j) e a b = cc
-one_named g sound law o (conflict i n k s) not_yet e a b = cc
-one_named g sound law o (implicit_merge i f s p q x) (cycle m) e a b = cc
-one_named g sound law o (implicit_merge i f s p q x) (conflict j m l t) e a b = cc
-one_named g sound law o (implicit_merge i f s p q x) (implicit_merge j t u r v y) e a b = one_implicit g law i j f s t u p q r v x y a.1 b.1
-one_named g sound law o (implicit_merge i f s p q x) (explicit_merge j n k) e a b = absurd (not_both g law i j f s n k p q x a.1 b.1)
-one_named g sound law o (implicit_merge i f s p q x) (import_circle j) e a b = cc
-one_named g sound law o (implicit_merge i f s p q x) not_yet e a b = cc
-one_named g sound law o (explicit_merge i n k) (cycle m) e a b = cc
-one_named g sound law o (explicit_merge i n k) (conflict j m l t) e a b = cc
-one_named g sound law o (explicit_merge i n k) (implicit_merge j t u r v y) e a b = absurd (not_both g law j i t u n k r v y b.1 a.1)
-one_named g sound law o (explicit_merge i n k) (explicit_merge j m l) e a b = one_explicit g law i j n k m l a.1 b.1
-one_named g sound law o (explicit_merge i n k) (import_circle j) e a b = cc
-one_named g sound law o (explicit_merge i n k) not_yet e a b = cc
-one_named g sound law o (import_circle i) (cycle m) e a b = cc
-one_named g sound law o (import_circle i) (conflict j m l t) e a b = cc
-one_named g sound law o (import_circle i) (implicit_merge j t u r v y) e a b = cc
-one_named g sound law o (import_circle i) (explicit_merge j m l) e a b = cc
-one_named g sound law o (import_circle i) (import_circle j) e a b = one_circle g law i j (λ p q h. a.0.1 a_disagreement (omega arith) (p, q, h)) a.1 b.1
-one_named g sound law o (import_circle i) not_yet e a b = cc
-one_named g sound law o not_yet (cycle m) e a b = cc
-one_named g sound law o not_yet (conflict j m l t) e a b = cc
-one_named g sound law o not_yet (implicit_merge j t u r v y) e a b = cc
-one_named g sound law o not_yet (explicit_merge j m l) e a b = cc
-one_named g sound law o not_yet (import_circle j) e a b = cc
-one_named g sound law o not_yet not_yet e a b = refl
+one_named : (g : Graph) → IsSound g → OneFault → (o : EncodeOptions) (a b : Cause) → rank (kind_of_cause a) < rank an_invalid_name → kind_of_cause a ≡ kind_of_cause b → Stands g o a → Stands g o b → a ≡ b
+one_named g sound law o (cycle n) (cycle m) before e a b = ap cycle (same_id n m (a.1.lowest m b.1.here) (b.1.lowest n a.1.here))
+one_named g sound law o (cycle n) (conflict j m l t) before e a b = cc
+one_named g sound law o (cycle n) (implicit_merge i f s p q x) before e a b = cc
+one_named g sound law o (cycle n) (explicit_merge i m k) before e a b = cc
+one_named g sound law o (cycle n) (import_circle i) before e a b = cc
+one_named g sound law o (cycle n) not_yet before e a b = cc
+one_named g sound law o (cycle n) (invalid f') before e a b = cc
+one_named g sound law o (conflict i n k s) (cycle m) before e a b = cc
+one_named g sound law o (conflict i n k s) (conflict j m l t) before e a b = one_conflict g sound i j n m k l s t a.1 b.1
+one_named g sound law o (conflict i n k s) (implicit_merge j f t p q x) before e a b = cc
+one_named g sound law o (conflict i n k s) (explicit_merge j m t) before e a b = cc
+one_named g sound law o (conflict i n k s) (import_circle j) before e a b = cc
+one_named g sound law o (conflict i n k s) not_yet before e a b = cc
+one_named g sound law o (conflict i n k s) (invalid f') before e a b = cc
+one_named g sound law o (implicit_merge i f s p q x) (cycle m) before e a b = cc
+one_named g sound law o (implicit_merge i f s p q x) (conflict j m l t) before e a b = cc
+one_named g sound law o (implicit_merge i f s p q x) (implicit_merge j t u r v y) before e a b = one_implicit g law i j f s t u p q r v x y a.1 b.1
+one_named g sound law o (implicit_merge i f s p q x) (explicit_merge j n k) before e a b = absurd (not_both g law i j f s n k p q x a.1 b.1)
+one_named g sound law o (implicit_merge i f s p q x) (import_circle j) before e a b = cc
+one_named g sound law o (implicit_merge i f s p q x) not_yet before e a b = cc
+one_named g sound law o (implicit_merge i f s p q x) (invalid f') before e a b = cc
+one_named g sound law o (explicit_merge i n k) (cycle m) before e a b = cc
+one_named g sound law o (explicit_merge i n k) (conflict j m l t) before e a b = cc
+one_named g sound law o (explicit_merge i n k) (implicit_merge j t u r v y) before e a b = absurd (not_both g law j i t u n k r v y b.1 a.1)
+one_named g sound law o (explicit_merge i n k) (explicit_merge j m l) before e a b = one_explicit g law i j n k m l a.1 b.1
+one_named g sound law o (explicit_merge i n k) (import_circle j) before e a b = cc
+one_named g sound law o (explicit_merge i n k) not_yet before e a b = cc
+one_named g sound law o (explicit_merge i n k) (invalid f') before e a b = cc
+one_named g sound law o (import_circle i) (cycle m) before e a b = cc
+one_named g sound law o (import_circle i) (conflict j m l t) before e a b = cc
+one_named g sound law o (import_circle i) (implicit_merge j t u r v y) before e a b = cc
+one_named g sound law o (import_circle i) (explicit_merge j m l) before e a b = cc
+one_named g sound law o (import_circle i) (import_circle j) before e a b = one_circle g law i j (λ p q h. a.0.1 a_disagreement (omega arith) (p, q, h)) a.1 b.1
+one_named g sound law o (import_circle i) not_yet before e a b = cc
+one_named g sound law o (import_circle i) (invalid f') before e a b = cc
+one_named g sound law o not_yet (cycle m) before e a b = cc
+one_named g sound law o not_yet (conflict j m l t) before e a b = cc
+one_named g sound law o not_yet (implicit_merge j t u r v y) before e a b = cc
+one_named g sound law o not_yet (explicit_merge j m l) before e a b = cc
+one_named g sound law o not_yet (import_circle j) before e a b = cc
+one_named g sound law o not_yet not_yet before e a b = refl
+one_named g sound law o not_yet (invalid f') before e a b = cc
+one_named g sound law o (invalid f') b' before e a b = absurd (omega (arith, before))
 
 -- no two causes stand
-pub one_cause : (g : Graph) → IsSound g → OneFault → (o : EncodeOptions) (a b : Cause) → Stands g o a → Stands g o b → a ≡ b
-one_cause g sound law o a b p q = one_named g sound law o a b (same_kind g o (kind_of_cause a) (kind_of_cause b) p.0 q.0) p q
+one_cause : (g : Graph) → IsSound g → OneFault → (o : EncodeOptions) (a b : Cause) → rank (kind_of_cause a) < rank an_invalid_name → Stands g o a → Stands g o b → a ≡ b
+one_cause g sound law o a b before p q = one_named g sound law o a b before (same_kind g o (kind_of_cause a) (kind_of_cause b) p.0 q.0) p q
 
 -- the cause that a refusal names stands
 pub names_cause : (g : Graph) (o : EncodeOptions) (e : EncodeError) → IsRefused g o e → IfSome (cause_of e) (Stands g o)
 names_cause g o e (inl is) = subst (λ x. IfSome (cause_of x) (Stands g o)) (sym is) tt
-names_cause g o e (inr (cause, names, stands)) = subst (λ x. IfSome x (Stands g o)) (sym names) stands
+names_cause g o e (inr (cause, names, before, stands)) = subst (λ x. IfSome x (Stands g o)) (sym names) stands
 
 -- the cause that stands is the one that a refusal names
-pub refused_for : (g : Graph) → IsSound g → OneFault → (o : EncodeOptions) (e : EncodeError) → IsRefused g o e → (cause : Cause) → Stands g o cause → (cause_of e ≡ Some cause) ⊎ (e ≡ error.OutOfMemory)
-refused_for g sound law o e (inl is) cause stands = inr is
-refused_for g sound law o e (inr (named, names, there)) cause stands = inl (names ∙ ap Some (one_cause g sound law o named cause there stands))
+pub refused_for : (g : Graph) → IsSound g → OneFault → (o : EncodeOptions) (e : EncodeError) → IsRefused g o e → (cause : Cause) → Stands g o cause → AnswersFor cause e
+refused_for g sound law o e (inl is) cause stands = inr (inl is)
+refused_for g sound law o e (inr (named, names, before, there)) cause stands = inl (names ∙ ap Some (one_cause g sound law o named cause before there stands))
 
--- where nothing is refused no cause stands
-pub none_stands : (g : Graph) → (o : EncodeOptions) → IsAcyclic g.edges → HasNoConflict g → HasMerge g → AllWritable g → o.define_components ≡ true → (cause : Cause) → Stands g o cause → ⊥
-none_stands g o acyclic apart merges all define cause s = none_there g o acyclic apart merges (none_left g all o define) (kind_of_cause cause) s.0.0
+-- where all is written names alone may be at fault
+abbrev pub IsChecked : Graph → EncodeOptions → Type 0
+IsChecked g o = IsAcyclic g.edges × HasNoConflict g × HasMerge g × (IsNotYet g o → ⊥)
+
+pub checked : (g : Graph) → (o : EncodeOptions) → IsAcyclic g.edges → HasNoConflict g → HasMerge g → AllWritable g → o.define_components ≡ true → IsChecked g o
+checked g o acyclic apart merges all define = (acyclic, apart, merges, none_left g all o define)
+
+-- where the names are valid, or none asks whether they are, no cause stands
+pub none_stands : (g : Graph) → (o : EncodeOptions) → IsChecked g o → (IsTrue o.validate → (fault : names.Fault) → IsOuterFault g o fault → ⊥) → (cause : Cause) → Stands g o cause → ⊥
+none_stands g o h valid cause s = none_there g o h.0 h.1 h.2 h.3 valid (kind_of_cause cause) s.0.0
+
+-- where a size does not fit names alone may be at fault as well
+pub too_large : (g : Graph) → (o : EncodeOptions) → IsChecked g o → (cause : Cause) → Stands g o cause → AnswersFor cause error.TooLarge
+too_large g o h cause s = inr (inr (invalid_alone g o h.0 h.1 h.2 h.3 (kind_of_cause cause) s.0.0, refl))
 
 pub at_not_yet : (g : Graph) (o : EncodeOptions) → IsAcyclic g.edges → HasNoConflict g → HasMerge g → IsNotYet g o → IsRefused g o error.NotYet
-at_not_yet g o acyclic apart merges here = inr (not_yet, refl, stands_not_yet g o acyclic apart merges here)
+at_not_yet g o acyclic apart merges here = inr (not_yet, refl, lit< tt, stands_not_yet g o acyclic apart merges here)
 
 pub at_cycle : (g : Graph) (n : NodeId) → IsLowestOnCycle g.edges n → (o : EncodeOptions) → IsRefused g o (error.GraphContainsCycle n)
-at_cycle g n lowest o = inr (cycle n, refl, stands_cycle g o n lowest)
+at_cycle g n lowest o = inr (cycle n, refl, lit< tt, stands_cycle g o n lowest)
+
+-- a refusal that names no cause is for want of memory or of room
+nameless : (e : EncodeError) → cause_of e ≡ None → (e ≡ error.OutOfMemory) ⊎ (e ≡ error.TooLarge)
+nameless (error.GraphContainsCycle node) h = cc
+nameless (error.ImplicitImportConflict import instantiation key name) h = cc
+nameless (error.ImportTypeMergeConflict import first second (merge.Disagree p q x)) h = cc
+nameless (error.ImportTypeMergeConflict import first second (merge.UseEachOther x)) h = cc
+nameless (error.ImportTypeMergeConflict import first second merge.OutOfMemory) h = cc
+nameless (error.ExplicitImportMergeConflict import node other) h = cc
+nameless (error.ImportsUseEachOther import) h = cc
+nameless error.TooLarge h = inr refl
+nameless error.OutOfMemory h = inl refl
+nameless error.NotYet h = cc
+nameless (error.ValidationFailure fault) h = cc
+
+pub nameless_answers : (g : Graph) → (o : EncodeOptions) → IsChecked g o → (e : EncodeError) → cause_of e ≡ None → (cause : Cause) → Stands g o cause → AnswersFor cause e
+nameless_answers g o h e none cause s = by_error (nameless e none) where
+  by_error : (e ≡ error.OutOfMemory) ⊎ (e ≡ error.TooLarge) → AnswersFor cause e
+  by_error (inl is) = inr (inl is)
+  by_error (inr is) = subst (λ x. AnswersFor cause x) (sym is) (too_large g o h cause s)
 
 -- what a `?` hands on
 pub exit_cause : {A E : Type 0} (P : E → Type 0) (r : Result A E) (e : E) → IsErrAnd r (λ y. y ≡ e) → P e → IfErr r P

@@ -1,5 +1,5 @@
 -- Conflicts, as the fields have them.
-use Rattle.std.proofs.Common.{◌≡◌, ℕ, zero, suc, ◌<◌, ◌≤◌, Bool, true, false, List, [], ◌∷◌, refl, ap, ◌∙◌, sym, subst, arith, Option, Some, None, IfSome, IfNone, IsSomeAnd, inr, length, String, Global, string_bytes}
+use Rattle.std.proofs.Common.{lit<, ◌≡◌, ℕ, zero, suc, ◌<◌, ◌≤◌, Bool, true, false, List, [], ◌∷◌, refl, ap, ◌∙◌, sym, subst, arith, Option, Some, None, IfSome, IfNone, IsSomeAnd, inr, length, String, Global, string_bytes}
 use Rattle.std.specs.Prelude.{slice_get}
 use Rattle.std.specs.Option.{option_map}
 use Rattle.std.specs.Map.{lookup}
@@ -156,7 +156,7 @@ names_first g n i import key f lowest owned = record {
 }
 
 pub refused_first : (g : Graph) → IsAcyclic g.edges → (n : ℕ) (import : NodeId) (e : EncodeError) → (key : Key) × (name : Name) × (cause_of e ≡ Some (conflict import (node_number n) key name)) × IsFirstConflict g import (node_number n) key name → (o : EncodeOptions) → IsRefused g o e
-refused_first g acyclic n import e (key, name, names, first) o = inr (conflict import (node_number n) key name, names, stands_conflict g o import (node_number n) key name acyclic first)
+refused_first g acyclic n import e (key, name, names, first) o = inr (conflict import (node_number n) key name, names, lit< tt, stands_conflict g o import (node_number n) key name acyclic first)
 
 some_within : {X : Type 0} (xs : List X) (j : ℕ) (x : X) → slice_get xs j ≡ Some x → j < length xs
 some_within [] j x h = cc

@@ -26,3 +26,4 @@ pub mod RemovingLemmas
 pub mod RemovedLemmas
 pub mod RemovalLaws
 pub mod SourceLemmas
+pub mod OuterLemmas

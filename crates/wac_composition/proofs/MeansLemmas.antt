@@ -37,7 +37,7 @@ use Rattle.wac_meaning.proofs.DefinedLemmas.{HasNoFirst}
 pub plain : (g : Graph) → AllWritable g → IsPlain g
 plain g all n node there = (all n node there).plain
 
-all_set : (g : Graph) → AllWritable g → AllSet g
+pub all_set : (g : Graph) → AllWritable g → AllSet g
 all_set g all n node there is i small = (all n node there).set is i small
 
 the_node : (o : Option GraphNode) → IsSome o → (node : GraphNode) × (o ≡ Some node)
@@ -45,7 +45,7 @@ the_node None h = cc
 the_node (Some node) h = (node, refl)
 
 -- a node that is no definition has no first name
-no_first : (g : Graph) → IsSound g → IsPlain g → HasNoFirst g
+pub no_first : (g : Graph) → IsSound g → IsPlain g → HasNoFirst g
 no_first g sound plain n node there = split node.first_name refl where
   no_definition : {k : Kind} → (k ≡ graph.instantiation) ⊎ (k ≡ graph.alias) → k ≡ graph.definition → ⊥
   no_definition (inl p) q = cc

@@ -1,5 +1,5 @@
 -- From what merging answers to what `encode` does.
-use Rattle.std.proofs.Common.{◌≡◌, ℕ, zero, suc, ◌<◌, true, false, is_some, List, [], ◌∷◌, length, map, get_or, refl, ap, ◌∙◌, sym, subst, arith, Some, None, Option, IfSome, ◌⊎◌, inl, inr}
+use Rattle.std.proofs.Common.{lit<, ◌≡◌, ℕ, zero, suc, ◌<◌, true, false, is_some, List, [], ◌∷◌, length, map, get_or, refl, ap, ◌∙◌, sym, subst, arith, Some, None, Option, IfSome, ◌⊎◌, inl, inr}
 use Rattle.std.proofs.lemmas.Bool.{eqb-true}
 use Rattle.std.specs.Global.{Global}
 use Rattle.std.specs.Prelude.{slice_get, string_bytes, ◌==◌}
@@ -115,6 +115,7 @@ module _ (g : Graph) (o : EncodeOptions) (acyclic : IsAcyclic g.edges) (apart : 
         inr (
           explicit_merge (string_bytes import) (node_number b.node) (node_number a.node),
           refl,
+          lit< tt,
           stands_explicit g o (string_bytes import) (node_number b.node) (node_number a.node) acyclic apart (record { first = p; second = q; export = text; conflict = conflict_there; asked = asks; name = name; by_node = refl; by_other = refl }),
         )
 
@@ -126,6 +127,7 @@ module _ (g : Graph) (o : EncodeOptions) (acyclic : IsAcyclic g.edges) (apart : 
       inr (
         implicit_merge (string_bytes import) (node_number a.node) (node_number b.node) p q (string_bytes export),
         refl,
+        lit< tt,
         stands_implicit g o (string_bytes import) (node_number a.node) (node_number b.node) p q (string_bytes export) acyclic apart
             (record { conflict = conflict_there p q (string_bytes export) d a b at_a at_b; asked = asks; name = name; by_first = refl; by_second = refl }),
       )
@@ -136,7 +138,7 @@ module _ (g : Graph) (o : EncodeOptions) (acyclic : IsAcyclic g.edges) (apart : 
   circle_refused import (inr (disagree p q x, names, has)) = cc
   circle_refused import (inr (use_each_other name, names, has)) =
       let same : string_bytes import ≡ name = cc in
-      inr (import_circle (string_bytes import), refl, stands_circle g o (string_bytes import) acyclic apart has.0 (subst (λ n. UseEachOther by_names g.types (to_merge (asked_entries g)) n) (sym same) has.1))
+      inr (import_circle (string_bytes import), refl, lit< tt, stands_circle g o (string_bytes import) acyclic apart has.0 (subst (λ n. UseEachOther by_names g.types (to_merge (asked_entries g)) n) (sym same) has.1))
 
 -- a fault that names a disagreement
 pub pair_there : (g : Graph) (p q : ℕ) (export : String Global) → IsFault g.types (to_merge (asked_entries g)) (fault.Disagree p q export) → Disagrees by_names g.types (to_merge (asked_entries g)) p q (string_bytes export)

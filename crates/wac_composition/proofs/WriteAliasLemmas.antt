@@ -32,13 +32,13 @@ use Rattle.wac_nodes.proofs.NodeLemmas.{there, text_pair}
 use Rattle.wac_composition.proofs.EncodingLemmas.{node_is, some_node, if_node}
 use Rattle.wac_composition.proofs.AliasLemmas.{exports_are}
 
-take_at : {A : Type 0} (xs : List A) (i : ℕ) (x : A) → slice_get xs i ≡ Some x → take (suc i) xs ≡ take i xs ++ x ∷ []
+pub take_at : {A : Type 0} (xs : List A) (i : ℕ) (x : A) → slice_get xs i ≡ Some x → take (suc i) xs ≡ take i xs ++ x ∷ []
 take_at [] i x h = cc
 take_at (y ∷ ys) zero x h = let e : y ≡ x = cc in ap (λ z. z ∷ []) e
 take_at (y ∷ ys) (suc i) x h = ap (λ r. y ∷ r) (take_at ys i x h)
 
 -- an entry of the exports is one of the graph's
-entry_at : (a : Inside) (i : ℕ) (name : String Global) (id : NodeId) → Some (name, id) ≡ slice_get a.exports.entries i → slice_get (graph_of a).exports i ≡ Some (string_bytes name, id)
+pub entry_at : (a : Inside) (i : ℕ) (name : String Global) (id : NodeId) → Some (name, id) ≡ slice_get a.exports.entries i → slice_get (graph_of a).exports i ≡ Some (string_bytes name, id)
 entry_at a i name id h = slice_get-map (λ e. text_pair e) a.exports.entries i ∙ ap (option_map (λ e. text_pair e)) (sym h)
 
 -- an exported node is there

@@ -16,11 +16,13 @@ ghost use Rattle.wac_nodes.specs.Graph.{node_at, imports_of, instantiation, alia
 ghost use Rattle.wac_meaning.specs.Means.{Means, is_there, sort_of_kind, export_item_of, custom_item, name_customs, AreNames, processor_customs};
 ghost use Rattle.wac_meaning.specs.Encoding.{WritesNode, AreArgumentItems, Wrote, WroteAll, HasRoom, index_in};
 ghost use Rattle.std.specs.Result.{IsErrAnd};
-ghost use Rattle.wac_causes.specs.Cause.{Cause, cause_of, Stands};
+ghost use Rattle.wac_causes.specs.Cause.{AnswersFor, Cause, cause_of, Stands};
+ghost use Rattle.wac_causes.specs.OuterNames.{export_names, import_names};
 ghost use Rattle.wac_causes.specs.Search.{IsRefused};
 ghost use Rattle.wac_causes.specs.NotYet.{IsNotYet, IsWritable, AllWritable};
 ghost use Rattle.wac_edges.specs.Order.{Writes, IsOnCycle, IsAcyclic};
 ghost use Rattle.wac_nodes.specs.declared.options.EncodeOptions.{EncodeOptions as Asked};
+ghost use Rattle.wac_validation.specs.Valid.{AreValid};
 
 use crate::graph::CompositionGraph;
 use indexmap::IndexMap;
@@ -54,11 +56,13 @@ impl CompositionGraph {
     /// `ImportTypeMergeConflict` where an instantiation asks for it and `ExplicitImportMergeConflict` where it is an import
     /// node; else `ImportsUseEachOther` where imports rest on each other in a circle; else `NotYet` where an argument is not
     /// set, a node is an import, or the options ask for imported components; else `TooLarge` where a size
-    /// does not fit 32 bits. Where memory ran out it answers `OutOfMemory`.
+    /// does not fit 32 bits; else, where the options ask for it, `ValidationFailure` where the outer names may not stand
+    /// together, with their first fault. Where memory ran out it answers `OutOfMemory`.
     pub fn encode(&self, options: EncodeOptions<'_>) -> Result<Vec<u8>, EncodeError>
         ensures means { IfOk result (λ bytes. (items : List AnItem) × (bytes.items ≡ bytes_of items) × Means items self.now options.entry) }
         ensures cause { IfErr result (λ e. IfSome (cause_of e) (Stands self.now options.entry)) }
-        ensures refused { (cause : Cause) → Stands self.now options.entry cause → IsErrAnd result (λ e. (cause_of e ≡ Some cause) ⊎ (e ≡ EncodeError.OutOfMemory)) }
+        ensures refused { (cause : Cause) → Stands self.now options.entry cause → IsErrAnd result (AnswersFor cause) }
+        ensures valid { IfOk result (λ bytes. IsTrue options.entry.validate → (items : List AnItem) × (bytes.items ≡ bytes_of items) × AreValid (import_names items) (export_names items)) }
     {
         wac_binary::law();
         fault_law();
@@ -74,7 +78,9 @@ impl CompositionGraph {
         self.write_exports(&mut encoder)?;
         self.write_names(&mut encoder)?;
         encoder.write_processor(options.processor)?;
-        Ok(encoder.builder.into_bytes()?)
+        let bytes = encoder.builder.into_bytes()?;
+        self.check_names(options.validate)?;
+        Ok(bytes)
     }
 
     /// The nodes, each the lowest of those that are left to which no edge leads from one that is left.

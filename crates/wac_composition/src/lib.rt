@@ -19,6 +19,7 @@ mod merging;
 mod naming;
 mod removing;
 mod sources;
+mod validating;
 
 pub use arguments_of::Arguments;
 pub use graph::CompositionGraph;

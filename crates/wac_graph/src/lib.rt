@@ -14,3 +14,4 @@ pub use wac_nodes::{
 };
 pub use wac_plug::{PlugError, PlugFault, plug};
 pub use wac_types as types;
+pub use wac_validation::ValidationFault;

@@ -1,11 +1,11 @@
 -- What an aggregator holds.
-use Rattle.std.specs.Prelude.{ℕ, ◌≡◌, Bool, false, List, [], ◌⊎◌, Some}
+use Rattle.std.specs.Prelude.{ℕ, ◌≡◌, Bool, false, List, [], ◌⊎◌, IsSome, Some, slice_get}
 use Rattle.wac_shapes.specs.Name.{Name}
 use Rattle.wac_collection.specs.Collection.{Collection, empty}
 use Rattle.wac_entries.specs.Bindings.{AreBindings, AreHeld, ClassBindings}
-use Rattle.wac_entries.specs.Classes.{AreClasses, Entry, by_names}
+use Rattle.wac_entries.specs.Classes.{AreClasses, Entry, by_names, canonical, class_names}
 use Rattle.wac_agreement.specs.Faults.{Fault, HasFault, fault_of}
-use Rattle.wac_terms.specs.Merge.{Merged}
+use Rattle.wac_terms.specs.Merge.{Merged, import_under}
 use Rattle.wac_agreement.specs.declared.fault.MergeFault.{MergeFault}
 use Rattle.wac_agreement.specs.declared.fault.MergeFault.TheVariants.{OutOfMemory}
 
@@ -27,8 +27,9 @@ unmerged es = record { entries = es; is_finished = false; merge = nothing }
 abbrev pub IsFault : Collection → List Entry → MergeFault → Type 0
 IsFault c es e = (e ≡ OutOfMemory) ⊎ ((fault : Fault) × (fault_of e ≡ Some fault) × HasFault by_names c es fault)
 
--- the entries are held, and what is kept of their classes and of what these bind
+-- the entries are held, what is kept of their classes and of what these bind is that, and each class is imported
 pub record AreKnown (m : Merged) (es : List Entry) (numbers positions : List ℕ) (names : List (Name × ℕ)) (b : ClassBindings) : Type 0 where
   pub held : AreHeld m.types es
   pub classes : AreClasses by_names es numbers positions names
   pub bindings : AreBindings m.types es b
+  pub imported : (k : ℕ) (class : Name) → slice_get (class_names by_names es) k ≡ Some class → IsSome (import_under m.imports (canonical by_names es class))

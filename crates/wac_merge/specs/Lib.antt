@@ -1,2 +1,3 @@
 pub mod Aggregate
+pub mod MergedPlaces
 pub mod OrderLaws

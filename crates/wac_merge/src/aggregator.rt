@@ -1,10 +1,14 @@
 //! The collector of imports that are asked for.
-ghost use Rattle.std.specs.Prelude.{Contains, ℕ, ◌≡◌, ◌<◌, ◌∷◌, ◌++◌, ◌⊎◌, ◌↔◌, [], length, slice_get, IfOk, IfErr, IfSome, OnOk, Some, true};
+ghost use Rattle.std.specs.Prelude.{Contains, ℕ, ◌≡◌, ◌<◌, ◌∷◌, ◌++◌, ◌⊎◌, ◌↔◌, [], length, slice_get, IfOk, IfErr, IfSome, OnOk, None, Some, true};
+ghost use Rattle.std.specs.Option.{MatchOption};
 ghost use Rattle.std.specs.Result.{IsErrAnd};
 ghost use Rattle.wac_collection.specs.Collection.{holds_type};
 ghost use Rattle.wac_shapes.specs.Kinds.{kind_type};
 ghost use Rattle.wac_shapes.specs.Name.{Name as AName};
 ghost use Rattle.wac_merge.specs.Aggregate.{IsFault, unmerged};
+ghost use Rattle.wac_merge.specs.MergedPlaces.{IsRootPlace, MentionsBefore};
+ghost use Rattle.wac_entries.specs.Binding.{binding_class};
+ghost use Rattle.wac_entries.specs.CalledViews.{path_view};
 ghost use Rattle.wac_entries.specs.Agreement.{AllMembersAgree};
 ghost use Rattle.wac_entries.specs.Bindings.{AreBindings, AreHeld};
 ghost use Rattle.wac_terms.specs.ClassOrder.{IsWrittenOrder};
@@ -106,7 +110,8 @@ impl TypeAggregator {
     ///
     /// Answers one import for each class, under its canonical name, in the order in which they are written, with the
     /// collection of their types, which holds each: the items of the entries' collection, which mean what they meant, and behind
-    /// them what is merged. Each import is a subtype of each entry of its class. Value types have one id for each named type.
+    /// them what is merged. Each import is a subtype of each entry of its class, and mentions no resource that an import behind
+    /// it binds. Value types have one id for each named type.
     ///
     /// Answers `Disagree` exactly where two entries of one class do not agree, with the first that does not and the first
     /// that it disagrees with; else `UseEachOther` where classes rest on each other in a circle, with the one that is asked
@@ -117,6 +122,7 @@ impl TypeAggregator {
         ensures merged { IfOk result (λ a. IsMerge by_names types.now self.entries a.merge) }
         ensures bound { IfOk result (λ a. BindsAsClasses by_names types.now self.entries a.merge) }
         ensures once { IfOk result (λ a. HasOneIdEach types.now self.entries a.merge) }
+        ensures before { IfOk result (λ a. MentionsBefore by_names a.merge) }
         ensures kept { IfOk result (λ a. IsKeptBy types.now a.merge.types) }
         ensures meant { IfOk result (λ a. KeepsTrees types.now a.merge.types) }
         ensures held { IfOk result (λ a. AreHeld a.merge.types a.merge.imports) }
@@ -180,6 +186,24 @@ impl TypeAggregator {
             return None;
         }
         self.own_resource(id, name)
+    }
+
+    /// Of a finished aggregator, where a resource of the entries' collection is bound at the root: the position of the import of
+    /// the first class, in the order in which classes are asked for, that binds it, and the path of names in that import, which
+    /// is empty where the import is the resource; none where no class binds it.
+    pub fn root_binding(&self, resource: ResourceId) -> Option<(usize, &[String])>
+        requires { self.now.is_finished ≡ true }
+        ensures { MatchOption result (binding_class by_names self.now.merge.types self.now.entries resource ≡ None) (λ b. IsRootPlace by_names self.now.entries self.now.merge resource b.0 (path_view b.1.now)) }
+    {
+        let Some(finished) = &self.finished else {
+            unreachable!()
+        };
+        let (class, path) = finished.bindings.first(resource)?;
+        let name = self.entries[finished.classes.positions()[class]].name();
+        match finished.merged.imports.get_full(name) {
+            Some((position, _)) => Some((position, path)),
+            None => unreachable!(),
+        }
     }
 
     /// Of a finished aggregator, whether the class of a name binds a resource under another.

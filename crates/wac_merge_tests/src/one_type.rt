@@ -197,6 +197,26 @@ fn types_of_two_names_are_two(rt: HostRuntime) -> Result<(), Fail> {
     Ok(())
 }
 
+#[test]
+fn types_of_two_interfaces_are_two(rt: HostRuntime) -> Result<(), Fail> {
+    let alloc = rt.alloc();
+    let mut types = Types::new(alloc);
+    let one = enumeration(&mut types, alloc)?;
+    let one = aliased(&mut types, one)?;
+    let other = enumeration(&mut types, alloc)?;
+    let other = aliased(&mut types, other)?;
+    let i = instance(&mut types, alloc, "n:p/i", &[], &[("t", one)])?;
+    let j = instance(&mut types, alloc, "n:p/j", &[], &[("t", other)])?;
+    let asked = [
+        ("n:p/i", ItemKind::Instance(i)),
+        ("n:p/j", ItemKind::Instance(j)),
+    ];
+    let merged = merge(alloc, &rt, &types, &asked)?;
+    let of_i = merged_definition(&rt, &merged, "n:p/i", "t")?;
+    assert!(rt; merged_definition(&rt, &merged, "n:p/j", "t")? != of_i);
+    Ok(())
+}
+
 // In each of two classes a resource of its own, a handle to it in a record that has one name.
 #[test]
 fn a_type_of_another_resource_is_another(rt: HostRuntime) -> Result<(), Fail> {

@@ -27,7 +27,7 @@ use Rattle.wac_terms.specs.declared.parts.Export.{Export}
 use Rattle.wac_terms.specs.declared.parts.Part.{Part}
 use Rattle.wac_terms.specs.declared.parts.Union.{Union}
 use Rattle.wac_terms.proofs.Found.{mapped_length}
-use Rattle.wac_values.specs.NamedTypes.{IsOneType, named_type}
+use Rattle.wac_values.specs.NamedTypes.{named_type}
 use Rattle.wac_values.specs.declared.named.NamedTypes.{NamedTypes}
 use Rattle.wac_renaming.specs.Made.{IsFuncMadeOf, IsKindMadeOf, IsMadeFor, IsMadeOf, StayMade, alias, anew, other_name, plain}
 use Rattle.wac_renaming.specs.declared.made.Made.{Made}
@@ -208,11 +208,11 @@ module _ (c m : Collection) (es : List Entry) (us : List Union) (ps : List Part)
   for-mention : (d a : DefinedTypeId) → Mention (val.Defined d) (val.Defined a) → another c d ≡ None → IsAnew c m t once.made d a
   for-mention d a h none = made-anew c m t once.made (val.Defined d) (val.Defined a) d a refl refl none (mention-made (val.Defined d) (val.Defined a) h)
 
-  pub one-id : (d e a b : DefinedTypeId) (x : DefinedType) → Mention (val.Defined d) (val.Defined a) → Mention (val.Defined e) (val.Defined b) → another c d ≡ None → another c e ≡ None → IsOneType t d e → item_at m.defined a.0 ≡ Some x → item_at m.defined b.0 ≡ Some x → a ≡ b
-  one-id d e a b x one other end_d end_e (first, named_d, named_e) at_a at_b =
+  pub one-id : (d e a b : DefinedTypeId) (x : DefinedType) → Mention (val.Defined d) (val.Defined a) → Mention (val.Defined e) (val.Defined b) → another c d ≡ None → another c e ≡ None → named_type t d ≡ named_type t e → item_at m.defined a.0 ≡ Some x → item_at m.defined b.0 ≡ Some x → a ≡ b
+  one-id d e a b x one other end_d end_e alike at_a at_b =
       let (p, np, sp, ip) = (for-mention d a one end_d).made_for in
       let (q, nq, sq, iq) = (for-mention e b other end_e).made_for in
-      let named = np ∙ named_d ∙ sym named_e ∙ sym nq in
+      let named = np ∙ alike ∙ sym nq in
       let shapes = one-some _ _ (sym (once.are.there p a ip) ∙ at_a ∙ sym at_b ∙ once.are.there q b iq) in
       one-some a b (sym ip ∙ made_alike once.made p q named shapes ∙ iq)
 

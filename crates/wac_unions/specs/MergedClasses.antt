@@ -1,4 +1,4 @@
--- What the classes of entries became in a merged collection. Private functions alone cite this.
+-- What the classes of entries became in a merged collection.
 use Rattle.std.specs.Prelude.{ℕ, ◌≡◌, ◌<◌, ◌≤◌, Bool, true, false, List, [], ◌∷◌, ◌++◌, fold, length, map, Option, Some, None, slice_get}
 use Rattle.std.specs.List.{list_any}
 use Rattle.std.specs.Option.{MatchOption}

@@ -1,5 +1,5 @@
 -- One id for one named type.
-use Rattle.std.specs.Prelude.{ℕ, ◌≡◌, List, [], ◌∷◌, Option, Some, None, slice_get}
+use Rattle.std.specs.Prelude.{ℕ, ◌≡◌, ◌↔◌, List, [], ◌∷◌, Option, Some, None, slice_get}
 use Rattle.wac_shapes.specs.Name.{Name, option_case}
 use Rattle.wac_shapes.specs.declared.component.DefinedType.{DefinedType}
 use Rattle.wac_shapes.specs.declared.component.DefinedTypeId.{DefinedTypeId}
@@ -19,7 +19,7 @@ use Rattle.wac_terms.specs.declared.fresh.Fresh.{Fresh}
 use Rattle.wac_terms.specs.declared.parts.Export.{Export}
 use Rattle.wac_terms.specs.declared.parts.Part.{Part}
 use Rattle.wac_terms.specs.declared.parts.Union.{Union}
-use Rattle.wac_values.specs.NamedTypes.{AreClassed, AreUnited, IsOneType, named_type}
+use Rattle.wac_values.specs.NamedTypes.{AreClassed, AreNamedAlike, AreUnited, IsOneType, named_type}
 use Rattle.wac_values.specs.declared.named.NamedTypes.{NamedTypes}
 use Rattle.wac_renaming.specs.Made.{AreMade, other_name}
 use Rattle.wac_renaming.specs.declared.made.Made.{Made}
@@ -60,8 +60,8 @@ pub record AreMadeOnce (c m : Collection) (es : List Entry) (us : List Union) (p
   pub unions : AreUnionsMadeOf c m t made us written.ws
   pub imported : AreImportsMadeOf c m t made es positions order imports
 
--- The unions of what entries list, and the interfaces and imports that they became, where what stands under one name of one union is one named type, and so are the entries of one class.
--- Two mentions of one named type that have equal definitions in the merged collection have one id, and mentions that have one id are one named type, or of none both.
+-- The unions of what entries list, and the interfaces and imports that they became. What stands under one name of one union is one named type, and so are the entries of one class; no others are.
+-- Two mentions with equal definitions in the merged collection have one id exactly where they are one named type, or stand under no name both.
 pub record HasOneIdEach (c : Collection) (es : List Entry) (m : Merged) : Type 0 where
   pub us : List Union
   pub ps : List Part
@@ -77,7 +77,8 @@ pub record HasOneIdEach (c : Collection) (es : List Entry) (m : Merged) : Type 0
   pub written : AreWrittenImports c m.types es us ps bs f order m.imports
   pub united : AreUnited c us ps t
   pub classed : AreClassed c es numbers positions t
+  pub named : (a b : DefinedTypeId) → IsOneType t a b ↔ AreNamedAlike c us ps es numbers positions a b
   pub one : (d e a b : DefinedTypeId) (x : DefinedType) → Became c m.types es m.imports us written.ws positions order (val.Defined d) (val.Defined a) → Became c m.types es m.imports us written.ws positions order (val.Defined e) (val.Defined b)
-      → another c d ≡ None → another c e ≡ None → IsOneType t d e → item_at m.types.defined a.0 ≡ Some x → item_at m.types.defined b.0 ≡ Some x → a ≡ b
+      → another c d ≡ None → another c e ≡ None → named_type t d ≡ named_type t e → item_at m.types.defined a.0 ≡ Some x → item_at m.types.defined b.0 ≡ Some x → a ≡ b
   pub apart : (d e a : DefinedTypeId) → Became c m.types es m.imports us written.ws positions order (val.Defined d) (val.Defined a) → Became c m.types es m.imports us written.ws positions order (val.Defined e) (val.Defined a)
       → another c d ≡ None → another c e ≡ None → named_type t d ≡ named_type t e

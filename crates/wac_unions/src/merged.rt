@@ -4,6 +4,7 @@ ghost use Rattle.std.specs.Option.{option_map};
 ghost use Rattle.wac_collection.specs.Collection.{HasInterface, holds_type};
 ghost use Rattle.wac_shapes.specs.Kinds.{kind_type};
 ghost use Rattle.wac_shapes.specs.Name.{Name as AName};
+ghost use Rattle.wac_shapes.specs.declared.component.DefinedTypeId.{DefinedTypeId as Defined};
 ghost use Rattle.wac_shapes.specs.declared.component.InterfaceId.{InterfaceId as AnId};
 ghost use Rattle.wac_entries.specs.Agreement.{AllMembersAgree};
 ghost use Rattle.wac_terms.specs.Became.{AreFresh};
@@ -23,7 +24,7 @@ ghost use Rattle.wac_terms.specs.Unions.{AreUnions};
 ghost use Rattle.wac_terms.specs.Writing.{IsGiven};
 ghost use Rattle.wac_terms.specs.declared.parts.Part.{Part as APart};
 ghost use Rattle.wac_terms.specs.declared.parts.Union.{Union as AUnion};
-ghost use Rattle.wac_values.specs.NamedTypes.{AreClassed, AreUnited};
+ghost use Rattle.wac_values.specs.NamedTypes.{AreClassed, AreNamedAlike, AreUnited, IsOneType};
 ghost use Rattle.wac_names.specs.Reading.{read_track};
 ghost use Rattle.wac_names.specs.Views.{track_view};
 
@@ -321,6 +322,7 @@ fn named_in(
     requires held { (p : ℕ) (x : APart) → slice_get unions.now.parts.items p ≡ Some x → HasInterface types.now x.interface }
     ensures united { IfOk result (λ t. AreUnited types.now unions.now.unions.items unions.now.parts.items t) }
     ensures classed { IfOk result (λ t. AreClassed types.now entries.now classes.now.numbers.items classes.now.positions.items t) }
+    ensures named { IfOk result (λ t. (a b : Defined) → IsOneType t a b ↔ AreNamedAlike types.now unions.now.unions.items unions.now.parts.items entries.now classes.now.numbers.items classes.now.positions.items a b) }
 {
     let parts = unions.parts.as_slice();
     named_types(

@@ -1,6 +1,6 @@
 -- What a join of two definitions leaves.
 use Rattle.std.proofs.Common.{◌≡◌, ℕ, zero, suc, ◌<◌, ◌≤◌, Bool, true, false, cond, ◌||◌, nat_eq, nat_lt, is_some, Option, Some, None, refl, sym, ap, ◌∙◌, subst, ◌⊎◌, inl, inr, arith}
-use Rattle.std.proofs.lemmas.Bool.{cases_Bool, eqb-true, eq-eqb, ltb-true, ltb-false, lt-ltb, le-ltb}
+use Rattle.std.proofs.lemmas.Bool.{cases_Bool, eq-eqb, ltb-true, ltb-false, lt-ltb, le-ltb}
 use Rattle.wac_shapes.specs.Name.{option_case}
 use Rattle.wac_shapes.specs.declared.component.DefinedTypeId.{DefinedTypeId}
 use Rattle.wac_values.specs.NamedTypes.{back, lower}
@@ -201,7 +201,7 @@ lower-low x y = elim (cases_Bool (nat_lt y.0 x.0)) [
       (rw is (omega arith), rw is low)
 ]
 
-lower-one : (x y : DefinedTypeId) → (lower x y ≡ x) ⊎ (lower x y ≡ y)
+pub lower-one : (x y : DefinedTypeId) → (lower x y ≡ x) ⊎ (lower x y ≡ y)
 lower-one x y = elim (cases_Bool (nat_lt y.0 x.0)) [
   | inl less ↦ inr (ap (λ b. cond b y x) less)
   | inr more ↦ inl (ap (λ b. cond b y x) more)
@@ -309,7 +309,7 @@ Same f a b = (r : DefinedTypeId) × (name_in f a ≡ Some r) × (name_in f b ≡
 named-there : (f : Links) (d r : DefinedTypeId) → is_some (f d) ≡ true → first f d ≡ r → name_in f d ≡ Some r
 named-there f d r s e = ap (λ b. cond b (Some (first f d)) None) s ∙ ap Some e
 
-there-named : (f : Links) (d r : DefinedTypeId) → name_in f d ≡ Some r → (is_some (f d) ≡ true) × (first f d ≡ r)
+pub there-named : (f : Links) (d r : DefinedTypeId) → name_in f d ≡ Some r → (is_some (f d) ≡ true) × (first f d ≡ r)
 there-named f d r e = by (is_some (f d)) e where
   by : (b : Bool) → cond b (Some (first f d)) None ≡ Some r → (b ≡ true) × (first f d ≡ r)
   by true e = (refl, same_some (first f d) r e)
@@ -376,3 +376,32 @@ joins f0 f1 f2 f3 f4 a b x y z ex ey ez put1 put2 put3 put4 =
       one = joined-one f0 f1 f2 f3 f4 a b p1 p2 p3 p4;
       stay = joined-stay f0 f1 f2 f3 f4 a b p1 p2 p3 p4;
     }
+
+puts-else : (f g : Links) (p z : DefinedTypeId) → Puts f p z g → (d : DefinedTypeId) → is_some (g d) ≡ true → (d ≡ p) ⊎ (is_some (f d) ≡ true)
+puts-else f g p z put d s = elim (cases_Bool (nat_eq p.0 d.0)) [
+  | inl e ↦ inl (sym (same_id p d e))
+  | inr e ↦ inr (sym (ap is_some (put d ∙ ap (λ b. cond b (Some z) (f d)) e)) ∙ s)
+]
+
+-- what stands under a name after four puts
+pub data FourPut (f : Links) (p q a b d : DefinedTypeId) : Type 0 where
+  p1 : d ≡ p → FourPut f p q a b d
+  p2 : d ≡ q → FourPut f p q a b d
+  p3 : d ≡ a → FourPut f p q a b d
+  p4 : d ≡ b → FourPut f p q a b d
+  p0 : is_some (f d) ≡ true → FourPut f p q a b d
+
+pub four-put : (f0 f1 f2 f3 f4 : Links) (p q a b z : DefinedTypeId) → Puts f0 p z f1 → Puts f1 q z f2 → Puts f2 a z f3 → Puts f3 b z f4 → (d : DefinedTypeId) → is_some (f4 d) ≡ true → FourPut f0 p q a b d
+four-put f0 f1 f2 f3 f4 p q a b z put1 put2 put3 put4 d s = elim (puts-else f3 f4 b z put4 d s) [
+  | inl e ↦ p4 e
+  | inr s3 ↦ elim (puts-else f2 f3 a z put3 d s3) [
+    | inl e ↦ p3 e
+    | inr s2 ↦ elim (puts-else f1 f2 q z put2 d s2) [
+      | inl e ↦ p2 e
+      | inr s1 ↦ elim (puts-else f0 f1 p z put1 d s1) [
+        | inl e ↦ p1 e
+        | inr s0 ↦ p0 s0
+      ]
+    ]
+  ]
+]

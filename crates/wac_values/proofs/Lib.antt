@@ -4,3 +4,4 @@ pub mod Listings
 pub mod Seen
 pub mod Joins
 pub mod Joining
+pub mod Links

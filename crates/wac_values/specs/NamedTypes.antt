@@ -1,5 +1,5 @@
 -- Which definitions are one named type.
-use Rattle.std.specs.Prelude.{◌≡◌, ℕ, zero, suc, nat_eq, nat_lt, cond, ◌||◌, if◌then◌else◌, is_some, List, Option, Some, None, slice_get}
+use Rattle.std.specs.Prelude.{◌≡◌, ◌⊎◌, ℕ, zero, suc, nat_eq, nat_lt, cond, true, ◌||◌, if◌then◌else◌, is_some, List, Option, Some, None, slice_get}
 use Rattle.std.specs.HashMap.{get}
 use Rattle.wac_shapes.specs.Name.{Name, find_name, option_case}
 use Rattle.wac_collection.specs.Collection.{Collection, interface_exports}
@@ -68,3 +68,61 @@ class_value c es numbers positions i = option_case (slice_get numbers i) None (�
 -- each entry is one named type with its class
 abbrev pub AreClassed : Collection → List Entry → List ℕ → List ℕ → NamedTypes → Type 0
 AreClassed c es numbers positions t = (i : ℕ) (e : Entry) (a b : DefinedTypeId) → slice_get es i ≡ Some e → class_value c es numbers positions i ≡ Some a → listed_value c e.kind ≡ Some b → IsOneType t a b
+
+-- ---- which are one named type, and no others
+
+-- what is listed, with what stands under the name in a union, and with itself
+abbrev pub IsListedWith : Collection → List (Name × Export) → Name → ItemKind → DefinedTypeId → DefinedTypeId → Type 0
+IsListedWith c union n k a b = (listed_value c k ≡ Some b) × ((a ≡ b) ⊎ ((e : Export) × (find_name union n ≡ Some e) × (listed_value c e.kind ≡ Some a)))
+
+-- so for one of those that are listed
+abbrev pub IsListedIn : Collection → List (Name × Export) → List (Name × ItemKind) → DefinedTypeId → DefinedTypeId → Type 0
+IsListedIn c union es a b = (i : ℕ) × (n : Name) × (k : ItemKind) × (slice_get es i ≡ Some (n, k)) × IsListedWith c union n k a b
+
+-- so for what a part lists, in its union
+abbrev pub IsListedBy : Collection → List Union → Part → DefinedTypeId → DefinedTypeId → Type 0
+IsListedBy c us x a b = (u : Union) × (slice_get us x.union ≡ Some u) × IsListedIn c u.exports (interface_exports c x.interface) a b
+
+-- so for one of the parts
+abbrev pub IsUnited : Collection → List Union → List Part → DefinedTypeId → DefinedTypeId → Type 0
+IsUnited c us ps a b = (p : ℕ) × (x : Part) × (slice_get ps p ≡ Some x) × IsListedBy c us x a b
+
+-- what an entry is, with what its class is, and with itself
+abbrev pub IsAskedWith : Collection → ItemKind → Option DefinedTypeId → DefinedTypeId → DefinedTypeId → Type 0
+IsAskedWith c k class a b = (listed_value c k ≡ Some b) × ((a ≡ b) ⊎ (class ≡ Some a))
+
+-- so for one of the entries
+abbrev pub IsClassed : Collection → List Entry → List ℕ → List ℕ → DefinedTypeId → DefinedTypeId → Type 0
+IsClassed c es numbers positions a b = (i : ℕ) × (e : Entry) × (slice_get es i ≡ Some e) × IsAskedWith c e.kind (class_value c es numbers positions i) a b
+
+-- two definitions are linked by pairs: a chain of pairs, each either way round, leads from one to the other
+pub data AreLinked (P : DefinedTypeId → DefinedTypeId → Type 0) : DefinedTypeId → DefinedTypeId → Type 0 where
+  pair : (a b : DefinedTypeId) → P a b → AreLinked P a b
+  turned : (a b : DefinedTypeId) → AreLinked P a b → AreLinked P b a
+  chain : (a d b : DefinedTypeId) → AreLinked P a d → AreLinked P d b → AreLinked P a b
+
+-- two definitions are one named type by what parts list and what entries are; one that stands under no name is none, not even with itself
+abbrev pub AreNamedAlike : Collection → List Union → List Part → List Entry → List ℕ → List ℕ → DefinedTypeId → DefinedTypeId → Type 0
+AreNamedAlike c us ps es numbers positions = AreLinked (λ a b. IsUnited c us ps a b ⊎ IsClassed c es numbers positions a b)
+
+-- ---- joins, one after another
+
+-- each of these pairs is one named type
+abbrev pub AreAllOne : (DefinedTypeId → DefinedTypeId → Type 0) → NamedTypes → Type 0
+AreAllOne P t = (a b : DefinedTypeId) → P a b → IsOneType t a b
+
+-- what stands under a name once two are joined: either, the first of either, or what stood before
+pub data IsTouched (t : NamedTypes) (a b d : DefinedTypeId) : Type 0 where
+  at_one : d ≡ a → IsTouched t a b d
+  at_other : d ≡ b → IsTouched t a b d
+  first_of_one : d ≡ first_of t a → IsTouched t a b d
+  first_of_other : d ≡ first_of t b → IsTouched t a b d
+  stood : is_some (earlier_of t d) ≡ true → IsTouched t a b d
+
+abbrev pub TouchesOnly : NamedTypes → DefinedTypeId → DefinedTypeId → NamedTypes → Type 0
+TouchesOnly old a b new = (d : DefinedTypeId) → is_some (earlier_of new d) ≡ true → IsTouched old a b d
+
+-- one table is another after these pairs alone were joined
+pub data JoinsAlong (P : DefinedTypeId → DefinedTypeId → Type 0) (old : NamedTypes) : NamedTypes → Type 0 where
+  no_join : JoinsAlong P old old
+  one_join : (mid new : NamedTypes) (a b : DefinedTypeId) → JoinsAlong P old mid → P a b → AreJoined mid a b new → TouchesOnly mid a b new → JoinsAlong P old new

@@ -1,13 +1,12 @@
 //! Which definitions are one named type.
-ghost use Rattle.std.specs.Prelude.{◌≡◌, ℕ, Some, None, IfOk, OnOk, slice_get};
+ghost use Rattle.std.specs.Prelude.{◌≡◌, ◌⊎◌, ◌↔◌, ℕ, Some, None, IfOk, OnOk, slice_get};
 ghost use Rattle.wac_collection.specs.Collection.{HasInterface, interface_exports};
 ghost use Rattle.wac_shapes.specs.Name.{find_name};
 ghost use Rattle.wac_shapes.specs.declared.component.DefinedTypeId.{DefinedTypeId as Defined};
 ghost use Rattle.wac_terms.specs.Values.{listed_value};
 ghost use Rattle.wac_terms.specs.declared.parts.Export.{Export as AnExport};
 ghost use Rattle.wac_terms.specs.declared.parts.Part.{Part as APart};
-ghost use Rattle.wac_terms.specs.declared.parts.Union.{Union as AUnion};
-ghost use Rattle.wac_values.specs.NamedTypes.{AreClassed, AreJoined, AreUnited, IsOneType, IsOneWith, ListsOne, PutsBefore, StayOne, class_value, earlier_of, first_of, lower, named_type};
+ghost use Rattle.wac_values.specs.NamedTypes.{AreAllOne, AreClassed, AreJoined, AreNamedAlike, AreUnited, IsAskedWith, IsClassed, IsListedBy, IsListedIn, IsListedWith, IsOneType, IsUnited, JoinsAlong, PutsBefore, StayOne, TouchesOnly, class_value, earlier_of, first_of, lower, named_type};
 
 use crate::listed::listed_value;
 use std::alloc::{AllocError, Global};
@@ -89,6 +88,7 @@ impl NamedTypes {
         ensures joined { OnOk result (AreJoined self.old one other self.new) }
         ensures one { OnOk result (IsOneType self.new one other) }
         ensures stay { OnOk result (StayOne self.old self.new) }
+        ensures only { OnOk result (TouchesOnly self.old one other self.new) }
     {
         let first_of_one = self.first(one);
         let first_of_other = self.first(other);
@@ -103,7 +103,8 @@ impl NamedTypes {
 
 /// The value type that stands under a name in a union, and where none does this one.
 fn standing(types: &Types, union: &Union, name: &str, value: DefinedTypeId) -> DefinedTypeId
-    ensures { (e : AnExport) (d : Defined) → find_name union.now.exports name.now ≡ Some e → listed_value types.now e.kind ≡ Some d → result ≡ d }
+    ensures first { (e : AnExport) (d : Defined) → find_name union.now.exports name.now ≡ Some e → listed_value types.now e.kind ≡ Some d → result ≡ d }
+    ensures found { (result ≡ value) ⊎ ((e : AnExport) × (find_name union.now.exports name.now ≡ Some e) × (listed_value types.now e.kind ≡ Some result)) }
 {
     match union.exports.get(name) {
         Some(export) => match listed_value(types, export.kind) {
@@ -122,7 +123,8 @@ fn join_listed(
     name: &str,
     kind: ItemKind,
 ) -> Result<(), AllocError>
-    ensures one { OnOk result (IsOneWith types.now union.now.exports name.now kind named.new) }
+    ensures one { OnOk result (AreAllOne (IsListedWith types.now union.now.exports name.now kind) named.new) }
+    ensures along { OnOk result (JoinsAlong (IsListedWith types.now union.now.exports name.now kind) named.old named.new) }
     ensures stay { OnOk result (StayOne named.old named.new) }
 {
     let Some(value) = listed_value(types, kind) else {
@@ -141,7 +143,8 @@ fn join_part(
     part: &Part,
 ) -> Result<(), AllocError>
     requires { HasInterface types.now part.now.interface }
-    ensures one { OnOk result (ListsOne types.now union.now.exports (interface_exports types.now part.now.interface) named.new) }
+    ensures one { OnOk result (AreAllOne (IsListedIn types.now union.now.exports (interface_exports types.now part.now.interface)) named.new) }
+    ensures along { OnOk result (JoinsAlong (IsListedIn types.now union.now.exports (interface_exports types.now part.now.interface)) named.old named.new) }
     ensures stay { OnOk result (StayOne named.old named.new) }
 {
     let exports = &types[part.interface].exports;
@@ -160,7 +163,8 @@ fn join_in_union(
     part: &Part,
 ) -> Result<(), AllocError>
     requires { HasInterface types.now part.now.interface }
-    ensures one { OnOk result ((u : AUnion) → slice_get unions.now part.now.union ≡ Some u → ListsOne types.now u.exports (interface_exports types.now part.now.interface) named.new) }
+    ensures one { OnOk result (AreAllOne (IsListedBy types.now unions.now part.now) named.new) }
+    ensures along { OnOk result (JoinsAlong (IsListedBy types.now unions.now part.now) named.old named.new) }
     ensures stay { OnOk result (StayOne named.old named.new) }
 {
     match unions.get(part.union) {
@@ -177,7 +181,8 @@ fn join_parts(
     parts: &[Part],
 ) -> Result<(), AllocError>
     requires held { (p : ℕ) (x : APart) → slice_get parts.now p ≡ Some x → HasInterface types.now x.interface }
-    ensures one { OnOk result (AreUnited types.now unions.now parts.now named.new) }
+    ensures one { OnOk result (AreAllOne (IsUnited types.now unions.now parts.now) named.new) }
+    ensures along { OnOk result (JoinsAlong (IsUnited types.now unions.now parts.now) named.old named.new) }
     ensures stay { OnOk result (StayOne named.old named.new) }
 {
     for p in 0..parts.len() {
@@ -209,7 +214,8 @@ fn join_entry(
     kind: ItemKind,
     class: Option<DefinedTypeId>,
 ) -> Result<(), AllocError>
-    ensures one { OnOk result ((a b : Defined) → class ≡ Some a → listed_value types.now kind ≡ Some b → IsOneType named.new a b) }
+    ensures one { OnOk result (AreAllOne (IsAskedWith types.now kind class) named.new) }
+    ensures along { OnOk result (JoinsAlong (IsAskedWith types.now kind class) named.old named.new) }
     ensures stay { OnOk result (StayOne named.old named.new) }
 {
     let Some(value) = listed_value(types, kind) else {
@@ -228,7 +234,8 @@ fn join_entries(
     numbers: &[usize],
     positions: &[usize],
 ) -> Result<(), AllocError>
-    ensures one { OnOk result (AreClassed types.now entries.now numbers.now positions.now named.new) }
+    ensures one { OnOk result (AreAllOne (IsClassed types.now entries.now numbers.now positions.now) named.new) }
+    ensures along { OnOk result (JoinsAlong (IsClassed types.now entries.now numbers.now positions.now) named.old named.new) }
     ensures stay { OnOk result (StayOne named.old named.new) }
 {
     for i in 0..entries.len() {
@@ -238,7 +245,7 @@ fn join_entries(
     Ok(())
 }
 
-/// Which definitions are one named type: those that stand under one name of one union, and those that are one class.
+/// Which definitions are one named type: those that stand under one name of one union, those that are one class, and no others.
 pub fn named_types(
     alloc: Global,
     types: &Types,
@@ -250,6 +257,7 @@ pub fn named_types(
     requires held { (p : ℕ) (x : APart) → slice_get parts.now p ≡ Some x → HasInterface types.now x.interface }
     ensures united { IfOk result (λ t. AreUnited types.now unions.now parts.now t) }
     ensures classed { IfOk result (λ t. AreClassed types.now entries.now classes.now.numbers.items classes.now.positions.items t) }
+    ensures named { IfOk result (λ t. (a b : Defined) → IsOneType t a b ↔ AreNamedAlike types.now unions.now parts.now entries.now classes.now.numbers.items classes.now.positions.items a b) }
 {
     let mut named = NamedTypes::new(alloc);
     join_parts(&mut named, types, unions, parts)?;

@@ -1,14 +1,21 @@
-use Rattle.std.proofs.Common.{◌≡◌, ℕ, ◌<◌, List, Some, slice_get, sym, ◌∙◌, ap, subst, arith}
+use Rattle.std.proofs.Common.{◌≡◌, ℕ, List, Some, slice_get, arith}
 use Rattle.std.proofs.lemmas.Option.{slice_get-get_or}
-use Rattle.wac_collection.specs.Collection.{interface_exports}
+use Rattle.wac_collection.specs.Collection.{Collection}
 use Rattle.wac_terms.specs.declared.parts.Part.{Part}
 use Rattle.wac_terms.specs.declared.parts.Union.{Union}
-use Rattle.wac_values.specs.NamedTypes.{ListsOne}
+use Rattle.wac_values.specs.NamedTypes.{AreAllOne, IsListedBy, IsUnited, JoinsAlong, no_join}
+use Rattle.wac_values.specs.declared.named.NamedTypes.{NamedTypes}
+use Rattle.wac_values.proofs.Links.{joins-for, joins-then}
 use Rattle.wac_values.proofs.Joining.{item-last, within}
 use Rattle.wac_values.proofs.named.join_parts.Goals as goal
 
+along-more : (t : Collection) (us : List Union) (ps : List Part) (old mid new : NamedTypes) (p : ℕ) (x : Part) → slice_get ps p ≡ Some x
+    → JoinsAlong (IsUnited t us ps) old mid → JoinsAlong (IsListedBy t us x) mid new → JoinsAlong (IsUnited t us ps) old new
+along-more t us ps old mid new p x at before more =
+    joins-then (IsUnited t us ps) old mid new before (joins-for (IsListedBy t us x) (IsUnited t us ps) mid new (λ a b h. (p, x, at, h)) more)
+
 pub loop-p-init : goal.loop-p-init
-loop-p-init c = record { stay = λ a b o. o; one = λ q x u low at there. absurd (omega (arith, low)) }
+loop-p-init c = record { stay = λ a b o. o; one = λ q x low at. absurd (omega (arith, low)); along = no_join }
 
 pub join_in_union-requires : goal.join_in_union-requires
 join_in_union-requires c = c.requires.held c.loop-p.p _ (slice_get-get_or c.args.parts.now c.loop-p.p _ c.loop-p-test.true)
@@ -20,10 +27,11 @@ loop-p-preserved c =
     let ps = c.args.parts.now in
     record {
       stay = λ a b o. c.in_ok-join_in_union.ensures.stay a b (c.loop-p.invariant.stay a b o);
-      one = λ q x u low at there.
-          item-last ps (λ (y : Part). (w : Union) → slice_get us y.union ≡ Some w → ListsOne t w.exports (interface_exports t y.interface) c.join_in_union.new.named) c.loop-p.p _ (slice_get-get_or ps c.loop-p.p _ c.loop-p-test.true) c.in_ok-join_in_union.ensures.one
-          (λ r y less is w w-is i n k i-is e a b e-is p s. c.in_ok-join_in_union.ensures.stay a b (c.loop-p.invariant.one r y w less is w-is i n k i-is e a b e-is p s)) q x low at u there;
+      one = λ q x low at.
+          item-last ps (λ _ (y : Part). AreAllOne (IsListedBy t us y) c.join_in_union.new.named) c.loop-p.p _ (slice_get-get_or ps c.loop-p.p _ c.loop-p-test.true) c.in_ok-join_in_union.ensures.one
+          (λ r y less is a b p. c.in_ok-join_in_union.ensures.stay a b (c.loop-p.invariant.one r y less is a b p)) q x low at;
+      along = along-more t us ps c.args.named.now c.loop-p.named c.join_in_union.new.named c.loop-p.p _ (slice_get-get_or ps c.loop-p.p _ c.loop-p-test.true) c.loop-p.invariant.along c.in_ok-join_in_union.ensures.along;
     }
 
 pub returns-clause-one : goal.returns-clause-one
-returns-clause-one c p x u at there = c.loop-p.invariant.one p x u (omega (arith, within c.args.parts.now p x at)) at there
+returns-clause-one c a b (p, x, at, with) = c.loop-p.invariant.one p x (omega (arith, within c.args.parts.now p x at)) at a b with

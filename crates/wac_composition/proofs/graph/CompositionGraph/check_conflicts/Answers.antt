@@ -1,4 +1,4 @@
-use Rattle.std.proofs.Common.{ℕ, ◌<◌, arith, below_more, inr, subst, sym}
+use Rattle.std.proofs.Common.{lit<, ℕ, ◌<◌, arith, below_more, inr, subst, sym}
 use Rattle.wac_shapes.specs.Name.{Name}
 use Rattle.wac_edges.specs.declared.node.NodeId.{NodeId}
 use Rattle.wac_causes.specs.Cause.{IsConflict, HasNoConflict, conflict}
@@ -22,4 +22,4 @@ returns-clause-none c =
 pub returns-in-Some-clause-refused : goal.returns-in-Some-clause-refused
 returns-in-Some-clause-refused c = λ o.
     let (key, name, names, first) = c.in_ok-conflict.ensures in
-    inr (conflict c.in-Some.import (node_number c.loop-n.n) key name, names, stands_conflict c.args.self.now o c.in-Some.import (node_number c.loop-n.n) key name c.requires first)
+    inr (conflict c.in-Some.import (node_number c.loop-n.n) key name, names, lit< tt, stands_conflict c.args.self.now o c.in-Some.import (node_number c.loop-n.n) key name c.requires first)

@@ -1,15 +1,16 @@
-use Rattle.std.proofs.Common.{◌≡◌, ◌⊎◌, Some, IfSome, [], arith, ap, ◌∙◌, sym, subst, nat_eq}
+use Rattle.std.proofs.Common.{IfSome, [], arith, ap, ◌∙◌, sym, subst, nat_eq}
 use Rattle.std.specs.List.{list_any}
-use Rattle.wac_causes.specs.declared.errors.EncodeError.TheVariants.{NotYet, OutOfMemory}
+use Rattle.wac_causes.specs.declared.errors.EncodeError.TheVariants.{NotYet}
 use Rattle.wac_causes.specs.NotYet.{undefined_components}
-use Rattle.wac_causes.specs.Cause.{Stands, cause_of}
+use Rattle.wac_causes.specs.Cause.{AnswersFor, Stands, cause_of}
 use Rattle.wac_meaning.specs.Means.{AreNames}
 use Rattle.wac_meaning.specs.Encoding.{WroteAll, HasRoom, index_in}
 use Rattle.wac_composition.specs.EncoderView.{progress}
 use Rattle.wac_composition.proofs.MeansLemmas.{writes_all, has_room, in_order, means_all}
 use Rattle.wac_composition.proofs.WriteArgumentsLemmas.{room_kept}
 use Rattle.wac_causes.proofs.StandsLemmas.{stands_not_yet}
-use Rattle.wac_composition.proofs.CauseLemmas.{names_cause, refused_for, none_stands, at_not_yet, exit_cause, exit_refused}
+use Rattle.wac_composition.proofs.CauseLemmas.{names_cause, refused_for, checked, none_stands, nameless_answers, at_not_yet, exit_cause, exit_refused}
+use Rattle.wac_composition.proofs.OuterLemmas.{items_valid, names_valid, fault_stands, fault_answers}
 use Rattle.wac_composition.proofs.graph.CompositionGraph.encode.Goals as goal
 use Rattle.wac_composition.proofs.graph.CompositionGraph.encode.Goals.{then-not-options-via-then-not-options, then-not-options-via-else-not-options+then-holds_unwritten}
 
@@ -18,7 +19,7 @@ returns-in_err-order-clause-cause c = exit_cause (λ e. IfSome (cause_of e) (Sta
     (names_cause c.args.self.now c.args.options (c.in_err-order.field-0).0 (c.in_err-order.ensures.refused c.args.options))
 
 pub returns-in_err-order-clause-refused : goal.returns-in_err-order-clause-refused
-returns-in_err-order-clause-refused c = λ cause stands. exit_refused (λ e. (cause_of e ≡ Some cause) ⊎ (e ≡ OutOfMemory)) c.from_residual.result (c.in_err-order.field-0).0 c.from_residual.ensures.1
+returns-in_err-order-clause-refused c = λ cause stands. exit_refused (AnswersFor cause) c.from_residual.result (c.in_err-order.field-0).0 c.from_residual.ensures.1
     (refused_for c.args.self.now c.law-2.ensures c.fault_law.ensures c.args.options (c.in_err-order.field-0).0 (c.in_err-order.ensures.refused c.args.options) cause stands)
 
 pub returns-in_err-check_conflicts-clause-cause : goal.returns-in_err-check_conflicts-clause-cause
@@ -26,7 +27,7 @@ returns-in_err-check_conflicts-clause-cause c = exit_cause (λ e. IfSome (cause_
     (names_cause c.args.self.now c.args.options (c.in_err-check_conflicts.field-0).0 (c.in_err-check_conflicts.ensures.refused c.args.options))
 
 pub returns-in_err-check_conflicts-clause-refused : goal.returns-in_err-check_conflicts-clause-refused
-returns-in_err-check_conflicts-clause-refused c = λ cause stands. exit_refused (λ e. (cause_of e ≡ Some cause) ⊎ (e ≡ OutOfMemory)) c.from_residual-in_err-check_conflicts.result (c.in_err-check_conflicts.field-0).0 c.from_residual-in_err-check_conflicts.ensures.1
+returns-in_err-check_conflicts-clause-refused c = λ cause stands. exit_refused (AnswersFor cause) c.from_residual-in_err-check_conflicts.result (c.in_err-check_conflicts.field-0).0 c.from_residual-in_err-check_conflicts.ensures.1
     (refused_for c.args.self.now c.law-2.ensures c.fault_law.ensures c.args.options (c.in_err-check_conflicts.field-0).0 (c.in_err-check_conflicts.ensures.refused c.args.options) cause stands)
 
 pub returns-in_err-check_merge-clause-cause : goal.returns-in_err-check_merge-clause-cause
@@ -34,7 +35,7 @@ returns-in_err-check_merge-clause-cause c = exit_cause (λ e. IfSome (cause_of e
     (names_cause c.args.self.now c.args.options (c.in_err-check_merge.field-0).0 (c.in_err-check_merge.ensures.refused c.args.options))
 
 pub returns-in_err-check_merge-clause-refused : goal.returns-in_err-check_merge-clause-refused
-returns-in_err-check_merge-clause-refused c = λ cause stands. exit_refused (λ e. (cause_of e ≡ Some cause) ⊎ (e ≡ OutOfMemory)) c.from_residual-in_err-check_merge.result (c.in_err-check_merge.field-0).0 c.from_residual-in_err-check_merge.ensures.1
+returns-in_err-check_merge-clause-refused c = λ cause stands. exit_refused (AnswersFor cause) c.from_residual-in_err-check_merge.result (c.in_err-check_merge.field-0).0 c.from_residual-in_err-check_merge.ensures.1
     (refused_for c.args.self.now c.law-2.ensures c.fault_law.ensures c.args.options (c.in_err-check_merge.field-0).0 (c.in_err-check_merge.ensures.refused c.args.options) cause stands)
 
 pub returns-then-not-options-clause-cause : goal.returns-then-not-options-clause-cause
@@ -50,19 +51,40 @@ returns-then-not-options-clause-refused c = refused_for c.args.self.now c.law-2.
 ]))
 
 pub returns-in_err-write_nodes-clause-refused : goal.returns-in_err-write_nodes-clause-refused
-returns-in_err-write_nodes-clause-refused c = λ cause stands. absurd (none_stands c.args.self.now c.args.options c.in_ok-order.ensures.acyclic c.in_ok-check_conflicts.ensures.none c.in_ok-check_merge.ensures.merges c.if-holds_unwritten.ensures.writable c.if-not-options.false cause stands)
+returns-in_err-write_nodes-clause-refused c = λ cause stands. exit_refused (AnswersFor cause) c.from_residual-in_err-write_nodes.result (c.in_err-write_nodes.field-0).0 c.from_residual-in_err-write_nodes.ensures.1
+    (nameless_answers c.args.self.now c.args.options (checked c.args.self.now c.args.options c.in_ok-order.ensures.acyclic c.in_ok-check_conflicts.ensures.none c.in_ok-check_merge.ensures.merges c.if-holds_unwritten.ensures.writable c.if-not-options.false)
+    (c.in_err-write_nodes.field-0).0 c.in_err-write_nodes.ensures.fault cause stands)
 
 pub returns-in_err-write_processor-clause-refused : goal.returns-in_err-write_processor-clause-refused
-returns-in_err-write_processor-clause-refused c = λ cause stands. absurd (none_stands c.args.self.now c.args.options c.in_ok-order.ensures.acyclic c.in_ok-check_conflicts.ensures.none c.in_ok-check_merge.ensures.merges c.if-holds_unwritten.ensures.writable c.if-not-options.false cause stands)
+returns-in_err-write_processor-clause-refused c = λ cause stands. exit_refused (AnswersFor cause) c.from_residual-in_err-write_processor.result (c.in_err-write_processor.field-0).0 c.from_residual-in_err-write_processor.ensures.1
+    (nameless_answers c.args.self.now c.args.options (checked c.args.self.now c.args.options c.in_ok-order.ensures.acyclic c.in_ok-check_conflicts.ensures.none c.in_ok-check_merge.ensures.merges c.if-holds_unwritten.ensures.writable c.if-not-options.false)
+    (c.in_err-write_processor.field-0).0 c.in_err-write_processor.ensures.fault cause stands)
 
 pub returns-in_err-write_exports-clause-refused : goal.returns-in_err-write_exports-clause-refused
-returns-in_err-write_exports-clause-refused c = λ cause stands. absurd (none_stands c.args.self.now c.args.options c.in_ok-order.ensures.acyclic c.in_ok-check_conflicts.ensures.none c.in_ok-check_merge.ensures.merges c.if-holds_unwritten.ensures.writable c.if-not-options.false cause stands)
+returns-in_err-write_exports-clause-refused c = λ cause stands. exit_refused (AnswersFor cause) c.from_residual-in_err-write_exports.result (c.in_err-write_exports.field-0).0 c.from_residual-in_err-write_exports.ensures.1
+    (nameless_answers c.args.self.now c.args.options (checked c.args.self.now c.args.options c.in_ok-order.ensures.acyclic c.in_ok-check_conflicts.ensures.none c.in_ok-check_merge.ensures.merges c.if-holds_unwritten.ensures.writable c.if-not-options.false)
+    (c.in_err-write_exports.field-0).0 c.in_err-write_exports.ensures.fault cause stands)
 
 pub returns-in_err-write_names-clause-refused : goal.returns-in_err-write_names-clause-refused
-returns-in_err-write_names-clause-refused c = λ cause stands. absurd (none_stands c.args.self.now c.args.options c.in_ok-order.ensures.acyclic c.in_ok-check_conflicts.ensures.none c.in_ok-check_merge.ensures.merges c.if-holds_unwritten.ensures.writable c.if-not-options.false cause stands)
+returns-in_err-write_names-clause-refused c = λ cause stands. exit_refused (AnswersFor cause) c.from_residual-in_err-write_names.result (c.in_err-write_names.field-0).0 c.from_residual-in_err-write_names.ensures.1
+    (nameless_answers c.args.self.now c.args.options (checked c.args.self.now c.args.options c.in_ok-order.ensures.acyclic c.in_ok-check_conflicts.ensures.none c.in_ok-check_merge.ensures.merges c.if-holds_unwritten.ensures.writable c.if-not-options.false)
+    (c.in_err-write_names.field-0).0 c.in_err-write_names.ensures.fault cause stands)
+
+pub returns-in_err-check_names-clause-cause : goal.returns-in_err-check_names-clause-cause
+returns-in_err-check_names-clause-cause c = exit_cause (λ e. IfSome (cause_of e) (Stands c.args.self.now c.args.options)) c.from_residual-in_err-check_names.result (c.in_err-check_names.field-0).0 c.from_residual-in_err-check_names.ensures.1
+    (fault_stands c.args.self.now c.law-2.ensures c.if-holds_unwritten.ensures.writable c.args.options c.if-not-options.false c.in_ok-order.order.items c.in_ok-order.ensures.whole
+    (checked c.args.self.now c.args.options c.in_ok-order.ensures.acyclic c.in_ok-check_conflicts.ensures.none c.in_ok-check_merge.ensures.merges c.if-holds_unwritten.ensures.writable c.if-not-options.false)
+    (c.in_err-check_names.field-0).0 c.in_err-check_names.ensures.fault.0 c.in_err-check_names.ensures.fault.1)
+
+pub returns-in_err-check_names-clause-refused : goal.returns-in_err-check_names-clause-refused
+returns-in_err-check_names-clause-refused c = λ cause stands. exit_refused (AnswersFor cause) c.from_residual-in_err-check_names.result (c.in_err-check_names.field-0).0 c.from_residual-in_err-check_names.ensures.1
+    (fault_answers c.args.self.now c.law-2.ensures c.if-holds_unwritten.ensures.writable c.args.options c.if-not-options.false c.in_ok-order.order.items c.in_ok-order.ensures.whole
+    (checked c.args.self.now c.args.options c.in_ok-order.ensures.acyclic c.in_ok-check_conflicts.ensures.none c.in_ok-check_merge.ensures.merges c.if-holds_unwritten.ensures.writable c.if-not-options.false)
+    (c.in_err-check_names.field-0).0 c.in_err-check_names.ensures.fault.1 cause stands)
 
 pub returns-clause-refused : goal.returns-clause-refused
-returns-clause-refused c = λ cause stands. absurd (none_stands c.args.self.now c.args.options c.in_ok-order.ensures.acyclic c.in_ok-check_conflicts.ensures.none c.in_ok-check_merge.ensures.merges c.if-holds_unwritten.ensures.writable c.if-not-options.false cause stands)
+returns-clause-refused c = λ cause stands. absurd (none_stands c.args.self.now c.args.options (checked c.args.self.now c.args.options c.in_ok-order.ensures.acyclic c.in_ok-check_conflicts.ensures.none c.in_ok-check_merge.ensures.merges c.if-holds_unwritten.ensures.writable c.if-not-options.false)
+    (names_valid c.args.self.now c.law-2.ensures c.if-holds_unwritten.ensures.writable c.args.options c.if-not-options.false c.in_ok-order.order.items c.in_ok-order.ensures.whole c.in_ok-check_names.ensures.none) cause stands)
 
 pub write_nodes-requires-clause-nodes : goal.write_nodes-requires-clause-nodes
 write_nodes-requires-clause-nodes c = λ n h.
@@ -77,7 +99,7 @@ pub returns-clause-means : goal.returns-clause-means
 returns-clause-means c =
     let sound = c.law-2.ensures in (
       c.write_processor.new.self.builder,
-      c.in_ok-into_bytes.ensures.bytes,
+      c.in_ok-bytes.ensures.bytes,
       means_all c.law.ensures.counted c.law.ensures.earlier c.args.self.now sound c.if-holds_unwritten.ensures.writable c.in_ok-order.order.items
           (writes_all c.args.self.now sound c.if-holds_unwritten.ensures.writable c.in_ok-order.order.items c.in_ok-order.ensures.whole)
           c.args.options c.if-not-options.false
@@ -92,6 +114,11 @@ returns-clause-means c =
           c.write_exports.new.encoder.builder c.write_names.new.encoder.builder c.write_processor.new.self.builder
           c.in_ok-write_exports.ensures.written c.in_ok-write_names.ensures.written.2 c.in_ok-write_processor.ensures.written,
     )
+
+pub returns-clause-valid : goal.returns-clause-valid
+returns-clause-valid c = λ asked.
+    let (items, written, means) = returns-clause-means c in
+    (items, written, items_valid c.args.self.now c.law-2.ensures c.if-holds_unwritten.ensures.writable c.args.options c.if-not-options.false c.in_ok-order.order.items c.in_ok-order.ensures.whole asked c.in_ok-check_names.ensures.valid items means)
 
 pub write_exports-requires : goal.write_exports-requires
 write_exports-requires c = room_kept c.args.self.now c.in_ok-encoder.encoder.indexes.items c.write_nodes.new.encoder.indexes.items c.in_ok-write_nodes.ensures.kept

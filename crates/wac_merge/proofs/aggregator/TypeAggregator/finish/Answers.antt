@@ -9,6 +9,8 @@ use Rattle.wac_agreement.specs.declared.fault.MergeFault.{MergeFault}
 use Rattle.wac_agreement.specs.declared.fault.MergeFault.TheVariants.{OutOfMemory}
 use Rattle.wac_merge.proofs.BoundLookups.{bindings-kept}
 use Rattle.wac_merge.proofs.FaultLemmas.{exit_cause, exit_refused, names_fault, no_fault, refused_for}
+use Rattle.wac_merge.proofs.MergedMentions.{imports_mention}
+use Rattle.wac_merge.proofs.RootPlaces.{each-imported}
 use Rattle.wac_merge.proofs.aggregator.TypeAggregator.finish.Goals as goal
 
 pub returns-clause-agree : goal.returns-clause-agree
@@ -67,6 +69,10 @@ pub returns-in_err-merged-clause-refused : goal.returns-in_err-merged-clause-ref
 returns-in_err-merged-clause-refused c = λ fault has.
     exit_refused (λ e. (fault_of e ≡ Some fault) ⊎ (e ≡ OutOfMemory)) c.from_residual-in_err-merged.result OutOfMemory c.from_residual-in_err-merged.ensures.1 (inr refl)
 
+pub returns-clause-before : goal.returns-clause-before
+returns-clause-before c =
+    imports_mention c.args.types.now c.as_slice-asked.result.now c.in_ok-merged.merged c.in_ok-order.ensures.agree c.in_ok-order.ensures.ordered c.in_ok-merged.ensures.merged
+
 pub returns-clause-kept : goal.returns-clause-kept
 returns-clause-kept c = c.in_ok-merged.ensures.begins.kept
 
@@ -85,4 +91,5 @@ invariant_of-result c =
       held = c.in_ok-merged.ensures.asked;
       classes = c.in_ok-classes.ensures;
       bindings = bindings-kept c.args.types.now m.types c.as_slice-asked.result.now c.in_ok-merged.ensures.bound.same b c.in_ok-bindings.ensures;
+      imported = each-imported c.args.types.now c.as_slice-asked.result.now m c.in_ok-merged.ensures.merged;
     })

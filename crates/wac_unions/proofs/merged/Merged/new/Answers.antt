@@ -96,6 +96,7 @@ returns c =
         written = o.written;
         united = c.in_ok-named.ensures.united;
         classed = c.in_ok-named.ensures.classed;
+        named = c.in_ok-named.ensures.named;
         one = one-id t m es us ps bs f c.in_ok-named.named c.args.classes.now.positions.items c.args.order.now (import_entries c.in_ok-imports.imports) o;
         apart = apart-named t m es us ps bs f c.in_ok-named.named c.args.classes.now.positions.items c.args.order.now (import_entries c.in_ok-imports.imports) o;
       };

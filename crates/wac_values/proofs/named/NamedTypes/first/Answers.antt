@@ -1,5 +1,5 @@
-use Rattle.std.proofs.Common.{◌≡◌, Some, refl, sym, ◌∙◌, arith, subst}
-use Rattle.wac_values.specs.NamedTypes.{earlier_of, first_of}
+use Rattle.std.proofs.Common.{refl, sym, ◌∙◌, arith}
+use Rattle.wac_values.specs.NamedTypes.{earlier_of}
 use Rattle.wac_values.proofs.Joins.{first-goes, first-stops, one-there}
 use Rattle.wac_values.proofs.named.NamedTypes.first.Goals as goal
 

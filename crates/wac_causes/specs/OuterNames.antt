@@ -1,0 +1,44 @@
+-- The outer names of what a graph composes, and the first fault of these.
+use Rattle.std.specs.Prelude.{ℕ, ◌≡◌, List, [], ◌∷◌, ◌++◌, map}
+use Rattle.std.specs.List.{flat_map}
+use Rattle.wac_shapes.specs.Name.{Name, option_case}
+use Rattle.wac_collection.specs.Tree.{Tree}
+use Rattle.wac_binary.specs.Items.{Item}
+use Rattle.wac_binary.specs.Meaning.{meaning}
+use Rattle.wac_edges.specs.Edge.{node_number}
+use Rattle.wac_edges.specs.Order.{Writes}
+use Rattle.wac_nodes.specs.declared.options.EncodeOptions.{EncodeOptions}
+use Rattle.wac_nodes.specs.Graph.{Graph, node_at}
+use Rattle.wac_nodes.specs.OuterImports.{AreOuterImports}
+use Rattle.wac_meaning.specs.Means.{is_written, package_imports, further_exports}
+use Rattle.wac_validation.specs.FirstFault.{Fault, IsFirstFault}
+
+-- the first name of a definition, under which its item is exported
+abbrev pub first_name_of : Graph → ℕ → List Name
+first_name_of g n = option_case (node_at g (node_number n)) [] (λ node. option_case node.first_name [] (λ name. name ∷ []))
+
+-- These are the names of the imports and of the exports of what the graph composes, in written order.
+pub record AreOuterNames (g : Graph) (o : EncodeOptions) (imports exports : List Name) : Type 0 where
+  -- the nodes that are no imports, in the order in which they are written
+  pub order : List ℕ
+  pub in_order : Writes g.edges (is_written g) order
+  -- the canonical names of the classes of what is asked for, in written order; behind them those of the packages that are not defined
+  pub classes : List (Name × Tree)
+  pub outer : AreOuterImports g classes
+  pub imported : imports ≡ map (λ e. e.0) (classes ++ package_imports g o order)
+  -- the first names of definitions in written order, then the other exports in the graph's order
+  pub exported : exports ≡ flat_map (first_name_of g) order ++ map (λ e. e.0) (further_exports g)
+
+-- the names that items import and export, in order
+abbrev pub import_names : List Item → List Name
+import_names items = map (λ e. e.0) (meaning items).imports
+
+abbrev pub export_names : List Item → List Name
+export_names items = map (λ e. e.name) (meaning items).exports
+
+-- the first fault of the outer names
+pub record IsOuterFault (g : Graph) (o : EncodeOptions) (f : Fault) : Type 0 where
+  pub imports : List Name
+  pub exports : List Name
+  pub named : AreOuterNames g o imports exports
+  pub first : IsFirstFault imports exports f

@@ -1,0 +1,184 @@
+-- The outer names of a graph that is written today: no imports, and the names of its exports in order.
+use Rattle.std.proofs.Common.{◌≡◌, ℕ, suc, ◌+◌, ◌≤◌, true, IsTrue, List, [], ◌∷◌, ◌++◌, length, map, take, Option, Some, None, IfSome, IsSome, refl, ap, ◌∙◌, sym, subst, arith, inl, inr, String, Global, string_bytes}
+use Rattle.std.specs.Borrow.{Bor}
+use Rattle.std.specs.List.{flat_map}
+use Rattle.std.specs.Prelude.{slice_get}
+use Rattle.std.proofs.lemmas.List.{map-append, take_all, length-map}
+use Rattle.wac_shapes.specs.Name.{Name}
+use Rattle.wac_collection.specs.Tree.{Tree}
+use Rattle.wac_binary.specs.declared.sorts.Sort.{Sort}
+use Rattle.wac_binary.specs.Items.{Item}
+use Rattle.wac_binary.specs.Meaning.{Thing, Export, meaning}
+use Rattle.wac_edges.specs.declared.node.NodeId.{NodeId}
+use Rattle.wac_edges.specs.Edge.{node_number}
+use Rattle.wac_edges.specs.Order.{Writes}
+use Rattle.wac_nodes.specs.declared.options.EncodeOptions.{EncodeOptions}
+use Rattle.wac_nodes.specs.Graph.{Graph, GraphNode, node_at}
+use Rattle.wac_nodes.specs.Asked.{asked}
+use Rattle.wac_nodes.specs.OuterImports.{AreOuterImports}
+use Rattle.wac_nodes.specs.Sound.{IsSound}
+use Rattle.wac_nodes.proofs.NodeLemmas.{text_pair}
+use Rattle.wac_meaning.specs.Means.{is_there, is_written, further_exports, shown, export_of, Means}
+use Rattle.wac_meaning.proofs.DefinedLemmas.{HasNoFirst, further_all, no_package_imports, no_first_exports}
+use Rattle.wac_meaning.proofs.EncodeLemmas.{asked_none, no_imports}
+use Rattle.wac_meaning.proofs.OuterOrder.{one_order}
+use Rattle.wac_validation.specs.FirstFault.{Fault, IsFirstFault, IsRefusal, fault_view}
+use Rattle.wac_validation.specs.Valid.{AreValid}
+use Rattle.wac_validation.specs.Views.{texts}
+use Rattle.wac_validation.specs.declared.fault.ValidationError.{ValidationError}
+use Rattle.wac_validation.specs.declared.fault.ValidationError.TheVariants as validation
+use Rattle.wac_causes.specs.declared.errors.EncodeError.{EncodeError}
+use Rattle.wac_causes.specs.Cause.{Cause, cycle, conflict, implicit_merge, explicit_merge, import_circle, not_yet, invalid, an_invalid_name, kind_of_cause, IsNamed, Stands, cause_of, AnswersFor}
+use Rattle.wac_causes.specs.Faults.{validation_failure}
+use Rattle.wac_causes.specs.NotYet.{AllWritable}
+use Rattle.wac_causes.specs.OuterNames.{first_name_of, AreOuterNames, import_names, export_names, IsOuterFault}
+use Rattle.wac_causes.specs.Search.{NamesFault}
+use Rattle.wac_causes.proofs.StandsLemmas.{stands_invalid, invalid_alone}
+use Rattle.wac_composition.specs.declared.graph.CompositionGraph.TheInside.{Inside}
+use Rattle.wac_composition.specs.Inside.{graph_of}
+use Rattle.wac_composition.proofs.CauseLemmas.{IsChecked}
+use Rattle.wac_composition.proofs.MeansLemmas.{plain, all_set, no_first, writes_all}
+use Rattle.wac_composition.proofs.WriteAliasLemmas.{take_at, entry_at}
+
+module _ (g : Graph) (o : EncodeOptions) (define : o.define_components ≡ true) (none_asked : asked g ≡ []) (no_first : HasNoFirst g) where
+  no_first_names : (order : List ℕ) → flat_map (first_name_of g) order ≡ []
+  no_first_names [] = refl
+  no_first_names (n ∷ ns) = rw (here (node_at g (node_number n)) refl) (no_first_names ns) where
+    here : (x : Option GraphNode) → node_at g (node_number n) ≡ x → first_name_of g n ≡ []
+    here None is = rw is refl
+    here (Some node) is = rw is (rw (no_first (node_number n) node is) refl)
+
+  empty : {A : Type 0} (xs : List A) → length xs ≡ 0 → xs ≡ []
+  empty [] h = refl
+  empty (x ∷ xs) h = cc
+
+  no_classes : (classes : List (Name × Tree)) → AreOuterImports g classes → classes ≡ []
+  no_classes classes outer =
+      let none = no_imports g none_asked in
+      empty classes (outer.count ∙ ap length (one_order g outer.order none.order outer.written none.written) ∙ sym none.count)
+
+  -- these are its outer names
+  names_today : (order : List ℕ) → Writes g.edges (is_written g) order → AreOuterNames g o [] (map (λ e. e.0) g.exports)
+  names_today order writes = record {
+    order = order;
+    in_order = writes;
+    classes = [];
+    outer = no_imports g none_asked;
+    imported = ap (λ (imports : List (Name × Tree)). map (λ e. e.0) imports) (sym (no_package_imports g o define order));
+    exported = ap (λ (es : List (Name × NodeId)). map (λ e. e.0) es) (sym (further_all g no_first)) ∙ ap (λ xs. xs ++ map (λ e. e.0) (further_exports g)) (sym (no_first_names order));
+  }
+
+  -- and no others are
+  no_outer_imports : (imports exports : List Name) → AreOuterNames g o imports exports → imports ≡ []
+  no_outer_imports imports exports named =
+      named.imported ∙ ap (λ (xs : List (Name × Tree)). map (λ e. e.0) xs) ((λ i. no_classes named.classes named.outer i ++ no_package_imports g o define named.order i))
+
+  outer_exports : (imports exports : List Name) → AreOuterNames g o imports exports → exports ≡ map (λ e. e.0) g.exports
+  outer_exports imports exports named =
+      named.exported ∙ (λ i. no_first_names named.order i ++ map (λ e. e.0) (further_all g no_first i))
+
+  -- a fault of these is one of the graph
+  pub fault_today : (order : List ℕ) → Writes g.edges (is_written g) order → (f : Fault) → IsFirstFault [] (map (λ e. e.0) g.exports) f → IsOuterFault g o f
+  fault_today order writes f first = record { imports = []; exports = map (λ e. e.0) g.exports; named = names_today order writes; first = first }
+
+  -- and the other way
+  pub today_fault : (f : Fault) → IsOuterFault g o f → IsFirstFault [] (map (λ e. e.0) g.exports) f
+  today_fault f is = subst (λ xs. IsFirstFault xs (map (λ e. e.0) g.exports) f) (no_outer_imports is.imports is.exports is.named)
+      (subst (λ ys. IsFirstFault is.imports ys f) (outer_exports is.imports is.exports is.named) is.first)
+
+  -- ---- the names of items that mean it
+  shown_names : (es : List Export) → map (λ (e : Export). e.name) es ≡ map (λ (x : Name × Sort × Thing). x.0) (map shown es)
+  shown_names [] = refl
+  shown_names (e ∷ es) = ap (λ r. e.name ∷ r) (shown_names es)
+
+  exported_names : (at : ℕ → Thing) (es : List (Name × NodeId)) → ((i : ℕ) (name : Name) (n : NodeId) → slice_get es i ≡ Some (name, n) → IsSome (node_at g n))
+      → map (λ (x : Name × Sort × Thing). x.0) (flat_map (export_of g at) es) ≡ map (λ (e : Name × NodeId). e.0) es
+  exported_names at [] there = refl
+  exported_names at (e ∷ es) there = one (node_at g e.1) refl (there 0 e.0 e.1 refl) (exported_names at es (λ i name n h. there (suc i) name n h)) where
+    one : (x : Option GraphNode) → node_at g e.1 ≡ x → IsSome x → map (λ (x : Name × Sort × Thing). x.0) (flat_map (export_of g at) es) ≡ map (λ (x : Name × NodeId). x.0) es
+        → map (λ (x : Name × Sort × Thing). x.0) (flat_map (export_of g at) (e ∷ es)) ≡ map (λ (x : Name × NodeId). x.0) (e ∷ es)
+    one None is h rest = cc
+    one (Some node) is h rest = rw is (ap (λ r. e.0 ∷ r) rest)
+
+  pub items_import : (items : List Item) → Means items g o → import_names items ≡ []
+  items_import items m = ap (λ (xs : List (Name × Tree)). map (λ e. e.0) xs) (m.imports ∙ (λ i. no_classes m.classes m.outer i ++ no_package_imports g o define m.order i))
+
+  pub items_export : IsSound g → (items : List Item) → Means items g o → export_names items ≡ map (λ e. e.0) g.exports
+  items_export sound items m =
+      shown_names (meaning items).exports
+      ∙ ap (λ (xs : List (Name × Sort × Thing)). map (λ e. e.0) xs) (m.exports ∙ (λ i. no_first_exports g no_first m.at m.order i ++ flat_map (export_of g m.at) (further_all g no_first i)))
+      ∙ exported_names m.at g.exports sound.exported
+
+-- ---- the names of the exports, as the fields have them
+text_of_name : (a : Inside) (g : Graph) → graph_of a ≡ g → (i : ℕ) (name : String Global) (id : NodeId) → Some (name, id) ≡ slice_get a.exports.entries i → slice_get g.exports i ≡ Some (string_bytes name, id)
+text_of_name a g e i name id h = subst (λ x. slice_get x.exports i ≡ Some (string_bytes name, id)) e (entry_at a i name id h)
+
+-- one more is among them
+pub name_more : (a : Inside) (g : Graph) → graph_of a ≡ g → (i : ℕ) (name : String Global) (id : NodeId) (text : Bor (List ℕ)) (old new : List (Bor (List ℕ)))
+    → Some (name, id) ≡ slice_get a.exports.entries i → text.now ≡ string_bytes name → new ≡ old ++ text ∷ []
+    → texts old ≡ map (λ e. e.0) (take i g.exports) → texts new ≡ map (λ e. e.0) (take (i + 1) g.exports)
+name_more a g e i name id text old new h named added before =
+    let x : List ℕ × NodeId = (string_bytes name, id) in
+    let next : i + 1 ≡ suc i = omega arith in
+    ap texts added
+    ∙ map-append (λ (t : Bor (List ℕ)). t.now) old (text ∷ [])
+    ∙ ap (λ xs. xs ++ text.now ∷ []) before
+    ∙ ap (λ y. map (λ (e : List ℕ × NodeId). e.0) (take i g.exports) ++ y ∷ []) named
+    ∙ sym (map-append (λ (e : List ℕ × NodeId). e.0) (take i g.exports) (x ∷ []))
+    ∙ ap (λ xs. map (λ (e : List ℕ × NodeId). e.0) xs) (sym (take_at g.exports i x (text_of_name a g e i name id h)))
+    ∙ ap (λ k. map (λ (e : List ℕ × NodeId). e.0) (take k g.exports)) (sym next)
+
+-- past the last export all are
+pub names_all : (a : Inside) (g : Graph) → graph_of a ≡ g → (i : ℕ) (names : List (Bor (List ℕ))) → length a.exports.entries ≤ i
+    → texts names ≡ map (λ e. e.0) (take i g.exports) → texts names ≡ map (λ e. e.0) g.exports
+names_all a g e i names past is =
+    let many : length g.exports ≡ length a.exports.entries = ap (λ x. length x.exports) (sym e) ∙ length-map a.exports.entries (λ e. text_pair e) in
+    is ∙ ap (λ xs. map (λ (e : List ℕ × NodeId). e.0) xs) (take_all i g.exports (omega (arith, many, past)))
+
+-- ---- what is answered of names
+
+-- a refusal of names names their one fault
+pub refusal_names : (P : Fault → Type 0) → ((f other : Fault) → P f → P other → f ≡ other) → (r : ValidationError) → IsRefusal P r → NamesFault P (validation_failure r)
+refusal_names P one (validation.Fault f) h = inr (fault_view f, refl, h, λ other is. one other (fault_view f) is h)
+refusal_names P one validation.OutOfMemory h = inl refl
+
+module _ (g : Graph) (sound : IsSound g) (all : AllWritable g) (o : EncodeOptions) (define : o.define_components ≡ true) (order : List ℕ) (writes : Writes g.edges (is_there g) order) where
+  abbrev AreWrong : Fault → Type 0
+  AreWrong = IsFirstFault [] (map (λ e. e.0) g.exports)
+
+  no_asked : asked g ≡ []
+  no_asked = asked_none g (plain g all) (all_set g all)
+
+  from_graph : (f : Fault) → IsOuterFault g o f → AreWrong f
+  from_graph = today_fault g o define no_asked (no_first g sound (plain g all))
+
+  of_graph : (f : Fault) → AreWrong f → IsOuterFault g o f
+  of_graph = fault_today g o define no_asked (no_first g sound (plain g all)) order (writes_all g sound all order writes)
+
+  -- items that mean the graph have these names
+  pub items_valid : IsTrue o.validate → (IsTrue o.validate → AreValid [] (map (λ e. e.0) g.exports)) → (items : List Item) → Means items g o → AreValid (import_names items) (export_names items)
+  items_valid asked valid items m =
+      subst (λ xs. AreValid xs (export_names items)) (sym (items_import g o define no_asked (no_first g sound (plain g all)) items m))
+      (subst (λ ys. AreValid [] ys) (sym (items_export g o define no_asked (no_first g sound (plain g all)) sound items m)) (valid asked))
+
+  -- names that were looked at are not at fault
+  pub names_valid : (IsTrue o.validate → (f : Fault) → AreWrong f → ⊥) → IsTrue o.validate → (f : Fault) → IsOuterFault g o f → ⊥
+  names_valid none asked f is = none asked f (from_graph f is)
+
+  -- the fault that is named stands
+  pub fault_stands : IsChecked g o → (e : EncodeError) → IsTrue o.validate → NamesFault AreWrong e → IfSome (cause_of e) (Stands g o)
+  fault_stands h e asked (inl is) = subst (λ x. IfSome (cause_of x) (Stands g o)) (sym is) tt
+  fault_stands h e asked (inr (f, names, first, one)) = subst (λ x. IfSome x (Stands g o)) (sym names) (stands_invalid g o f h.0 h.1 h.2 h.3 asked (of_graph f first))
+
+  -- and what stands is named
+  pub fault_answers : IsChecked g o → (e : EncodeError) → NamesFault AreWrong e → (cause : Cause) → Stands g o cause → AnswersFor cause e
+  fault_answers h e (inl is) cause s = inr (inl is)
+  fault_answers h e (inr (f, names, first, one)) cause s = named cause (invalid_alone g o h.0 h.1 h.2 h.3 (kind_of_cause cause) s.0.0) s.1 where
+    named : (cause : Cause) → kind_of_cause cause ≡ an_invalid_name → IsNamed g o cause → AnswersFor cause e
+    named (cycle node) k is = cc
+    named (conflict import instantiation key name) k is = cc
+    named (implicit_merge import first second p q export) k is = cc
+    named (explicit_merge import node other) k is = cc
+    named (import_circle import) k is = cc
+    named not_yet k is = cc
+    named (invalid other) k is = inl (names ∙ ap (λ x. Some (invalid x)) (sym (one other (from_graph other is))))

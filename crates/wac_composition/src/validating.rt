@@ -1,0 +1,43 @@
+//! Whether the outer names of what a graph composes may stand together.
+ghost use Rattle.std.specs.Prelude.{◌≡◌, [], map, IfErr, IfOk, IsTrue, OnOk};
+ghost use Rattle.wac_causes.specs.Search.{NamesFault};
+ghost use Rattle.wac_validation.specs.FirstFault.{Fault, IsFirstFault};
+ghost use Rattle.wac_validation.specs.Valid.{AreValid};
+ghost use Rattle.wac_validation.specs.Views.{texts};
+
+use crate::graph::CompositionGraph;
+use std::alloc::AllocError;
+use wac_causes::EncodeError;
+use wac_validation::{one_answer, validate};
+
+impl CompositionGraph {
+    /// Refuses, where it is asked for, exports whose names may not stand together, with the first fault. A graph that is
+    /// written has no imports.
+    pub(crate) fn check_names(&self, asked: bool) -> Result<(), EncodeError>
+        ensures valid { OnOk result (IsTrue asked → AreValid [] (map (λ e. e.0) self.now.exports)) }
+        ensures none { OnOk result (IsTrue asked → (f : Fault) → ¬ IsFirstFault [] (map (λ e. e.0) self.now.exports) f) }
+        ensures fault { IfErr result (λ e. IsTrue asked × NamesFault (IsFirstFault [] (map (λ e. e.0) self.now.exports)) e) }
+    {
+        if !asked {
+            return Ok(());
+        }
+        one_answer();
+        let names = self.export_names()?;
+        validate(self.alloc, &[], &names)?;
+        Ok(())
+    }
+
+    /// The names of the exports, in order.
+    fn export_names(&self) -> Result<Vec<&str>, AllocError>
+        ensures { IfOk result (λ names. texts names.items ≡ map (λ e. e.0) self.now.exports) }
+    {
+        let mut names = Vec::new(self.alloc);
+        for i in 0..self.exports.len() {
+            let Some((name, _)) = self.exports.get_index(i) else {
+                unreachable!()
+            };
+            names.push(name.as_str())?;
+        }
+        Ok(names)
+    }
+}
