@@ -7,8 +7,9 @@ use Rattle.wac_shapes.specs.declared.component.ValueType.{ValueType}
 use Rattle.wac_shapes.specs.declared.component.ValueType.TheVariants as val
 use Rattle.wac_collection.specs.Collection.{Collection}
 use Rattle.wac_collection.specs.Aliases.{value_resolved}
-use Rattle.wac_binary.specs.Items.{Decl, type_decl, value_def}
-use Rattle.wac_binary.specs.Fits.{DeclarationsFit}
+use Rattle.wac_binary.specs.Items.{value_def}
+use Rattle.wac_scopes.specs.declared.encodable.Encodable.{Encodable}
+use Rattle.wac_scopes.specs.Contents.{and_type, ContentFits}
 use Rattle.wac_scopes.specs.declared.scope.Scope.{Scope}
 use Rattle.wac_scopes.specs.declared.fault.EncodeFault.{EncodeFault}
 use Rattle.wac_scopes.specs.declared.fault.EncodeFault.TheVariants as fault
@@ -23,7 +24,7 @@ use Rattle.wac_encode.proofs.Stacks.{writes-none, says-same}
 use Rattle.wac_encode.proofs.Stepping.{all-last}
 
 pub as-it-was : (s : Scope) → IsAsBefore s s
-as-it-was s = record { declarations = refl; values = λ k. refl }
+as-it-was s = record { content = refl; values = λ k. refl }
 
 -- loops over lists that go together
 
@@ -59,7 +60,7 @@ refused-so B c d old now new t left fault.TooLarge w same h = record {
   found = h.found;
   written = h.written;
   says = says-same c now new h.definition h.written same h.says;
-  large = λ fits. h.large (subst (λ (ds : List Decl). DeclarationsFit (ds ++ type_decl (value_def h.written) ∷ [])) same.declarations fits);
+  large = λ fits. h.large (subst (λ (x : Encodable). ContentFits (and_type x (value_def h.written))) same.content fits);
 }
 refused-so B c d old now new t left fault.OutOfMemory w same h = tt
 

@@ -5,6 +5,7 @@ pub mod Below
 pub mod Stepping
 pub mod Answering
 pub mod Rows
+pub mod Imported
 pub mod Ordered
 pub mod Listed
 pub mod Naming

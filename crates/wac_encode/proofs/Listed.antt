@@ -25,16 +25,19 @@ use Rattle.wac_binary.specs.Items.{TypeDef, Decl, decls, core_type_decl, type_de
 use Rattle.wac_binary.specs.Unfold.{Scope as Env, with_item}
 use Rattle.wac_binary.specs.declared.sorts.Description.{Description}
 use Rattle.wac_scopes.specs.declared.fault.EncodeFault.{EncodeFault}
+use Rattle.wac_scopes.specs.declared.encodable.Encodable.{Encodable}
+use Rattle.wac_scopes.specs.declared.encodable.Encodable.TheVariants.{Builder, Instance, Component}
 use Rattle.wac_scopes.specs.declared.scope.Scope.{Scope}
-use Rattle.wac_scopes.specs.Scopes.{declarations, Open, Stack, env, envs, opening}
+use Rattle.wac_scopes.specs.Contents.{content_of, IsOpenType, and_type, and_export}
+use Rattle.wac_scopes.specs.Scopes.{Open, Stack, env, envs, opening}
 use Rattle.wac_scopes.specs.Good.{Keeps, IsHeld, Good, Onward, top}
 use Rattle.wac_scopes.specs.Laws.{IsItsEnd, IsRecorded}
-use Rattle.wac_scopes.specs.Listed.{IsUnder, IsNewName, Lists, AreListed, has_own, ListsOneMore, ListsInAnyOrder, OpensInterface, ClosesInstance, HoldsInterface}
+use Rattle.wac_scopes.specs.Listed.{IsUnder, IsNewName, Lists, AreListed, has_own, declaring, ListsOneMore, ListsInAnyOrder, OpensInterface, ClosesInstance, HoldsInterface}
 use Rattle.wac_scopes.specs.Scoped.{value_index, at_index, recorded_value, opened, AddsPrimitive, ListsType, ListsValue, ListsFunction}
 use Rattle.wac_scopes.proofs.Values.{primitive-held}
 use Rattle.wac_encode.specs.Written.{GoesOn, with_types, AddsHeldFunc}
 use Rattle.wac_encode.specs.Listing.{SaysInterface, WritesItem, WritesItems, IsEmpty, IsItemRefused, IsStopped}
-use Rattle.wac_encode.specs.Items.{ListsHeld, HasListed}
+use Rattle.wac_encode.specs.Items.{ListsHeld, CanClose, HasListed}
 
 keeps-both : (a b d : Env) → Keeps a b → Keeps b d → Keeps a d
 keeps-both a b d p q = record {
@@ -111,7 +114,7 @@ none-listed : (c : Collection) → OpensInterface → (it : Interface) (s : Scop
 none-listed c opens it s empty ms st g =
     let o : Open = opening (has_own c it) in
     let memo_same : recorded_value s ≡ (λ v. None) = fun_ext by_value in
-    let same : opened s o ≡ o = (λ i. record o { content = declarations (empty.declarations i); memo = memo_same i }) in
+    let same : opened s o ≡ o = (λ i. record o { content = content_of (empty.content i); memo = memo_same i }) in
     subst (λ (p : Open). Good c (inside_interface c it (top ms) ∷ ms) (p ∷ st) × AreListed c (inside_interface c it (top ms)) exported [] ((env p (envs st)).exports)) (sym same) (opens c ms st it g)
   where
     by_value : (v : ValueType) → recorded_value s v ≡ None
@@ -126,7 +129,7 @@ types-import-nothing : (ys : List TypeDef) (n : Name) (d : Description) → Impo
 types-import-nothing [] n d = tt
 types-import-nothing (y ∷ ys) n d = types-import-nothing ys n d
 
-import-nothing-more : (ds : List Decl) (ys : List TypeDef) (n : Name) (d : Description) → ImportNothing (decls ds) → ImportNothing (decls (with_types ds ys ++ export_decl n d ∷ []))
+import-nothing-more : (ds : List Decl) (ys : List TypeDef) (n : Name) (d : Description) → ImportNothing (decls ds) → ImportNothing (decls ((ds ++ map type_decl ys) ++ export_decl n d ∷ []))
 import-nothing-more [] ys n d h = types-import-nothing ys n d
 import-nothing-more (import_decl m x ∷ ds) ys n d h = absurd h
 import-nothing-more (core_type_decl x ∷ ds) ys n d h = import-nothing-more ds ys n d h
@@ -134,11 +137,37 @@ import-nothing-more (type_decl x ∷ ds) ys n d h = import-nothing-more ds ys n 
 import-nothing-more (alias_decl x ∷ ds) ys n d h = import-nothing-more ds ys n d h
 import-nothing-more (export_decl m x ∷ ds) ys n d h = import-nothing-more ds ys n d h
 
-abbrev and_export : Name → Description → List Decl → List Decl
-and_export n d ds = ds ++ export_decl n d ∷ []
+closes-more : (x : Encodable) (ys : List TypeDef) (n : Name) (d : Description) → CanClose x → CanClose (and_export (with_types x ys) n d)
+closes-more (Builder items) ys n d h = absurd h
+closes-more (Instance ds) ys n d h = import-nothing-more ds ys n d h
+closes-more (Component ds) ys n d h = absurd h
 
-still-imports-nothing : (c : Collection) (old new : Scope) (n : Name) (k : ItemKind) → WritesItem c old new n k → ImportNothing (decls old.declarations) → ImportNothing (decls new.declarations)
-still-imports-nothing c old new n k item h = subst (λ (ds : List Decl). ImportNothing (decls ds)) (sym (item.appended ∙ ap (and_export n item.description) item.behind.appended)) (import-nothing-more old.declarations item.behind.types n item.description h)
+still-closes : (c : Collection) (old new : Scope) (n : Name) (k : ItemKind) → WritesItem c old new n k → CanClose old.content → CanClose new.content
+still-closes c old new n k item h = subst CanClose (sym (item.appended ∙ ap (λ (x : Encodable). and_export x n item.description) item.behind.appended)) (closes-more old.content item.behind.types n item.description h)
+
+-- what can be closed is a type that is open
+
+pub closes-open : (x : Encodable) → CanClose x → IsOpenType x
+closes-open (Builder items) h = absurd h
+closes-open (Instance ds) h = tt
+closes-open (Component ds) h = absurd h
+
+with-types-open : (x : Encodable) (ys : List TypeDef) → IsOpenType x → IsOpenType (with_types x ys)
+with-types-open (Builder items) ys h = absurd h
+with-types-open (Instance ds) ys h = tt
+with-types-open (Component ds) ys h = tt
+
+-- and stays so as types are written
+pub still-open : (x y : Encodable) (ys : List TypeDef) → y ≡ with_types x ys → IsOpenType x → IsOpenType y
+still-open x y ys is h = subst IsOpenType (sym is) (with-types-open x ys h)
+
+and-type-open : (x : Encodable) (y : TypeDef) → IsOpenType x → IsOpenType (and_type x y)
+and-type-open (Builder items) y h = absurd h
+and-type-open (Instance ds) y h = tt
+and-type-open (Component ds) y h = tt
+
+pub still-open-behind : (x z : Encodable) (y : TypeDef) → z ≡ and_type x y → IsOpenType x → IsOpenType z
+still-open-behind x z y is h = subst IsOpenType (sym is) (and-type-open x y h)
 
 -- items, one after the other
 
@@ -149,13 +178,13 @@ writes-one-more c old now new (e ∷ es) n k w item = (w.0, w.1, writes-one-more
 -- what stands after some of them
 pub record SoFar (c : Collection) (it : Interface) (start now : Scope) (order : List (Name × ItemKind)) (i : ℕ) : Type 0 where
   pub listed : HasListed c it now (take i order)
-  pub imports : ImportNothing (decls now.declarations)
+  pub closes : CanClose now.content
   pub written : WritesItems c start (take i order) now
 
 pub starts : (c : Collection) → OpensInterface → (it : Interface) (s : Scope) (order : List (Name × ItemKind)) → IsEmpty s → SoFar c it s s order 0
 starts c opens it s order empty = record {
   listed = none-listed c opens it s empty;
-  imports = subst (λ (ds : List Decl). ImportNothing (decls ds)) (sym empty.declarations) tt;
+  closes = subst CanClose (sym empty.content) tt;
   written = refl;
 }
 
@@ -164,7 +193,7 @@ goes-further c more it start now new order i n k once at so_far item wrote =
     let longer : take (suc i) order ≡ take i order ++ (n, k) ∷ [] = take_at order i (n, k) at in
     subst (λ (j : ℕ). SoFar c it start new order j) (sym (add-one i)) (record {
       listed = subst (λ (es : List (Name × ItemKind)). HasListed c it new es) (sym longer) (listed-more c more it now new (take i order) n k so_far.listed item (none_before order i n k once at));
-      imports = still-imports-nothing c now new n k wrote so_far.imports;
+      closes = still-closes c now new n k wrote so_far.closes;
       written = subst (λ (es : List (Name × ItemKind)). WritesItems c start es new) (sym longer) (writes-one-more c start now new (take i order) n k so_far.written wrote);
     })
 
@@ -199,11 +228,14 @@ stops-at c it start now order i n k e at so_far refused = let r = split-at order
   refused = refused;
 }
 
+pub written-content : (x y : Encodable) (ds : List Decl) → y ≡ x → y ≡ Instance ds → x ≡ Instance ds
+written-content x y ds same is = sym same ∙ is
+
 -- the whole
-pub says-interface : (c : Collection) → IsWellFormed c → HoldsInterface → ClosesInstance → ListsInAnyOrder → (i : InterfaceId) (it : Interface) (s : Scope) (order : List (Name × ItemKind)) → item_at c.interfaces i.0 ≡ Some it → ((n : Name) → find_name order n ≡ find_name it.exports n) → HasListed c it s order → ImportNothing (decls s.declarations) → SaysInterface c i s.declarations
-says-interface c wf holds closes any i it s order at same had imports m ms o os g =
-    let inner : Open = opened s (opening (has_own c it)) in
-    let h = had (m ∷ ms) (o ∷ os) g in
-    let items : Name → Tree = (env inner (env o (envs os) ∷ envs os)).exports in
+pub says-interface : (c : Collection) → IsWellFormed c → HoldsInterface → ClosesInstance → ListsInAnyOrder → (i : InterfaceId) (it : Interface) (s : Scope) (ds : List Decl) (order : List (Name × ItemKind)) → item_at c.interfaces i.0 ≡ Some it → ((n : Name) → find_name order n ≡ find_name it.exports n) → HasListed c it s order → s.content ≡ Instance ds → CanClose s.content → SaysInterface c i ds
+says-interface c wf holds closes any i it s ds order at same had is imports m ms o os g =
+    let inner : Open = record (opening (has_own c it)) { memo = recorded_value s } in
+    let h = subst (λ (x : Encodable). Good c (inside_interface c it m ∷ m ∷ ms) (record inner { content = content_of x } ∷ o ∷ os) × AreListed c (inside_interface c it m) exported order ((env (record inner { content = content_of x }) (env o (envs os) ∷ envs os)).exports)) is (had (m ∷ ms) (o ∷ os) g) in
+    let items : Name → Tree = (env (declaring ds inner) (env o (envs os) ∷ envs os)).exports in
     let all : AreListed c (inside_interface c it m) exported it.exports items = any c (inside_interface c it m) exported order it.exports items h.1 (λ n. sym (same n)) in
-    (instance items, holds c wf m i it items at all, tt, closes c (inside_interface c it m) m ms s.declarations inner o os h.0 imports)
+    (instance items, holds c wf m i it items at all, tt, closes c (inside_interface c it m) m ms ds inner o os h.0 (subst CanClose is imports))

@@ -1,5 +1,5 @@
 -- What is written for an item, and when one is refused.
-use Rattle.std.specs.Prelude.{ℕ, ◌+◌, ◌≡◌, ◌⊎◌, [], ◌∷◌, ◌++◌, Option, Some, None, Err}
+use Rattle.std.specs.Prelude.{ℕ, ◌≡◌, ◌⊎◌, Option, Some, None, Err}
 use Rattle.std.proofs.Common.{refl, ap, ◌∙◌, sym, subst, inl, inr}
 use Rattle.wac_shapes.specs.Name.{Name}
 use Rattle.wac_shapes.specs.declared.component.DefinedTypeId.{DefinedTypeId}
@@ -13,8 +13,7 @@ use Rattle.wac_shapes.specs.declared.component.ValueType.TheVariants as val
 use Rattle.wac_shapes.specs.declared.component.«Type».TheVariants as ty
 use Rattle.wac_collection.specs.Collection.{Collection}
 use Rattle.wac_collection.specs.Aliases.{value_resolved}
-use Rattle.wac_binary.specs.Fits.{DeclarationsFit}
-use Rattle.wac_binary.specs.Items.{value_def, primitive_def, type_decl, export_decl}
+use Rattle.wac_binary.specs.Items.{value_def, primitive_def}
 use Rattle.wac_binary.specs.declared.sorts.Description.{Description}
 use Rattle.wac_binary.specs.declared.sorts.Description.TheVariants as e
 use Rattle.wac_binary.specs.declared.types.ComponentValType.TheVariants.{Primitive, Index}
@@ -22,6 +21,7 @@ use Rattle.wac_scopes.specs.declared.fault.EncodeFault.{EncodeFault}
 use Rattle.wac_scopes.specs.declared.fault.EncodeFault.TheVariants as fault
 use Rattle.wac_scopes.specs.declared.fault.WriteFault.TheVariants as write
 use Rattle.wac_scopes.specs.declared.scope.Scope.{Scope}
+use Rattle.wac_scopes.specs.Contents.{and_type, and_export, ContentFits}
 use Rattle.wac_scopes.specs.Laws.{StaysOnward}
 use Rattle.wac_scopes.specs.Scoped.{value_index, by_index, in_use, HasToo, AddsPrimitive, ListsValue, WritesUnlessTooLarge, FitsUnlessTooLarge}
 use Rattle.wac_encode.specs.Made.{MadeOf, itself}
@@ -32,21 +32,21 @@ use Rattle.wac_encode.proofs.Stacks.{writes-none}
 use Rattle.wac_encode.proofs.Rows.{writes-type}
 
 abbrev with_export : Scope → Name → Description → Scope
-with_export s n d = record s { declarations = s.declarations ++ export_decl n d ∷ [] }
+with_export s n d = record s { content = and_export s.content n d }
 
 same-records : (old new : Scope) (n : Name) (d : Description) → new ≡ with_export old n d → SameRecords old new
 same-records old new n d is k = ap (λ (s : Scope). value_index s k) is
 
-declared-so : (old new : Scope) (n : Name) (d : Description) → new ≡ with_export old n d → new.declarations ≡ old.declarations ++ export_decl n d ∷ []
-declared-so old new n d is = ap (λ (s : Scope). s.declarations) is
+declared-so : (old new : Scope) (n : Name) (d : Description) → new ≡ with_export old n d → new.content ≡ and_export old.content n d
+declared-so old new n d is = ap (λ (s : Scope). s.content) is
 
-pub primitive-behind : (c : Collection) (old now : Scope) (v : ValueType) (p : PrimitiveType) (k : ℕ) → value_resolved c v ≡ val.Primitive p → AddsPrimitive old now p k → now ≡ record old { declarations = old.declarations ++ type_decl (value_def (primitive_def p)) ∷ [] } → WritesFor c (own_types c (kind.TypeItem (ty.Value v))) (NeededBy c (kind.TypeItem (ty.Value v))) old now
+pub primitive-behind : (c : Collection) (old now : Scope) (v : ValueType) (p : PrimitiveType) (k : ℕ) → value_resolved c v ≡ val.Primitive p → AddsPrimitive old now p k → now ≡ record old { content = and_type old.content (value_def (primitive_def p)) } → WritesFor c (own_types c (kind.TypeItem (ty.Value v))) (NeededBy c (kind.TypeItem (ty.Value v))) old now
 primitive-behind c old now v p k is adds same = subst (λ (w : ValueType). WritesFor c (one_if_primitive w) (NeededBy c (kind.TypeItem (ty.Value v))) old now) (sym is) (writes-type c (NeededBy c (kind.TypeItem (ty.Value v))) old now (value_def (primitive_def p)) same (λ m ms o os g. (adds c m ms o os g).0))
 
-pub primitive-described : (c : Collection) (old now : Scope) (v : ValueType) (p : PrimitiveType) (k : ℕ) → value_resolved c v ≡ val.Primitive p → AddsPrimitive old now p k → now ≡ record old { declarations = old.declarations ++ type_decl (value_def (primitive_def p)) ∷ [] } → IsDescribed c old now (kind.TypeItem (ty.Value v)) (e.Equal k)
-primitive-described c old now v p k is adds same = subst (λ (w : ValueType). IsListedAt old now w k) (sym is) (adds, ap (λ (s : Scope). s.declarations) same)
+pub primitive-described : (c : Collection) (old now : Scope) (v : ValueType) (p : PrimitiveType) (k : ℕ) → value_resolved c v ≡ val.Primitive p → AddsPrimitive old now p k → now ≡ record old { content = and_type old.content (value_def (primitive_def p)) } → IsDescribed c old now (kind.TypeItem (ty.Value v)) (e.Equal k)
+primitive-described c old now v p k is adds same = subst (λ (w : ValueType). IsListedAt old now w k) (sym is) (adds, ap (λ (s : Scope). s.content) same)
 
-pub primitive-wrote : (c : Collection) (old now new : Scope) (n : Name) (v : ValueType) (p : PrimitiveType) (k : ℕ) → value_resolved c v ≡ val.Primitive p → AddsPrimitive old now p k → now ≡ record old { declarations = old.declarations ++ type_decl (value_def (primitive_def p)) ∷ [] } → new ≡ record now { declarations = now.declarations ++ export_decl n (e.Equal k) ∷ [] } → WritesItem c old new n (kind.TypeItem (ty.Value v))
+pub primitive-wrote : (c : Collection) (old now new : Scope) (n : Name) (v : ValueType) (p : PrimitiveType) (k : ℕ) → value_resolved c v ≡ val.Primitive p → AddsPrimitive old now p k → now ≡ record old { content = and_type old.content (value_def (primitive_def p)) } → new ≡ record now { content = and_export now.content n (e.Equal k) } → WritesItem c old new n (kind.TypeItem (ty.Value v))
 primitive-wrote c old now new n v p k is adds same lists = record {
   now = now;
   behind = primitive-behind c old now v p k is adds same;
@@ -62,7 +62,7 @@ definition-behind c old now v d is w = subst (λ (u : ValueType). WritesFor c (o
 pub definition-described : (c : Collection) (old now : Scope) (v : ValueType) (d : DefinedTypeId) (k : ℕ) → value_resolved c v ≡ val.Defined d → value_index now d ≡ Some k → IsDescribed c old now (kind.TypeItem (ty.Value v)) (e.Equal k)
 definition-described c old now v d k is at = subst (λ (w : ValueType). IsListedAt old now w k) (sym is) at
 
-pub second-wrote : (c : Collection) → StaysOnward → (old new : Scope) (n : Name) (v : ValueType) (d : DefinedTypeId) (k : ℕ) → value_resolved c v ≡ val.Defined d → value_index old d ≡ Some k → new ≡ record old { declarations = old.declarations ++ export_decl n (e.Equal k) ∷ [] } → WritesItem c old new n (kind.TypeItem (ty.Value v))
+pub second-wrote : (c : Collection) → StaysOnward → (old new : Scope) (n : Name) (v : ValueType) (d : DefinedTypeId) (k : ℕ) → value_resolved c v ≡ val.Defined d → value_index old d ≡ Some k → new ≡ record old { content = and_export old.content n (e.Equal k) } → WritesItem c old new n (kind.TypeItem (ty.Value v))
 second-wrote c stays old new n v d k is at lists = record {
   now = old;
   behind = definition-behind c old old v d is (writes-none c stays (MadeOf c (value_resolved c v)) old old (as-it-was old));
@@ -79,7 +79,7 @@ still-described c stays s v d k is at = (writes-none c stays (MadeOf c (value_re
 same-index : (s : Scope) (d : DefinedTypeId) (k i : ℕ) → value_index s d ≡ Some k → value_index s d ≡ Some i → k ≡ i
 same-index s d k i one two = let both : Some k ≡ Some i = sym one ∙ two in cc
 
-pub first-wrote : (c : Collection) (old now new : Scope) (n : Name) (v : ValueType) (d : DefinedTypeId) (k j : ℕ) → value_resolved c v ≡ val.Defined d → value_index old d ≡ None → WritesFor c 0 (MadeOf c (value_resolved c v)) old now → value_index now d ≡ Some k → new.declarations ≡ now.declarations ++ export_decl n (e.Equal k) ∷ [] → HasToo now d j new → ListsValue now new n d k j → WritesItem c old new n (kind.TypeItem (ty.Value v))
+pub first-wrote : (c : Collection) (old now new : Scope) (n : Name) (v : ValueType) (d : DefinedTypeId) (k j : ℕ) → value_resolved c v ≡ val.Defined d → value_index old d ≡ None → WritesFor c 0 (MadeOf c (value_resolved c v)) old now → value_index now d ≡ Some k → new.content ≡ and_export now.content n (e.Equal k) → HasToo now d j new → ListsValue now new n d k j → WritesItem c old new n (kind.TypeItem (ty.Value v))
 first-wrote c old now new n v d k j is none w at appended too lists = record {
   now = now;
   behind = definition-behind c old now v d is w;
@@ -89,7 +89,7 @@ first-wrote c old now new n v d k j is none w at appended too lists = record {
   named = subst (λ (u : ValueType). NamesValue old now new n u) (sym is) (subst (λ (o : Option ℕ). IsNamedOnce o now new n d) (sym none) (j, too, λ i also. subst (λ (i' : ℕ). ListsValue now new n d i' j) (same-index now d k i at also) lists));
 }
 
-pub function-wrote : (c : Collection) (old now new : Scope) (n : Name) (f : FuncTypeId) (k : ℕ) → WritesFor c 1 (IsOfFunc c f) old now → AddsHeldFunc c old now f k → EndsWithFunc c f now → new ≡ record now { declarations = now.declarations ++ export_decl n (e.Func k) ∷ [] } → WritesItem c old new n (kind.Func f)
+pub function-wrote : (c : Collection) (old now new : Scope) (n : Name) (f : FuncTypeId) (k : ℕ) → WritesFor c 1 (IsOfFunc c f) old now → AddsHeldFunc c old now f k → EndsWithFunc c f now → new ≡ record now { content = and_export now.content n (e.Func k) } → WritesItem c old new n (kind.Func f)
 function-wrote c old now new n f k w adds ends lists = record {
   now = now;
   behind = w;
@@ -101,7 +101,7 @@ function-wrote c old now new n f k w adds ends lists = record {
 
 -- refusals
 
-pub primitive-refused : (A B : Type 0) (c : Collection) → StaysOnward → (old : Scope) (n : Name) (v : ValueType) (p : PrimitiveType) (f : EncodeFault) → value_resolved c v ≡ val.Primitive p → WritesUnlessTooLarge {A = A} (Err f) (DeclarationsFit (old.declarations ++ type_decl (value_def (primitive_def p)) ∷ [])) → IsItemRefused {A = B} c n (kind.TypeItem (ty.Value v)) old (Err f)
+pub primitive-refused : (A B : Type 0) (c : Collection) → StaysOnward → (old : Scope) (n : Name) (v : ValueType) (p : PrimitiveType) (f : EncodeFault) → value_resolved c v ≡ val.Primitive p → WritesUnlessTooLarge {A = A} (Err f) (ContentFits (and_type old.content (value_def (primitive_def p)))) → IsItemRefused {A = B} c n (kind.TypeItem (ty.Value v)) old (Err f)
 primitive-refused A B c stays old n v p (fault.Write g) is h = absurd h
 primitive-refused A B c stays old n v p fault.TooLarge is h = record {
   scope = old;
@@ -112,7 +112,7 @@ primitive-refused A B c stays old n v p fault.TooLarge is h = record {
 primitive-refused A B c stays old n v p fault.OutOfMemory is h = tt
 
 -- where the item does not fit
-pub export-refused : (A B : Type 0) (c : Collection) (old now : Scope) (n : Name) (k : ItemKind) (types : ℕ) (d : Description) (f : EncodeFault) → WritesFor c types (NeededBy c k) old now → IsDescribed c old now k d → FitsUnlessTooLarge {A = A} (Err f) (DeclarationsFit (now.declarations ++ export_decl n d ∷ [])) → IsItemRefused {A = B} c n k old (Err f)
+pub export-refused : (A B : Type 0) (c : Collection) (old now : Scope) (n : Name) (k : ItemKind) (types : ℕ) (d : Description) (f : EncodeFault) → WritesFor c types (NeededBy c k) old now → IsDescribed c old now k d → FitsUnlessTooLarge {A = A} (Err f) (ContentFits (and_export now.content n d)) → IsItemRefused {A = B} c n k old (Err f)
 export-refused A B c old now n k types d (fault.Write g) w described h = absurd h
 export-refused A B c old now n k types d fault.TooLarge w described h = record {
   scope = now;

@@ -1,5 +1,5 @@
 -- Value types in a row.
-use Rattle.std.specs.Prelude.{length, ℕ, zero, suc, ◌+◌, ◌<◌, ◌≡◌, nat_eq, Bool, true, false, List, [], ◌∷◌, ◌++◌, Option, Some, None, IsSome, slice_get, Result, Ok, Err, IfOk}
+use Rattle.std.specs.Prelude.{length, ℕ, zero, suc, ◌+◌, ◌<◌, ◌≡◌, nat_eq, Bool, true, false, List, [], ◌∷◌, Option, Some, None, IsSome, slice_get, Result, Ok, Err, IfOk}
 use Rattle.std.specs.List.{AllZip, AllByRecursion}
 use Rattle.std.specs.Borrow.{Bor}
 use Rattle.std.specs.Option.{option_map}
@@ -15,9 +15,9 @@ use Rattle.wac_collection.specs.Aliases.{value_resolved}
 use Rattle.wac_collection.specs.Bound.{Bindings}
 use Rattle.wac_collection.proofs.Growth.{value_within}
 use Rattle.wac_binary.specs.declared.types.ComponentValType.{ComponentValType}
-use Rattle.wac_binary.specs.Fits.{DeclarationsFit}
-use Rattle.wac_binary.specs.Items.{TypeDef, func_def, type_decl}
+use Rattle.wac_binary.specs.Items.{TypeDef, func_def}
 use Rattle.wac_binary.specs.Views.{named}
+use Rattle.wac_scopes.specs.Contents.{and_type, ContentFits}
 use Rattle.wac_scopes.specs.Scopes.{Open, Stack, env, envs}
 use Rattle.wac_scopes.specs.Good.{Good}
 use Rattle.wac_scopes.specs.Parts.{Is, IsWrittenFunc}
@@ -32,7 +32,7 @@ use Rattle.wac_encode.specs.Tasks.{FieldSays}
 use Rattle.wac_encode.proofs.Saying.{maybe-is, zip-map}
 use Rattle.wac_encode.proofs.Counting.{unwritten-same}
 use Rattle.wac_encode.proofs.Answering.{as-it-was}
-use Rattle.wac_encode.proofs.Stacks.{writes-none, writes-then, one-longer}
+use Rattle.wac_encode.proofs.Stacks.{writes-none, writes-then, one-type}
 use Rattle.wac_encode.proofs.Stepping.{known-more}
 
 -- the second of an entry is one of the seconds
@@ -161,20 +161,19 @@ pub func-by-record : (c : Collection) (s : Scope) (x : FuncType) (a : Bool) (ys 
 func-by-record c s x a ys y z r = (zip-map (FieldSays c s) (λ e u. (u.0 ≡ e.0) × IsByRecord c s e.1 u.1) (λ u. (u.0.now, u.1)) (λ e u h. (h.0, h.2)) x.params ys z, r)
 
 abbrev with_type : Scope → TypeDef → Scope
-with_type s y = record s { declarations = s.declarations ++ type_decl y ∷ [] }
+with_type s y = record s { content = and_type s.content y }
 
 -- a definition that is no value type
 pub writes-type : (c : Collection) (P : ValueType → Type 0) (old new : Scope) (y : TypeDef) → new ≡ with_type old y → GoesOn c old new → WritesFor c 1 P old new
 writes-type c P old new y is on = record {
   onward = on;
   types = y ∷ [];
-  appended = ap (λ (s : Scope). s.declarations) is;
+  appended = ap (λ (s : Scope). s.content) is ∙ one-type old.content y;
   kept = λ d i h. ap (λ (s : Scope). value_index s d) is ∙ h;
   needed = λ d i none some. let both : None ≡ Some i = sym none ∙ sym (ap (λ (s : Scope). value_index s d) is) ∙ some in cc;
   once =
       let same : unwritten new (length c.defined) ≡ unwritten old (length c.defined) = unwritten-same old new (length c.defined) (λ k l. ap (λ (s : Scope). value_index s (record { 0 = k })) is) in
-      let one : length new.declarations ≡ suc (length old.declarations) = one-longer old.declarations new.declarations (type_decl y) (ap (λ (s : Scope). s.declarations) is) in
-      omega (arith, same, one);
+      omega (arith, same);
 }
 
 pub adds-held : (c : Collection) → IsWellFormed c → (old new : Scope) (f : FuncTypeId) (x : FuncType) (y : TypeDef) (k : ℕ) → item_at c.funcs f.0 ≡ Some x → ((m : Bindings) (ms : List Bindings) (o : Open) (os : Stack) → Good c (m ∷ ms) (opened old o ∷ os) → IsWrittenFunc c m (env (opened old o) (envs os)) x y) → AddsFunc old new y k → AddsHeldFunc c old new f k
@@ -195,7 +194,7 @@ adds-when c follows old now new f (Ok k) on adds = adds-after c follows old now 
 adds-when c follows old now new f (Err e) on adds = tt
 
 pub ends-with : (c : Collection) (f : FuncTypeId) (x : FuncType) (y : TypeDef) (old new : Scope) → item_at c.funcs f.0 ≡ Some x → new ≡ with_type old y → IsFuncByRecord c old x y → EndsWithFunc c f new
-ends-with c f x y old new at is h = subst (λ (s : Scope). EndsWithFunc c f s) (sym is) (x, at, old.declarations, y, refl, still y h)
+ends-with c f x y old new at is h = subst (λ (s : Scope). EndsWithFunc c f s) (sym is) (x, at, old.content, y, refl, still y h)
   where
     still : (z : TypeDef) → IsFuncByRecord c old x z → IsFuncByRecord c (with_type old y) x z
     still z k = k
@@ -206,7 +205,7 @@ put-adds c wf old new f x ys y k at z r adds = adds-held c wf old new f x (func_
 pub put-writes : (c : Collection) (P : ValueType → Type 0) (old new : Scope) (f : FuncTypeId) (y : TypeDef) (k : ℕ) → new ≡ with_type old y → AddsHeldFunc c old new f k → WritesFor c 1 P old new
 put-writes c P old new f y k is adds = writes-type c P old new y is (func-onward c old new f k adds)
 
-pub put-refused : (A B : Type 0) (c : Collection) (old new : Scope) (f : FuncTypeId) (x : FuncType) (ys : List (Bor (List ℕ) × ComponentValType)) (y : Option ComponentValType) (e : EncodeFault) → item_at c.funcs f.0 ≡ Some x → AllZip (FieldSays c old) x.params ys → MaybeSays c old x.result y → new ≡ old → WritesUnlessTooLarge {A = A} (Err e) (DeclarationsFit (old.declarations ++ type_decl (func_def x.is_async (named ys) y) ∷ [])) → IsFuncRefused {A = B} c f new (Err e)
+pub put-refused : (A B : Type 0) (c : Collection) (old new : Scope) (f : FuncTypeId) (x : FuncType) (ys : List (Bor (List ℕ) × ComponentValType)) (y : Option ComponentValType) (e : EncodeFault) → item_at c.funcs f.0 ≡ Some x → AllZip (FieldSays c old) x.params ys → MaybeSays c old x.result y → new ≡ old → WritesUnlessTooLarge {A = A} (Err e) (ContentFits (and_type old.content (func_def x.is_async (named ys) y))) → IsFuncRefused {A = B} c f new (Err e)
 put-refused A B c old new f x ys y (fault.Write g) at z r is h = absurd h
 put-refused A B c old new f x ys y fault.TooLarge at z r is h =
     let d : FuncDoesNotFit c f old = record {

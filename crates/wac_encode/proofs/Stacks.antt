@@ -1,15 +1,19 @@
 -- Good stacks go on as definitions are written.
-use Rattle.std.specs.Prelude.{ℕ, suc, ◌+◌, ◌<◌, ◌≡◌, cond, nat_eq, Bool, true, false, List, [], ◌∷◌, ◌++◌, length, Option, Some, None}
+use Rattle.std.specs.Prelude.{ℕ, suc, ◌+◌, ◌<◌, ◌≡◌, cond, nat_eq, Bool, true, false, List, [], ◌∷◌, ◌++◌, length, map, Option, Some, None}
 use Rattle.std.proofs.Common.{refl, ap, ◌∙◌, sym, subst, arith, length-append, zero-add}
 use Rattle.std.proofs.Math.Path.{fun_ext}
+use Rattle.std.proofs.lemmas.List.{append-nil, append_assoc}
 use Rattle.wac_shapes.specs.declared.component.DefinedType.{DefinedType}
 use Rattle.wac_shapes.specs.declared.component.DefinedTypeId.{DefinedTypeId}
 use Rattle.wac_shapes.specs.declared.component.ValueType.{ValueType}
 use Rattle.wac_shapes.specs.declared.component.ValueType.TheVariants as val
 use Rattle.wac_collection.specs.Collection.{Collection, IsWellFormed, item_at}
-use Rattle.wac_binary.specs.Items.{ValueDef, TypeDef, Decl, type_decl, value_def}
+use Rattle.wac_binary.specs.Items.{ValueDef, TypeDef, type_decl, type_item, value_def}
+use Rattle.wac_scopes.specs.declared.encodable.Encodable.{Encodable}
+use Rattle.wac_scopes.specs.declared.encodable.Encodable.TheVariants.{Builder, Instance, Component}
 use Rattle.wac_scopes.specs.declared.scope.Scope.{Scope}
-use Rattle.wac_scopes.specs.Scopes.{declarations, Open, env, envs}
+use Rattle.wac_scopes.specs.Contents.{content_of, and_type}
+use Rattle.wac_scopes.specs.Scopes.{Open, env, envs}
 use Rattle.wac_scopes.specs.Good.{Good, Onward}
 use Rattle.wac_scopes.specs.Parts.{IsWritten}
 use Rattle.wac_scopes.specs.Scoped.{value_index, at_index, recorded_value, opened, IsAsBefore, HasToo, AddsValue}
@@ -19,7 +23,7 @@ use Rattle.wac_encode.specs.Tasks.{WritesOne}
 use Rattle.wac_encode.proofs.Counting.{unwritten-same, unwritten-less}
 
 pub opened-same : (old new : Scope) → IsAsBefore old new → (o : Open) → opened new o ≡ opened old o
-opened-same old new h o = let memo_same : recorded_value new ≡ recorded_value old = fun_ext by_value in (λ i. record o { content = declarations (h.declarations i); memo = memo_same i })
+opened-same old new h o = let memo_same : recorded_value new ≡ recorded_value old = fun_ext by_value in (λ i. record o { content = content_of (h.content i); memo = memo_same i })
   where
     by_value : (v : ValueType) → recorded_value new v ≡ recorded_value old v
     by_value (val.Defined d) = ap at_index (h.values d)
@@ -28,7 +32,7 @@ opened-same old new h o = let memo_same : recorded_value new ≡ recorded_value 
     by_value (val.Borrow r) = refl
 
 pub as-equal : (old new : Scope) → new ≡ old → IsAsBefore old new
-as-equal old new is = record { declarations = ap (λ (s : Scope). s.declarations) is; values = λ k. ap (λ (s : Scope). value_index s k) is }
+as-equal old new is = record { content = ap (λ (s : Scope). s.content) is; values = λ k. ap (λ (s : Scope). value_index s k) is }
 
 pub goes-on-same : (c : Collection) → StaysOnward → (old new : Scope) → IsAsBefore old new → GoesOn c old new
 goes-on-same c stays old new h m ms o os g = subst (λ (p : Open). Onward c (m ∷ ms) (opened old o ∷ os) (p ∷ os)) (sym (opened-same old new h o)) (stays c (m ∷ ms) (opened old o ∷ os) g)
@@ -36,7 +40,7 @@ goes-on-same c stays old new h m ms o os g = subst (λ (p : Open). Onward c (m �
 pub goes-on-twice : (c : Collection) → Follows → (a b d : Scope) → GoesOn c a b → GoesOn c b d → GoesOn c a d
 goes-on-twice c follows a b d p q m ms o os g = let first = p m ms o os g in follows c (m ∷ ms) (opened a o ∷ os) (opened b o ∷ os) (opened d o ∷ os) first (q m ms o os first.0)
 
-pub writes-one : (c : Collection) → IsWellFormed c → (old new : Scope) (d : DefinedTypeId) (x : DefinedType) (y : ValueDef) (k : ℕ) → item_at c.defined d.0 ≡ Some x → SaysDefinition c old x y → AddsValue old new d y k → HasToo old d k new → new.declarations ≡ old.declarations ++ type_decl (value_def y) ∷ [] → WritesOne c old new d
+pub writes-one : (c : Collection) → IsWellFormed c → (old new : Scope) (d : DefinedTypeId) (x : DefinedType) (y : ValueDef) (k : ℕ) → item_at c.defined d.0 ≡ Some x → SaysDefinition c old x y → AddsValue old new d y k → HasToo old d k new → new.content ≡ and_type old.content (value_def y) → WritesOne c old new d
 writes-one c wf old new d x y k at says adds too appended = record {
   onward = λ m ms o os g. (adds c wf m ms o os x g at (says m ms o os g)).3.0;
   index = k;
@@ -45,36 +49,47 @@ writes-one c wf old new d x y k at says adds too appended = record {
   appended = appended;
 }
 
--- one declaration more
-pub one-longer : (ds es : List Decl) (d : Decl) → es ≡ ds ++ d ∷ [] → length es ≡ suc (length ds)
-one-longer ds es d is = let l : length es ≡ length (ds ++ d ∷ []) = ap (λ (fs : List Decl). length fs) is in omega (arith, l, length-append ds (d ∷ []))
+-- type definitions behind others
 
-none-behind : (ds : List Decl) → ds ≡ with_types ds []
-none-behind [] = refl
-none-behind (d ∷ ds) = ap (λ (es : List Decl). d ∷ es) (none-behind ds)
+pub one-longer : (ys : List TypeDef) (y : TypeDef) → length (ys ++ y ∷ []) ≡ suc (length ys)
+one-longer ys y = omega (arith, length-append ys (y ∷ []))
 
-one-behind : (ds : List Decl) (ys : List TypeDef) (y : TypeDef) → with_types ds ys ++ type_decl y ∷ [] ≡ with_types ds (ys ++ y ∷ [])
-one-behind [] [] y = refl
-one-behind [] (x ∷ ys) y = ap (λ (es : List Decl). type_decl x ∷ es) (one-behind [] ys y)
-one-behind (d ∷ ds) ys y = ap (λ (es : List Decl). d ∷ es) (one-behind ds ys y)
+mapped-more : {A B : Type 0} (f : A → B) (xs : List B) (ys zs : List A) → (xs ++ map f ys) ++ map f zs ≡ xs ++ map f (ys ++ zs)
+mapped-more {A} {B} f xs ys zs = append_assoc xs (map f ys) (map f zs) ∙ ap (λ (es : List B). xs ++ es) (by_list ys)
+  where
+    by_list : (ws : List A) → map f ws ++ map f zs ≡ map f (ws ++ zs)
+    by_list [] = refl
+    by_list (w ∷ ws) = ap (λ (es : List B). f w ∷ es) (by_list ws)
 
-all-behind : (ds : List Decl) (xs ys : List TypeDef) → with_types (with_types ds xs) ys ≡ with_types ds (xs ++ ys)
-all-behind [] [] ys = refl
-all-behind [] (x ∷ xs) ys = ap (λ (es : List Decl). type_decl x ∷ es) (all-behind [] xs ys)
-all-behind (d ∷ ds) xs ys = ap (λ (es : List Decl). d ∷ es) (all-behind ds xs ys)
+none-behind : (x : Encodable) → x ≡ with_types x []
+none-behind (Builder items) = ap Builder (sym (append-nil items))
+none-behind (Instance ds) = ap Instance (sym (append-nil ds))
+none-behind (Component ds) = ap Component (sym (append-nil ds))
 
-abbrev and_type : List Decl → TypeDef → List Decl
-and_type ds y = ds ++ type_decl y ∷ []
+pub one-behind : (x : Encodable) (ys : List TypeDef) (y : TypeDef) → and_type (with_types x ys) y ≡ with_types x (ys ++ y ∷ [])
+one-behind (Builder items) ys y = ap Builder (mapped-more type_item items ys (y ∷ []))
+one-behind (Instance ds) ys y = ap Instance (mapped-more type_decl ds ys (y ∷ []))
+one-behind (Component ds) ys y = ap Component (mapped-more type_decl ds ys (y ∷ []))
+
+pub one-type : (x : Encodable) (y : TypeDef) → and_type x y ≡ with_types x (y ∷ [])
+one-type (Builder items) y = refl
+one-type (Instance ds) y = refl
+one-type (Component ds) y = refl
+
+all-behind : (x : Encodable) (ys zs : List TypeDef) → with_types (with_types x ys) zs ≡ with_types x (ys ++ zs)
+all-behind (Builder items) ys zs = ap Builder (mapped-more type_item items ys zs)
+all-behind (Instance ds) ys zs = ap Instance (mapped-more type_decl ds ys zs)
+all-behind (Component ds) ys zs = ap Component (mapped-more type_decl ds ys zs)
 
 -- nothing is written
 pub writes-none : (c : Collection) → StaysOnward → (P : ValueType → Type 0) (old new : Scope) → IsAsBefore old new → WritesFor c 0 P old new
 writes-none c stays P old new h = record {
   onward = goes-on-same c stays old new h;
   types = [];
-  appended = h.declarations ∙ none-behind old.declarations;
+  appended = h.content ∙ none-behind old.content;
   kept = λ d i e. h.values d ∙ e;
   needed = λ d i none some. let both : None ≡ Some i = sym none ∙ sym (h.values d) ∙ some in cc;
-  once = let n : unwritten new (length c.defined) ≡ unwritten old (length c.defined) = unwritten-same old new (length c.defined) (λ k l. h.values (record { 0 = k })) in let l : length new.declarations ≡ length old.declarations = ap (λ (ds : List Decl). length ds) h.declarations in omega (arith, n, l);
+  once = let n : unwritten new (length c.defined) ≡ unwritten old (length c.defined) = unwritten-same old new (length c.defined) (λ k l. h.values (record { 0 = k })) in omega (arith, n);
 }
 
 -- what is recorded after one more
@@ -97,10 +112,10 @@ pub writes-more : (c : Collection) → Follows → (n : ℕ) (P : ValueType → 
 writes-more c follows n P old now new d w made held none one = record {
   onward = goes-on-twice c follows old now new w.onward one.onward;
   types = w.types ++ one.definition ∷ [];
-  appended = one.appended ∙ ap (λ (ds : List Decl). and_type ds one.definition) w.appended ∙ one-behind old.declarations w.types one.definition;
+  appended = one.appended ∙ ap (λ (x : Encodable). and_type x one.definition) w.appended ∙ one-behind old.content w.types one.definition;
   kept = λ e i h. recorded-now d one.index now new one.recorded e i none (w.kept e i h);
   needed = λ e i h k. by_now e i h k (value_index now e) refl;
-  once = let less : suc (unwritten new (length c.defined)) ≡ unwritten now (length c.defined) = unwritten-less now new d.0 one.index (length c.defined) held none one.recorded.values in let more : length new.declarations ≡ suc (length now.declarations) = one-longer now.declarations new.declarations (type_decl one.definition) one.appended in let before : length now.declarations + unwritten now (length c.defined) ≡ n + (length old.declarations + unwritten old (length c.defined)) = w.once in omega (arith, less, more, before);
+  once = let less : suc (unwritten new (length c.defined)) ≡ unwritten now (length c.defined) = unwritten-less now new d.0 one.index (length c.defined) held none one.recorded.values in let before : length w.types + unwritten now (length c.defined) ≡ n + unwritten old (length c.defined) = w.once in omega (arith, less, one-longer w.types one.definition, before);
 }
   where
     by_now : (e : DefinedTypeId) (i : ℕ) → value_index old e ≡ None → value_index new e ≡ Some i → (o : Option ℕ) → value_index now e ≡ o → P (val.Defined e)
@@ -112,10 +127,10 @@ pub writes-then : (c : Collection) → Follows → (k n : ℕ) (P Q : ValueType 
 writes-then c follows k n P Q old now new w u R p q = record {
   onward = goes-on-twice c follows old now new w.onward u.onward;
   types = w.types ++ u.types;
-  appended = u.appended ∙ ap (λ (ds : List Decl). with_types ds u.types) w.appended ∙ all-behind old.declarations w.types u.types;
+  appended = u.appended ∙ ap (λ (x : Encodable). with_types x u.types) w.appended ∙ all-behind old.content w.types u.types;
   kept = λ d i e. u.kept d i (w.kept d i e);
   needed = λ d i none some. by_now d i none some (value_index now d) refl;
-  once = let one : length now.declarations + unwritten now (length c.defined) ≡ k + (length old.declarations + unwritten old (length c.defined)) = w.once in let two : length new.declarations + unwritten new (length c.defined) ≡ n + (length now.declarations + unwritten now (length c.defined)) = u.once in omega (arith, one, two);
+  once = let one : length w.types + unwritten now (length c.defined) ≡ k + unwritten old (length c.defined) = w.once in let two : length u.types + unwritten new (length c.defined) ≡ n + unwritten now (length c.defined) = u.once in omega (arith, one, two, length-append w.types u.types);
 }
   where
     by_now : (d : DefinedTypeId) (i : ℕ) → value_index old d ≡ None → value_index new d ≡ Some i → (o : Option ℕ) → value_index now d ≡ o → R (val.Defined d)

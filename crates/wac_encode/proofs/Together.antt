@@ -12,6 +12,7 @@ use Rattle.wac_collection.specs.Collection.{Collection, IsWellFormed, item_at}
 use Rattle.wac_binary.specs.Items.{Decl}
 use Rattle.wac_scopes.specs.declared.fault.EncodeFault.{EncodeFault}
 use Rattle.wac_scopes.specs.declared.fault.EncodeFault.TheVariants as fault
+use Rattle.wac_scopes.specs.declared.encodable.Encodable.TheVariants.{Instance}
 use Rattle.wac_scopes.specs.declared.scope.Scope.{Scope}
 use Rattle.wac_encode.specs.Listing.{are_plain, lists_plain, IsOrder, IsEmpty, WritesItems, WritesInterface, AreRefused, IsInterfaceRefused}
 use Rattle.wac_encode.specs.Items.{CanList}
@@ -39,7 +40,7 @@ refused-whole A B c i it order start (fault.Write f) at ordered empty h = record
 refused-whole A B c i it order start fault.TooLarge at ordered empty h = record { interface = it; found = at; order = order; ordered = ordered; start = start; empty = empty; stopped = h }
 refused-whole A B c i it order start fault.OutOfMemory at ordered empty h = tt
 
-pub written-whole : (c : Collection) → IsWellFormed c → (i : InterfaceId) (it : Interface) (order : List (Name × ItemKind)) (start now : Scope) (ds : List Decl) → item_at c.interfaces i.0 ≡ Some it → IsOrder c it.exports order → IsEmpty start → WritesItems c start order now → ds ≡ now.declarations → WritesInterface c i ds
+pub written-whole : (c : Collection) → IsWellFormed c → (i : InterfaceId) (it : Interface) (order : List (Name × ItemKind)) (start now : Scope) (ds : List Decl) → item_at c.interfaces i.0 ≡ Some it → IsOrder c it.exports order → IsEmpty start → WritesItems c start order now → now.content ≡ Instance ds → WritesInterface c i ds
 written-whole c wf i it order start now ds at ordered empty written is = record {
   interface = it;
   found = at;

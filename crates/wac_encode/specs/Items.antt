@@ -7,6 +7,10 @@ use Rattle.wac_shapes.specs.declared.component.ItemKind.{ItemKind}
 use Rattle.wac_collection.specs.Tree.{exported, Tree}
 use Rattle.wac_collection.specs.Collection.{Collection, holds_type}
 use Rattle.wac_collection.specs.Bound.{Bindings, inside_interface}
+use Rattle.wac_binary.specs.HasMeaning.{ImportNothing}
+use Rattle.wac_binary.specs.Items.{decls}
+use Rattle.wac_scopes.specs.declared.encodable.Encodable.{Encodable}
+use Rattle.wac_scopes.specs.declared.encodable.Encodable.TheVariants.{Builder, Instance, Component}
 use Rattle.wac_scopes.specs.declared.scope.Scope.{Scope}
 use Rattle.wac_scopes.specs.Scopes.{Open, Stack, env, envs, opening}
 use Rattle.wac_scopes.specs.Good.{Good, top}
@@ -18,6 +22,12 @@ use Rattle.wac_encode.specs.Listing.{is_plain}
 abbrev pub ListsHeld : Collection → Scope → Scope → Name → ItemKind → Type 0
 ListsHeld c old new n k = (m : Bindings) (ms : List Bindings) (o : Open) (os : Stack) → Good c (m ∷ ms) (opened old o ∷ os) → IsNewName (opened old o) os exported n
     → (t : Tree) × IsItem c m exported n k t × Lists c m ms (opened old o) (opened new o) os exported n t
+
+-- an instance type is written that imports nothing
+abbrev pub CanClose : Encodable → Type 0
+CanClose (Builder items) = ⊥
+CanClose (Instance ds) = ImportNothing (decls ds)
+CanClose (Component ds) = ⊥
 
 -- an item can be listed
 abbrev pub CanList : Collection → ItemKind → Type 0

@@ -16,16 +16,17 @@ use Rattle.wac_collection.specs.Tree.{Tree}
 use Rattle.wac_collection.specs.Collection.{Collection, item_at}
 use Rattle.wac_collection.specs.Aliases.{value_resolved}
 use Rattle.wac_collection.specs.Bound.{Bindings}
-use Rattle.wac_binary.specs.Fits.{DeclarationsFit}
 use Rattle.wac_binary.specs.HasMeaning.{IsInstance}
-use Rattle.wac_binary.specs.Items.{value_def, primitive_def, instance_def, Decl, decls, type_decl, export_decl}
+use Rattle.wac_binary.specs.Items.{value_def, primitive_def, instance_def, Decl, decls}
 use Rattle.wac_binary.specs.declared.sorts.Description.{Description}
 use Rattle.wac_binary.specs.declared.sorts.Description.TheVariants as e
+use Rattle.wac_scopes.specs.declared.encodable.Encodable.TheVariants.{Instance}
 use Rattle.wac_scopes.specs.declared.scope.Scope.{Scope}
 use Rattle.wac_scopes.specs.declared.fault.EncodeFault.{EncodeFault}
 use Rattle.wac_scopes.specs.declared.fault.EncodeFault.TheVariants as fault
 use Rattle.wac_scopes.specs.declared.fault.WriteFault.{WriteFault}
 use Rattle.wac_scopes.specs.declared.fault.WriteFault.TheVariants as write
+use Rattle.wac_scopes.specs.Contents.{and_type, and_export, ContentFits}
 use Rattle.wac_scopes.specs.Scopes.{Open, Stack, next_type, with_def}
 use Rattle.wac_scopes.specs.Good.{IsHeld, Good}
 use Rattle.wac_scopes.specs.Laws.{Adds}
@@ -104,7 +105,7 @@ own_types c k = 0
 
 -- the type index of a value type that a type item lists: that of a primitive which was written for it, or the one that is recorded
 abbrev pub IsListedAt : Scope → Scope → ValueType → ℕ → Type 0
-IsListedAt old now (val.Primitive p) i = AddsPrimitive old now p i × (now.declarations ≡ old.declarations ++ type_decl (value_def (primitive_def p)) ∷ [])
+IsListedAt old now (val.Primitive p) i = AddsPrimitive old now p i × (now.content ≡ and_type old.content (value_def (primitive_def p)))
 IsListedAt old now (val.Defined d) i = value_index now d ≡ Some i
 IsListedAt old now v i = ⊥
 
@@ -137,7 +138,7 @@ pub record WritesItem (c : Collection) (old new : Scope) (n : Name) (k : ItemKin
   pub behind : WritesFor c (own_types c k) (NeededBy c k) old now
   pub description : Description
   pub described : IsDescribed c old now k description
-  pub appended : new.declarations ≡ now.declarations ++ export_decl n description ∷ []
+  pub appended : new.content ≡ and_export now.content n description
   pub named : NamesItem c old now new n k
 
 -- items, one after the other
@@ -145,9 +146,9 @@ abbrev pub WritesItems : Collection → Scope → List (Name × ItemKind) → Sc
 WritesItems c old [] new = new ≡ old
 WritesItems c old (e ∷ es) new = (now : Scope) × WritesItem c old now e.0 e.1 × WritesItems c now es new
 
--- nothing is written, and nothing recorded
+-- an instance type in which nothing is written, and nothing recorded
 pub record IsEmpty (s : Scope) : Type 0 where
-  pub declarations : s.declarations ≡ []
+  pub content : s.content ≡ Instance []
   pub values : (d : DefinedTypeId) → value_index s d ≡ None
 
 -- the declarations list exactly the items of the interface, in order
@@ -161,7 +162,7 @@ pub record WritesInterface (c : Collection) (i : InterfaceId) (ds : List Decl) :
   pub empty : IsEmpty start
   pub scope : Scope
   pub written : WritesItems c start order scope
-  pub is : ds ≡ scope.declarations
+  pub is : scope.content ≡ Instance ds
 
 -- and so where there are declarations
 abbrev pub SaysIfThere : Collection → InterfaceId → Option (List Decl) → Type 0
@@ -174,7 +175,7 @@ WritesIfThere c i (Some ds) = WritesInterface c i ds
 
 -- which of an item's types does not fit behind what is written
 abbrev pub PrimitiveDoesNotFit : ValueType → Scope → Type 0
-PrimitiveDoesNotFit (val.Primitive p) s = DeclarationsFit (s.declarations ++ type_decl (value_def (primitive_def p)) ∷ []) → ⊥
+PrimitiveDoesNotFit (val.Primitive p) s = ContentFits (and_type s.content (value_def (primitive_def p))) → ⊥
 PrimitiveDoesNotFit v s = ⊥
 
 abbrev pub TypeDoesNotFit : Collection → ItemKind → Scope → Type 0
@@ -184,7 +185,7 @@ TypeDoesNotFit c k s = ⊥
 
 -- the item itself does not
 abbrev pub ExportDoesNotFit : Collection → Name → ItemKind → Scope → Scope → Type 0
-ExportDoesNotFit c n k old s = (d : Description) × IsDescribed c old s k d × (DeclarationsFit (s.declarations ++ export_decl n d ∷ []) → ⊥)
+ExportDoesNotFit c n k old s = (d : Description) × IsDescribed c old s k d × (ContentFits (and_export s.content n d) → ⊥)
 
 -- behind some of what it is made of
 pub record ItemDoesNotFit (c : Collection) (n : Name) (k : ItemKind) (old : Scope) : Type 0 where

@@ -11,12 +11,12 @@ use Rattle.wac_shapes.specs.declared.component.ValueType.TheVariants as val
 use Rattle.wac_collection.specs.Collection.{Collection, HasDefined, item_at, holds_value}
 use Rattle.wac_collection.specs.Aliases.{target_of, value_resolved}
 use Rattle.wac_binary.specs.declared.types.ComponentValType.{ComponentValType}
-use Rattle.wac_binary.specs.Fits.{DeclarationsFit}
-use Rattle.wac_binary.specs.Items.{ValueDef, TypeDef, type_decl, value_def}
+use Rattle.wac_binary.specs.Items.{ValueDef, TypeDef, value_def}
 use Rattle.wac_scopes.specs.declared.scope.Scope.{Scope}
 use Rattle.wac_scopes.specs.declared.fault.EncodeFault.{EncodeFault}
 use Rattle.wac_scopes.specs.declared.fault.EncodeFault.TheVariants as fault
 use Rattle.wac_scopes.specs.declared.fault.WriteFault.TheVariants as write
+use Rattle.wac_scopes.specs.Contents.{and_type, ContentFits}
 use Rattle.wac_scopes.specs.Scoped.{value_index, HasToo}
 use Rattle.wac_encode.specs.declared.task.Task.{Task}
 use Rattle.wac_encode.specs.Made.{MadeOf, parts}
@@ -73,7 +73,7 @@ pub record WritesOne (c : Collection) (old new : Scope) (d : DefinedTypeId) : Ty
   pub index : ℕ
   pub recorded : HasToo old d index new
   pub definition : TypeDef
-  pub appended : new.declarations ≡ old.declarations ++ type_decl definition ∷ []
+  pub appended : new.content ≡ and_type old.content definition
 
 -- the definition does not fit behind what is written
 pub record LargeOne (c : Collection) (s : Scope) (d : DefinedTypeId) : Type 0 where
@@ -81,7 +81,7 @@ pub record LargeOne (c : Collection) (s : Scope) (d : DefinedTypeId) : Type 0 wh
   pub found : item_at c.defined d.0 ≡ Some definition
   pub written : ValueDef
   pub says : SaysDefinition c s definition written
-  pub large : DeclarationsFit (s.declarations ++ type_decl (value_def written) ∷ []) → ⊥
+  pub large : ContentFits (and_type s.content (value_def written)) → ⊥
 
 -- what stands where one definition is refused
 abbrev pub IsOneRefused : {A : Type 0} → Collection → Scope → DefinedTypeId → Result A EncodeFault → Type 0

@@ -1,7 +1,7 @@
 -- What the writers of value types and function types do to an open scope.
 use Rattle.std.specs.Prelude.{ℕ, zero, suc, ◌+◌, ◌≡◌, ◌⊎◌, List, [], ◌∷◌, ◌++◌, length, map, Option, Some, None, IsSome, Result, Ok, Err}
 use Rattle.std.specs.List.{AllZip}
-use Rattle.wac_shapes.specs.Name.{option_case}
+use Rattle.wac_shapes.specs.Name.{Name, option_case}
 use Rattle.wac_shapes.specs.declared.component.DefinedType.{DefinedType}
 use Rattle.wac_shapes.specs.declared.component.DefinedTypeId.{DefinedTypeId}
 use Rattle.wac_shapes.specs.declared.component.FuncType.{FuncType}
@@ -9,23 +9,27 @@ use Rattle.wac_shapes.specs.declared.component.FuncTypeId.{FuncTypeId}
 use Rattle.wac_shapes.specs.declared.component.ValueType.{ValueType}
 use Rattle.wac_shapes.specs.declared.component.ValueType.TheVariants as val
 use Rattle.wac_shapes.specs.declared.component.«Type».TheVariants as ty
-use Rattle.wac_collection.specs.Tree.{Tree}
+use Rattle.wac_collection.specs.Tree.{Tree, function_item}
 use Rattle.wac_collection.specs.Collection.{Collection, item_at, func_values}
 use Rattle.wac_collection.specs.Aliases.{value_resolved}
 use Rattle.wac_collection.specs.Bound.{Bindings}
 use Rattle.wac_binary.specs.declared.types.ComponentValType.{ComponentValType}
-use Rattle.wac_binary.specs.Fits.{DeclarationsFit}
+use Rattle.wac_binary.specs.declared.sorts.Description.TheVariants as e
+use Rattle.wac_binary.specs.declared.sorts.Sort.TheVariants as sort
 use Rattle.wac_binary.specs.HasMeaning.{IsFunction}
-use Rattle.wac_binary.specs.Items.{ValueDef, TypeDef, func_def, Decl, type_decl, value_def}
+use Rattle.wac_binary.specs.Items.{ValueDef, TypeDef, func_def, type_decl, type_item, value_def}
+use Rattle.wac_scopes.specs.declared.encodable.Encodable.{Encodable}
+use Rattle.wac_scopes.specs.declared.encodable.Encodable.TheVariants.{Builder, Instance, Component}
 use Rattle.wac_scopes.specs.declared.scope.Scope.{Scope}
 use Rattle.wac_scopes.specs.declared.fault.EncodeFault.{EncodeFault}
 use Rattle.wac_scopes.specs.declared.fault.EncodeFault.TheVariants as fault
 use Rattle.wac_scopes.specs.declared.fault.WriteFault.TheVariants as write
+use Rattle.wac_scopes.specs.Contents.{and_type, and_import, ContentFits}
 use Rattle.wac_scopes.specs.Scopes.{Open, Stack, env, envs}
 use Rattle.wac_scopes.specs.Good.{IsHeld, Good, Onward}
 use Rattle.wac_scopes.specs.Laws.{Adds}
 use Rattle.wac_scopes.specs.Parts.{Is, IsWritten, IsWrittenFunc}
-use Rattle.wac_scopes.specs.Scoped.{value_index, in_use, opened}
+use Rattle.wac_scopes.specs.Scoped.{value_index, in_use, opened, IsNewInRoot, RootImports}
 use Rattle.wac_encode.specs.Made.{OneIsMadeOf}
 
 -- the value type in use is the held one, in each good stack in which the scope is the innermost
@@ -69,8 +73,10 @@ unwritten s zero = 0
 unwritten s (suc n) = one_if_none (value_index s (record { 0 = n })) + unwritten s n
 
 -- type definitions are written behind what was
-abbrev pub with_types : List Decl → List TypeDef → List Decl
-with_types ds ys = ds ++ map type_decl ys
+abbrev pub with_types : Encodable → List TypeDef → Encodable
+with_types (Builder items) ys = Builder (items ++ map type_item ys)
+with_types (Instance ds) ys = Instance (ds ++ map type_decl ys)
+with_types (Component ds) ys = Component (ds ++ map type_decl ys)
 
 -- From old to new, while definitions that are needed were written, and so many function types.
 pub record WritesFor (c : Collection) (n : ℕ) (Needed : ValueType → Type 0) (old new : Scope) : Type 0 where
@@ -78,13 +84,13 @@ pub record WritesFor (c : Collection) (n : ℕ) (Needed : ValueType → Type 0) 
   pub onward : GoesOn c old new
   -- type definitions are written, and nothing else is
   pub types : List TypeDef
-  pub appended : new.declarations ≡ with_types old.declarations types
+  pub appended : new.content ≡ with_types old.content types
   -- what was written is written where it was
   pub kept : (d : DefinedTypeId) (i : ℕ) → value_index old d ≡ Some i → value_index new d ≡ Some i
   -- what is written since is needed
   pub needed : (d : DefinedTypeId) (i : ℕ) → value_index old d ≡ None → value_index new d ≡ Some i → Needed (val.Defined d)
   -- and is written once
-  pub once : length new.declarations + unwritten new (length c.defined) ≡ n + (length old.declarations + unwritten old (length c.defined))
+  pub once : length types + unwritten new (length c.defined) ≡ n + unwritten old (length c.defined)
 
 -- a definition that is needed is not written, and does not fit behind what is
 pub record DoesNotFit (c : Collection) (Needed : ValueType → Type 0) (s : Scope) : Type 0 where
@@ -95,7 +101,7 @@ pub record DoesNotFit (c : Collection) (Needed : ValueType → Type 0) (s : Scop
   pub found : item_at c.defined id.0 ≡ Some definition
   pub written : ValueDef
   pub says : SaysDefinition c s definition written
-  pub large : DeclarationsFit (s.declarations ++ type_decl (value_def written) ∷ []) → ⊥
+  pub large : ContentFits (and_type s.content (value_def written)) → ⊥
 
 abbrev pub IsHandle : ValueType → Type 0
 IsHandle (val.Own r) = Unit {0}
@@ -131,9 +137,9 @@ abbrev pub IsFuncByRecord : Collection → Scope → FuncType → TypeDef → Ty
 IsFuncByRecord c s x (func_def is_async xs y) = AllZip (λ v z. (z.0 ≡ v.0) × IsByRecord c s v.1 z.1) x.params xs × MaybeByRecord c s x.result y
 IsFuncByRecord c s x _ = ⊥
 
--- and is the last declaration
+-- and is what was written last
 abbrev pub EndsWithFunc : Collection → FuncTypeId → Scope → Type 0
-EndsWithFunc c f s = (x : FuncType) × (item_at c.funcs f.0 ≡ Some x) × (ds : List Decl) × (y : TypeDef) × (s.declarations ≡ ds ++ type_decl y ∷ []) × IsFuncByRecord c s x y
+EndsWithFunc c f s = (x : FuncType) × (item_at c.funcs f.0 ≡ Some x) × (before : Encodable) × (y : TypeDef) × (s.content ≡ and_type before y) × IsFuncByRecord c s x y
 
 -- the function type does not fit behind what is written
 pub record FuncDoesNotFit (c : Collection) (f : FuncTypeId) (s : Scope) : Type 0 where
@@ -141,7 +147,7 @@ pub record FuncDoesNotFit (c : Collection) (f : FuncTypeId) (s : Scope) : Type 0
   pub found : item_at c.funcs f.0 ≡ Some func
   pub written : TypeDef
   pub says : (m : Bindings) (ms : List Bindings) (o : Open) (os : Stack) → Good c (m ∷ ms) (opened s o ∷ os) → IsWrittenFunc c m (env (opened s o) (envs os)) func written
-  pub large : DeclarationsFit (s.declarations ++ type_decl written ∷ []) → ⊥
+  pub large : ContentFits (and_type s.content written) → ⊥
 
 -- what stands where a function type is refused: what stands where its value types are, or it does not fit itself
 abbrev pub IsFuncRefused : {A : Type 0} → Collection → FuncTypeId → Scope → Result A EncodeFault → Type 0
@@ -151,3 +157,25 @@ IsFuncRefused c f s r = IsRefused c (IsOfFunc c f) s r
 abbrev pub one_if_ok : {A : Type 0} → Result A EncodeFault → ℕ
 one_if_ok (Ok x) = 1
 one_if_ok (Err e) = 0
+
+-- a function of the held function type is imported under a name that is new, in each stack that was good with the root as the innermost; index k is that import
+abbrev pub ImportsHeldFunc : Collection → Scope → Scope → Name → FuncTypeId → ℕ → Type 0
+ImportsHeldFunc c old new n f k = (m : Bindings) (ms : List Bindings) (o : Open) (os : Stack) → Good c (m ∷ ms) (opened old o ∷ os) → IsNewInRoot old n
+    → (t : Tree) × IsHeld c m (ty.Func f) t × RootImports c (m ∷ ms) old new o os sort.Func k n (function_item t)
+
+-- the import is written behind the function type
+pub record EndsWithImport (c : Collection) (f : FuncTypeId) (n : Name) (old new : Scope) : Type 0 where
+  pub now : Scope
+  pub written : WritesFor c 1 (IsOfFunc c f) old now
+  pub recorded : EndsWithFunc c f now
+  pub index : ℕ
+  pub imported : new ≡ record now { content = and_import now.content n (e.Func index) }
+
+-- what is written where it is refused: at most the function type
+abbrev pub WritesFuncAtMost : Collection → FuncTypeId → Scope → Scope → Type 0
+WritesFuncAtMost c f old new = WritesFor c 0 (IsOfFunc c f) old new ⊎ WritesFor c 1 (IsOfFunc c f) old new
+
+-- what stands where an import of a function is refused: what stands where its type is, or the import does not fit
+abbrev pub IsImportRefused : {A : Type 0} → Collection → FuncTypeId → Name → Scope → Result A EncodeFault → Type 0
+IsImportRefused c f n s (Err fault.TooLarge) = IsFuncRefused {A = ℕ} c f s (Err fault.TooLarge) ⊎ ((i : ℕ) × (ContentFits (and_import s.content n (e.Func i)) → ⊥))
+IsImportRefused c f n s r = IsFuncRefused c f s r

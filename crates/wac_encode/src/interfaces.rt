@@ -8,11 +8,11 @@ ghost use Rattle.wac_shapes.specs.declared.component.ValueType.TheVariants as va
 ghost use Rattle.wac_shapes.specs.declared.component.«Type».TheVariants as ty;
 ghost use Rattle.wac_collection.specs.Collection.{HasFunc, HasInterface, holds_value};
 ghost use Rattle.wac_collection.specs.Aliases.{value_resolved};
-ghost use Rattle.wac_binary.specs.HasMeaning.{ImportNothing};
-ghost use Rattle.wac_binary.specs.Items.{decls};
+ghost use Rattle.wac_scopes.specs.declared.encodable.Encodable.TheVariants.{Instance};
+ghost use Rattle.wac_scopes.specs.Contents.{IsOpenType};
 ghost use Rattle.wac_scopes.specs.Scoped.{value_index};
 ghost use Rattle.wac_encode.specs.Listing.{SaysIfThere, WritesIfThere, is_plain as plain_item, are_plain as plain_items, lists_plain, rank as item_rank, IsOrder, WritesItem, WritesItems, IsEmpty, IsItemRefused, AreRefused, IsInterfaceRefused};
-ghost use Rattle.wac_encode.specs.Items.{ListsHeld, CanList, HasListed};
+ghost use Rattle.wac_encode.specs.Items.{ListsHeld, CanClose, CanList, HasListed};
 
 use crate::encoder::TypeEncoder;
 use std::alloc::AllocError;
@@ -22,7 +22,8 @@ use wac_collection::{
     ValueType,
 };
 use wac_scopes::{
-    EncodeFault, Scope, WriteFault, alias_law, closing_law, listing_law, step_law, still_law,
+    Encodable, EncodeFault, Scope, WriteFault, alias_law, closing_law, listing_law, step_law,
+    still_law,
 };
 
 impl<'a> TypeEncoder<'a> {
@@ -34,7 +35,8 @@ impl<'a> TypeEncoder<'a> {
         value: ValueType,
         primitive: PrimitiveType,
     ) -> Result<(), EncodeFault>
-        requires { value_resolved self.now.types.now value ≡ val.Primitive primitive }
+        requires end { value_resolved self.now.types.now value ≡ val.Primitive primitive }
+        requires open { IsOpenType scope.old.content }
         ensures listed { OnOk result (ListsHeld self.now.types.now scope.old scope.new name.now (kind.TypeItem (ty.Value value))) }
         ensures wrote { OnOk result (WritesItem self.now.types.now scope.old scope.new name.now (kind.TypeItem (ty.Value value))) }
         ensures fault { IsItemRefused self.now.types.now name.now (kind.TypeItem (ty.Value value)) scope.old result }
@@ -58,6 +60,7 @@ impl<'a> TypeEncoder<'a> {
     ) -> Result<(), EncodeFault>
         requires end { value_resolved self.now.types.now value ≡ val.Defined id }
         requires written { value_index scope.old id ≡ Some index }
+        requires open { IsOpenType scope.old.content }
         ensures listed { OnOk result (ListsHeld self.now.types.now scope.old scope.new name.now (kind.TypeItem (ty.Value value))) }
         ensures wrote { OnOk result (WritesItem self.now.types.now scope.old scope.new name.now (kind.TypeItem (ty.Value value))) }
         ensures fault { IsItemRefused self.now.types.now name.now (kind.TypeItem (ty.Value value)) scope.old result }
@@ -81,6 +84,7 @@ impl<'a> TypeEncoder<'a> {
         requires held { holds_value self.now.types.now value ≡ true }
         requires end { value_resolved self.now.types.now value ≡ val.Defined id }
         requires unwritten { value_index scope.old id ≡ None }
+        requires open { IsOpenType scope.old.content }
         ensures listed { OnOk result (ListsHeld self.now.types.now scope.old scope.new name.now (kind.TypeItem (ty.Value value))) }
         ensures wrote { OnOk result (WritesItem self.now.types.now scope.old scope.new name.now (kind.TypeItem (ty.Value value))) }
         ensures fault { IsItemRefused self.now.types.now name.now (kind.TypeItem (ty.Value value)) scope.old result }
@@ -97,7 +101,8 @@ impl<'a> TypeEncoder<'a> {
 
     /// Writes a value type, and lists it as a type item.
     fn type_item(&self, scope: &mut Scope, name: &str, value: ValueType) -> Result<(), EncodeFault>
-        requires { holds_value self.now.types.now value ≡ true }
+        requires held { holds_value self.now.types.now value ≡ true }
+        requires open { IsOpenType scope.old.content }
         ensures listed { OnOk result (ListsHeld self.now.types.now scope.old scope.new name.now (kind.TypeItem (ty.Value value))) }
         ensures wrote { OnOk result (WritesItem self.now.types.now scope.old scope.new name.now (kind.TypeItem (ty.Value value))) }
         ensures fault { IsItemRefused self.now.types.now name.now (kind.TypeItem (ty.Value value)) scope.old result }
@@ -119,7 +124,8 @@ impl<'a> TypeEncoder<'a> {
 
     /// Writes a function type, and lists a function of it.
     fn func_item(&self, scope: &mut Scope, name: &str, func: FuncTypeId) -> Result<(), EncodeFault>
-        requires { HasFunc self.now.types.now func }
+        requires held { HasFunc self.now.types.now func }
+        requires open { IsOpenType scope.old.content }
         ensures listed { OnOk result (ListsHeld self.now.types.now scope.old scope.new name.now (kind.Func func)) }
         ensures wrote { OnOk result (WritesItem self.now.types.now scope.old scope.new name.now (kind.Func func)) }
         ensures fault { IsItemRefused self.now.types.now name.now (kind.Func func) scope.old result }
@@ -131,7 +137,8 @@ impl<'a> TypeEncoder<'a> {
 
     /// Writes what an item is made of, and lists it under its name.
     fn item(&self, scope: &mut Scope, name: &str, item: ItemKind) -> Result<(), EncodeFault>
-        requires { CanList self.now.types.now item }
+        requires held { CanList self.now.types.now item }
+        requires open { IsOpenType scope.old.content }
         ensures listed { OnOk result (ListsHeld self.now.types.now scope.old scope.new name.now item) }
         ensures wrote { OnOk result (WritesItem self.now.types.now scope.old scope.new name.now item) }
         ensures fault { IsItemRefused self.now.types.now name.now item scope.old result }
@@ -160,7 +167,7 @@ impl<'a> TypeEncoder<'a> {
         requires once { NoNameTwice (named_pairs order.now) }
         requires empty { IsEmpty scope.old }
         ensures listed { OnOk result (HasListed self.now.types.now held.now scope.new (named_pairs order.now)) }
-        ensures imports { OnOk result (ImportNothing (decls scope.new.declarations)) }
+        ensures closes { OnOk result (CanClose scope.new.content) }
         ensures wrote { OnOk result (WritesItems self.now.types.now scope.old (named_pairs order.now) scope.new) }
         ensures fault { AreRefused self.now.types.now scope.old (named_pairs order.now) result }
     {
@@ -227,9 +234,22 @@ impl<'a> TypeEncoder<'a> {
         }
         held.exports.law();
         let order = self.order(&held.exports)?;
-        let mut scope = Scope::new(self.types.allocator());
+        let alloc = self.types.allocator();
+        let mut scope = Scope::new(alloc, Encodable::Instance(InstanceType::new(alloc)));
         self.items(&mut scope, held, order.as_slice())?;
-        Ok(Some(scope.into_declarations()))
+        let declarations = instance_type(scope.into_content());
+        Ok(Some(declarations))
+    }
+}
+
+/// The instance type that is written.
+fn instance_type(content: Encodable) -> InstanceType
+    requires { CanClose content }
+    ensures { content ≡ Instance result }
+{
+    match content {
+        Encodable::Instance(declarations) => declarations,
+        Encodable::Builder(_) | Encodable::Component(_) => unreachable!(),
     }
 }
 

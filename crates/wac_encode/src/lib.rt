@@ -3,6 +3,7 @@
 
 mod encoder;
 mod functions;
+mod imports;
 mod interfaces;
 mod parts;
 mod task;

@@ -1,10 +1,10 @@
 //! Functions that are written and listed beside the types that they use.
 
 use std::test::Fail;
-use wac_binary::{ComponentBuilder, ComponentValType, Description};
+use wac_binary::{ComponentBuilder, ComponentValType, Description, InstanceType};
 use wac_collection::Types;
 use wac_encode::TypeEncoder;
-use wac_scopes::{EncodeFault, Scope, WriteFault};
+use wac_scopes::{Encodable, EncodeFault, Scope, WriteFault};
 use wac_shapes::{DefinedType, Enum, FuncType, PrimitiveType, Resource, Type, ValueType};
 
 const INTERFACE: [u8; 51] = [
@@ -26,7 +26,7 @@ fn takes_the_named_index(rt: HostRuntime) -> Result<(), Fail> {
     let alias = types.add_defined_type(DefinedType::Alias(ValueType::Defined(cases)))?;
     let x = ValueType::Defined(alias);
     let f = types.add_func_type(FuncType::new(alloc, &[("x", x)], None, false)?)?;
-    let mut scope = Scope::new(alloc);
+    let mut scope = Scope::new(alloc, Encodable::Instance(InstanceType::new(alloc)));
     if types.contains(Type::Value(x)) && types.contains(Type::Func(f)) {
         let encoder = TypeEncoder::new(&types);
         let written = encoder.value_type(&mut scope, x)?;
@@ -37,8 +37,11 @@ fn takes_the_named_index(rt: HostRuntime) -> Result<(), Fail> {
         assert_eq!(rt; index, 2);
         scope.export_func("f", index)?;
     }
+    let Encodable::Instance(declarations) = scope.into_content() else {
+        return Err(Fail::new("no instance type"));
+    };
     let mut builder = ComponentBuilder::new(alloc);
-    let interface = builder.instance_type(&scope.into_declarations())?;
+    let interface = builder.instance_type(&declarations)?;
     builder.import("n:p/i", Description::Instance(interface))?;
     assert!(rt; builder.finish()?.as_slice() == INTERFACE.as_slice());
     Ok(())
@@ -54,7 +57,7 @@ fn writes_parameters_in_order(rt: HostRuntime) -> Result<(), Fail> {
     let option = ValueType::Defined(types.add_defined_type(DefinedType::Option(list))?);
     let params = [("a", option), ("b", byte)];
     let f = types.add_func_type(FuncType::new(alloc, &params, Some(list), true)?)?;
-    let mut scope = Scope::new(alloc);
+    let mut scope = Scope::new(alloc, Encodable::Instance(InstanceType::new(alloc)));
     if types.contains(Type::Func(f)) {
         assert_eq!(rt; TypeEncoder::new(&types).func(&mut scope, f)?, 2);
         assert_eq!(rt; TypeEncoder::new(&types).func(&mut scope, f)?, 3);
@@ -68,7 +71,7 @@ fn writes_parameters_in_order(rt: HostRuntime) -> Result<(), Fail> {
 #[test]
 fn lists_a_primitive(rt: HostRuntime) -> Result<(), Fail> {
     let alloc = rt.alloc();
-    let mut scope = Scope::new(alloc);
+    let mut scope = Scope::new(alloc, Encodable::Instance(InstanceType::new(alloc)));
     let index = scope.define_primitive(PrimitiveType::U32)?;
     assert_eq!(rt; scope.export_type("size", index)?, 1);
     let byte = ValueType::Primitive(PrimitiveType::U32);
@@ -83,7 +86,7 @@ fn refuses_a_result_of_a_handle(rt: HostRuntime) -> Result<(), Fail> {
     let mut types = Types::new(alloc);
     let resource = types.add_resource(Resource::new(alloc, "r")?)?;
     let f = types.add_func_type(FuncType::new(alloc, &[], Some(ValueType::Own(resource)), false)?)?;
-    let mut scope = Scope::new(alloc);
+    let mut scope = Scope::new(alloc, Encodable::Instance(InstanceType::new(alloc)));
     if types.contains(Type::Func(f)) {
         let refused = TypeEncoder::new(&types).func(&mut scope, f);
         assert!(rt; refused == Err(EncodeFault::Write(WriteFault::UnboundResource)));

@@ -6,6 +6,8 @@ mod functions;
 #[cfg(test)]
 mod interfaces;
 #[cfg(test)]
+mod roots;
+#[cfg(test)]
 mod scopes;
 #[cfg(test)]
 mod values;

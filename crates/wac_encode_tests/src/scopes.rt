@@ -1,14 +1,15 @@
 //! What is recorded in an open scope.
 
 use std::test::Fail;
-use wac_binary::{ComponentValType, DefinedType};
-use wac_scopes::Scope;
+use wac_binary::{ComponentValType, DefinedType, InstanceType};
+use wac_scopes::{Encodable, Scope};
 use wac_shapes::{DefinedTypeId, PrimitiveType, ResourceId, ValueType};
 
 // A list of bytes, then an option of it: type indexes rise from 0. A handle and a definition that is not written have none.
 #[test]
 fn records_what_is_written(rt: HostRuntime) -> Result<(), Fail> {
-    let mut scope = Scope::new(rt.alloc());
+    let alloc = rt.alloc();
+    let mut scope = Scope::new(alloc, Encodable::Instance(InstanceType::new(alloc)));
     let byte = ComponentValType::Primitive(PrimitiveType::U8);
     let list = scope.define(DefinedTypeId(7), &DefinedType::List(byte))?;
     assert_eq!(rt; list, 0);

@@ -1,10 +1,10 @@
 //! Value types that are written.
 
 use std::test::Fail;
-use wac_binary::ComponentValType;
+use wac_binary::{ComponentValType, InstanceType};
 use wac_collection::Types;
 use wac_encode::TypeEncoder;
-use wac_scopes::{EncodeFault, Scope, WriteFault};
+use wac_scopes::{Encodable, EncodeFault, Scope, WriteFault};
 use wac_shapes::{DefinedType, PrimitiveType, Resource, Type, ValueType};
 
 // A tuple of a list twice: the list first and once. An alias of the tuple is written by its index.
@@ -16,7 +16,7 @@ fn writes_parts_first(rt: HostRuntime) -> Result<(), Fail> {
     let list = ValueType::Defined(types.add_defined_type(DefinedType::List(byte))?);
     let pair = types.add_defined_type(DefinedType::tuple(alloc, &[list, list])?)?;
     let alias = types.add_defined_type(DefinedType::Alias(ValueType::Defined(pair)))?;
-    let mut scope = Scope::new(alloc);
+    let mut scope = Scope::new(alloc, Encodable::Instance(InstanceType::new(alloc)));
     for value in [ValueType::Defined(alias), ValueType::Defined(pair)] {
         if types.contains(Type::Value(value)) {
             let written = TypeEncoder::new(&types).value_type(&mut scope, value)?;
@@ -34,7 +34,7 @@ fn refuses_a_handle(rt: HostRuntime) -> Result<(), Fail> {
     let mut types = Types::new(alloc);
     let resource = types.add_resource(Resource::new(alloc, "r")?)?;
     let list = types.add_defined_type(DefinedType::List(ValueType::Own(resource)))?;
-    let mut scope = Scope::new(alloc);
+    let mut scope = Scope::new(alloc, Encodable::Instance(InstanceType::new(alloc)));
     let value = ValueType::Defined(list);
     if types.contains(Type::Value(value)) {
         let refused = TypeEncoder::new(&types).value_type(&mut scope, value);

@@ -13,7 +13,9 @@ pub mod Inside
 pub mod Sample
 pub mod Modules
 pub mod SampleWorld
+pub mod ContentLaws
 pub mod ScopedLaws
+pub mod ImportLaws
 pub mod Besides
 pub mod HeldValues
 pub mod Aliases

@@ -1,21 +1,23 @@
 -- The root's imports.
 use Rattle.std.specs.Prelude.{ℕ, ◌≡◌, List, [], ◌∷◌, ◌++◌}
-use Rattle.std.proofs.Common.{refl, ap, ◌∙◌, sym, subst}
+use Rattle.std.proofs.Common.{refl, ap, ◌∙◌, sym, subst, arith}
 use Rattle.wac_shapes.specs.Name.{Name}
 use Rattle.wac_collection.specs.Tree.{imported, Leaf, Tree, resource, fresh, type_equal, instance_item}
 use Rattle.wac_collection.specs.Collection.{Collection}
 use Rattle.wac_collection.specs.Bound.{Bindings}
 use Rattle.wac_binary.specs.declared.sorts.Description.{Description}
 use Rattle.wac_binary.specs.declared.sorts.Description.TheVariants as e
+use Rattle.wac_binary.specs.declared.sorts.Sort.TheVariants as s
 use Rattle.wac_binary.specs.Items.{Item, import_item}
-use Rattle.wac_binary.specs.Unfold.{Scope, Bound, with_bound, described_item}
+use Rattle.wac_binary.specs.Indexes.{described_sort}
+use Rattle.wac_binary.specs.Unfold.{Scope, Bound, counted_up, with_bound, described_item}
 use Rattle.wac_binary.specs.Meaning.{Root, meaning}
-use Rattle.wac_binary.specs.HasMeaning.{IsType, IsInstance, HasMeaning}
+use Rattle.wac_binary.specs.HasMeaning.{IsType, IsFunction, IsInstance, IsModule, HasMeaning}
 use Rattle.wac_scopes.specs.Reads.{Reads}
 use Rattle.wac_scopes.specs.Scopes.{root, at_type, Open, next_type, next_instance}
 use Rattle.wac_scopes.specs.Good.{At, Keeps, Good, top, Onward}
-use Rattle.wac_scopes.specs.Instances.{position_of, holding, ImportsInstance, ImportsType, ImportsFresh}
-use Rattle.wac_scopes.proofs.Grow.{at-last, at-type_at, keeps-type, keeps-instance, good-pushed}
+use Rattle.wac_scopes.specs.Instances.{position_of, holding, ImportsInstance, ImportsType, ImportsFresh, ImportsFunc, ImportsModule, ListsImport}
+use Rattle.wac_scopes.proofs.Grow.{at-last, at-type_at, keeps-refl, keeps-type, keeps-instance, good-pushed}
 use Rattle.wac_scopes.proofs.Steps.{good-bind_at}
 
 with-import : Reads → (items : List Item) (n : Name) (d : Description) → (meaning (items ++ import_item n d ∷ [])).scope ≡ with_bound (meaning items).scope imported (position_of items ∷ []) (described_item (meaning items).scope d)
@@ -75,3 +77,12 @@ imports-fresh reads c m items o n r g new bound =
 
     at : At ((meaning (items ++ import_item n e.Fresh ∷ [])).scope.types) (next_type (holding items o)) (resource leaf)
     at = subst (λ (w : Scope). At w.types (next_type (holding items o)) (resource leaf)) (sym is) (subst (λ (k : ℕ). At (now.types) k (resource leaf)) (reads.types_counted items) (at-last (meaning items).scope.types (resource leaf)))
+
+pub imports-func : Reads → ImportsFunc
+imports-func reads c m items o n i t g new fun at = good-root c m items (items ++ import_item n (e.Func i) ∷ []) o (meaning items).scope g (reads.item_meant items (import_item n (e.Func i)) g.0.meaning (new, subst IsFunction (sym (at-type_at (meaning items).scope.types i t at)) fun)) ((with-import reads) items n (e.Func i)) (keeps-refl (meaning items).scope) refl refl
+
+pub imports-module : Reads → ImportsModule
+imports-module reads c m items o n i t g new module_type at = good-root c m items (items ++ import_item n (e.CoreModule i) ∷ []) o (counted_up (meaning items).scope s.CoreModule) g (reads.item_meant items (import_item n (e.CoreModule i)) g.0.meaning (new, subst IsModule (sym (at-type_at (meaning items).scope.core_types i t at)) module_type)) ((with-import reads) items n (e.CoreModule i)) (record { core_types = λ j u h. h; types = λ j u h. h; instances = λ j b h. h; modules = omega arith; components = omega arith }) refl refl
+
+pub lists-import : Reads → ListsImport
+lists-import reads items n d = (reads.imports_after items (import_item n d), reads.thing_new items (import_item n d) (described_sort d) refl)

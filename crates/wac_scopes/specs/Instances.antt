@@ -11,11 +11,13 @@ use Rattle.wac_shapes.specs.declared.component.ItemKind.TheVariants as kind
 use Rattle.wac_collection.specs.Tree.{Side, imported, Place, position, named, Tree, resource, out_by, seen_from}
 use Rattle.wac_collection.specs.Collection.{Collection, IsWellFormed, item_at, holds_value}
 use Rattle.wac_collection.specs.Bound.{Bindings, own_name, inside_interface, held_tree}
+use Rattle.wac_binary.specs.declared.sorts.Description.{Description}
 use Rattle.wac_binary.specs.declared.sorts.Description.TheVariants as e
+use Rattle.wac_binary.specs.Indexes.{space, described_sort, indexes}
 use Rattle.wac_binary.specs.Items.{Item, import_item}
-use Rattle.wac_binary.specs.Unfold.{Scope, Bound}
-use Rattle.wac_binary.specs.Meaning.{meaning}
-use Rattle.wac_binary.specs.HasMeaning.{IsValue, IsType, IsInstance, IsNew}
+use Rattle.wac_binary.specs.Unfold.{Scope, Bound, described_item}
+use Rattle.wac_binary.specs.Meaning.{import_at, stands_for, meaning}
+use Rattle.wac_binary.specs.HasMeaning.{IsValue, IsType, IsFunction, IsInstance, IsModule, IsNew}
 use Rattle.wac_scopes.specs.Scopes.{root, Where, at_type, at_export, Open, Stack, env, envs, next_type, next_instance, bind_at, remember_at, name_at}
 use Rattle.wac_scopes.specs.Good.{At, Stands, IsHeld, Carries, Good, Onward}
 use Rattle.wac_scopes.specs.Laws.{Adds}
@@ -98,3 +100,21 @@ abbrev pub ImportsFresh : Type 0
 ImportsFresh = (c : Collection) (m : Bindings) (items : List Item) (o : Open) (n : Name) (r : ResourceId)
     → Good c (m ∷ []) (holding items o ∷ []) → IsNewImport items n → m r ≡ Some (record { out = 0; side = imported; path = position_of items ∷ [] })
     → Adds c (m ∷ []) (holding items o ∷ []) (bind_at r (at_type (next_type (holding items o))) (holding (items ++ import_item n e.Fresh ∷ []) o) ∷ []) (next_type (holding items o)) (resource (record { out = 0; side = imported; path = position_of items ∷ [] }))
+
+-- an import of a function into the root
+abbrev pub ImportsFunc : Type 0
+ImportsFunc = (c : Collection) (m : Bindings) (items : List Item) (o : Open) (n : Name) (i : ℕ) (t : Tree)
+    → Good c (m ∷ []) (holding items o ∷ []) → IsNewImport items n → IsFunction t → At ((meaning items).scope.types) i t
+    → Onward c (m ∷ []) (holding items o ∷ []) (holding (items ++ import_item n (e.Func i) ∷ []) o ∷ [])
+
+-- an import of a core module into the root
+abbrev pub ImportsModule : Type 0
+ImportsModule = (c : Collection) (m : Bindings) (items : List Item) (o : Open) (n : Name) (i : ℕ) (t : Tree)
+    → Good c (m ∷ []) (holding items o ∷ []) → IsNewImport items n → IsModule t → At ((meaning items).scope.core_types) i t
+    → Onward c (m ∷ []) (holding items o ∷ []) (holding (items ++ import_item n (e.CoreModule i) ∷ []) o ∷ [])
+
+-- an import stands behind those before it, and the index that it adds is the import of that position
+abbrev pub ListsImport : Type 0
+ListsImport = (items : List Item) (n : Name) (d : Description)
+    → ((meaning (items ++ import_item n d ∷ [])).imports ≡ (meaning items).imports ++ (n, described_item (meaning items).scope d) ∷ [])
+    × (stands_for (meaning (items ++ import_item n d ∷ [])) (described_sort d) (indexes (space (described_sort d)) items) ≡ import_at (length (meaning items).imports))

@@ -8,5 +8,6 @@ pub mod Instances
 pub mod Inside
 pub mod Modules
 pub mod Faults
+pub mod Contents
 pub mod Scoped
 pub mod Beside

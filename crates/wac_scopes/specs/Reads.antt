@@ -1,11 +1,12 @@
 -- How what is written is read: what one more item or declaration adds, and what scopes that only grew leave.
-use Rattle.std.specs.Prelude.{◌≡◌, List, [], ◌∷◌, ◌++◌, length}
+use Rattle.std.specs.Prelude.{◌≡◌, List, [], ◌∷◌, ◌++◌, length, Some}
 use Rattle.wac_binary.specs.declared.sorts.Sort.{Sort}
 use Rattle.wac_binary.specs.declared.sorts.Sort.TheVariants as s
 use Rattle.wac_binary.specs.Items.{Decl, Decls, decls, Item}
-use Rattle.wac_binary.specs.Indexes.{space, core_types, indexes, declared}
+use Rattle.wac_binary.specs.Indexes.{space, core_types, sort_added, indexes, declared}
 use Rattle.wac_binary.specs.Unfold.{Scope, empty, after, with_decl}
-use Rattle.wac_binary.specs.Meaning.{things, read, meaning}
+use Rattle.wac_binary.specs.Meaning.{things, stands_for, thing_added, read, meaning}
+use Rattle.wac_binary.specs.Added.{imports_added}
 use Rattle.wac_binary.specs.Growth.{Grows, AllGrow, Reach}
 use Rattle.wac_binary.specs.HasMeaning.{HasMeaning, ItemHasMeaning, DeclsHaveMeaning, DeclHasMeaning}
 
@@ -24,6 +25,9 @@ pub record Reads : Type 0 where
   pub root_grows : (items more : List Item) → Grows (meaning items).scope (meaning (items ++ more)).scope
   pub root_imports : (items more : List Item) → (meaning (items ++ more)).scope.imports ≡ (meaning items).scope.imports
   pub root_exports : (items more : List Item) → (meaning (items ++ more)).scope.exports ≡ (meaning items).scope.exports
+  -- the imports with one more item, and what the index that it adds is
+  pub imports_after : (items : List Item) (x : Item) → (meaning (items ++ x ∷ [])).imports ≡ (meaning items).imports ++ imports_added (meaning items) x
+  pub thing_new : (items : List Item) (x : Item) (t : Sort) → sort_added x ≡ Some t → stands_for (meaning (items ++ x ∷ [])) t (indexes (space t) items) ≡ thing_added (meaning items) x
   -- as many indexes stand for something as there are
   pub things_counted : (items : List Item) (t : Sort) → length (things (meaning items) t) ≡ indexes (space t) items
   pub types_counted : (items : List Item) → length (meaning items).scope.types ≡ indexes (space s.Type) items

@@ -1,5 +1,5 @@
 -- What a scope that is written in the code says of a stack of open scopes, whatever else is recorded there and around it.
-use Rattle.std.specs.Prelude.{ℕ, ◌≡◌, cond, nat_eq, List, ◌∷◌, Option, Some, None, Result, Ok, Err}
+use Rattle.std.specs.Prelude.{ℕ, ◌≡◌, cond, nat_eq, List, [], ◌∷◌, ◌++◌, length, Option, Some, None, Result, Ok, Err}
 use Rattle.wac_shapes.specs.Name.{Name}
 use Rattle.wac_shapes.specs.declared.component.PrimitiveType.{PrimitiveType}
 use Rattle.std.specs.HashMap.{get}
@@ -10,21 +10,27 @@ use Rattle.wac_shapes.specs.declared.component.FuncType.{FuncType}
 use Rattle.wac_shapes.specs.declared.component.ValueType.{ValueType}
 use Rattle.wac_shapes.specs.declared.component.ValueType.TheVariants as val
 use Rattle.wac_shapes.specs.declared.component.«Type».TheVariants as ty
-use Rattle.wac_collection.specs.Tree.{exported, Tree, primitive, type_equal, function_item}
+use Rattle.wac_collection.specs.Tree.{exported, Tree, primitive, type_equal, function_item, module_item}
 use Rattle.wac_collection.specs.Collection.{Collection, IsWellFormed, item_at}
 use Rattle.wac_collection.specs.Bound.{Bindings}
 use Rattle.wac_binary.specs.declared.types.ComponentValType.{ComponentValType}
 use Rattle.wac_binary.specs.declared.types.ComponentValType.TheVariants.{Primitive, Index}
-use Rattle.wac_binary.specs.Items.{ValueDef, TypeDef}
-use Rattle.wac_binary.specs.HasMeaning.{IsValue, IsFunction, IsType}
+use Rattle.wac_binary.specs.declared.sorts.Sort.{Sort}
+use Rattle.wac_binary.specs.declared.sorts.Sort.TheVariants as s
+use Rattle.wac_binary.specs.Items.{ValueDef, TypeDef, ModuleDecl}
+use Rattle.wac_binary.specs.Unfold.{no_module, module_tree}
+use Rattle.wac_binary.specs.Meaning.{import_at, Root, stands_for, meaning}
+use Rattle.wac_binary.specs.HasMeaning.{IsValue, IsFunction, IsType, IsModule, ModuleHasMeaning}
 use Rattle.wac_scopes.specs.declared.fault.EncodeFault.{EncodeFault}
 use Rattle.wac_scopes.specs.declared.fault.EncodeFault.TheVariants as fault
 use Rattle.wac_scopes.specs.declared.scope.Scope.{Scope}
-use Rattle.wac_scopes.specs.Scopes.{declarations, Where, at_type, Open, Stack, env, envs}
-use Rattle.wac_scopes.specs.Good.{At, IsHeld, Good}
+use Rattle.wac_scopes.specs.Contents.{content_of, items_of}
+use Rattle.wac_scopes.specs.Scopes.{Where, at_type, Open, Stack, env, envs}
+use Rattle.wac_scopes.specs.Good.{At, IsHeld, Good, Onward}
 use Rattle.wac_scopes.specs.Parts.{Is, IsWritten, IsWrittenFunc}
 use Rattle.wac_scopes.specs.Laws.{Adds}
 use Rattle.wac_scopes.specs.Listed.{IsNewName, Lists}
+use Rattle.wac_scopes.specs.Instances.{IsNewImport}
 
 -- the type index of a definition, where it is written
 abbrev pub value_index : Scope → DefinedTypeId → Option ℕ
@@ -50,7 +56,7 @@ in_use s v = None
 
 -- the open scope that is so written; resources and names are recorded as in o
 abbrev pub opened : Scope → Open → Open
-opened s o = record o { content = declarations s.declarations; memo = recorded_value s }
+opened s o = record o { content = content_of s.content; memo = recorded_value s }
 
 abbrev pub IfThere : Option ComponentValType → (ComponentValType → Type 0) → Type 0
 IfThere None P = Unit {0}
@@ -65,9 +71,9 @@ IsThere s v x = (c : Collection) (m : Bindings) (ms : List Bindings) (o : Open) 
 pub record HasToo (old : Scope) (d : DefinedTypeId) (i : ℕ) (new : Scope) : Type 0 where
   pub values : (k : DefinedTypeId) → value_index new k ≡ cond (nat_eq d.0 k.0) (Some i) (value_index old k)
 
--- the same is declared, and the same recorded
+-- the same is written, and the same recorded
 pub record IsAsBefore (old new : Scope) : Type 0 where
-  pub declarations : new.declarations ≡ old.declarations
+  pub content : new.content ≡ old.content
   pub values : (k : DefinedTypeId) → value_index new k ≡ value_index old k
 
 -- where the definition that is written says the held one, index k is the held value type, and each good stack goes onward
@@ -87,6 +93,12 @@ abbrev pub AddsPrimitive : Scope → Scope → PrimitiveType → ℕ → Type 0
 AddsPrimitive old new p k = (c : Collection) (m : Bindings) (ms : List Bindings) (o : Open) (os : Stack)
     → Good c (m ∷ ms) (opened old o ∷ os) → Adds c (m ∷ ms) (opened old o ∷ os) (opened new o ∷ os) k (primitive p)
 
+-- a core module type that has a meaning is at index k of the core types, and each good stack goes onward
+abbrev pub AddsModule : Scope → Scope → List ModuleDecl → ℕ → Type 0
+AddsModule old new ds k = (c : Collection) (m : Bindings) (ms : List Bindings) (o : Open) (os : Stack)
+    → Good c (m ∷ ms) (opened old o ∷ os) → ModuleHasMeaning no_module ds
+    → Onward c (m ∷ ms) (opened old o ∷ os) (opened new o ∷ os) × At ((env (opened new o) (envs os)).core_types) k (module_tree ds)
+
 -- where no item has the name yet, the type at index i is listed under it, and is at index k too
 abbrev pub ListsType : Scope → Scope → Name → ℕ → ℕ → Type 0
 ListsType old new n i k = (c : Collection) (m : Bindings) (ms : List Bindings) (o : Open) (os : Stack) (t : Tree)
@@ -104,6 +116,44 @@ abbrev pub ListsFunction : Scope → Scope → Name → ℕ → Type 0
 ListsFunction old new n i = (c : Collection) (m : Bindings) (ms : List Bindings) (o : Open) (os : Stack) (t : Tree)
     → Good c (m ∷ ms) (opened old o ∷ os) → IsNewName (opened old o) os exported n → IsFunction t → At ((env (opened old o) (envs os)).types) i t
     → Lists c m ms (opened old o) (opened new o) os exported n (function_item t)
+
+-- what the items of the root mean
+abbrev pub root_of : Scope → Root
+root_of s = meaning (items_of s.content)
+
+-- no import of the root has this name
+abbrev pub IsNewInRoot : Scope → Name → Type 0
+IsNewInRoot s n = IsNewImport (items_of s.content) n
+
+-- From old to new, over os: the stack goes onward, the root has one import more, and index k of its sort is that import.
+pub record RootImports (c : Collection) (ms : List Bindings) (old new : Scope) (o : Open) (os : Stack) (sort : Sort) (k : ℕ) (n : Name) (item : Tree) : Type 0 where
+  pub onward : Onward c ms (opened old o ∷ os) (opened new o ∷ os)
+  pub listed : (root_of new).imports ≡ (root_of old).imports ++ (n, item) ∷ []
+  pub stands : stands_for (root_of new) sort k ≡ import_at (length (root_of old).imports)
+
+-- where no import has the name yet, a type item is imported that equals the type at index i; index k is that type too
+abbrev pub RootImportsType : Scope → Scope → Name → ℕ → ℕ → Type 0
+RootImportsType old new n i k = (c : Collection) (m : Bindings) (ms : List Bindings) (o : Open) (os : Stack) (t : Tree)
+    → Good c (m ∷ ms) (opened old o ∷ os) → IsNewInRoot old n → IsType t → At ((env (opened old o) (envs os)).types) i t
+    → RootImports c (m ∷ ms) old new o os s.Type k n (type_equal t) × At ((env (opened new o) (envs os)).types) k t
+
+-- and so of one that is the held value type of a definition
+abbrev pub RootImportsValue : Scope → Scope → Name → DefinedTypeId → ℕ → ℕ → Type 0
+RootImportsValue old new n d i k = (c : Collection) (m : Bindings) (ms : List Bindings) (o : Open) (os : Stack) (t : Tree)
+    → Good c (m ∷ ms) (opened old o ∷ os) → IsNewInRoot old n → IsHeld c m (ty.Value (val.Defined d)) t → IsValue t → At ((env (opened old o) (envs os)).types) i t
+    → RootImports c (m ∷ ms) old new o os s.Type k n (type_equal t) × At ((env (opened new o) (envs os)).types) k t
+
+-- and a function of the function type at index i
+abbrev pub RootImportsFunction : Scope → Scope → Name → ℕ → ℕ → Type 0
+RootImportsFunction old new n i k = (c : Collection) (m : Bindings) (ms : List Bindings) (o : Open) (os : Stack) (t : Tree)
+    → Good c (m ∷ ms) (opened old o ∷ os) → IsNewInRoot old n → IsFunction t → At ((env (opened old o) (envs os)).types) i t
+    → RootImports c (m ∷ ms) old new o os s.Func k n (function_item t)
+
+-- and a core module of the core module type at index i
+abbrev pub RootImportsModule : Scope → Scope → Name → ℕ → ℕ → Type 0
+RootImportsModule old new n i k = (c : Collection) (m : Bindings) (ms : List Bindings) (o : Open) (os : Stack) (t : Tree)
+    → Good c (m ∷ ms) (opened old o ∷ os) → IsNewInRoot old n → IsModule t → At ((env (opened old o) (envs os)).core_types) i t
+    → RootImports c (m ∷ ms) old new o os s.CoreModule k n (module_item t)
 
 -- an answer is `TooLarge` exactly where something does not fit, also where memory is refused; and all can be written where it stands
 abbrev pub WritesUnlessTooLarge : {A : Type 0} → Result A EncodeFault → Type 0 → Type 0

@@ -2,7 +2,7 @@
 
 ghost use Rattle.wac_scopes.specs.Laws.{DefinesValue, DefinesFunc, DefinesPrimitive, DefinesHandles, Reaches, BringsResource, BringsType, SettlesResource, SettlesValue, GoesOnAround, Follows, StaysIs, IsRecorded, IsItsTree, IsItsEnd, StaysOnward};
 ghost use Rattle.wac_scopes.specs.Listed.{ListsEqual, ListsFresh, ListsFunc, ListsComponent, ListsModule, ListsInstance, ListsOneMore, ListsInAnyOrder, OpensInterface, ClosesInstance, HoldsInterface, OpensWorld, TurnsToExports, ClosesComponent, HoldsWorld, FreshInInterface, CallsOwn};
-ghost use Rattle.wac_scopes.specs.Instances.{BindsOwn, HasExported, HeldFurtherIn, CalledInside, HoldsValue, NamesType, ImportsInstance, ImportsType, ImportsFresh};
+ghost use Rattle.wac_scopes.specs.Instances.{BindsOwn, HasExported, HeldFurtherIn, CalledInside, HoldsValue, NamesType, ImportsInstance, ImportsType, ImportsFresh, ImportsFunc, ImportsModule, ListsImport};
 ghost use Rattle.wac_scopes.specs.Inside.{ByStep, ByItem, ByBoth, KeepsIs, SettlesThere, HasIndexHere, HasIndexAround, StartsRoot, RootGoesOn, RootBindsMore};
 ghost use Rattle.wac_scopes.specs.Beside.{GoesOnBeside};
 ghost use Rattle.wac_scopes.specs.Reads.{Reads};
@@ -86,6 +86,9 @@ pub fn root_law()
     ensures imports_instance { ImportsInstance }
     ensures imports_type { ImportsType }
     ensures imports_fresh { ImportsFresh }
+    ensures imports_func { ImportsFunc }
+    ensures imports_module { ImportsModule }
+    ensures lists_import { ListsImport }
     ensures starts_root { StartsRoot }
     ensures root_goes_on { RootGoesOn }
     ensures root_binds_more { RootBindsMore }

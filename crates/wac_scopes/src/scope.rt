@@ -1,24 +1,25 @@
-//! An instance type that is open, and the value types that are written there.
+//! An open scope: what is written there, and the value types among it.
 
-ghost use Rattle.std.specs.Prelude.{◌≡◌, ◌<◌, ◌++◌, ◌∷◌, [], IfOk, OnOk, OnErr, None};
+ghost use Rattle.std.specs.Prelude.{◌≡◌, ◌<◌, IfOk, OnOk, OnErr, None};
 ghost use Rattle.std.specs.HashMap.{spare};
-ghost use Rattle.wac_binary.specs.Items.{type_decl, value_def, primitive_def, export_decl};
+ghost use Rattle.wac_binary.specs.Items.{value_def, primitive_def};
 ghost use Rattle.wac_binary.specs.declared.sorts.Description.TheVariants as e;
-ghost use Rattle.wac_binary.specs.Fits.{DeclarationsFit};
 ghost use Rattle.wac_binary.specs.Views.{defined_of, func_of};
-ghost use Rattle.wac_scopes.specs.Scoped.{IfThere, IsThere, AddsValue, AddsFunc, AddsPrimitive, ListsType, ListsValue, ListsFunction, HasToo, IsAsBefore, value_index, in_use, WritesUnlessTooLarge, FitsUnlessTooLarge};
+ghost use Rattle.wac_scopes.specs.Contents.{IsRoot, IsOpenType, and_type, and_core_module, and_export, and_import, ContentFits};
+ghost use Rattle.wac_scopes.specs.Scoped.{IfThere, IsThere, AddsValue, AddsFunc, AddsPrimitive, AddsModule, ListsType, ListsValue, ListsFunction, RootImportsType, RootImportsValue, RootImportsFunction, RootImportsModule, HasToo, IsAsBefore, value_index, in_use, WritesUnlessTooLarge, FitsUnlessTooLarge};
 
+use crate::encodable::Encodable;
 use crate::fault::EncodeFault;
-use crate::laws::{listing_law, step_law};
+use crate::laws::{listing_law, module_law, root_law, step_law};
 use std::alloc::{AllocError, Global};
 use std::collections::HashMap;
-use wac_binary::{ComponentValType, DefinedType, Description, FuncType, InstanceType};
+use wac_binary::{ComponentValType, DefinedType, Description, FuncType, ModuleType};
 use wac_collection::{DefinedTypeId, PrimitiveType, ValueType};
 
-/// An instance type that is open, and the value types that are written there.
+/// An open scope: the root of a component, or a type that is being written; with the value types that are written there.
 pub struct Scope {
-    /// What is declared.
-    declarations: InstanceType,
+    /// What is written.
+    content: Encodable,
     /// The type index of each definition that is written.
     values: HashMap<DefinedTypeId, u32>,
 }
@@ -27,20 +28,20 @@ pub struct Scope {
 impl Drop for Scope {
     fn drop(self) {
         let Scope {
-            declarations: _,
+            content: _,
             values: _,
         } = self;
     }
 }
 
 impl Scope {
-    /// A scope in which nothing is written.
-    pub fn new(alloc: Global) -> Scope
-        ensures declarations { result.declarations ≡ [] }
+    /// A scope in which this is written, and no definition is recorded.
+    pub fn new(alloc: Global, content: Encodable) -> Scope
+        ensures content { result.content ≡ content }
         ensures values { (id : DefinedTypeId) → value_index result id ≡ None }
     {
         Scope {
-            declarations: InstanceType::new(alloc),
+            content,
             values: HashMap::new(alloc),
         }
     }
@@ -65,8 +66,8 @@ impl Scope {
 
     /// Writes this definition of a held value type, and records it. Answers its type index.
     ///
-    /// Answers `TooLarge` where the declarations do not fit, and `OutOfMemory` where memory was refused, be it before it is known
-    /// whether they fit. Then nothing is written or recorded.
+    /// Answers `TooLarge` where what is written would not fit, and `OutOfMemory` where memory was refused, be it before it is known
+    /// whether it fits. Then nothing is written or recorded.
     pub fn define(
         &mut self,
         id: DefinedTypeId,
@@ -74,13 +75,13 @@ impl Scope {
     ) -> Result<u32, EncodeFault>
         ensures stands { IfOk result (λ k. AddsValue self.old self.new id (defined_of definition.now) k) }
         ensures recorded { IfOk result (λ k. HasToo self.old id k self.new) }
-        ensures appended { OnOk result (self.new.declarations ≡ self.old.declarations ++ type_decl (value_def (defined_of definition.now)) ∷ []) }
+        ensures appended { OnOk result (self.new.content ≡ and_type self.old.content (value_def (defined_of definition.now))) }
         ensures refused { OnErr result (IsAsBefore self.old self.new) }
-        ensures too_large { FitsUnlessTooLarge result (DeclarationsFit (self.old.declarations ++ type_decl (value_def (defined_of definition.now)) ∷ [])) }
+        ensures too_large { FitsUnlessTooLarge result (ContentFits (and_type self.old.content (value_def (defined_of definition.now)))) }
     {
         step_law();
         self.make_room()?;
-        let index = self.declarations.defined_type(definition)?;
+        let index = self.content.defined_type(definition)?;
         self.record_value(id, index);
         Ok(index)
     }
@@ -97,7 +98,7 @@ impl Scope {
     fn record_value(&mut self, id: DefinedTypeId, index: u32)
         requires { 0 < spare self.old.values }
         ensures recorded { HasToo self.old id index self.new }
-        ensures kept { self.new.declarations ≡ self.old.declarations }
+        ensures kept { self.new.content ≡ self.old.content }
     {
         match self.values.insert(id, index) {
             Ok(_) => {}
@@ -107,97 +108,185 @@ impl Scope {
 
     /// Writes this function type, which is a held one. Answers its type index.
     ///
-    /// Answers `TooLarge` exactly where the declarations do not fit, and `OutOfMemory` where memory was refused; then it has
+    /// Answers `TooLarge` exactly where what is written would not fit, and `OutOfMemory` where memory was refused; then it has
     /// written nothing.
     pub fn define_func(&mut self, f: &FuncType<'_>) -> Result<u32, EncodeFault>
         ensures stands { IfOk result (λ k. AddsFunc self.old self.new (func_of f.now) k) }
-        ensures appended { OnOk result (self.new ≡ record self.old { declarations = self.old.declarations ++ type_decl (func_of f.now) ∷ [] }) }
+        ensures appended { OnOk result (self.new ≡ record self.old { content = and_type self.old.content (func_of f.now) }) }
         ensures refused { OnErr result (self.new ≡ self.old) }
-        ensures too_large { WritesUnlessTooLarge result (DeclarationsFit (self.old.declarations ++ type_decl (func_of f.now) ∷ [])) }
+        ensures too_large { WritesUnlessTooLarge result (ContentFits (and_type self.old.content (func_of f.now))) }
     {
         step_law();
-        let index = self.declarations.func_type(f)?;
+        let index = self.content.func_type(f)?;
         Ok(index)
     }
 
     /// Writes a primitive type under a type index of its own, which it answers. Value types in use need none.
     ///
-    /// Answers `TooLarge` exactly where the declarations do not fit, and `OutOfMemory` where memory was refused; then it has
+    /// Answers `TooLarge` exactly where what is written would not fit, and `OutOfMemory` where memory was refused; then it has
     /// written nothing.
     pub fn define_primitive(&mut self, p: PrimitiveType) -> Result<u32, EncodeFault>
         ensures stands { IfOk result (λ k. AddsPrimitive self.old self.new p k) }
-        ensures appended { OnOk result (self.new ≡ record self.old { declarations = self.old.declarations ++ type_decl (value_def (primitive_def p)) ∷ [] }) }
+        ensures appended { OnOk result (self.new ≡ record self.old { content = and_type self.old.content (value_def (primitive_def p)) }) }
         ensures refused { OnErr result (self.new ≡ self.old) }
-        ensures too_large { WritesUnlessTooLarge result (DeclarationsFit (self.old.declarations ++ type_decl (value_def (primitive_def p)) ∷ [])) }
+        ensures too_large { WritesUnlessTooLarge result (ContentFits (and_type self.old.content (value_def (primitive_def p)))) }
     {
         step_law();
-        let index = self.declarations.defined_type(&DefinedType::Primitive(p))?;
+        let index = self.content.defined_type(&DefinedType::Primitive(p))?;
+        Ok(index)
+    }
+
+    /// Writes a core module type. Answers its index among the core types.
+    ///
+    /// Answers `TooLarge` exactly where what is written would not fit, and `OutOfMemory` where memory was refused; then it has
+    /// written nothing.
+    pub fn define_module(&mut self, t: &ModuleType) -> Result<u32, EncodeFault>
+        ensures stands { IfOk result (λ k. AddsModule self.old self.new t.now k) }
+        ensures appended { OnOk result (self.new ≡ record self.old { content = and_core_module self.old.content t.now }) }
+        ensures refused { OnErr result (self.new ≡ self.old) }
+        ensures too_large { WritesUnlessTooLarge result (ContentFits (and_core_module self.old.content t.now)) }
+    {
+        module_law();
+        let index = self.content.core_module_type(t)?;
         Ok(index)
     }
 
     /// Lists a type item that equals the type at an index. Answers its own type index.
     ///
-    /// Answers `TooLarge` exactly where the declarations do not fit, and `OutOfMemory` where memory was refused; then it has
+    /// Answers `TooLarge` exactly where what is written would not fit, and `OutOfMemory` where memory was refused; then it has
     /// written nothing.
     pub fn export_type(&mut self, name: &str, index: u32) -> Result<u32, EncodeFault>
+        requires { IsOpenType self.old.content }
         ensures stands { IfOk result (λ k. ListsType self.old self.new name.now index k) }
-        ensures appended { OnOk result (self.new ≡ record self.old { declarations = self.old.declarations ++ export_decl name.now (e.Equal index) ∷ [] }) }
+        ensures appended { OnOk result (self.new ≡ record self.old { content = and_export self.old.content name.now (e.Equal index) }) }
         ensures refused { OnErr result (self.new ≡ self.old) }
-        ensures too_large { WritesUnlessTooLarge result (DeclarationsFit (self.old.declarations ++ export_decl name.now (e.Equal index) ∷ [])) }
+        ensures too_large { WritesUnlessTooLarge result (ContentFits (and_export self.old.content name.now (e.Equal index))) }
     {
         listing_law();
         let item = Description::Equal(index);
-        let own = self.declarations.export(name, item)?;
+        let own = self.content.export(name, item)?;
         Ok(own)
     }
 
     /// Lists a type item that equals the definition at an index, and records the definition at the item's own type index, which it
     /// answers: from then on the definition is written by its name.
     ///
-    /// Answers `TooLarge` where the declarations do not fit, and `OutOfMemory` where memory was refused, be it before it is known
-    /// whether they fit. Then nothing is written or recorded.
+    /// Answers `TooLarge` where what is written would not fit, and `OutOfMemory` where memory was refused, be it before it is known
+    /// whether it fits. Then nothing is written or recorded.
     pub fn export_value(
         &mut self,
         name: &str,
         id: DefinedTypeId,
         index: u32,
     ) -> Result<u32, EncodeFault>
+        requires { IsOpenType self.old.content }
         ensures stands { IfOk result (λ k. ListsValue self.old self.new name.now id index k) }
         ensures recorded { IfOk result (λ k. HasToo self.old id k self.new) }
-        ensures appended { OnOk result (self.new.declarations ≡ self.old.declarations ++ export_decl name.now (e.Equal index) ∷ []) }
+        ensures appended { OnOk result (self.new.content ≡ and_export self.old.content name.now (e.Equal index)) }
         ensures refused { OnErr result (IsAsBefore self.old self.new) }
-        ensures too_large { FitsUnlessTooLarge result (DeclarationsFit (self.old.declarations ++ export_decl name.now (e.Equal index) ∷ [])) }
+        ensures too_large { FitsUnlessTooLarge result (ContentFits (and_export self.old.content name.now (e.Equal index))) }
     {
         listing_law();
         self.make_room()?;
-        let own = self.declarations.export(name, Description::Equal(index))?;
+        let own = self.content.export(name, Description::Equal(index))?;
         self.record_value(id, own);
         Ok(own)
     }
 
     /// Lists a function of the function type at an index.
     ///
-    /// Answers `TooLarge` exactly where the declarations do not fit, and `OutOfMemory` where memory was refused; then it has
+    /// Answers `TooLarge` exactly where what is written would not fit, and `OutOfMemory` where memory was refused; then it has
     /// written nothing.
     pub fn export_func(&mut self, name: &str, index: u32) -> Result<(), EncodeFault>
+        requires { IsOpenType self.old.content }
         ensures stands { OnOk result (ListsFunction self.old self.new name.now index) }
-        ensures appended { OnOk result (self.new ≡ record self.old { declarations = self.old.declarations ++ export_decl name.now (e.Func index) ∷ [] }) }
+        ensures appended { OnOk result (self.new ≡ record self.old { content = and_export self.old.content name.now (e.Func index) }) }
         ensures refused { OnErr result (self.new ≡ self.old) }
-        ensures too_large { WritesUnlessTooLarge result (DeclarationsFit (self.old.declarations ++ export_decl name.now (e.Func index) ∷ [])) }
+        ensures too_large { WritesUnlessTooLarge result (ContentFits (and_export self.old.content name.now (e.Func index))) }
     {
         listing_law();
-        self.declarations.export(name, Description::Func(index))?;
+        self.content.export(name, Description::Func(index))?;
         Ok(())
     }
 
-    /// What is declared, handed over.
-    pub fn into_declarations(self) -> InstanceType
-        ensures { result ≡ self.declarations }
+    /// Imports a type item that equals the type at an index, into the root. Answers its own type index.
+    ///
+    /// Answers `TooLarge` exactly where what is written would not fit, and `OutOfMemory` where memory was refused; then it has
+    /// written nothing.
+    pub fn import_type(&mut self, name: &str, index: u32) -> Result<u32, EncodeFault>
+        requires { IsRoot self.old.content }
+        ensures stands { IfOk result (λ k. RootImportsType self.old self.new name.now index k) }
+        ensures appended { OnOk result (self.new ≡ record self.old { content = and_import self.old.content name.now (e.Equal index) }) }
+        ensures refused { OnErr result (self.new ≡ self.old) }
+        ensures too_large { WritesUnlessTooLarge result (ContentFits (and_import self.old.content name.now (e.Equal index))) }
     {
-        let Scope {
-            declarations,
-            values: _,
-        } = self;
-        declarations
+        root_law();
+        let own = self.content.import(name, Description::Equal(index))?;
+        Ok(own)
+    }
+
+    /// Imports a type item that equals the definition at an index, into the root, and records the definition at the item's own type
+    /// index, which it answers: from then on the definition is written by its name.
+    ///
+    /// Answers `TooLarge` where what is written would not fit, and `OutOfMemory` where memory was refused, be it before it is known
+    /// whether it fits. Then nothing is written or recorded.
+    pub fn import_value(
+        &mut self,
+        name: &str,
+        id: DefinedTypeId,
+        index: u32,
+    ) -> Result<u32, EncodeFault>
+        requires { IsRoot self.old.content }
+        ensures stands { IfOk result (λ k. RootImportsValue self.old self.new name.now id index k) }
+        ensures recorded { IfOk result (λ k. HasToo self.old id k self.new) }
+        ensures appended { OnOk result (self.new.content ≡ and_import self.old.content name.now (e.Equal index)) }
+        ensures refused { OnErr result (IsAsBefore self.old self.new) }
+        ensures too_large { FitsUnlessTooLarge result (ContentFits (and_import self.old.content name.now (e.Equal index))) }
+    {
+        root_law();
+        self.make_room()?;
+        let import = self.content.import(name, Description::Equal(index))?;
+        self.record_value(id, import);
+        Ok(import)
+    }
+
+    /// Imports a function of the function type at an index, into the root. Answers the function's index.
+    ///
+    /// Answers `TooLarge` exactly where what is written would not fit, and `OutOfMemory` where memory was refused; then it has
+    /// written nothing.
+    pub fn import_func(&mut self, name: &str, index: u32) -> Result<u32, EncodeFault>
+        requires { IsRoot self.old.content }
+        ensures stands { IfOk result (λ k. RootImportsFunction self.old self.new name.now index k) }
+        ensures appended { OnOk result (self.new ≡ record self.old { content = and_import self.old.content name.now (e.Func index) }) }
+        ensures refused { OnErr result (self.new ≡ self.old) }
+        ensures too_large { WritesUnlessTooLarge result (ContentFits (and_import self.old.content name.now (e.Func index))) }
+    {
+        root_law();
+        let function = self.content.import(name, Description::Func(index))?;
+        Ok(function)
+    }
+
+    /// Imports a core module of the core module type at an index, into the root. Answers the module's index.
+    ///
+    /// Answers `TooLarge` exactly where what is written would not fit, and `OutOfMemory` where memory was refused; then it has
+    /// written nothing.
+    pub fn import_module(&mut self, name: &str, index: u32) -> Result<u32, EncodeFault>
+        requires { IsRoot self.old.content }
+        ensures stands { IfOk result (λ k. RootImportsModule self.old self.new name.now index k) }
+        ensures appended { OnOk result (self.new ≡ record self.old { content = and_import self.old.content name.now (e.CoreModule index) }) }
+        ensures refused { OnErr result (self.new ≡ self.old) }
+        ensures too_large { WritesUnlessTooLarge result (ContentFits (and_import self.old.content name.now (e.CoreModule index))) }
+    {
+        root_law();
+        let module = self.content.import(name, Description::CoreModule(index))?;
+        Ok(module)
+    }
+
+    /// What is written, handed over.
+    pub fn into_content(self) -> Encodable
+        ensures { result ≡ self.content }
+    {
+        let Scope { content, values: _ } = self;
+        content
     }
 }

@@ -7,7 +7,7 @@ use Rattle.wac_binary.specs.declared.sorts.Description.TheVariants as e
 use Rattle.wac_binary.specs.declared.types.ComponentValType.{ComponentValType}
 use Rattle.wac_encode.specs.Written.{IsByRecord}
 use Rattle.wac_encode.specs.Listing.{own_types}
-use Rattle.wac_encode.proofs.Listed.{first-listed}
+use Rattle.wac_encode.proofs.Listed.{first-listed, still-open}
 use Rattle.wac_encode.proofs.Naming.{definition-behind, definition-described, first-wrote, export-refused, value-item-refused, recorded-at}
 use Rattle.wac_encode.proofs.encoder.TypeEncoder.first_name.Goals as goal
 
@@ -37,3 +37,6 @@ returns-clause-wrote c =
     let t = c.args.self.now.types.now in
     let at = recorded-at t c.value_type.new.scope c.args.value c.args.id c.in-Index.index c.requires.end (subst (λ (x : ComponentValType). IsByRecord t c.value_type.new.scope c.args.value x) c.in-Index.is c.in_ok-index.ensures.recorded) in
     first-wrote t c.args.scope.now c.value_type.new.scope c.export_value.new.self c.args.name.now c.args.value c.args.id c.in-Index.index c.in_ok-export_value.field-0 c.requires.end c.requires.unwritten c.in_ok-index.ensures.written at c.in_ok-export_value.ensures.appended c.in_ok-export_value.ensures.recorded c.in_ok-export_value.ensures.stands
+
+pub export_value-requires : goal.export_value-requires
+export_value-requires c = still-open c.args.scope.now.content c.value_type.new.scope.content c.in_ok-index.ensures.written.types c.in_ok-index.ensures.written.appended c.requires.open

@@ -2,7 +2,7 @@ use Rattle.std.specs.Prelude.{ℕ}
 use Rattle.std.proofs.lemmas.Result.{err_from_is_err_and}
 use Rattle.wac_shapes.specs.declared.component.ItemKind.TheVariants as kind
 use Rattle.wac_binary.specs.declared.sorts.Description.TheVariants as e
-use Rattle.wac_encode.proofs.Listed.{function-listed}
+use Rattle.wac_encode.proofs.Listed.{function-listed, still-open}
 use Rattle.wac_encode.proofs.Naming.{function-wrote, function-item-refused, export-refused, exactly-so}
 use Rattle.wac_encode.proofs.encoder.TypeEncoder.func_item.Goals as goal
 
@@ -23,3 +23,6 @@ returns-clause-listed c = function-listed c.args.self.now.types.now c.args.scope
 
 pub returns-clause-wrote : goal.returns-clause-wrote
 returns-clause-wrote c = function-wrote c.args.self.now.types.now c.args.scope.now c.func.new.scope c.export_func.new.self c.args.name.now c.args.func c.in_ok-index.index c.in_ok-index.ensures.written c.in_ok-index.ensures.adds c.in_ok-index.ensures.recorded c.in_ok-export_func.ensures.appended
+
+pub export_func-requires : goal.export_func-requires
+export_func-requires c = still-open c.args.scope.now.content c.func.new.scope.content c.in_ok-index.ensures.written.types c.in_ok-index.ensures.written.appended c.requires.open

@@ -1,10 +1,12 @@
 use Rattle.std.specs.Prelude.{◌≡◌, true, false, List, Option}
-use Rattle.std.proofs.Common.{refl}
+use Rattle.std.proofs.Common.{refl, ap, sym, subst, ◌∙◌}
 use Rattle.std.proofs.lemmas.Result.{err_from_is_err_and}
 use Rattle.wac_shapes.specs.Named.{named_pairs}
 use Rattle.wac_binary.specs.Items.{Decl}
+use Rattle.wac_scopes.specs.declared.encodable.Encodable.TheVariants.{Instance}
+use Rattle.wac_encode.specs.Items.{CanClose}
 use Rattle.wac_encode.specs.Listing.{are_plain}
-use Rattle.wac_encode.proofs.Listed.{says-interface}
+use Rattle.wac_encode.proofs.Listed.{says-interface, written-content}
 use Rattle.wac_encode.proofs.Ordered.{once-ordered, same-under}
 use Rattle.wac_encode.proofs.Together.{can-list, none-answered, some-answered, fault-answered, refused-whole, written-whole, taken-as}
 use Rattle.wac_encode.proofs.encoder.TypeEncoder.interface_type.Goals as goal
@@ -31,21 +33,21 @@ returns-in_err-items-clause-fault c =
     let t = c.args.self.now.types.now in
     let p = err_from_is_err_and c.from_residual-in_err-items.result c.from_residual-in_err-items.ensures.1 in
     let ordered = taken-as t c.index-held.result.now.exports c.in_ok-order.order.items c.as_slice.result.now c.as_slice.ensures.value c.in_ok-order.ensures in
-    rw (p.1, p.2) (refused-whole (Unit {0}) (Option (List Decl)) t c.args.interface c.index-held.result.now (named_pairs c.as_slice.result.now) c.new-scope.result c.in_err-items.field-0.0 c.index-held.ensures ordered (record { declarations = c.new-scope.ensures.declarations; values = c.new-scope.ensures.values }) c.in_err-items.ensures.fault)
+    rw (p.1, p.2) (refused-whole (Unit {0}) (Option (List Decl)) t c.args.interface c.index-held.result.now (named_pairs c.as_slice.result.now) c.new-scope.result c.in_err-items.field-0.0 c.index-held.ensures ordered (record { content = c.new-scope.ensures.content ∙ ap Instance c.new.ensures; values = c.new-scope.ensures.values }) c.in_err-items.ensures.fault)
 
 pub returns-clause-says : goal.returns-clause-says
 returns-clause-says c =
     let t = c.args.self.now.types.now in
     let exports = c.index-held.result.now.exports in
     let ordered = taken-as t exports c.in_ok-order.order.items c.as_slice.result.now c.as_slice.ensures.value c.in_ok-order.ensures in
-    rw c.into_declarations.ensures (says-interface t c.law.ensures c.closing_law.ensures.holds_interface c.closing_law.ensures.closes_instance c.listing_law.ensures.lists_in_any_order c.args.interface c.index-held.result.now c.items.new.scope (named_pairs c.as_slice.result.now) c.index-held.ensures
-    (same-under exports (named_pairs c.as_slice.result.now) ordered.permutation c.law-2.ensures) c.in_ok-items.ensures.listed c.in_ok-items.ensures.imports)
+    says-interface t c.law.ensures c.closing_law.ensures.holds_interface c.closing_law.ensures.closes_instance c.listing_law.ensures.lists_in_any_order c.args.interface c.index-held.result.now c.items.new.scope c.instance_type-declarations.result (named_pairs c.as_slice.result.now) c.index-held.ensures
+    (same-under exports (named_pairs c.as_slice.result.now) ordered.permutation c.law-2.ensures) c.in_ok-items.ensures.listed (written-content c.items.new.scope.content c.into_content.result c.instance_type-declarations.result c.into_content.ensures c.instance_type-declarations.ensures) c.in_ok-items.ensures.closes
 
 pub returns-clause-written : goal.returns-clause-written
 returns-clause-written c =
     let t = c.args.self.now.types.now in
     let ordered = taken-as t c.index-held.result.now.exports c.in_ok-order.order.items c.as_slice.result.now c.as_slice.ensures.value c.in_ok-order.ensures in
-    written-whole t c.law.ensures c.args.interface c.index-held.result.now (named_pairs c.as_slice.result.now) c.new-scope.result c.items.new.scope c.into_declarations.result c.index-held.ensures ordered (record { declarations = c.new-scope.ensures.declarations; values = c.new-scope.ensures.values }) c.in_ok-items.ensures.wrote c.into_declarations.ensures
+    written-whole t c.law.ensures c.args.interface c.index-held.result.now (named_pairs c.as_slice.result.now) c.new-scope.result c.items.new.scope c.instance_type-declarations.result c.index-held.ensures ordered (record { content = c.new-scope.ensures.content ∙ ap Instance c.new.ensures; values = c.new-scope.ensures.values }) c.in_ok-items.ensures.wrote (written-content c.items.new.scope.content c.into_content.result c.instance_type-declarations.result c.into_content.ensures c.instance_type-declarations.ensures)
 
 pub returns-in_err-order-clause-none : goal.returns-in_err-order-clause-none
 returns-in_err-order-clause-none c =
@@ -62,4 +64,7 @@ returns-in_err-items-clause-none c =
 pub returns-clause-none : goal.returns-clause-none
 returns-clause-none c =
     let plain : are_plain c.index-held.result.now.exports ≡ true = cc in
-    some-answered (List Decl) c.args.self.now.types.now c.args.interface c.index-held.result.now _ c.into_declarations.result c.index-held.ensures plain refl
+    some-answered (List Decl) c.args.self.now.types.now c.args.interface c.index-held.result.now _ c.instance_type-declarations.result c.index-held.ensures plain refl
+
+pub instance_type-declarations-requires : goal.instance_type-declarations-requires
+instance_type-declarations-requires c = subst CanClose (sym c.into_content.ensures) c.in_ok-items.ensures.closes

@@ -3,15 +3,18 @@ use Rattle.std.proofs.Common.{arith}
 use Rattle.std.proofs.lemmas.Result.{err_from_is_err_and}
 use Rattle.wac_shapes.specs.Named.{named_pairs}
 use Rattle.wac_shapes.proofs.Names.{named_pairs-at}
-use Rattle.wac_encode.proofs.Listed.{starts, goes-further, stops-at, at-end}
+use Rattle.wac_encode.proofs.Listed.{starts, goes-further, stops-at, at-end, closes-open}
 use Rattle.wac_encode.proofs.Ordered.{pairs-length}
 use Rattle.wac_encode.proofs.encoder.TypeEncoder.items.Goals as goal
 
 pub loop-i-init : goal.loop-i-init
 loop-i-init c = starts c.args.self.now.types.now c.closing_law.ensures.opens_interface c.args.held.now c.args.scope.now (named_pairs c.args.order.now) c.requires.empty
 
-pub item-requires : goal.item-requires
-item-requires c = c.requires.plain c.loop-i.i (c.entry_of-item.result.0.now, c.entry_of-item.result.1) (named_pairs-at c.args.order.now c.loop-i.i c.entry_of-item.result.0 c.entry_of-item.result.1 c.entry_of-item.ensures)
+pub item-requires-clause-open : goal.item-requires-clause-open
+item-requires-clause-open c = closes-open c.loop-i.scope.content c.loop-i.invariant.closes
+
+pub item-requires-clause-held : goal.item-requires-clause-held
+item-requires-clause-held c = c.requires.plain c.loop-i.i (c.entry_of-item.result.0.now, c.entry_of-item.result.1) (named_pairs-at c.args.order.now c.loop-i.i c.entry_of-item.result.0 c.entry_of-item.result.1 c.entry_of-item.ensures)
 
 pub loop-i-preserved : goal.loop-i-preserved
 loop-i-preserved c = goes-further c.args.self.now.types.now c.listing_law.ensures.lists_one_more c.args.held.now c.args.scope.now c.loop-i.scope c.item.new.scope (named_pairs c.args.order.now) c.loop-i.i c.entry_of-item.result.0.now c.entry_of-item.result.1 c.requires.once
@@ -28,8 +31,8 @@ returns-clause-listed c =
     let whole : c.loop-i.i ≡ length (named_pairs c.args.order.now) = omega (arith, pairs-length c.args.order.now, c.loop-i-test.false, c.loop-i.auto.i-end) in
     (at-end c.args.self.now.types.now c.args.held.now c.args.scope.now c.loop-i.scope (named_pairs c.args.order.now) c.loop-i.i whole c.loop-i.invariant).listed
 
-pub returns-clause-imports : goal.returns-clause-imports
-returns-clause-imports c = c.loop-i.invariant.imports
+pub returns-clause-closes : goal.returns-clause-closes
+returns-clause-closes c = c.loop-i.invariant.closes
 
 pub returns-clause-wrote : goal.returns-clause-wrote
 returns-clause-wrote c =

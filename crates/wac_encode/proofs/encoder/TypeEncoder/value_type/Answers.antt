@@ -1,7 +1,15 @@
 use Rattle.std.proofs.lemmas.Result.{err_from_is_err_and}
+use Rattle.wac_collection.specs.Aliases.{value_resolved}
 use Rattle.wac_binary.specs.declared.types.ComponentValType.{ComponentValType}
-use Rattle.wac_encode.proofs.Answering.{value-refused}
+use Rattle.wac_encode.specs.Made.{MadeOf}
+use Rattle.wac_encode.proofs.Answering.{as-it-was, value-refused}
+use Rattle.wac_encode.proofs.Stacks.{writes-none}
 use Rattle.wac_encode.proofs.encoder.TypeEncoder.value_type.Goals as goal
+
+pub returns-in_err-missing-clause-written : goal.returns-in_err-missing-clause-written
+returns-in_err-missing-clause-written c =
+    let t = c.args.self.now.types.now in
+    writes-none t c.still_law.ensures (MadeOf t (value_resolved t c.args.value)) c.args.scope.now c.args.scope.now (as-it-was c.args.scope.now)
 
 pub returns-in_err-missing-clause-fault : goal.returns-in_err-missing-clause-fault
 returns-in_err-missing-clause-fault c =

@@ -1,23 +1,22 @@
-use Rattle.std.specs.Prelude.{◌≡◌, cond, nat_eq, Some}
 use Rattle.std.proofs.Common.{ap, ◌∙◌}
-use Rattle.wac_shapes.specs.declared.component.DefinedTypeId.{DefinedTypeId}
 use Rattle.wac_binary.specs.declared.sorts.Sort.TheVariants as s
-use Rattle.wac_binary.specs.Indexes.{space, declared}
-use Rattle.wac_binary.specs.Items.{Decl, type_decl, value_def}
+use Rattle.wac_binary.specs.Indexes.{space}
+use Rattle.wac_binary.specs.Items.{value_def}
 use Rattle.wac_binary.specs.Views.{defined_of}
-use Rattle.wac_scopes.specs.Scoped.{value_index}
-use Rattle.wac_scopes.proofs.ScopedLaws.{adds-value, recorded-more, appended-more}
+use Rattle.wac_scopes.specs.declared.encodable.Encodable.{Encodable}
+use Rattle.wac_scopes.specs.Contents.{and_type, count}
+use Rattle.wac_scopes.proofs.ScopedLaws.{adds-value, recorded-more}
 use Rattle.wac_scopes.proofs.scope.Scope.define.Goals as goal
 
 pub returns-clause-stands : goal.returns-clause-stands
 returns-clause-stands c =
     adds-value c.args.self.now c.record_value.new.self c.args.id (defined_of c.args.definition.now) c.in_ok-index.index c.step_law.ensures.defines_value
-    (c.in_ok-index.ensures.index ∙ ap (declared (space s.Type)) c.in_ok-make_room.ensures.same.declarations)
-    (c.record_value.ensures.kept ∙ c.in_ok-index.ensures.appended ∙ ap (λ ds. appended-more ds (type_decl (value_def (defined_of c.args.definition.now)))) c.in_ok-make_room.ensures.same.declarations)
+    (c.in_ok-index.ensures.index ∙ ap (count (space s.Type)) c.in_ok-make_room.ensures.same.content)
+    (c.record_value.ensures.kept ∙ c.in_ok-index.ensures.appended ∙ ap (λ (x : Encodable). and_type x (value_def (defined_of c.args.definition.now))) c.in_ok-make_room.ensures.same.content)
     (recorded-more c.args.self.now c.make_room.new.self c.record_value.new.self c.args.id c.in_ok-index.index c.in_ok-make_room.ensures.same.values c.record_value.ensures.recorded.values)
 
 pub returns-clause-recorded : goal.returns-clause-recorded
 returns-clause-recorded c = record { values = recorded-more c.args.self.now c.make_room.new.self c.record_value.new.self c.args.id c.in_ok-index.index c.in_ok-make_room.ensures.same.values c.record_value.ensures.recorded.values }
 
 pub returns-clause-appended : goal.returns-clause-appended
-returns-clause-appended c = c.record_value.ensures.kept ∙ c.in_ok-index.ensures.appended ∙ ap (λ ds. appended-more ds (type_decl (value_def (defined_of c.args.definition.now)))) c.in_ok-make_room.ensures.same.declarations
+returns-clause-appended c = c.record_value.ensures.kept ∙ c.in_ok-index.ensures.appended ∙ ap (λ (x : Encodable). and_type x (value_def (defined_of c.args.definition.now))) c.in_ok-make_room.ensures.same.content

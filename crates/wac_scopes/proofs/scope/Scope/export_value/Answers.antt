@@ -1,20 +1,24 @@
-use Rattle.std.proofs.Common.{ap, ◌∙◌}
+use Rattle.std.proofs.Common.{ap, sym, subst, ◌∙◌}
 use Rattle.wac_binary.specs.declared.sorts.Description.TheVariants as e
 use Rattle.wac_binary.specs.declared.sorts.Sort.TheVariants as s
-use Rattle.wac_binary.specs.Indexes.{space, declared}
-use Rattle.wac_binary.specs.Items.{export_decl}
-use Rattle.wac_scopes.proofs.ScopedLaws.{lists-value, recorded-more, appended-more}
+use Rattle.wac_binary.specs.Indexes.{space}
+use Rattle.wac_scopes.specs.declared.encodable.Encodable.{Encodable}
+use Rattle.wac_scopes.specs.Contents.{IsOpenType, and_export, count}
+use Rattle.wac_scopes.proofs.ScopedLaws.{lists-value, recorded-more}
 use Rattle.wac_scopes.proofs.scope.Scope.export_value.Goals as goal
+
+pub export-requires : goal.export-requires
+export-requires c = subst IsOpenType (sym c.in_ok-make_room.ensures.same.content) c.requires
 
 pub returns-clause-stands : goal.returns-clause-stands
 returns-clause-stands c =
-    lists-value c.args.self.now c.record_value.new.self c.args.name.now c.args.id c.args.index c.in_ok-own.own c.listing_law.ensures.lists_equal
-    (c.in_ok-own.ensures.index ∙ ap (declared (space s.Type)) c.in_ok-make_room.ensures.same.declarations)
-    (c.record_value.ensures.kept ∙ c.in_ok-own.ensures.appended ∙ ap (λ ds. appended-more ds (export_decl c.args.name.now (e.Equal c.args.index))) c.in_ok-make_room.ensures.same.declarations)
+    lists-value c.args.self.now c.record_value.new.self c.args.name.now c.args.id c.args.index c.in_ok-own.own c.listing_law.ensures.lists_equal c.requires
+    (c.in_ok-own.ensures.index ∙ ap (count (space s.Type)) c.in_ok-make_room.ensures.same.content)
+    (c.record_value.ensures.kept ∙ c.in_ok-own.ensures.appended ∙ ap (λ (x : Encodable). and_export x c.args.name.now (e.Equal c.args.index)) c.in_ok-make_room.ensures.same.content)
     (recorded-more c.args.self.now c.make_room.new.self c.record_value.new.self c.args.id c.in_ok-own.own c.in_ok-make_room.ensures.same.values c.record_value.ensures.recorded.values)
 
 pub returns-clause-recorded : goal.returns-clause-recorded
 returns-clause-recorded c = record { values = recorded-more c.args.self.now c.make_room.new.self c.record_value.new.self c.args.id c.in_ok-own.own c.in_ok-make_room.ensures.same.values c.record_value.ensures.recorded.values }
 
 pub returns-clause-appended : goal.returns-clause-appended
-returns-clause-appended c = c.record_value.ensures.kept ∙ c.in_ok-own.ensures.appended ∙ ap (λ ds. appended-more ds (export_decl c.args.name.now (e.Equal c.args.index))) c.in_ok-make_room.ensures.same.declarations
+returns-clause-appended c = c.record_value.ensures.kept ∙ c.in_ok-own.ensures.appended ∙ ap (λ (x : Encodable). and_export x c.args.name.now (e.Equal c.args.index)) c.in_ok-make_room.ensures.same.content

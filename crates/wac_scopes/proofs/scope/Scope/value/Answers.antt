@@ -1,4 +1,4 @@
-use Rattle.std.proofs.Common.{refl, ap, sym, ◌∙◌}
+use Rattle.std.proofs.Common.{ap, sym, ◌∙◌}
 use Rattle.wac_scopes.specs.Scoped.{by_index, in_use}
 use Rattle.wac_scopes.proofs.ScopedLaws.{there-primitive, there-index}
 use Rattle.wac_scopes.proofs.scope.Scope.value.Goals as goal

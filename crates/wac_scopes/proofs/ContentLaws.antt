@@ -1,0 +1,71 @@
+-- What is written in a scope of the code is the content of an open scope.
+use Rattle.std.specs.Prelude.{ℕ, ◌≡◌, List, ◌∷◌}
+use Rattle.std.proofs.Common.{refl, sym, subst}
+use Rattle.wac_shapes.specs.Name.{Name}
+use Rattle.wac_collection.specs.Tree.{exported, Tree, type_equal, function_item}
+use Rattle.wac_collection.specs.Collection.{Collection}
+use Rattle.wac_collection.specs.Bound.{Bindings}
+use Rattle.wac_binary.specs.declared.sorts.Description.TheVariants as e
+use Rattle.wac_binary.specs.declared.sorts.Sort.TheVariants as s
+use Rattle.wac_binary.specs.Items.{TypeDef, ModuleDecl}
+use Rattle.wac_binary.specs.Indexes.{space, core_types}
+use Rattle.wac_binary.specs.HasMeaning.{IsType, IsFunction}
+use Rattle.wac_scopes.specs.declared.encodable.Encodable.{Encodable}
+use Rattle.wac_scopes.specs.declared.encodable.Encodable.TheVariants.{Builder, Instance, Component}
+use Rattle.wac_scopes.specs.Scopes.{Open, Stack, env, envs, type_count, and_def}
+use Rattle.wac_scopes.specs.Good.{At, Good}
+use Rattle.wac_scopes.specs.Modules.{and_module, module_count}
+use Rattle.wac_scopes.specs.Listed.{Lists, IsNewName, ListsEqual, ListsFunc}
+use Rattle.wac_scopes.specs.Contents.{content_of, IsOpenType, and_type, and_core_module, and_export, count}
+
+pub content-and-type : (x : Encodable) (t : TypeDef) → content_of (and_type x t) ≡ and_def t (content_of x)
+content-and-type (Builder items) t = refl
+content-and-type (Instance ds) t = refl
+content-and-type (Component ds) t = refl
+
+pub content-and-module : (x : Encodable) (t : List ModuleDecl) → content_of (and_core_module x t) ≡ and_module t (content_of x)
+content-and-module (Builder items) t = refl
+content-and-module (Instance ds) t = refl
+content-and-module (Component ds) t = refl
+
+pub modules-counted : (x : Encodable) → count core_types x ≡ module_count (content_of x)
+modules-counted (Builder items) = refl
+modules-counted (Instance ds) = refl
+modules-counted (Component ds) = refl
+
+pub types-counted : (x : Encodable) → count (space s.Type) x ≡ type_count (content_of x)
+types-counted (Builder items) = refl
+types-counted (Instance ds) = refl
+types-counted (Component ds) = refl
+
+-- an open scope in which this is written
+abbrev pub filled : Encodable → Open → Open
+filled x o = record o { content = content_of x }
+
+-- what is listed in a type that is open, as x becomes y
+
+abbrev pub ListsTypeIn : Encodable → Encodable → Name → ℕ → ℕ → Type 0
+ListsTypeIn x y n i k = (c : Collection) (m : Bindings) (ms : List Bindings) (o : Open) (os : Stack) (t : Tree)
+    → Good c (m ∷ ms) (filled x o ∷ os) → IsNewName (filled x o) os exported n → IsType t → At ((env (filled x o) (envs os)).types) i t
+    → Lists c m ms (filled x o) (filled y o) os exported n (type_equal t) × At ((env (filled y o) (envs os)).types) k t
+
+abbrev pub ListsFunctionIn : Encodable → Encodable → Name → ℕ → Type 0
+ListsFunctionIn x y n i = (c : Collection) (m : Bindings) (ms : List Bindings) (o : Open) (os : Stack) (t : Tree)
+    → Good c (m ∷ ms) (filled x o ∷ os) → IsNewName (filled x o) os exported n → IsFunction t → At ((env (filled x o) (envs os)).types) i t
+    → Lists c m ms (filled x o) (filled y o) os exported n (function_item t)
+
+type-in : ListsEqual → (x : Encodable) (n : Name) (i : ℕ) → IsOpenType x → ListsTypeIn x (and_export x n (e.Equal i)) n i (count (space s.Type) x)
+type-in law (Builder items) n i h = absurd h
+type-in law (Instance ds) n i h = λ c m ms o os t g free type at. law c m ms ds o os exported n i t g free type at
+type-in law (Component ds) n i h = λ c m ms o os t g free type at. law c m ms ds o os exported n i t g free type at
+
+function-in : ListsFunc → (x : Encodable) (n : Name) (i : ℕ) → IsOpenType x → ListsFunctionIn x (and_export x n (e.Func i)) n i
+function-in law (Builder items) n i h = absurd h
+function-in law (Instance ds) n i h = λ c m ms o os t g free fun at. law c m ms ds o os exported n i t g free fun at
+function-in law (Component ds) n i h = λ c m ms o os t g free fun at. law c m ms ds o os exported n i t g free fun at
+
+pub lists-type-in : ListsEqual → (x y : Encodable) (n : Name) (i k : ℕ) → IsOpenType x → k ≡ count (space s.Type) x → y ≡ and_export x n (e.Equal i) → ListsTypeIn x y n i k
+lists-type-in law x y n i k h index appended = subst (λ (z : Encodable). ListsTypeIn x z n i k) (sym appended) (subst (λ (j : ℕ). ListsTypeIn x (and_export x n (e.Equal i)) n i j) (sym index) (type-in law x n i h))
+
+pub lists-function-in : ListsFunc → (x y : Encodable) (n : Name) (i : ℕ) → IsOpenType x → y ≡ and_export x n (e.Func i) → ListsFunctionIn x y n i
+lists-function-in law x y n i h appended = subst (λ (z : Encodable). ListsFunctionIn x z n i) (sym appended) (function-in law x n i h)

@@ -1,0 +1,98 @@
+//! What is being written in a scope.
+
+ghost use Rattle.std.specs.Prelude.{◌≡◌, IfOk, OnOk, OnErr};
+ghost use Rattle.wac_binary.specs.declared.sorts.Sort.TheVariants as s;
+ghost use Rattle.wac_binary.specs.Fits.{TooLargeUnless};
+ghost use Rattle.wac_binary.specs.Indexes.{space, core_types, described_sort};
+ghost use Rattle.wac_binary.specs.Items.{value_def};
+ghost use Rattle.wac_binary.specs.Views.{defined_of, func_of};
+ghost use Rattle.wac_scopes.specs.Contents.{IsRoot, IsOpenType, and_type, and_core_module, and_export, and_import, count, ContentFits};
+
+use wac_binary::{
+    BinaryFault, ComponentBuilder, ComponentType, DefinedType, Description, FuncType, InstanceType,
+    ModuleType,
+};
+
+/// What is being written in a scope: a component, or a type that is open.
+#[derive(Debug, Drop)]
+pub enum Encodable {
+    /// A component, item by item: the root.
+    Builder(ComponentBuilder),
+    /// An instance type.
+    Instance(InstanceType),
+    /// A component type.
+    Component(ComponentType),
+}
+
+impl Encodable {
+    /// Writes a value type, and answers its type index.
+    pub(crate) fn defined_type(&mut self, t: &DefinedType<'_>) -> Result<u32, BinaryFault>
+        ensures index { IfOk result (λ i. i ≡ count (space s.Type) self.old) }
+        ensures appended { OnOk result (self.new ≡ and_type self.old (value_def (defined_of t.now))) }
+        ensures refused { OnErr result (self.new ≡ self.old) }
+        ensures too_large { TooLargeUnless result (ContentFits (and_type self.old (value_def (defined_of t.now)))) }
+    {
+        match self {
+            Encodable::Builder(content) => content.defined_type(t),
+            Encodable::Instance(content) => content.defined_type(t),
+            Encodable::Component(content) => content.defined_type(t),
+        }
+    }
+
+    /// Writes a function type, and answers its type index.
+    pub(crate) fn func_type(&mut self, f: &FuncType<'_>) -> Result<u32, BinaryFault>
+        ensures index { IfOk result (λ i. i ≡ count (space s.Type) self.old) }
+        ensures appended { OnOk result (self.new ≡ and_type self.old (func_of f.now)) }
+        ensures refused { OnErr result (self.new ≡ self.old) }
+        ensures too_large { TooLargeUnless result (ContentFits (and_type self.old (func_of f.now))) }
+    {
+        match self {
+            Encodable::Builder(content) => content.func_type(f),
+            Encodable::Instance(content) => content.func_type(f),
+            Encodable::Component(content) => content.func_type(f),
+        }
+    }
+
+    /// Writes a core module type, and answers its index among the core types.
+    pub(crate) fn core_module_type(&mut self, t: &ModuleType) -> Result<u32, BinaryFault>
+        ensures index { IfOk result (λ i. i ≡ count core_types self.old) }
+        ensures appended { OnOk result (self.new ≡ and_core_module self.old t.now) }
+        ensures refused { OnErr result (self.new ≡ self.old) }
+        ensures too_large { TooLargeUnless result (ContentFits (and_core_module self.old t.now)) }
+    {
+        match self {
+            Encodable::Builder(content) => content.core_module_type(t),
+            Encodable::Instance(content) => content.core_module_type(t),
+            Encodable::Component(content) => content.core_module_type(t),
+        }
+    }
+
+    /// Declares an export of a type that is open, and answers its index of the sort that is described.
+    pub(crate) fn export(&mut self, name: &str, d: Description) -> Result<u32, BinaryFault>
+        requires { IsOpenType self.old }
+        ensures index { IfOk result (λ i. i ≡ count (space (described_sort d)) self.old) }
+        ensures appended { OnOk result (self.new ≡ and_export self.old name.now d) }
+        ensures refused { OnErr result (self.new ≡ self.old) }
+        ensures too_large { TooLargeUnless result (ContentFits (and_export self.old name.now d)) }
+    {
+        match self {
+            Encodable::Builder(_) => unreachable!(),
+            Encodable::Instance(content) => content.export(name, d),
+            Encodable::Component(content) => content.export(name, d),
+        }
+    }
+
+    /// Adds an import of the root, and answers its index of the sort that is described.
+    pub(crate) fn import(&mut self, name: &str, d: Description) -> Result<u32, BinaryFault>
+        requires { IsRoot self.old }
+        ensures index { IfOk result (λ i. i ≡ count (space (described_sort d)) self.old) }
+        ensures appended { OnOk result (self.new ≡ and_import self.old name.now d) }
+        ensures refused { OnErr result (self.new ≡ self.old) }
+        ensures too_large { TooLargeUnless result (ContentFits (and_import self.old name.now d)) }
+    {
+        match self {
+            Encodable::Builder(content) => content.import(name, d),
+            Encodable::Instance(_) | Encodable::Component(_) => unreachable!(),
+        }
+    }
+}
