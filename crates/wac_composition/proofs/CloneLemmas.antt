@@ -14,7 +14,12 @@ use Rattle.wac_edges.specs.Edge.{argument_edge}
 use Rattle.wac_edges.specs.declared.node.NodeId.{NodeId}
 use Rattle.wac_nodes.specs.declared.node.Node.{Node}
 use Rattle.wac_nodes.specs.declared.packages.PackageId.{PackageId}
-use Rattle.wac_nodes.specs.Graph.{Graph, GraphNode, package_at, IsImportOf}
+use Rattle.wac_nodes.specs.Graph.{Graph, GraphNode, node_at, package_at, IsImportOf}
+use Rattle.wac_nodes.proofs.NodeLemmas.{get-nodes_of}
+use Rattle.wac_removing.specs.Told.{tells}
+use Rattle.wac_removing.specs.Lost.{is_again}
+use Rattle.std.specs.Option.{option_map}
+use Rattle.std.specs.Prelude.{slice_get}
 use Rattle.wac_nodes.specs.Nodes.{node_of, nodes_of, names_of, satisfied_at}
 use Rattle.wac_nodes.specs.Clones.{IsNodeClone}
 use Rattle.wac_nodes.specs.Sound.{IsSound}
@@ -70,8 +75,8 @@ same_graph a b types nodes next edges exports slots =
 
 -- so what is always true of a graph's fields is true of those of its clone
 pub invariant_clone : (a b : Inside) → Invariant a → graph_of b ≡ graph_of a → ((q i : ℕ) → satisfied_at (get b.nodes q) i ≡ satisfied_at (get a.nodes q) i)
-    → b.package_map.entries ≡ a.package_map.entries → names_of b.imports.entries ≡ names_of a.imports.entries → Invariant b
-invariant_clone a b v same marks keys names = record {
+    → b.package_map.entries ≡ a.package_map.entries → names_of b.imports.entries ≡ names_of a.imports.entries → ((q : ℕ) → is_again b.lost q ≡ is_again a.lost q) → Invariant b
+invariant_clone a b v same marks keys names again = record {
   sound = subst IsSound (sym same) v.sound;
   marked = λ s t i stands. marks t.0 i ∙ v.marked s t i (ap (λ (g : Graph). set.contains g.edges (argument_edge s t i)) (sym same) ∙ stands);
   edged = λ t i h. let (s, stands) = v.edged t i (sym (marks t.0 i) ∙ h) in (s, ap (λ (g : Graph). set.contains g.edges (argument_edge s t i)) same ∙ stands);
@@ -79,4 +84,7 @@ invariant_clone a b v same marks keys names = record {
   found = λ k id at. let (p, there, is) = v.found k id (ap (lookup (same_key k)) (sym keys) ∙ at) in (p, ap (λ (g : Graph). package_at g id) same ∙ there, is);
   named = λ name n h. ap (λ es. find_name es name) names ∙ v.named name n (subst (λ (g : Graph). IsImportOf g name n) same h);
   importing = λ name n at. subst (λ (g : Graph). IsImportOf g name n) (sym same) (v.importing name n (ap (λ es. find_name es name) (sym names) ∙ at));
-}
+  told = λ i name n at. (λ j. tells (again n.0 j) (shown n j) name) ∙ v.told i name n (ap (λ (g : Graph). slice_get g.exports i) (sym same) ∙ at);
+} where
+  shown : (n : NodeId) → option_map node_of (get b.nodes n.0) ≡ option_map node_of (get a.nodes n.0)
+  shown n = sym (get-nodes_of b.nodes.slots n.0) ∙ ap (λ (g : Graph). node_at g n) same ∙ get-nodes_of a.nodes.slots n.0

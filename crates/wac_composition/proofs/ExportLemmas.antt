@@ -1,5 +1,5 @@
 -- The step of `export`.
-use Rattle.std.proofs.Common.{◌≡◌, ℕ, ap, ◌∙◌, sym, refl, subst, Option, Some, None, IfSome, IsSome, is_some, Ok, String, Global, string_bytes, List, [], ◌∷◌, ◌++◌, map as map_list}
+use Rattle.std.proofs.Common.{◌≡◌, ℕ, true, ap, ◌∙◌, sym, refl, subst, Option, Some, None, IfSome, IsSome, is_some, Ok, String, Global, string_bytes, List, [], ◌∷◌, ◌++◌, map as map_list}
 use Rattle.std.specs.Map.{lookup}
 use Rattle.std.specs.Str.{bytes_eq}
 use Rattle.std.specs.String.{string_eq}
@@ -20,6 +20,7 @@ use Rattle.wac_nodes.specs.Graph.{GraphNode, node_at}
 use Rattle.wac_nodes.specs.Nodes.{node_of, nodes_of}
 use Rattle.wac_composition.specs.Inside.{graph_of, Invariant}
 use Rattle.wac_nodes.specs.ExternName.{IsExportName}
+use Rattle.wac_removing.specs.Lost.{is_again}
 use Rattle.wac_nodes.specs.Steps.{Exports}
 use Rattle.wac_nodes.proofs.NodeLemmas.{get-nodes_of, nodes_of-insert, text_pair, text_last, lookup_text}
 use Rattle.wac_composition.proofs.InvariantLemmas.{invariant_export}
@@ -30,6 +31,10 @@ Names = HashMap (String Global) NodeId (BuildHasherDefault FoldHasher)
 the_node : (o : Option Node) → IsSome o → (n : Node) × (o ≡ Some n)
 the_node None h = cc
 the_node (Some n) h = (n, refl)
+
+-- the node that was read is the one that is there
+pub read_name : (o : Option Node) (n m : Node) → o ≡ Some m → o ≡ Some n → IsSome n.export_name → is_some m.export_name ≡ true
+read_name o n m read had named = let same : n ≡ m = cc in subst (λ (x : Node). IsSome x.export_name) same named
 
 abbrev pub Named : Slab Node → Slab Node → ℕ → String Global → Type 0
 Named old new number name = IfSome (get old number) (λ n. new ≡ with_value old number (record n { export_name = Some name }))
@@ -76,10 +81,10 @@ module _ (a : Inside) where
   pub invariant_exported : Invariant a → (id : NodeId) (name : Name) (key own : String Global) (nodes : Slab Node) (names : Names)
       → string_bytes key ≡ name → string_bytes own ≡ name → lookup (λ k. bytes_eq name (string_bytes k)) a.exports.entries ≡ None
       → names.entries ≡ insert_entry string_eq a.exports.entries key id
-      → IsSome (get a.nodes id.0) → Named a.nodes nodes id.0 own
+      → IsSome (get a.nodes id.0) → Named a.nodes nodes id.0 own → ((n : Node) → get a.nodes id.0 ≡ Some n → IsSome n.export_name → is_again a.lost id.0 ≡ true)
       → Invariant (record a { nodes = nodes; exports = names })
-  invariant_exported v id name key own nodes names key_is own_is absent last there named =
+  invariant_exported v id name key own nodes names key_is own_is absent last there named again =
       let (n, had) = the_node (get a.nodes id.0) there in
       let u = named_updates a.nodes nodes id.0 own n had named in
-      invariant_export a v nodes (map_list (λ e. text_pair e) names.entries) id n (record n { export_name = Some own }) name had u (ap (λ t. let x : GraphNode = record (node_of n) { export_name = Some t } in x) own_is) refl
+      invariant_export a v nodes (map_list (λ e. text_pair e) names.entries) id n (record n { export_name = Some own }) name had u (ap (λ t. let x : GraphNode = record (node_of n) { export_name = Some t } in x) own_is) refl (again n had)
       (named_vacant a.nodes nodes id.0 own n had named) (lookup_text a.exports.entries name ∙ absent) (listed id name key names key_is absent last) names refl

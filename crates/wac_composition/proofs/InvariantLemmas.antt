@@ -28,6 +28,10 @@ use Rattle.wac_nodes.specs.Graph.{GraphNode, node_at, package_at, package_in, ex
 use Rattle.wac_composition.specs.Arguments.{CanBeGiven}
 use Rattle.wac_nodes.specs.Sound.{IsSound}
 use Rattle.wac_nodes.specs.Nodes.{node_of, nodes_of, names_of, satisfied, satisfied_at}
+use Rattle.wac_removing.specs.Told.{tells}
+use Rattle.wac_removing.specs.Lost.{is_again, AreTold}
+use Rattle.wac_removing.specs.declared.lost.Lost.{Lost}
+use Rattle.wac_removing.proofs.ToldLemmas.{tells_there, keeps_name, tells_more, tells_kept, listed_before}
 use Rattle.wac_composition.specs.Inside.{graph_of, Invariant, key_of}
 use Rattle.wac_nodes.specs.Steps.{instance_node, import_node, alias_node}
 use Rattle.wac_nodes.proofs.Added.{by_eq, insert_same, insert_other, ImportIn, import_before, import_after, added_edge, kept_edge, new_edge}
@@ -83,6 +87,7 @@ invariant_empty a nodes edges imports exports keys slots = record {
   found = λ k id at. absurd (let e : None ≡ Some id = ap (lookup (same_key k)) (sym keys) ∙ at in nothing id e);
   named = λ name n h. absurd (no_import name n h);
   importing = λ name n at. absurd (let e : None ≡ Some n = ap (λ es. find_name (names_of es) name) (sym imports) ∙ at in no_name n e);
+  told = λ i name n at. absurd (no_export i name n at);
 } where
   no_edge : (e : Edge) → set.contains a.edges e ≡ true → ⊥
   no_edge e stands = clash (set.contains a.edges e) stands (ap (λ s. set.contains s e) edges ∙ set.contains-empty edge_cmp e)
@@ -113,10 +118,13 @@ invariant_empty a nodes edges imports exports keys slots = record {
   nothing : (id : PackageId) → None ≡ Some id → ⊥
   nothing id h = cc
 
+abbrev entry : Name → NodeId → Name × NodeId
+entry name n = (name, n)
+
 module _ (a : Inside) (v : Invariant a) where
   -- types more
   pub invariant_types : (c : Collection) → IsWellFormed a.types → Extends a.types c → Invariant (record a { types = c })
-  invariant_types c well more = record { sound = sound_types (graph_of a) v.sound c well more; marked = v.marked; edged = v.edged; keyed = v.keyed; found = v.found; named = v.named; importing = v.importing }
+  invariant_types c well more = record { sound = sound_types (graph_of a) v.sound c well more; marked = v.marked; edged = v.edged; keyed = v.keyed; found = v.found; named = v.named; importing = v.importing; told = v.told }
 
   -- what was grown, or written again as it was
   pub invariant_same : (slots : Vec Slot Global) (names : HashMap Key PackageId (BuildHasherDefault FoldHasher)) → slots.items ≡ a.slots.items → names.entries ≡ a.package_map.entries → Invariant (record a { slots = slots; package_map = names })
@@ -128,7 +136,32 @@ module _ (a : Inside) (v : Invariant a) where
     found = λ k id at. let (p, there, s) = v.found k id (ap (lookup (same_key k)) (sym kept) ∙ at) in (p, ap (λ (xs : List Slot). package_in (slice_get xs id.slot) id) same ∙ there, s);
     named = v.named;
     importing = v.importing;
+    told = v.told;
   }
+
+  -- exports that were written again as they were
+  pub invariant_exports : (names : HashMap (String Global) NodeId (BuildHasherDefault FoldHasher)) → names.entries ≡ a.exports.entries → Invariant (record a { exports = names })
+  invariant_exports names same = record {
+    sound = subst (λ es. IsSound (record (graph_of a) { exports = es })) (ap names_of (sym same)) v.sound;
+    marked = v.marked;
+    edged = v.edged;
+    keyed = v.keyed;
+    found = v.found;
+    named = v.named;
+    importing = v.importing;
+    told = λ i name n at. v.told i name n (ap (λ es. slice_get (names_of es) i) (sym same) ∙ at);
+  }
+
+  -- what a removal knows of exports
+  pub invariant_lost : (lost : Lost) → AreTold lost a.nodes a.exports.entries → Invariant (record a { lost = lost })
+  invariant_lost lost told = record { sound = v.sound; marked = v.marked; edged = v.edged; keyed = v.keyed; found = v.found; named = v.named; importing = v.importing; told = told }
+
+  -- where no fewer nodes may have further names
+  pub invariant_more : (lost : Lost) → ((q : ℕ) → is_again a.lost q ≡ true → is_again lost q ≡ true) → Invariant (record a { lost = lost })
+  invariant_more lost more = invariant_lost lost (λ i name n at. tells_more (is_again a.lost n.0) (is_again lost n.0) (option_map node_of (get a.nodes n.0)) name (more n.0) (v.told i name n at))
+
+  still_told : (nodes : Slab Node) → ((q : ℕ) → option_map node_of (get nodes q) ≡ option_map node_of (get a.nodes q)) → AreTold a.lost nodes a.exports.entries
+  still_told nodes same i name n at = ap (λ o. tells (is_again a.lost n.0) o name) (same n.0) ∙ v.told i name n at
 
   -- the same nodes, positions and edges
   pub invariant_back : (nodes : Slab Node) (edges : set.FinSet edge_cmp) → nodes.vacant_key ≡ a.nodes.vacant_key → ((q : ℕ) → option_map node_of (get nodes q) ≡ option_map node_of (get a.nodes q)) → ((q i : ℕ) → satisfied_at (get nodes q) i ≡ satisfied_at (get a.nodes q) i) → edges ≡ a.edges
@@ -143,6 +176,7 @@ module _ (a : Inside) (v : Invariant a) where
         found = v.found;
         named = λ name n h. v.named name n (subst (λ ns. ImportIn ns name n) shown h);
         importing = λ name n at. subst (λ ns. ImportIn ns name n) (sym shown) (v.importing name n at);
+        told = still_told nodes same;
       }
 
   -- a node is where an edge leads
@@ -166,6 +200,11 @@ module _ (a : Inside) (v : Invariant a) where
     still_edged target position is = by_eq target.0 n
         (λ same. absurd (clash (satisfied_at (get nodes target.0) position) is (ap (λ k. satisfied_at (get nodes k) position) same ∙ ap (λ o. satisfied_at o position) u.changed ∙ bare position)))
         (λ differ. v.edged target position (ap (λ o. satisfied_at o position) (sym (u.others target.0 differ)) ∙ is))
+
+    told_before : AreTold a.lost nodes a.exports.entries
+    told_before i name m at =
+        let there : IsSome (get a.nodes m.0) = sym (is_some-node_of (get a.nodes m.0)) ∙ tells_there (is_again a.lost m.0) (option_map node_of (get a.nodes m.0)) name (v.told i name m at) in
+        ap (λ o. tells (is_again a.lost m.0) (option_map node_of o) name) (u.others m.0 (other_node m.0 there)) ∙ v.told i name m at
 
     pub vacant_in_graph : map.get (nodes_of a.nodes.slots) n ≡ None
     vacant_in_graph = get-nodes_of a.nodes.slots n ∙ ap (option_map node_of) vacant
@@ -194,6 +233,7 @@ module _ (a : Inside) (v : Invariant a) where
           found = v.found;
           named = λ other m h. ap (λ es. find_name es other) listed ∙ named other m (subst (λ ns. ImportIn ns other m) shown h);
           importing = λ other m at. subst (λ ns. ImportIn ns other m) (sym shown) (importing other m (find_either (names_of a.imports.entries) name other (record { 0 = n }) m (ap (λ es. find_name es other) (sym listed) ∙ at)));
+          told = told_before;
         } where
           some_none : (o : Option NodeId) (x : NodeId) → o ≡ None → o ≡ Some x → ⊥
           some_none o x p q = cc
@@ -231,6 +271,7 @@ module _ (a : Inside) (v : Invariant a) where
           found = v.found;
           named = still_named (instance_node id p) shown (λ name wrong. cc);
           importing = still_importing (instance_node id p) shown;
+          told = told_before;
         }
 
     pub invariant_alias : (edges : set.FinSet edge_cmp) (instance : NodeId) (source : GraphNode) (position : ℕ) (name : Name) (kind : ItemKind) → node_of node ≡ alias_node source kind
@@ -248,6 +289,7 @@ module _ (a : Inside) (v : Invariant a) where
           found = v.found;
           named = still_named (alias_node source kind) shown (λ name wrong. cc);
           importing = still_importing (alias_node source kind) shown;
+          told = told_before;
         } where
           old_argument : (s t : NodeId) (i : ℕ) → (argument_edge s t i ≡ alias_edge instance (node_number n) position) ⊎ (set.contains a.edges (argument_edge s t i) ≡ true) → set.contains a.edges (argument_edge s t i) ≡ true
           old_argument s t i (inl wrong) = absurd (let labels : label.Argument i ≡ label.Alias position = ap (λ (e : Edge). e.label) wrong in cc)
@@ -271,6 +313,7 @@ module _ (a : Inside) (v : Invariant a) where
         found = v.found;
         named = λ name n h. v.named name n (subst (λ ns. ImportIn ns name n) shown h);
         importing = λ name n at. subst (λ ns. ImportIn ns name n) (sym shown) (v.importing name n at);
+        told = still_told nodes same;
       } where
         or_yes : (b : Bool) → (b || true) ≡ true
         or_yes true = refl
@@ -294,10 +337,10 @@ module _ (a : Inside) (v : Invariant a) where
               both_true false y h = cc
 
   -- a node is exported by a further name
-  pub invariant_export : (nodes : Slab Node) (exports : List (Name × NodeId)) (id : NodeId) (before after : Node) (name : Name) → get a.nodes id.0 ≡ Some before → Updates a.nodes nodes id.0 (Some after) → node_of after ≡ record (node_of before) { export_name = Some name } → after.kind ≡ before.kind
+  pub invariant_export : (nodes : Slab Node) (exports : List (Name × NodeId)) (id : NodeId) (before after : Node) (name : Name) → get a.nodes id.0 ≡ Some before → Updates a.nodes nodes id.0 (Some after) → node_of after ≡ record (node_of before) { export_name = Some name } → after.kind ≡ before.kind → (IsSome before.export_name → is_again a.lost id.0 ≡ true)
       → nodes.vacant_key ≡ a.nodes.vacant_key → find_name (names_of a.exports.entries) name ≡ None → exports ≡ (graph_of a).exports ++ (name, id) ∷ [] → (names : HashMap (String Global) NodeId (BuildHasherDefault FoldHasher)) → map_list (λ e. (string_bytes e.0, e.1)) names.entries ≡ exports
       → Invariant (record a { nodes = nodes; exports = names })
-  invariant_export nodes exports id before after name had u shape kept next absent added names listed =
+  invariant_export nodes exports id before after name had u shape kept again next absent added names listed =
       let there : node_at (graph_of a) id ≡ Some (node_of before) = get-nodes_of a.nodes.slots id.0 ∙ ap (option_map node_of) had in
       let more = sound_export (graph_of a) v.sound id (node_of before) name there absent in
       let shown : nodes_of nodes.slots ≡ map.insert (nodes_of a.nodes.slots) id.0 (record (node_of before) { export_name = Some name }) = nodes_of-insert a.nodes nodes id.0 after u ∙ ap (map.insert (nodes_of a.nodes.slots) id.0) shape in
@@ -311,7 +354,26 @@ module _ (a : Inside) (v : Invariant a) where
         found = v.found;
         named = λ other n h. v.named other n (import_before (nodes_of a.nodes.slots) id (record (node_of before) { export_name = Some name }) other n (λ is. was other is) (subst (λ ns. ImportIn ns other n) shown h));
         importing = λ other n at. subst (λ ns. ImportIn ns other n) (sym shown) (import_after (nodes_of a.nodes.slots) id (record (node_of before) { export_name = Some name }) other n (λ h. is_so other h) (v.importing other n at));
+        told = λ i other n at. told i other n (listed_before (names_of a.exports.entries) (name, id) i (other, n) (ap (λ es. slice_get es i) (sym (listed ∙ added)) ∙ at));
       } where
+        told : (i : ℕ) (other : Name) (n : NodeId) → (slice_get (names_of a.exports.entries) i ≡ Some (other, n)) ⊎ (entry name id ≡ entry other n) → tells (is_again a.lost n.0) (option_map node_of (get nodes n.0)) other ≡ true
+        told i other n (inr new) =
+            ap (λ (e : Name × NodeId). tells (is_again a.lost e.1.0) (option_map node_of (get nodes e.1.0)) e.0) (sym new) ∙ ap (λ o. tells (is_again a.lost id.0) (option_map node_of o) name) u.changed
+            ∙ keeps_name (is_again a.lost id.0) (node_of after) name (ap (λ (x : GraphNode). x.export_name) shape)
+        told i other n (inl was_listed) = by_eq n.0 id.0
+            (λ same.
+            ap (λ k. tells (is_again a.lost k) (option_map node_of (get nodes k)) other) same ∙ ap (λ o. tells (is_again a.lost id.0) (option_map node_of o) other) u.changed
+            ∙ told_again other (is_again a.lost id.0) refl (sym (ap (λ o. tells (is_again a.lost id.0) (option_map node_of o) other) had) ∙ ap (λ k. tells (is_again a.lost k) (option_map node_of (get a.nodes k)) other) (sym same) ∙ v.told i other n was_listed))
+            (λ differ. ap (λ o. tells (is_again a.lost n.0) (option_map node_of o) other) (u.others n.0 differ) ∙ v.told i other n was_listed)
+          where
+            some_text : (o : Option (String Global)) → IsSome (option_map string_bytes o) → IsSome o
+            some_text None h = h
+            some_text (Some t) h = refl
+
+            told_again : (other : Name) (b : Bool) → is_again a.lost id.0 ≡ b → tells b (Some (node_of before)) other ≡ true → tells b (Some (node_of after)) other ≡ true
+            told_again other true is h = refl
+            told_again other false is h = absurd (clash (is_again a.lost id.0) (again (some_text before.export_name (tells_kept (node_of before) other h))) is)
+
         was : (other : Name) → (node_of before).kind ≡ graph.import other → ImportIn (nodes_of a.nodes.slots) other id
         was other is = subst (λ o. IsSomeAnd o (λ x. x.kind ≡ graph.import other)) (sym (get-nodes_of a.nodes.slots id.0 ∙ ap (option_map node_of) had)) is
 
@@ -351,6 +413,7 @@ module _ (a : Inside) (v : Invariant a) where
         keyed = λ other q at. ap (lookup (same_key (key_of q))) added ∙ look-insert (key_of q) key id a.package_map.entries absent ∙ keyed other q (package_after (graph_of a) v.sound (record { generation = 0; «package» = Some p }) other q (ap (λ (xs : List Slot). package_in (slice_get xs other.slot) other) (sym grown) ∙ at));
         named = v.named;
         importing = v.importing;
+        told = v.told;
         found = λ k other at. found k other (same_key k key) refl (sym (look-insert k key id a.package_map.entries absent) ∙ ap (lookup (same_key k)) (sym added) ∙ at);
       } where
         none_some : (o : Option PackageId) (x : PackageId) → o ≡ None → o ≡ Some x → ⊥

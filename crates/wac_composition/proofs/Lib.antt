@@ -3,7 +3,6 @@ pub mod StepLemmas
 pub mod AliasLemmas
 pub mod ImportLemmas
 pub mod ExportLemmas
-pub mod SatisfyLemmas
 pub mod ArgumentLemmas
 pub mod TakingLemmas
 pub mod EncodingLemmas
@@ -20,10 +19,6 @@ pub mod AskedHeld
 pub mod MergeLemmas
 pub mod NamingLemmas
 pub mod ComponentLemmas
-pub mod WayLemmas
-pub mod TiedLemmas
-pub mod RemovingLemmas
 pub mod RemovedLemmas
-pub mod RemovalLaws
 pub mod SourceLemmas
 pub mod OuterLemmas

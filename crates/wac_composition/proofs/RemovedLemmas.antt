@@ -34,62 +34,15 @@ use Rattle.wac_nodes.proofs.PartLemmas.{IsPart, IsClosed, sound_part}
 use Rattle.wac_nodes.proofs.TakenOut.{Left, left_without, none_without, was_at}
 use Rattle.wac_composition.specs.declared.graph.CompositionGraph.TheInside.{Inside}
 use Rattle.wac_composition.specs.Inside.{graph_of, Invariant}
-use Rattle.wac_composition.specs.Removal.{Follows, GoesWith, itself, behind, Removes}
-use Rattle.wac_composition.specs.Removing.{AreTied, AreTaken, imports, AreLeft}
-use Rattle.wac_composition.proofs.WayLemmas.{IsIn}
-use Rattle.wac_composition.proofs.TakingLemmas.{names_taken}
-use Rattle.wac_composition.proofs.TiedLemmas.{clash, none_some}
-
--- ---- lists of exports
-abbrev Alike : (NodeId → Bool) → (NodeId → Bool) → List (Name × NodeId) → Type 0
-Alike f g es = (i : ℕ) (e : Name × NodeId) → slice_get es i ≡ Some e → f e.1 ≡ g e.1
-
-alike_taken : (f g : NodeId → Bool) (k : ℕ) (es : List (Name × NodeId)) → Alike f g es → (taken_at f k (slice_get es k) es ≡ taken_at g k (slice_get es k) es) × Alike f g (taken_at g k (slice_get es k) es)
-alike_taken f g k es alike = by_entry (slice_get es k) refl where
-  by_gone : (e : Name × NodeId) → slice_get es k ≡ Some e → (b : Bool) → Alike f g (cond b (swap_remove es k e) es)
-  by_gone e at false = alike
-  by_gone e at true = λ i x h. alike _ x (was_at es k e at i x h)
-
-  by_entry : (o : Option (Name × NodeId)) → slice_get es k ≡ o → (taken_at f k o es ≡ taken_at g k o es) × Alike f g (taken_at g k o es)
-  by_entry None at = (refl, alike)
-  by_entry (Some e) at = (ap (λ b. cond b (swap_remove es k e) es) (alike k e at), by_gone e at (g e.1))
-
-alike_below : (f g : NodeId → Bool) (k : ℕ) (es : List (Name × NodeId)) → Alike f g es → taken_below f k es ≡ taken_below g k es
-alike_below f g zero es alike = refl
-alike_below f g (suc k) es alike =
-    let (same, still) = alike_taken f g k es alike in
-    ap (taken_below f k) same ∙ alike_below f g k (taken_at g k (slice_get es k) es) still
-
--- tests that agree on a list's nodes leave the same of it
-pub alike_without : (f g : NodeId → Bool) (es : List (Name × NodeId)) → Alike f g es → without f es ≡ without g es
-alike_without f g es alike = alike_below f g (length es) es alike
-
--- the node is not there
-abbrev pub lost : Slab Node → NodeId → Bool
-lost nodes m = not (is_some (get nodes m.0))
-
-pub absent : (nodes : Slab Node) (k : ℕ) (b : Bool) → IsTrue b ↔ IsSome (get nodes k) → b ≡ false → not (is_some (get nodes k)) ≡ true
-absent nodes k b h is = none (is_some (get nodes k)) (λ there. clash b (h.1 there) is) where
-  none : (x : Bool) → (x ≡ true → ⊥) → not x ≡ true
-  none true h = absurd (h refl)
-  none false h = refl
-
-pub stored : (nodes : Slab Node) (k : ℕ) (b : Bool) → IsTrue b ↔ IsSome (get nodes k) → b ≡ true → not (is_some (get nodes k)) ≡ false
-stored nodes k b h is = ap not (h.0 is)
-
--- one entry of a map, where its node is gone and where it is not
-module _ (gone : NodeId → Bool) (entries : List (String Global × NodeId)) (k : ℕ) where
-  at_names : (o : Option (String Global × NodeId)) → slice_get entries k ≡ o → taken_at gone k (slice_get (names_of entries) k) (names_of entries) ≡ taken_at gone k (option_map (λ x. (string_bytes x.0, x.1)) o) (names_of entries)
-  at_names o at = ap (λ p. taken_at gone k p (names_of entries)) (slice_get-map (λ x. (string_bytes x.0, x.1)) entries k ∙ ap (option_map (λ x. (string_bytes x.0, x.1))) at)
-
-  pub entry_gone : (now : List (String Global × NodeId)) (e : String Global × NodeId) → slice_get entries k ≡ Some e → gone e.1 ≡ true → now ≡ swap_remove entries k e → names_of now ≡ taken_at gone k (slice_get (names_of entries) k) (names_of entries)
-  entry_gone now e at is taken = ap names_of taken ∙ names_taken entries k e ∙ sym (at_names (Some e) at ∙ ap (λ b. cond b (swap_remove (names_of entries) k (string_bytes e.0, e.1)) (names_of entries)) is)
-
-  pub entry_stays : (e : String Global × NodeId) → slice_get entries k ≡ Some e → gone e.1 ≡ false → names_of entries ≡ taken_at gone k (slice_get (names_of entries) k) (names_of entries)
-  entry_stays e at is = sym (at_names (Some e) at ∙ ap (λ b. cond b (swap_remove (names_of entries) k (string_bytes e.0, e.1)) (names_of entries)) is)
-
-  pub entry_none : slice_get entries k ≡ None → names_of entries ≡ taken_at gone k (slice_get (names_of entries) k) (names_of entries)
-  entry_none at = sym (at_names None at)
+use Rattle.wac_removing.specs.Removal.{Follows, GoesWith, itself, behind, Removes}
+use Rattle.wac_removing.specs.Removing.{AreTied, AreTaken}
+use Rattle.wac_composition.specs.Removing.{imports, AreLeft}
+use Rattle.wac_removing.proofs.WayLemmas.{IsIn}
+use Rattle.wac_removing.proofs.TiedLemmas.{clash, none_some}
+use Rattle.wac_removing.specs.declared.lost.Lost.{Lost}
+use Rattle.wac_removing.specs.Lost.{is_again, AreNoted}
+use Rattle.wac_removing.specs.Told.{tells}
+use Rattle.wac_removing.proofs.LostLemmas.{told_there, alike_without}
 
 -- ---- names of imports
 abbrev Names : Type 0
@@ -169,7 +122,7 @@ module _ (a : Inside) (v : Invariant a) where
     consumer s t i h = let both = v.sound.ends (argument_edge s t i) h in by_stored s t i h (get a.nodes s.0) (get a.nodes t.0) refl refl (stored s both.0) (stored t both.1)
 
   module _ (id : NodeId) (removed : Node) (had : option_map node_of (get a.nodes id.0) ≡ Some (node_of removed)) (nodes : Slab Node) (edges : Edges) (next : nodes.vacant_key ≡ id.0) (t : AreTaken id a.nodes a.edges nodes edges) (tied : AreTied nodes edges)
-      (names exports : Names) (left : AreLeft removed.kind a.imports.entries names.entries) (lost : names_of exports.entries ≡ without (λ m. not (is_some (get nodes m.0))) (names_of a.exports.entries)) where
+      (names exports : Names) (left : AreLeft removed.kind a.imports.entries names.entries) (lost : names_of exports.entries ≡ without (λ m. not (is_some (get nodes m.0))) (names_of a.exports.entries)) (places : Lost) (noted : AreNoted nodes places a.exports.entries) (after : Lost) (kept_marks : (q : ℕ) → is_again after q ≡ is_again places q) where
     gone : NodeId → Bool
     gone n = is_some (get a.nodes n.0) && not (is_some (get nodes n.0))
 
@@ -240,7 +193,7 @@ module _ (a : Inside) (v : Invariant a) where
           stored n h = sym (is_some-node_of (get a.nodes n.0)) ∙ ap is_some (sym (get-nodes_of a.nodes.slots n.0)) ∙ h
 
     abbrev now : Inside
-    now = record a { nodes = nodes; edges = edges; imports = names; exports = exports }
+    now = record a { nodes = nodes; edges = edges; imports = names; exports = exports; lost = after }
 
     pub removes : Removes (graph_of a) id (graph_of now)
     removes = record {
@@ -330,7 +283,11 @@ module _ (a : Inside) (v : Invariant a) where
       found = v.found;
       named = λ name n h. named name n h (gone n) refl;
       importing = λ name n at. importing name n (imports removed.kind name) refl (sym (left name) ∙ at);
+      told = λ i name n at. ap (λ b. tells b (option_map node_of (get nodes n.0)) name) (kept_marks n.0) ∙ told_there places (kept.place i) name n (option_map node_of (get nodes n.0)) (noted (kept.place i) name n (kept.was i (name, n) at)) (exported_there i name n at);
     } where
+      exported_there : (i : ℕ) (name : Name) (n : NodeId) → slice_get (names_of exports.entries) i ≡ Some (name, n) → IsSome (option_map node_of (get nodes n.0))
+      exported_there i name n at = ap is_some (sym (get-nodes_of nodes.slots n.0)) ∙ is_closed.exported i name n at
+
       named : (name : Name) (n : NodeId) → IsImportOf (graph_of now) name n → (b : Bool) → gone n ≡ b → find_name (names_of names.entries) name ≡ Some n
       named name n h true is = absurd (subst (λ o. IsSomeAnd o (λ x. x.kind ≡ graph.import name)) (nodes_left n ∙ ap (λ b. cond b None (map.get (nodes_of a.nodes.slots) n.0)) is) h)
       named name n h false is = left name ∙ other (imports removed.kind name) refl where

@@ -25,6 +25,9 @@ use Rattle.wac_edges.specs.declared.node.NodeId.{NodeId}
 use Rattle.wac_nodes.specs.Graph as graph
 use Rattle.wac_nodes.specs.Graph.{Graph, GraphNode, node_at}
 use Rattle.wac_nodes.specs.Nodes.{node_of, nodes_of, names_of, kind_of, satisfied, satisfied_at}
+use Rattle.wac_removing.specs.Told.{tells}
+use Rattle.wac_removing.specs.Lost.{is_again, AreTold}
+use Rattle.wac_removing.specs.declared.lost.Lost.{Lost}
 use Rattle.wac_nodes.specs.Steps.{SetsName, Unexports}
 use Rattle.wac_nodes.specs.TakenOut.{taken_at, taken_below, without}
 use Rattle.wac_nodes.specs.declared.errors.UnexportError.TheVariants.{MustExportDefinition}
@@ -35,10 +38,12 @@ use Rattle.wac_edges.proofs.WrittenOrder.{eqb_same}
 use Rattle.wac_nodes.proofs.Added.{by_eq, ImportIn}
 use Rattle.wac_nodes.proofs.JoinLemmas.{AreAlike, alike_itself}
 use Rattle.wac_nodes.proofs.NodeLemmas.{get-nodes_of, nodes_of-insert, nodes_of-same}
-use Rattle.wac_nodes.proofs.TakenOut.{Left, left_itself, left_without}
+use Rattle.wac_nodes.proofs.TakenOut.{Left, left_itself, left_without, none_without}
 use Rattle.wac_nodes.proofs.PartLemmas.{IsPart, IsClosed, sound_part}
 use Rattle.wac_composition.specs.declared.graph.CompositionGraph.TheInside.{Inside}
+use Rattle.wac_removing.proofs.LostLemmas.{names_taken}
 use Rattle.wac_composition.specs.Inside.{graph_of, Invariant}
+use Rattle.wac_composition.proofs.InvariantLemmas.{invariant_lost}
 
 clash : (b : Bool) → b ≡ true → b ≡ false → ⊥
 clash true _ h = cc
@@ -90,6 +95,7 @@ module _ (a : Inside) (v : Invariant a) where
         found = v.found;
         named = λ name n h. v.named name n (subst (λ ns. ImportIn ns name n) shown h);
         importing = λ name n at. subst (λ ns. ImportIn ns name n) (sym shown) (v.importing name n at);
+        told = λ i name n at. ap (λ o. tells (is_again a.lost n.0) o name) (same n.0) ∙ v.told i name n at;
       } where
         gone : Edge
         gone = argument_edge source target position
@@ -194,8 +200,8 @@ module _ (a : Inside) (id : NodeId) (nodes : Slab Node) (before after : Node) (h
     by_stored None h = cc
     by_stored (Some y) h = let same : node_of y ≡ x = cc in ap (λ (z : GraphNode). z.first_name) (sym same)
 
-  pub invariant_rewritten : Invariant a → (names : HashMap (String Global) NodeId (BuildHasherDefault FoldHasher)) (gone : NodeId → Bool) → Left gone (names_of a.exports.entries) (names_of names.entries) → Invariant (record a { nodes = nodes; exports = names })
-  invariant_rewritten v names gone left =
+  pub invariant_rewritten : Invariant a → (names : HashMap (String Global) NodeId (BuildHasherDefault FoldHasher)) (gone : NodeId → Bool) → Left gone (names_of a.exports.entries) (names_of names.entries) → AreTold a.lost nodes names.entries → Invariant (record a { nodes = nodes; exports = names })
+  invariant_rewritten v names gone left told =
       record {
         sound = sound_part (graph_of a) v.sound (nodes_of nodes.slots) nodes.vacant_key a.edges (names_of names.entries) a.slots.items [] is_part is_closed;
         marked = λ s t i stands. satisfied_same t.0 i ∙ v.marked s t i stands;
@@ -204,6 +210,7 @@ module _ (a : Inside) (id : NodeId) (nodes : Slab Node) (before after : Node) (h
         found = v.found;
         named = λ other n h. v.named other n (imports_as (map.get (nodes_of a.nodes.slots) n.0) (map.get (nodes_of nodes.slots) n.0) other (sym (kinds n.0)) h);
         importing = λ other n at. imports_as (map.get (nodes_of nodes.slots) n.0) (map.get (nodes_of a.nodes.slots) n.0) other (kinds n.0) (v.importing other n at);
+        told = told;
       } where
         now : Graph
         now = graph_of (record a { nodes = nodes; exports = names })
@@ -246,8 +253,15 @@ module _ (a : Inside) (id : NodeId) (name : Name) (own : String Global) (nodes :
       nodes_of-insert a.nodes nodes id.0 (record titled_node { name = Some own }) titled_updates ∙ ap (λ t. map.insert (nodes_of a.nodes.slots) id.0 (record (node_of titled_node) { name = Some t })) is in
       rw at (λ i. record (graph_of a) { nodes = shown i; next = next i })
 
+  titled_told : Invariant a → AreTold a.lost nodes a.exports.entries
+  titled_told v i other n at = by_eq n.0 id.0
+      (λ same.
+      ap (λ k. tells (is_again a.lost k) (option_map node_of (get nodes k)) other) same ∙ ap (λ o. tells (is_again a.lost id.0) (option_map node_of o) other) titled_updates.changed
+      ∙ sym (ap (λ o. tells (is_again a.lost id.0) (option_map node_of o) other) titled_had) ∙ ap (λ k. tells (is_again a.lost k) (option_map node_of (get a.nodes k)) other) (sym same) ∙ v.told i other n at)
+      (λ differ. ap (λ o. tells (is_again a.lost n.0) (option_map node_of o) other) (titled_updates.others n.0 differ) ∙ v.told i other n at)
+
   pub invariant_named : Invariant a → Invariant (record a { nodes = nodes })
-  invariant_named v = invariant_rewritten a id nodes titled_node (record titled_node { name = Some own }) titled_had titled_updates (record { kind = refl; item = refl; owner = refl }) refl v a.exports (λ _. false) (left_itself (λ _. false) (names_of a.exports.entries))
+  invariant_named v = invariant_rewritten a id nodes titled_node (record titled_node { name = Some own }) titled_had titled_updates (record { kind = refl; item = refl; owner = refl }) refl v a.exports (λ _. false) (left_itself (λ _. false) (names_of a.exports.entries)) (titled_told v)
 
 -- the write of `clear_export_name`
 abbrev pub Cleared : Slab Node → Slab Node → ℕ → Type 0
@@ -272,10 +286,23 @@ module _ (a : Inside) (id : NodeId) (nodes : Slab Node) (names : HashMap (String
       let shown : nodes_of nodes.slots ≡ map.insert (nodes_of a.nodes.slots) id.0 (record (node_of node) { export_name = None }) = nodes_of-insert a.nodes nodes id.0 (record node { export_name = None }) cleared_updates in
       rw at (other, λ i. record (graph_of a) { nodes = shown i; next = next i; exports = taken i })
 
+  pub cleared_told : Invariant a → AreTold a.lost nodes names.entries
+  cleared_told v i other n at = by_eq n.0 id.0
+      (λ same. absurd (clash (is_same id n) (ap (λ k. k == id.0) same ∙ eqb_same id.0) (none_without (is_same id) (names_of a.exports.entries) i (other, n) (ap (λ es. slice_get es i) (sym taken) ∙ at))))
+      (λ differ. ap (λ o. tells (is_again a.lost n.0) (option_map node_of o) other) (cleared_updates.others n.0 differ) ∙ v.told (kept.place i) other n (kept.was i (other, n) at)) where
+        kept : Left (is_same id) (names_of a.exports.entries) (names_of names.entries)
+        kept = subst (Left (is_same id) (names_of a.exports.entries)) (sym taken) (left_without (is_same id) (names_of a.exports.entries))
+
   pub invariant_unexported : Invariant a → Invariant (record a { nodes = nodes; exports = names })
   invariant_unexported v =
       invariant_rewritten a id nodes node (record node { export_name = None }) had cleared_updates (record { kind = refl; item = refl; owner = refl }) refl v names (is_same id)
-      (subst (Left (is_same id) (names_of a.exports.entries)) (sym taken) (left_without (is_same id) (names_of a.exports.entries)))
+      (subst (Left (is_same id) (names_of a.exports.entries)) (sym taken) (left_without (is_same id) (names_of a.exports.entries))) (cleared_told v)
+
+  -- the node has no further names then
+  pub invariant_forgotten : (v : Invariant a) (lost : Lost) → ((q : ℕ) → q ≢ id.0 → is_again lost q ≡ is_again a.lost q) → Invariant (record a { nodes = nodes; exports = names; lost = lost })
+  invariant_forgotten v lost same = invariant_lost (record a { nodes = nodes; exports = names }) (invariant_unexported v) lost (λ i other n at. by_eq n.0 id.0
+      (λ here. absurd (clash (is_same id n) (ap (λ k. k == id.0) here ∙ eqb_same id.0) (none_without (is_same id) (names_of a.exports.entries) i (other, n) (ap (λ es. slice_get es i) (sym taken) ∙ at))))
+      (λ differ. ap (λ b. tells b (option_map node_of (get nodes n.0)) other) (same n.0 differ) ∙ cleared_told v i other n at))
 
 pub still_definition : (a : Inside) (id : NodeId) (node : Node) → get a.nodes id.0 ≡ Some node → kind_of node.kind ≡ graph.definition → Unexports (graph_of a) id (Err MustExportDefinition) (graph_of a)
 still_definition a id node had is =
@@ -287,16 +314,6 @@ no_definition code.Definition h e = h refl
 no_definition (code.Import name) h e = cc
 no_definition (code.Instantiation s) h e = cc
 no_definition code.Alias h e = cc
-
--- an entry is taken out of a map as out of its names
-pub names_taken : (entries : List (String Global × NodeId)) (k : ℕ) (e : String Global × NodeId) → names_of (swap_remove entries k e) ≡ swap_remove (names_of entries) k (string_bytes e.0, e.1)
-names_taken entries k e =
-    sym (take-map pair (length entries - 1) (slice_set entries k (get_or entries (length entries - 1) e)))
-    ∙ ap (take (length entries - 1)) (map-set pair entries k (get_or entries (length entries - 1) e) ∙ ap (slice_set (names_of entries) k) (sym (get_or-map pair entries (length entries - 1) e)))
-    ∙ ap (λ n. take (n - 1) (slice_set (names_of entries) k (get_or (names_of entries) (length entries - 1) (pair e)))) (sym (length-map entries pair))
-    ∙ ap (λ n. take (length (names_of entries) - 1) (slice_set (names_of entries) k (get_or (names_of entries) (n - 1) (pair e)))) (sym (length-map entries pair)) where
-      pair : String Global × NodeId → Name × NodeId
-      pair x = (string_bytes x.0, x.1)
 
 -- one step further down
 pub taken_step : (gone : NodeId → Bool) (k : ℕ) (es old new : List (Name × NodeId)) → new ≡ taken_at gone k (slice_get es k) es → taken_below gone (suc k) es ≡ without gone old → taken_below gone k new ≡ without gone old

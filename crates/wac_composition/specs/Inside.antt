@@ -12,6 +12,7 @@ use Rattle.wac_edges.specs.Edge.{argument_edge}
 use Rattle.wac_nodes.specs.Graph.{Graph, package_at, IsImportOf}
 use Rattle.wac_nodes.specs.Nodes.{nodes_of, names_of, satisfied_at}
 use Rattle.wac_nodes.specs.Sound.{IsSound}
+use Rattle.wac_removing.specs.Lost.{AreTold}
 
 abbrev pub graph_of : Inside → Graph
 graph_of a = record {
@@ -39,3 +40,5 @@ pub record Invariant (a : Inside) : Type 0 where
   -- imports are found under their names, and nothing else is
   pub named : (name : Name) (n : NodeId) → IsImportOf (graph_of a) name n → find_name (names_of a.imports.entries) name ≡ Some n
   pub importing : (name : Name) (n : NodeId) → find_name (names_of a.imports.entries) name ≡ Some n → IsImportOf (graph_of a) name n
+  -- each export is one of which its node tells
+  pub told : AreTold a.lost a.nodes a.exports.entries

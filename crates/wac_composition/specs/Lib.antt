@@ -4,5 +4,4 @@ pub mod Left
 pub mod Arguments
 pub mod EncoderView
 pub mod Naming
-pub mod Removal
 pub mod Removing

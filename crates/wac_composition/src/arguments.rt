@@ -17,6 +17,7 @@ use slab::Slab;
 use std::alloc::AllocError;
 use wac_edges::edges::{Edge, Label};
 use wac_nodes::{InstantiationArgumentError, Node, NodeId, NodeKind};
+use wac_removing::unsatisfy;
 use wac_types::{ItemKind, SubtypeChecker, TypeFault};
 
 /// The edge of a node that is the argument for an instantiation's import at this position.
@@ -172,18 +173,4 @@ fn satisfy(nodes: &mut Slab<Node>, number: usize, position: usize) -> Result<(),
     };
     positions.insert(position)?;
     Ok(())
-}
-
-/// Marks the import of an instantiation at this position as not satisfied.
-pub(crate) fn unsatisfy(nodes: &mut Slab<Node>, number: usize, position: usize)
-    requires { IsInstantiationAt (get nodes.old number) }
-    ensures same { (q : ℕ) → option_map node_of (get nodes.new q) ≡ option_map node_of (get nodes.old q) }
-    ensures next { nodes.new.vacant_key ≡ nodes.old.vacant_key }
-    ensures marks { (q i : ℕ) → satisfied_at (get nodes.new q) i ≡ (satisfied_at (get nodes.old q) i && not (q == number && i == position)) }
-{
-    let node = &mut nodes[number];
-    let NodeKind::Instantiation(positions) = &mut node.kind else {
-        unreachable!()
-    };
-    positions.remove(&position);
 }

@@ -17,6 +17,7 @@ impl CompositionGraph {
         let exports = self.exports.clone()?;
         let package_map = self.package_map.clone()?;
         let slots = self.slots.clone()?;
+        let lost = self.lost.clone_with_room(self.alloc, self.exports.len())?;
         Ok(CompositionGraph {
             alloc: self.alloc,
             types,
@@ -26,6 +27,7 @@ impl CompositionGraph {
             exports,
             package_map,
             slots,
+            lost,
         })
     }
 }

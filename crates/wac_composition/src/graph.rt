@@ -30,6 +30,7 @@ use wac_nodes::{
     NodeId, NodeKind, PackageId, RegisterPackageError, Slot, UnexportError, export_fault,
     import_fault,
 };
+use wac_removing::Lost;
 use wac_types::laws::growth_keeps_trees;
 use wac_types::{
     AddTypeError, DefinedType, DefinedTypeId, FuncType, FuncTypeId, Interface, InterfaceId,
@@ -47,6 +48,8 @@ pub struct CompositionGraph {
     pub(crate) exports: IndexMap<String, NodeId>,
     pub(crate) package_map: IndexMap<PackageKey, PackageId>,
     pub(crate) slots: Vec<Slot>,
+    // What a removal knows of exports.
+    pub(crate) lost: Lost,
 }
 
 /// What a graph holds is let go of here, and not anew by each program that drops one.
@@ -61,6 +64,7 @@ impl Drop for CompositionGraph {
             exports: _,
             package_map: _,
             slots: _,
+            lost: _,
         } = self;
     }
 }
@@ -95,6 +99,7 @@ impl CompositionGraph {
             exports: IndexMap::new(alloc),
             package_map: IndexMap::new(alloc),
             slots: Vec::new(alloc),
+            lost: Lost::new(alloc),
         }
     }
 
@@ -441,6 +446,8 @@ impl CompositionGraph {
         }
         let key = String::from_str(self.alloc, name)?;
         let own = String::from_str(self.alloc, name)?;
+        let is_named = self.nodes[node.0].export_name.is_some();
+        self.lost.prepare(self.exports.len() + 1, node.0, is_named)?;
         self.exports.insert(key, node)?;
         set_export_name(&mut self.nodes, node.0, own);
         Ok(())
@@ -457,6 +464,7 @@ impl CompositionGraph {
         }
         take_exports(&mut self.exports, node);
         clear_export_name(&mut self.nodes, node.0);
+        self.lost.unmark(node.0);
         Ok(())
     }
 

@@ -13,7 +13,6 @@ mod encode;
 mod graph;
 mod imports;
 mod iterators;
-pub mod laws;
 mod lookups;
 mod merging;
 mod naming;

@@ -1,7 +1,9 @@
-use Rattle.std.proofs.Common.{sym, refl, subst, MatchOption}
+use Rattle.std.proofs.Common.{sym, refl, subst, ◌∙◌, MatchOption}
+use Rattle.slab.specs.Slab.{get}
 use Rattle.wac_nodes.specs.ExternName.{IsExportName, HasExportFault}
 use Rattle.wac_nodes.proofs.NodeLemmas.{lookup_text, there}
-use Rattle.wac_composition.proofs.ExportLemmas.{exported, invariant_exported}
+use Rattle.wac_composition.proofs.InvariantLemmas.{invariant_more, invariant_exports}
+use Rattle.wac_composition.proofs.ExportLemmas.{exported, invariant_exported, read_name}
 use Rattle.wac_composition.proofs.graph.CompositionGraph.export.Goals as goal
 
 pub returns-in-Some : goal.returns-in-Some
@@ -11,11 +13,22 @@ returns-in-Some c =
 pub set_export_name-requires : goal.set_export_name-requires
 set_export_name-requires c = there c.self.inside.nodes.slots c.args.node.0 (rw (← c.self.view_is) at c.requires)
 
+pub index-requires : goal.index-requires
+index-requires c = there c.self.inside.nodes.slots c.args.node.0 (rw (← c.self.view_is) at c.requires)
+
+pub invariant_of-self : goal.invariant_of-self
+invariant_of-self c = invariant_more c.self.inside c.self.invariant c.prepare.new.self c.prepare.ensures.kept
+
+pub invariant_of-self-in_err-insert : goal.invariant_of-self-in_err-insert
+invariant_of-self-in_err-insert c =
+    invariant_exports (record c.self.inside { lost = c.prepare.new.self }) (invariant_more c.self.inside c.self.invariant c.prepare.new.self c.prepare.ensures.kept) c.insert.new.self c.in_err-insert.ensures.err
+
 pub invariant_of-self-2 : goal.invariant_of-self-2
 invariant_of-self-2 c =
-    invariant_exported c.self.inside c.self.invariant c.args.node c.args.name.now c.in_ok-key.key c.in_ok-own.own c.set_export_name.new.nodes c.insert.new.self
+    invariant_exported (record c.self.inside { lost = c.prepare.new.self }) (invariant_more c.self.inside c.self.invariant c.prepare.new.self c.prepare.ensures.kept) c.args.node c.args.name.now c.in_ok-key.key c.in_ok-own.own c.set_export_name.new.nodes c.insert.new.self
     c.in_ok-key.ensures.ok c.in_ok-own.ensures.ok (sym c.in_default.ensures.value) c.in_ok-insert.ensures.entries
     (there c.self.inside.nodes.slots c.args.node.0 (rw (← c.self.view_is) at c.requires)) c.set_export_name.ensures
+    (λ n had named. c.in_ok-prepare.ensures.marked (c.is_some-is_named.ensures ∙ read_name (get c.self.inside.nodes c.args.node.0) n c.index.result.now c.index.ensures had named))
 
 pub returns : goal.returns
 returns c =

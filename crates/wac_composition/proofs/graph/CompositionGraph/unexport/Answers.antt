@@ -1,7 +1,7 @@
 use Rattle.std.proofs.Common.{ap}
 use Rattle.wac_nodes.specs.Nodes.{kind_of}
 use Rattle.wac_nodes.proofs.NodeLemmas.{there}
-use Rattle.wac_composition.proofs.TakingLemmas.{unexported, invariant_unexported, still_definition, no_definition}
+use Rattle.wac_composition.proofs.TakingLemmas.{unexported, invariant_forgotten, still_definition, no_definition}
 use Rattle.wac_composition.proofs.graph.CompositionGraph.unexport.Goals as goal
 
 pub index-requires : goal.index-requires
@@ -11,7 +11,7 @@ pub returns-in-Definition : goal.returns-in-Definition
 returns-in-Definition c = rw (← c.self.view_is) (still_definition c.self.inside c.args.node c.index.result.now c.index.ensures (ap kind_of c.in-Definition.is))
 
 pub invariant_of-self : goal.invariant_of-self
-invariant_of-self c = invariant_unexported c.self.inside c.args.node c.clear_export_name.new.nodes c.take_exports.new.exports c.index.result.now c.index.ensures c.clear_export_name.ensures c.take_exports.ensures c.self.invariant
+invariant_of-self c = invariant_forgotten c.self.inside c.args.node c.clear_export_name.new.nodes c.take_exports.new.exports c.index.result.now c.index.ensures c.clear_export_name.ensures c.take_exports.ensures c.self.invariant c.unmark.new.self c.unmark.ensures.others
 
 pub returns : goal.returns
 returns c =

@@ -1,0 +1,7 @@
+pub mod SatisfyLemmas
+pub mod WayLemmas
+pub mod TiedLemmas
+pub mod ToldLemmas
+pub mod LostLemmas
+pub mod RemovingLemmas
+pub mod RemovalLaws

@@ -1,0 +1,4 @@
+pub mod Removal
+pub mod Removing
+pub mod Told
+pub mod Lost

@@ -1,0 +1,11 @@
+//! Nodes that are taken out of the nodes and edges of a graph, and the exports that go with them.
+//!
+//! A layer of `wac_graph`, whose crate is the door.
+#![tactic(auto)]
+
+pub mod laws;
+mod lost;
+mod taking;
+
+pub use lost::{Lost, take_lost};
+pub use taking::{take_nodes, unsatisfy};
