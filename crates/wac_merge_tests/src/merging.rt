@@ -5,8 +5,8 @@ use std::process::Abort;
 use std::test::Fail;
 use wac_merge::{MergeFault, TypeAggregator};
 use wac_types::{
-    DefinedType, Enum, FuncType, Interface, InterfaceId, ItemKind, PrimitiveType, Resource, Type,
-    Types, ValueType,
+    DefinedType, Enum, FuncType, Interface, InterfaceId, ItemKind, PrimitiveType, Resource,
+    ResourceId, Type, Types, ValueType,
 };
 
 // A function without parameters that gives nothing.
@@ -265,6 +265,48 @@ fn resources_of_one_name_keep_their_interfaces(rt: HostRuntime) -> Result<(), Fa
     assert!(rt; merged.resource("n:p/b", "r").is_some());
     assert!(rt; merged.resource("n:p/b", "r") != of_a);
     assert_eq!(rt; merged.resource("n:p/c", "r"), None);
+    Ok(())
+}
+
+// Where a resource is bound at the root: by the import at a position, under these names.
+fn assert_bound(
+    rt: &impl Abort,
+    merged: &TypeAggregator,
+    resource: ResourceId,
+    want: (usize, &[&str]),
+) -> Result<(), Fail>
+    requires { merged.now.is_finished ≡ true }
+{
+    let Some((position, path)) = merged.root_binding(resource) else {
+        return Err(Fail::new("bound nowhere"));
+    };
+    assert_eq!(rt; position, want.0);
+    assert_eq!(rt; path.len(), want.1.len());
+    for i in 0..path.len() {
+        assert_eq!(rt; path[i].as_str(), want.1[i]);
+    }
+    Ok(())
+}
+
+// A resource that is imported itself, one that an instance exports, and one that no import binds.
+#[test]
+fn resources_are_bound_where_their_class_is_imported(rt: HostRuntime) -> Result<(), Fail> {
+    let alloc = rt.alloc();
+    let mut types = Types::new(alloc);
+    let alone = types.add_resource(Resource::new(alloc, "s")?)?;
+    let listed = types.add_resource(Resource::new(alloc, "r")?)?;
+    let unbound = types.add_resource(Resource::new(alloc, "r")?)?;
+    let item = ItemKind::TypeItem(Type::Resource(listed));
+    let i = with_type(&mut types, alloc, "n:p/i", "r", item)?;
+    let asked = [
+        ("s", ItemKind::TypeItem(Type::Resource(alone))),
+        ("n:p/i", ItemKind::Instance(i)),
+    ];
+    let merged = merge(alloc, &rt, &types, &asked)?;
+    assert_imports(&rt, &merged, &["n:p/i", "s"]);
+    assert_bound(&rt, &merged, listed, (0, &["r"]))?;
+    assert_bound(&rt, &merged, alone, (1, &[]))?;
+    assert!(rt; merged.root_binding(unbound).is_none());
     Ok(())
 }
 
