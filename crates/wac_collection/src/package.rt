@@ -21,13 +21,24 @@ use std::marker::Model;
 use wac_shapes::{Interface, InterfaceId, ItemKind, Named, Type, WorldId};
 
 /// A package: a component's bytes under a name, with the world that they are said to be of.
-#[derive(Drop)]
 pub struct Package {
     name: String,
     version: Option<Version>,
     bytes: Vec<u8>,
     world: WorldId,
     instance_type: InterfaceId,
+}
+
+impl Drop for Package {
+    fn drop(self) {
+        let Package {
+            name: _,
+            version: _,
+            bytes: _,
+            world: _,
+            instance_type: _,
+        } = self;
+    }
 }
 
 impl Model for Package {
@@ -175,10 +186,19 @@ fn cloned(version: Option<&Version>) -> Result<Option<Version>, AllocError>
 }
 
 /// A package's name and version.
-#[derive(Debug, Drop)]
+#[derive(Debug)]
 pub struct PackageKey {
     name: String,
     version: Option<Version>,
+}
+
+impl Drop for PackageKey {
+    fn drop(self) {
+        let PackageKey {
+            name: _,
+            version: _,
+        } = self;
+    }
 }
 
 impl Model for PackageKey {

@@ -201,12 +201,18 @@ pub struct ResourceAlias {
 }
 
 /// A resource.
-#[derive(Clone, Debug, Drop, PartialEq, Eq)]
+#[derive(Clone, Debug, PartialEq, Eq)]
 pub struct Resource {
     /// Its name.
     pub name: Text,
     /// The resource that it is an alias of, where it is one.
     pub alias: Option<ResourceAlias>,
+}
+
+impl Drop for Resource {
+    fn drop(self) {
+        let Resource { name: _, alias: _ } = self;
+    }
 }
 
 impl Resource {
@@ -234,10 +240,16 @@ impl Resource {
 }
 
 /// A variant.
-#[derive(Clone, Debug, Drop, PartialEq, Eq)]
+#[derive(Clone, Debug, PartialEq, Eq)]
 pub struct Variant {
     /// The cases, in order, each with the type of its payload where it has one.
     pub cases: Named<Option<ValueType>>,
+}
+
+impl Drop for Variant {
+    fn drop(self) {
+        let Variant { cases: _ } = self;
+    }
 }
 
 impl Variant {
@@ -255,10 +267,16 @@ impl Variant {
 }
 
 /// A record.
-#[derive(Clone, Debug, Drop, PartialEq, Eq)]
+#[derive(Clone, Debug, PartialEq, Eq)]
 pub struct Record {
     /// The fields, in order.
     pub fields: Named<ValueType>,
+}
+
+impl Drop for Record {
+    fn drop(self) {
+        let Record { fields: _ } = self;
+    }
 }
 
 impl Record {
@@ -276,8 +294,14 @@ impl Record {
 }
 
 /// Flags.
-#[derive(Clone, Debug, Drop, PartialEq, Eq)]
+#[derive(Clone, Debug, PartialEq, Eq)]
 pub struct Flags(pub Labels);
+
+impl Drop for Flags {
+    fn drop(self) {
+        let Flags(_) = self;
+    }
+}
 
 impl Flags {
     /// Flags of these names, in the order given. Answers `NameTwice` where a name is given twice, and `OutOfMemory` where memory ran out.
@@ -294,8 +318,14 @@ impl Flags {
 }
 
 /// An enumeration.
-#[derive(Clone, Debug, Drop, PartialEq, Eq)]
+#[derive(Clone, Debug, PartialEq, Eq)]
 pub struct Enum(pub Labels);
+
+impl Drop for Enum {
+    fn drop(self) {
+        let Enum(_) = self;
+    }
+}
 
 impl Enum {
     /// An enumeration of these names, in the order given. Answers `NameTwice` where a name is given twice, and `OutOfMemory` where memory ran out.
@@ -312,7 +342,7 @@ impl Enum {
 }
 
 /// A value type with a definition.
-#[derive(Clone, Debug, Drop, PartialEq, Eq)]
+#[derive(Clone, Debug, PartialEq, Eq)]
 pub enum DefinedType {
     /// A tuple of these types.
     Tuple(Sequence<ValueType>),
@@ -345,6 +375,25 @@ pub enum DefinedType {
     Future(Option<ValueType>),
 }
 
+impl Drop for DefinedType {
+    fn drop(self) {
+        match self {
+            DefinedType::Tuple(_)
+            | DefinedType::List(_)
+            | DefinedType::FixedSizeList(_, _)
+            | DefinedType::Option(_)
+            | DefinedType::Result { ok: _, err: _ }
+            | DefinedType::Variant(_)
+            | DefinedType::Record(_)
+            | DefinedType::Flags(_)
+            | DefinedType::Enum(_)
+            | DefinedType::Alias(_)
+            | DefinedType::Stream(_)
+            | DefinedType::Future(_) => {}
+        }
+    }
+}
+
 impl DefinedType {
     /// A tuple of these types.
     pub fn tuple(alloc: Global, types: &[ValueType]) -> Result<DefinedType, AllocError>
@@ -356,7 +405,7 @@ impl DefinedType {
 }
 
 /// A function type.
-#[derive(Clone, Debug, Drop, PartialEq, Eq)]
+#[derive(Clone, Debug, PartialEq, Eq)]
 pub struct FuncType {
     /// The parameters, in order.
     pub params: Named<ValueType>,
@@ -364,6 +413,16 @@ pub struct FuncType {
     pub result: Option<ValueType>,
     /// Whether it is asynchronous.
     pub is_async: bool,
+}
+
+impl Drop for FuncType {
+    fn drop(self) {
+        let FuncType {
+            params: _,
+            result: _,
+            is_async: _,
+        } = self;
+    }
 }
 
 impl FuncType {
@@ -390,12 +449,21 @@ impl FuncType {
 }
 
 /// A type that is taken from another interface.
-#[derive(Clone, Debug, Drop, PartialEq, Eq)]
+#[derive(Clone, Debug, PartialEq, Eq)]
 pub struct UsedType {
     /// The interface that it is taken from.
     pub interface: InterfaceId,
     /// Its name there; none where it is the name that it is used under.
     pub name: Option<Text>,
+}
+
+impl Drop for UsedType {
+    fn drop(self) {
+        let UsedType {
+            interface: _,
+            name: _,
+        } = self;
+    }
 }
 
 // The types that triples stand for, each under the name that it is used under.
@@ -427,7 +495,7 @@ fn used_types(
 }
 
 /// An interface.
-#[derive(Clone, Debug, Drop, PartialEq, Eq)]
+#[derive(Clone, Debug, PartialEq, Eq)]
 pub struct Interface {
     /// The interface's name, as `namespace:package/interface`.
     pub id: Option<Text>,
@@ -435,6 +503,16 @@ pub struct Interface {
     pub uses: Named<UsedType>,
     /// What it exports, in order.
     pub exports: Named<ItemKind>,
+}
+
+impl Drop for Interface {
+    fn drop(self) {
+        let Interface {
+            id: _,
+            uses: _,
+            exports: _,
+        } = self;
+    }
 }
 
 impl Interface {
@@ -477,7 +555,7 @@ impl Interface {
 }
 
 /// A world.
-#[derive(Clone, Debug, Drop, PartialEq, Eq)]
+#[derive(Clone, Debug, PartialEq, Eq)]
 pub struct World {
     /// The world's name, as `namespace:package/world`.
     pub id: Option<Text>,
@@ -487,6 +565,17 @@ pub struct World {
     pub imports: Named<ItemKind>,
     /// What it exports, in order.
     pub exports: Named<ItemKind>,
+}
+
+impl Drop for World {
+    fn drop(self) {
+        let World {
+            id: _,
+            uses: _,
+            imports: _,
+            exports: _,
+        } = self;
+    }
 }
 
 impl World {

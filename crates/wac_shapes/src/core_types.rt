@@ -34,12 +34,21 @@ pub enum CoreType {
 }
 
 /// The type of a core function.
-#[derive(Clone, Debug, Drop, PartialEq, Eq)]
+#[derive(Clone, Debug, PartialEq, Eq)]
 pub struct CoreFuncType {
     /// The types of the parameters.
     pub params: Sequence<CoreType>,
     /// The types of the results.
     pub results: Sequence<CoreType>,
+}
+
+impl Drop for CoreFuncType {
+    fn drop(self) {
+        let CoreFuncType {
+            params: _,
+            results: _,
+        } = self;
+    }
 }
 
 impl CoreFuncType {
@@ -102,12 +111,21 @@ pub enum CoreExtern {
 }
 
 /// The type of a core module.
-#[derive(Clone, Debug, Drop, PartialEq, Eq)]
+#[derive(Clone, Debug, PartialEq, Eq)]
 pub struct ModuleType {
     /// What it imports, by module and then by name.
     pub imports: Named<Named<CoreExtern>>,
     /// What it exports, in order.
     pub exports: Named<CoreExtern>,
+}
+
+impl Drop for ModuleType {
+    fn drop(self) {
+        let ModuleType {
+            imports: _,
+            exports: _,
+        } = self;
+    }
 }
 
 impl ModuleType {

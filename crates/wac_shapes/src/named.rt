@@ -22,9 +22,15 @@ pub enum ShapeError {
 }
 
 /// A text. It shows as the text in quotes.
-#[derive(Drop)]
 pub struct Text {
     text: String,
+}
+
+/// What texts, sequences, labels and values under names hold is let go of here, and not anew by each crate that drops one.
+impl Drop for Text {
+    fn drop(self) {
+        let Text { text: _ } = self;
+    }
 }
 
 impl Model for Text {
@@ -90,9 +96,14 @@ impl Text {
 }
 
 /// Values in order. It shows as a list.
-#[derive(Drop)]
 pub struct Sequence<T> {
     items: Vec<T>,
+}
+
+impl<T: Drop> Drop for Sequence<T> {
+    fn drop(self) {
+        let Sequence { items: _ } = self;
+    }
 }
 
 impl<T> Model for Sequence<T> {
@@ -163,9 +174,14 @@ impl<T: Copy> Sequence<T> {
 }
 
 /// Names in order. None stands twice. It shows as a list of the names.
-#[derive(Drop)]
 pub struct Labels {
     names: Named<()>,
+}
+
+impl Drop for Labels {
+    fn drop(self) {
+        let Labels { names: _ } = self;
+    }
 }
 
 impl Model for Labels {
@@ -313,9 +329,14 @@ impl<'a> Iterator for LabelNames<'a> {
 }
 
 /// Values under names, in order. No name stands twice. It shows as a map.
-#[derive(Drop)]
 pub struct Named<V> {
     entries: IndexMap<String, V>,
+}
+
+impl<V: Drop> Drop for Named<V> {
+    fn drop(self) {
+        let Named { entries: _ } = self;
+    }
 }
 
 impl<V> Model for Named<V> {
