@@ -1,13 +1,14 @@
 -- What one more item adds to what items mean.
-use Rattle.std.proofs.Common.{◌≡◌, ℕ, zero, suc, ◌+◌, ◌<◌, List, [], ◌∷◌, ◌++◌, length, map, refl, ap, ◌∙◌, arith}
+use Rattle.std.proofs.Common.{◌≡◌, ℕ, zero, suc, ◌+◌, ◌<◌, Bool, true, false, T, if◌then◌else◌, List, [], ◌∷◌, ◌++◌, length, map, refl, ap, ◌∙◌, arith}
 use Rattle.wac_shapes.specs.Name.{Name}
 use Rattle.wac_collection.specs.Tree.{Tree}
 use Rattle.wac_binary.specs.declared.sorts.Sort.{Sort}
 use Rattle.wac_binary.specs.declared.sorts.Sort.TheVariants as sort
 use Rattle.wac_binary.specs.Items.{Item, custom, nested, instantiate, alias_item, export_alias, export_item}
 use Rattle.wac_binary.specs.Indexes.{indexes, is_in, adds}
-use Rattle.wac_binary.specs.Unfold.{Scope, with_alias, bound_at}
-use Rattle.wac_binary.specs.Meaning.{Thing, instance_at, component_at, projected, Root, Instantiation, Export, start, things, thing_at, stands_for, with_thing, read, read_all, meaning}
+use Rattle.wac_binary.specs.Unfold.{Scope, Bound, with_alias, bound_at}
+use Rattle.wac_binary.specs.Meaning.{Thing, nothing, instance_at, component_at, projected, may_export, aliased_thing, Root, Instantiation, Export, start, things, thing_at, stands_for, with_thing, read, read_all, meaning}
+use Rattle.wac_binary.specs.HasMeaning.{HasExport}
 use Rattle.std.proofs.lemmas.List.{map-append}
 use Rattle.wac_meaning.specs.Means.{shown}
 
@@ -63,14 +64,24 @@ thing_at-before [] t i h = absurd (omega arith)
 thing_at-before (s ∷ ts) t zero h = refl
 thing_at-before (s ∷ ts) t (suc i) h = thing_at-before ts t i (omega arith)
 
+-- an alias of an export that the instance may have stands for it
+pub aliased_is : (b : Bound) (t : Sort) (x : Thing) (name : Name) → HasExport t b.type name → aliased_thing b t x name ≡ projected x name
+aliased_is b t x name has = passed (may_export t b.type name) has where
+  passed : (may : Bool) → T may → (if may then projected x name else nothing) ≡ projected x name
+  passed true h = refl
+  passed false h = absurd h
+
 -- the index that an alias adds stands for the export
-pub alias_stands : (items : List Item) (t : Sort) (c : ℕ) (name : Name) (i : ℕ) → i ≡ length (things (meaning items) t)
+pub alias_stands : (items : List Item) (t : Sort) (c : ℕ) (name : Name) (i : ℕ) → i ≡ length (things (meaning items) t) → HasExport t (bound_at (meaning items).scope.instances c).type name
     → stands_for (meaning (items ++ alias_item (export_alias t c name) ∷ [])) t i ≡ projected (stands_for (meaning items) sort.Instance c) name
-alias_stands items t c name i is =
+alias_stands items t c name i is has =
+    let b : Bound = bound_at (meaning items).scope.instances c in
+    let x : Thing = aliased_thing b t (stands_for (meaning items) sort.Instance c) name in
     ap (λ r. stands_for r t i) (meaning-push items (alias_item (export_alias t c name)))
-    ∙ ap (λ ts. thing_at ts i) (things-with_thing _ t _ ∙ ap (λ ts. ts ++ projected (stands_for (meaning items) sort.Instance c) name ∷ []) (things-scope (meaning items) (with_alias (meaning items).scope t (bound_at (meaning items).scope.instances c) name) t))
-    ∙ ap (thing_at (things (meaning items) t ++ projected (stands_for (meaning items) sort.Instance c) name ∷ [])) is
-    ∙ thing_at-last (things (meaning items) t) _
+    ∙ ap (λ ts. thing_at ts i) (things-with_thing _ t x ∙ ap (λ ts. ts ++ x ∷ []) (things-scope (meaning items) (with_alias (meaning items).scope t b name) t))
+    ∙ ap (thing_at (things (meaning items) t ++ x ∷ [])) is
+    ∙ thing_at-last (things (meaning items) t) x
+    ∙ aliased_is b t (stands_for (meaning items) sort.Instance c) name has
 
 -- an alias adds to nothing else
 pub alias_rest : (items : List Item) (t : Sort) (c : ℕ) (name : Name) → rest (meaning (items ++ alias_item (export_alias t c name) ∷ [])) ≡ rest (meaning items)

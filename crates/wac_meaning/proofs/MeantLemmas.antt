@@ -85,9 +85,13 @@ module _ (items : List Item) (unknown : AreUnknown items) where
   pub unknown-export : (n : Name) (t : Sort) (i : ℕ) → AreUnknown (items ++ export_item n t i ∷ [])
   unknown-export n t i = after (export_item n t i) (subst (λ (c : Scope). AllAbsent c.instances) (sym (scope-with_thing _ t _)) (absent_exported (meaning items).scope t i unknown))
 
+  -- no instance is known to have no export of a sort under a name
+  pub known : (t : Sort) (i : ℕ) (n : Name) → HasExport t (bound_at (meaning items).scope.instances i).type n
+  known t i n = subst (λ (x : Tree). HasExport t x n) (sym (absent_at (meaning items).scope.instances i unknown)) tt
+
   -- an alias of an instance that is there has a meaning
   pub alias_meant : (t : Sort) (i : ℕ) (n : Name) → IsSomething (stands_for (meaning items) sort.Instance i) → ItemHasMeaning (meaning items) (alias_item (export_alias t i n))
-  alias_meant t i n there = (there, subst (λ (x : Tree). HasExport t x n) (sym (absent_at (meaning items).scope.instances i unknown)) tt)
+  alias_meant t i n there = (there, known t i n)
 
 -- what a node stands for is something
 pub something : (g : Graph) (at : NodeId → Thing) (order : List NodeId) (n : NodeId) (node : GraphNode) → IsThing g at order n node → IsSomething (at n)

@@ -27,7 +27,7 @@ use Rattle.wac_meaning.specs.Means.{node_is, is_import, is_instantiation, is_wri
 use Rattle.wac_meaning.specs.Encoding.{HasComponent, IsArgumentItem, AreArgumentItems}
 use Rattle.wac_edges.proofs.WrittenOrder.{has, minus, minus-true, same, same_itself, eqb_same, apart, in_list, in_push, now_in, slice_get-middle, written_left, only_place, has-filter}
 use Rattle.wac_meaning.proofs.ThingLemmas.{IsPlain, ready_sources}
-use Rattle.wac_meaning.proofs.MeantLemmas.{meant-push, AreUnknown, unknown-nested, unknown-instance, unknown-alias, alias_meant, something}
+use Rattle.wac_meaning.proofs.MeantLemmas.{meant-push, AreUnknown, unknown-nested, unknown-instance, unknown-alias, known, alias_meant, something}
 use Rattle.wac_meaning.proofs.MeaningLemmas.{alias_stands, alias_rest, nested_bytes_more, nested_stands, instantiations_more, instance_stands, made_of, indexes-push}
 use Rattle.wac_meaning.proofs.DefinedLemmas.{IsMadeOf, AreMade}
 
@@ -375,7 +375,7 @@ module _ (counted : Counted) (earlier : Earlier) (g : Graph) (sound : IsSound g)
           here_stands =
               let t : Sort = sort_of_kind node.item_kind in (
                 counted_up t items (alias_item (export_alias t (index instance) name)) refl,
-                alias_stands items t (index instance) name (indexes (space t) items) (sym (counted items t))
+                alias_stands items t (index instance) name (indexes (space t) items) (sym (counted items t)) (known items w.unknown t (index instance) name)
                     ∙ ap (λ z. projected z name) of_instance
                     ∙ projected_thing instance source name (is_thing instance source source_there)
                     ∙ sym (is_projection (is_thing n node there)),
