@@ -1,23 +1,19 @@
--- What the counts of the steps from those that are left say.
+-- What the counts of the edges from those that are left say.
+use Rattle.std.specs.Global.{Global}
 use Rattle.std.proofs.Common.{◌≡◌, ℕ, zero, suc, ◌+◌, ◌-◌, ◌<◌, ◌≤◌, Bool, true, false, not, ◌&&◌, List, [], ◌∷◌, length, drop, Some, refl, ap, sym, ◌∙◌, ◌⊎◌, inl, inr, subst, arith, add-one, eqb}
-use Rattle.std.specs.Prelude.{slice_get, slice_set, slice_index, ◌↔◌}
+use Rattle.std.specs.Prelude.{Vec, slice_get, slice_set, slice_index, ◌↔◌}
 use Rattle.std.specs.BTreeSet.{BTreeSet, contains, IsLowerBound, Updates}
 use Rattle.std.specs.BTreeMap.{is_at}
-use Rattle.std.specs.List.{AllByRecursion}
-use Rattle.std.specs.List.Sorted.{IsStrictlySortedBy}
 use Rattle.std.specs.Ordering.{nat_cmp, is_gt}
 use Rattle.std.specs.declared.cmp.Ordering.{Ordering}
 use Rattle.std.specs.declared.cmp.Ordering.TheVariants.{Less, Equal, Greater}
 use Rattle.std.proofs.lemmas.Bool.{cases_eq, cases_lt, eq-eqb, ne_eqb, false_from_ne_true}
 use Rattle.std.proofs.lemmas.Cmp.{ranked}
-use Rattle.std.proofs.lemmas.List.{get_or_past}
-use Rattle.std.proofs.lemmas.Map.Keys.{sorted_head, sorted_tail}
 use Rattle.wac_edges.specs.declared.node.NodeId.{NodeId}
-use Rattle.wac_cycles.specs.Cycles.{IsStep}
 use Rattle.wac_edges.specs.Edge.{is_left, node_number, IsBlocked, IsFree}
 use Rattle.wac_cycles.specs.Numbers.{Has}
 use Rattle.wac_edges.specs.Order.{Edges, IsEdge, IsLowestReady, IsStuck}
-use Rattle.wac_edges.specs.Ready.{occurs, incoming, AreCounted, AreReady, is_set}
+use Rattle.wac_edges.specs.Ready.{occurs, incoming, AreCounted, AreReady, IsListed, is_set}
 use Rattle.wac_cycles.proofs.Numbers.{has_head, has_tail, has_split, same_key}
 use Rattle.wac_edges.proofs.OrderLemmas.{flag_after}
 use Rattle.wac_edges.proofs.CycleLemmas.{within}
@@ -50,96 +46,68 @@ occurs_has (k ∷ ks) q h = split (cases_eq q k) (λ r. occurs_has ks q r) where
   split (inl e) _ = has_head q k ks e
   split (inr other) more = has_tail q k ks (more (let none = occurs_other q k ks other in omega arith))
 
-occurs_none : (k : ℕ) (ks : List ℕ) → AllByRecursion (λ y. nat_cmp k y ≡ Less) ks → occurs ks k ≡ 0
-occurs_none k [] h = refl
-occurs_none k (x ∷ ks) (less, rest) =
-    let lower : k < x = ranked k x Less (sym less) in
-    let other : k ≡ x → ⊥ = λ (e : k ≡ x). omega arith in
-    occurs_other k x ks other ∙ occurs_none k ks rest
-
--- keys in order stand there once
-pub occurs_once : (ks : List ℕ) → IsStrictlySortedBy nat_cmp ks → (q : ℕ) → occurs ks q ≤ 1
-occurs_once [] sorted q = omega arith
-occurs_once (k ∷ ks) sorted q = split (cases_eq q k) (occurs_once ks (sorted_tail nat_cmp k ks sorted) q) where
-  split : (q ≡ k) ⊎ (q ≡ k → ⊥) → occurs ks q ≤ 1 → occurs (k ∷ ks) q ≤ 1
-  split (inl e) _ =
-      let one = occurs_same q k ks e in
-      let none : occurs ks q ≡ 0 = ap (occurs ks) e ∙ occurs_none k ks (sorted_head nat_cmp k ks sorted) in
-      omega arith
-  split (inr other) more = let none = occurs_other q k ks other in omega arith
-
--- ---- how many steps lead to a number from those that are left
-pub incoming_none : (flags : List Bool) (sets : List (BTreeSet ℕ)) (b : ℕ) → incoming flags sets b ≡ 0 → (a : ℕ) → is_set flags a ≡ true → IsStep sets a b → ⊥
+-- ---- how many edges lead to a number from those that are left
+pub incoming_none : (flags : List Bool) (sets : List (Vec ℕ Global)) (b : ℕ) → incoming flags sets b ≡ 0 → (a : ℕ) → is_set flags a ≡ true → IsListed sets a b → ⊥
 incoming_none [] sets b none a here step = cc
 incoming_none (true ∷ flags) [] b none a here (s, at, has) = cc
 incoming_none (false ∷ flags) [] b none a here (s, at, has) = cc
 incoming_none (true ∷ flags) (s ∷ sets) b none zero here (t, at, has) =
     let same : s ≡ t = cc in
-    let some = has_occurs s.keys b (subst (λ (x : BTreeSet ℕ). Has x.keys b) (sym same) has) in
+    let some = has_occurs s.items b (subst (λ (x : Vec ℕ Global). Has x.items b) (sym same) has) in
     omega arith
 incoming_none (false ∷ flags) (s ∷ sets) b none zero here step = cc
 incoming_none (true ∷ flags) (s ∷ sets) b none (suc a) here step = incoming_none flags sets b (omega arith) a here step
 incoming_none (false ∷ flags) (s ∷ sets) b none (suc a) here step = incoming_none flags sets b none a here step
 
-pub incoming_some : (flags : List Bool) (sets : List (BTreeSet ℕ)) (b : ℕ) → 0 < incoming flags sets b → (a : ℕ) × (is_set flags a ≡ true) × IsStep sets a b
+pub incoming_some : (flags : List Bool) (sets : List (Vec ℕ Global)) (b : ℕ) → 0 < incoming flags sets b → (a : ℕ) × (is_set flags a ≡ true) × IsListed sets a b
 incoming_some [] sets b some = absurd (omega arith)
 incoming_some (true ∷ flags) [] b some = absurd (omega arith)
 incoming_some (false ∷ flags) [] b some = absurd (omega arith)
-incoming_some (true ∷ flags) (s ∷ sets) b some = split (cases_lt 0 (occurs s.keys b)) (λ r. incoming_some flags sets b r) where
-  split : (0 < occurs s.keys b) ⊎ (occurs s.keys b ≤ 0) → (0 < incoming flags sets b → (a : ℕ) × (is_set flags a ≡ true) × IsStep sets a b) → (a : ℕ) × (is_set (true ∷ flags) a ≡ true) × IsStep (s ∷ sets) a b
-  split (inl h) _ = (zero, refl, (s, refl, occurs_has s.keys b h))
+incoming_some (true ∷ flags) (s ∷ sets) b some = split (cases_lt 0 (occurs s.items b)) (λ r. incoming_some flags sets b r) where
+  split : (0 < occurs s.items b) ⊎ (occurs s.items b ≤ 0) → (0 < incoming flags sets b → (a : ℕ) × (is_set flags a ≡ true) × IsListed sets a b) → (a : ℕ) × (is_set (true ∷ flags) a ≡ true) × IsListed (s ∷ sets) a b
+  split (inl h) _ = (zero, refl, (s, refl, occurs_has s.items b h))
   split (inr none) more = let (a, here, step) = more (omega arith) in (suc a, here, step)
 incoming_some (false ∷ flags) (s ∷ sets) b some = let (a, here, step) = incoming_some flags sets b some in (suc a, here, step)
 
 -- those from one that is written are taken away
-pub incoming_written : (flags : List Bool) (sets : List (BTreeSet ℕ)) (n : ℕ) (s : BTreeSet ℕ) (b : ℕ) → is_set flags n ≡ true → slice_get sets n ≡ Some s → incoming flags sets b ≡ occurs s.keys b + incoming (slice_set flags n false) sets b
+pub incoming_written : (flags : List Bool) (sets : List (Vec ℕ Global)) (n : ℕ) (s : Vec ℕ Global) (b : ℕ) → is_set flags n ≡ true → slice_get sets n ≡ Some s → incoming flags sets b ≡ occurs s.items b + incoming (slice_set flags n false) sets b
 incoming_written [] sets n s b here at = cc
 incoming_written (true ∷ flags) [] n s b here at = cc
 incoming_written (false ∷ flags) [] n s b here at = cc
-incoming_written (true ∷ flags) (t ∷ sets) zero s b here at = let same : t ≡ s = cc in ap (λ (x : BTreeSet ℕ). occurs x.keys b + incoming flags sets b) same
+incoming_written (true ∷ flags) (t ∷ sets) zero s b here at = let same : t ≡ s = cc in ap (λ (x : Vec ℕ Global). occurs x.items b + incoming flags sets b) same
 incoming_written (false ∷ flags) (t ∷ sets) zero s b here at = cc
 incoming_written (true ∷ flags) (t ∷ sets) (suc n) s b here at = let rest = incoming_written flags sets n s b here at in omega arith
 incoming_written (false ∷ flags) (t ∷ sets) (suc n) s b here at = incoming_written flags sets n s b here at
 
 -- those from the first that is not counted yet
-incoming_more : (flags : List Bool) (sets : List (BTreeSet ℕ)) (a : ℕ) (s : BTreeSet ℕ) (b : ℕ) → is_set flags a ≡ true → slice_get sets a ≡ Some s → incoming (drop a flags) (drop a sets) b ≡ occurs s.keys b + incoming (drop (suc a) flags) (drop (suc a) sets) b
+incoming_more : (flags : List Bool) (sets : List (Vec ℕ Global)) (a : ℕ) (s : Vec ℕ Global) (b : ℕ) → is_set flags a ≡ true → slice_get sets a ≡ Some s → incoming (drop a flags) (drop a sets) b ≡ occurs s.items b + incoming (drop (suc a) flags) (drop (suc a) sets) b
 incoming_more [] sets a s b here at = cc
 incoming_more (f ∷ flags) [] a s b here at = cc
-incoming_more (true ∷ flags) (t ∷ sets) zero s b here at = let same : t ≡ s = cc in ap (λ (x : BTreeSet ℕ). occurs x.keys b + incoming flags sets b) same
+incoming_more (true ∷ flags) (t ∷ sets) zero s b here at = let same : t ≡ s = cc in ap (λ (x : Vec ℕ Global). occurs x.items b + incoming flags sets b) same
 incoming_more (false ∷ flags) (t ∷ sets) zero s b here at = cc
 incoming_more (f ∷ flags) (t ∷ sets) (suc a) s b here at = incoming_more flags sets a s b here at
 
-incoming_skip : (flags : List Bool) (sets : List (BTreeSet ℕ)) (a b : ℕ) → a < length flags → a < length sets → is_set flags a ≡ false → incoming (drop a flags) (drop a sets) b ≡ incoming (drop (suc a) flags) (drop (suc a) sets) b
+incoming_skip : (flags : List Bool) (sets : List (Vec ℕ Global)) (a b : ℕ) → a < length flags → a < length sets → is_set flags a ≡ false → incoming (drop a flags) (drop a sets) b ≡ incoming (drop (suc a) flags) (drop (suc a) sets) b
 incoming_skip [] sets a b low also gone = absurd (omega arith)
 incoming_skip (f ∷ flags) [] a b low also gone = absurd (omega arith)
 incoming_skip (true ∷ flags) (t ∷ sets) zero b low also gone = cc
 incoming_skip (false ∷ flags) (t ∷ sets) zero b low also gone = refl
 incoming_skip (f ∷ flags) (t ∷ sets) (suc a) b low also gone = incoming_skip flags sets a b (omega arith) (omega arith) gone
 
-pub incoming_more_yes : (flags : List Bool) (sets : List (BTreeSet ℕ)) (a : ℕ) (s : BTreeSet ℕ) (b : ℕ) → is_set flags a ≡ true → slice_get sets a ≡ Some s → incoming (drop a flags) (drop a sets) b ≡ occurs s.keys b + incoming (drop (a + 1) flags) (drop (a + 1) sets) b
+pub incoming_more_yes : (flags : List Bool) (sets : List (Vec ℕ Global)) (a : ℕ) (s : Vec ℕ Global) (b : ℕ) → is_set flags a ≡ true → slice_get sets a ≡ Some s → incoming (drop a flags) (drop a sets) b ≡ occurs s.items b + incoming (drop (a + 1) flags) (drop (a + 1) sets) b
 incoming_more_yes flags sets a s b here at = rw (add-one a) (incoming_more flags sets a s b here at)
 
-pub incoming_more_no : (flags : List Bool) (sets : List (BTreeSet ℕ)) (a b : ℕ) → a < length flags → a < length sets → is_set flags a ≡ false → incoming (drop a flags) (drop a sets) b ≡ incoming (drop (a + 1) flags) (drop (a + 1) sets) b
+pub incoming_more_no : (flags : List Bool) (sets : List (Vec ℕ Global)) (a b : ℕ) → a < length flags → a < length sets → is_set flags a ≡ false → incoming (drop a flags) (drop a sets) b ≡ incoming (drop (a + 1) flags) (drop (a + 1) sets) b
 incoming_more_no flags sets a b low also gone = rw (add-one a) (incoming_skip flags sets a b low also gone)
 
 -- ---- counts
-pub counts_small : (old new ks : List ℕ) (a : ℕ) → length new ≡ length old → ((b : ℕ) → b < length old → slice_index new b ≡ slice_index old b + occurs ks b) → ((b : ℕ) → occurs ks b ≤ 1) → ((b : ℕ) → slice_index old b ≤ a) → (b : ℕ) → slice_index new b ≤ a + 1
-counts_small old new ks a long counted once small b = split (cases_lt b (length old)) where
-  split : (b < length old) ⊎ (length old ≤ b) → slice_index new b ≤ a + 1
-  split (inl low) =
-      let is : slice_index new b ≡ slice_index old b + occurs ks b = counted b low in
-      let one : occurs ks b ≤ 1 = once b in
-      let was : slice_index old b ≤ a = small b in
-      omega arith
-  split (inr high) = let none : slice_index new b ≡ 0 = get_or_past new b 0 (omega (arith, long)) in omega arith
-
 -- the counts once one is written
-pub counted_next : (flags : List Bool) (sets : List (BTreeSet ℕ)) (old new : List ℕ) (n : ℕ) (s : BTreeSet ℕ) → is_set flags n ≡ true → slice_get sets n ≡ Some s → length new ≡ length old → AreCounted flags sets old
-    → ((b : ℕ) → b < length old → slice_index new b ≡ slice_index old b - occurs s.keys b) → AreCounted (slice_set flags n false) sets new
+pub counted_next : (flags : List Bool) (sets : List (Vec ℕ Global)) (old new : List ℕ) (n : ℕ) (s : Vec ℕ Global) → is_set flags n ≡ true → slice_get sets n ≡ Some s → length new ≡ length old → AreCounted flags sets old
+    → ((b : ℕ) → b < length old → slice_index new b ≡ slice_index old b - occurs s.items b) → AreCounted (slice_set flags n false) sets new
 counted_next flags sets old new n s here at long counted away b low =
     let small : b < length old = omega (arith, long) in
     let was : slice_index old b ≡ incoming flags sets b = counted b small in
-    let now : slice_index new b ≡ slice_index old b - occurs s.keys b = away b small in
+    let now : slice_index new b ≡ slice_index old b - occurs s.items b = away b small in
     let both = incoming_written flags sets n s b here at in
     omega arith
 
@@ -193,7 +161,7 @@ ready_next ready rest flags counts n was updates b = split (cases_eq b n) where
     from : (is_set (slice_set flags n false) b ≡ true) × (slice_index counts b ≡ 0) → Has rest.keys b
     from (left, none) = kept ∙ (was b).1 ((and_split (is_set flags b) (not (eqb b n)) (sym after ∙ left)).0, none)
 
-module _ (edges : Edges) (flags : List Bool) (sets : List (BTreeSet ℕ)) (counts : List ℕ) (ready : BTreeSet ℕ) (nodes : ℕ) (steps : (a b : ℕ) → IsStep sets a b ↔ ((a < nodes) × IsEdge edges (node_number a) (node_number b))) (flags_long : length flags ≡ nodes) (counts_long : length counts ≡ nodes) (counted : AreCounted flags sets counts) (are : AreReady ready flags counts) where
+module _ (edges : Edges) (flags : List Bool) (sets : List (Vec ℕ Global)) (counts : List ℕ) (ready : BTreeSet ℕ) (nodes : ℕ) (steps : (a b : ℕ) → IsListed sets a b ↔ ((a < nodes) × IsEdge edges (node_number a) (node_number b))) (flags_long : length flags ≡ nodes) (counts_long : length counts ≡ nodes) (counted : AreCounted flags sets counts) (are : AreReady ready flags counts) where
   count_is : (n : ℕ) → is_set flags n ≡ true → slice_index counts n ≡ incoming flags sets n
   count_is n here = let low = within flags n here in counted n (omega (arith, low, flags_long, counts_long))
 

@@ -11,52 +11,52 @@ use crate::node::NodeId;
 use std::alloc::{AllocError, Global};
 use std::collections::BTreeSet;
 
-/// Counts a step to a number, if there is a count of it.
-fn count_one(counts: &mut [usize], b: usize)
-    requires { slice_index counts.old b + 1 < 2 ^ 64 }
-    ensures { counts.new ≡ slice_set counts.old b (slice_index counts.old b + 1) }
+/// Counts an edge to a number, if there is a count of it.
+fn count_one(counts: &mut [usize], b: usize) -> Result<(), AllocError>
+    ensures { OnOk result (counts.new ≡ slice_set counts.old b (slice_index counts.old b + 1)) }
 {
     if b < counts.len() {
-        counts[b] += 1;
+        // No memory holds so many edges.
+        let Some(count) = counts[b].checked_add(1) else {
+            return Err(AllocError);
+        };
+        counts[b] = count;
     }
+    Ok(())
 }
 
-/// Counts the steps to some numbers.
-fn count(steps: &BTreeSet<usize>, counts: &mut [usize])
-    requires { (b : ℕ) → slice_index counts.old b + 1 < 2 ^ 64 }
-    ensures counted { (b : ℕ) → b < length counts.old → slice_index counts.new b ≡ slice_index counts.old b + occurs steps.now.keys b }
-    ensures once { (b : ℕ) → occurs steps.now.keys b ≤ 1 }
+/// Counts the edges to some numbers.
+fn count(targets: &[usize], counts: &mut [usize]) -> Result<(), AllocError>
+    ensures { OnOk result ((b : ℕ) → b < length counts.old → slice_index counts.new b ≡ slice_index counts.old b + occurs targets.now b) }
 {
-    for b in steps.iter() {
-        count_one(counts, *b);
+    for b in targets {
+        count_one(counts, *b)?;
     }
+    Ok(())
 }
 
-/// Counts the steps from those that are left, over counts that are zero.
-fn count_all(targets: &[BTreeSet<usize>], left: &[bool], counts: &mut [usize])
+/// Counts the edges from those that are left, over counts that are zero.
+fn count_all(targets: &[Vec<usize>], left: &[bool], counts: &mut [usize]) -> Result<(), AllocError>
     requires long { length left.now ≡ length targets.now }
     requires none { (b : ℕ) → slice_index counts.old b ≡ 0 }
-    ensures { AreCounted left.now targets.now counts.new }
+    ensures { OnOk result (AreCounted left.now targets.now counts.new) }
 {
     for a in 0..targets.len() {
         if left[a] {
-            count(&targets[a], counts);
+            count(&targets[a], counts)?;
         }
     }
+    Ok(())
 }
 
-/// For each number, how many steps lead to it from those that are left.
-fn counts(
-    alloc: Global,
-    targets: &[BTreeSet<usize>],
-    left: &[bool],
-) -> Result<Vec<usize>, AllocError>
+/// For each number, how many edges lead to it from those that are left.
+fn counts(alloc: Global, targets: &[Vec<usize>], left: &[bool]) -> Result<Vec<usize>, AllocError>
     requires { length left.now ≡ length targets.now }
     ensures long { IfOk result (λ v. length v.items ≡ length targets.now) }
     ensures counted { IfOk result (λ v. AreCounted left.now targets.now v.items) }
 {
     let mut counts = vec![in alloc; 0; targets.len()]?;
-    count_all(targets, left, &mut counts);
+    count_all(targets, left, &mut counts)?;
     Ok(counts)
 }
 
@@ -74,7 +74,7 @@ fn free(alloc: Global, left: &[bool], counts: &[usize]) -> Result<BTreeSet<usize
     Ok(ready)
 }
 
-/// Takes a step to a number away. If it is left and no step to it is, it is ready.
+/// Takes an edge to a number away. If it is left and no edge to it is, it is ready.
 fn release_one(
     b: usize,
     left: &[bool],
@@ -95,19 +95,19 @@ fn release_one(
     Ok(())
 }
 
-/// Takes the steps to some numbers away. Those that are left and to which no step is left are ready.
+/// Takes the edges to some numbers away. Those that are left and to which no edge is left are ready.
 fn release(
-    steps: &BTreeSet<usize>,
+    targets: &[usize],
     left: &[bool],
     counts: &mut [usize],
     ready: &mut BTreeSet<usize>,
 ) -> Result<(), AllocError>
     requires long { length counts.old ≡ length left.now }
     requires ready { AreReady ready.old left.now counts.old }
-    ensures counted { OnOk result ((b : ℕ) → b < length counts.old → slice_index counts.new b ≡ slice_index counts.old b - occurs steps.now.keys b) }
+    ensures counted { OnOk result ((b : ℕ) → b < length counts.old → slice_index counts.new b ≡ slice_index counts.old b - occurs targets.now b) }
     ensures ready { OnOk result (AreReady ready.new left.now counts.new) }
 {
-    for b in steps.iter() {
+    for b in targets {
         release_one(*b, left, counts, ready)?;
     }
     Ok(())
@@ -137,7 +137,7 @@ pub fn order(
     ensures cycle { IfOk result (λ o. IfNone o ((n : AnId) × IsOnCycle edges.now n)) }
 {
     let mut left = left;
-    let targets = edges.targets(alloc, left.len())?;
+    let targets = edges.listed_targets(alloc, left.len())?;
     let mut counts = counts(alloc, targets.as_slice(), left.as_slice())?;
     let mut ready = free(alloc, left.as_slice(), counts.as_slice())?;
     let mut written = Vec::new(alloc);

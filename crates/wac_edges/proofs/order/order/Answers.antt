@@ -27,18 +27,18 @@ loop-n-preserved c =
     let at = slice_get_read sets (length sets) n c.index.result.now refl low c.index.ensures in
     rw same (record {
       later = λ ns rest. rw (c.in_ok-push.ensures.items, append_assoc) (i.later (node_number n ∷ ns) (
-        lowest_ready edges flags sets counts c.loop-n.ready c.len.result c.in_ok-targets.ensures.steps (i.left_long ∙ counted) (i.counts_long ∙ counted) i.counted i.ready n c.in-Some.ensures.member c.in-Some.ensures.least,
+        lowest_ready edges flags sets counts c.loop-n.ready c.len.result c.in_ok-targets.ensures.listed (i.left_long ∙ counted) (i.counts_long ∙ counted) i.counted i.ready n c.in-Some.ensures.member c.in-Some.ensures.least,
         subst (λ left. Writes edges left ns) (flags_after flags (node_number n)) rest,
       ));
       left_long = length-set flags n _ ∙ i.left_long;
       counts_long = long ∙ i.counts_long;
       counted = counted_next flags sets counts c.release.new.counts n c.index.result.now here at long i.counted
-          (subst (λ (old : List ℕ). (b : ℕ) → b < length old → slice_index c.release.new.counts b ≡ slice_index old b - occurs c.index.result.now.keys b) c.as_mut_slice.ensures.value c.in_ok-release.ensures.counted);
+          (subst (λ (old : List ℕ). (b : ℕ) → b < length old → slice_index c.release.new.counts b ≡ slice_index old b - occurs c.index.result.now.items b) c.as_mut_slice.ensures.value (rw c.deref.ensures.value at c.in_ok-release.ensures.counted));
       ready = subst (λ (left : List Bool). AreReady c.release.new.ready left c.release.new.counts) c.as_slice-in-Some.ensures.value c.in_ok-release.ensures.ready;
     })
 
 pub returns-then-is_done-clause-whole : goal.returns-then-is_done-clause-whole
-returns-then-is_done-clause-whole c = rw append-nil at (c.loop-n.invariant.later [] (λ m. (rw c.deref.ensures.value at c.if-is_done.ensures.done) m.0))
+returns-then-is_done-clause-whole c = rw append-nil at (c.loop-n.invariant.later [] (λ m. (rw c.deref-2.ensures.value at c.if-is_done.ensures.done) m.0))
 
 pub returns-clause-cycle : goal.returns-clause-cycle
 returns-clause-cycle c =
@@ -48,4 +48,4 @@ returns-clause-cycle c =
     let sets = c.in_ok-targets.targets.items in
     let counted = c.in_ok-targets.ensures.counted in
     let (n, is) = c.if-is_done.ensures.more in
-    stuck_cycle edges flags (stuck edges flags sets c.loop-n.counts.items c.loop-n.ready c.len.result c.in_ok-targets.ensures.steps (i.left_long ∙ counted) (i.counts_long ∙ counted) i.counted i.ready (no_keys c.loop-n.ready.keys c.in_default.ensures.variant.1)) (node_number n) (rw c.deref.ensures.value at is)
+    stuck_cycle edges flags (stuck edges flags sets c.loop-n.counts.items c.loop-n.ready c.len.result c.in_ok-targets.ensures.listed (i.left_long ∙ counted) (i.counts_long ∙ counted) i.counted i.ready (no_keys c.loop-n.ready.keys c.in_default.ensures.variant.1)) (node_number n) (rw c.deref-2.ensures.value at is)
