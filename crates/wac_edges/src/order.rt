@@ -4,12 +4,13 @@ ghost use Rattle.wac_edges.specs.Edge.{is_left};
 ghost use Rattle.wac_edges.specs.declared.node.NodeId.{NodeId as AnId};
 ghost use Rattle.std.specs.Bool.{OnTrue, OnFalse};
 ghost use Rattle.wac_edges.specs.Order.{Writes, IsOnCycle};
-ghost use Rattle.wac_edges.specs.Ready.{occurs, AreCounted, AreReady, is_set};
+ghost use Rattle.wac_edges.specs.Ready.{occurs, AreCounted, AreReady, is_left_with, is_set};
 
 use crate::edges::Edges;
 use crate::node::NodeId;
 use std::alloc::{AllocError, Global};
-use std::collections::BTreeSet;
+use std::cmp::Reverse;
+use std::collections::BinaryHeap;
 
 /// Counts an edge to a number, if there is a count of it.
 fn count_one(counts: &mut [usize], b: usize) -> Result<(), AllocError>
@@ -60,26 +61,39 @@ fn counts(alloc: Global, targets: &[Vec<usize>], left: &[bool]) -> Result<Vec<us
     Ok(counts)
 }
 
-/// The numbers that are left and whose count is zero.
-fn free(alloc: Global, left: &[bool], counts: &[usize]) -> Result<BTreeSet<usize>, AllocError>
-    requires { length counts.now ≡ length left.now }
-    ensures { IfOk result (λ s. AreReady s left.now counts.now) }
+/// Whether a number is left and has this count.
+fn is_left_with(left: &[bool], counts: &[usize], b: usize, count: usize) -> bool
+    requires long { length counts.now ≡ length left.now }
+    requires small { b < length left.now }
+    ensures { result ≡ is_left_with left.now counts.now count b }
 {
-    let mut ready = BTreeSet::new(alloc);
+    left[b] && counts[b] == count
+}
+
+/// The numbers that are left and whose count is zero, the lowest first.
+fn free(
+    alloc: Global,
+    left: &[bool],
+    counts: &[usize],
+) -> Result<BinaryHeap<Reverse<usize>>, AllocError>
+    requires { length counts.now ≡ length left.now }
+    ensures { IfOk result (λ heap. AreReady heap left.now counts.now) }
+{
+    let mut ready = BinaryHeap::new(alloc);
     for b in 0..left.len() {
-        if left[b] && counts[b] == 0 {
-            ready.insert(b)?;
+        if is_left_with(left, counts, b, 0) {
+            ready.push(Reverse(b))?;
         }
     }
     Ok(ready)
 }
 
-/// Takes an edge to a number away. If it is left and no edge to it is, it is ready.
+/// Takes an edge to a number away. If it is left and no other edge to it is, it is ready.
 fn release_one(
     b: usize,
     left: &[bool],
     counts: &mut [usize],
-    ready: &mut BTreeSet<usize>,
+    ready: &mut BinaryHeap<Reverse<usize>>,
 ) -> Result<(), AllocError>
     requires long { length counts.old ≡ length left.now }
     requires ready { AreReady ready.old left.now counts.old }
@@ -87,10 +101,10 @@ fn release_one(
     ensures ready { OnOk result (AreReady ready.new left.now counts.new) }
 {
     if b < counts.len() {
-        counts[b] = counts[b].saturating_sub(1);
-        if counts[b] == 0 && left[b] {
-            ready.insert(b)?;
+        if is_left_with(left, counts, b, 1) {
+            ready.push(Reverse(b))?;
         }
+        counts[b] = counts[b].saturating_sub(1);
     }
     Ok(())
 }
@@ -100,7 +114,7 @@ fn release(
     targets: &[usize],
     left: &[bool],
     counts: &mut [usize],
-    ready: &mut BTreeSet<usize>,
+    ready: &mut BinaryHeap<Reverse<usize>>,
 ) -> Result<(), AllocError>
     requires long { length counts.old ≡ length left.now }
     requires ready { AreReady ready.old left.now counts.old }
@@ -141,7 +155,8 @@ pub fn order(
     let mut counts = counts(alloc, targets.as_slice(), left.as_slice())?;
     let mut ready = free(alloc, left.as_slice(), counts.as_slice())?;
     let mut written = Vec::new(alloc);
-    while let Some(n) = ready.pop_first() {
+    while let Some(lowest) = ready.pop() {
+        let n = lowest.0;
         written.push(NodeId(n))?;
         left[n] = false;
         release(
