@@ -1,12 +1,12 @@
 -- What one more item adds to what items mean.
-use Rattle.std.proofs.Common.{◌≡◌, ℕ, zero, suc, ◌+◌, ◌<◌, Bool, true, false, T, if◌then◌else◌, List, [], ◌∷◌, ◌++◌, length, map, refl, ap, ◌∙◌, arith}
+use Rattle.std.proofs.Common.{◌≡◌, ℕ, zero, suc, ◌+◌, ◌<◌, Bool, true, false, T, if◌then◌else◌, List, [], ◌∷◌, ◌++◌, length, map, refl, ap, ◌∙◌, sym, arith}
 use Rattle.wac_shapes.specs.Name.{Name}
 use Rattle.wac_collection.specs.Tree.{Tree}
 use Rattle.wac_binary.specs.declared.sorts.Sort.{Sort}
 use Rattle.wac_binary.specs.declared.sorts.Sort.TheVariants as sort
 use Rattle.wac_binary.specs.Items.{Item, custom, nested, instantiate, alias_item, export_alias, export_item}
-use Rattle.wac_binary.specs.Indexes.{indexes, is_in, adds}
-use Rattle.wac_binary.specs.Unfold.{Scope, Bound, with_alias, bound_at}
+use Rattle.wac_binary.specs.Indexes.{space, indexes, is_in, adds}
+use Rattle.wac_binary.specs.Unfold.{Scope, Bound, unbound, aliased_instance, with_alias, bound_at}
 use Rattle.wac_binary.specs.Meaning.{Thing, nothing, instance_at, component_at, projected, may_export, aliased_thing, Root, Instantiation, Export, start, things, thing_at, stands_for, with_thing, read, read_all, meaning}
 use Rattle.wac_binary.specs.HasMeaning.{HasExport}
 use Rattle.std.proofs.lemmas.List.{map-append}
@@ -15,6 +15,13 @@ use Rattle.wac_meaning.specs.Means.{shown}
 read_all-append : (r : Root) (items : List Item) (x : Item) → read_all r (items ++ x ∷ []) ≡ read (read_all r items) x
 read_all-append r [] x = refl
 read_all-append r (y ∷ items) x = read_all-append (read r y) items x
+
+-- the laws of items, as they are passed
+pub record Laws : Type 0 where
+  pub counted : (items : List Item) (t : Sort) → length (things (meaning items) t) ≡ indexes (space t) items
+  pub earlier : (items more : List Item) (t : Sort) (i : ℕ) → i < indexes (space t) items → stands_for (meaning (items ++ more)) t i ≡ stands_for (meaning items) t i
+  pub bounds_counted : (items : List Item) → length (meaning items).scope.instances ≡ indexes (space sort.Instance) items
+  pub bounds_earlier : (items more : List Item) (i : ℕ) → i < indexes (space sort.Instance) items → bound_at (meaning (items ++ more)).scope.instances i ≡ bound_at (meaning items).scope.instances i
 
 -- one more item
 pub meaning-push : (items : List Item) (x : Item) → meaning (items ++ x ∷ []) ≡ read (meaning items) x
@@ -132,6 +139,26 @@ instance_stands items c arguments i is =
     ap (λ r. stands_for r sort.Instance i) (meaning-push items (instantiate c arguments))
     ∙ ap (thing_at ((meaning items).instances ++ instance_at (length (meaning items).instantiations) ∷ [])) is
     ∙ thing_at-last (meaning items).instances _
+
+pub bound_at-last : (bs : List Bound) (b : Bound) (i : ℕ) → i ≡ length bs → bound_at (bs ++ b ∷ []) i ≡ b
+bound_at-last [] b zero is = refl
+bound_at-last [] b (suc i) is = absurd (omega arith)
+bound_at-last (x ∷ bs) b zero is = absurd (omega arith)
+bound_at-last (x ∷ bs) b (suc i) is = bound_at-last bs b i (omega arith)
+
+-- nothing is known of what an instantiation exports
+pub instance_bound : Laws → (items : List Item) (c : ℕ) (arguments : List (Name × Sort × ℕ)) → bound_at (meaning (items ++ instantiate c arguments ∷ [])).scope.instances (indexes (space sort.Instance) items) ≡ unbound
+instance_bound laws items c arguments =
+    ap (λ r. bound_at r.scope.instances (indexes (space sort.Instance) items)) (meaning-push items (instantiate c arguments))
+    ∙ bound_at-last (meaning items).scope.instances unbound (indexes (space sort.Instance) items) (sym (laws.bounds_counted items))
+
+-- an instance's export is bound where the instance is
+pub alias_bound : Laws → (items : List Item) (c : ℕ) (name : Name)
+    → bound_at (meaning (items ++ alias_item (export_alias sort.Instance c name) ∷ [])).scope.instances (indexes (space sort.Instance) items) ≡ aliased_instance (bound_at (meaning items).scope.instances c) name
+alias_bound laws items c name =
+    let b : Bound = aliased_instance (bound_at (meaning items).scope.instances c) name in
+    ap (λ r. bound_at r.scope.instances (indexes (space sort.Instance) items)) (meaning-push items (alias_item (export_alias sort.Instance c name)))
+    ∙ bound_at-last (meaning items).scope.instances b (indexes (space sort.Instance) items) (sym (laws.bounds_counted items))
 
 pub indexes-push : (k : ℕ) (items : List Item) (x : Item) → indexes k (items ++ x ∷ []) ≡ indexes k items + is_in k (adds x)
 indexes-push k [] x = omega arith
