@@ -1,3 +1,6 @@
 pub mod Definition
 pub mod Means
+pub mod Beginning
+pub mod MergedImports
 pub mod Encoding
+pub mod Writing
