@@ -5,3 +5,4 @@ mod names;
 mod packages;
 mod program;
 mod removal;
+mod unregistering;
