@@ -1,10 +1,10 @@
 -- Which items and declarations have a meaning: each index that they use is there and is what its use wants, each alias is of the sort
 -- of what it names, and no name is declared twice.
-use Rattle.std.specs.Prelude.{ℕ, ◌≡◌, ◌<◌, false, List, [], ◌∷◌, length, map, Option, Some, None}
+use Rattle.std.specs.Prelude.{ℕ, ◌≡◌, ◌<◌, T, false, List, [], ◌∷◌, length, map, Option, Some, None}
 use Rattle.std.specs.List.{AllByRecursion, list_any}
 use Rattle.wac_shapes.specs.Core.{CoreItem, no_item}
 use Rattle.wac_shapes.specs.Name.{Name, same_name}
-use Rattle.wac_collection.specs.Tree.{Tree, absent, resource, primitive, own, borrow, record_of, variant_of, list_of, fixed_list_of, tuple_of, flags_of, enum_of, option_of, result_of, stream_of, future_of, function, instance, component, module_of, fresh, type_equal, function_item, instance_item, component_item, module_item, value_item, items_in}
+use Rattle.wac_collection.specs.Tree.{Tree, absent, resource, primitive, own, borrow, record_of, variant_of, list_of, fixed_list_of, tuple_of, flags_of, enum_of, option_of, result_of, stream_of, future_of, function, instance, component, module_of, items_in}
 use Rattle.wac_binary.specs.declared.core_types.EntityType.{EntityType}
 use Rattle.wac_binary.specs.declared.core_types.EntityType.TheVariants as t
 use Rattle.wac_binary.specs.declared.types.ComponentValType.{ComponentValType}
@@ -14,8 +14,8 @@ use Rattle.wac_binary.specs.declared.sorts.Sort.TheVariants as s
 use Rattle.wac_binary.specs.declared.sorts.Description.{Description}
 use Rattle.wac_binary.specs.declared.sorts.Description.TheVariants as e
 use Rattle.wac_binary.specs.Items.{ValueDef, primitive_def, record_def, variant_def, list_def, fixed_list_def, tuple_def, flags_def, enum_def, option_def, result_def, own_def, borrow_def, stream_def, future_def, export_alias, outer_alias, TypeDef, value_def, func_def, component_def, instance_def, ModuleDecl, module_import, module_func, module_export, Decls, end, next, Decl, core_type_decl, type_decl, alias_decl, import_decl, export_decl, Item, custom, core_type, nested, instantiate, alias_item, type_item, import_item, export_item}
-use Rattle.wac_binary.specs.Unfold.{Module, no_module, with_module_decl, Scope, empty, type_at, bound_at, scope_at, with_decl}
-use Rattle.wac_binary.specs.Meaning.{Thing, nothing, Root, start, root_scope, stands_for, read}
+use Rattle.wac_binary.specs.Unfold.{Module, no_module, with_module_decl, Scope, empty, is_of_sort, type_at, bound_at, scope_at, with_decl}
+use Rattle.wac_binary.specs.Meaning.{Thing, nothing, Root, start, may_export, root_scope, stands_for, read}
 
 -- a value type
 abbrev pub IsValue : Tree → Type 0
@@ -65,14 +65,7 @@ IsType t = IsValue t
 
 -- an item of this sort
 abbrev pub IsOfSort : Sort → Tree → Type 0
-IsOfSort s.CoreModule (module_item t) = Unit
-IsOfSort s.Func (function_item t) = Unit
-IsOfSort s.Value (value_item t) = Unit
-IsOfSort s.Type fresh = Unit
-IsOfSort s.Type (type_equal t) = Unit
-IsOfSort s.Component (component_item t) = Unit
-IsOfSort s.Instance (instance_item t) = Unit
-IsOfSort _ _ = ⊥
+IsOfSort t x = T (is_of_sort t x)
 
 -- no item stands here yet
 abbrev pub IsFree : Tree → Type 0
@@ -175,10 +168,9 @@ abbrev pub IsSomething : Thing → Type 0
 IsSomething nothing = ⊥
 IsSomething _ = Unit
 
--- an instance of this type has the export of this sort; what an instantiation exports is not known here
+-- an instance of this type has the export of this sort, where it is known what it exports
 abbrev pub HasExport : Sort → Tree → Name → Type 0
-HasExport t absent n = Unit
-HasExport t i n = IsOfSort t (items_in i n)
+HasExport t i n = T (may_export t i n)
 
 -- none of these is the name
 abbrev pub IsNew : Name → List Name → Type 0

@@ -1,12 +1,12 @@
 -- What the items of a component stand for: its imports, components, instantiations, exports and custom sections.
-use Rattle.std.specs.Prelude.{ℕ, zero, suc, List, [], ◌∷◌, ◌++◌, length, map, Bool, true, false}
+use Rattle.std.specs.Prelude.{ℕ, zero, suc, List, [], ◌∷◌, ◌++◌, if◌then◌else◌, length, map, Bool, true, false}
 use Rattle.wac_shapes.specs.Name.{Name}
-use Rattle.wac_collection.specs.Tree.{imported, position, Tree, absent}
+use Rattle.wac_collection.specs.Tree.{imported, position, Tree, absent, items_in}
 use Rattle.wac_binary.specs.declared.sorts.Sort.{Sort}
 use Rattle.wac_binary.specs.declared.sorts.Sort.TheVariants as s
 use Rattle.wac_binary.specs.Items.{export_alias, outer_alias, Item, custom, core_type, nested, instantiate, alias_item, type_item, import_item, export_item}
 use Rattle.wac_binary.specs.Indexes.{described_sort}
-use Rattle.wac_binary.specs.Unfold.{Scope, empty, unbound, type_at, bound_at, described_item, counted_up, with_bound, with_alias, with_outer, module_tree, tree_of}
+use Rattle.wac_binary.specs.Unfold.{Scope, Bound, empty, unbound, is_of_sort, type_at, bound_at, described_item, counted_up, with_bound, with_alias, with_outer, module_tree, tree_of}
 
 -- what an index stands for
 pub data Thing : Type 0 where
@@ -83,6 +83,15 @@ abbrev pub projected : Thing → Name → Thing
 projected nothing n = nothing
 projected x n = projection x n
 
+-- may an instance of this type have an export of this sort under the name; what an instantiation exports is not known here
+abbrev pub may_export : Sort → Tree → Name → Bool
+may_export t absent n = true
+may_export t i n = is_of_sort t (items_in i n)
+
+-- what an alias of an instance's export stands for: the export, but nothing where the instance is known to have none of this sort
+abbrev pub aliased_thing : Bound → Sort → Thing → Name → Thing
+aliased_thing b t x n = if may_export t b.type n then projected x n else nothing
+
 -- the scope after an export: its new index stands for the same thing
 abbrev pub with_exported : Scope → Sort → ℕ → Scope
 with_exported c s.Type i = record c { types = c.types ++ type_at c.types i ∷ [] }
@@ -111,7 +120,7 @@ thing_added r (custom n bs) = nothing
 thing_added r (core_type m) = nothing
 thing_added r (nested bs) = component_at (length r.nested_bytes)
 thing_added r (instantiate i args) = instance_at (length r.instantiations)
-thing_added r (alias_item (export_alias t i n)) = projected (stands_for r s.Instance i) n
+thing_added r (alias_item (export_alias t i n)) = aliased_thing (bound_at r.scope.instances i) t (stands_for r s.Instance i) n
 thing_added r (alias_item (outer_alias t k i)) = outer_thing r t k i
 thing_added r (type_item t) = written (tree_of t r.scope [])
 thing_added r (import_item n d) = import_at (length r.imports)
@@ -126,7 +135,7 @@ read r (instantiate i args) =
     with_thing
     (record r { scope = record r.scope { instances = r.scope.instances ++ unbound ∷ [] }; instantiations = r.instantiations ++ record { component = stands_for r s.Component i; arguments = map (λ a. (a.0, stands_for r a.1 a.2)) args } ∷ [] })
     s.Instance (instance_at (length r.instantiations))
-read r (alias_item (export_alias t i n)) = with_thing (record r { scope = with_alias r.scope t (bound_at r.scope.instances i) n }) t (projected (stands_for r s.Instance i) n)
+read r (alias_item (export_alias t i n)) = with_thing (record r { scope = with_alias r.scope t (bound_at r.scope.instances i) n }) t (aliased_thing (bound_at r.scope.instances i) t (stands_for r s.Instance i) n)
 read r (alias_item (outer_alias t k i)) = with_thing (record r { scope = with_outer r.scope t k (root_scope r k) i }) t (outer_thing r t k i)
 read r (type_item t) = with_thing (record r { scope = record r.scope { types = r.scope.types ++ tree_of t r.scope [] ∷ [] } }) s.Type (written (tree_of t r.scope []))
 read r (import_item n d) =

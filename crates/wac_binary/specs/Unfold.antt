@@ -1,7 +1,7 @@
 -- What the type and instance indexes of a scope stand for, and the tree of each type.
-use Rattle.std.specs.Prelude.{ℕ, zero, suc, List, [], ◌∷◌, ◌++◌, if◌then◌else◌, length, map, Option, Some, None}
+use Rattle.std.specs.Prelude.{ℕ, zero, suc, Bool, true, false, List, [], ◌∷◌, ◌++◌, if◌then◌else◌, length, map, Option, Some, None}
 use Rattle.wac_shapes.specs.Name.{Name, same_name}
-use Rattle.wac_collection.specs.Tree.{Side, imported, exported, Place, named, Tree, absent, resource, primitive, record_of, variant_of, list_of, fixed_list_of, tuple_of, flags_of, enum_of, option_of, result_of, stream_of, future_of, function, instance, component, module_of, fresh, type_equal, function_item, instance_item, component_item, module_item, seen_from, taken_from, items_in, own_of, borrow_of}
+use Rattle.wac_collection.specs.Tree.{Side, imported, exported, Place, named, Tree, absent, resource, primitive, record_of, variant_of, list_of, fixed_list_of, tuple_of, flags_of, enum_of, option_of, result_of, stream_of, future_of, function, instance, component, module_of, fresh, type_equal, function_item, instance_item, component_item, module_item, value_item, seen_from, taken_from, items_in, own_of, borrow_of}
 use Rattle.wac_shapes.specs.declared.core_types.CoreType.{CoreType}
 use Rattle.wac_shapes.specs.Core.{CoreItem, no_item, core_function, core_table, core_memory, core_global, core_tag}
 use Rattle.wac_binary.specs.declared.core_types.EntityType.{EntityType}
@@ -104,6 +104,17 @@ abbrev pub bound_type : Side → List Place → Tree → Tree
 bound_type side path fresh = resource (record { out = 0; side = side; path = path })
 bound_type side path (type_equal t) = t
 bound_type side path _ = absent
+
+-- is it an item of this sort
+abbrev pub is_of_sort : Sort → Tree → Bool
+is_of_sort s.CoreModule (module_item t) = true
+is_of_sort s.Func (function_item t) = true
+is_of_sort s.Value (value_item t) = true
+is_of_sort s.Type fresh = true
+is_of_sort s.Type (type_equal t) = true
+is_of_sort s.Component (component_item t) = true
+is_of_sort s.Instance (instance_item t) = true
+is_of_sort _ _ = false
 
 -- the type of an instance item; no other item gives one
 abbrev pub bound_instance : Tree → Tree

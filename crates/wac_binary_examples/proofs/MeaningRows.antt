@@ -11,7 +11,7 @@ use Rattle.wac_binary.specs.declared.core_types.EntityType.TheVariants as t
 use Rattle.wac_binary.specs.Items.{primitive_def, own_def, result_def, stream_def, value_def, TypeDef, func_def, component_def, instance_def, ModuleDecl, module_func, module_import, module_export, Decls, end, next, core_type_decl, type_decl, alias_decl, import_decl, export_decl, export_alias, outer_alias, Item, core_type, nested, instantiate, alias_item, type_item, import_item, export_item}
 use Rattle.wac_binary.specs.Bytes.{preamble}
 use Rattle.wac_binary.specs.Unfold.{type_at, bound_at, module_tree, no_module, module_after}
-use Rattle.wac_binary.specs.Meaning.{meaning}
+use Rattle.wac_binary.specs.Meaning.{import_at, instance_at, projection, nothing, meaning, stands_for}
 use Rattle.wac_binary.specs.HasMeaning.{HasMeaning}
 use Rattle.wac_binary.specs.Customs.{AreRising}
 
@@ -129,6 +129,39 @@ not_exported h = h.1.1.0.1
 
 missing_instance : HasMeaning (imports (alias_item (export_alias s.Func 1 (102 ∷ [])) ∷ [])) → ⊥
 missing_instance h = h.1.1.0.0
+
+-- what the alias of the function stands for: as a function that export, as a type nothing; and so it is of the instance as it is exported
+alias_thing : stands_for (meaning (imports (alias_item (export_alias s.Func 0 (102 ∷ [])) ∷ []))) s.Func 0 ≡ projection (import_at 0) (102 ∷ [])
+alias_thing = refl
+
+function_as_type_thing : stands_for (meaning (imports (alias_item (export_alias s.Type 0 (102 ∷ [])) ∷ []))) s.Type 1 ≡ nothing
+function_as_type_thing = refl
+
+not_exported_thing : stands_for (meaning (imports (alias_item (export_alias s.Func 0 (120 ∷ [])) ∷ []))) s.Func 0 ≡ nothing
+not_exported_thing = refl
+
+exported_again_thing : stands_for (meaning (imports (export_item (101 ∷ []) s.Instance 0 ∷ alias_item (export_alias s.Func 1 (102 ∷ [])) ∷ []))) s.Func 0 ≡ projection (import_at 0) (102 ∷ [])
+exported_again_thing = refl
+
+exported_again_as_type_thing : stands_for (meaning (imports (export_item (101 ∷ []) s.Instance 0 ∷ alias_item (export_alias s.Type 1 (102 ∷ [])) ∷ []))) s.Type 1 ≡ nothing
+exported_again_as_type_thing = refl
+
+-- an imported interface with the instance `i` of that interface: an alias of its function as a function and as a type
+abbrev imports_around : List Item → List Item
+imports_around more = type_item (instance_def (next (type_decl interface) (next (export_decl (105 ∷ []) (e.Instance 0)) end))) ∷ import_item (111 ∷ []) (e.Instance 0) ∷ alias_item (export_alias s.Instance 0 (105 ∷ [])) ∷ more
+
+inner_alias_thing : stands_for (meaning (imports_around (alias_item (export_alias s.Func 1 (102 ∷ [])) ∷ []))) s.Func 0 ≡ projection (projection (import_at 0) (105 ∷ [])) (102 ∷ [])
+inner_alias_thing = refl
+
+inner_function_as_type_thing : stands_for (meaning (imports_around (alias_item (export_alias s.Type 1 (102 ∷ [])) ∷ []))) s.Type 1 ≡ nothing
+inner_function_as_type_thing = refl
+
+-- of an instantiation it is not known here what it exports
+instantiation_row : HasMeaning (nested preamble ∷ instantiate 0 [] ∷ alias_item (export_alias s.Type 0 (102 ∷ [])) ∷ [])
+instantiation_row = search rules
+
+instantiation_thing : stands_for (meaning (nested preamble ∷ instantiate 0 [] ∷ alias_item (export_alias s.Type 0 (102 ∷ [])) ∷ [])) s.Type 0 ≡ projection (instance_at 0) (102 ∷ [])
+instantiation_thing = refl
 
 -- a handle of the resource, and of a missing type
 own_row : HasMeaning (imports (alias_item (export_alias s.Type 0 (114 ∷ [])) ∷ type_item (value_def (own_def 1)) ∷ []))

@@ -25,7 +25,8 @@ use Rattle.wac_entries.specs.Scopes.{listed_in, scope_tree}
 use Rattle.wac_coding.specs.Coding.{tree_in, Fits}
 use Rattle.wac_coding.specs.ItemCoding.{HasItem, AreItems, Lists, listing_under, component_tree}
 use Rattle.wac_entries.proofs.TaskLemmas.{all_joined}
-use Rattle.wac_coding.proofs.CodingModules.{Text, look, look_insert, all_insert, sorted_names}
+use Rattle.wac_coding.specs.ModuleCoding.{look}
+use Rattle.wac_coding.proofs.CodingModules.{Text, look_insert, all_insert, sorted_names}
 
 pub as_many : (ns : List Node) (t : AnyType → TypeTree Called) (es : List (Name × ItemKind)) (xs : List AnItem) → AreItems ns t es xs → length es ≡ length xs
 as_many ns t [] [] h = refl

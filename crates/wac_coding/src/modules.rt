@@ -1,5 +1,6 @@
 //! The types of core modules, as nodes of a table.
-ghost use Rattle.std.specs.Prelude.{◌≡◌, IfOk, OnOk};
+ghost use Rattle.std.specs.Prelude.{◌≡◌, IfOk, OnOk, string_bytes};
+ghost use Rattle.std.specs.List.{AllByRecursion};
 ghost use Rattle.std.specs.BTreeMap.{insert_entry, IsOrdered};
 ghost use Rattle.std.specs.String.{string_cmp};
 ghost use Rattle.wac_collection.specs.Collection.{HasModule};
@@ -7,12 +8,13 @@ ghost use Rattle.wac_collection.specs.Held.{core_item};
 ghost use Rattle.wac_shapes.specs.declared.component.«Type».TheVariants as ty;
 ghost use Rattle.wac_entries.specs.NodeViews.{core_view, core_items, core_modules};
 ghost use Rattle.wac_coding.specs.Coding.{source_tree, IsGrown, HasTree};
-ghost use Rattle.wac_coding.specs.ModuleCoding.{AreCores, AreImports};
+ghost use Rattle.wac_entries.specs.Nodes.{AreCoreItems};
+ghost use Rattle.wac_coding.specs.ModuleCoding.{AreCores, AreImports, PutsUnder, AreFull, maps_items};
 
 use crate::coder::{Source, add};
 use std::alloc::{AllocError, Global};
 use std::collections::BTreeMap;
-use wac_collection::{CoreExtern, ModuleTypeId, Named};
+use wac_collection::{CoreExtern, CoreImports, ModuleTypeId, Named};
 use wac_entries::nodes::{Core, Node, Nodes};
 
 /// The entries of a map, in the order of their names.
@@ -88,27 +90,59 @@ fn cores(alloc: Global, items: &Named<CoreExtern>) -> Result<Vec<(String, Core)>
     in_order(alloc, map)
 }
 
-/// Imports of core items, sorted by module and by name. A module from which nothing is imported is left out.
+/// Puts a core item under a name of a module, in the place of one that is there.
+fn put_under(
+    alloc: Global,
+    modules: &mut BTreeMap<String, BTreeMap<String, Core>>,
+    source: String,
+    name: String,
+    item: Core,
+) -> Result<(), AllocError>
+    ensures put { OnOk result (PutsUnder modules.old.entries modules.new.entries (string_bytes source) (string_bytes name) (core_view item)) }
+    ensures full { OnOk result (AreFull modules.old.entries → AreFull modules.new.entries) }
+{
+    let mut items = match modules.remove(source.as_str()) {
+        Some(items) => items,
+        None => BTreeMap::new(alloc),
+    };
+    put(&mut items, name, item)?;
+    put(modules, source, items)
+}
+
+/// Core items by module, in the order of the modules and of the names in each.
+fn grouped(
+    alloc: Global,
+    mut modules: BTreeMap<String, BTreeMap<String, Core>>,
+) -> Result<Vec<(String, Vec<(String, Core)>)>, AllocError>
+    ensures items { IfOk result (λ v. core_modules v.items ≡ maps_items modules.entries) }
+    ensures each { IfOk result (λ v. AllByRecursion (λ e. AreCoreItems e.1) (core_modules v.items)) }
+    ensures ordered { IsOrdered string_cmp modules }
+{
+    let mut listed = Vec::with_capacity(alloc, modules.len())?;
+    while let Some((source, items)) = modules.pop_first() {
+        listed.push((source, in_order(alloc, items)?))?;
+    }
+    Ok(listed)
+}
+
+/// Imports of core items, sorted by module and by name. No module is without an item.
 fn imports(
     alloc: Global,
-    modules: &Named<Named<CoreExtern>>,
+    imports: &CoreImports<CoreExtern>,
 ) -> Result<Vec<(String, Vec<(String, Core)>)>, AllocError>
-    ensures { IfOk result (λ v. AreImports modules.now (core_modules v.items)) }
+    ensures { IfOk result (λ v. AreImports imports.now (core_modules v.items)) }
 {
-    modules.law();
-    let mut map = BTreeMap::new(alloc);
-    let mut i = modules.len();
+    let mut modules = BTreeMap::new(alloc);
+    let mut i = imports.len();
     while i > 0 {
         i -= 1;
-        let inner = modules.value_at(i);
-        if inner.len() == 0 {
-            continue;
-        }
-        let items = cores(alloc, inner)?;
-        let name = String::from_str(alloc, modules.name_at(i))?;
-        put(&mut map, name, items)?;
+        let ((source, name), item) = imports.entry_at(i);
+        let item = core(alloc, item)?;
+        let source = String::from_str(alloc, source)?;
+        let name = String::from_str(alloc, name)?;
+        put_under(alloc, &mut modules, source, name, item)?;
     }
-    in_order(alloc, map)
+    grouped(alloc, modules)
 }
 
 /// The number of the type of a core module.

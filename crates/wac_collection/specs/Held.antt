@@ -1,6 +1,7 @@
 -- The tree of a held type: what its ids mean. A Naming says what a resource is called from where it is looked at.
 use Rattle.std.specs.Prelude.{ℕ, zero, suc, Bool, if◌then◌else◌, List, [], ◌∷◌, length, map, Option, Some, None, slice_get}
 use Rattle.wac_shapes.specs.Name.{Name, same_name, find_name, option_case}
+use Rattle.wac_shapes.specs.Imports.{Pair, find_import}
 use Rattle.wac_shapes.specs.Core.{CoreItem, no_item, core_function, core_table, core_memory, core_global, core_tag}
 use Rattle.wac_collection.specs.Tree.{Side, imported, exported, TypeTree, absent, resource, primitive, own, borrow, record_of, variant_of, list_of, fixed_list_of, tuple_of, flags_of, enum_of, option_of, result_of, stream_of, future_of, function, instance, component, module_of, fresh, type_equal, function_item, instance_item, component_item, module_item, value_item}
 use Rattle.wac_collection.specs.Collection.{Collection, size}
@@ -62,8 +63,9 @@ core_item (core.Tag f) = core_tag f.params f.results
 abbrev pub core_under : List (Name × CoreExtern) → Name → CoreItem
 core_under es n = option_case (find_name es n) no_item core_item
 
-abbrev pub core_imports : List (Name × List (Name × CoreExtern)) → Name → Name → CoreItem
-core_imports ms m n = option_case (find_name ms m) no_item (λ es. core_under es n)
+-- the core item under a module and a name
+abbrev pub core_imports : List (Pair × CoreExtern) → Name → Name → CoreItem
+core_imports es m n = option_case (find_import es m n) no_item core_item
 
 module _ {L : Type 0} where
   -- parts in order, by position

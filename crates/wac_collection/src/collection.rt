@@ -1,10 +1,11 @@
 //! The collection: lists of items, each of which mentions only items added before it.
-ghost use Rattle.std.specs.Prelude.{◌≡◌, length, Some, None, IfOk, OnErr};
+ghost use Rattle.std.specs.Prelude.{◌≡◌, length, Some, None, IfOk, IfErr, OnErr, IfSome};
 ghost use Rattle.std.specs.Option.{option_copied};
 ghost use Rattle.wac_collection.specs.Collection.{IsWellFormed, empty, size, func_mentions, resource_mentions, defined_mentions, holds_value, holds_type, with_resource, with_func, with_defined, with_interface, with_world, with_module, item_at};
 ghost use Rattle.wac_collection.specs.Held.{resolved};
 ghost use Rattle.wac_collection.specs.Aliases.{value_resolved};
 ghost use Rattle.wac_shapes.specs.declared.component.ValueType.TheVariants as val;
+ghost use Rattle.wac_collection.specs.declared.collection.AddTypeError.TheVariants.{OutOfMemory};
 ghost use Rattle.wac_collection.specs.Uses.{AnswersBy, mention_fault, interface_fault, world_fault, IsSound};
 
 use crate::shared::{Shared, hold};
@@ -46,7 +47,7 @@ pub struct Held<T> {
     /// The item.
     pub item: T,
     /// How many items were there before it.
-    pub before: u128,
+    pub before: usize,
 }
 
 /// A collection of types. Each item mentions only items added before it.
@@ -196,16 +197,26 @@ impl Types {
         }
     }
 
-    // How many items there are.
-    pub(crate) fn count(&self) -> u128
-        ensures { result ≡ size self.now }
+    // How many items there are, where a `usize` has that number.
+    fn checked_count(&self) -> Option<usize>
+        ensures { IfSome result (λ n. n ≡ size self.now) }
     {
-        self.resources.len() as u128
-            + self.funcs.len() as u128
-            + self.defined.len() as u128
-            + self.interfaces.len() as u128
-            + self.worlds.len() as u128
-            + self.modules.len() as u128
+        let count = self.resources.len().checked_add(self.funcs.len())?;
+        let count = count.checked_add(self.defined.len())?;
+        let count = count.checked_add(self.interfaces.len())?;
+        let count = count.checked_add(self.worlds.len())?;
+        count.checked_add(self.modules.len())
+    }
+
+    // How many items there are. Answers `OutOfMemory` where a `usize` has no such number, since no memory holds so many.
+    fn count(&self) -> Result<usize, AddTypeError>
+        ensures count { IfOk result (λ n. n ≡ size self.now) }
+        ensures fault { IfErr result (λ e. e ≡ OutOfMemory) }
+    {
+        match self.checked_count() {
+            Some(count) => Ok(count),
+            None => Err(AddTypeError::OutOfMemory),
+        }
     }
 
     /// Adds a resource. Answers `NotHeld` where it mentions an id that isn't held, and `OutOfMemory` where memory ran out; then nothing has changed.
@@ -218,7 +229,7 @@ impl Types {
             return Err(AddTypeError::NotHeld);
         }
         let id = ResourceId(self.resources.len());
-        let before = self.count();
+        let before = self.count()?;
         let end = match resource.alias {
             Some(alias) => self.resource_end(alias.source),
             None => id,
@@ -241,7 +252,7 @@ impl Types {
             return Err(AddTypeError::NotHeld);
         }
         let id = self.funcs.len();
-        let before = self.count();
+        let before = self.count()?;
         hold(self.alloc, &mut self.funcs, func, before)?;
         Ok(FuncTypeId(id))
     }
@@ -256,7 +267,7 @@ impl Types {
             return Err(AddTypeError::NotHeld);
         }
         let id = DefinedTypeId(self.defined.len());
-        let before = self.count();
+        let before = self.count()?;
         let end = match &defined {
             DefinedType::Alias(target) => self.value_end(*target),
             _ => ValueType::Defined(id),
@@ -279,7 +290,7 @@ impl Types {
             return Err(fault);
         }
         let id = self.interfaces.len();
-        let before = self.count();
+        let before = self.count()?;
         hold(self.alloc, &mut self.interfaces, interface, before)?;
         Ok(InterfaceId(id))
     }
@@ -294,7 +305,7 @@ impl Types {
             return Err(fault);
         }
         let id = self.worlds.len();
-        let before = self.count();
+        let before = self.count()?;
         hold(self.alloc, &mut self.worlds, world, before)?;
         Ok(WorldId(id))
     }
@@ -306,7 +317,7 @@ impl Types {
         ensures fault { AnswersBy None result }
     {
         let id = self.modules.len();
-        let before = self.count();
+        let before = self.count()?;
         hold(self.alloc, &mut self.modules, module_type, before)?;
         Ok(ModuleTypeId(id))
     }

@@ -14,8 +14,9 @@ pub use collection::{AddTypeError, Types};
 pub use interfaces::Interfaces;
 pub use package::{Package, PackageKey};
 pub use wac_shapes::{
-    CoreExtern, CoreFuncType, CoreRefType, CoreType, DefinedType, DefinedTypeId, Entries, Enum,
-    Flags, FuncType, FuncTypeId, Interface, InterfaceId, ItemKind, LabelNames, Labels, ModuleType,
-    ModuleTypeId, Named, PrimitiveType, Record, Resource, ResourceAlias, ResourceId, Sequence,
-    ShapeError, Text, Type, UsedType, ValueType, Variant, World, WorldId,
+    CoreExtern, CoreFuncType, CoreImportEntries, CoreImports, CoreRefType, CoreType, DefinedType,
+    DefinedTypeId, Entries, Enum, Flags, FuncType, FuncTypeId, Interface, InterfaceId, ItemKind,
+    LabelNames, Labels, ModuleType, ModuleTypeId, Named, PrimitiveType, Record, Resource,
+    ResourceAlias, ResourceId, Sequence, ShapeError, Text, Type, UsedType, ValueType, Variant,
+    World, WorldId,
 };

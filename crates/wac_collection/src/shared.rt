@@ -11,7 +11,7 @@ use std::sync::Arc;
 #[derive(Drop)]
 pub(crate) struct Shared<T> {
     item: Arc<T>,
-    before: u128,
+    before: usize,
 }
 
 impl<T> Model for Shared<T> {
@@ -47,7 +47,7 @@ pub(crate) fn hold<T: Drop>(
     alloc: Global,
     items: &mut Vec<Shared<T>>,
     item: T,
-    before: u128,
+    before: usize,
 ) -> Result<(), AddTypeError>
     ensures held { OnOk result (items.new.items ≡ items.old.items ++ record { item = item; before = before } ∷ []) }
     ensures refused { OnErr result (items.new.items ≡ items.old.items) }

@@ -23,7 +23,7 @@ use Rattle.wac_nodes.specs.Graph.{Graph, GraphNode, Kind, node_at, imports_of, I
 use Rattle.wac_nodes.specs.Nodes.{node_of, kind_of}
 use Rattle.wac_nodes.specs.Gives.{GivesNode}
 use Rattle.wac_nodes.specs.Asked.{is_argument}
-use Rattle.wac_meaning.proofs.EncodeLemmas.{satisfied as set_by_edge}
+use Rattle.wac_meaning.proofs.AskedLemmas.{satisfied as set_by_edge}
 use Rattle.wac_composition.specs.declared.graph.CompositionGraph.TheInside.{Inside}
 use Rattle.wac_composition.specs.Inside.{graph_of, Invariant}
 use Rattle.wac_composition.specs.Listed.{AreNodes, node_ids, AreSet, AreArguments, instance_imports, imports_by}

@@ -3,13 +3,10 @@ use Rattle.std.proofs.Common.{◌≡◌, ℕ, ◌<◌, Bool, true, false, not, L
 use Rattle.std.proofs.Math.Path.{fun_ext}
 use Rattle.std.specs.List.{flat_map}
 use Rattle.std.specs.FinSet as set
-use Rattle.std.specs.Prelude.{slice_get, slice_set}
-use Rattle.std.proofs.lemmas.Bool.Decides.{nat_tests}
-use Rattle.std.proofs.lemmas.List.{append-nil, map-append, length-set, get_or-set_same, get_or-set_other}
+use Rattle.std.specs.Prelude.{slice_get}
 use Rattle.wac_shapes.specs.Name.{Name, option_case}
 use Rattle.wac_binary.specs.declared.sorts.Sort.{Sort}
-use Rattle.wac_binary.specs.Items.{Item, export_item}
-use Rattle.wac_binary.specs.Meaning.{Thing}
+use Rattle.wac_binary.specs.Items.{Item}
 use Rattle.wac_edges.specs.declared.edges.Edge.{Edge}
 use Rattle.wac_edges.specs.declared.node.NodeId.{NodeId}
 use Rattle.wac_nodes.specs.declared.options.EncodeOptions.{EncodeOptions}
@@ -20,17 +17,16 @@ use Rattle.wac_nodes.specs.Graph.{Graph, GraphNode, Kind, node_at}
 use Rattle.wac_composition.specs.Inside.{graph_of, Invariant}
 use Rattle.wac_nodes.specs.Sound.{IsSound}
 use Rattle.wac_edges.specs.Order.{Writes, IsOnCycle, IsAcyclic, IsLowestOnCycle}
-use Rattle.wac_meaning.specs.Means.{is_there, is_written, is_import, IsThing, sort_of_kind, export_item_of, name_customs, processor_customs, custom_item, AreNames, Means}
-use Rattle.wac_meaning.specs.Encoding.{WritesNode, Progress, WroteAll, HasRoom, index_in}
+use Rattle.wac_meaning.specs.Means.{is_there, is_written, is_import, export_item_of, name_customs, processor_customs, custom_item, AreNames, Means}
+use Rattle.wac_meaning.specs.Encoding.{Progress, WroteAll, HasRoom, index_in}
 use Rattle.wac_causes.specs.NotYet.{AllWritable, IsNotYet, unset, defined, imported, undefined_components}
-use Rattle.wac_edges.proofs.WrittenOrder.{same, in_list, written_left, minus-push, minus-true, split_writes, slice_get-middle}
-use Rattle.wac_meaning.proofs.ThingLemmas.{IsPlain, is_written-node, node_of_written, all_things}
+use Rattle.wac_edges.proofs.WrittenOrder.{in_list, written_left}
+use Rattle.wac_meaning.proofs.ThingLemmas.{IsPlain, plain_imports, written_node, node_of_written}
 use Rattle.wac_composition.proofs.EncodingLemmas.{node_is, none_past, by_lt}
 use Rattle.wac_edges.proofs.ReachLemmas.{ordered_acyclic}
-use Rattle.std.proofs.lemmas.Option.{slice_get_within}
-use Rattle.wac_meaning.proofs.MeantLemmas.{IsAmong}
-use Rattle.wac_meaning.proofs.WrittenLemmas.{Counted, Earlier, slice_get-prefix}
-use Rattle.wac_meaning.proofs.EncodeLemmas.{AllSet, Done, adds_more, nothing_done, Exported, no_exports, export_more, closed, means}
+use Rattle.wac_meaning.proofs.MeaningLemmas.{Laws}
+use Rattle.wac_meaning.proofs.AskedLemmas.{AllSet}
+use Rattle.wac_meaning.proofs.PlainLemmas.{plain_means}
 use Rattle.wac_meaning.proofs.DefinedLemmas.{HasNoFirst}
 
 pub plain : (g : Graph) → AllWritable g → IsPlain g
@@ -38,10 +34,6 @@ plain g all n node there = (all n node there).plain
 
 pub all_set : (g : Graph) → AllWritable g → AllSet g
 all_set g all n node there is i small = (all n node there).set is i small
-
-the_node : (o : Option GraphNode) → IsSome o → (node : GraphNode) × (o ≡ Some node)
-the_node None h = cc
-the_node (Some node) h = (node, refl)
 
 -- a node that is no definition has no first name
 pub no_first : (g : Graph) → IsSound g → IsPlain g → HasNoFirst g
@@ -54,81 +46,13 @@ no_first g sound plain n node there = split node.first_name refl where
   split None is = refl
   split (Some name) is = absurd (no_definition (plain n node there) (sound.first_names n node name there is).0)
 
--- a node's index, once noted
-noted : (xs : List ℕ) (n : NodeId) (i : ℕ) → n.0 < length xs → index_in (slice_set xs n.0 i) n ≡ i
-noted xs n i small = get_or-set_same xs n.0 i 0 small
-
-others_kept : (xs : List ℕ) (n : NodeId) (i : ℕ) (m : NodeId) → same m n ≡ false → index_in (slice_set xs n.0 i) m ≡ index_in xs m
-others_kept xs n i m other = get_or-set_other xs n.0 m.0 i 0 (λ is. grind (arith, nat_tests))
-
-length_kept : (xs : List ℕ) (n i : ℕ) → length (slice_set xs n i) ≡ length xs
-length_kept xs n i = length-set xs n i
-
--- an export's name is none of those before it
-new_export : (g : Graph) → IsSound g → (es : List (Name × NodeId)) (x : Name × NodeId) (rest : List (Name × NodeId)) → g.exports ≡ es ++ x ∷ rest → IsAmong es x.0 → ⊥
-new_export g sound es x rest here (i, n, at) =
-    let first : slice_get g.exports i ≡ Some (x.0, n) = ap (λ xs. slice_get xs i) here ∙ slice_get-prefix es (x ∷ rest) i (x.0, n) at in
-    let last : slice_get g.exports (length es) ≡ Some (x.0, x.1) = ap (λ xs. slice_get xs (length es)) here ∙ slice_get-middle es x rest in
-    let same : i ≡ length es = sound.one_export x.0 i (length es) n x.1 first last in
-    let within : i < length es = slice_get_within es i (x.0, n) at in
-    omega (arith, same, within)
-
-module _ (counted : Counted) (earlier : Earlier) (g : Graph) (sound : IsSound g) (all : AllWritable g) (order : List NodeId) (writes : Writes g.edges (is_written g) order) where
-  module _ (at : NodeId → Thing) (is_thing : (n : NodeId) (node : GraphNode) → node_at g n ≡ Some node → IsThing g at order n node) where
-    abbrev IsDone : List NodeId → Progress → Type 0
-    IsDone done p = Done counted earlier g sound (plain g all) order at is_thing done p.items p.components (index_in p.indexes)
-
-    all_done : (rest done : List NodeId) (p q : Progress) → order ≡ done ++ rest → HasRoom g p.indexes → WroteAll g rest p q → IsDone done p → IsDone order q
-    all_done [] done p q here room same d = subst (λ x. IsDone order x) (sym same) (subst (λ xs. IsDone xs p) (sym (here ∙ rw append-nil refl)) d)
-    all_done (n ∷ rest) done p q here room (mid, wrote, later) d =
-        let (ready, further) = split_writes g.edges (is_written g) done (n ∷ rest) (subst (λ xs. Writes g.edges (is_written g) xs) here writes) in
-        let (node, there) = node_of_written g sound (plain g all) n (minus-true (is_written g) done n ready.here).0 in
-        let (i, adds, now) = subst (λ o. IfSome o (λ x. (i : ℕ) × WritesNode g n x (index_in p.indexes) p.components mid.components p.items mid.items i × (mid.indexes ≡ slice_set p.indexes n.0 i))) there wrote in
-        let small : n.0 < length p.indexes = room n (ap is_some there) in
-        all_done rest (done ++ n ∷ []) mid q (here ∙ sym (append_assoc done (n ∷ []) rest)) (subst (λ xs. HasRoom g xs) (sym now) (λ m is. omega (arith, room m is, length_kept p.indexes n.0 i))) later
-        (adds_more counted earlier g sound (plain g all) order at is_thing done rest n node here ready (subst (λ l. Writes g.edges l rest) (sym (minus-push (is_written g) done n)) further) there
-        (index_in p.indexes) (index_in mid.indexes) i (ap (λ xs. index_in xs n) now ∙ noted p.indexes n i small) (λ m other. ap (λ xs. index_in xs m) now ∙ others_kept p.indexes n i m other)
-        p.components mid.components p.items mid.items adds d)
-
-    abbrev IsExported : List Item → List (Name × NodeId) → List Item → (NodeId → ℕ) → (NodeId → ℕ) → Type 0
-    IsExported base es items index place = Exported counted earlier g sound (plain g all) order at is_thing base es items index place
-
-    all_exported : (base : List Item) (index place : NodeId → ℕ) (rest es : List (Name × NodeId)) (items : List Item) → g.exports ≡ es ++ rest → IsExported base es items index place
-        → IsExported base g.exports (items ++ flat_map (export_item_of g index) rest) index place
-    all_exported base index place [] es items here e = let same : g.exports ≡ es = here ∙ rw append-nil refl in
-        let no_more : items ++ [] ≡ items = rw append-nil refl in
-        subst (λ xs. IsExported base xs (items ++ []) index place) (sym same) (subst (λ ys. IsExported base es ys index place) (sym no_more) e)
-    all_exported base index place (x ∷ rest) es items here e =
-        let (node, there) = the_node (node_at g x.1) (sound.exported (length es) x.0 x.1 (ap (λ xs. slice_get xs (length es)) here ∙ slice_get-middle es x rest)) in
-        let one : export_item_of g index x ≡ export_item x.0 (sort_of_kind node.item_kind) (index x.1) ∷ [] = ap (λ z. option_case z [] (λ z'. export_item x.0 (sort_of_kind z'.item_kind) (index x.1) ∷ [])) there in
-        let next = export_more counted earlier g sound (plain g all) order at is_thing base es items index place x.0 x.1 node there (new_export g sound es x rest here) e in
-        subst (λ ys. IsExported base g.exports ys index place)
-        (append_assoc items (export_item x.0 (sort_of_kind node.item_kind) (index x.1) ∷ []) (flat_map (export_item_of g index) rest) ∙ ap (λ ys. items ++ (ys ++ flat_map (export_item_of g index) rest)) (sym one))
-        (all_exported base index place rest (es ++ x ∷ []) (items ++ export_item x.0 (sort_of_kind node.item_kind) (index x.1) ∷ []) (here ∙ sym (append_assoc es (x ∷ []) rest)) next)
-
-    means_written : (o : EncodeOptions) → o.define_components ≡ true → (indexes : List ℕ) → HasRoom g indexes → (q : Progress) → WroteAll g order (record { items = []; components = []; indexes = indexes }) q
-        → (names : List (Sort × ℕ × Name)) → AreNames g (index_in q.indexes) names
-        → Means ((q.items ++ flat_map (export_item_of g (index_in q.indexes)) g.exports) ++ map custom_item (name_customs names ++ processor_customs o.processor)) g o
-    means_written o define indexes room q wrote names named =
-        let d = all_done order [] (record { items = []; components = []; indexes = indexes }) q refl room wrote (nothing_done counted earlier g sound (plain g all) order at is_thing (index_in indexes)) in
-        let e = all_exported q.items (index_in q.indexes) d.place g.exports [] q.items refl (no_exports counted earlier g sound (plain g all) order at is_thing q.items q.components (index_in q.indexes) writes d) in
-        let c = closed counted earlier g sound (plain g all) order at is_thing q.items (q.items ++ flat_map (export_item_of g (index_in q.indexes)) g.exports) (index_in q.indexes) d.place (name_customs names ++ processor_customs o.processor) e in
-        means counted earlier g sound (plain g all) order at is_thing o define (no_first g sound (plain g all)) names q.items
-        ((q.items ++ flat_map (export_item_of g (index_in q.indexes)) g.exports) ++ map custom_item (name_customs names ++ processor_customs o.processor)) (index_in q.indexes) d.place named writes (all_set g all) c d.in_place
-
-  -- all nodes are written, the exports behind them, then the names, and the processor last
-  pub means_all : (o : EncodeOptions) → o.define_components ≡ true → (indexes : List ℕ) → HasRoom g indexes → (p q : Progress) → p ≡ record { items = []; components = []; indexes = indexes } → WroteAll g order p q
-      → (names : List (Sort × ℕ × Name)) → AreNames g (index_in q.indexes) names
-      → (items with_names written : List Item) → items ≡ q.items ++ flat_map (export_item_of g (index_in q.indexes)) g.exports
-      → with_names ≡ items ++ map custom_item (name_customs names) → written ≡ with_names ++ map custom_item (processor_customs o.processor) → Means written g o
-  means_all o define indexes room p q start wrote names named items with_names written end next last =
-      let (at, is_thing) = all_things g sound (plain g all) order writes in
-      let shown : List Item = q.items ++ flat_map (export_item_of g (index_in q.indexes)) g.exports in
-      let whole : written ≡ shown ++ map custom_item (name_customs names ++ processor_customs o.processor) =
-      last ∙ ap (λ its. its ++ map custom_item (processor_customs o.processor)) (next ∙ ap (λ its. its ++ map custom_item (name_customs names)) end)
-      ∙ append_assoc shown (map custom_item (name_customs names)) (map custom_item (processor_customs o.processor))
-      ∙ ap (λ its. shown ++ its) (sym (map-append custom_item (name_customs names) (processor_customs o.processor))) in
-      subst (λ its. Means its g o) (sym whole) (means_written at is_thing o define indexes room q (subst (λ x. WroteAll g order x q) start wrote) names named)
+-- all nodes are written, the exports behind them, then the names, and the processor last
+pub means_all : Laws → (g : Graph) → IsSound g → AllWritable g → (order : List NodeId) → Writes g.edges (is_written g) order
+    → (o : EncodeOptions) → o.define_components ≡ true → (indexes : List ℕ) → HasRoom g indexes → (p q : Progress) → p ≡ record { items = []; components = []; indexes = indexes } → WroteAll g order p q
+    → (names : List (Sort × ℕ × Name)) → AreNames g (index_in q.indexes) names
+    → (items with_names written : List Item) → items ≡ q.items ++ flat_map (export_item_of g (index_in q.indexes)) g.exports
+    → with_names ≡ items ++ map custom_item (name_customs names) → written ≡ with_names ++ map custom_item (processor_customs o.processor) → Means written g o
+means_all laws g sound all = plain_means laws g sound (plain g all) (all_set g all)
 
 -- where all nodes can be written and components are defined, nothing is left for later
 pub none_left : (g : Graph) → AllWritable g → (o : EncodeOptions) → o.define_components ≡ true → IsNotYet g o → ⊥
@@ -184,11 +108,11 @@ pub writes_all : (g : Graph) → IsSound g → AllWritable g → (order : List N
 writes_all g sound all order writes = subst (λ l. Writes g.edges l order) (fun_ext (λ n. same n (node_at g n) refl)) writes where
   same : (n : NodeId) (o : Option GraphNode) → node_at g n ≡ o → is_there g n ≡ is_written g n
   same n None is = ap (λ x. option_case x false (λ z. true)) is ∙ sym (ap (λ x. option_case x false (λ z. not (is_import z.kind))) is)
-  same n (Some node) is = ap (λ x. option_case x false (λ z. true)) is ∙ sym (is_written-node g sound (plain g all) n node is)
+  same n (Some node) is = ap (λ x. option_case x false (λ z. true)) is ∙ sym (written_node g n node is (plain_imports g (plain g all) n node is))
 
 -- the nodes of an order stand in the graph
 pub in_order : (g : Graph) → IsSound g → AllWritable g → (order : List NodeId) → Writes g.edges (is_written g) order → (i : ℕ) (n : NodeId) → slice_get order i ≡ Some n → IsSome (node_at g n)
-in_order g sound all order writes i n h = let (node, there) = node_of_written g sound (plain g all) n (written_left g.edges (is_written g) order writes n (in_list order i n h)) in ap is_some there
+in_order g sound all order writes i n h = let (node, there, _) = node_of_written g n (written_left g.edges (is_written g) order writes n (in_list order i n h)) in ap is_some there
 
 pub when_none : {A : Type 0} (x : Option A) (P : Type 0) → x ≡ None → IfNone x P → P
 when_none x P is h = subst (λ o. IfNone o P) is h

@@ -20,7 +20,7 @@ use Rattle.wac_nodes.specs.Sound.{IsSound}
 use Rattle.wac_nodes.proofs.NodeLemmas.{text_pair}
 use Rattle.wac_meaning.specs.Means.{is_there, is_written, further_exports, shown, export_of, Means}
 use Rattle.wac_meaning.proofs.DefinedLemmas.{HasNoFirst, further_all, no_package_imports, no_first_exports}
-use Rattle.wac_meaning.proofs.EncodeLemmas.{asked_none, no_imports}
+use Rattle.wac_meaning.proofs.AskedLemmas.{asked_none, no_imports}
 use Rattle.wac_meaning.proofs.OuterOrder.{one_order}
 use Rattle.wac_validation.specs.FirstFault.{Fault, IsFirstFault, IsRefusal, fault_view}
 use Rattle.wac_validation.specs.Valid.{AreValid}

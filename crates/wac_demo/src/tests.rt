@@ -6,3 +6,4 @@ mod packages;
 mod program;
 mod removal;
 mod unregistering;
+mod validation;

@@ -8,6 +8,8 @@ ghost use Rattle.wac_edges.specs.Edge.{node_number, edge_cmp, alias_edge, argume
 ghost use Rattle.wac_edges.specs.Ends.{at_end, AreAt, HasLabel, LeadsTo};
 ghost use Rattle.wac_edges.specs.Order.{IsAcyclic, IsEdge, IsLowestOnCycle};
 ghost use Rattle.wac_cycles.specs.Cycles.{IsStep};
+ghost use Rattle.wac_cycles.specs.Numbers.{Has};
+ghost use Rattle.wac_edges.specs.Ready.{IsListed};
 
 use crate::aliases::{first_alias, forget_alias, note_alias};
 use crate::node::NodeId;
@@ -237,6 +239,33 @@ impl Edges {
         }
         Ok(targets)
     }
+
+    /// For each of the first so many nodes, those to which edges lead from it, one for each edge.
+    pub(crate) fn listed_targets(
+        &self,
+        alloc: Global,
+        nodes: usize,
+    ) -> Result<Vec<Vec<usize>>, AllocError>
+        ensures counted { IfOk result (λ v. length v.items ≡ nodes) }
+        ensures listed { IfOk result (λ v. (a b : ℕ) → (IsListed v.items a b ↔ ((a < nodes) × IsEdge self.now (node_number a) (node_number b)))) }
+    {
+        let mut targets = Vec::new(alloc);
+        for a in 0..nodes {
+            targets.push(targets_of(alloc, self.walk(NodeId(a), End::Outgoing))?)?;
+        }
+        Ok(targets)
+    }
+}
+
+/// The nodes to which some edges lead, one for each edge.
+fn targets_of(alloc: Global, walk: Walk<'_>) -> Result<Vec<usize>, AllocError>
+    ensures { IfOk result (λ v. (b : ℕ) → (Has v.items b ↔ LeadsTo walk.entry.left (node_number b))) }
+{
+    let mut targets = Vec::new(alloc);
+    for edge in walk {
+        targets.push(edge.target.0)?;
+    }
+    Ok(targets)
 }
 
 /// Adds steps from a node to those to which some edges lead.

@@ -4,82 +4,96 @@ ghost use Rattle.wac_edges.specs.Edge.{is_left};
 ghost use Rattle.wac_edges.specs.declared.node.NodeId.{NodeId as AnId};
 ghost use Rattle.std.specs.Bool.{OnTrue, OnFalse};
 ghost use Rattle.wac_edges.specs.Order.{Writes, IsOnCycle};
-ghost use Rattle.wac_edges.specs.Ready.{occurs, AreCounted, AreReady, is_set};
+ghost use Rattle.wac_edges.specs.Ready.{occurs, AreCounted, AreReady, is_left_with, is_set};
 
 use crate::edges::Edges;
 use crate::node::NodeId;
 use std::alloc::{AllocError, Global};
-use std::collections::BTreeSet;
+use std::cmp::Reverse;
+use std::collections::BinaryHeap;
 
-/// Counts a step to a number, if there is a count of it.
-fn count_one(counts: &mut [usize], b: usize)
-    requires { slice_index counts.old b + 1 < 2 ^ 64 }
-    ensures { counts.new ≡ slice_set counts.old b (slice_index counts.old b + 1) }
+/// Counts an edge to a number, if there is a count of it.
+fn count_one(counts: &mut [usize], b: usize) -> Result<(), AllocError>
+    ensures { OnOk result (counts.new ≡ slice_set counts.old b (slice_index counts.old b + 1)) }
 {
     if b < counts.len() {
-        counts[b] += 1;
+        // No memory holds so many edges.
+        let Some(count) = counts[b].checked_add(1) else {
+            return Err(AllocError);
+        };
+        counts[b] = count;
     }
+    Ok(())
 }
 
-/// Counts the steps to some numbers.
-fn count(steps: &BTreeSet<usize>, counts: &mut [usize])
-    requires { (b : ℕ) → slice_index counts.old b + 1 < 2 ^ 64 }
-    ensures counted { (b : ℕ) → b < length counts.old → slice_index counts.new b ≡ slice_index counts.old b + occurs steps.now.keys b }
-    ensures once { (b : ℕ) → occurs steps.now.keys b ≤ 1 }
+/// Counts the edges to some numbers.
+fn count(targets: &[usize], counts: &mut [usize]) -> Result<(), AllocError>
+    ensures { OnOk result ((b : ℕ) → b < length counts.old → slice_index counts.new b ≡ slice_index counts.old b + occurs targets.now b) }
 {
-    for b in steps.iter() {
-        count_one(counts, *b);
+    for b in targets {
+        count_one(counts, *b)?;
     }
+    Ok(())
 }
 
-/// Counts the steps from those that are left, over counts that are zero.
-fn count_all(targets: &[BTreeSet<usize>], left: &[bool], counts: &mut [usize])
+/// Counts the edges from those that are left, over counts that are zero.
+fn count_all(targets: &[Vec<usize>], left: &[bool], counts: &mut [usize]) -> Result<(), AllocError>
     requires long { length left.now ≡ length targets.now }
     requires none { (b : ℕ) → slice_index counts.old b ≡ 0 }
-    ensures { AreCounted left.now targets.now counts.new }
+    ensures { OnOk result (AreCounted left.now targets.now counts.new) }
 {
     for a in 0..targets.len() {
         if left[a] {
-            count(&targets[a], counts);
+            count(&targets[a], counts)?;
         }
     }
+    Ok(())
 }
 
-/// For each number, how many steps lead to it from those that are left.
-fn counts(
-    alloc: Global,
-    targets: &[BTreeSet<usize>],
-    left: &[bool],
-) -> Result<Vec<usize>, AllocError>
+/// For each number, how many edges lead to it from those that are left.
+fn counts(alloc: Global, targets: &[Vec<usize>], left: &[bool]) -> Result<Vec<usize>, AllocError>
     requires { length left.now ≡ length targets.now }
     ensures long { IfOk result (λ v. length v.items ≡ length targets.now) }
     ensures counted { IfOk result (λ v. AreCounted left.now targets.now v.items) }
 {
     let mut counts = vec![in alloc; 0; targets.len()]?;
-    count_all(targets, left, &mut counts);
+    count_all(targets, left, &mut counts)?;
     Ok(counts)
 }
 
-/// The numbers that are left and whose count is zero.
-fn free(alloc: Global, left: &[bool], counts: &[usize]) -> Result<BTreeSet<usize>, AllocError>
-    requires { length counts.now ≡ length left.now }
-    ensures { IfOk result (λ s. AreReady s left.now counts.now) }
+/// Whether a number is left and has this count.
+fn is_left_with(left: &[bool], counts: &[usize], b: usize, count: usize) -> bool
+    requires long { length counts.now ≡ length left.now }
+    requires small { b < length left.now }
+    ensures { result ≡ is_left_with left.now counts.now count b }
 {
-    let mut ready = BTreeSet::new(alloc);
+    left[b] && counts[b] == count
+}
+
+/// The numbers that are left and whose count is zero, the lowest first.
+fn free(
+    alloc: Global,
+    left: &[bool],
+    counts: &[usize],
+) -> Result<BinaryHeap<Reverse<usize>>, AllocError>
+    requires { length counts.now ≡ length left.now }
+    ensures { IfOk result (λ heap. AreReady heap left.now counts.now) }
+{
+    let mut ready = BinaryHeap::new(alloc);
     for b in 0..left.len() {
-        if left[b] && counts[b] == 0 {
-            ready.insert(b)?;
+        if is_left_with(left, counts, b, 0) {
+            ready.push(Reverse(b))?;
         }
     }
     Ok(ready)
 }
 
-/// Takes a step to a number away. If it is left and no step to it is, it is ready.
+/// Takes an edge to a number away. If it is left and no other edge to it is, it is ready.
 fn release_one(
     b: usize,
     left: &[bool],
     counts: &mut [usize],
-    ready: &mut BTreeSet<usize>,
+    ready: &mut BinaryHeap<Reverse<usize>>,
 ) -> Result<(), AllocError>
     requires long { length counts.old ≡ length left.now }
     requires ready { AreReady ready.old left.now counts.old }
@@ -87,27 +101,27 @@ fn release_one(
     ensures ready { OnOk result (AreReady ready.new left.now counts.new) }
 {
     if b < counts.len() {
-        counts[b] = counts[b].saturating_sub(1);
-        if counts[b] == 0 && left[b] {
-            ready.insert(b)?;
+        if is_left_with(left, counts, b, 1) {
+            ready.push(Reverse(b))?;
         }
+        counts[b] = counts[b].saturating_sub(1);
     }
     Ok(())
 }
 
-/// Takes the steps to some numbers away. Those that are left and to which no step is left are ready.
+/// Takes the edges to some numbers away. Those that are left and to which no edge is left are ready.
 fn release(
-    steps: &BTreeSet<usize>,
+    targets: &[usize],
     left: &[bool],
     counts: &mut [usize],
-    ready: &mut BTreeSet<usize>,
+    ready: &mut BinaryHeap<Reverse<usize>>,
 ) -> Result<(), AllocError>
     requires long { length counts.old ≡ length left.now }
     requires ready { AreReady ready.old left.now counts.old }
-    ensures counted { OnOk result ((b : ℕ) → b < length counts.old → slice_index counts.new b ≡ slice_index counts.old b - occurs steps.now.keys b) }
+    ensures counted { OnOk result ((b : ℕ) → b < length counts.old → slice_index counts.new b ≡ slice_index counts.old b - occurs targets.now b) }
     ensures ready { OnOk result (AreReady ready.new left.now counts.new) }
 {
-    for b in steps.iter() {
+    for b in targets {
         release_one(*b, left, counts, ready)?;
     }
     Ok(())
@@ -137,11 +151,12 @@ pub fn order(
     ensures cycle { IfOk result (λ o. IfNone o ((n : AnId) × IsOnCycle edges.now n)) }
 {
     let mut left = left;
-    let targets = edges.targets(alloc, left.len())?;
+    let targets = edges.listed_targets(alloc, left.len())?;
     let mut counts = counts(alloc, targets.as_slice(), left.as_slice())?;
     let mut ready = free(alloc, left.as_slice(), counts.as_slice())?;
     let mut written = Vec::new(alloc);
-    while let Some(n) = ready.pop_first() {
+    while let Some(lowest) = ready.pop() {
+        let n = lowest.0;
         written.push(NodeId(n))?;
         left[n] = false;
         release(

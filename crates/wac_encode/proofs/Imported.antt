@@ -33,7 +33,7 @@ types-import law items (y ∷ ys) =
     ap (λ (xs : List Item). (meaning xs).imports) (sym (append_assoc items (type_item y ∷ []) (map type_item ys)))
     ∙ types-import law (items ++ type_item y ∷ []) ys ∙ law items (type_item y) ∙ append-nil (meaning items).imports
 
-same-imports : ListsOneMore → (x : Encodable) (ys : List TypeDef) → (meaning (items_of (with_types x ys))).imports ≡ (meaning (items_of x)).imports
+pub same-imports : ListsOneMore → (x : Encodable) (ys : List TypeDef) → (meaning (items_of (with_types x ys))).imports ≡ (meaning (items_of x)).imports
 same-imports law (Builder items) ys = types-import law items ys
 same-imports law (Instance ds) ys = refl
 same-imports law (Component ds) ys = refl

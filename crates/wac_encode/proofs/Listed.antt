@@ -60,14 +60,14 @@ lists-after c m ms old now new o os n t on l = record {
 free-after : (c : Collection) (m : Bindings) (ms : List Bindings) (old now : Scope) (o : Open) (os : Stack) (n : Name) → Onward c (m ∷ ms) (opened old o ∷ os) (opened now o ∷ os) → IsNewName (opened old o) os exported n → IsNewName (opened now o) os exported n
 free-after c m ms old now o os n on free = subst (λ (items : Name → Tree). IsFree (items n)) (sym on.1.0.exports) free
 
-value-is-type : (t : Tree) → IsValue t → IsType t
+pub value-is-type : (t : Tree) → IsValue t → IsType t
 value-is-type (resource l) h = absurd h
 value-is-type (function a names params result) h = absurd h
 value-is-type (instance exports) h = absurd h
 value-is-type (component imports exports) h = absurd h
 value-is-type t h = h
 
-held-at-end : (c : Collection) → IsWellFormed c → IsItsEnd → (m : Bindings) (v w : ValueType) (t : Tree) → value_resolved c v ≡ w → IsHeld c m (ty.Value w) t → IsHeld c m (ty.Value v) t
+pub held-at-end : (c : Collection) → IsWellFormed c → IsItsEnd → (m : Bindings) (v w : ValueType) (t : Tree) → value_resolved c v ≡ w → IsHeld c m (ty.Value w) t → IsHeld c m (ty.Value v) t
 held-at-end c wf end m v w t is held = end c wf m v t (subst (λ (u : ValueType). IsHeld c m (ty.Value u) t) (sym is) held)
 
 -- a type item of a definition, which names it

@@ -122,11 +122,6 @@ export-refused A B c old now n k types d fault.TooLarge w described h = record {
 }
 export-refused A B c old now n k types d fault.OutOfMemory w described h = tt
 
-pub exactly-so : (A : Type 0) (fits : Type 0) (f : EncodeFault) → WritesUnlessTooLarge {A = A} (Err f) fits → FitsUnlessTooLarge {A = A} (Err f) fits
-exactly-so A fits (fault.Write g) h = h
-exactly-so A fits fault.TooLarge h = h
-exactly-so A fits fault.OutOfMemory h = tt
-
 pub value-item-refused : (A B : Type 0) (c : Collection) (old now : Scope) (n : Name) (v : ValueType) (f : EncodeFault) → WritesFor c 0 (MadeOf c (value_resolved c v)) old now → IsRefused {A = A} c (MadeOf c (value_resolved c v)) now (Err f) → IsItemRefused {A = B} c n (kind.TypeItem (ty.Value v)) old (Err f)
 value-item-refused A B c old now n v (fault.Write g) w h = h
 value-item-refused A B c old now n v fault.TooLarge w h = record { scope = now; types = 0; behind = w; large = inl (inl h) }

@@ -1,5 +1,5 @@
 -- Good stacks go on as definitions are written.
-use Rattle.std.specs.Prelude.{ℕ, suc, ◌+◌, ◌<◌, ◌≡◌, cond, nat_eq, Bool, true, false, List, [], ◌∷◌, ◌++◌, length, map, Option, Some, None}
+use Rattle.std.specs.Prelude.{ℕ, suc, ◌+◌, ◌<◌, ◌≡◌, cond, nat_eq, Bool, true, false, List, [], ◌∷◌, ◌++◌, length, map, Option, Some, None, Err}
 use Rattle.std.proofs.Common.{refl, ap, ◌∙◌, sym, subst, arith, length-append, zero-add}
 use Rattle.std.proofs.Math.Path.{fun_ext}
 use Rattle.std.proofs.lemmas.List.{append-nil, append_assoc}
@@ -11,15 +11,17 @@ use Rattle.wac_collection.specs.Collection.{Collection, IsWellFormed, item_at}
 use Rattle.wac_binary.specs.Items.{ValueDef, TypeDef, type_decl, type_item, value_def}
 use Rattle.wac_scopes.specs.declared.encodable.Encodable.{Encodable}
 use Rattle.wac_scopes.specs.declared.encodable.Encodable.TheVariants.{Builder, Instance, Component}
+use Rattle.wac_scopes.specs.declared.fault.EncodeFault.{EncodeFault}
+use Rattle.wac_scopes.specs.declared.fault.EncodeFault.TheVariants as fault
 use Rattle.wac_scopes.specs.declared.scope.Scope.{Scope}
-use Rattle.wac_scopes.specs.Contents.{content_of, and_type}
+use Rattle.wac_scopes.specs.Contents.{content_of, and_type, ContentFits}
 use Rattle.wac_scopes.specs.Scopes.{Open, env, envs}
 use Rattle.wac_scopes.specs.Good.{Good, Onward}
 use Rattle.wac_scopes.specs.Parts.{IsWritten}
-use Rattle.wac_scopes.specs.Scoped.{value_index, at_index, recorded_value, opened, IsAsBefore, HasToo, AddsValue}
+use Rattle.wac_scopes.specs.Scoped.{value_index, at_index, recorded_value, opened, IsAsBefore, HasToo, AddsValue, WritesUnlessTooLarge, FitsUnlessTooLarge, RecordsUnlessTooLarge}
 use Rattle.wac_scopes.specs.Laws.{Follows, StaysOnward}
 use Rattle.wac_encode.specs.Written.{SaysDefinition, GoesOn, WritesFor, unwritten, with_types}
-use Rattle.wac_encode.specs.Tasks.{WritesOne}
+use Rattle.wac_encode.specs.Tasks.{WritesOne, IsOneRefused}
 use Rattle.wac_encode.proofs.Counting.{unwritten-same, unwritten-less}
 
 pub opened-same : (old new : Scope) → IsAsBefore old new → (o : Open) → opened new o ≡ opened old o
@@ -156,3 +158,23 @@ writes-no-more c follows stays P old now new w h = writes-then c follows 0 0 P P
 
 pub says-same : (c : Collection) (old new : Scope) (x : DefinedType) (y : ValueDef) → IsAsBefore old new → SaysDefinition c old x y → SaysDefinition c new x y
 says-same c old new x y h says m ms o os = subst (λ (p : Open). Good c (m ∷ ms) (p ∷ os) → IsWritten c m (env p (envs os)) x y) (sym (opened-same old new h o)) (says m ms o os)
+
+-- refusals of one definition
+
+pub exactly-so : (A : Type 0) (fits : Type 0) (f : EncodeFault) → WritesUnlessTooLarge {A = A} (Err f) fits → FitsUnlessTooLarge {A = A} (Err f) fits
+exactly-so A fits (fault.Write g) h = h
+exactly-so A fits fault.TooLarge h = h
+exactly-so A fits fault.OutOfMemory h = tt
+
+pub recorded-so : (A : Type 0) (x : Encodable) (fits : Type 0) (f : EncodeFault) → RecordsUnlessTooLarge {A = A} x (Err f) fits → FitsUnlessTooLarge {A = A} (Err f) fits
+recorded-so A (Builder items) fits f h = h
+recorded-so A (Instance ds) fits f h = exactly-so A fits f h
+recorded-so A (Component ds) fits f h = h
+
+pub one-refused : (A B : Type 0) (c : Collection) (s : Scope) (d : DefinedTypeId) (x : DefinedType) (y : ValueDef) (f : EncodeFault) → item_at c.defined d.0 ≡ Some x → SaysDefinition c s x y → RecordsUnlessTooLarge {A = A} s.content (Err f) (ContentFits (and_type s.content (value_def y))) → IsOneRefused {A = B} c s d (Err f)
+one-refused A B c s d x y f at says h = by_fault f (recorded-so A s.content (ContentFits (and_type s.content (value_def y))) f h)
+  where
+    by_fault : (g : EncodeFault) → FitsUnlessTooLarge {A = A} (Err g) (ContentFits (and_type s.content (value_def y))) → IsOneRefused {A = B} c s d (Err g)
+    by_fault (fault.Write w) k = absurd k
+    by_fault fault.TooLarge k = record { definition = x; found = at; written = y; says = says; large = k }
+    by_fault fault.OutOfMemory k = tt

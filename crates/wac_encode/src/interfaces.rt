@@ -206,6 +206,14 @@ impl<'a> TypeEncoder<'a> {
         Ok(order)
     }
 
+    /// Whether all items of an interface are of sorts that are written.
+    pub(crate) fn lists_plain(&self, interface: InterfaceId) -> bool
+        requires { HasInterface self.now.types.now interface }
+        ensures { result ≡ lists_plain self.now.types.now interface }
+    {
+        are_plain(&self.types[interface].exports)
+    }
+
     /// Writes a held interface as an instance type: type items by the positions of the definitions that they mean, aliases followed
     /// to their ends, so each behind those that it mentions; then functions, as they are listed. A definition that a type item lists
     /// is written by the first such item's index; all else is written once, just before what mentions it. Nothing around the interface

@@ -9,3 +9,4 @@ mod parts;
 mod task;
 
 pub use encoder::TypeEncoder;
+pub use imports::import_law;

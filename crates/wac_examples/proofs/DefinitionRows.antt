@@ -24,7 +24,7 @@ use Rattle.wac_edges.specs.Edge.{node_number}
 use Rattle.wac_nodes.specs.Graph.{Graph, GraphNode, node_at}
 use Rattle.wac_meaning.specs.Means.{Means, is_written, instantiations, sort_of_kind, AreInstantiations, IsThing, as_definition, HasItem, shown, export_of, first_export, further_exports, export_item_of, custom_item}
 use Rattle.wac_meaning.proofs.DefinedLemmas.{no_names}
-use Rattle.wac_meaning.proofs.EncodeLemmas.{no_imports}
+use Rattle.wac_meaning.proofs.AskedLemmas.{no_imports}
 use Rattle.wac_examples.proofs.OptionRows.{with_one, node_0, by_one, one_in_order, in_one}
 use Rattle.wac_examples.proofs.Ordered.{one_order}
 use Rattle.wac_examples.proofs.Rows.{defining, readme_graph}

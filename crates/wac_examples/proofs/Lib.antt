@@ -10,3 +10,4 @@ pub mod NameRows
 pub mod OptionRows
 pub mod DefinitionRows
 pub mod PlugExample
+pub mod BeginningRows

@@ -26,7 +26,7 @@ use Rattle.wac_edges.specs.Edge.{node_number}
 use Rattle.wac_nodes.specs.Graph.{Graph, GraphNode, node_at, imports_of}
 use Rattle.wac_meaning.specs.Means.{Means, is_import, is_written, instantiations, used_after, used_packages, package_bytes, sort_of_kind, AreInstantiations, IsThing, as_instantiation, HasItem, name_customs, AreNames, IsNameOf}
 use Rattle.wac_meaning.proofs.DefinedLemmas.{no_names}
-use Rattle.wac_meaning.proofs.EncodeLemmas.{AllSet, no_imports, asked_none}
+use Rattle.wac_meaning.proofs.AskedLemmas.{AllSet, no_imports, asked_none}
 use Rattle.std.proofs.Math.Path.{fun_ext}
 use Rattle.wac_examples.proofs.Ordered.{edge_cmp_total}
 use Rattle.wac_examples.proofs.Rows.{defining, first, instance_of_first, readme_graph}

@@ -27,7 +27,7 @@ use Rattle.wac_edges.specs.Order.{Edges, Writes, IsLowestReady, without}
 use Rattle.wac_nodes.specs.OuterImports.{AreOuterImports}
 use Rattle.wac_meaning.specs.Means.{Means, is_import, is_written, instantiations, used_after, used_packages, package_bytes, sort_of_kind, AreInstantiations, IsThing, as_instantiation, as_alias, given, HasItem, shown, export_of, export_item_of, first_export, further_exports, custom_item}
 use Rattle.wac_meaning.proofs.ThingLemmas.{IsPlain}
-use Rattle.wac_meaning.proofs.EncodeLemmas.{AllSet, no_imports, asked_none}
+use Rattle.wac_meaning.proofs.AskedLemmas.{AllSet, no_imports, asked_none}
 use Rattle.wac_examples.proofs.Ordered.{edge_cmp_total, exact_edges}
 use Rattle.wac_meaning.proofs.DefinedLemmas.{no_names}
 use Rattle.wac_nodes.specs.declared.options.EncodeOptions.{EncodeOptions}

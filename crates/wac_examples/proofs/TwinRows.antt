@@ -25,7 +25,7 @@ use Rattle.wac_edges.specs.Order.{Writes}
 use Rattle.wac_nodes.specs.OuterImports.{AreOuterImports}
 use Rattle.wac_meaning.specs.Means.{Means, is_import, is_written, instantiations, used_after, used_packages, package_bytes, sort_of_kind, AreInstantiations, IsThing, as_instantiation, as_alias, given, HasItem, shown, export_of, export_item_of, first_export, further_exports, custom_item}
 use Rattle.wac_meaning.proofs.ThingLemmas.{IsPlain}
-use Rattle.wac_meaning.proofs.EncodeLemmas.{AllSet, no_imports, asked_none}
+use Rattle.wac_meaning.proofs.AskedLemmas.{AllSet, no_imports, asked_none}
 use Rattle.wac_examples.proofs.Ordered.{edge_cmp_total, by_edge, by_number, Range}
 use Rattle.wac_examples.proofs.Rows.{defining, of_function, first, second, instance_of_first, alias_of_first, instance_of_second}
 use Rattle.wac_meaning.proofs.DefinedLemmas.{no_names}

@@ -1,110 +1,71 @@
--- From what is written of a graph to items that mean it.
-use Rattle.std.proofs.Common.{◌≡◌, ℕ, suc, ◌+◌, ◌<◌, Bool, true, false, ◌||◌, cond, List, [], ◌∷◌, ◌++◌, length, map, refl, ap, ◌∙◌, sym, subst, arith, append_assoc, Option, Some, None, ◌⊎◌, inl, inr}
-use Rattle.std.specs.List.{list_any, flat_map}
-use Rattle.std.specs.Prelude.{slice_get}
-use Rattle.std.specs.FinSet as set
-use Rattle.std.specs.FinMap as finite
-use Rattle.std.specs.Ordering.{eq_by_cmp}
-use Rattle.std.proofs.lemmas.List.{append-nil}
+-- From what is written of a graph, behind items that begin with its imports, to items that mean it.
+use Rattle.std.proofs.Common.{◌≡◌, ℕ, ◌<◌, Bool, true, false, cond, List, [], ◌∷◌, ◌++◌, length, map, refl, ap, ◌∙◌, sym, subst, arith, append_assoc, Option, Some, None, IfSome, IsSome, is_some, inl, inr}
+use Rattle.std.specs.List.{flat_map}
+use Rattle.std.specs.Prelude.{slice_get, slice_set}
+use Rattle.std.proofs.lemmas.Bool.Decides.{nat_tests}
+use Rattle.std.proofs.lemmas.List.{append-nil, map-append, length-set, get_or-set_same, get_or-set_other}
 use Rattle.std.proofs.lemmas.List.Elements.{filter-append}
+use Rattle.std.proofs.lemmas.Option.{slice_get_within}
 use Rattle.std.proofs.lemmas.Grind.{flat_map-append}
 use Rattle.wac_shapes.specs.Name.{Name, option_case}
+use Rattle.wac_shapes.specs.declared.component.InterfaceId.{InterfaceId}
 use Rattle.wac_shapes.specs.declared.component.ItemKind.{ItemKind}
+use Rattle.wac_shapes.specs.declared.component.ItemKind.TheVariants as item
+use Rattle.wac_collection.specs.Tree.{Tree, instance_item}
 use Rattle.wac_binary.specs.declared.sorts.Sort.{Sort}
 use Rattle.wac_binary.specs.declared.sorts.Sort.TheVariants as sort
 use Rattle.wac_binary.specs.Items.{Item, custom, alias_item, export_alias, export_item}
-use Rattle.std.proofs.lemmas.List.{map-append}
 use Rattle.wac_binary.specs.Indexes.{space, indexes}
+use Rattle.wac_binary.specs.Unfold.{bound_at}
 use Rattle.wac_binary.specs.Meaning.{Thing, stands_for, meaning}
 use Rattle.wac_binary.specs.HasMeaning.{HasMeaning, IsSomething}
-use Rattle.wac_entries.specs.Classes.{by_names}
-use Rattle.wac_terms.specs.ClassOrder as classes
-use Rattle.wac_edges.specs.declared.edges.Edge.{Edge}
 use Rattle.wac_edges.specs.declared.node.NodeId.{NodeId}
 use Rattle.wac_nodes.specs.declared.packages.PackageId.{PackageId}
-use Rattle.wac_edges.specs.Edge.{edge_cmp, argument_edge, node_number}
+use Rattle.wac_nodes.specs.declared.options.EncodeOptions.{EncodeOptions}
 use Rattle.wac_nodes.specs.Graph as graph
-use Rattle.wac_nodes.specs.Graph.{Graph, GraphNode, Kind, node_at, imports_of, IsSatisfied}
+use Rattle.wac_nodes.specs.Graph.{Graph, GraphNode, Kind, node_at}
+use Rattle.wac_nodes.specs.OuterImports.{AreOuterImports, IsImportPlace}
 use Rattle.wac_nodes.specs.Sound.{IsSound}
 use Rattle.wac_edges.specs.Order.{Writes, IsLowestReady}
-use Rattle.wac_nodes.specs.Asked.{is_argument, is_satisfied, unsatisfied, asked_by, imported_by, asked}
-use Rattle.wac_nodes.specs.Entries.{with_used, once, to_merge}
-use Rattle.wac_nodes.specs.OuterImports.{AreOuterImports}
-use Rattle.wac_meaning.specs.Means.{node_is, is_instantiation, is_written, instantiations, IsThing, sort_of_kind, with_package, used_after, used_packages, package_bytes, HasItem, shown, export_of, export_item_of, AreNames, Means, further_exports, name_customs, processor_customs, custom_item}
-use Rattle.wac_meaning.specs.Encoding.{WritesNode, writes_instantiation, writes_alias}
-use Rattle.wac_edges.proofs.EdgeLemmas.{exact_edges}
-use Rattle.wac_edges.proofs.WrittenOrder.{minus, same, eqb_same, all_in}
-use Rattle.wac_meaning.proofs.ThingLemmas.{IsPlain, is_written-node}
+use Rattle.wac_meaning.specs.Means.{node_is, is_import, is_instantiation, is_written, instantiations, IsThing, sort_of_kind, with_package, used_after, used_packages, package_bytes, HasItem, shown, export_of, export_item_of, AreNames, Means, further_exports, name_customs, processor_customs, custom_item}
+use Rattle.wac_meaning.specs.Beginning.{Places, Begins, Covers, IsPlacedNode}
+use Rattle.wac_meaning.specs.Encoding.{Progress, index_in, HasRoom}
+use Rattle.wac_meaning.specs.Writing.{WritesNode, writes_instantiation, writes_alias, WroteAll}
+use Rattle.wac_edges.proofs.WrittenOrder.{minus, minus-push, minus-true, same, all_in, slice_get-middle}
+use Rattle.wac_meaning.proofs.ThingLemmas.{DefinesNothing, Stands, written_node, node_of_written, AreImported, all_things}
+use Rattle.wac_meaning.proofs.CoverLemmas.{IsKnown}
 use Rattle.wac_meaning.proofs.MeantLemmas.{meant-push, something, IsAmong, new_name}
-use Rattle.wac_meaning.proofs.MeaningLemmas.{export_shown, export_others, custom_rest, indexes-push}
-use Rattle.wac_meaning.proofs.WrittenLemmas.{Counted, Earlier, Written, with_component, instance_more, alias_more, used-append, HasItem-push, used_prefix}
+use Rattle.wac_meaning.proofs.MeaningLemmas.{Laws, export_shown, export_others, custom_rest, indexes-push}
+use Rattle.wac_meaning.proofs.WrittenLemmas.{Written, with_component, instance_more, alias_more, used-append, HasItem-push, used_prefix, slice_get-prefix}
 use Rattle.wac_meaning.proofs.DefinedLemmas.{AreMade, defined_components, no_package_imports, made_instantiations, HasNoFirst, further_all, no_first_exports}
-use Rattle.wac_nodes.specs.declared.options.EncodeOptions.{EncodeOptions}
 
--- where nothing is asked for there are no imports
-pub no_imports : (g : Graph) → asked g ≡ [] → AreOuterImports g []
-no_imports g none = record {
-  order = [];
-  written = subst (λ es. classes.IsWrittenOrder by_names g.types (to_merge (once (flat_map (with_used g.types) es))) []) (sym none) (classes.done []);
-  count = refl;
-  each = λ p k class e at _ _. absurd (nothing at);
-} where
-  nothing : {k : ℕ} → None ≡ Some k → ⊥
-  nothing e = cc
+clash : (b : Bool) → b ≡ true → b ≡ false → ⊥
+clash true _ h = cc
+clash false h _ = cc
 
--- where every argument is set nothing is asked
-module _ (g : Graph) where
-  any_more : (p q : Edge → Bool) → ((e : Edge) → p e ≡ true → q e ≡ true) → (es : List Edge) → list_any p es ≡ true → list_any q es ≡ true
-  any_more p q f [] h = h
-  any_more p q f (e ∷ es) h = split (p e) refl h (any_more p q f es) where
-    split : (b : Bool) → p e ≡ b → (b || list_any p es) ≡ true → (list_any p es ≡ true → list_any q es ≡ true) → (q e || list_any q es) ≡ true
-    split true is _ _ = rw (f e is) refl
-    split false _ later more = rw (more later) (or_yes (q e)) where
-      or_yes : (b : Bool) → (b || true) ≡ true
-      or_yes true = refl
-      or_yes false = refl
+the_node : (o : Option GraphNode) → IsSome o → (node : GraphNode) × (o ≡ Some node)
+the_node None h = cc
+the_node (Some node) h = (node, refl)
 
-  pub satisfied : (n : NodeId) (i : ℕ) → IsSatisfied g n i → is_satisfied g n.0 i ≡ true
-  satisfied n i (node, stands) =
-      any_more (eq_by_cmp edge_cmp (argument_edge node n i)) (is_argument n.0 i)
-      (λ e same. let is : argument_edge node n i ≡ e = exact_edges (argument_edge node n i) e same in ap (is_argument n.0 i) (sym is) ∙ rw (eqb_same n.0) (eqb_same i))
-      (set.items g.edges)
-      (sym (set.contains-items g.edges (argument_edge node n i)) ∙ stands)
+-- where no node is a definition none has a first name
+no_first : (g : Graph) → IsSound g → DefinesNothing g → HasNoFirst g
+no_first g sound none n node there = split node.first_name refl where
+  split : (o : Option Name) → node.first_name ≡ o → o ≡ None
+  split None is = refl
+  split (Some name) is = absurd (none n node there (sound.first_names n node name there is).0)
 
-  none_unsatisfied : (n : NodeId) (i : ℕ) (imports : List (Name × ItemKind)) → ((j : ℕ) → j < length imports → IsSatisfied g n (i + j)) → unsatisfied g n.0 i imports ≡ []
-  none_unsatisfied n i [] all = refl
-  none_unsatisfied n i (e ∷ imports) all =
-      let here : is_satisfied g n.0 i ≡ true = satisfied n i (let z : i + 0 ≡ i = omega arith in subst (λ k. IsSatisfied g n k) z (all 0 (omega arith))) in
-      rw here (none_unsatisfied n (suc i) imports (λ j small. let z : i + suc j ≡ suc i + j = omega arith in subst (λ k. IsSatisfied g n k) z (all (suc j) (omega arith))))
+-- an export's name is none of those before it
+new_export : (g : Graph) → IsSound g → (es : List (Name × NodeId)) (x : Name × NodeId) (rest : List (Name × NodeId)) → g.exports ≡ es ++ x ∷ rest → IsAmong es x.0 → ⊥
+new_export g sound es x rest here (i, n, at) =
+    let first : slice_get g.exports i ≡ Some (x.0, n) = ap (λ xs. slice_get xs i) here ∙ slice_get-prefix es (x ∷ rest) i (x.0, n) at in
+    let last : slice_get g.exports (length es) ≡ Some (x.0, x.1) = ap (λ xs. slice_get xs (length es)) here ∙ slice_get-middle es x rest in
+    let same : i ≡ length es = sound.one_export x.0 i (length es) n x.1 first last in
+    let within : i < length es = slice_get_within es i (x.0, n) at in
+    omega (arith, same, within)
 
-  flat_map-none : {A B : Type 0} (f : A → List B) (xs : List A) → ((x : A) → f x ≡ []) → flat_map f xs ≡ []
-  flat_map-none f [] h = refl
-  flat_map-none f (x ∷ xs) h = rw (h x) (flat_map-none f xs h)
-
-  abbrev pub AllSet : Type 0
-  AllSet = (n : NodeId) (node : GraphNode) → node_at g n ≡ Some node → node.kind ≡ graph.instantiation → (i : ℕ) → i < length (imports_of g node) → IsSatisfied g n i
-
-  pub asked_none : IsPlain g → AllSet → asked g ≡ []
-  asked_none plain all =
-      rw (flat_map-none (λ n. asked_by g n (node_at g (node_number n))) (finite.keys g.nodes) (λ n. by_node (node_number n) (node_at g (node_number n)) refl))
-      (flat_map-none (λ n. imported_by n (node_at g (node_number n))) (finite.keys g.nodes) (λ n. imported (node_number n) (node_at g (node_number n)) refl)) where
-        by_node : (n : NodeId) (o : Option GraphNode) → node_at g n ≡ o → asked_by g n.0 o ≡ []
-        by_node n None there = refl
-        by_node n (Some node) there = split (plain n node there) where
-          split : (node.kind ≡ graph.instantiation) ⊎ (node.kind ≡ graph.alias) → asked_by g n.0 (Some node) ≡ []
-          split (inl is) = rw is (none_unsatisfied n 0 (imports_of g node) (λ j small. let z : j ≡ 0 + j = omega arith in subst (λ k. IsSatisfied g n k) z (all n node there is j small)))
-          split (inr is) = rw is refl
-
-        imported : (n : NodeId) (o : Option GraphNode) → node_at g n ≡ o → imported_by n.0 o ≡ []
-        imported n None there = refl
-        imported n (Some node) there = split (plain n node there) where
-          split : (node.kind ≡ graph.instantiation) ⊎ (node.kind ≡ graph.alias) → imported_by n.0 (Some node) ≡ []
-          split (inl is) = rw is refl
-          split (inr is) = rw is refl
-
-module _ (counted : Counted) (earlier : Earlier) (g : Graph) (sound : IsSound g) (plain : IsPlain g) (order : List NodeId) (at : NodeId → Thing) (is_thing : (n : NodeId) (node : GraphNode) → node_at g n ≡ Some node → IsThing g at order n node) where
+module _ (laws : Laws) (g : Graph) (sound : IsSound g) (order : List NodeId) (at : NodeId → Thing) (is_thing : (n : NodeId) (node : GraphNode) → node_at g n ≡ Some node → IsThing g at order n node) (imported : List (Name × Tree)) (places : Places) where
   abbrev pub Done : List NodeId → List Item → List (PackageId × ℕ) → (NodeId → ℕ) → Type 0
-  Done done items components index = Written counted earlier g sound plain order at is_thing done (used_packages g done) items components index
+  Done done items components index = Written laws g sound order at is_thing imported places done (used_packages g done) items components index
 
   abbrev owner_of : NodeId → Option PackageId
   owner_of n = option_case (node_at g n) None (λ node. node.owner)
@@ -120,61 +81,91 @@ module _ (counted : Counted) (earlier : Earlier) (g : Graph) (sound : IsSound g)
   -- the next node is written
   pub adds_more : (done later : List NodeId) (n : NodeId) (node : GraphNode) → order ≡ done ++ n ∷ later → IsLowestReady g.edges (minus (is_written g) done) n → Writes g.edges (minus (is_written g) (done ++ n ∷ [])) later → node_at g n ≡ Some node
       → (index index' : NodeId → ℕ) (i : ℕ) → index' n ≡ i → ((m : NodeId) → same m n ≡ false → index' m ≡ index m)
-      → (components components' : List (PackageId × ℕ)) (items items' : List Item) → WritesNode g n node index components components' items items' i
+      → (components components' : List (PackageId × ℕ)) (items items' : List Item) → WritesNode g places n node index components components' items items' i
       → Done done items components index → Done (done ++ n ∷ []) items' components' index'
   adds_more done later n node here ready writes there index index' i now others components components' items items' (writes_alias instance source k name kind aliased source_there exported same added counts) w =
       let test : node_is g (λ x. is_instantiation x.kind) n ≡ false = ap (λ o. option_case o false (λ x. is_instantiation x.kind)) there ∙ ap is_instantiation kind in
       let x : Item = alias_item (export_alias (sort_of_kind node.item_kind) (index instance) name) in
-      let more = alias_more counted earlier g sound plain order at is_thing done later n node here ready writes there index index' i now others (used_packages g done) items components instance source k name w kind aliased source_there exported counts in
-      subst (λ us. Written counted earlier g sound plain order at is_thing (done ++ n ∷ []) us items' components' index') (sym (used_push done n false test))
-      (subst (λ cs. Written counted earlier g sound plain order at is_thing (done ++ n ∷ []) (used_packages g done) items' cs index') (sym same)
-      (subst (λ its. Written counted earlier g sound plain order at is_thing (done ++ n ∷ []) (used_packages g done) its components index') (sym added) more))
+      let more = alias_more laws g sound order at is_thing imported places done later n node here ready writes there index index' i now others (used_packages g done) items components instance source k name w kind aliased source_there exported counts in
+      subst (λ us. Written laws g sound order at is_thing imported places (done ++ n ∷ []) us items' components' index') (sym (used_push done n false test))
+      (subst (λ cs. Written laws g sound order at is_thing imported places (done ++ n ∷ []) (used_packages g done) items' cs index') (sym same)
+      (subst (λ its. Written laws g sound order at is_thing imported places (done ++ n ∷ []) (used_packages g done) its components index') (sym added) more))
   adds_more done later n node here ready writes there index index' i now others components components' items items' (writes_instantiation id c mid arguments kind owned has_component given added counts) w =
       let test : node_is g (λ x. is_instantiation x.kind) n ≡ true = ap (λ o. option_case o false (λ x. is_instantiation x.kind)) there ∙ ap is_instantiation kind in
       let owner : owner_of n ≡ Some id = ap (λ o. option_case o None (λ z. z.owner)) there ∙ owned in
       let used : used_packages g (done ++ n ∷ []) ≡ with_package (used_packages g done) (Some id) = used_push done n true test ∙ ap (with_package (used_packages g done)) owner in
-      let (mid_written, (k, at_k, stands)) = with_component counted earlier g sound plain order at is_thing done (used_packages g done) items mid components components' index id c w has_component in
+      let (mid_written, (k, at_k, stands)) = with_component laws g sound order at is_thing imported places done (used_packages g done) items mid components components' index id c w has_component in
       let first : slice_get (used_packages g order) k ≡ Some id =
       ap (λ xs. slice_get (used_packages g xs) k) (here ∙ sym (append_assoc done (n ∷ []) later))
       ∙ ap (λ us. slice_get us k) (ap (used_after g []) (filter-append (node_is g (λ x. is_instantiation x.kind)) (done ++ n ∷ []) later) ∙ used-append g [] (instantiations g (done ++ n ∷ [])) (instantiations g later))
       ∙ used_prefix g (used_packages g (done ++ n ∷ [])) (instantiations g later) k id (ap (λ us. slice_get us k) used ∙ at_k) in
       let instance = sound.instances n node there kind in
       let typed : sort_of_kind node.item_kind ≡ sort.Instance = ap sort_of_kind instance.typed in
-      let more = instance_more counted earlier g sound plain order at is_thing done later n node here ready writes there index index' i now others (with_package (used_packages g done) (Some id)) mid components' id c k arguments mid_written kind owned first stands typed given counts in
-      subst (λ us. Written counted earlier g sound plain order at is_thing (done ++ n ∷ []) us items' components' index') (sym used)
-      (subst (λ its. Written counted earlier g sound plain order at is_thing (done ++ n ∷ []) (with_package (used_packages g done) (Some id)) its components' index') (sym added) more)
+      let more = instance_more laws g sound order at is_thing imported places done later n node here ready writes there index index' i now others (with_package (used_packages g done) (Some id)) mid components' id c k arguments mid_written kind owned first stands typed given counts in
+      subst (λ us. Written laws g sound order at is_thing imported places (done ++ n ∷ []) us items' components' index') (sym used)
+      (subst (λ its. Written laws g sound order at is_thing imported places (done ++ n ∷ []) (with_package (used_packages g done) (Some id)) its components' index') (sym added) more)
 
-  -- nothing is written
-  pub nothing_done : (index : NodeId → ℕ) → Done [] [] [] index
-  nothing_done index = record {
+  -- what is to be known of an import node
+  abbrev pub IsPlaced : (NodeId → ℕ) → NodeId → GraphNode → ℕ → Type 0
+  IsPlaced index n node p = IsPlacedNode g imported places index n node p
+
+  -- no node is written yet
+  pub nothing_done : (begin : List Item) (index : NodeId → ℕ) → Begins imported places begin → AreImported g (IsPlaced index) at → Done [] begin [] index
+  nothing_done begin index begins imports = record {
     nodes = λ n wrong. cc;
-    meant = tt;
-    unknown = tt;
-    imports = refl;
-    customs = refl;
-    exports = refl;
-    bytes = refl;
+    meant = begins.meant;
+    imports = begins.imports_are;
+    customs = begins.customs;
+    exports = begins.exports;
+    bytes = begins.components;
     packages = refl;
     numbers = λ k e wrong. cc;
-    made = tt;
-    stand = λ n node wrong there. cc;
+    made = subst (λ its. AreMade g at order [] its) (sym begins.instantiations) tt;
+    asked_for = begins.stand;
+    stand = λ n node here there. stand n node there (an_import n node here);
+    known = λ n node here there i is. known n node there i is (an_import n node here);
     place = λ _. 0;
-    own = λ n node wrong there. cc;
+    own = λ n node here there no_import. let (name, kind) = an_import n node here in absurd (clash (is_import node.kind) (ap is_import kind) no_import);
     in_place = λ i j n m less wrong other. cc;
-  }
+  } where
+    import_of : (k : Kind) → is_import k ≡ true → (name : Name) × (k ≡ graph.import name)
+    import_of (graph.import name) h = (name, refl)
+    import_of graph.instantiation h = cc
+    import_of graph.alias h = cc
+    import_of graph.definition h = cc
+
+    an_import : (n : NodeId) (node : GraphNode) → Stands [] n node → (name : Name) × (node.kind ≡ graph.import name)
+    an_import n node (inl is) = import_of node.kind is
+    an_import n node (inr wrong) = cc
+
+    stand : (n : NodeId) (node : GraphNode) → node_at g n ≡ Some node → (name : Name) × (node.kind ≡ graph.import name)
+        → (index n < indexes (space (sort_of_kind node.item_kind)) begin) × (stands_for (meaning begin) (sort_of_kind node.item_kind) (index n) ≡ at n)
+    stand n node there (name, kind) =
+        let i = imports n node name there kind in
+        let s = begins.stand i.p (sort_of_kind node.item_kind) (index n) i.known.placed in
+        (s.0, s.1 ∙ sym i.is)
+
+    known : (n : NodeId) (node : GraphNode) → node_at g n ≡ Some node → (i : InterfaceId) → node.item_kind ≡ item.Instance i → (name : Name) × (node.kind ≡ graph.import name)
+        → IsKnown g.types i (bound_at (meaning begin).scope.instances (index n))
+    known n node there i is (name, kind) =
+        let it = imports n node name there kind in
+        let k = it.known in
+        let here : slice_get places it.p ≡ Some (sort.Instance, index n) = k.placed ∙ ap (λ (q : ItemKind). Some (sort_of_kind q, index n)) is in
+        let same = begins.typed it.p (index n) k.entry here k.there in
+        inr (subst (λ (q : ItemKind). Covers g.types q (instance_item (bound_at (meaning begin).scope.instances (index n)).type)) is (subst (λ (x : Tree). Covers g.types node.item_kind x) same k.covers))
 
   -- all nodes are written, and these exports behind them
   pub record Exported (base : List Item) (es : List (Name × NodeId)) (items : List Item) (index place : NodeId → ℕ) : Type 0 where
     pub split : items ≡ base ++ flat_map (export_item_of g index) es
     pub meant : HasMeaning items
-    pub imports : (meaning items).imports ≡ []
+    pub imports : (meaning items).imports ≡ imported
     pub customs : (meaning items).customs ≡ []
     pub bytes : (meaning items).nested_bytes ≡ map (package_bytes g) (used_packages g order)
     pub made : AreMade g at order (instantiations g order) (meaning items).instantiations
     pub exports : map shown (meaning items).exports ≡ flat_map (export_of g at) es
     pub stand : (n : NodeId) (node : GraphNode) → node_at g n ≡ Some node
         → (index n < indexes (space (sort_of_kind node.item_kind)) items) × (stands_for (meaning items) (sort_of_kind node.item_kind) (index n) ≡ at n)
-    pub own : (n : NodeId) (node : GraphNode) → node_at g n ≡ Some node → HasItem items node (index n) (place n)
+    pub own : (n : NodeId) (node : GraphNode) → node_at g n ≡ Some node → is_import node.kind ≡ false → HasItem items node (index n) (place n)
 
   pub no_exports : (items : List Item) (components : List (PackageId × ℕ)) (index : NodeId → ℕ) → Writes g.edges (is_written g) order → (w : Done order items components index) → Exported items [] items index w.place
   no_exports items components index writes w = record {
@@ -185,9 +176,14 @@ module _ (counted : Counted) (earlier : Earlier) (g : Graph) (sound : IsSound g)
     bytes = w.bytes;
     made = w.made;
     exports = ap (map shown) w.exports;
-    stand = λ n node there. w.stand n node (all_in g.edges (is_written g) order [] writes n (is_written-node g sound plain n node there)) there;
-    own = λ n node there. w.own n node (all_in g.edges (is_written g) order [] writes n (is_written-node g sound plain n node there)) there;
-  }
+    stand = λ n node there. w.stand n node (stands n node there) there;
+    own = λ n node there no_import. w.own n node (stands n node there) there no_import;
+  } where
+    stands : (n : NodeId) (node : GraphNode) → node_at g n ≡ Some node → Stands order n node
+    stands n node there = split (is_import node.kind) refl where
+      split : (b : Bool) → is_import node.kind ≡ b → Stands order n node
+      split true is = inl is
+      split false is = inr (all_in g.edges (is_written g) order [] writes n (written_node g n node there is))
 
   -- one export more
   pub export_more : (base : List Item) (es : List (Name × NodeId)) (items : List Item) (index place : NodeId → ℕ) (name : Name) (id : NodeId) (node : GraphNode) → node_at g id ≡ Some node → (IsAmong es name → ⊥) → Exported base es items index place
@@ -211,8 +207,8 @@ module _ (counted : Counted) (earlier : Earlier) (g : Graph) (sound : IsSound g)
             ∙ sym (flat_map-append (export_of g at) es ((name, id) ∷ []) ∙ ap (λ ys. flat_map (export_of g at) es ++ ys) (rw append-nil two));
         stand = λ n other other_there.
             let s = e.stand n other other_there in
-            (indexes_rise (space (sort_of_kind other.item_kind)) items x (index n) s.0, earlier items (x ∷ []) (sort_of_kind other.item_kind) (index n) s.0 ∙ s.1);
-        own = λ n other other_there. HasItem-push items x other (index n) (place n) (e.own n other other_there);
+            (indexes_rise (space (sort_of_kind other.item_kind)) items x (index n) s.0, laws.earlier items (x ∷ []) (sort_of_kind other.item_kind) (index n) s.0 ∙ s.1);
+        own = λ n other other_there no_import. HasItem-push items x other (index n) (place n) (e.own n other other_there no_import);
       } where
         indexes_rise : (k : ℕ) (its : List Item) (x : Item) (j : ℕ) → j < indexes k its → j < indexes k (its ++ x ∷ [])
         indexes_rise k its x j small = omega (arith, indexes-push k its x)
@@ -221,14 +217,14 @@ module _ (counted : Counted) (earlier : Earlier) (g : Graph) (sound : IsSound g)
   pub record Closed (base : List Item) (customs : List (Name × List ℕ)) (items : List Item) (index place : NodeId → ℕ) : Type 0 where
     pub split : items ≡ base ++ flat_map (export_item_of g index) g.exports ++ map custom_item customs
     pub meant : HasMeaning items
-    pub imports : (meaning items).imports ≡ []
+    pub imports : (meaning items).imports ≡ imported
     pub customs_are : (meaning items).customs ≡ customs
     pub bytes : (meaning items).nested_bytes ≡ map (package_bytes g) (used_packages g order)
     pub made : AreMade g at order (instantiations g order) (meaning items).instantiations
     pub exports : map shown (meaning items).exports ≡ flat_map (export_of g at) g.exports
     pub stand : (n : NodeId) (node : GraphNode) → node_at g n ≡ Some node
         → (index n < indexes (space (sort_of_kind node.item_kind)) items) × (stands_for (meaning items) (sort_of_kind node.item_kind) (index n) ≡ at n)
-    pub own : (n : NodeId) (node : GraphNode) → node_at g n ≡ Some node → HasItem items node (index n) (place n)
+    pub own : (n : NodeId) (node : GraphNode) → node_at g n ≡ Some node → is_import node.kind ≡ false → HasItem items node (index n) (place n)
 
   no_customs : (base items : List Item) (index place : NodeId → ℕ) → Exported base g.exports items index place → Closed base [] items index place
   no_customs base items index place e = record {
@@ -260,8 +256,8 @@ module _ (counted : Counted) (earlier : Earlier) (g : Graph) (sound : IsSound g)
         exports = ap (λ r. map shown r.exports) o ∙ c.exports;
         stand = λ n node there.
             let s = c.stand n node there in
-            (indexes_rise (space (sort_of_kind node.item_kind)) (index n) s.0, earlier items (x ∷ []) (sort_of_kind node.item_kind) (index n) s.0 ∙ s.1);
-        own = λ n node there. HasItem-push items x node (index n) (place n) (c.own n node there);
+            (indexes_rise (space (sort_of_kind node.item_kind)) (index n) s.0, laws.earlier items (x ∷ []) (sort_of_kind node.item_kind) (index n) s.0 ∙ s.1);
+        own = λ n node there no_import. HasItem-push items x node (index n) (place n) (c.own n node there no_import);
       } where
         indexes_rise : (k : ℕ) (j : ℕ) → j < indexes k items → j < indexes k (items ++ custom name bytes ∷ [])
         indexes_rise k j small = omega (arith, indexes-push k items (custom name bytes))
@@ -280,25 +276,25 @@ module _ (counted : Counted) (earlier : Earlier) (g : Graph) (sound : IsSound g)
   closed base items index place customs e = customs_more base customs [] items index place (no_customs base items index place e)
 
   -- the items mean the graph
-  pub means : (o : EncodeOptions) → o.define_components ≡ true → HasNoFirst g → (names : List (Sort × ℕ × Name))
-      → (base items : List Item) (index place : NodeId → ℕ) → AreNames g index names → Writes g.edges (is_written g) order → AllSet g → Closed base (name_customs names ++ processor_customs o.processor) items index place
+  means : (o : EncodeOptions) → o.define_components ≡ true → HasNoFirst g → AreOuterImports g imported → (names : List (Sort × ℕ × Name))
+      → (base items : List Item) (index place : NodeId → ℕ) → AreNames g index names → Writes g.edges (is_written g) order → Closed base (name_customs names ++ processor_customs o.processor) items index place
       → ((i j : ℕ) (n m : NodeId) → i < j → slice_get order i ≡ Some n → slice_get order j ≡ Some m → place n < place m) → Means items g o
-  means o define no_first names base items index place named writes all e in_place = record {
+  means o define no_first outer names base items index place named writes e in_place = record {
     order = order;
     in_order = writes;
     at = at;
     index = index;
     meant = e.meant;
-    classes = [];
-    outer = no_imports g (asked_none g plain all);
-    imports = e.imports ∙ sym (no_package_imports g o define order);
+    classes = imported;
+    outer = outer;
+    imports = e.imports ∙ sym (append-nil imported) ∙ ap (λ xs. imported ++ xs) (sym (no_package_imports g o define order));
     components = e.bytes ∙ sym (defined_components g o define order);
-    instances = made_instantiations g o define 0 at order (instantiations g order) (meaning items).instantiations e.made;
+    instances = made_instantiations g o define (length imported) at order (instantiations g order) (meaning items).instantiations e.made;
     things = is_thing;
     stand = λ n node there. (e.stand n node there).1;
     exports = e.exports ∙ ap (flat_map (export_of g at)) (sym (further_all g no_first)) ∙ ap (λ xs. xs ++ flat_map (export_of g at) (further_exports g)) (sym (no_first_exports g no_first at order));
     place = place;
-    own_items = λ n node there written. e.own n node there;
+    own_items = e.own;
     in_place = in_place;
     names = names;
     named = named;
@@ -307,3 +303,62 @@ module _ (counted : Counted) (earlier : Earlier) (g : Graph) (sound : IsSound g)
     last = e.split ∙ ap (λ es. base ++ flat_map (export_item_of g index) es ++ map custom_item (name_customs names ++ processor_customs o.processor)) (sym (further_all g no_first))
         ∙ ap (λ cs. base ++ flat_map (export_item_of g index) (further_exports g) ++ map custom_item cs) (sym e.customs_are);
   }
+
+  -- all nodes of an order are written
+  all_done : (rest done : List NodeId) (p q : Progress) → order ≡ done ++ rest → Writes g.edges (minus (is_written g) done) rest → HasRoom g p.indexes → WroteAll g places rest p q → Done done p.items p.components (index_in p.indexes) → Done order q.items q.components (index_in q.indexes)
+  all_done [] done p q here writes room same d =
+      subst (λ x. Done order x.items x.components (index_in x.indexes)) (sym same) (subst (λ xs. Done xs p.items p.components (index_in p.indexes)) (sym (here ∙ append-nil done)) d)
+  all_done (n ∷ rest) done p q here (ready, further) room (mid, wrote, later) d =
+      let (node, there, no_import) = node_of_written g n (minus-true (is_written g) done n ready.here).0 in
+      let (i, adds, now) = subst (λ o. IfSome o (λ x. (i : ℕ) × WritesNode g places n x (index_in p.indexes) p.components mid.components p.items mid.items i × (mid.indexes ≡ slice_set p.indexes n.0 i))) there wrote in
+      let small : n.0 < length p.indexes = room n (ap is_some there) in
+      let after : Writes g.edges (minus (is_written g) (done ++ n ∷ [])) rest = subst (λ l. Writes g.edges l rest) (sym (minus-push (is_written g) done n)) further in
+      all_done rest (done ++ n ∷ []) mid q (here ∙ sym (append_assoc done (n ∷ []) rest)) after (subst (λ xs. HasRoom g xs) (sym now) (λ m is. omega (arith, room m is, length-set p.indexes n.0 i))) later
+      (adds_more done rest n node here ready after there (index_in p.indexes) (index_in mid.indexes) i (ap (λ xs. index_in xs n) now ∙ get_or-set_same p.indexes n.0 i 0 small)
+      (λ m other. ap (λ xs. index_in xs m) now ∙ get_or-set_other p.indexes n.0 m.0 i 0 (λ is. grind (arith, nat_tests)))
+      p.components mid.components p.items mid.items adds d)
+
+  -- all exports are written
+  all_exported : (base : List Item) (index place : NodeId → ℕ) (rest es : List (Name × NodeId)) (items : List Item) → g.exports ≡ es ++ rest → Exported base es items index place
+      → Exported base g.exports (items ++ flat_map (export_item_of g index) rest) index place
+  all_exported base index place [] es items here e =
+      subst (λ xs. Exported base xs (items ++ []) index place) (sym (here ∙ append-nil es)) (subst (λ ys. Exported base es ys index place) (sym (append-nil items)) e)
+  all_exported base index place (x ∷ rest) es items here e =
+      let (node, there) = the_node (node_at g x.1) (sound.exported (length es) x.0 x.1 (ap (λ xs. slice_get xs (length es)) here ∙ slice_get-middle es x rest)) in
+      let one : export_item_of g index x ≡ export_item x.0 (sort_of_kind node.item_kind) (index x.1) ∷ [] = ap (λ z. option_case z [] (λ z'. export_item x.0 (sort_of_kind z'.item_kind) (index x.1) ∷ [])) there in
+      let next = export_more base es items index place x.0 x.1 node there (new_export g sound es x rest here) e in
+      subst (λ ys. Exported base g.exports ys index place)
+      (append_assoc items (export_item x.0 (sort_of_kind node.item_kind) (index x.1) ∷ []) (flat_map (export_item_of g index) rest) ∙ ap (λ ys. items ++ (ys ++ flat_map (export_item_of g index) rest)) (sym one))
+      (all_exported base index place rest (es ++ x ∷ []) (items ++ export_item x.0 (sort_of_kind node.item_kind) (index x.1) ∷ []) (here ∙ sym (append_assoc es (x ∷ []) rest)) next)
+
+  pub all_written : (o : EncodeOptions) → o.define_components ≡ true → HasNoFirst g → AreOuterImports g imported → Writes g.edges (is_written g) order
+      → (begin : List Item) (indexes : List ℕ) → Begins imported places begin → AreImported g (IsPlaced (index_in indexes)) at → HasRoom g indexes
+      → (q : Progress) → WroteAll g places order (record { items = begin; components = []; indexes = indexes }) q → (names : List (Sort × ℕ × Name)) → AreNames g (index_in q.indexes) names
+      → Means ((q.items ++ flat_map (export_item_of g (index_in q.indexes)) g.exports) ++ map custom_item (name_customs names ++ processor_customs o.processor)) g o
+  all_written o define unnamed outer writes begin from begins placed room q wrote names named =
+      let d = all_done order [] (record { items = begin; components = []; indexes = from }) q refl writes room wrote (nothing_done begin (index_in from) begins placed) in
+      let e = all_exported q.items (index_in q.indexes) d.place g.exports [] q.items refl (no_exports q.items q.components (index_in q.indexes) writes d) in
+      let customs = name_customs names ++ processor_customs o.processor in
+      let exported : List Item = q.items ++ flat_map (export_item_of g (index_in q.indexes)) g.exports in
+      let c = closed q.items exported (index_in q.indexes) d.place customs e in
+      means o define unnamed outer names q.items (exported ++ map custom_item customs) (index_in q.indexes) d.place named writes c d.in_place
+
+-- Where items begin a component with what the graph asks for, then its nodes are written in order, its exports behind them, then the names, and the processor
+-- last, they mean the graph.
+pub means_all : Laws → (g : Graph) → IsSound g → DefinesNothing g → (order : List NodeId) → Writes g.edges (is_written g) order
+    → (o : EncodeOptions) → o.define_components ≡ true → (imported : List (Name × Tree)) (places : Places) → AreOuterImports g imported
+    → (begin : List Item) (indexes : List ℕ) → Begins imported places begin
+    → ((n : NodeId) (node : GraphNode) (name : Name) → node_at g n ≡ Some node → node.kind ≡ graph.import name → (p : ℕ) × IsImportPlace g name p × IsPlacedNode g imported places (index_in indexes) n node p)
+    → HasRoom g indexes → (p q : Progress) → p ≡ record { items = begin; components = []; indexes = indexes } → WroteAll g places order p q
+    → (names : List (Sort × ℕ × Name)) → AreNames g (index_in q.indexes) names
+    → (items with_names written : List Item) → items ≡ q.items ++ flat_map (export_item_of g (index_in q.indexes)) g.exports
+    → with_names ≡ items ++ map custom_item (name_customs names) → written ≡ with_names ++ map custom_item (processor_customs o.processor) → Means written g o
+means_all laws g sound none order writes o define imported places outer begin indexes begins placed room p q start wrote names named items with_names written end next last =
+    let (at, imports, is_thing) = all_things g sound none (IsPlacedNode g imported places (index_in indexes)) order placed writes in
+    let exported : List Item = q.items ++ flat_map (export_item_of g (index_in q.indexes)) g.exports in
+    let whole : written ≡ exported ++ map custom_item (name_customs names ++ processor_customs o.processor) =
+    last ∙ ap (λ its. its ++ map custom_item (processor_customs o.processor)) (next ∙ ap (λ its. its ++ map custom_item (name_customs names)) end)
+    ∙ append_assoc exported (map custom_item (name_customs names)) (map custom_item (processor_customs o.processor))
+    ∙ ap (λ its. exported ++ its) (sym (map-append custom_item (name_customs names) (processor_customs o.processor))) in
+    subst (λ its. Means its g o) (sym whole)
+    (all_written laws g sound order at is_thing imported places o define (no_first g sound none) outer writes begin indexes begins imports room q (subst (λ x. WroteAll g places order x q) start wrote) names named)

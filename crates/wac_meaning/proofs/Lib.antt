@@ -1,7 +1,15 @@
 pub mod MeaningLemmas
 pub mod MeantLemmas
+pub mod CoverLemmas
+pub mod MergedCover
 pub mod DefinedLemmas
 pub mod ThingLemmas
+pub mod AskedLemmas
 pub mod WrittenLemmas
 pub mod EncodeLemmas
+pub mod PlainLemmas
 pub mod OuterOrder
+pub mod BeginLemmas
+pub mod AskedMembers
+pub mod MergeLemmas
+pub mod OrderLemmas

@@ -1,19 +1,27 @@
 -- What one more item adds to what items mean.
-use Rattle.std.proofs.Common.{◌≡◌, ℕ, zero, suc, ◌+◌, ◌<◌, List, [], ◌∷◌, ◌++◌, length, map, refl, ap, ◌∙◌, arith}
+use Rattle.std.proofs.Common.{◌≡◌, ℕ, zero, suc, ◌+◌, ◌<◌, Bool, true, false, T, if◌then◌else◌, List, [], ◌∷◌, ◌++◌, length, map, refl, ap, ◌∙◌, sym, arith}
 use Rattle.wac_shapes.specs.Name.{Name}
 use Rattle.wac_collection.specs.Tree.{Tree}
 use Rattle.wac_binary.specs.declared.sorts.Sort.{Sort}
 use Rattle.wac_binary.specs.declared.sorts.Sort.TheVariants as sort
 use Rattle.wac_binary.specs.Items.{Item, custom, nested, instantiate, alias_item, export_alias, export_item}
-use Rattle.wac_binary.specs.Indexes.{indexes, is_in, adds}
-use Rattle.wac_binary.specs.Unfold.{Scope, with_alias, bound_at}
-use Rattle.wac_binary.specs.Meaning.{Thing, instance_at, component_at, projected, Root, Instantiation, Export, start, things, thing_at, stands_for, with_thing, read, read_all, meaning}
+use Rattle.wac_binary.specs.Indexes.{space, indexes, is_in, adds}
+use Rattle.wac_binary.specs.Unfold.{Scope, Bound, unbound, aliased_instance, with_alias, bound_at}
+use Rattle.wac_binary.specs.Meaning.{Thing, nothing, instance_at, component_at, projected, may_export, aliased_thing, Root, Instantiation, Export, start, things, thing_at, stands_for, with_thing, read, read_all, meaning}
+use Rattle.wac_binary.specs.HasMeaning.{HasExport}
 use Rattle.std.proofs.lemmas.List.{map-append}
 use Rattle.wac_meaning.specs.Means.{shown}
 
 read_all-append : (r : Root) (items : List Item) (x : Item) → read_all r (items ++ x ∷ []) ≡ read (read_all r items) x
 read_all-append r [] x = refl
 read_all-append r (y ∷ items) x = read_all-append (read r y) items x
+
+-- the laws of items, as they are passed
+pub record Laws : Type 0 where
+  pub counted : (items : List Item) (t : Sort) → length (things (meaning items) t) ≡ indexes (space t) items
+  pub earlier : (items more : List Item) (t : Sort) (i : ℕ) → i < indexes (space t) items → stands_for (meaning (items ++ more)) t i ≡ stands_for (meaning items) t i
+  pub bounds_counted : (items : List Item) → length (meaning items).scope.instances ≡ indexes (space sort.Instance) items
+  pub bounds_earlier : (items more : List Item) (i : ℕ) → i < indexes (space sort.Instance) items → bound_at (meaning (items ++ more)).scope.instances i ≡ bound_at (meaning items).scope.instances i
 
 -- one more item
 pub meaning-push : (items : List Item) (x : Item) → meaning (items ++ x ∷ []) ≡ read (meaning items) x
@@ -63,14 +71,24 @@ thing_at-before [] t i h = absurd (omega arith)
 thing_at-before (s ∷ ts) t zero h = refl
 thing_at-before (s ∷ ts) t (suc i) h = thing_at-before ts t i (omega arith)
 
+-- an alias of an export that the instance may have stands for it
+pub aliased_is : (b : Bound) (t : Sort) (x : Thing) (name : Name) → HasExport t b.type name → aliased_thing b t x name ≡ projected x name
+aliased_is b t x name has = passed (may_export t b.type name) has where
+  passed : (may : Bool) → T may → (if may then projected x name else nothing) ≡ projected x name
+  passed true h = refl
+  passed false h = absurd h
+
 -- the index that an alias adds stands for the export
-pub alias_stands : (items : List Item) (t : Sort) (c : ℕ) (name : Name) (i : ℕ) → i ≡ length (things (meaning items) t)
+pub alias_stands : (items : List Item) (t : Sort) (c : ℕ) (name : Name) (i : ℕ) → i ≡ length (things (meaning items) t) → HasExport t (bound_at (meaning items).scope.instances c).type name
     → stands_for (meaning (items ++ alias_item (export_alias t c name) ∷ [])) t i ≡ projected (stands_for (meaning items) sort.Instance c) name
-alias_stands items t c name i is =
+alias_stands items t c name i is has =
+    let b : Bound = bound_at (meaning items).scope.instances c in
+    let x : Thing = aliased_thing b t (stands_for (meaning items) sort.Instance c) name in
     ap (λ r. stands_for r t i) (meaning-push items (alias_item (export_alias t c name)))
-    ∙ ap (λ ts. thing_at ts i) (things-with_thing _ t _ ∙ ap (λ ts. ts ++ projected (stands_for (meaning items) sort.Instance c) name ∷ []) (things-scope (meaning items) (with_alias (meaning items).scope t (bound_at (meaning items).scope.instances c) name) t))
-    ∙ ap (thing_at (things (meaning items) t ++ projected (stands_for (meaning items) sort.Instance c) name ∷ [])) is
-    ∙ thing_at-last (things (meaning items) t) _
+    ∙ ap (λ ts. thing_at ts i) (things-with_thing _ t x ∙ ap (λ ts. ts ++ x ∷ []) (things-scope (meaning items) (with_alias (meaning items).scope t b name) t))
+    ∙ ap (thing_at (things (meaning items) t ++ x ∷ [])) is
+    ∙ thing_at-last (things (meaning items) t) x
+    ∙ aliased_is b t (stands_for (meaning items) sort.Instance c) name has
 
 -- an alias adds to nothing else
 pub alias_rest : (items : List Item) (t : Sort) (c : ℕ) (name : Name) → rest (meaning (items ++ alias_item (export_alias t c name) ∷ [])) ≡ rest (meaning items)
@@ -121,6 +139,26 @@ instance_stands items c arguments i is =
     ap (λ r. stands_for r sort.Instance i) (meaning-push items (instantiate c arguments))
     ∙ ap (thing_at ((meaning items).instances ++ instance_at (length (meaning items).instantiations) ∷ [])) is
     ∙ thing_at-last (meaning items).instances _
+
+pub bound_at-last : (bs : List Bound) (b : Bound) (i : ℕ) → i ≡ length bs → bound_at (bs ++ b ∷ []) i ≡ b
+bound_at-last [] b zero is = refl
+bound_at-last [] b (suc i) is = absurd (omega arith)
+bound_at-last (x ∷ bs) b zero is = absurd (omega arith)
+bound_at-last (x ∷ bs) b (suc i) is = bound_at-last bs b i (omega arith)
+
+-- nothing is known of what an instantiation exports
+pub instance_bound : Laws → (items : List Item) (c : ℕ) (arguments : List (Name × Sort × ℕ)) → bound_at (meaning (items ++ instantiate c arguments ∷ [])).scope.instances (indexes (space sort.Instance) items) ≡ unbound
+instance_bound laws items c arguments =
+    ap (λ r. bound_at r.scope.instances (indexes (space sort.Instance) items)) (meaning-push items (instantiate c arguments))
+    ∙ bound_at-last (meaning items).scope.instances unbound (indexes (space sort.Instance) items) (sym (laws.bounds_counted items))
+
+-- an instance's export is bound where the instance is
+pub alias_bound : Laws → (items : List Item) (c : ℕ) (name : Name)
+    → bound_at (meaning (items ++ alias_item (export_alias sort.Instance c name) ∷ [])).scope.instances (indexes (space sort.Instance) items) ≡ aliased_instance (bound_at (meaning items).scope.instances c) name
+alias_bound laws items c name =
+    let b : Bound = aliased_instance (bound_at (meaning items).scope.instances c) name in
+    ap (λ r. bound_at r.scope.instances (indexes (space sort.Instance) items)) (meaning-push items (alias_item (export_alias sort.Instance c name)))
+    ∙ bound_at-last (meaning items).scope.instances b (indexes (space sort.Instance) items) (sym (laws.bounds_counted items))
 
 pub indexes-push : (k : ℕ) (items : List Item) (x : Item) → indexes k (items ++ x ∷ []) ≡ indexes k items + is_in k (adds x)
 indexes-push k [] x = omega arith

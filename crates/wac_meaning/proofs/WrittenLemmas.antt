@@ -1,5 +1,5 @@
--- What is written of a graph after some of its nodes.
-use Rattle.std.proofs.Common.{◌≡◌, ℕ, zero, suc, ◌<◌, Bool, true, false, not, ◌||◌, cond, List, [], ◌∷◌, ◌++◌, length, map, refl, ap, ◌∙◌, sym, subst, arith, append_assoc, Option, Some, None, ◌⊎◌, inl, inr}
+-- What is written of a graph after some of its nodes, behind items that begin with its imports.
+use Rattle.std.proofs.Common.{◌≡◌, ℕ, zero, suc, ◌<◌, Bool, true, false, ◌||◌, cond, List, [], ◌∷◌, ◌++◌, length, map, refl, ap, ◌∙◌, sym, subst, arith, append_assoc, Option, Some, None, ◌⊎◌, inl, inr}
 use Rattle.std.specs.List.{AllByRecursion, list_any, filter}
 use Rattle.std.specs.Prelude.{slice_get}
 use Rattle.std.specs.FinSet as set
@@ -7,14 +7,18 @@ use Rattle.std.proofs.lemmas.List.{append-nil, length-append, map-append, length
 use Rattle.std.proofs.lemmas.List.Elements.{filter-append}
 use Rattle.std.proofs.lemmas.Option.{slice_get_within}
 use Rattle.wac_shapes.specs.Name.{Name, option_case}
+use Rattle.wac_shapes.specs.declared.component.InterfaceId.{InterfaceId}
 use Rattle.wac_shapes.specs.declared.component.ItemKind.{ItemKind}
+use Rattle.wac_collection.specs.Tree.{Tree}
+use Rattle.wac_collection.specs.Collection.{interface_exports}
 use Rattle.wac_shapes.specs.declared.component.ItemKind.TheVariants as item
 use Rattle.wac_binary.specs.declared.sorts.Sort.{Sort}
 use Rattle.wac_binary.specs.declared.sorts.Sort.TheVariants as sort
 use Rattle.wac_binary.specs.Items.{Item, nested, instantiate, alias_item, export_alias}
 use Rattle.wac_binary.specs.Indexes.{space, indexes, is_in, adds, sort_added}
-use Rattle.wac_binary.specs.Meaning.{Thing, instance_at, component_at, projection, projected, Instantiation, things, stands_for, meaning}
-use Rattle.wac_binary.specs.HasMeaning.{HasMeaning, IsSomething}
+use Rattle.wac_binary.specs.Meaning.{Thing, import_at, instance_at, component_at, projection, projected, Instantiation, stands_for, meaning}
+use Rattle.wac_binary.specs.Unfold.{Bound, bound_at}
+use Rattle.wac_binary.specs.HasMeaning.{HasMeaning, IsSomething, HasExport}
 use Rattle.wac_edges.specs.declared.edges.Edge.{Edge}
 use Rattle.wac_edges.specs.declared.node.NodeId.{NodeId}
 use Rattle.wac_nodes.specs.declared.packages.PackageId.{PackageId}
@@ -23,26 +27,22 @@ use Rattle.wac_nodes.specs.Graph as graph
 use Rattle.wac_nodes.specs.Graph.{Graph, GraphNode, Kind, node_at, package_at, imports_of, exports_of, IsAliasOf, IsArgumentOf}
 use Rattle.wac_nodes.specs.Sound.{IsSound}
 use Rattle.wac_edges.specs.Order.{Writes, IsLowestReady}
-use Rattle.wac_meaning.specs.Means.{node_is, is_import, is_instantiation, is_written, instantiations, IsThing, as_import, as_instantiation, as_alias, sort_of_kind, same_package, with_package, used_after, used_packages, package_bytes, IsArgument, given, AreArguments, HasItem, is_own_item, as_definition}
-use Rattle.wac_meaning.specs.Encoding.{HasComponent, IsArgumentItem, AreArgumentItems}
+use Rattle.wac_meaning.specs.Means.{node_is, is_import, is_instantiation, is_written, instantiations, IsThing, as_import, as_instantiation, as_alias, sort_of_kind, same_package, with_package, used_after, used_packages, package_bytes, IsArgument, given, AreArguments, HasItem, is_own_item, as_definition, asked}
+use Rattle.wac_meaning.specs.Beginning.{Places}
+use Rattle.wac_meaning.specs.Encoding.{HasComponent}
+use Rattle.wac_meaning.specs.Writing.{IsArgumentItem, of_node, of_import, AreArgumentItems}
 use Rattle.wac_edges.proofs.WrittenOrder.{has, minus, minus-true, same, same_itself, eqb_same, apart, in_list, in_push, now_in, slice_get-middle, written_left, only_place, has-filter}
-use Rattle.wac_meaning.proofs.ThingLemmas.{IsPlain, ready_sources}
-use Rattle.wac_meaning.proofs.MeantLemmas.{meant-push, AreUnknown, unknown-nested, unknown-instance, unknown-alias, alias_meant, something}
-use Rattle.wac_meaning.proofs.MeaningLemmas.{alias_stands, alias_rest, nested_bytes_more, nested_stands, instantiations_more, instance_stands, made_of, indexes-push}
+use Rattle.wac_meaning.proofs.ThingLemmas.{Stands, node_of_written, stands_apart, stood, ready_sources}
+use Rattle.wac_meaning.proofs.CoverLemmas.{IsKnown, known_export, known_alias}
+use Rattle.wac_meaning.proofs.MeantLemmas.{meant-push, alias_meant, something}
+use Rattle.wac_meaning.proofs.MeaningLemmas.{Laws, alias_stands, alias_bound, instance_bound, alias_rest, nested_bytes_more, nested_stands, instantiations_more, instance_stands, made_of, indexes-push}
 use Rattle.wac_meaning.proofs.DefinedLemmas.{IsMadeOf, AreMade}
-
--- how the laws of items are passed
-abbrev pub Counted : Type 0
-Counted = (items : List Item) (t : Sort) → length (things (meaning items) t) ≡ indexes (space t) items
-
-abbrev pub Earlier : Type 0
-Earlier = (items more : List Item) (t : Sort) (i : ℕ) → i < indexes (space t) items → stands_for (meaning (items ++ more)) t i ≡ stands_for (meaning items) t i
 
 clash : (b : Bool) → b ≡ true → b ≡ false → ⊥
 clash true _ h = cc
 clash false h _ = cc
 
-slice_get-push : {A : Type 0} (xs : List A) (x : A) (k : ℕ) (y : A) → slice_get (xs ++ x ∷ []) k ≡ Some y → (slice_get xs k ≡ Some y) ⊎ ((k ≡ length xs) × (y ≡ x))
+pub slice_get-push : {A : Type 0} (xs : List A) (x : A) (k : ℕ) (y : A) → slice_get (xs ++ x ∷ []) k ≡ Some y → (slice_get xs k ≡ Some y) ⊎ ((k ≡ length xs) × (y ≡ x))
 slice_get-push [] x zero y h = inr (refl, cc)
 slice_get-push [] x (suc k) y h = cc
 slice_get-push (z ∷ xs) x zero y h = inl h
@@ -114,43 +114,54 @@ first_of : {A B : Type 0} (o : Option (A × B)) (a b : A) (x y : B) → o ≡ So
 first_of {A} {B} o a b x y p q = ap (λ (z : Option (A × B)). option_case z a (λ (e : A × B). e.0)) (sym p ∙ q)
 
 -- an item that adds an index of a sort
-counted_up : (t : Sort) (items : List Item) (x : Item) → adds x ≡ Some (space t) → indexes (space t) items < indexes (space t) (items ++ x ∷ [])
+pub counted_up : (t : Sort) (items : List Item) (x : Item) → adds x ≡ Some (space t) → indexes (space t) items < indexes (space t) (items ++ x ∷ [])
 counted_up t items x is =
     let one : is_in (space t) (adds x) ≡ 1 = ap (is_in (space t)) is ∙ ap (λ b. cond b 1 0) (eqb_same (space t)) in
     omega (arith, indexes-push (space t) items x)
 
-module _ (counted : Counted) (earlier : Earlier) (g : Graph) (sound : IsSound g) (plain : IsPlain g) (order : List NodeId) (at : NodeId → Thing) (is_thing : (n : NodeId) (node : GraphNode) → node_at g n ≡ Some node → IsThing g at order n node) where
+module _ (laws : Laws) (g : Graph) (sound : IsSound g) (order : List NodeId) (at : NodeId → Thing) (is_thing : (n : NodeId) (node : GraphNode) → node_at g n ≡ Some node → IsThing g at order n node) (imported : List (Name × Tree)) (places : Places) where
   -- these items and indexes say what the nodes written so far stand for; `used` are the packages whose components are written
   pub record Written (done : List NodeId) (used : List PackageId) (items : List Item) (components : List (PackageId × ℕ)) (index : NodeId → ℕ) : Type 0 where
     pub nodes : (n : NodeId) → has done n ≡ true → is_written g n ≡ true
     pub meant : HasMeaning items
-    pub unknown : AreUnknown items
-    pub imports : (meaning items).imports ≡ []
+    pub imports : (meaning items).imports ≡ imported
     pub customs : (meaning items).customs ≡ []
     pub exports : (meaning items).exports ≡ []
     pub bytes : (meaning items).nested_bytes ≡ map (package_bytes g) used
     pub packages : map (λ e. e.0) components ≡ used
     pub numbers : (k : ℕ) (e : PackageId × ℕ) → slice_get components k ≡ Some e → (e.1 < indexes (space sort.Component) items) × (stands_for (meaning items) sort.Component e.1 ≡ component_at k)
     pub made : AreMade g at order (instantiations g done) (meaning items).instantiations
-    pub stand : (n : NodeId) (node : GraphNode) → has done n ≡ true → node_at g n ≡ Some node
+    pub asked_for : (p : ℕ) (t : Sort) (i : ℕ) → slice_get places p ≡ Some (t, i) → (i < indexes (space t) items) × (stands_for (meaning items) t i ≡ import_at p)
+    pub stand : (n : NodeId) (node : GraphNode) → Stands done n node → node_at g n ≡ Some node
         → (index n < indexes (space (sort_of_kind node.item_kind)) items) × (stands_for (meaning items) (sort_of_kind node.item_kind) (index n) ≡ at n)
+    pub known : (n : NodeId) (node : GraphNode) → Stands done n node → node_at g n ≡ Some node → (i : InterfaceId) → node.item_kind ≡ item.Instance i → IsKnown g.types i (bound_at (meaning items).scope.instances (index n))
     pub place : NodeId → ℕ
-    pub own : (n : NodeId) (node : GraphNode) → has done n ≡ true → node_at g n ≡ Some node → HasItem items node (index n) (place n)
+    pub own : (n : NodeId) (node : GraphNode) → Stands done n node → node_at g n ≡ Some node → is_import node.kind ≡ false → HasItem items node (index n) (place n)
     pub in_place : (i j : ℕ) (n m : NodeId) → i < j → slice_get done i ≡ Some n → slice_get done j ≡ Some m → place n < place m
 
   module _ (done : List NodeId) (used : List PackageId) (items : List Item) (components : List (PackageId × ℕ)) (index : NodeId → ℕ) (w : Written done used items components index) where
-    stand-push : (x : Item) (n : NodeId) (node : GraphNode) → has done n ≡ true → node_at g n ≡ Some node
+    stand-push : (x : Item) (n : NodeId) (node : GraphNode) → Stands done n node → node_at g n ≡ Some node
         → (index n < indexes (space (sort_of_kind node.item_kind)) (items ++ x ∷ [])) × (stands_for (meaning (items ++ x ∷ [])) (sort_of_kind node.item_kind) (index n) ≡ at n)
     stand-push x n node here there =
         let s = w.stand n node here there in
-        (omega (arith, s.0, indexes-push (space (sort_of_kind node.item_kind)) items x), earlier items (x ∷ []) (sort_of_kind node.item_kind) (index n) s.0 ∙ s.1)
+        (omega (arith, s.0, indexes-push (space (sort_of_kind node.item_kind)) items x), laws.earlier items (x ∷ []) (sort_of_kind node.item_kind) (index n) s.0 ∙ s.1)
+
+    known-push : (x : Item) (n : NodeId) (node : GraphNode) → Stands done n node → node_at g n ≡ Some node → (i : InterfaceId) → node.item_kind ≡ item.Instance i → IsKnown g.types i (bound_at (meaning (items ++ x ∷ [])).scope.instances (index n))
+    known-push x n node here there i is =
+        let within : index n < indexes (space sort.Instance) items = subst (λ (k : ItemKind). index n < indexes (space (sort_of_kind k)) items) is (w.stand n node here there).0 in
+        subst (IsKnown g.types i) (sym (laws.bounds_earlier items (x ∷ []) (index n) within)) (w.known n node here there i is)
+
+    asked-push : (x : Item) (p : ℕ) (t : Sort) (i : ℕ) → slice_get places p ≡ Some (t, i) → (i < indexes (space t) (items ++ x ∷ [])) × (stands_for (meaning (items ++ x ∷ [])) t i ≡ import_at p)
+    asked-push x p t i placed =
+        let s = w.asked_for p t i placed in
+        (omega (arith, s.0, indexes-push (space t) items x), laws.earlier items (x ∷ []) t i s.0 ∙ s.1)
 
     -- a component keeps its index
     kept_number : (x : Item) (k : ℕ) (e : PackageId × ℕ) → slice_get components k ≡ Some e
         → (e.1 < indexes (space sort.Component) (items ++ x ∷ [])) × (stands_for (meaning (items ++ x ∷ [])) sort.Component e.1 ≡ component_at k)
     kept_number x k e there =
         let n = w.numbers k e there in
-        (omega (arith, n.0, indexes-push (space sort.Component) items x), earlier items (x ∷ []) sort.Component e.1 n.0 ∙ n.1)
+        (omega (arith, n.0, indexes-push (space sort.Component) items x), laws.earlier items (x ∷ []) sort.Component e.1 n.0 ∙ n.1)
 
     -- a component more
     component_more : (id : PackageId) → list_any (same_package id) used ≡ false
@@ -161,7 +172,6 @@ module _ (counted : Counted) (earlier : Earlier) (g : Graph) (sound : IsSound g)
         record {
           nodes = w.nodes;
           meant = meant-push items (nested (package_bytes g id)) w.meant tt;
-          unknown = unknown-nested items w.unknown (package_bytes g id);
           imports = ap (λ r. r.imports) more ∙ w.imports;
           customs = ap (λ r. r.customs) more ∙ w.customs;
           exports = ap (λ r. r.exports) more ∙ w.exports;
@@ -169,9 +179,11 @@ module _ (counted : Counted) (earlier : Earlier) (g : Graph) (sound : IsSound g)
           packages = map-append (λ e. e.0) components ((id, indexes (space sort.Component) items) ∷ []) ∙ ap (λ us. us ++ id ∷ []) w.packages;
           numbers = λ k e at_k. numbers many k e (slice_get-push components (id, indexes (space sort.Component) items) k e at_k);
           made = subst (λ made. AreMade g at order (instantiations g done) made) (sym (ap (λ r. r.instantiations) more)) w.made;
+          asked_for = asked-push (nested (package_bytes g id));
           stand = stand-push (nested (package_bytes g id));
+          known = known-push (nested (package_bytes g id));
           place = w.place;
-          own = λ n node here there. HasItem-push items (nested (package_bytes g id)) node (index n) (w.place n) (w.own n node here there);
+          own = λ n node here there no_import. HasItem-push items (nested (package_bytes g id)) node (index n) (w.place n) (w.own n node here there no_import);
           in_place = w.in_place;
         } where
           numbers : length (meaning items).nested_bytes ≡ length components → (k : ℕ) (e : PackageId × ℕ)
@@ -181,7 +193,7 @@ module _ (counted : Counted) (earlier : Earlier) (g : Graph) (sound : IsSound g)
           numbers many k e (inr (last, is)) = (
             subst (λ j. j < indexes (space sort.Component) (items ++ nested (package_bytes g id) ∷ [])) (sym (ap (λ x. x.1) is)) (counted_up sort.Component items (nested (package_bytes g id)) refl),
             ap (stands_for (meaning (items ++ nested (package_bytes g id) ∷ [])) sort.Component) (ap (λ x. x.1) is)
-                ∙ nested_stands items (package_bytes g id) (indexes (space sort.Component) items) (sym (counted items sort.Component)) ∙ ap component_at (many ∙ sym last),
+                ∙ nested_stands items (package_bytes g id) (indexes (space sort.Component) items) (sym (laws.counted items sort.Component)) ∙ ap component_at (many ∙ sym last),
           )
 
   -- the component of a package, which is written where it was not
@@ -225,8 +237,12 @@ module _ (counted : Counted) (earlier : Earlier) (g : Graph) (sound : IsSound g)
     absent : has done n ≡ false
     absent = (minus-true (is_written g) done n ready.here).1
 
-    source_done : (e : Edge) → set.contains g.edges e ≡ true → e.target ≡ n → has done e.source ≡ true
-    source_done e stands leads = ready_sources g sound plain done n ready e stands leads
+    source_done : (e : Edge) → set.contains g.edges e ≡ true → e.target ≡ n → (source : GraphNode) → node_at g e.source ≡ Some source → Stands done e.source source
+    source_done e stands leads source source_there = ready_sources g done n ready e stands leads source source_there
+
+    -- another node than the next keeps its index
+    index_kept : (m : NodeId) (other : GraphNode) → Stands done m other → node_at g m ≡ Some other → index' m ≡ index m
+    index_kept m other was other_there = others m (stands_apart g done m n other ready.here other_there was)
 
     not_later : has later n ≡ false
     not_later = split (has later n) refl where
@@ -234,11 +250,11 @@ module _ (counted : Counted) (earlier : Earlier) (g : Graph) (sound : IsSound g)
       split false _ = refl
       split true is = absurd (clash (has (done ++ n ∷ []) n) (now_in done n) ((minus-true (is_written g) (done ++ n ∷ []) n (written_left g.edges (minus (is_written g) (done ++ n ∷ [])) later writes n is)).1))
 
-    -- facts on each node written so far and the next
-    each : (P : NodeId → GraphNode → Type 0) → ((m : NodeId) (other : GraphNode) → has done m ≡ true → node_at g m ≡ Some other → P m other) → P n node
-        → (m : NodeId) (other : GraphNode) → has (done ++ n ∷ []) m ≡ true → node_at g m ≡ Some other → P m other
-    each P before last m other within other_there = split (in_push done n m within) where
-      split : (m ≡ n) ⊎ (has done m ≡ true) → P m other
+    -- facts on each node that stands so far and the next
+    each : (P : NodeId → GraphNode → Type 0) → ((m : NodeId) (other : GraphNode) → Stands done m other → node_at g m ≡ Some other → P m other) → P n node
+        → (m : NodeId) (other : GraphNode) → Stands (done ++ n ∷ []) m other → node_at g m ≡ Some other → P m other
+    each P before last m other within other_there = split (stood done n m other within) where
+      split : (m ≡ n) ⊎ Stands done m other → P m other
       split (inl same) =
           let e : node ≡ other = let f : node_at g n ≡ Some other = ap (λ k. node_at g k) (sym same) ∙ other_there in cc in
           subst (λ k. P k other) (sym same) (subst (λ x. P n x) e last)
@@ -258,24 +274,22 @@ module _ (counted : Counted) (earlier : Earlier) (g : Graph) (sound : IsSound g)
     -- the last item is the node's own, and stands after the others
     placed : (used : List PackageId) (items : List Item) (components : List (PackageId × ℕ)) → Written done used items components index → (x : Item) → is_own_item node node.kind x ≡ true → sort_added x ≡ Some (sort_of_kind node.item_kind) → i ≡ indexes (space (sort_of_kind node.item_kind)) items
         → (place : NodeId → ℕ)
-        × ((m : NodeId) (other : GraphNode) → has (done ++ n ∷ []) m ≡ true → node_at g m ≡ Some other → HasItem (items ++ x ∷ []) other (index' m) (place m))
+        × ((m : NodeId) (other : GraphNode) → Stands (done ++ n ∷ []) m other → node_at g m ≡ Some other → is_import other.kind ≡ false → HasItem (items ++ x ∷ []) other (index' m) (place m))
         × ((a b : ℕ) (k m : NodeId) → a < b → slice_get (done ++ n ∷ []) a ≡ Some k → slice_get (done ++ n ∷ []) b ≡ Some m → place k < place m)
     placed used items components w x own sorted counts = (
       place' w.place (length items),
-      each (λ m other. HasItem (items ++ x ∷ []) other (index' m) (place' w.place (length items) m))
-          (λ m other was other_there.
-          let apart_ = apart done m n was absent in
-          subst (λ k. HasItem (items ++ x ∷ []) other (index' m) k) (sym (place-other w.place (length items) m apart_))
-          (subst (λ k. HasItem (items ++ x ∷ []) other k (w.place m)) (sym (others m apart_)) (HasItem-push items x other (index m) (w.place m) (w.own m other was other_there))))
-          (subst (λ k. HasItem (items ++ x ∷ []) node (index' n) k) (sym (place-here w.place (length items)))
+      each (λ m other. is_import other.kind ≡ false → HasItem (items ++ x ∷ []) other (index' m) (place' w.place (length items) m))
+          (λ m other was other_there no_import.
+          subst (λ k. HasItem (items ++ x ∷ []) other (index' m) k) (sym (place-other w.place (length items) m (stands_apart g done m n other ready.here other_there was)))
+          (subst (λ k. HasItem (items ++ x ∷ []) other k (w.place m)) (sym (index_kept m other was other_there)) (HasItem-push items x other (index m) (w.place m) (w.own m other was other_there no_import))))
+          (λ no_import. subst (λ k. HasItem (items ++ x ∷ []) node (index' n) k) (sym (place-here w.place (length items)))
           (record { it = x; before = items; after = []; split = refl; here = refl; own = own; adds = sorted; counted = now ∙ counts })),
       λ a b k m less at_a at_b. rising a b k m less (slice_get-push done n a k at_a) (slice_get-push done n b m at_b),
     ) where
       within : (k : NodeId) → has done k ≡ true → w.place k < length items
-      within k was = bound (node_at g k) refl where
-        bound : (o : Option GraphNode) → node_at g k ≡ o → w.place k < length items
-        bound (Some other) is = HasItem-within items other (index k) (w.place k) (w.own k other was is)
-        bound None is = absurd (clash (is_written g k) (w.nodes k was) (ap (λ o. option_case o false (λ x. not (is_import x.kind))) is))
+      within k was =
+          let (other, other_there, no_import) = node_of_written g k (w.nodes k was) in
+          HasItem-within items other (index k) (w.place k) (w.own k other (inr was) other_there no_import)
 
       rising : (a b : ℕ) (k m : NodeId) → a < b → (slice_get done a ≡ Some k) ⊎ ((a ≡ length done) × (k ≡ n)) → (slice_get done b ≡ Some m) ⊎ ((b ≡ length done) × (m ≡ n)) → place' w.place (length items) k < place' w.place (length items) m
       rising a b k m less (inl at_a) (inl at_b) =
@@ -308,8 +322,7 @@ module _ (counted : Counted) (earlier : Earlier) (g : Graph) (sound : IsSound g)
         let (place, own, in_place) = placed used items components w x (ap (λ q. is_own_item node q x) kind) refl counts in
         record {
           nodes = λ m within. nodes m (in_push done n m within);
-          meant = meant-push items x w.meant (alias_meant items w.unknown t (index instance) name (subst IsSomething (sym of_instance) (something g at order instance source (is_thing instance source source_there))));
-          unknown = unknown-alias items w.unknown t (index instance) name;
+          meant = meant-push items x w.meant (alias_meant items t (index instance) name (subst IsSomething (sym of_instance) (something g at order instance source (is_thing instance source source_there))) has_export);
           imports = ap (λ r. r.imports) more ∙ w.imports;
           customs = ap (λ r. r.customs) more ∙ w.customs;
           exports = ap (λ r. r.exports) more ∙ w.exports;
@@ -318,11 +331,15 @@ module _ (counted : Counted) (earlier : Earlier) (g : Graph) (sound : IsSound g)
           numbers = kept_number done used items components index w x;
           made = subst (λ ns. AreMade g at order ns (meaning (items ++ x ∷ [])).instantiations) (sym (instantiations-push false (kind_test false (ap is_instantiation kind)) ∙ rw append-nil refl))
               (subst (λ made. AreMade g at order (instantiations g done) made) (sym (ap (λ r. r.instantiations) more)) w.made);
+          asked_for = asked-push done used items components index w x;
           stand = each (λ m other. (index' m < indexes (space (sort_of_kind other.item_kind)) (items ++ x ∷ [])) × (stands_for (meaning (items ++ x ∷ [])) (sort_of_kind other.item_kind) (index' m) ≡ at m))
               (λ m other was other_there.
               let s = stand-push done used items components index w x m other was other_there in
-              subst (λ j. (j < indexes (space (sort_of_kind other.item_kind)) (items ++ x ∷ [])) × (stands_for (meaning (items ++ x ∷ [])) (sort_of_kind other.item_kind) j ≡ at m)) (sym (others m (apart done m n was absent))) s)
+              subst (λ j. (j < indexes (space (sort_of_kind other.item_kind)) (items ++ x ∷ [])) × (stands_for (meaning (items ++ x ∷ [])) (sort_of_kind other.item_kind) j ≡ at m)) (sym (index_kept m other was other_there)) s)
               (subst (λ j. (j < indexes (space t) (items ++ x ∷ [])) × (stands_for (meaning (items ++ x ∷ [])) t j ≡ at n)) (sym (now ∙ counts)) here_stands);
+          known = each (λ m other. (i : InterfaceId) → other.item_kind ≡ item.Instance i → IsKnown g.types i (bound_at (meaning (items ++ x ∷ [])).scope.instances (index' m)))
+              (λ m other was other_there i is. subst (λ j. IsKnown g.types i (bound_at (meaning (items ++ x ∷ [])).scope.instances j)) (sym (index_kept m other was other_there)) (known-push done used items components index w x m other was other_there i is))
+              here_known;
           place = place;
           own = own;
           in_place = in_place;
@@ -332,20 +349,23 @@ module _ (counted : Counted) (earlier : Earlier) (g : Graph) (sound : IsSound g)
           nodes m (inr was) = w.nodes m was
 
           -- what is no instance exports nothing
-          no_instance : (q : ItemKind) (z : GraphNode) → z.item_kind ≡ q → exports_of g z ≡ [] → slice_get (exports_of g z) k ≡ Some (name, node.item_kind) → sort_of_kind q ≡ sort.Instance
-          no_instance q z is none found = absurd (nothing_there (exports_of g z) none found) where
+          no_exports : (z : GraphNode) → exports_of g z ≡ [] → slice_get (exports_of g z) k ≡ Some (name, node.item_kind) → ⊥
+          no_exports z none found = nothing_there (exports_of g z) none found where
             nothing_there : (es : List (Name × ItemKind)) → es ≡ [] → slice_get es k ≡ Some (name, node.item_kind) → ⊥
             nothing_there [] none found = cc
             nothing_there (e ∷ es) none found = cc
 
-          -- an instance stands where instances do
-          instance_sort : (q : ItemKind) (z : GraphNode) → z.item_kind ≡ q → slice_get (exports_of g z) k ≡ Some (name, node.item_kind) → sort_of_kind q ≡ sort.Instance
-          instance_sort (item.TypeItem t) z is found = no_instance (item.TypeItem t) z is (rw is refl) found
-          instance_sort (item.Func f) z is found = no_instance (item.Func f) z is (rw is refl) found
-          instance_sort (item.Instance j) z is found = refl
-          instance_sort (item.Component u) z is found = no_instance (item.Component u) z is (rw is refl) found
-          instance_sort (item.Module m) z is found = no_instance (item.Module m) z is (rw is refl) found
-          instance_sort (item.Value v) z is found = no_instance (item.Value v) z is (rw is refl) found
+          exports_are : (z : GraphNode) (j : InterfaceId) → z.item_kind ≡ item.Instance j → exports_of g z ≡ interface_exports g.types j
+          exports_are z j is = rw is refl
+
+          -- an interface of which the source is an instance
+          instance_of : (q : ItemKind) (z : GraphNode) → z.item_kind ≡ q → slice_get (exports_of g z) k ≡ Some (name, node.item_kind) → (j : InterfaceId) × (z.item_kind ≡ item.Instance j) × (slice_get (interface_exports g.types j) k ≡ Some (name, node.item_kind))
+          instance_of (item.TypeItem t) z is found = absurd (no_exports z (rw is refl) found)
+          instance_of (item.Func f) z is found = absurd (no_exports z (rw is refl) found)
+          instance_of (item.Instance j) z is found = (j, is, subst (λ (es : List (Name × ItemKind)). slice_get es k ≡ Some (name, node.item_kind)) (exports_are z j is) found)
+          instance_of (item.Component u) z is found = absurd (no_exports z (rw is refl) found)
+          instance_of (item.Module m) z is found = absurd (no_exports z (rw is refl) found)
+          instance_of (item.Value v) z is found = absurd (no_exports z (rw is refl) found)
 
           -- what the alias is
           is_projection : IsThing g at order n node → at n ≡ projection (at instance) name
@@ -364,18 +384,37 @@ module _ (counted : Counted) (earlier : Earlier) (g : Graph) (sound : IsSound g)
               let names : name ≡ other_name = first_of (slice_get (exports_of g source) k) name other_name node.item_kind node.item_kind exported (ap (λ z. slice_get (exports_of g z) k) sources ∙ ap (slice_get (exports_of g other_source)) at_same ∙ other_exported) in
               is ∙ ap (λ z. projection (at z) other_name) (sym same) ∙ ap (projection (at instance)) (sym names)
 
-          -- the instance is written
+          source_stands : Stands done instance source
+          source_stands = source_done (alias_edge instance n k) aliased refl source source_there
+
+          -- the instance stands
           of_instance : stands_for (meaning items) sort.Instance (index instance) ≡ at instance
           of_instance =
-              let s = w.stand instance source (source_done (alias_edge instance n k) aliased refl) source_there in
-              ap (λ q. stands_for (meaning items) q (index instance)) (sym (instance_sort source.item_kind source refl exported)) ∙ s.1
+              let (j, is, _) = instance_of source.item_kind source refl exported in
+              ap (λ q. stands_for (meaning items) (sort_of_kind q) (index instance)) (sym is) ∙ (w.stand instance source source_stands source_there).1
+
+          -- and may have the export
+          has_export : HasExport (sort_of_kind node.item_kind) (bound_at (meaning items).scope.instances (index instance)).type name
+          has_export =
+              let (j, is, found) = instance_of source.item_kind source refl exported in
+              known_export g.types j (bound_at (meaning items).scope.instances (index instance)) k name node.item_kind (w.known instance source source_stands source_there j is) found
+
+          here_known : (l : InterfaceId) → node.item_kind ≡ item.Instance l → IsKnown g.types l (bound_at (meaning (items ++ alias_item (export_alias (sort_of_kind node.item_kind) (index instance) name) ∷ [])).scope.instances (index' n))
+          here_known l is_instance =
+              let (j, is, found) = instance_of source.item_kind source refl exported in
+              let b = bound_at (meaning items).scope.instances (index instance) in
+              let here : IsKnown g.types l (bound_at (meaning (items ++ alias_item (export_alias sort.Instance (index instance) name) ∷ [])).scope.instances (indexes (space sort.Instance) items)) =
+              subst (IsKnown g.types l) (sym (alias_bound laws items (index instance) name))
+              (known_alias g.types j l b k name (w.known instance source source_stands source_there j is) (found ∙ ap (λ (q : ItemKind). Some (name, q)) is_instance)) in
+              subst (λ q. IsKnown g.types l (bound_at (meaning (items ++ alias_item (export_alias (sort_of_kind node.item_kind) (index instance) name) ∷ [])).scope.instances q)) (sym (now ∙ counts))
+              (subst (λ (q : ItemKind). IsKnown g.types l (bound_at (meaning (items ++ alias_item (export_alias (sort_of_kind q) (index instance) name) ∷ [])).scope.instances (indexes (space (sort_of_kind q)) items))) (sym is_instance) here)
 
           here_stands : (indexes (space (sort_of_kind node.item_kind)) items < indexes (space (sort_of_kind node.item_kind)) (items ++ alias_item (export_alias (sort_of_kind node.item_kind) (index instance) name) ∷ []))
               × (stands_for (meaning (items ++ alias_item (export_alias (sort_of_kind node.item_kind) (index instance) name) ∷ [])) (sort_of_kind node.item_kind) (indexes (space (sort_of_kind node.item_kind)) items) ≡ at n)
           here_stands =
               let t : Sort = sort_of_kind node.item_kind in (
                 counted_up t items (alias_item (export_alias t (index instance) name)) refl,
-                alias_stands items t (index instance) name (indexes (space t) items) (sym (counted items t))
+                alias_stands items t (index instance) name (indexes (space t) items) (sym (laws.counted items t)) has_export
                     ∙ ap (λ z. projected z name) of_instance
                     ∙ projected_thing instance source name (is_thing instance source source_there)
                     ∙ sym (is_projection (is_thing n node there)),
@@ -392,7 +431,7 @@ module _ (counted : Counted) (earlier : Earlier) (g : Graph) (sound : IsSound g)
     pub instance_more : (used : List PackageId) (items : List Item) (components : List (PackageId × ℕ)) (id : PackageId) (c place : ℕ) (arguments : List (Name × Sort × ℕ)) → Written done used items components index
         → node.kind ≡ graph.instantiation → node.owner ≡ Some id → slice_get (used_packages g order) place ≡ Some id → stands_for (meaning items) sort.Component c ≡ component_at place
         → sort_of_kind node.item_kind ≡ sort.Instance
-        → AreArgumentItems g index n 0 (imports_of g node) arguments
+        → AreArgumentItems g places index n 0 (imports_of g node) arguments
         → i ≡ indexes (space sort.Instance) items
         → Written (done ++ n ∷ []) used (items ++ instantiate c arguments ∷ []) components index'
     instance_more used items components id c k arguments w kind owned first stands typed given_items counts =
@@ -402,7 +441,6 @@ module _ (counted : Counted) (earlier : Earlier) (g : Graph) (sound : IsSound g)
         record {
           nodes = λ m within. nodes m (in_push done n m within);
           meant = meant-push items x w.meant (subst IsSomething (sym stands) tt, arguments_meant 0 (imports_of g node) arguments given_items);
-          unknown = unknown-instance items w.unknown c arguments;
           imports = ap (λ r. r.imports) more ∙ w.imports;
           customs = ap (λ r. r.customs) more ∙ w.customs;
           exports = ap (λ r. r.exports) more ∙ w.exports;
@@ -412,12 +450,16 @@ module _ (counted : Counted) (earlier : Earlier) (g : Graph) (sound : IsSound g)
           made = subst (λ ns. AreMade g at order ns (meaning (items ++ x ∷ [])).instantiations) (sym (instantiations-push true (kind_test true (ap is_instantiation kind))))
               (subst (λ made. AreMade g at order (instantiations g done ++ n ∷ []) made) (sym (ap (λ r. r.instantiations) more))
               (are_push (instantiations g done) (meaning items).instantiations w.made this));
+          asked_for = asked-push done used items components index w x;
           stand = each (λ m other. (index' m < indexes (space (sort_of_kind other.item_kind)) (items ++ x ∷ [])) × (stands_for (meaning (items ++ x ∷ [])) (sort_of_kind other.item_kind) (index' m) ≡ at m))
               (λ m other was other_there.
               let s = stand-push done used items components index w x m other was other_there in
-              subst (λ j. (j < indexes (space (sort_of_kind other.item_kind)) (items ++ x ∷ [])) × (stands_for (meaning (items ++ x ∷ [])) (sort_of_kind other.item_kind) j ≡ at m)) (sym (others m (apart done m n was absent))) s)
+              subst (λ j. (j < indexes (space (sort_of_kind other.item_kind)) (items ++ x ∷ [])) × (stands_for (meaning (items ++ x ∷ [])) (sort_of_kind other.item_kind) j ≡ at m)) (sym (index_kept m other was other_there)) s)
               (subst (λ j. (j < indexes (space (sort_of_kind node.item_kind)) (items ++ x ∷ [])) × (stands_for (meaning (items ++ x ∷ [])) (sort_of_kind node.item_kind) j ≡ at n)) (sym (now ∙ counts))
               (subst (λ t. (indexes (space sort.Instance) items < indexes (space t) (items ++ x ∷ [])) × (stands_for (meaning (items ++ x ∷ [])) t (indexes (space sort.Instance) items) ≡ at n)) (sym typed) here_stands));
+          known = each (λ m other. (i : InterfaceId) → other.item_kind ≡ item.Instance i → IsKnown g.types i (bound_at (meaning (items ++ x ∷ [])).scope.instances (index' m)))
+              (λ m other was other_there i is. subst (λ j. IsKnown g.types i (bound_at (meaning (items ++ x ∷ [])).scope.instances j)) (sym (index_kept m other was other_there)) (known-push done used items components index w x m other was other_there i is))
+              (λ i is. inl (ap (λ j. (bound_at (meaning (items ++ x ∷ [])).scope.instances j).type) (now ∙ counts) ∙ ap (λ (b : Bound). b.type) (instance_bound laws items c arguments)));
           place = place;
           own = own;
           in_place = in_place;
@@ -438,28 +480,34 @@ module _ (counted : Counted) (earlier : Earlier) (g : Graph) (sound : IsSound g)
           are_many (m ∷ ns) [] h = absurd h
           are_many (m ∷ ns) (y ∷ its) h = ap suc (are_many ns its h.1)
 
-          argument_is : (j : ℕ) (name : Name) (a : Name × Sort × ℕ) (h : IsArgumentItem g index n j name a) → stands_for (meaning items) a.1 a.2 ≡ at h.source
-          argument_is j name a h =
-              let s = w.stand h.source h.node (source_done (argument_edge (h.source) n j) h.given refl) h.there in
-              ap (λ t. stands_for (meaning items) t a.2) h.of_sort ∙ ap (stands_for (meaning items) (sort_of_kind (h.node).item_kind)) h.placed ∙ s.1
+          node_stands : (j : ℕ) (source : NodeId) (other : GraphNode) (a : Name × Sort × ℕ) → IsArgumentOf g n j source → node_at g source ≡ Some other → a.1 ≡ sort_of_kind other.item_kind → a.2 ≡ index source → stands_for (meaning items) a.1 a.2 ≡ at source
+          node_stands j source other a set_ other_there of_sort at_index =
+              let s = w.stand source other (source_done (argument_edge source n j) set_ refl other other_there) other_there in
+              ap (λ t. stands_for (meaning items) t a.2) of_sort ∙ ap (stands_for (meaning items) (sort_of_kind other.item_kind)) at_index ∙ s.1
 
-          argument_thing : (j : ℕ) (name : Name) (a : Name × Sort × ℕ) → IsArgumentItem g index n j name a → IsArgument g at n j name (stands_for (meaning items) a.1 a.2)
-          argument_thing j name a h = subst (λ t. IsArgument g at n j name t) (sym (argument_is j name a h)) (given h.source h.given)
+          argument_named : (j : ℕ) (name : Name) (a : Name × Sort × ℕ) → IsArgumentItem g places index n j name a → a.0 ≡ name
+          argument_named j name a (of_node source other is set_ other_there of_sort at_index) = is
+          argument_named j name a (of_import is unset_ there_) = is
 
-          arguments_meant : (j : ℕ) (imports : List (Name × ItemKind)) (as_ : List (Name × Sort × ℕ)) → AreArgumentItems g index n j imports as_ → AllByRecursion (λ a. IsSomething (stands_for (meaning items) a.1 a.2)) as_
+          argument_thing : (j : ℕ) (name : Name) (a : Name × Sort × ℕ) → IsArgumentItem g places index n j name a → IsArgument g at n j name (stands_for (meaning items) a.1 a.2)
+          argument_thing j name a (of_node source other is set_ other_there of_sort at_index) = subst (λ t. IsArgument g at n j name t) (sym (node_stands j source other a set_ other_there of_sort at_index)) (given source set_)
+          argument_thing j name a (of_import is unset_ there_) = subst (λ t. IsArgument g at n j name t) (sym (w.asked_for there_.p a.1 a.2 there_.placed).1) (asked there_.p unset_ there_.fell)
+
+          argument_meant : (j : ℕ) (name : Name) (a : Name × Sort × ℕ) → IsArgumentItem g places index n j name a → IsSomething (stands_for (meaning items) a.1 a.2)
+          argument_meant j name a (of_node source other is set_ other_there of_sort at_index) = subst IsSomething (sym (node_stands j source other a set_ other_there of_sort at_index)) (something g at order source other (is_thing source other other_there))
+          argument_meant j name a (of_import is unset_ there_) = subst IsSomething (sym (w.asked_for there_.p a.1 a.2 there_.placed).1) tt
+
+          arguments_meant : (j : ℕ) (imports : List (Name × ItemKind)) (as_ : List (Name × Sort × ℕ)) → AreArgumentItems g places index n j imports as_ → AllByRecursion (λ a. IsSomething (stands_for (meaning items) a.1 a.2)) as_
           arguments_meant j [] [] h = tt
           arguments_meant j [] (a ∷ as_) h = absurd h
           arguments_meant j (e ∷ imports) [] h = absurd h
-          arguments_meant j (e ∷ imports) (a ∷ as_) h = (
-            subst IsSomething (sym (argument_is j e.0 a h.0)) (something g at order h.0.source h.0.node (is_thing h.0.source h.0.node h.0.there)),
-            arguments_meant (suc j) imports as_ h.1,
-          )
+          arguments_meant j (e ∷ imports) (a ∷ as_) h = (argument_meant j e.0 a h.0, arguments_meant (suc j) imports as_ h.1)
 
-          are_arguments : (j : ℕ) (imports : List (Name × ItemKind)) (as_ : List (Name × Sort × ℕ)) → AreArgumentItems g index n j imports as_ → AreArguments g at n j imports (map (λ a. (a.0, stands_for (meaning items) a.1 a.2)) as_)
+          are_arguments : (j : ℕ) (imports : List (Name × ItemKind)) (as_ : List (Name × Sort × ℕ)) → AreArgumentItems g places index n j imports as_ → AreArguments g at n j imports (map (λ a. (a.0, stands_for (meaning items) a.1 a.2)) as_)
           are_arguments j [] [] h = tt
           are_arguments j [] (a ∷ as_) h = absurd h
           are_arguments j (e ∷ imports) [] h = absurd h
-          are_arguments j (e ∷ imports) (a ∷ as_) h = (h.0.named, argument_thing j e.0 a h.0, are_arguments (suc j) imports as_ h.1)
+          are_arguments j (e ∷ imports) (a ∷ as_) h = (argument_named j e.0 a h.0, argument_thing j e.0 a h.0, are_arguments (suc j) imports as_ h.1)
 
           this : IsMadeOf g at order n (made_of (meaning items) c arguments)
           this = record { node = node; there = there; owner = id; owned = owned; place = k; used = first; component = stands; arguments = are_arguments 0 (imports_of g node) arguments given_items }
@@ -480,7 +528,7 @@ module _ (counted : Counted) (earlier : Earlier) (g : Graph) (sound : IsSound g)
               × (stands_for (meaning (items ++ instantiate c arguments ∷ [])) sort.Instance (indexes (space sort.Instance) items) ≡ at n)
           here_stands = (
             counted_up sort.Instance items (instantiate c arguments) refl,
-            instance_stands items c arguments (indexes (space sort.Instance) items) (sym (counted items sort.Instance))
+            instance_stands items c arguments (indexes (space sort.Instance) items) (sym (laws.counted items sort.Instance))
                 ∙ ap instance_at (are_many (instantiations g done) (meaning items).instantiations w.made)
                 ∙ sym (is_instance (is_thing n node there)),
           )

@@ -4,7 +4,7 @@ use Rattle.std.proofs.Common.{refl, ap, ◌∙◌, sym, subst}
 use Rattle.wac_shapes.specs.Name.{Name}
 use Rattle.wac_shapes.specs.declared.component.DefinedTypeId.{DefinedTypeId}
 use Rattle.wac_shapes.specs.declared.component.ValueType.TheVariants as val
-use Rattle.wac_collection.specs.Tree.{Tree, type_equal, function_item, module_item}
+use Rattle.wac_collection.specs.Tree.{Tree, type_equal, function_item, instance_item, module_item}
 use Rattle.wac_collection.specs.Uses.{same_value}
 use Rattle.wac_collection.specs.Collection.{Collection}
 use Rattle.wac_collection.specs.Bound.{Bindings}
@@ -13,7 +13,7 @@ use Rattle.wac_binary.specs.declared.sorts.Sort.{Sort}
 use Rattle.wac_binary.specs.declared.sorts.Sort.TheVariants as s
 use Rattle.wac_binary.specs.Items.{Item}
 use Rattle.wac_binary.specs.Indexes.{space}
-use Rattle.wac_binary.specs.HasMeaning.{IsType, IsFunction, IsModule}
+use Rattle.wac_binary.specs.HasMeaning.{IsType, IsFunction, IsInstance, IsModule}
 use Rattle.wac_binary.specs.Meaning.{import_at, stands_for, meaning}
 use Rattle.wac_scopes.specs.declared.encodable.Encodable.{Encodable}
 use Rattle.wac_scopes.specs.declared.encodable.Encodable.TheVariants.{Builder, Instance, Component}
@@ -21,8 +21,8 @@ use Rattle.wac_scopes.specs.declared.scope.Scope.{Scope}
 use Rattle.wac_scopes.specs.Contents.{content_of, items_of, IsRoot, and_import, count}
 use Rattle.wac_scopes.specs.Scopes.{at_type, Open, Stack, env, envs, remember_at}
 use Rattle.wac_scopes.specs.Good.{At, Good, top, Onward}
-use Rattle.wac_scopes.specs.Instances.{holding, IsNewImport, ImportsType, ImportsFunc, ImportsModule, ListsImport}
-use Rattle.wac_scopes.specs.Scoped.{value_index, recorded_value, opened, RootImports, RootImportsType, RootImportsValue, RootImportsFunction, RootImportsModule}
+use Rattle.wac_scopes.specs.Instances.{holding, IsNewImport, ImportsInstance, ImportsType, ImportsFunc, ImportsModule, ListsImport}
+use Rattle.wac_scopes.specs.Scoped.{value_index, recorded_value, opened, imported_at, RootImports, RootImportsType, RootImportsValue, RootImportsFunction, RootImportsInstance, RootImportsModule}
 use Rattle.wac_scopes.proofs.ContentLaws.{filled}
 use Rattle.wac_scopes.proofs.Grow.{at-type_at}
 use Rattle.wac_scopes.proofs.Meant.{value-type}
@@ -72,6 +72,18 @@ ImportsModuleIn x y n i k = (c : Collection) (m : Bindings) (ms : List Bindings)
     → Good c (m ∷ ms) (filled x o ∷ os) → IsNewImport (items_of x) n → IsModule t → At ((env (filled x o) (envs os)).core_types) i t
     → Imported c (m ∷ ms) x y o os s.CoreModule k n (module_item t)
 
+abbrev ImportsInstanceIn : Encodable → Encodable → Name → ℕ → ℕ → Type 0
+ImportsInstanceIn x y n i k = (c : Collection) (m : Bindings) (ms : List Bindings) (o : Open) (os : Stack) (t : Tree)
+    → Good c (m ∷ ms) (filled x o ∷ os) → IsNewImport (items_of x) n → IsInstance t → At ((env (filled x o) (envs os)).types) i t
+    → Imported c (m ∷ ms) x y o os s.Instance k n (instance_item t) × At ((env (filled y o) (envs os)).instances) k (imported_at t (items_of x))
+
+instance-in : ImportsInstance → ListsImport → (x : Encodable) (n : Name) (i : ℕ) → IsRoot x → ImportsInstanceIn x (and_import x n (e.Instance i)) n i (count (space s.Instance) x)
+instance-in law lists (Builder items) n i h = λ c m ms o os t g new inst at.
+    alone (λ ms os. Imported c (m ∷ ms) (Builder items) (and_import (Builder items) n (e.Instance i)) o os s.Instance (count (space s.Instance) (Builder items)) n (instance_item t) × At ((env (filled (and_import (Builder items) n (e.Instance i)) o) (envs os)).instances) (count (space s.Instance) (Builder items)) (imported_at t items)) c m ms items o os g
+    (λ g. let r = law c m items o n i t g new inst at in ((r.0, (lists items n (e.Instance i)).0 ∙ ap (λ (u : Tree). (meaning items).imports ++ (n, instance_item u) ∷ []) (at-type_at (meaning items).scope.types i t at), (lists items n (e.Instance i)).1), r.1))
+instance-in law lists (Instance ds) n i h = absurd h
+instance-in law lists (Component ds) n i h = absurd h
+
 module-in : ImportsModule → ListsImport → (x : Encodable) (n : Name) (i : ℕ) → IsRoot x → ImportsModuleIn x (and_import x n (e.CoreModule i)) n i (count (space s.CoreModule) x)
 module-in law lists (Builder items) n i h = λ c m ms o os t g new module_type at.
     alone (λ ms os. Imported c (m ∷ ms) (Builder items) (and_import (Builder items) n (e.CoreModule i)) o os s.CoreModule (count (space s.CoreModule) (Builder items)) n (module_item t)) c m ms items o os g
@@ -108,3 +120,9 @@ pub imports-core-module : (old : Scope) (x : Encodable) (n : Name) (i k : ℕ) �
 imports-core-module old x n i k law lists is_root index appended c m ms o os t g new module_type at =
     let into : ImportsModuleIn old.content x n i k = subst (λ (z : Encodable). ImportsModuleIn old.content z n i k) (sym appended) (subst (λ (j : ℕ). ImportsModuleIn old.content (and_import old.content n (e.CoreModule i)) n i j) (sym index) (module-in law lists old.content n i is_root)) in
     as-imports c (m ∷ ms) old x o os s.CoreModule k n (module_item t) (into c m ms (record o { memo = recorded_value old }) os t g new module_type at)
+
+pub imports-instance-item : (old : Scope) (x : Encodable) (n : Name) (i k : ℕ) → ImportsInstance → ListsImport → IsRoot old.content → k ≡ count (space s.Instance) old.content → x ≡ and_import old.content n (e.Instance i) → RootImportsInstance old (record old { content = x }) n i k
+imports-instance-item old x n i k law lists is_root index appended c m ms o os t g new inst at =
+    let into : ImportsInstanceIn old.content x n i k = subst (λ (z : Encodable). ImportsInstanceIn old.content z n i k) (sym appended) (subst (λ (j : ℕ). ImportsInstanceIn old.content (and_import old.content n (e.Instance i)) n i j) (sym index) (instance-in law lists old.content n i is_root)) in
+    let r = into c m ms (record o { memo = recorded_value old }) os t g new inst at in
+    (as-imports c (m ∷ ms) old x o os s.Instance k n (instance_item t) r.0, r.1)

@@ -1,5 +1,5 @@
 -- What is written keeps its meaning, and so its scope, while the scopes around it grow; and one more item with a meaning leaves it one.
-use Rattle.std.specs.Prelude.{ℕ, zero, suc, ◌≡◌, ◌<◌, true, false, List, [], ◌∷◌, ◌++◌, length, Some, None}
+use Rattle.std.specs.Prelude.{ℕ, zero, suc, ◌≡◌, ◌<◌, Bool, true, false, T, if◌then◌else◌, List, [], ◌∷◌, ◌++◌, length, Some, None}
 use Rattle.std.proofs.Common.{refl, ap, ◌∙◌, sym, subst, arith}
 use Rattle.wac_shapes.specs.Name.{Name}
 use Rattle.wac_collection.specs.Tree.{Side, Place, Tree, absent, resource, function, instance, component, fresh, type_equal, taken_from, items_in}
@@ -8,7 +8,7 @@ use Rattle.wac_binary.specs.declared.sorts.Description.TheVariants as e
 use Rattle.wac_binary.specs.Items.{TypeDef, decls, type_decl, alias_decl, Item, custom, core_type, nested, instantiate, alias_item, type_item, import_item, export_item, export_alias, outer_alias}
 use Rattle.wac_binary.specs.Indexes.{space, indexes}
 use Rattle.wac_binary.specs.Unfold.{Scope, Bound, scope_at, type_at, bound_at, bound_type}
-use Rattle.wac_binary.specs.Meaning.{Thing, nothing, import_at, projection, instance_at, component_at, written, Root, start, thing_at, things, stands_for, projected, read, read_all, meaning}
+use Rattle.wac_binary.specs.Meaning.{Thing, nothing, import_at, projection, instance_at, component_at, written, Root, start, thing_at, things, stands_for, projected, may_export, aliased_thing, read, read_all, meaning}
 use Rattle.wac_binary.specs.Growth.{Grows, AllGrow}
 use Rattle.wac_binary.specs.HasMeaning.{IsValue, IsType, IsOfSort, IsSomething, HasExport, HasMeaning, AllHaveMeaning, ItemHasMeaning, TypeHasMeaning}
 use Rattle.wac_scopes.specs.Reads.{Reads}
@@ -73,12 +73,17 @@ projected-something (instance_at i) n h = tt
 projected-something (component_at i) n h = tt
 projected-something (written t) n h = tt
 
+-- an alias that has a meaning stands for its export
+shown-where : (b : Bool) (x : Thing) → T b → IsSomething x → IsSomething (if b then x else nothing)
+shown-where true x h g = g
+shown-where false x h g = absurd h
+
 something-read : (r : Root) (x : Item) → AllSomething r.instances → ItemHasMeaning r x → AllSomething (read r x).instances
 something-read r (custom n bs) h g = h
 something-read r (core_type m) h g = h
 something-read r (nested bs) h g = h
 something-read r (instantiate i args) h g = and-something r.instances (instance_at (length r.instantiations)) h tt
-something-read r (alias_item (export_alias s.Instance i n)) h g = and-something r.instances (projected (stands_for r s.Instance i) n) h (projected-something (stands_for r s.Instance i) n g.0)
+something-read r (alias_item (export_alias s.Instance i n)) h g = and-something r.instances (aliased_thing (bound_at r.scope.instances i) s.Instance (stands_for r s.Instance i) n) h (shown-where (may_export s.Instance (bound_at r.scope.instances i).type n) (projected (stands_for r s.Instance i) n) g.1 (projected-something (stands_for r s.Instance i) n g.0))
 something-read r (alias_item (export_alias t i n)) h g = h
 something-read r (alias_item (outer_alias s.Instance k i)) h g = absurd g
 something-read r (alias_item (outer_alias t k i)) h g = h

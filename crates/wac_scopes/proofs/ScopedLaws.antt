@@ -12,7 +12,7 @@ use Rattle.wac_collection.specs.Uses.{same_value}
 use Rattle.wac_binary.specs.declared.types.ComponentValType.TheVariants.{Primitive, Index}
 use Rattle.wac_binary.specs.declared.sorts.Sort.TheVariants as s
 use Rattle.wac_binary.specs.declared.sorts.Description.TheVariants as e
-use Rattle.wac_binary.specs.Items.{ValueDef, TypeDef, ModuleDecl, value_def, primitive_def}
+use Rattle.wac_binary.specs.Items.{ValueDef, TypeDef, ModuleDecl, Decl, decls, value_def, primitive_def, instance_def}
 use Rattle.wac_binary.specs.Indexes.{space, core_types}
 use Rattle.wac_binary.specs.Unfold.{module_tree}
 use Rattle.wac_scopes.specs.declared.encodable.Encodable.{Encodable}
@@ -23,7 +23,7 @@ use Rattle.wac_scopes.specs.Good.{At, Onward, top}
 use Rattle.wac_scopes.specs.Laws.{Adds, DefinesValue, DefinesFunc, DefinesPrimitive, IsRecorded}
 use Rattle.wac_scopes.specs.Listed.{Lists, ListsEqual, ListsFunc}
 use Rattle.wac_scopes.specs.Modules.{and_module, module_count, with_module, DefinesModule}
-use Rattle.wac_scopes.specs.Scoped.{value_index, at_index, recorded_value, opened, IsThere, AddsValue, AddsFunc, AddsPrimitive, AddsModule, ListsType, ListsValue, ListsFunction}
+use Rattle.wac_scopes.specs.Scoped.{value_index, at_index, recorded_value, opened, IsThere, AddsValue, AddsFunc, AddsPrimitive, AddsInstance, AddsModule, ListsType, ListsValue, ListsFunction}
 use Rattle.wac_scopes.proofs.ContentLaws.{content-and-type, content-and-module, types-counted, modules-counted, lists-type-in, lists-function-in}
 use Rattle.wac_scopes.proofs.Meant.{value-type}
 use Rattle.wac_scopes.proofs.Steps.{good-remember_at}
@@ -74,6 +74,11 @@ adds-primitive old x p k law index appended c m ms o os g =
     let r = law c m ms (opened old o) os p g in
     let next : k ≡ next_type (opened old o) = index ∙ types-counted old.content in
     subst (λ (z : Open). Adds c (m ∷ ms) (opened old o ∷ os) (z ∷ os) k (primitive p)) (sym (opened-and-type old x (value_def (primitive_def p)) appended o)) (subst (λ (i : ℕ). Adds c (m ∷ ms) (opened old o ∷ os) (with_def (value_def (primitive_def p)) (opened old o) ∷ os) i (primitive p)) (sym next) r)
+
+pub adds-instance : (old : Scope) (x : Encodable) (ds : List Decl) (k : ℕ) → k ≡ count (space s.Type) old.content → x ≡ and_type old.content (instance_def (decls ds)) → AddsInstance old (record old { content = x }) ds k
+adds-instance old x ds k index appended c ms o os t adds =
+    let next : k ≡ next_type (opened old o) = index ∙ types-counted old.content in
+    subst (λ (z : Open). Adds c ms (opened old o ∷ os) (z ∷ os) k t) (sym (opened-and-type old x (instance_def (decls ds)) appended o)) (subst (λ (i : ℕ). Adds c ms (opened old o ∷ os) (with_def (instance_def (decls ds)) (opened old o) ∷ os) i t) (sym next) adds)
 
 pub adds-module : (old : Scope) (x : Encodable) (ds : List ModuleDecl) (k : ℕ) → DefinesModule → k ≡ count core_types old.content → x ≡ and_core_module old.content ds → AddsModule old (record old { content = x }) ds k
 adds-module old x ds k law index appended c m ms o os g says =

@@ -10,27 +10,29 @@ use Rattle.wac_shapes.specs.declared.component.FuncType.{FuncType}
 use Rattle.wac_shapes.specs.declared.component.ValueType.{ValueType}
 use Rattle.wac_shapes.specs.declared.component.ValueType.TheVariants as val
 use Rattle.wac_shapes.specs.declared.component.«Type».TheVariants as ty
-use Rattle.wac_collection.specs.Tree.{exported, Tree, primitive, type_equal, function_item, module_item}
+use Rattle.wac_collection.specs.Tree.{imported, exported, Tree, primitive, type_equal, function_item, instance_item, module_item}
 use Rattle.wac_collection.specs.Collection.{Collection, IsWellFormed, item_at}
 use Rattle.wac_collection.specs.Bound.{Bindings}
 use Rattle.wac_binary.specs.declared.types.ComponentValType.{ComponentValType}
 use Rattle.wac_binary.specs.declared.types.ComponentValType.TheVariants.{Primitive, Index}
 use Rattle.wac_binary.specs.declared.sorts.Sort.{Sort}
 use Rattle.wac_binary.specs.declared.sorts.Sort.TheVariants as s
-use Rattle.wac_binary.specs.Items.{ValueDef, TypeDef, ModuleDecl}
-use Rattle.wac_binary.specs.Unfold.{no_module, module_tree}
+use Rattle.wac_binary.specs.Items.{ValueDef, TypeDef, instance_def, ModuleDecl, Decl, decls, Item}
+use Rattle.wac_binary.specs.Unfold.{Bound, no_module, module_tree}
 use Rattle.wac_binary.specs.Meaning.{import_at, Root, stands_for, meaning}
-use Rattle.wac_binary.specs.HasMeaning.{IsValue, IsFunction, IsType, IsModule, ModuleHasMeaning}
+use Rattle.wac_binary.specs.HasMeaning.{IsValue, IsFunction, IsType, IsInstance, IsModule, ModuleHasMeaning}
+use Rattle.wac_scopes.specs.declared.encodable.Encodable.{Encodable}
+use Rattle.wac_scopes.specs.declared.encodable.Encodable.TheVariants.{Builder, Instance, Component}
 use Rattle.wac_scopes.specs.declared.fault.EncodeFault.{EncodeFault}
 use Rattle.wac_scopes.specs.declared.fault.EncodeFault.TheVariants as fault
 use Rattle.wac_scopes.specs.declared.scope.Scope.{Scope}
 use Rattle.wac_scopes.specs.Contents.{content_of, items_of}
-use Rattle.wac_scopes.specs.Scopes.{Where, at_type, Open, Stack, env, envs}
+use Rattle.wac_scopes.specs.Scopes.{Where, at_type, Open, Stack, env, envs, next_type, with_def}
 use Rattle.wac_scopes.specs.Good.{At, IsHeld, Good, Onward}
 use Rattle.wac_scopes.specs.Parts.{Is, IsWritten, IsWrittenFunc}
 use Rattle.wac_scopes.specs.Laws.{Adds}
 use Rattle.wac_scopes.specs.Listed.{IsNewName, Lists}
-use Rattle.wac_scopes.specs.Instances.{IsNewImport}
+use Rattle.wac_scopes.specs.Instances.{IsNewImport, position_of}
 
 -- the type index of a definition, where it is written
 abbrev pub value_index : Scope → DefinedTypeId → Option ℕ
@@ -93,6 +95,11 @@ abbrev pub AddsPrimitive : Scope → Scope → PrimitiveType → ℕ → Type 0
 AddsPrimitive old new p k = (c : Collection) (m : Bindings) (ms : List Bindings) (o : Open) (os : Stack)
     → Good c (m ∷ ms) (opened old o ∷ os) → Adds c (m ∷ ms) (opened old o ∷ os) (opened new o ∷ os) k (primitive p)
 
+-- where the declarations, closed as an instance type, would be a type of the scope, index k is that type, and so good stacks go onward
+abbrev pub AddsInstance : Scope → Scope → List Decl → ℕ → Type 0
+AddsInstance old new ds k = (c : Collection) (ms : List Bindings) (o : Open) (os : Stack) (t : Tree)
+    → Adds c ms (opened old o ∷ os) (with_def (instance_def (decls ds)) (opened old o) ∷ os) (next_type (opened old o)) t → Adds c ms (opened old o ∷ os) (opened new o ∷ os) k t
+
 -- a core module type that has a meaning is at index k of the core types, and each good stack goes onward
 abbrev pub AddsModule : Scope → Scope → List ModuleDecl → ℕ → Type 0
 AddsModule old new ds k = (c : Collection) (m : Bindings) (ms : List Bindings) (o : Open) (os : Stack)
@@ -149,6 +156,16 @@ RootImportsFunction old new n i k = (c : Collection) (m : Bindings) (ms : List B
     → Good c (m ∷ ms) (opened old o ∷ os) → IsNewInRoot old n → IsFunction t → At ((env (opened old o) (envs os)).types) i t
     → RootImports c (m ∷ ms) old new o os s.Func k n (function_item t)
 
+-- an instance of this type that is the next import of the root
+abbrev pub imported_at : Tree → List Item → Bound
+imported_at t items = record { type = t; side = imported; path = position_of items ∷ [] }
+
+-- and an instance of the instance type at index i; index k is bound to that import
+abbrev pub RootImportsInstance : Scope → Scope → Name → ℕ → ℕ → Type 0
+RootImportsInstance old new n i k = (c : Collection) (m : Bindings) (ms : List Bindings) (o : Open) (os : Stack) (t : Tree)
+    → Good c (m ∷ ms) (opened old o ∷ os) → IsNewInRoot old n → IsInstance t → At ((env (opened old o) (envs os)).types) i t
+    → RootImports c (m ∷ ms) old new o os s.Instance k n (instance_item t) × At ((env (opened new o) (envs os)).instances) k (imported_at t (items_of old.content))
+
 -- and a core module of the core module type at index i
 abbrev pub RootImportsModule : Scope → Scope → Name → ℕ → ℕ → Type 0
 RootImportsModule old new n i k = (c : Collection) (m : Bindings) (ms : List Bindings) (o : Open) (os : Stack) (t : Tree)
@@ -168,3 +185,9 @@ FitsUnlessTooLarge (Ok x) fits = fits
 FitsUnlessTooLarge (Err fault.TooLarge) fits = fits → ⊥
 FitsUnlessTooLarge (Err fault.OutOfMemory) fits = Unit {0}
 FitsUnlessTooLarge (Err (fault.Write e)) fits = ⊥
+
+-- the same, where other than in an instance type it may be that memory is refused before it is known whether all fits
+abbrev pub RecordsUnlessTooLarge : {A : Type 0} → Encodable → Result A EncodeFault → Type 0 → Type 0
+RecordsUnlessTooLarge (Instance ds) r fits = WritesUnlessTooLarge r fits
+RecordsUnlessTooLarge (Builder items) r fits = FitsUnlessTooLarge r fits
+RecordsUnlessTooLarge (Component ds) r fits = FitsUnlessTooLarge r fits

@@ -1,13 +1,16 @@
 //! What is being written in a scope.
 
-ghost use Rattle.std.specs.Prelude.{◌≡◌, IfOk, OnOk, OnErr};
+ghost use Rattle.std.specs.Prelude.{◌≡◌, ℕ, IfOk, OnOk, OnErr, Err as Refused};
 ghost use Rattle.wac_binary.specs.declared.sorts.Sort.TheVariants as s;
 ghost use Rattle.wac_binary.specs.Fits.{TooLargeUnless};
 ghost use Rattle.wac_binary.specs.Indexes.{space, core_types, described_sort};
-ghost use Rattle.wac_binary.specs.Items.{value_def};
+ghost use Rattle.wac_binary.specs.declared.sorts.Description.TheVariants as e;
+ghost use Rattle.wac_binary.specs.Items.{value_def, instance_def, decls};
 ghost use Rattle.wac_binary.specs.Views.{defined_of, func_of};
 ghost use Rattle.wac_scopes.specs.Contents.{IsRoot, IsOpenType, and_type, and_core_module, and_export, and_import, count, ContentFits};
+ghost use Rattle.wac_scopes.specs.Scoped.{RecordsUnlessTooLarge};
 
+use crate::fault::EncodeFault;
 use wac_binary::{
     BinaryFault, ComponentBuilder, ComponentType, DefinedType, Description, FuncType, InstanceType,
     ModuleType,
@@ -39,6 +42,38 @@ impl Encodable {
         }
     }
 
+    /// Why a value type is not written where there is no memory to record it. Whether one more fits is known of instance types.
+    pub(crate) fn refusal_of_type(&self, t: &DefinedType<'_>) -> EncodeFault
+        ensures { RecordsUnlessTooLarge {A = ℕ} self.now (Refused result) (ContentFits (and_type self.now (value_def (defined_of t.now)))) }
+    {
+        match self {
+            Encodable::Instance(content) => {
+                if content.has_room_for_type(t) {
+                    EncodeFault::OutOfMemory
+                } else {
+                    EncodeFault::TooLarge
+                }
+            }
+            Encodable::Builder(_) | Encodable::Component(_) => EncodeFault::OutOfMemory,
+        }
+    }
+
+    /// The same of an export that equals the type at an index.
+    pub(crate) fn refusal_of_export(&self, name: &str, index: u32) -> EncodeFault
+        ensures { RecordsUnlessTooLarge {A = ℕ} self.now (Refused result) (ContentFits (and_export self.now name.now (e.Equal index))) }
+    {
+        match self {
+            Encodable::Instance(content) => {
+                if content.has_room_for_export(name, Description::Equal(index)) {
+                    EncodeFault::OutOfMemory
+                } else {
+                    EncodeFault::TooLarge
+                }
+            }
+            Encodable::Builder(_) | Encodable::Component(_) => EncodeFault::OutOfMemory,
+        }
+    }
+
     /// Writes a function type, and answers its type index.
     pub(crate) fn func_type(&mut self, f: &FuncType<'_>) -> Result<u32, BinaryFault>
         ensures index { IfOk result (λ i. i ≡ count (space s.Type) self.old) }
@@ -50,6 +85,20 @@ impl Encodable {
             Encodable::Builder(content) => content.func_type(f),
             Encodable::Instance(content) => content.func_type(f),
             Encodable::Component(content) => content.func_type(f),
+        }
+    }
+
+    /// Writes an instance type with these declarations, and answers its type index.
+    pub(crate) fn instance_type(&mut self, t: &InstanceType) -> Result<u32, BinaryFault>
+        ensures index { IfOk result (λ i. i ≡ count (space s.Type) self.old) }
+        ensures appended { OnOk result (self.new ≡ and_type self.old (instance_def (decls t.now))) }
+        ensures refused { OnErr result (self.new ≡ self.old) }
+        ensures too_large { TooLargeUnless result (ContentFits (and_type self.old (instance_def (decls t.now)))) }
+    {
+        match self {
+            Encodable::Builder(content) => content.instance_type(t),
+            Encodable::Instance(content) => content.instance_type(t),
+            Encodable::Component(content) => content.instance_type(t),
         }
     }
 

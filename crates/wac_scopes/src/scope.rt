@@ -2,18 +2,20 @@
 
 ghost use Rattle.std.specs.Prelude.{◌≡◌, ◌<◌, IfOk, OnOk, OnErr, None};
 ghost use Rattle.std.specs.HashMap.{spare};
-ghost use Rattle.wac_binary.specs.Items.{value_def, primitive_def};
+ghost use Rattle.wac_binary.specs.Items.{value_def, primitive_def, instance_def, decls};
 ghost use Rattle.wac_binary.specs.declared.sorts.Description.TheVariants as e;
+ghost use Rattle.wac_binary.specs.declared.sorts.Sort.TheVariants as s;
+ghost use Rattle.wac_binary.specs.Indexes.{space};
 ghost use Rattle.wac_binary.specs.Views.{defined_of, func_of};
-ghost use Rattle.wac_scopes.specs.Contents.{IsRoot, IsOpenType, and_type, and_core_module, and_export, and_import, ContentFits};
-ghost use Rattle.wac_scopes.specs.Scoped.{IfThere, IsThere, AddsValue, AddsFunc, AddsPrimitive, AddsModule, ListsType, ListsValue, ListsFunction, RootImportsType, RootImportsValue, RootImportsFunction, RootImportsModule, HasToo, IsAsBefore, value_index, in_use, WritesUnlessTooLarge, FitsUnlessTooLarge};
+ghost use Rattle.wac_scopes.specs.Contents.{IsRoot, IsOpenType, and_type, and_core_module, and_export, and_import, count, ContentFits};
+ghost use Rattle.wac_scopes.specs.Scoped.{IfThere, IsThere, AddsValue, AddsFunc, AddsPrimitive, AddsInstance, AddsModule, ListsType, ListsValue, ListsFunction, RootImportsType, RootImportsValue, RootImportsFunction, RootImportsInstance, RootImportsModule, HasToo, IsAsBefore, value_index, in_use, WritesUnlessTooLarge, FitsUnlessTooLarge, RecordsUnlessTooLarge};
 
 use crate::encodable::Encodable;
 use crate::fault::EncodeFault;
 use crate::laws::{listing_law, module_law, root_law, step_law};
 use std::alloc::{AllocError, Global};
 use std::collections::HashMap;
-use wac_binary::{ComponentValType, DefinedType, Description, FuncType, ModuleType};
+use wac_binary::{ComponentValType, DefinedType, Description, FuncType, InstanceType, ModuleType};
 use wac_collection::{DefinedTypeId, PrimitiveType, ValueType};
 
 /// An open scope: the root of a component, or a type that is being written; with the value types that are written there.
@@ -66,8 +68,8 @@ impl Scope {
 
     /// Writes this definition of a held value type, and records it. Answers its type index.
     ///
-    /// Answers `TooLarge` where what is written would not fit, and `OutOfMemory` where memory was refused, be it before it is known
-    /// whether it fits. Then nothing is written or recorded.
+    /// Answers `TooLarge` where what is written would not fit, and `OutOfMemory` where memory was refused, other than in an instance
+    /// type be it before it is known whether it fits. Then nothing is written or recorded.
     pub fn define(
         &mut self,
         id: DefinedTypeId,
@@ -77,10 +79,12 @@ impl Scope {
         ensures recorded { IfOk result (λ k. HasToo self.old id k self.new) }
         ensures appended { OnOk result (self.new.content ≡ and_type self.old.content (value_def (defined_of definition.now))) }
         ensures refused { OnErr result (IsAsBefore self.old self.new) }
-        ensures too_large { FitsUnlessTooLarge result (ContentFits (and_type self.old.content (value_def (defined_of definition.now)))) }
+        ensures too_large { RecordsUnlessTooLarge self.old.content result (ContentFits (and_type self.old.content (value_def (defined_of definition.now)))) }
     {
         step_law();
-        self.make_room()?;
+        if let Err(_) = self.make_room() {
+            return Err(self.content.refusal_of_type(definition));
+        }
         let index = self.content.defined_type(definition)?;
         self.record_value(id, index);
         Ok(index)
@@ -136,6 +140,21 @@ impl Scope {
         Ok(index)
     }
 
+    /// Writes an instance type with these declarations. Answers its type index.
+    ///
+    /// Answers `TooLarge` exactly where what is written would not fit, and `OutOfMemory` where memory was refused; then it has
+    /// written nothing.
+    pub fn define_instance(&mut self, t: &InstanceType) -> Result<u32, EncodeFault>
+        ensures index { IfOk result (λ k. k ≡ count (space s.Type) self.old.content) }
+        ensures stands { IfOk result (λ k. AddsInstance self.old self.new t.now k) }
+        ensures appended { OnOk result (self.new ≡ record self.old { content = and_type self.old.content (instance_def (decls t.now)) }) }
+        ensures refused { OnErr result (self.new ≡ self.old) }
+        ensures too_large { WritesUnlessTooLarge result (ContentFits (and_type self.old.content (instance_def (decls t.now)))) }
+    {
+        let index = self.content.instance_type(t)?;
+        Ok(index)
+    }
+
     /// Writes a core module type. Answers its index among the core types.
     ///
     /// Answers `TooLarge` exactly where what is written would not fit, and `OutOfMemory` where memory was refused; then it has
@@ -157,6 +176,7 @@ impl Scope {
     /// written nothing.
     pub fn export_type(&mut self, name: &str, index: u32) -> Result<u32, EncodeFault>
         requires { IsOpenType self.old.content }
+        ensures index { IfOk result (λ k. k ≡ count (space s.Type) self.old.content) }
         ensures stands { IfOk result (λ k. ListsType self.old self.new name.now index k) }
         ensures appended { OnOk result (self.new ≡ record self.old { content = and_export self.old.content name.now (e.Equal index) }) }
         ensures refused { OnErr result (self.new ≡ self.old) }
@@ -171,8 +191,8 @@ impl Scope {
     /// Lists a type item that equals the definition at an index, and records the definition at the item's own type index, which it
     /// answers: from then on the definition is written by its name.
     ///
-    /// Answers `TooLarge` where what is written would not fit, and `OutOfMemory` where memory was refused, be it before it is known
-    /// whether it fits. Then nothing is written or recorded.
+    /// Answers `TooLarge` where what is written would not fit, and `OutOfMemory` where memory was refused, other than in an instance
+    /// type be it before it is known whether it fits. Then nothing is written or recorded.
     pub fn export_value(
         &mut self,
         name: &str,
@@ -180,14 +200,17 @@ impl Scope {
         index: u32,
     ) -> Result<u32, EncodeFault>
         requires { IsOpenType self.old.content }
+        ensures index { IfOk result (λ k. k ≡ count (space s.Type) self.old.content) }
         ensures stands { IfOk result (λ k. ListsValue self.old self.new name.now id index k) }
         ensures recorded { IfOk result (λ k. HasToo self.old id k self.new) }
         ensures appended { OnOk result (self.new.content ≡ and_export self.old.content name.now (e.Equal index)) }
         ensures refused { OnErr result (IsAsBefore self.old self.new) }
-        ensures too_large { FitsUnlessTooLarge result (ContentFits (and_export self.old.content name.now (e.Equal index))) }
+        ensures too_large { RecordsUnlessTooLarge self.old.content result (ContentFits (and_export self.old.content name.now (e.Equal index))) }
     {
         listing_law();
-        self.make_room()?;
+        if let Err(_) = self.make_room() {
+            return Err(self.content.refusal_of_export(name, index));
+        }
         let own = self.content.export(name, Description::Equal(index))?;
         self.record_value(id, own);
         Ok(own)
@@ -215,6 +238,7 @@ impl Scope {
     /// written nothing.
     pub fn import_type(&mut self, name: &str, index: u32) -> Result<u32, EncodeFault>
         requires { IsRoot self.old.content }
+        ensures index { IfOk result (λ k. k ≡ count (space s.Type) self.old.content) }
         ensures stands { IfOk result (λ k. RootImportsType self.old self.new name.now index k) }
         ensures appended { OnOk result (self.new ≡ record self.old { content = and_import self.old.content name.now (e.Equal index) }) }
         ensures refused { OnErr result (self.new ≡ self.old) }
@@ -237,6 +261,7 @@ impl Scope {
         index: u32,
     ) -> Result<u32, EncodeFault>
         requires { IsRoot self.old.content }
+        ensures index { IfOk result (λ k. k ≡ count (space s.Type) self.old.content) }
         ensures stands { IfOk result (λ k. RootImportsValue self.old self.new name.now id index k) }
         ensures recorded { IfOk result (λ k. HasToo self.old id k self.new) }
         ensures appended { OnOk result (self.new.content ≡ and_import self.old.content name.now (e.Equal index)) }
@@ -256,6 +281,7 @@ impl Scope {
     /// written nothing.
     pub fn import_func(&mut self, name: &str, index: u32) -> Result<u32, EncodeFault>
         requires { IsRoot self.old.content }
+        ensures index { IfOk result (λ k. k ≡ count (space s.Func) self.old.content) }
         ensures stands { IfOk result (λ k. RootImportsFunction self.old self.new name.now index k) }
         ensures appended { OnOk result (self.new ≡ record self.old { content = and_import self.old.content name.now (e.Func index) }) }
         ensures refused { OnErr result (self.new ≡ self.old) }
@@ -266,12 +292,30 @@ impl Scope {
         Ok(function)
     }
 
+    /// Imports an instance of the instance type at an index, into the root. Answers the instance's index.
+    ///
+    /// Answers `TooLarge` exactly where what is written would not fit, and `OutOfMemory` where memory was refused; then it has
+    /// written nothing.
+    pub fn import_instance(&mut self, name: &str, index: u32) -> Result<u32, EncodeFault>
+        requires { IsRoot self.old.content }
+        ensures index { IfOk result (λ k. k ≡ count (space s.Instance) self.old.content) }
+        ensures stands { IfOk result (λ k. RootImportsInstance self.old self.new name.now index k) }
+        ensures appended { OnOk result (self.new ≡ record self.old { content = and_import self.old.content name.now (e.Instance index) }) }
+        ensures refused { OnErr result (self.new ≡ self.old) }
+        ensures too_large { WritesUnlessTooLarge result (ContentFits (and_import self.old.content name.now (e.Instance index))) }
+    {
+        root_law();
+        let instance = self.content.import(name, Description::Instance(index))?;
+        Ok(instance)
+    }
+
     /// Imports a core module of the core module type at an index, into the root. Answers the module's index.
     ///
     /// Answers `TooLarge` exactly where what is written would not fit, and `OutOfMemory` where memory was refused; then it has
     /// written nothing.
     pub fn import_module(&mut self, name: &str, index: u32) -> Result<u32, EncodeFault>
         requires { IsRoot self.old.content }
+        ensures index { IfOk result (λ k. k ≡ count (space s.CoreModule) self.old.content) }
         ensures stands { IfOk result (λ k. RootImportsModule self.old self.new name.now index k) }
         ensures appended { OnOk result (self.new ≡ record self.old { content = and_import self.old.content name.now (e.CoreModule index) }) }
         ensures refused { OnErr result (self.new ≡ self.old) }

@@ -3,4 +3,5 @@ pub mod EqualLemmas
 pub mod Loops
 pub mod AsGiven
 pub mod Under
+pub mod Pairs
 pub mod Clones

@@ -1,5 +1,6 @@
 pub mod Name
 pub mod Named
+pub mod Imports
 pub mod Equal
 pub mod Core
 pub mod Kinds

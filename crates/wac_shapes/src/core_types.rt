@@ -2,8 +2,9 @@
 
 ghost use Rattle.std.specs.Prelude.{◌≡◌, ◌++◌, ◌∷◌, ◌↔◌, [], Err, IfOk, OnOk, OnErr, IsSome};
 ghost use Rattle.wac_shapes.specs.Name.{find_name};
-ghost use Rattle.wac_shapes.specs.Named.{find_under, inserted_under};
+ghost use Rattle.wac_shapes.specs.Imports.{find_import};
 
+use crate::imports::CoreImports;
 use crate::named::{Named, Sequence, ShapeError};
 use std::alloc::{AllocError, Global};
 
@@ -113,8 +114,8 @@ pub enum CoreExtern {
 /// The type of a core module.
 #[derive(Clone, Debug, PartialEq, Eq)]
 pub struct ModuleType {
-    /// What it imports, by module and then by name.
-    pub imports: Named<Named<CoreExtern>>,
+    /// What it imports, by module and name, in order.
+    pub imports: CoreImports<CoreExtern>,
     /// What it exports, in order.
     pub exports: Named<CoreExtern>,
 }
@@ -134,12 +135,12 @@ impl ModuleType {
         ensures { result ≡ record { imports = []; exports = [] } }
     {
         ModuleType {
-            imports: Named::new(alloc),
+            imports: CoreImports::new(alloc),
             exports: Named::new(alloc),
         }
     }
 
-    /// Adds an import, behind the others of its module. Answers `NameTwice` where the module's name is imported already, and `OutOfMemory` where memory ran out; then nothing has changed.
+    /// Adds an import, behind the others. Answers `NameTwice` where the name is imported already from that module, and `OutOfMemory` where memory ran out; then nothing has changed.
     pub fn import(
         &mut self,
         alloc: Global,
@@ -147,11 +148,11 @@ impl ModuleType {
         name: &str,
         item: CoreExtern,
     ) -> Result<(), ShapeError>
-        ensures imported { OnOk result (self.new ≡ record self.old { imports = inserted_under self.old.imports source.now name.now item }) }
+        ensures imported { OnOk result (self.new ≡ record self.old { imports = self.old.imports ++ ((source.now, name.now), item) ∷ [] }) }
         ensures refused { OnErr result (self.new ≡ self.old) }
-        ensures name_twice { (result ≡ Err ShapeError.NameTwice) ↔ IsSome (find_under self.old.imports source.now name.now) }
+        ensures name_twice { (result ≡ Err ShapeError.NameTwice) ↔ IsSome (find_import self.old.imports source.now name.now) }
     {
-        self.imports.insert_under(alloc, source, name, item)
+        self.imports.insert(alloc, source, name, item)
     }
 
     /// Adds an export, behind the others. Answers `NameTwice` where the name is exported already, and `OutOfMemory` where memory ran out; then nothing has changed.

@@ -3,6 +3,7 @@
 
 mod component;
 mod core_types;
+mod imports;
 mod named;
 
 pub use component::{
@@ -11,4 +12,5 @@ pub use component::{
     UsedType, ValueType, Variant, World, WorldId,
 };
 pub use core_types::{CoreExtern, CoreFuncType, CoreRefType, CoreType, ModuleType};
+pub use imports::{CoreImportEntries, CoreImports};
 pub use named::{Entries, LabelNames, Labels, Named, Sequence, ShapeError, Text};

@@ -537,7 +537,7 @@ impl<V: Drop> Named<V> {
 
 impl<V: Drop> Named<Named<V>> {
     /// Puts a value under two names, behind the others under the first. Answers `NameTwice` where there is one under both, and `OutOfMemory` where memory ran out; then nothing has changed.
-    pub fn insert_under(
+    pub(crate) fn insert_under(
         &mut self,
         alloc: Global,
         outer: &str,

@@ -1,7 +1,7 @@
 -- What holds of lists so far, as a loop over them goes on.
-use Rattle.std.proofs.Common.{ℕ, ◌<◌, ◌≡◌, ◌≢◌, List, Some, slice_get}
+use Rattle.std.proofs.Common.{ℕ, ◌<◌, ◌≡◌, List, Some, slice_get}
 use Rattle.wac_shapes.specs.Name.{Name}
-use Rattle.wac_shapes.specs.Core.{no_item}
+use Rattle.wac_shapes.specs.Imports.{Pair}
 use Rattle.wac_collection.specs.Collection.{Collection}
 use Rattle.wac_collection.specs.Held.{core_item, core_under, core_imports}
 use Rattle.wac_subtyping.specs.Subtype.{Sub, IsCoreSubtype, kind_tree}
@@ -20,5 +20,5 @@ OffersBelow i c xs d ys = (k : ℕ) → k < i → (e : Name × ItemKind) → sli
 abbrev pub OffersCoreBelow : ℕ → List (Name × CoreExtern) → List (Name × CoreExtern) → Type 0
 OffersCoreBelow i xs ys = (k : ℕ) → k < i → (e : Name × CoreExtern) → slice_get ys k ≡ Some e → IsCoreSubtype (core_under xs e.0) (core_item e.1)
 
-abbrev pub OffersModulesBelow : ℕ → List (Name × List (Name × CoreExtern)) → List (Name × List (Name × CoreExtern)) → Type 0
-OffersModulesBelow i xs ys = (k : ℕ) → k < i → (e : Name × List (Name × CoreExtern)) → slice_get ys k ≡ Some e → (n : Name) → core_under e.1 n ≢ no_item → IsCoreSubtype (core_imports xs e.0 n) (core_under e.1 n)
+abbrev pub OffersModulesBelow : ℕ → List (Pair × CoreExtern) → List (Pair × CoreExtern) → Type 0
+OffersModulesBelow i xs ys = (k : ℕ) → k < i → (e : Pair × CoreExtern) → slice_get ys k ≡ Some e → IsCoreSubtype (core_imports xs e.0.0 e.0.1) (core_item e.1)

@@ -1,6 +1,7 @@
 -- What the steps of a comparison answer: types part by part, listed items name by name.
-use Rattle.std.specs.Prelude.{◌≢◌, List, Option, Some, None}
-use Rattle.wac_shapes.specs.Name.{Name, option_case}
+use Rattle.std.specs.Prelude.{◌≢◌, List, Option, None}
+use Rattle.wac_shapes.specs.Name.{Name}
+use Rattle.wac_shapes.specs.Imports.{Pair}
 use Rattle.wac_shapes.specs.Core.{CoreItem, no_item, core_table, core_memory}
 use Rattle.wac_collection.specs.Tree.{TypeTree, absent, component}
 use Rattle.wac_collection.specs.Collection.{Collection, item_at}
@@ -63,5 +64,5 @@ abbrev pub OffersCore : List (Name × CoreExtern) → List (Name × CoreExtern) 
 OffersCore xs ys = (n : Name) → core_under ys n ≢ no_item → IsCoreSubtype (core_under xs n) (core_under ys n)
 
 -- and of core items by module and name
-abbrev pub OffersModules : List (Name × List (Name × CoreExtern)) → List (Name × List (Name × CoreExtern)) → Type 0
+abbrev pub OffersModules : List (Pair × CoreExtern) → List (Pair × CoreExtern) → Type 0
 OffersModules xs ys = (m n : Name) → core_imports ys m n ≢ no_item → IsCoreSubtype (core_imports xs m n) (core_imports ys m n)

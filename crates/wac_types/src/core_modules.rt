@@ -4,7 +4,7 @@ ghost use Rattle.wac_collection.specs.Held.{core_item};
 ghost use Rattle.wac_subtyping.specs.Subtype.{IsCoreSubtype, IsMaximumWithin};
 ghost use Rattle.wac_types.specs.Compare.{IsTableSubtype, IsMemorySubtype, OffersCore, OffersModules};
 
-use wac_collection::{CoreExtern, CoreFuncType, CoreType, ModuleType, Named};
+use wac_collection::{CoreExtern, CoreFuncType, CoreImports, CoreType, ModuleType, Named};
 
 // Whether a greatest size is one that the second allows.
 fn is_maximum_within(a: Option<u64>, b: Option<u64>) -> bool
@@ -143,23 +143,19 @@ fn offers_core(xs: &Named<CoreExtern>, ys: &Named<CoreExtern>) -> bool
 }
 
 // The same by module and name.
-fn offers_modules(xs: &Named<Named<CoreExtern>>, ys: &Named<Named<CoreExtern>>) -> bool
+fn offers_modules(xs: &CoreImports<CoreExtern>, ys: &CoreImports<CoreExtern>) -> bool
     ensures { IsTrue result ↔ OffersModules xs.now ys.now }
 {
     ys.law();
     for i in 0..ys.len() {
-        let items = ys.value_at(i);
-        match xs.get(ys.name_at(i)) {
+        let ((source, name), y) = ys.entry_at(i);
+        match xs.get(source, name) {
             Some(x) => {
-                if !offers_core(x, items) {
+                if !is_core_subtype(x, y) {
                     return false;
                 }
             }
-            None => {
-                if items.len() != 0 {
-                    return false;
-                }
-            }
+            None => return false,
         }
     }
     true

@@ -1,5 +1,5 @@
 // Calls on a graph as the rows of a table, each with what it answers.
-use crate::compositions::{function, register};
+use crate::compositions::{empty_instance, function, register};
 use std::alloc::Global;
 use std::fmt::Display;
 use std::process::Abort;
@@ -9,6 +9,7 @@ use wac_graph::types::{
 };
 use wac_graph::{
     CompositionGraph, EncodeError, EncodeOptions, MergeFault, NodeId, NodeKind, PackageId,
+    ValidationFault,
 };
 
 // What a package imports or exports.
@@ -65,6 +66,13 @@ pub enum Call<'a> {
     Satisfied(usize),
 }
 
+impl Call<'_> {
+    // Whether something is taken away.
+    fn is_removal(&self) -> bool {
+        matches!(self, Call::Unset(..) | Call::Unexport(_) | Call::Remove(_))
+    }
+}
+
 // A graph, and what it answered so far.
 #[derive(Drop)]
 pub struct Bench {
@@ -111,11 +119,6 @@ fn exporting_telling(
     Ok(ItemKind::Instance(graph.add_interface(interface)?))
 }
 
-fn empty_instance(alloc: Global, graph: &mut CompositionGraph) -> Result<ItemKind, Fail> {
-    let interface = Interface::new(alloc, None, &[])?;
-    Ok(ItemKind::Instance(graph.add_interface(interface)?))
-}
-
 fn using_instance(
     alloc: Global,
     graph: &mut CompositionGraph,
@@ -148,7 +151,7 @@ impl Bench {
             Item::Instance => exporting(self.alloc, &mut self.graph, "a"),
             Item::Exporting(name) => exporting(self.alloc, &mut self.graph, name),
             Item::ExportingTelling(name) => exporting_telling(self.alloc, &mut self.graph, name),
-            Item::Empty => empty_instance(self.alloc, &mut self.graph),
+            Item::Empty => Ok(empty_instance(self.alloc, &mut self.graph)?),
             Item::Using(id, name, used) => {
                 using_instance(self.alloc, &mut self.graph, id, name, used)
             }
@@ -385,11 +388,12 @@ impl Bench {
     }
 
     // Makes the calls. One that is refused for want of memory changed nothing: made again it answers as if it had not
-    // been refused.
+    // been refused. What takes something away is never refused for that.
     pub fn calls(&mut self, rt: &impl Abort, rows: &[(Call<'_>, &str)]) -> Result<(), Fail> {
         for (call, want) in rows {
             let mut answer = self.call(rt, *call)?;
             if is_refused(answer.as_str()) {
+                assert!(rt; !call.is_removal() || !want.is_empty());
                 answer = self.call(rt, *call)?;
             }
             assert_eq!(rt; answer.as_str(), *want);
@@ -423,8 +427,21 @@ impl Bench {
         }
     }
 
+    // What is wrong with names.
+    fn invalid(&self, fault: ValidationFault) -> Result<String, Fail> {
+        match fault {
+            ValidationFault::BadName { name } => Ok(format!(in self.alloc; "BadName `{name}`")?),
+            ValidationFault::Clash { first, second } => {
+                Ok(format!(in self.alloc; "Clash `{first}`, `{second}`")?)
+            }
+            ValidationFault::NotExportable { name } => {
+                Ok(format!(in self.alloc; "NotExportable `{name}`")?)
+            }
+        }
+    }
+
     // What the refusal names: the node of a cycle, or the import, the instantiation, its package and the name, or an import
-    // that cannot be merged, the nodes that ask for it and the export that differs, or one of a circle.
+    // that cannot be merged, the nodes that ask for it and the export that differs, or one of a circle, or names.
     pub fn refused(&self) -> Result<String, Fail> {
         match self.encode(EncodeOptions::default()) {
             Err(EncodeError::GraphContainsCycle { node }) => shown(self.alloc, node),
@@ -455,6 +472,7 @@ impl Bench {
                 },
             ) => { Ok(format!(in self.alloc; "{import}, {node}, {other}")?) }
             Err(EncodeError::ImportsUseEachOther { import }) => Ok(import),
+            Err(EncodeError::ValidationFailure { source }) => self.invalid(source),
             _ => Ok(String::new(self.alloc)),
         }
     }

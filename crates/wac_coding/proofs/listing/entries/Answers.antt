@@ -5,7 +5,7 @@ use Rattle.wac_subtyping.specs.Called.{Called}
 use Rattle.wac_collection.specs.Held.{items_under, item_tree}
 use Rattle.wac_entries.specs.declared.nodes.Item.TheVariants as item
 use Rattle.wac_coding.specs.Coding.{source_tree}
-use Rattle.wac_coding.proofs.CodingModules.{look}
+use Rattle.wac_coding.specs.ModuleCoding.{look}
 use Rattle.wac_coding.proofs.CodingListing.{as_many, item_seen, items_next, low_next, lists_in_order}
 use Rattle.wac_coding.proofs.listing.entries.Goals as goal
 

@@ -5,7 +5,7 @@ use Rattle.wac_collection.specs.Tree.{TypeTree, absent}
 use Rattle.wac_subtyping.specs.Called.{Called}
 use Rattle.wac_collection.specs.Held.{items_under, item_tree}
 use Rattle.wac_coding.specs.Coding.{source_tree}
-use Rattle.wac_coding.proofs.CodingModules.{look}
+use Rattle.wac_coding.specs.ModuleCoding.{look}
 use Rattle.wac_coding.proofs.CodingListing.{item_seen, IsLow}
 use Rattle.wac_coding.proofs.listing.entries.Given as goal
 

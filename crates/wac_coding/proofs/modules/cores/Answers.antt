@@ -3,7 +3,8 @@ use Rattle.wac_shapes.specs.Name.{Name}
 use Rattle.wac_shapes.specs.Core.{no_item}
 use Rattle.wac_collection.specs.Held as held
 use Rattle.wac_entries.specs.NodeViews.{core_view}
-use Rattle.wac_coding.proofs.CodingModules.{look, cores_next, cores_listed}
+use Rattle.wac_coding.specs.ModuleCoding.{look}
+use Rattle.wac_coding.proofs.CodingModules.{cores_next, cores_listed}
 use Rattle.wac_coding.proofs.modules.cores.Goals as goal
 
 pub loop-i-preserved : goal.loop-i-preserved

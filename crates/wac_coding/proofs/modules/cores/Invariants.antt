@@ -3,7 +3,7 @@ use Rattle.wac_shapes.specs.Name.{Name}
 use Rattle.wac_collection.specs.Held as held
 use Rattle.wac_shapes.specs.Core.{no_item}
 use Rattle.wac_entries.specs.NodeViews.{core_view}
-use Rattle.wac_coding.proofs.CodingModules.{look}
+use Rattle.wac_coding.specs.ModuleCoding.{look}
 use Rattle.wac_coding.proofs.modules.cores.Given as goal
 
 abbrev pub invariant-loop-i : goal.invariant-loop-i

@@ -1,4 +1,4 @@
-use Rattle.std.proofs.Common.{◌≡◌, ℕ, ◌<◌, ◌-◌, length}
+use Rattle.std.proofs.Common.{◌≡◌, ℕ, ◌<◌, ◌-◌, length, drop}
 use Rattle.std.specs.Prelude.{slice_index}
 use Rattle.wac_edges.specs.Ready.{occurs, AreReady}
 use Rattle.wac_edges.proofs.order.release.Given as goal
@@ -6,6 +6,6 @@ use Rattle.wac_edges.proofs.order.release.Given as goal
 abbrev pub invariant-loop-b : goal.invariant-loop-b
 invariant-loop-b l = record {
   long : length l.counts ≡ length l.left;
-  counted : (q : ℕ) → q < length l.initial.counts → slice_index l.counts q - occurs l.b-iterator q ≡ slice_index l.initial.counts q - occurs l.steps.keys q;
+  counted : (q : ℕ) → q < length l.initial.counts → slice_index l.counts q - occurs (drop l.b-index l.targets) q ≡ slice_index l.initial.counts q - occurs l.targets q;
   ready : AreReady l.ready l.left l.counts;
 }

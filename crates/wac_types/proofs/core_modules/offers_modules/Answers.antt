@@ -1,26 +1,16 @@
 use Rattle.std.proofs.Common.{arith, sym}
-use Rattle.wac_types.proofs.Agreeing.{entry_at}
-use Rattle.wac_types.proofs.CoreItems.{modules_stop, modules_lack, modules_go, modules_pass, modules_end}
+use Rattle.wac_types.proofs.CoreItems.{modules_lack, modules_stop, modules_go, modules_end}
 use Rattle.wac_types.proofs.core_modules.offers_modules.Goals as goal
-use Rattle.wac_types.proofs.core_modules.offers_modules.Goals.{in-Some+else-not-offers_core, in-None+else-len-ne0}
 
-pub returns-then-not-offers_core : goal.returns-then-not-offers_core
-returns-then-not-offers_core c =
-    let at = entry_at c.args.ys.now c.loop-i.i c.name_at.result.now c.value_at-items.result.now c.name_at.ensures c.value_at-items.ensures in
-    modules_stop c.args.xs.now c.args.ys.now c.law.ensures c.loop-i.i _ _ _ _ at (sym c.in-Some.ensures) c.offers_core.ensures c.if-not-offers_core.true
+pub returns-then-not-is_core_subtype : goal.returns-then-not-is_core_subtype
+returns-then-not-is_core_subtype c =
+    modules_stop c.args.xs.now c.args.ys.now c.law.ensures c.loop-i.i _ _ _ _ c.entry_at.ensures (sym c.in-Some.ensures) c.is_core_subtype.ensures c.if-not-is_core_subtype.true
 
-pub returns-then-len-ne0 : goal.returns-then-len-ne0
-returns-then-len-ne0 c =
-    let at = entry_at c.args.ys.now c.loop-i.i c.name_at.result.now c.value_at-items.result.now c.name_at.ensures c.value_at-items.ensures in
-    modules_lack c.args.xs.now c.args.ys.now c.law.ensures c.loop-i.i _ _ at (sym c.in-None.ensures) (λ e. omega (arith, e, c.len.ensures, c.if-len-ne0.true))
+pub returns-in-None : goal.returns-in-None
+returns-in-None c = modules_lack c.args.xs.now c.args.ys.now c.law.ensures c.loop-i.i _ _ c.entry_at.ensures (sym c.in-None.ensures)
 
 pub loop-i-preserved : goal.loop-i-preserved
-loop-i-preserved c =
-    let at = entry_at c.args.ys.now c.loop-i.i c.name_at.result.now c.value_at-items.result.now c.name_at.ensures c.value_at-items.ensures in
-    elim c.match-get.branch [
-      | in-Some+else-not-offers_core w ↦ modules_go c.args.xs.now c.args.ys.now c.loop-i.i _ _ _ _ at (sym w.in-Some.ensures) w.offers_core.ensures w.if-not-offers_core.false c.loop-i.invariant
-      | in-None+else-len-ne0 w ↦ modules_pass c.args.xs.now c.args.ys.now c.loop-i.i _ _ at (omega (arith, w.len.ensures, w.if-len-ne0.false)) c.loop-i.invariant
-    ]
+loop-i-preserved c = modules_go c.args.xs.now c.args.ys.now c.loop-i.i _ _ _ _ c.entry_at.ensures (sym c.in-Some.ensures) c.is_core_subtype.ensures c.if-not-is_core_subtype.false c.loop-i.invariant
 
 pub returns : goal.returns
 returns c = modules_end c.args.xs.now c.args.ys.now c.loop-i.i (omega (arith, c.loop-i-test.false, c.len-i-end.ensures)) c.loop-i.invariant

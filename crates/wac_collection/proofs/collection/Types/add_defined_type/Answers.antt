@@ -7,7 +7,7 @@ use Rattle.wac_collection.proofs.collection.Types.add_defined_type.Goals.{in-Ali
 
 pub invariant_of-self-2 : goal.invariant_of-self-2
 invariant_of-self-2 c =
-    defined_kept _ _ c.args.defined _ _ _ _ _ c.match-defined.end c.self.invariant c.self.view_is c.count-before.ensures (sym c.contains_defined.ensures ∙ c.if-not-contains_defined.false)
+    defined_kept _ _ c.args.defined _ _ _ _ _ c.match-defined.end c.self.invariant c.self.view_is c.in_ok-before.ensures.count (sym c.contains_defined.ensures ∙ c.if-not-contains_defined.false)
     c.in_ok-hold.ensures.held
     (rw c.unwrap.ensures at c.push.ensures.items ∙ ap (λ xs. xs ++ c.match-defined.end ∷ []) c.reserve.ensures.items)
     (elim c.match-defined.branch [

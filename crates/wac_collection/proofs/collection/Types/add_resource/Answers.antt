@@ -5,7 +5,7 @@ use Rattle.wac_collection.proofs.collection.Types.add_resource.Goals.{in-Some, i
 
 pub invariant_of-self-2 : goal.invariant_of-self-2
 invariant_of-self-2 c =
-    resource_kept _ _ c.args.resource _ _ _ _ _ c.match-resource.end c.self.invariant c.self.view_is c.count-before.ensures (sym c.contains_alias.ensures ∙ c.if-not-contains_alias.false)
+    resource_kept _ _ c.args.resource _ _ _ _ _ c.match-resource.end c.self.invariant c.self.view_is c.in_ok-before.ensures.count (sym c.contains_alias.ensures ∙ c.if-not-contains_alias.false)
     c.in_ok-hold.ensures.held
     (rw c.unwrap.ensures at c.push.ensures.items ∙ ap (λ xs. xs ++ c.match-resource.end ∷ []) c.reserve.ensures.items)
     (elim c.match-resource.branch [

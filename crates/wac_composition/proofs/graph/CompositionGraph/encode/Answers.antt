@@ -99,7 +99,7 @@ returns-clause-means c =
     let sound = c.law-2.ensures in (
       c.write_processor.new.self.builder,
       c.in_ok-bytes.ensures.bytes,
-      means_all c.law.ensures.counted c.law.ensures.earlier c.args.self.now sound c.if-holds_unwritten.ensures.writable c.in_ok-order.order.items
+      means_all (record { counted = c.law.ensures.counted; earlier = c.law.ensures.earlier; bounds_counted = c.law.ensures.instances_counted; bounds_earlier = c.law.ensures.instances_earlier }) c.args.self.now sound c.if-holds_unwritten.ensures.writable c.in_ok-order.order.items
           (writes_all c.args.self.now sound c.if-holds_unwritten.ensures.writable c.in_ok-order.order.items c.in_ok-order.ensures.whole)
           c.args.options c.if-not-options.false
           c.in_ok-encoder.encoder.indexes.items

@@ -9,6 +9,7 @@ use Rattle.wac_encode.specs.Written.{IsByRecord}
 use Rattle.wac_encode.specs.Listing.{own_types}
 use Rattle.wac_encode.proofs.Listed.{first-listed, still-open}
 use Rattle.wac_encode.proofs.Naming.{definition-behind, definition-described, first-wrote, export-refused, value-item-refused, recorded-at}
+use Rattle.wac_encode.proofs.Stacks.{recorded-so}
 use Rattle.wac_encode.proofs.encoder.TypeEncoder.first_name.Goals as goal
 
 pub returns-in_err-index-clause-fault : goal.returns-in_err-index-clause-fault
@@ -24,7 +25,7 @@ returns-in_err-export_value-clause-fault c =
     rw (p.1, p.2) (export-refused ℕ (Unit {0}) t c.args.scope.now c.value_type.new.scope c.args.name.now (kind.TypeItem (ty.Value c.args.value)) (own_types t (kind.TypeItem (ty.Value c.args.value))) (e.Equal c.in-Index.index) c.in_err-export_value.field-0.0
     (definition-behind t c.args.scope.now c.value_type.new.scope c.args.value c.args.id c.requires.end c.in_ok-index.ensures.written)
     (definition-described t c.args.scope.now c.value_type.new.scope c.args.value c.args.id c.in-Index.index c.requires.end at)
-    c.in_err-export_value.ensures.too_large)
+    (recorded-so ℕ c.value_type.new.scope.content _ c.in_err-export_value.field-0.0 c.in_err-export_value.ensures.too_large))
 
 pub returns-clause-listed : goal.returns-clause-listed
 returns-clause-listed c =

@@ -11,12 +11,12 @@ use Rattle.wac_scopes.proofs.scope.Scope.define.Goals as goal
 pub returns-clause-stands : goal.returns-clause-stands
 returns-clause-stands c =
     adds-value c.args.self.now c.record_value.new.self c.args.id (defined_of c.args.definition.now) c.in_ok-index.index c.step_law.ensures.defines_value
-    (c.in_ok-index.ensures.index ∙ ap (count (space s.Type)) c.in_ok-make_room.ensures.same.content)
-    (c.record_value.ensures.kept ∙ c.in_ok-index.ensures.appended ∙ ap (λ (x : Encodable). and_type x (value_def (defined_of c.args.definition.now))) c.in_ok-make_room.ensures.same.content)
-    (recorded-more c.args.self.now c.make_room.new.self c.record_value.new.self c.args.id c.in_ok-index.index c.in_ok-make_room.ensures.same.values c.record_value.ensures.recorded.values)
+    (c.in_ok-index.ensures.index ∙ ap (count (space s.Type)) c.make_room.ensures.same.content)
+    (c.record_value.ensures.kept ∙ c.in_ok-index.ensures.appended ∙ ap (λ (x : Encodable). and_type x (value_def (defined_of c.args.definition.now))) c.make_room.ensures.same.content)
+    (recorded-more c.args.self.now c.make_room.new.self c.record_value.new.self c.args.id c.in_ok-index.index c.make_room.ensures.same.values c.record_value.ensures.recorded.values)
 
 pub returns-clause-recorded : goal.returns-clause-recorded
-returns-clause-recorded c = record { values = recorded-more c.args.self.now c.make_room.new.self c.record_value.new.self c.args.id c.in_ok-index.index c.in_ok-make_room.ensures.same.values c.record_value.ensures.recorded.values }
+returns-clause-recorded c = record { values = recorded-more c.args.self.now c.make_room.new.self c.record_value.new.self c.args.id c.in_ok-index.index c.make_room.ensures.same.values c.record_value.ensures.recorded.values }
 
 pub returns-clause-appended : goal.returns-clause-appended
-returns-clause-appended c = c.record_value.ensures.kept ∙ c.in_ok-index.ensures.appended ∙ ap (λ (x : Encodable). and_type x (value_def (defined_of c.args.definition.now))) c.in_ok-make_room.ensures.same.content
+returns-clause-appended c = c.record_value.ensures.kept ∙ c.in_ok-index.ensures.appended ∙ ap (λ (x : Encodable). and_type x (value_def (defined_of c.args.definition.now))) c.make_room.ensures.same.content

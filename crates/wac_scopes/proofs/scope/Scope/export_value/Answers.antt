@@ -8,17 +8,20 @@ use Rattle.wac_scopes.proofs.ScopedLaws.{lists-value, recorded-more}
 use Rattle.wac_scopes.proofs.scope.Scope.export_value.Goals as goal
 
 pub export-requires : goal.export-requires
-export-requires c = subst IsOpenType (sym c.in_ok-make_room.ensures.same.content) c.requires
+export-requires c = subst IsOpenType (sym c.make_room.ensures.same.content) c.requires
+
+pub returns-clause-index : goal.returns-clause-index
+returns-clause-index c = c.in_ok-own.ensures.index ∙ ap (count (space s.Type)) c.make_room.ensures.same.content
 
 pub returns-clause-stands : goal.returns-clause-stands
 returns-clause-stands c =
     lists-value c.args.self.now c.record_value.new.self c.args.name.now c.args.id c.args.index c.in_ok-own.own c.listing_law.ensures.lists_equal c.requires
-    (c.in_ok-own.ensures.index ∙ ap (count (space s.Type)) c.in_ok-make_room.ensures.same.content)
-    (c.record_value.ensures.kept ∙ c.in_ok-own.ensures.appended ∙ ap (λ (x : Encodable). and_export x c.args.name.now (e.Equal c.args.index)) c.in_ok-make_room.ensures.same.content)
-    (recorded-more c.args.self.now c.make_room.new.self c.record_value.new.self c.args.id c.in_ok-own.own c.in_ok-make_room.ensures.same.values c.record_value.ensures.recorded.values)
+    (c.in_ok-own.ensures.index ∙ ap (count (space s.Type)) c.make_room.ensures.same.content)
+    (c.record_value.ensures.kept ∙ c.in_ok-own.ensures.appended ∙ ap (λ (x : Encodable). and_export x c.args.name.now (e.Equal c.args.index)) c.make_room.ensures.same.content)
+    (recorded-more c.args.self.now c.make_room.new.self c.record_value.new.self c.args.id c.in_ok-own.own c.make_room.ensures.same.values c.record_value.ensures.recorded.values)
 
 pub returns-clause-recorded : goal.returns-clause-recorded
-returns-clause-recorded c = record { values = recorded-more c.args.self.now c.make_room.new.self c.record_value.new.self c.args.id c.in_ok-own.own c.in_ok-make_room.ensures.same.values c.record_value.ensures.recorded.values }
+returns-clause-recorded c = record { values = recorded-more c.args.self.now c.make_room.new.self c.record_value.new.self c.args.id c.in_ok-own.own c.make_room.ensures.same.values c.record_value.ensures.recorded.values }
 
 pub returns-clause-appended : goal.returns-clause-appended
-returns-clause-appended c = c.record_value.ensures.kept ∙ c.in_ok-own.ensures.appended ∙ ap (λ (x : Encodable). and_export x c.args.name.now (e.Equal c.args.index)) c.in_ok-make_room.ensures.same.content
+returns-clause-appended c = c.record_value.ensures.kept ∙ c.in_ok-own.ensures.appended ∙ ap (λ (x : Encodable). and_export x c.args.name.now (e.Equal c.args.index)) c.make_room.ensures.same.content

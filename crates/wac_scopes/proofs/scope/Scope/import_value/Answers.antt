@@ -11,6 +11,9 @@ use Rattle.wac_scopes.proofs.scope.Scope.import_value.Goals as goal
 pub import-requires : goal.import-requires
 import-requires c = subst IsRoot (sym c.in_ok-make_room.ensures.same.content) c.requires
 
+pub returns-clause-index : goal.returns-clause-index
+returns-clause-index c = c.in_ok-import.ensures.index ∙ ap (count (space s.Type)) c.in_ok-make_room.ensures.same.content
+
 pub returns-clause-stands : goal.returns-clause-stands
 returns-clause-stands c =
     imports-value c.args.self.now c.record_value.new.self c.args.name.now c.args.id c.args.index c.in_ok-import.import c.root_law.ensures.imports_type c.root_law.ensures.lists_import c.requires

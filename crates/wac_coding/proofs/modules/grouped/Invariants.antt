@@ -1,0 +1,16 @@
+use Rattle.std.proofs.Common.{◌≡◌, ◌++◌, length}
+use Rattle.std.specs.List.{AllByRecursion}
+use Rattle.wac_entries.specs.Nodes.{AreCoreItems}
+use Rattle.wac_entries.specs.NodeViews.{core_modules}
+use Rattle.wac_coding.specs.ModuleCoding.{maps_items}
+use Rattle.wac_coding.proofs.modules.grouped.Given as goal
+
+-- what is listed and what is left are all
+abbrev pub invariant-loop-source : goal.invariant-loop-source
+invariant-loop-source l = record {
+  items : core_modules l.listed.items ++ maps_items l.modules.entries ≡ maps_items l.fn.modules.entries;
+  each : AllByRecursion (λ e. AreCoreItems e.1) (core_modules l.listed.items);
+}
+
+abbrev pub decreases-loop-source : goal.decreases-loop-source
+decreases-loop-source l = length l.modules.entries

@@ -1,0 +1,51 @@
+-- The imports of a merge of all that a graph asks for, and where a name's import is found among them.
+use Rattle.std.specs.Prelude.{ℕ, suc, ◌≡◌, List, [], ◌∷◌, Some, slice_get}
+use Rattle.wac_shapes.specs.Name.{Name}
+use Rattle.wac_shapes.specs.Named.{NoNameTwice}
+use Rattle.wac_shapes.specs.declared.component.Interface.{Interface}
+use Rattle.wac_shapes.specs.declared.component.InterfaceId.{InterfaceId}
+use Rattle.wac_collection.specs.Tree.{imported, position, Tree}
+use Rattle.wac_collection.specs.Collection.{Collection, item_at, IsWellFormed}
+use Rattle.wac_collection.specs.Bound.{held_item}
+use Rattle.wac_entries.specs.Binding.{root_bindings}
+use Rattle.wac_entries.specs.Bindings.{AreHeld}
+use Rattle.wac_entries.specs.Classes.{Entry, by_names, canonical}
+use Rattle.wac_terms.specs.Merge.{Merged, IsMerge}
+use Rattle.wac_binary.specs.declared.sorts.Sort.{Sort}
+use Rattle.wac_nodes.specs.Graph.{Graph}
+use Rattle.wac_nodes.specs.OuterImports.{outer_entries}
+use Rattle.wac_meaning.specs.Beginning.{Places}
+
+-- the item of an import of a merge at its position
+abbrev pub merged_item : Merged → ℕ → Entry → Tree
+merged_item m p e = held_item m.types (root_bindings by_names m.types m.imports (λ i. i)) imported (position p ∷ []) e.kind
+
+-- imports of a merge, the first at this position, each under its name with its item
+abbrev pub imports_from : Merged → ℕ → List Entry → List (Name × Tree)
+imports_from m p [] = []
+imports_from m p (e ∷ es) = (e.name, merged_item m p e) ∷ imports_from m (suc p) es
+
+-- all of them
+abbrev pub merged_imports : Merged → List (Name × Tree)
+merged_imports m = imports_from m 0 m.imports
+
+-- no interface that is held exports a name twice
+abbrev pub ExportsOnce : Collection → Type 0
+ExportsOnce c = (i : InterfaceId) (it : Interface) → item_at c.interfaces i.0 ≡ Some it → NoNameTwice it.exports
+
+-- this is a merge of all that the graph asks for, of types that are held
+pub record IsMergeOf (g : Graph) (m : Merged) : Type 0 where
+  pub merge : IsMerge by_names g.types (outer_entries g) m
+  pub ordered : IsWellFormed g.types
+  pub merged_ordered : IsWellFormed m.types
+  pub once : ExportsOnce g.types
+  pub merged_once : ExportsOnce m.types
+  pub held : AreHeld m.types m.imports
+
+-- the import under the canonical name of a name stands at this index of this sort
+pub record IsFoundAt (g : Graph) (m : Merged) (places : Places) (name : Name) (t : Sort) (i : ℕ) : Type 0 where
+  pub p : ℕ
+  pub entry : Entry
+  pub there : slice_get m.imports p ≡ Some entry
+  pub named : entry.name ≡ canonical by_names (outer_entries g) name
+  pub placed : slice_get places p ≡ Some (t, i)

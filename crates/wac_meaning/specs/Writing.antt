@@ -1,0 +1,49 @@
+-- What a node adds to the items that are written so far, where these begin with imports.
+use Rattle.std.specs.Prelude.{ℕ, suc, ◌≡◌, IfSome, List, [], ◌∷◌, ◌++◌, Some, slice_get, slice_set}
+use Rattle.wac_shapes.specs.Name.{Name}
+use Rattle.wac_shapes.specs.declared.component.ItemKind.{ItemKind}
+use Rattle.wac_binary.specs.declared.sorts.Sort.{Sort}
+use Rattle.wac_binary.specs.declared.sorts.Sort.TheVariants as sort
+use Rattle.wac_binary.specs.Items.{Item, instantiate, alias_item, export_alias}
+use Rattle.wac_binary.specs.Indexes.{space, indexes}
+use Rattle.wac_edges.specs.declared.node.NodeId.{NodeId}
+use Rattle.wac_nodes.specs.declared.packages.PackageId.{PackageId}
+use Rattle.wac_nodes.specs.Graph as graph
+use Rattle.wac_nodes.specs.Graph.{Graph, GraphNode, node_at, imports_of, exports_of, IsAliasOf, IsArgumentOf, IsUnsatisfied}
+use Rattle.wac_meaning.specs.Means.{package_bytes, sort_of_kind}
+use Rattle.wac_meaning.specs.Beginning.{Places, IsPlacedAt}
+use Rattle.wac_meaning.specs.Encoding.{HasComponent, Progress, index_in}
+
+-- an argument: the import's name, with the sort and the index of the node that was set; or, where none was, of the import into which the name fell
+pub data IsArgumentItem (g : Graph) (places : Places) (index : NodeId → ℕ) (n : NodeId) (i : ℕ) (name : Name) (a : Name × Sort × ℕ) : Type 0 where
+  of_node : (source : NodeId) (node : GraphNode) → a.0 ≡ name → IsArgumentOf g n i source → node_at g source ≡ Some node → a.1 ≡ sort_of_kind node.item_kind → a.2 ≡ index source
+      → IsArgumentItem g places index n i name a
+  of_import : a.0 ≡ name → IsUnsatisfied g n i → IsPlacedAt g places name a.1 a.2 → IsArgumentItem g places index n i name a
+
+abbrev pub AreArgumentItems : Graph → Places → (NodeId → ℕ) → NodeId → ℕ → List (Name × ItemKind) → List (Name × Sort × ℕ) → Type 0
+AreArgumentItems g places index n i [] [] = Unit {0}
+AreArgumentItems g places index n i (e ∷ imports) (a ∷ arguments) = IsArgumentItem g places index n i e.0 a × AreArgumentItems g places index n (suc i) imports arguments
+AreArgumentItems g places index n i _ _ = ⊥
+
+-- node n is written, and stands at index i
+pub data WritesNode (g : Graph) (places : Places) (n : NodeId) (node : GraphNode) (index : NodeId → ℕ) (components components' : List (PackageId × ℕ)) (items items' : List Item) (i : ℕ) : Type 0 where
+  writes_instantiation : (id : PackageId) (c : ℕ) (mid : List Item) (arguments : List (Name × Sort × ℕ))
+      → node.kind ≡ graph.instantiation → node.owner ≡ Some id → HasComponent (package_bytes g id) id c components components' items mid
+      → AreArgumentItems g places index n 0 (imports_of g node) arguments
+      → items' ≡ mid ++ instantiate c arguments ∷ [] → i ≡ indexes (space sort.Instance) mid
+      → WritesNode g places n node index components components' items items' i
+  writes_alias : (instance : NodeId) (source : GraphNode) (k : ℕ) (name : Name)
+      → node.kind ≡ graph.alias → IsAliasOf g instance k n → node_at g instance ≡ Some source → slice_get (exports_of g source) k ≡ Some (name, node.item_kind)
+      → components' ≡ components
+      → items' ≡ items ++ alias_item (export_alias (sort_of_kind node.item_kind) (index instance) name) ∷ [] → i ≡ indexes (space (sort_of_kind node.item_kind)) items
+      → WritesNode g places n node index components components' items items' i
+
+-- a node is written
+abbrev pub Wrote : Graph → Places → NodeId → Progress → Progress → Type 0
+Wrote g places n p q =
+    IfSome (node_at g n) (λ node. (i : ℕ) × WritesNode g places n node (index_in p.indexes) p.components q.components p.items q.items i × (q.indexes ≡ slice_set p.indexes n.0 i))
+
+-- these nodes are written, in this order
+abbrev pub WroteAll : Graph → Places → List NodeId → Progress → Progress → Type 0
+WroteAll g places [] p q = q ≡ p
+WroteAll g places (n ∷ ns) p q = (mid : Progress) × Wrote g places n p mid × WroteAll g places ns mid q
