@@ -1,5 +1,5 @@
 -- What is always true of a graph's fields stays true after each call.
-use Rattle.std.proofs.Common.{◌≡◌, ◌≢◌, ℕ, Bool, true, false, cond, ◌||◌, ◌&&◌, List, [], ◌∷◌, ◌++◌, length, reverse, map as map_list, refl, ap, ◌∙◌, sym, subst, ◌==◌, Option, Some, None, IsSome, is_some, ◌⊎◌, inl, inr, get_or, String, Global, string_bytes, Vec, ◌<◌, ◌≤◌, arith}
+use Rattle.std.proofs.Common.{◌≡◌, ◌≢◌, ℕ, Bool, true, false, ◌||◌, ◌&&◌, List, [], ◌∷◌, ◌++◌, length, reverse, map as map_list, refl, ap, ◌∙◌, sym, subst, ◌==◌, Option, Some, None, IsSome, is_some, ◌⊎◌, inl, inr, get_or, String, Global, string_bytes, Vec, ◌<◌, ◌≤◌, arith}
 use Rattle.std.specs.Prelude.{slice_get, IsSomeAnd, vec_capacity}
 use Rattle.std.specs.Option.{option_map}
 use Rattle.std.specs.Map.{lookup}

@@ -1,35 +1,32 @@
 -- A graph is still one where nodes were taken out with all that goes with them, and it is the graph without them.
-use Rattle.std.proofs.Common.{◌≡◌, ◌≢◌, ℕ, zero, suc, Bool, true, false, cond, not, ◌&&◌, List, [], ◌∷◌, length, refl, ap, ◌∙◌, sym, subst, ◌⊎◌, inl, inr, Option, Some, None, IsSome, is_some, IsTrue, ◌↔◌, String, Global, string_bytes}
-use Rattle.std.specs.Prelude.{slice_get, IsSomeAnd, swap_remove}
+use Rattle.std.proofs.Common.{◌≡◌, ℕ, Bool, true, false, cond, not, ◌&&◌, List, refl, ap, ◌∙◌, sym, subst, ◌⊎◌, inl, inr, Option, Some, None, IsSome, is_some, String, Global, string_bytes}
+use Rattle.std.specs.Prelude.{slice_get, IsSomeAnd}
 use Rattle.std.specs.Option.{option_map}
-use Rattle.std.proofs.lemmas.Option.{slice_get-map}
 use Rattle.std.specs.Map.{lookup, KeepsOthers}
 use Rattle.std.specs.Str.{bytes_eq}
 use Rattle.std.specs.String.{string_eq}
 use Rattle.std.specs.FinMap as map
-use Rattle.std.specs.FinSet as set
 use Rattle.std.specs.HashMap.{HashMap}
 use Rattle.std.specs.declared.hash.FoldHasher.{FoldHasher}
 use Rattle.std.specs.declared.hash.BuildHasherDefault.{BuildHasherDefault}
 use Rattle.slab.specs.Slab.{Slab, get}
 use Rattle.wac_shapes.specs.Name.{Name, same_name, find_name}
-use Rattle.wac_shapes.proofs.Names.{same_name-true, same_name-from, same_name-refl, same_name-bytes_eq}
-use Rattle.wac_edges.specs.declared.edges.Edge.{Edge}
+use Rattle.wac_shapes.proofs.Names.{same_name-true, same_name-from, same_name-bytes_eq}
 use Rattle.wac_edges.specs.declared.edges.Label.{Label}
 use Rattle.wac_edges.specs.declared.edges.Label.TheVariants as label
 use Rattle.wac_edges.specs.declared.node.NodeId.{NodeId}
-use Rattle.wac_edges.specs.Edge.{alias_edge, argument_edge, node_number}
+use Rattle.wac_edges.specs.Edge.{alias_edge, argument_edge}
 use Rattle.wac_edges.specs.Order.{Edges}
 use Rattle.wac_nodes.specs.declared.node.Node.{Node}
 use Rattle.wac_nodes.specs.declared.node.NodeKind.{NodeKind}
 use Rattle.wac_nodes.specs.declared.node.NodeKind.TheVariants as code
 use Rattle.wac_nodes.specs.Graph as graph
 use Rattle.wac_nodes.specs.Graph.{Graph, GraphNode, Kind, node_at, IsImportOf}
-use Rattle.wac_nodes.specs.Nodes.{node_of, nodes_of, names_of, kind_of, satisfied_at, IsInstantiationAt}
+use Rattle.wac_nodes.specs.Nodes.{node_of, nodes_of, names_of, kind_of, IsInstantiationAt}
 use Rattle.wac_nodes.specs.Sound.{Joins}
-use Rattle.wac_nodes.specs.TakenOut.{taken_at, taken_below, without}
+use Rattle.wac_nodes.specs.TakenOut.{without}
 use Rattle.wac_nodes.proofs.NodeLemmas.{get-nodes_of, is_some-node_of, lookup_text}
-use Rattle.wac_nodes.proofs.TakenOut.{Left, left_without, none_without, was_at}
+use Rattle.wac_nodes.proofs.TakenOut.{Left, left_without, none_without}
 use Rattle.wac_composition.specs.declared.graph.CompositionGraph.TheInside.{Inside}
 use Rattle.wac_composition.specs.Inside.{graph_of, Invariant}
 use Rattle.wac_removing.specs.Removal.{Follows, GoesWith, itself, behind, IsWithout, Removes}

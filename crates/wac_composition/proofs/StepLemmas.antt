@@ -1,5 +1,5 @@
 -- What a call leaves in the fields is a step of the graph.
-use Rattle.std.proofs.Common.{◌≡◌, ◌↔◌, ℕ, List, [], ◌∷◌, ◌++◌, length, ap, refl, ◌∙◌, sym, subst, Option, Some, None, IfSome, IsSome, Ok, Global, Vec}
+use Rattle.std.proofs.Common.{◌≡◌, ◌↔◌, ℕ, ap, refl, ◌∙◌, sym, subst, Option, Some, None, IfSome, IsSome, Ok, Global, Vec}
 use Rattle.std.specs.Option.{option_map}
 use Rattle.std.specs.Map.{lookup}
 use Rattle.std.specs.HashMap.{HashMap}

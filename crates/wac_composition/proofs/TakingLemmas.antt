@@ -1,14 +1,12 @@
 -- What is always true of a graph's fields stays true where an argument is taken away, and where a node is named.
-use Rattle.std.proofs.Common.{◌≡◌, ◌≢◌, ℕ, Bool, true, false, not, ◌||◌, ◌&&◌, ◌==◌, refl, ap, ◌∙◌, sym, subst, Option, Some, None, IfSome, IsSome, is_some, Ok, Err, String, Global, string_bytes, List, [], ◌∷◌, suc, ◌-◌, length, take, slice_set, get_or}
+use Rattle.std.proofs.Common.{◌≡◌, ◌≢◌, ℕ, Bool, true, false, not, ◌&&◌, ◌==◌, refl, ap, ◌∙◌, sym, subst, Option, Some, None, IfSome, IsSome, is_some, Ok, Err, String, Global, string_bytes, List, suc}
 use Rattle.std.specs.Prelude.{slice_get, IsSomeAnd, swap_remove, if◌then◌else◌}
 use Rattle.std.specs.HashMap.{HashMap}
 use Rattle.std.specs.declared.hash.FoldHasher.{FoldHasher}
 use Rattle.std.specs.declared.hash.BuildHasherDefault.{BuildHasherDefault}
-use Rattle.std.proofs.lemmas.List.{take-map, map-set, length-map}
-use Rattle.std.proofs.Math.ListN.{get_or-map}
 use Rattle.std.proofs.lemmas.Option.{slice_get-map}
 use Rattle.std.specs.Option.{option_map}
-use Rattle.std.specs.Ordering.{nat_cmp, eq_by_cmp, is_eq}
+use Rattle.std.specs.Ordering.{eq_by_cmp, is_eq}
 use Rattle.std.specs.Cmp.{tied_itself}
 use Rattle.std.specs.FinMap as map
 use Rattle.std.specs.FinSet as set

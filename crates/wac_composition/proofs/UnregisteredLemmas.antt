@@ -1,5 +1,5 @@
 -- A graph is still one where a package was taken out with its nodes, and it is the graph without them.
-use Rattle.std.proofs.Common.{◌≡◌, ℕ, ◌<◌, ◌≤◌, Bool, true, false, cond, not, length, filter, refl, ap, ◌∙◌, sym, subst, arith, Option, Some, None, IsSome, String, Global, Vec}
+use Rattle.std.proofs.Common.{◌≡◌, ℕ, ◌<◌, ◌≤◌, Bool, true, false, cond, not, length, filter, refl, ap, ◌∙◌, sym, subst, arith, Some, None, IsSome, String, Global, Vec}
 use Rattle.std.specs.Prelude.{slice_get, IsSomeAnd, vec_len, vec_capacity}
 use Rattle.std.specs.Option.{option_map}
 use Rattle.std.proofs.lemmas.List.{length-reverse}
@@ -29,7 +29,7 @@ use Rattle.wac_removing.specs.Told.{tells}
 use Rattle.wac_removing.specs.Lost.{is_again}
 use Rattle.wac_removing.specs.declared.lost.Lost.{Lost}
 use Rattle.wac_removing.proofs.SlotLemmas.{vacant_fewer}
-use Rattle.wac_removing.proofs.WithoutLemmas.{nodes_left, edges_left, no_first, still_there}
+use Rattle.wac_removing.proofs.WithoutLemmas.{nodes_left, edges_left, no_first}
 use Rattle.wac_removing.proofs.UnregisteringLemmas.{import_of_none, kept_exports, none_exports, sound_unregistered, length_freed}
 use Rattle.wac_composition.specs.declared.graph.CompositionGraph.TheInside.{Inside}
 use Rattle.wac_composition.specs.Inside.{graph_of, Invariant}
