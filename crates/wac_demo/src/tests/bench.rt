@@ -57,6 +57,9 @@ pub enum Call<'a> {
     // The node that is exported by this name.
     Exported(&'a str),
     Remove(usize),
+    Unregister(usize),
+    // Whether a package is registered.
+    Registered(usize),
     // Whether a node is there.
     Has(usize),
     // How many imports of an instantiation have an argument.
@@ -188,10 +191,15 @@ impl Bench {
         }
     }
 
+    fn package(&self, place: usize) -> Result<PackageId, Fail> {
+        match self.packages.get(place) {
+            Some(package) => Ok(*package),
+            None => Err(Fail::new("no such package")),
+        }
+    }
+
     fn instantiate(&mut self, rt: &impl Abort, place: usize) -> Result<String, Fail> {
-        let Some(id) = self.packages.get(place).copied() else {
-            return Err(Fail::new("no such package"));
-        };
+        let id = self.package(place)?;
         let held = self.graph.has_package(id);
         assert!(rt; held);
         match self.graph.instantiate(id) {
@@ -330,6 +338,18 @@ impl Bench {
         Ok(String::new(self.alloc))
     }
 
+    fn unregister(&mut self, rt: &impl Abort, place: usize) -> Result<String, Fail> {
+        let id = self.package(place)?;
+        let held = self.graph.has_package(id);
+        assert!(rt; held);
+        self.graph.unregister_package(id);
+        Ok(String::new(self.alloc))
+    }
+
+    fn registered(&self, place: usize) -> Result<String, Fail> {
+        shown(self.alloc, self.graph.has_package(self.package(place)?))
+    }
+
     fn has(&self, place: usize) -> Result<String, Fail> {
         shown(self.alloc, self.graph.has_node(self.node(place)?))
     }
@@ -360,6 +380,8 @@ impl Bench {
             Call::Source(place) => self.source(place),
             Call::Exported(name) => self.exported(name),
             Call::Remove(place) => self.remove(rt, place),
+            Call::Unregister(place) => self.unregister(rt, place),
+            Call::Registered(place) => self.registered(place),
             Call::Has(place) => self.has(place),
             Call::Satisfied(place) => self.satisfied(rt, place),
         }
