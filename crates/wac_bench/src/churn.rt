@@ -1,12 +1,12 @@
 //! How long it takes to remove nodes of a graph with many exports and to make them again: half of the nodes, ten times.
 
-use crate::graphs::{alias, export, instantiate, one, pass, plain, register};
+use crate::graphs::{alias, export, instantiate, one, pass, plain, register, unvalidated};
 use crate::times::{ROUNDS, Times, print_power_of_ten, print_times};
 use anyhow::{Result, bail};
 use std::alloc::Global;
 use std::time::{Duration, Instant};
 use wac_graph::types::Named;
-use wac_graph::{CompositionGraph, EncodeOptions, NodeId, PackageId};
+use wac_graph::{CompositionGraph, NodeId, PackageId};
 
 /// How often half of the nodes are removed and made again.
 const TURNS: u64 = 10;
@@ -135,7 +135,7 @@ fn timed(
     }
     let turned = start.elapsed(rt)?;
     let start = Instant::now(rt)?;
-    let length = graph.encode(EncodeOptions::default())?.len();
+    let length = graph.encode(unvalidated())?.len();
     let encoded = start.elapsed(rt)?;
     Ok(Round {
         made,
