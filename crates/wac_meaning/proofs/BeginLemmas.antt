@@ -1,7 +1,8 @@
 -- Items that begin a component, one more at a time.
-use Rattle.std.proofs.Common.{◌≡◌, ℕ, ◌+◌, ◌<◌, List, [], ◌∷◌, ◌++◌, length, refl, ap, ◌∙◌, sym, subst, arith, Some, None, ◌⊎◌, inl, inr}
+use Rattle.std.proofs.Common.{◌≡◌, ℕ, ◌+◌, ◌<◌, List, [], ◌∷◌, ◌++◌, length, map, refl, ap, ◌∙◌, sym, subst, arith, append_assoc, Some, None, ◌⊎◌, inl, inr}
 use Rattle.std.specs.Prelude.{slice_get}
-use Rattle.std.proofs.lemmas.List.{length-append}
+use Rattle.std.specs.List.{AllByRecursion}
+use Rattle.std.proofs.lemmas.List.{append-nil, length-append}
 use Rattle.std.proofs.lemmas.Option.{slice_get_within}
 use Rattle.wac_shapes.specs.Name.{Name}
 use Rattle.wac_collection.specs.Tree.{imported, position, Tree, instance_item}
@@ -9,11 +10,11 @@ use Rattle.wac_binary.specs.declared.sorts.Sort.{Sort}
 use Rattle.wac_binary.specs.declared.sorts.Sort.TheVariants as sort
 use Rattle.wac_binary.specs.declared.sorts.Description.{Description}
 use Rattle.wac_binary.specs.declared.sorts.Description.TheVariants as e
-use Rattle.wac_binary.specs.Items.{Item, core_type, alias_item, export_alias, outer_alias, type_item, import_item}
+use Rattle.wac_binary.specs.Items.{Item, TypeDef, core_type, alias_item, export_alias, outer_alias, type_item, import_item}
 use Rattle.wac_binary.specs.Indexes.{space, described_sort, indexes}
 use Rattle.wac_binary.specs.Unfold.{Scope, Bound, bound_at, type_at, described_item, with_bound}
-use Rattle.wac_binary.specs.Meaning.{Thing, import_at, Root, stands_for, things, thing_at, meaning}
-use Rattle.wac_binary.specs.HasMeaning.{ItemHasMeaning}
+use Rattle.wac_binary.specs.Meaning.{Thing, import_at, Root, start, stands_for, things, thing_at, read, read_all, meaning}
+use Rattle.wac_binary.specs.HasMeaning.{ItemHasMeaning, AllHaveMeaning, HasMeaning}
 use Rattle.wac_meaning.specs.Beginning.{Places, Begins}
 use Rattle.wac_meaning.proofs.MeaningLemmas.{Laws, Rest, rest, meaning-push, rest-with_thing, things-with_thing, thing_at-last, bound_at-last, alias_rest, indexes-push}
 use Rattle.wac_meaning.proofs.MeantLemmas.{meant-push}
@@ -136,3 +137,37 @@ module _ (laws : Laws) (imports : List (Name × Tree)) (places : Places) (items 
               ap (λ (x : Name × Tree). x.1) is
               ∙ ap (λ (z : Bound). instance_item z.type) (sym (ap (bound_at (meaning (items ++ import_item n (e.Instance j) ∷ [])).scope.instances) (ap (λ (x : Sort × ℕ). x.1) placed) ∙ import_bound laws items n j))
           of_instance d' placed is = let no : sort.Instance ≡ described_sort d' = ap (λ (x : Sort × ℕ). x.0) placed in cc
+
+-- items have a meaning behind those before them
+all_behind : (r : Root) (items more : List Item) → AllHaveMeaning r (items ++ more) → AllHaveMeaning (read_all r items) more
+all_behind r [] more h = h
+all_behind r (x ∷ items) more h = all_behind (read r x) items more h.1
+
+module _ (laws : Laws) (imports : List (Name × Tree)) (places : Places) where
+  quiet_all : (more items : List Item) → AllByRecursion IsQuiet more → AllHaveMeaning (meaning items) more → Begins imports places items → Begins imports places (items ++ more)
+  quiet_all [] items quiet meant b = subst (Begins imports places) (sym (append-nil items)) b
+  quiet_all (x ∷ more) items quiet meant b =
+      subst (Begins imports places) (append_assoc items (x ∷ []) more)
+      (quiet_all more (items ++ x ∷ []) quiet.1 (subst (λ r. AllHaveMeaning r more) (sym (meaning-push items x)) meant.1) (begins_quiet laws imports places items b x quiet.0 meant.0))
+
+  -- types and aliases, and one import behind them, whose item is this tree
+  pub begins_next : (items more : List Item) (n : Name) (d : Description) (t : Tree) → Begins imports places items → AllByRecursion IsQuiet more → HasMeaning ((items ++ more) ++ import_item n d ∷ [])
+      → (meaning ((items ++ more) ++ import_item n d ∷ [])).imports ≡ imports ++ (n, t) ∷ []
+      → Begins (imports ++ (n, t) ∷ []) (places ++ (described_sort d, indexes (space (described_sort d)) (items ++ more)) ∷ []) ((items ++ more) ++ import_item n d ∷ [])
+  begins_next items more n d t b quiet meant listed =
+      let before : AllHaveMeaning (meaning items) (more ++ import_item n d ∷ []) = all_behind start items (more ++ import_item n d ∷ []) (subst HasMeaning (append_assoc items more (import_item n d ∷ [])) meant) in
+      let mid : Begins imports places (items ++ more) = quiet_all more items quiet (first_all (meaning items) more (import_item n d ∷ []) before) b in
+      let next = begins_import laws imports places (items ++ more) mid n d (all_behind start (items ++ more) (import_item n d ∷ []) meant).0 in
+      subst (λ is. Begins is (places ++ (described_sort d, indexes (space (described_sort d)) (items ++ more)) ∷ []) ((items ++ more) ++ import_item n d ∷ [])) (sym next.imports_are ∙ listed) next where
+        first_all : (r : Root) (xs ys : List Item) → AllHaveMeaning r (xs ++ ys) → AllHaveMeaning r xs
+        first_all r [] ys h = tt
+        first_all r (x ∷ xs) ys h = (h.0, first_all (read r x) xs ys h.1)
+
+  -- and so where types alone stand before it
+  pub begins_behind_types : (items : List Item) (types : List TypeDef) (n : Name) (d : Description) (t : Tree) → Begins imports places items → HasMeaning ((items ++ map type_item types) ++ import_item n d ∷ [])
+      → (meaning ((items ++ map type_item types) ++ import_item n d ∷ [])).imports ≡ imports ++ (n, t) ∷ []
+      → Begins (imports ++ (n, t) ∷ []) (places ++ (described_sort d, indexes (space (described_sort d)) (items ++ map type_item types)) ∷ []) ((items ++ map type_item types) ++ import_item n d ∷ [])
+  begins_behind_types items types n d t b meant listed = begins_next items (map type_item types) n d t b (all_types types) meant listed where
+    all_types : (types : List TypeDef) → AllByRecursion IsQuiet (map type_item types)
+    all_types [] = tt
+    all_types (x ∷ types) = (tt, all_types types)

@@ -12,3 +12,4 @@ pub mod OuterOrder
 pub mod BeginLemmas
 pub mod AskedMembers
 pub mod MergeLemmas
+pub mod OrderLemmas

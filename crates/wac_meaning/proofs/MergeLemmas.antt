@@ -1,10 +1,11 @@
 -- What a merge of all that a graph asks for says of the graph's imports.
 use Rattle.std.proofs.Common.{◌≡◌, ℕ, zero, suc, ◌+◌, ◌<◌, Bool, true, false, not, ◌||◌, cond, ◌↔◌, List, [], ◌∷◌, ◌++◌, length, map, refl, ap, ◌∙◌, sym, subst, arith, Option, Some}
 use Rattle.std.specs.List.{AllByRecursion, filter, flat_map}
-use Rattle.std.specs.Prelude.{slice_get, Contains}
+use Rattle.std.specs.Prelude.{slice_get, take, Contains}
+use Rattle.std.proofs.lemmas.List.{length-take-le}
 use Rattle.std.proofs.lemmas.Option.{slice_get_within, get_or_from_slice_get, slice_get-get_or}
 use Rattle.wac_shapes.specs.Name.{Name, same_name}
-use Rattle.wac_shapes.proofs.Names.{same_name-from}
+use Rattle.wac_shapes.proofs.Names.{same_name-from, take_at}
 use Rattle.wac_collection.specs.Tree.{imported, position}
 use Rattle.wac_collection.specs.Collection.{Collection}
 use Rattle.wac_subtyping.specs.Subtype.{IsSubtype}
@@ -47,6 +48,19 @@ from-at m q (x ∷ es) (suc p) e at = let next : suc q + p ≡ q + suc p = omega
 -- the import at a position
 pub merged_at : (m : Merged) (p : ℕ) (e : Entry) → slice_get m.imports p ≡ Some e → slice_get (merged_imports m) p ≡ Some (e.name, merged_item m p e)
 merged_at m p e at = let here : 0 + p ≡ p = omega arith in from-at m 0 m.imports p e at ∙ ap (λ k. Some (e.name, merged_item m k e)) here
+
+-- one import more
+from_more : (m : Merged) (q : ℕ) (es : List Entry) (e : Entry) → imports_from m q (es ++ e ∷ []) ≡ imports_from m q es ++ (e.name, merged_item m (q + length es) e) ∷ []
+from_more m q [] e = let here : q ≡ q + 0 = omega arith in ap (λ k. (e.name, merged_item m k e) ∷ []) here
+from_more m q (x ∷ es) e =
+    let next : suc q + length es ≡ q + length (x ∷ es) = omega arith in
+    ap (λ is. (x.name, merged_item m q x) ∷ is) (from_more m (suc q) es e ∙ ap (λ k. imports_from m (suc q) es ++ (e.name, merged_item m k e) ∷ []) next)
+
+-- the first so many imports, and the next
+pub imports_next : (m : Merged) (p : ℕ) (e : Entry) → slice_get m.imports p ≡ Some e → imports_from m 0 (take (suc p) m.imports) ≡ imports_from m 0 (take p m.imports) ++ (e.name, merged_item m p e) ∷ []
+imports_next m p e at =
+    let count : 0 + length (take p m.imports) ≡ p = omega (arith, length-take-le p m.imports (omega (arith, slice_get_within m.imports p e at))) in
+    ap (imports_from m 0) (take_at m.imports p e at) ∙ from_more m 0 (take p m.imports) e ∙ ap (λ k. imports_from m 0 (take p m.imports) ++ (e.name, merged_item m k e) ∷ []) count
 
 the_entry : {A : Type 0} (xs : List A) (p : ℕ) → p < length xs → (x : A) × (slice_get xs p ≡ Some x)
 the_entry [] p h = absurd (omega (arith, h))
