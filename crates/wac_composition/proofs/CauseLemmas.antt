@@ -6,6 +6,9 @@ use Rattle.wac_shapes.specs.Name.{Name, option_case}
 use Rattle.wac_collection.specs.Package.{Key, PackageParts}
 use Rattle.wac_shapes.specs.declared.component.ItemKind.{ItemKind}
 use Rattle.wac_nodes.specs.declared.options.EncodeOptions.{EncodeOptions}
+use Rattle.wac_binary.specs.declared.fault.BinaryFault.{BinaryFault}
+use Rattle.wac_binary.specs.declared.fault.BinaryFault.TheVariants as binary
+use Rattle.wac_causes.specs.Faults.{encode_error}
 use Rattle.wac_causes.specs.declared.errors.EncodeError.{EncodeError}
 use Rattle.wac_causes.specs.declared.errors.EncodeError.TheVariants as error
 use Rattle.wac_edges.specs.declared.node.NodeId.{NodeId}
@@ -13,7 +16,7 @@ use Rattle.wac_nodes.specs.Graph as graph
 use Rattle.wac_nodes.specs.Graph.{Graph, GraphNode, node_at, imports_of, package_of, IsImportOf}
 use Rattle.wac_nodes.specs.Sound.{IsSound}
 use Rattle.wac_edges.specs.Order.{IsAcyclic, IsLowestOnCycle}
-use Rattle.wac_causes.specs.NotYet.{IsNotYet, AllWritable}
+use Rattle.wac_causes.specs.NotYet.{AllImportable, IsNotYet}
 use Rattle.wac_agreement.specs.Faults.{OneFault, Fault, disagree, use_each_other}
 use Rattle.wac_entries.specs.Classes.{by_names}
 use Rattle.wac_terms.specs.NoDisagreement.{HasNoDisagreement}
@@ -21,7 +24,9 @@ use Rattle.wac_nodes.specs.Asked.{Entry}
 use Rattle.wac_nodes.specs.Entries.{asked_entries, to_merge}
 use Rattle.wac_causes.specs.Cause.{IsFirstConflict, HasNoConflict, HasMerge, IsMergeConflict, IsImplicitMerge, IsExplicitMerge, IsImportCircle, Cause, cycle, conflict, implicit_merge, explicit_merge, import_circle, not_yet, invalid, a_disagreement, an_invalid_name, rank, kind_of_cause, Stands, cause_of, AnswersFor}
 use Rattle.wac_causes.specs.Search.{IsRefused}
-use Rattle.wac_composition.proofs.MeansLemmas.{none_left}
+use Rattle.wac_composition.specs.EncoderView.{IsRefusedBefore}
+use Rattle.wac_meaning.proofs.ThingLemmas.{DefinesNothing}
+use Rattle.wac_writing.proofs.OuterLemmas.{nothing_left}
 use Rattle.wac_causes.proofs.StandsLemmas.{stands_cycle, stands_not_yet, same_kind, none_there, invalid_alone}
 use Rattle.wac_causes.specs.OuterNames.{IsOuterFault}
 use Rattle.wac_validation.specs.FirstFault as names
@@ -191,9 +196,6 @@ refused_for g sound law o e (inr (named, names, before, there)) cause stands = i
 abbrev pub IsChecked : Graph → EncodeOptions → Type 0
 IsChecked g o = IsAcyclic g.edges × HasNoConflict g × HasMerge g × (IsNotYet g o → ⊥)
 
-pub checked : (g : Graph) → (o : EncodeOptions) → IsAcyclic g.edges → HasNoConflict g → HasMerge g → AllWritable g → o.define_components ≡ true → IsChecked g o
-checked g o acyclic apart merges all define = (acyclic, apart, merges, none_left g all o define)
-
 -- where the names are valid, or none asks whether they are, no cause stands
 pub none_stands : (g : Graph) → (o : EncodeOptions) → IsChecked g o → (IsTrue o.validate → (fault : names.Fault) → IsOuterFault g o fault → ⊥) → (cause : Cause) → Stands g o cause → ⊥
 none_stands g o h valid cause s = none_there g o h.0 h.1 h.2 h.3 valid (kind_of_cause cause) s.0.0
@@ -227,6 +229,25 @@ nameless_answers g o h e none cause s = by_error (nameless e none) where
   by_error : (e ≡ error.OutOfMemory) ⊎ (e ≡ error.TooLarge) → AnswersFor cause e
   by_error (inl is) = inr (inl is)
   by_error (inr is) = subst (λ x. AnswersFor cause x) (sym is) (too_large g o h cause s)
+
+-- what stands where the call that begins is refused
+pub begun_cause : (g : Graph) (o : EncodeOptions) (e : EncodeError) → IsRefusedBefore g o e → IfSome (cause_of e) (Stands g o)
+begun_cause g o e (inl h) = names_cause g o e h
+begun_cause g o e (inr (none, written)) = subst (λ x. IfSome x (Stands g o)) (sym none) tt
+
+pub begun_refused : (g : Graph) → IsSound g → OneFault → (o : EncodeOptions) → IsAcyclic g.edges → HasNoConflict g → HasMerge g → (e : EncodeError) → IsRefusedBefore g o e → (cause : Cause) → Stands g o cause → AnswersFor cause e
+begun_refused g sound law o acyclic apart merges e (inl h) cause s = refused_for g sound law o e h cause s
+begun_refused g sound law o acyclic apart merges e (inr (none, written)) cause s = nameless_answers g o (acyclic, apart, merges, written) e none cause s
+
+-- what the builder refuses names no cause
+pub binary_nameless : (e : BinaryFault) → cause_of (encode_error e) ≡ None
+binary_nameless binary.TooLarge = refl
+binary_nameless binary.OutOfMemory = refl
+
+-- a refusal of the imports' writer is for want of memory, or of room where all can be written
+pub begin_refused : (g : Graph) → DefinesNothing g → (o : EncodeOptions) → o.define_components ≡ true → (e : EncodeError) → (e ≡ error.OutOfMemory) ⊎ ((e ≡ error.TooLarge) × AllImportable g) → IsRefusedBefore g o e
+begin_refused g none o define e (inl is) = inl (inl is)
+begin_refused g none o define e (inr (is, all)) = inr (ap cause_of is, nothing_left g all none o define)
 
 -- what a `?` hands on
 pub exit_cause : {A E : Type 0} (P : E → Type 0) (r : Result A E) (e : E) → IsErrAnd r (λ y. y ≡ e) → P e → IfErr r P

@@ -1,9 +1,10 @@
-use Rattle.std.specs.Prelude.{◌==◌}
 use Rattle.std.proofs.Common.{◌≡◌, true, List, map, ap, sym, ◌∙◌, subst}
 use Rattle.std.specs.List.{AllByRecursion}
 use Rattle.wac_collection.specs.Collection.{Collection, IsWellFormed}
 use Rattle.wac_merge.specs.Aggregate.{IsFault}
 use Rattle.wac_entries.specs.Bindings.{AreHeld}
+use Rattle.wac_terms.specs.Merge.{IsMerge}
+use Rattle.wac_meaning.specs.MergedImports.{ExportsOnce}
 use Rattle.wac_agreement.specs.Faults.{HasNoCircle}
 use Rattle.wac_terms.specs.NoDisagreement.{HasNoDisagreement}
 use Rattle.wac_agreement.specs.declared.fault.MergeFault.{MergeFault}
@@ -13,8 +14,8 @@ use Rattle.wac_nodes.specs.Entries.{asked_entries, to_merge}
 use Rattle.wac_asking.specs.EntriesLeft.{entry_view, IsHeldKind}
 use Rattle.wac_nodes.specs.Graph.{Graph}
 use Rattle.wac_composition.proofs.AskedHeld.{held_entries}
-use Rattle.wac_composition.proofs.MergeLemmas.{is_fault, merge_held, none_asked, nothing_merges}
-use Rattle.wac_composition.proofs.graph.CompositionGraph.check_merge.Goals as goal
+use Rattle.wac_composition.proofs.MergeLemmas.{is_fault, merge_held}
+use Rattle.wac_composition.proofs.graph.CompositionGraph.merged.Goals as goal
 
 pub aggregated-requires : goal.aggregated-requires
 aggregated-requires c =
@@ -53,5 +54,20 @@ merge_error-requires-clause-fault c =
     subst (λ (t : Collection). IsFault t (to_merge (asked_entries g)) f) types
     (subst (λ (es : List merge.Entry). IsFault c.self.inside.types es f) entries (is_fault c.self.inside.types c.in_ok-aggregator.aggregator.entries f c.in-Err.ensures.fault))
 
-pub returns-then-is_empty-clause-merges : goal.returns-then-is_empty-clause-merges
-returns-then-is_empty-clause-merges c = nothing_merges c.args.self.now (none_asked c.in_ok-entries.entries.items c.args.self.now (subst (λ k. (k == 0) ≡ true) c.in_ok-entries.entries.ok.0 (sym c.is_empty.ensures ∙ c.if-is_empty.true)) c.in_ok-entries.ensures)
+pub returns-in-Ok-clause-merged : goal.returns-in-Ok-clause-merged
+returns-in-Ok-clause-merged c =
+    let g = c.args.self.now in
+    let types : c.self.inside.types ≡ g.types = ap (λ (h : Graph). h.types) c.self.view_is in
+    let same : map entry_view c.as_slice.result.now ≡ asked_entries g = ap (map entry_view) c.as_slice.ensures.value ∙ c.in_ok-entries.ensures in
+    let entries : c.in_ok-aggregator.aggregator.entries ≡ to_merge (asked_entries g) = c.in_ok-aggregator.ensures ∙ ap to_merge same in record {
+      finished = c.in-Ok.ensures.finished.1;
+      entries = c.in-Ok.ensures.finished.0 ∙ entries;
+      whole = record {
+        merge = subst (λ (t : Collection). IsMerge merge.by_names t (to_merge (asked_entries g)) c.in-Ok.merge.merge) types (subst (λ (es : List merge.Entry). IsMerge merge.by_names c.self.inside.types es c.in-Ok.merge.merge) entries c.in-Ok.ensures.merged);
+        ordered = subst (λ (t : Collection). IsWellFormed t) types c.law-2.ensures;
+        merged_ordered = subst (λ (t : Collection). IsWellFormed t) c.types-in-Ok.ensures c.law-in-Ok.ensures;
+        once = subst (λ (t : Collection). ExportsOnce t) types c.exports_law.ensures;
+        merged_once = subst (λ (t : Collection). ExportsOnce t) c.types.ensures c.exports_law-in-Ok.ensures;
+        held = c.in-Ok.ensures.held;
+      };
+    }

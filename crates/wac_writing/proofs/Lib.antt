@@ -1,0 +1,3 @@
+pub mod ImportableLemmas
+pub mod PlaceLemmas
+pub mod OuterLemmas
