@@ -32,7 +32,7 @@ use wac_binary::{ComponentBuilder, Sort, component_names, producers};
 use wac_causes::EncodeError;
 use wac_edges::order::order;
 use wac_merge::laws::fault_law;
-use wac_nodes::{EncodeOptions, NodeId, NodeKind, PackageId, Processor};
+use wac_nodes::{EncodeOptions, NodeId, NodeKind, PackageId, Processor, first_gap};
 use wac_types::ItemKind;
 
 /// A component that is being written: its items, the component index of each package, and the index of each node.
@@ -324,12 +324,7 @@ fn has_gap(satisfied: &BTreeSet<usize>, count: usize) -> bool
     ensures gap { OnTrue result ((i : ℕ) × (i < count) × (positions.contains nat_cmp satisfied.now i ≡ false)) }
     ensures full { OnFalse result ((i : ℕ) → i < count → positions.contains nat_cmp satisfied.now i ≡ true) }
 {
-    for i in 0..count {
-        if !satisfied.contains(&i) {
-            return true;
-        }
-    }
-    false
+    first_gap(satisfied, 0, count).is_some()
 }
 
 /// The sort of an item's index.
