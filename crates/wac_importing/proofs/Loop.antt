@@ -1,5 +1,5 @@
 -- The root after some of the imports.
-use Rattle.std.proofs.Common.{◌≡◌, ℕ, zero, suc, ◌+◌, ◌<◌, ◌≤◌, Bool, true, false, List, [], ◌∷◌, ◌++◌, length, map, take, refl, ap, ◌∙◌, sym, subst, arith, add-one, Some, None}
+use Rattle.std.proofs.Common.{◌≡◌, ℕ, zero, suc, ◌+◌, ◌<◌, ◌≤◌, Bool, true, false, List, [], ◌∷◌, ◌++◌, length, map, take, refl, ap, ◌∙◌, sym, subst, arith, add-one, Some, None, ◌⊎◌, inl, inr}
 use Rattle.std.specs.Prelude.{slice_get}
 use Rattle.std.proofs.Math.Path.{fun_ext}
 use Rattle.std.proofs.lemmas.List.{take_all, length-take-le, length-map}
@@ -39,6 +39,8 @@ use Rattle.wac_encode.specs.Importing.{ImportsHeld, WritesImport, IsImportedAs}
 use Rattle.wac_meaning.specs.Means.{sort_of_kind}
 use Rattle.wac_meaning.specs.Beginning.{Places, Begins}
 use Rattle.wac_meaning.specs.MergedImports.{merged_item, imports_from, merged_imports}
+use Rattle.wac_meaning.proofs.WrittenLemmas.{slice_get-push}
+use Rattle.wac_importing.specs.Written.{AreOfSorts}
 use Rattle.wac_meaning.proofs.MeaningLemmas.{Laws}
 use Rattle.wac_meaning.proofs.BeginLemmas.{nothing_begins, begins_behind_types}
 use Rattle.wac_meaning.proofs.MergeLemmas.{imports_next}
@@ -54,6 +56,7 @@ pub record IsBegun (m : Merged) (i : ℕ) (s : Scope) (places : Places) : Type 0
   pub is_root : IsRoot s.content
   pub begins : Begins (imports_from m 0 (take i m.imports)) places (items_of s.content)
   pub good : Good m.types (bindings m ∷ []) (opened s start ∷ [])
+  pub sorts : AreOfSorts m places
 
 -- ---- none yet
 pub begun : (m : Merged) → StartsRoot → (s : Scope) → s.content ≡ Builder [] → ((d : DefinedTypeId) → value_index s d ≡ None) → IsBegun m 0 s []
@@ -64,8 +67,12 @@ begun m starts s is none =
       is_root = subst IsRoot (sym is) tt;
       begins = subst (λ (c : Encodable). Begins [] [] (items_of c)) (sym is) nothing_begins;
       good = subst (λ (o : Open). Good m.types (bindings m ∷ []) (o ∷ [])) (sym same) (starts m.types (bindings m));
+      sorts = λ p e place at wrong. no_such place wrong;
     }
   where
+    no_such : {A : Type 0} {P : Type 0} (x : A) → None ≡ Some x → P
+    no_such x h = cc
+
     by_value : (v : ValueType) → recorded_value s v ≡ None
     by_value (val.Defined d) = ap at_index (none d)
     by_value (val.Primitive p) = refl
@@ -159,7 +166,16 @@ one_more laws m es are once i x at old new places k b imports w is_root =
           (subst (λ (p : Sort × ℕ). Begins (before ++ (x.0, merged_item m i entry) ∷ []) (places ++ p ∷ []) (items_of new.content)) place
           (subst (λ (c : Encodable). Begins (before ++ (x.0, merged_item m i entry) ∷ []) (places ++ (described_sort d, indexes (space (described_sort d)) (items ++ map type_item types)) ∷ []) (items_of c)) (sym content) next)));
       good = good;
-    }
+      sorts = λ p e place here stands. sorted p e place here (slice_get-push places (sort_of_kind x.1, k) p place stands);
+    } where
+      sorted : (p : ℕ) (e : Entry) (place : Sort × ℕ) → slice_get m.imports p ≡ Some e → (slice_get places p ≡ Some place) ⊎ ((p ≡ length places) × (place ≡ (sort_of_kind x.1, k))) → place.0 ≡ sort_of_kind e.kind
+      sorted p e place here (inl before) = b.sorts p e place here before
+      sorted p e place here (inr (last, is)) =
+          let there : slice_get m.imports i ≡ Some (record { name = x.0; kind = x.1 }) = ap (λ (xs : List Entry). slice_get xs i) are ∙ entry_there es i x at in
+          let count : length places ≡ i = b.begins.count ∙ length_from m 0 (take i m.imports) ∙ length-take-le i m.imports (let within = slice_get_within m.imports i _ there in omega (arith, within)) in
+          let same_at : slice_get m.imports i ≡ Some e = ap (slice_get m.imports) (sym (last ∙ count)) ∙ here in
+          let one : record { name = x.0; kind = x.1 } ≡ e = cc in
+          ap (λ (z : Sort × ℕ). z.0) is ∙ ap (λ (z : Entry). sort_of_kind z.kind) one
 
 -- ---- all
 pub all_begun : (m : Merged) (es : List (Name × ItemKind)) → m.imports ≡ import_entries es → (i : ℕ) (s : Scope) (places : Places) (items : List Item) → length es ≤ i → IsBegun m i s places → s.content ≡ Builder items → Begins (merged_imports m) places items

@@ -87,10 +87,10 @@ fn are_plain(types: &Types, items: &Named<ItemKind>) -> Result<bool, AllocError>
     Ok(true)
 }
 
-/// Whether a held item is imported so far.
-fn is_importable(types: &Types, item: ItemKind) -> Result<bool, AllocError>
+/// Whether a held item is plain, or an instance that lists plain ones.
+fn lists_plain(types: &Types, item: ItemKind) -> Result<bool, AllocError>
     requires { holds_type types.now (kind_type item) ≡ true }
-    ensures importable { result ≡ Answers true → ListsPlain types.now item }
+    ensures plain { result ≡ Answers true → ListsPlain types.now item }
     ensures not { result ≡ Answers false → IsImportableKind types.now item → ⊥ }
 {
     types.law();
@@ -104,6 +104,17 @@ fn is_importable(types: &Types, item: ItemKind) -> Result<bool, AllocError>
     }
 }
 
+/// Whether a held item is imported so far: it is a function, a type item of a value type or an instance of such items, and made of no
+/// handle. Answers `AllocError` where memory ran out. Linear in what each of its items reaches.
+pub fn is_importable(types: &Types, item: ItemKind) -> Result<bool, AllocError>
+    requires { holds_type types.now (kind_type item) ≡ true }
+    ensures importable { result ≡ Answers true → IsImportableKind types.now item }
+    ensures not { result ≡ Answers false → IsImportableKind types.now item → ⊥ }
+{
+    types.law();
+    lists_plain(types, item)
+}
+
 /// Whether all held items are.
 pub(crate) fn are_importable(types: &Types, items: &Named<ItemKind>) -> Result<bool, AllocError>
     requires { (i : ℕ) (e : List ℕ × AnyItem) → slice_get items.now i ≡ Some e → holds_type types.now (kind_type e.1) ≡ true }
@@ -112,7 +123,7 @@ pub(crate) fn are_importable(types: &Types, items: &Named<ItemKind>) -> Result<b
 {
     for i in 0..items.len() {
         let (_, item) = items.entry_at(i);
-        if !is_importable(types, *item)? {
+        if !lists_plain(types, *item)? {
             return Ok(false);
         }
     }

@@ -8,4 +8,5 @@ mod importable;
 mod tests;
 mod written;
 
+pub use importable::is_importable;
 pub use written::{WrittenImports, write_imports};

@@ -12,7 +12,7 @@ ghost use Rattle.wac_encode.specs.Importing.{ImportsHeld, WritesImport};
 ghost use Rattle.wac_meaning.specs.Beginning.{Begins};
 ghost use Rattle.wac_meaning.specs.Means.{sort_of_kind};
 ghost use Rattle.wac_meaning.specs.MergedImports.{merged_imports};
-ghost use Rattle.wac_importing.specs.Written.{AllImportable, HasUnimportable, AreRefused, merge_of, IsTooLarge, IsNotWritten};
+ghost use Rattle.wac_importing.specs.Written.{AllImportable, HasUnimportable, AreOfSorts, AreRefused, merge_of, IsTooLarge, IsNotWritten};
 ghost use Rattle.wac_importing.specs.Looked.{ListsPlain, AreImportable};
 
 use crate::importable::are_importable;
@@ -46,6 +46,7 @@ pub fn write_imports(
     requires finished { merge.now.is_finished ≡ true }
     requires held { AreHeld merge.now.merge.types merge.now.merge.imports }
     ensures begins { IfOk result (λ o. IfSome o (λ w. Begins (merged_imports merge.now.merge) w.places.items w.root)) }
+    ensures sorts { IfOk result (λ o. IfSome o (λ w. AreOfSorts merge.now.merge w.places.items)) }
     ensures importable { IfOk result (λ o. IfSome o (λ _. AllImportable merge.now.merge)) }
     ensures none { result ≡ Answers None → HasUnimportable merge.now.merge }
     ensures refused { HasUnimportable merge.now.merge → (result ≡ Answers None) ⊎ (result ≡ Refused OutOfMemory) }
@@ -69,6 +70,7 @@ fn write_all(
     requires held { (i : ℕ) (e : List ℕ × AnyItem) → slice_get imports.now i ≡ Some e → holds_type types.now (kind_type e.1) ≡ true }
     requires importable { AreImportable types.now imports.now }
     ensures begins { IfOk result (λ w. Begins (merged_imports (merge_of types.now imports.now)) w.places.items w.root) }
+    ensures sorts { IfOk result (λ w. AreOfSorts (merge_of types.now imports.now) w.places.items) }
     ensures fault { IfErr result (IsTooLarge (merge_of types.now imports.now)) }
 {
     types.law();

@@ -2,7 +2,7 @@ use Rattle.std.proofs.Common.{ap, ◌∙◌, subst, Ok}
 use Rattle.wac_terms.specs.Merge.{Merged}
 use Rattle.wac_meaning.specs.Beginning.{Begins}
 use Rattle.wac_meaning.specs.MergedImports.{merged_imports}
-use Rattle.wac_importing.specs.Written.{AreRefused, IsTooLarge}
+use Rattle.wac_importing.specs.Written.{AreOfSorts, AreRefused, IsTooLarge}
 use Rattle.wac_importing.proofs.Merging.{err_of, refused_so, merge_is, held_items, unimportable, all_importable}
 use Rattle.wac_importing.proofs.written.write_imports.Goals as goal
 
@@ -28,6 +28,10 @@ returns-in_err-write_all-clause-fault c =
 pub returns-clause-begins : goal.returns-clause-begins
 returns-clause-begins c =
     subst (λ (m : Merged). Begins (merged_imports m) c.in_ok-write_all.field-0.places.items c.in_ok-write_all.field-0.root) (merge_is c.args.merge.now.merge c.types-types.result.now c.imports-imports.result.now c.types-types.ensures c.imports-imports.ensures) c.in_ok-write_all.ensures.begins
+
+pub returns-clause-sorts : goal.returns-clause-sorts
+returns-clause-sorts c =
+    subst (λ (m : Merged). AreOfSorts m c.in_ok-write_all.field-0.places.items) (merge_is c.args.merge.now.merge c.types-types.result.now c.imports-imports.result.now c.types-types.ensures c.imports-imports.ensures) c.in_ok-write_all.ensures.sorts
 
 pub returns-clause-importable : goal.returns-clause-importable
 returns-clause-importable c =
