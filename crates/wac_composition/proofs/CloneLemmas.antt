@@ -1,30 +1,31 @@
 -- The fields of a clone mean the same graph.
-use Rattle.std.proofs.Common.{◌≡◌, ℕ, zero, suc, ◌+◌, List, [], ◌∷◌, map, get_or, refl, ap, subst, ◌∙◌, sym, Option, Some, None, string_bytes}
+use Rattle.std.proofs.Common.{◌≡◌, ℕ, zero, suc, ◌+◌, List, [], ◌∷◌, length, reverse, map, get_or, ◌≤◌, arith, refl, ap, subst, ◌∙◌, sym, Option, Some, None, string_bytes}
 use Rattle.std.specs.Prelude.{String}
 use Rattle.std.specs.Global.{Global}
 use Rattle.std.specs.List.{AllZip}
-use Rattle.std.specs.Map.{lookup}
 use Rattle.std.specs.FinMap as finite
 use Rattle.std.specs.FinSet as set
 use Rattle.std.proofs.lemmas.List.Elements.{same_from_all_zip}
 use Rattle.slab.specs.Slab.{get, entries_from, IsSlotClone}
 use Rattle.wac_shapes.specs.Name.{find_name}
-use Rattle.wac_collection.specs.Package.{Key, same_key}
+use Rattle.wac_collection.specs.Package.{Key}
 use Rattle.wac_edges.specs.Edge.{argument_edge}
 use Rattle.wac_edges.specs.declared.node.NodeId.{NodeId}
 use Rattle.wac_nodes.specs.declared.node.Node.{Node}
 use Rattle.wac_nodes.specs.declared.packages.PackageId.{PackageId}
-use Rattle.wac_nodes.specs.Graph.{Graph, GraphNode, node_at, package_at, IsImportOf}
+use Rattle.wac_nodes.specs.declared.packages.Slot.{Slot}
+use Rattle.wac_nodes.specs.Graph.{Graph, GraphNode, node_at, IsImportOf}
 use Rattle.wac_nodes.proofs.NodeLemmas.{get-nodes_of}
 use Rattle.wac_removing.specs.Told.{tells}
 use Rattle.wac_removing.specs.Lost.{is_again}
 use Rattle.std.specs.Option.{option_map}
-use Rattle.std.specs.Prelude.{slice_get}
+use Rattle.std.specs.Prelude.{slice_get, vec_capacity}
 use Rattle.wac_nodes.specs.Nodes.{node_of, nodes_of, names_of, satisfied_at}
 use Rattle.wac_nodes.specs.Clones.{IsNodeClone}
 use Rattle.wac_nodes.specs.Sound.{IsSound}
 use Rattle.wac_composition.specs.declared.graph.CompositionGraph.TheInside.{Inside}
-use Rattle.wac_composition.specs.Inside.{graph_of, key_of, Invariant}
+use Rattle.wac_removing.specs.Slots.{AreKeyed}
+use Rattle.wac_composition.specs.Inside.{graph_of, Invariant}
 
 abbrev AreClones : List (Option Node) → List (Option Node) → Type 0
 AreClones xs ys = AllZip (IsSlotClone IsNodeClone) xs ys
@@ -67,21 +68,25 @@ pub same_keys : (xs ys : List (Key × PackageId)) → AllZip (λ p q. (q.0 ≡ p
 same_keys xs ys all = same_from_all_zip (λ p q. (q.0 ≡ p.0) × (q.1 ≡ p.1)) xs ys all (λ x y r. λ d. (r.0 d, r.1 d))
 
 pub same_graph : (a b : Inside) → b.types ≡ a.types → AreClones a.nodes.slots b.nodes.slots → b.nodes.vacant_key ≡ a.nodes.vacant_key → b.edges ≡ a.edges
-    → AllZip (λ p q. (string_bytes q.0 ≡ string_bytes p.0) × (q.1 ≡ p.1)) a.exports.entries b.exports.entries → b.slots.items ≡ a.slots.items → graph_of b ≡ graph_of a
-same_graph a b types nodes next edges exports slots =
+    → AllZip (λ p q. (string_bytes q.0 ≡ string_bytes p.0) × (q.1 ≡ p.1)) a.exports.entries b.exports.entries → b.slots.items ≡ a.slots.items → b.vacant.items ≡ a.vacant.items → graph_of b ≡ graph_of a
+same_graph a b types nodes next edges exports slots vacant =
     let shown : nodes_of b.nodes.slots ≡ nodes_of a.nodes.slots = ap finite.from_entries (same_entries 0 a.nodes.slots b.nodes.slots nodes) in
     let named : names_of b.exports.entries ≡ names_of a.exports.entries = same_names a.exports.entries b.exports.entries exports in
-    λ d. record { types = types d; nodes = shown d; next = next d; edges = edges d; exports = named d; slots = slots d; vacant = [] }
+    λ d. record { types = types d; nodes = shown d; next = next d; edges = edges d; exports = named d; slots = slots d; vacant = reverse (vacant d) }
+
+-- the room that was made is room for all slots
+pub room_cloned : (asked counted room : ℕ) (were slots : List Slot) → asked ≤ room → asked ≡ counted → counted ≡ length were → slots ≡ were → length slots ≤ room
+room_cloned asked counted room were slots made is count same = let many : length slots ≡ length were = ap length same in omega (arith, made, is, count, many)
 
 -- so what is always true of a graph's fields is true of those of its clone
 pub invariant_clone : (a b : Inside) → Invariant a → graph_of b ≡ graph_of a → ((q i : ℕ) → satisfied_at (get b.nodes q) i ≡ satisfied_at (get a.nodes q) i)
-    → b.package_map.entries ≡ a.package_map.entries → names_of b.imports.entries ≡ names_of a.imports.entries → ((q : ℕ) → is_again b.lost q ≡ is_again a.lost q) → Invariant b
-invariant_clone a b v same marks keys names again = record {
+    → b.package_map.entries ≡ a.package_map.entries → names_of b.imports.entries ≡ names_of a.imports.entries → ((q : ℕ) → is_again b.lost q ≡ is_again a.lost q) → length b.slots.items ≤ vec_capacity b.vacant → Invariant b
+invariant_clone a b v same marks keys names again room = record {
   sound = subst IsSound (sym same) v.sound;
   marked = λ s t i stands. marks t.0 i ∙ v.marked s t i (ap (λ (g : Graph). set.contains g.edges (argument_edge s t i)) (sym same) ∙ stands);
   edged = λ t i h. let (s, stands) = v.edged t i (sym (marks t.0 i) ∙ h) in (s, ap (λ (g : Graph). set.contains g.edges (argument_edge s t i)) same ∙ stands);
-  keyed = λ id p at. ap (lookup (same_key (key_of p))) keys ∙ v.keyed id p (ap (λ (g : Graph). package_at g id) (sym same) ∙ at);
-  found = λ k id at. let (p, there, is) = v.found k id (ap (lookup (same_key k)) (sym keys) ∙ at) in (p, ap (λ (g : Graph). package_at g id) same ∙ there, is);
+  keyed = subst (AreKeyed b.slots.items) (sym keys) (subst (λ (g : Graph). AreKeyed g.slots a.package_map.entries) (sym same) v.keyed);
+  room = room;
   named = λ name n h. ap (λ es. find_name es name) names ∙ v.named name n (subst (λ (g : Graph). IsImportOf g name n) same h);
   importing = λ name n at. subst (λ (g : Graph). IsImportOf g name n) (sym same) (v.importing name n (ap (λ es. find_name es name) (sym names) ∙ at));
   told = λ i name n at. (λ j. tells (again n.0 j) (shown n j) name) ∙ v.told i name n (ap (λ (g : Graph). slice_get g.exports i) (sym same) ∙ at);

@@ -1,5 +1,5 @@
 -- The rows of a graph's imports, number by number.
-use Rattle.std.proofs.Common.{◌≡◌, ℕ, zero, suc, ◌+◌, ◌-◌, ◌<◌, ◌≤◌, Bool, true, false, cond, eqb, ◌&&◌, ◌||◌, List, [], ◌∷◌, ◌++◌, map, length, drop, get_or, refl, ap, ◌∙◌, sym, arith, Option, Some, None, MatchOption}
+use Rattle.std.proofs.Common.{◌≡◌, ℕ, zero, suc, ◌+◌, ◌-◌, ◌<◌, ◌≤◌, Bool, true, false, cond, eqb, ◌&&◌, ◌||◌, List, [], ◌∷◌, ◌++◌, map, length, drop, get_or, refl, ap, ◌∙◌, sym, arith, Option, Some, None, MatchOption, ◌⊎◌, inl, inr}
 use Rattle.std.proofs.Math.Path.{fun_ext}
 use Rattle.std.specs.Prelude.{slice_get}
 use Rattle.std.specs.Borrow.{Bor}
@@ -13,7 +13,7 @@ use Rattle.std.specs.BTreeSet.{BTreeSet}
 use Rattle.std.specs.FinMap as finite
 use Rattle.std.specs.FinMap.{put}
 use Rattle.std.specs.FinSet as set
-use Rattle.std.proofs.lemmas.Bool.{eqb-true}
+use Rattle.std.proofs.lemmas.Bool.{cases_lt, eqb-true}
 use Rattle.std.proofs.lemmas.List.{drop_all}
 use Rattle.std.proofs.lemmas.List.Folds.{list_any_at}
 use Rattle.slab.specs.Slab.{get, entries_from}
@@ -73,6 +73,20 @@ pub some_entry : {X : Type 0} (xs : List X) (i : ℕ) → i < length xs → (x :
 some_entry [] i h = absurd (omega arith)
 some_entry (x ∷ xs) zero h = (x, refl)
 some_entry (x ∷ xs) (suc i) h = some_entry xs i (omega arith)
+
+-- what comes first from a position on comes first from a later one, where all between are inside; where all are nothing comes
+module _ (inside : ℕ → Bool) (imports : List (Name × ItemKind)) where
+  pub skipped_to : (n from i : ℕ) → from + n ≡ i → i ≤ length imports → ((j : ℕ) → from ≤ j → j < i → inside j ≡ true) → unset_from inside imports from ≡ unset_from inside imports i
+  skipped_to zero from i is low all = let same : from ≡ i = omega arith in ap (unset_from inside imports) same
+  skipped_to (suc n) from i is low all =
+      let (e, at) = some_entry imports from (omega arith) in
+      skipped inside imports from e at (all from (omega arith) (omega arith)) ∙ skipped_to n (from + 1) i (omega arith) low (λ j high less. all j (omega arith) less)
+
+  pub none_left : (from : ℕ) → ((j : ℕ) → from ≤ j → j < length imports → inside j ≡ true) → unset_from inside imports from ≡ []
+  none_left from all = split (cases_lt from (length imports)) where
+    split : (from < length imports) ⊎ (length imports ≤ from) → unset_from inside imports from ≡ []
+    split (inl low) = skipped_to (length imports - from) from (length imports) (omega arith) (omega arith) all ∙ none_from inside imports (length imports) (omega arith)
+    split (inr past) = none_from inside imports from past
 
 -- which arguments are set: the edges say it
 one_passing : (p : Edge → Bool) (es : List Edge) → list_any p es ≡ true → (e : Edge) × Contains es e × (p e ≡ true)

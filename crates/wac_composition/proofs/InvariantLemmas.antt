@@ -1,6 +1,6 @@
 -- What is always true of a graph's fields stays true after each call.
-use Rattle.std.proofs.Common.{◌≡◌, ◌≢◌, ℕ, Bool, true, false, cond, ◌||◌, ◌&&◌, List, [], ◌∷◌, ◌++◌, length, map as map_list, refl, ap, ◌∙◌, sym, subst, ◌==◌, Option, Some, None, IsSome, is_some, ◌⊎◌, inl, inr, get_or, String, Global, string_bytes, Vec}
-use Rattle.std.specs.Prelude.{slice_get, IsSomeAnd}
+use Rattle.std.proofs.Common.{◌≡◌, ◌≢◌, ℕ, Bool, true, false, ◌||◌, ◌&&◌, List, [], ◌∷◌, ◌++◌, length, reverse, map as map_list, refl, ap, ◌∙◌, sym, subst, ◌==◌, Option, Some, None, IsSome, is_some, ◌⊎◌, inl, inr, get_or, String, Global, string_bytes, Vec, ◌<◌, ◌≤◌, arith}
+use Rattle.std.specs.Prelude.{slice_get, IsSomeAnd, vec_capacity}
 use Rattle.std.specs.Option.{option_map}
 use Rattle.std.specs.Map.{lookup}
 use Rattle.std.specs.FinMap as map
@@ -32,15 +32,17 @@ use Rattle.wac_removing.specs.Told.{tells}
 use Rattle.wac_removing.specs.Lost.{is_again, AreTold}
 use Rattle.wac_removing.specs.declared.lost.Lost.{Lost}
 use Rattle.wac_removing.proofs.ToldLemmas.{tells_there, keeps_name, tells_more, tells_kept, listed_before}
-use Rattle.wac_composition.specs.Inside.{graph_of, Invariant, key_of}
-use Rattle.wac_nodes.specs.Steps.{instance_node, import_node, alias_node}
+use Rattle.wac_removing.specs.Slots.{key_of, AreKeyed, vacant_of}
+use Rattle.wac_removing.proofs.SlotLemmas.{put_takes, sound_takes, room_takes, free_key, keyed_put}
+use Rattle.wac_composition.specs.Inside.{graph_of, Invariant}
+use Rattle.wac_nodes.specs.Steps.{instance_node, import_node, alias_node, TakesSlot}
 use Rattle.wac_nodes.proofs.Added.{by_eq, insert_same, insert_other, ImportIn, import_before, import_after, added_edge, kept_edge, new_edge}
 use Rattle.wac_nodes.proofs.JoinLemmas.{Extends}
-use Rattle.wac_nodes.proofs.SoundLemmas.{sound_import, sound_types, sound_slot, sound_node, sound_alias, sound_argument, sound_export, package_before, package_after}
-use Rattle.wac_collection.specs.KeyLaws.{same_key-true, same_key_equiv}
+use Rattle.wac_nodes.proofs.SoundLemmas.{sound_import, sound_types, sound_node, sound_alias, sound_argument, sound_export}
 use Rattle.indexmap.specs.IndexMap.{insert_entry}
-use Rattle.wac_edges.proofs.WrittenOrder.{eqb_same, slice_get-middle}
+use Rattle.wac_edges.proofs.WrittenOrder.{eqb_same}
 use Rattle.std.proofs.lemmas.Bool.{eqb-true}
+use Rattle.std.proofs.lemmas.List.{reverse-reverse}
 use Rattle.wac_nodes.proofs.NodeLemmas.{get-nodes_of, nodes_of-insert, nodes_of-same, is_some-node_of, find_kept, find_new, find_either}
 
 abbrev number : ℕ → NodeId
@@ -60,8 +62,8 @@ no_entry [] i x none at = cc
 no_entry (y ∷ xs) i x none at = cc
 
 -- nothing is in the empty graph
-pub invariant_empty : (a : Inside) → a.nodes.slots ≡ [] → a.edges ≡ set.empty → a.imports.entries ≡ [] → a.exports.entries ≡ [] → a.package_map.entries ≡ [] → a.slots.items ≡ [] → Invariant a
-invariant_empty a nodes edges imports exports keys slots = record {
+pub invariant_empty : (a : Inside) → a.nodes.slots ≡ [] → a.edges ≡ set.empty → a.imports.entries ≡ [] → a.exports.entries ≡ [] → a.package_map.entries ≡ [] → a.slots.items ≡ [] → a.vacant.items ≡ [] → Invariant a
+invariant_empty a nodes edges imports exports keys slots noted = record {
   sound = record {
     ends = λ e stands. absurd (no_edge e stands);
     joins = λ e x y stands _ _. absurd (no_edge e stands);
@@ -77,14 +79,17 @@ invariant_empty a nodes edges imports exports keys slots = record {
     one_export = λ name i j n m p _. absurd (no_export i name n p);
     one_package = λ key id other (p, at, _) _. absurd (no_package a.slots.items id p slots at);
     first_names = λ n node name there _. absurd (no_node n node there);
-    vacant = λ i k at. absurd (no_number at);
-    vacant_once = λ i j k at _. absurd (no_number at);
+    vacant = λ i k at. absurd (no_number i k at);
+    vacant_once = λ i j k at _. absurd (no_number i k at);
     packages = λ id p at. absurd (no_package a.slots.items id p slots at);
   };
   marked = λ source target position stands. absurd (no_edge (argument_edge source target position) stands);
   edged = λ target position is. absurd (clash (satisfied_at (get a.nodes target.0) position) is (ap (λ (xs : List (Option Node)). satisfied_at (get_or xs target.0 None) position) nodes));
-  keyed = λ id p at. absurd (no_package a.slots.items id p slots at);
-  found = λ k id at. absurd (let e : None ≡ Some id = ap (lookup (same_key k)) (sym keys) ∙ at in nothing id e);
+  keyed = record {
+    keyed = λ id p at. absurd (no_package a.slots.items id p slots at);
+    found = λ k id at. absurd (let e : None ≡ Some id = ap (lookup (same_key k)) (sym keys) ∙ at in nothing id e);
+  };
+  room = let none : length a.slots.items ≡ 0 = ap length slots in omega (arith, none);
   named = λ name n h. absurd (no_import name n h);
   importing = λ name n at. absurd (let e : None ≡ Some n = ap (λ es. find_name (names_of es) name) (sym imports) ∙ at in no_name n e);
   told = λ i name n at. absurd (no_export i name n at);
@@ -112,8 +117,8 @@ invariant_empty a nodes edges imports exports keys slots = record {
   no_name : (n : NodeId) → None ≡ Some n → ⊥
   no_name n h = cc
 
-  no_number : {k : ℕ} → None ≡ Some k → ⊥
-  no_number h = cc
+  no_number : (i k : ℕ) → slice_get (vacant_of a.vacant) i ≡ Some k → ⊥
+  no_number i k at = no_entry (vacant_of a.vacant) i k (ap reverse noted) at
 
   nothing : (id : PackageId) → None ≡ Some id → ⊥
   nothing id h = cc
@@ -124,20 +129,7 @@ entry name n = (name, n)
 module _ (a : Inside) (v : Invariant a) where
   -- types more
   pub invariant_types : (c : Collection) → IsWellFormed a.types → Extends a.types c → Invariant (record a { types = c })
-  invariant_types c well more = record { sound = sound_types (graph_of a) v.sound c well more; marked = v.marked; edged = v.edged; keyed = v.keyed; found = v.found; named = v.named; importing = v.importing; told = v.told }
-
-  -- what was grown, or written again as it was
-  pub invariant_same : (slots : Vec Slot Global) (names : HashMap Key PackageId (BuildHasherDefault FoldHasher)) → slots.items ≡ a.slots.items → names.entries ≡ a.package_map.entries → Invariant (record a { slots = slots; package_map = names })
-  invariant_same slots names same kept = record {
-    sound = subst (λ xs. IsSound (record (graph_of a) { slots = xs })) (sym same) v.sound;
-    marked = v.marked;
-    edged = v.edged;
-    keyed = λ id p at. ap (lookup (same_key (key_of p))) kept ∙ v.keyed id p (ap (λ (xs : List Slot). package_in (slice_get xs id.slot) id) (sym same) ∙ at);
-    found = λ k id at. let (p, there, s) = v.found k id (ap (lookup (same_key k)) (sym kept) ∙ at) in (p, ap (λ (xs : List Slot). package_in (slice_get xs id.slot) id) same ∙ there, s);
-    named = v.named;
-    importing = v.importing;
-    told = v.told;
-  }
+  invariant_types c well more = record { sound = sound_types (graph_of a) v.sound c well more; marked = v.marked; edged = v.edged; keyed = v.keyed; room = v.room; named = v.named; importing = v.importing; told = v.told }
 
   -- exports that were written again as they were
   pub invariant_exports : (names : HashMap (String Global) NodeId (BuildHasherDefault FoldHasher)) → names.entries ≡ a.exports.entries → Invariant (record a { exports = names })
@@ -146,7 +138,7 @@ module _ (a : Inside) (v : Invariant a) where
     marked = v.marked;
     edged = v.edged;
     keyed = v.keyed;
-    found = v.found;
+    room = v.room;
     named = v.named;
     importing = v.importing;
     told = λ i name n at. v.told i name n (ap (λ es. slice_get (names_of es) i) (sym same) ∙ at);
@@ -154,7 +146,7 @@ module _ (a : Inside) (v : Invariant a) where
 
   -- what a removal knows of exports
   pub invariant_lost : (lost : Lost) → AreTold lost a.nodes a.exports.entries → Invariant (record a { lost = lost })
-  invariant_lost lost told = record { sound = v.sound; marked = v.marked; edged = v.edged; keyed = v.keyed; found = v.found; named = v.named; importing = v.importing; told = told }
+  invariant_lost lost told = record { sound = v.sound; marked = v.marked; edged = v.edged; keyed = v.keyed; room = v.room; named = v.named; importing = v.importing; told = told }
 
   -- where no fewer nodes may have further names
   pub invariant_more : (lost : Lost) → ((q : ℕ) → is_again a.lost q ≡ true → is_again lost q ≡ true) → Invariant (record a { lost = lost })
@@ -173,7 +165,7 @@ module _ (a : Inside) (v : Invariant a) where
         marked = λ s t i stands. marks t.0 i ∙ v.marked s t i (ap (λ es. set.contains es (argument_edge s t i)) (sym is) ∙ stands);
         edged = λ t i h. let (s, stands) = v.edged t i (sym (marks t.0 i) ∙ h) in (s, ap (λ es. set.contains es (argument_edge s t i)) is ∙ stands);
         keyed = v.keyed;
-        found = v.found;
+        room = v.room;
         named = λ name n h. v.named name n (subst (λ ns. ImportIn ns name n) shown h);
         importing = λ name n at. subst (λ ns. ImportIn ns name n) (sym shown) (v.importing name n at);
         told = still_told nodes same;
@@ -230,7 +222,7 @@ module _ (a : Inside) (v : Invariant a) where
           marked = still_marked;
           edged = still_edged;
           keyed = v.keyed;
-          found = v.found;
+          room = v.room;
           named = λ other m h. ap (λ es. find_name es other) listed ∙ named other m (subst (λ ns. ImportIn ns other m) shown h);
           importing = λ other m at. subst (λ ns. ImportIn ns other m) (sym shown) (importing other m (find_either (names_of a.imports.entries) name other (record { 0 = n }) m (ap (λ es. find_name es other) (sym listed) ∙ at)));
           told = told_before;
@@ -268,7 +260,7 @@ module _ (a : Inside) (v : Invariant a) where
           marked = still_marked;
           edged = still_edged;
           keyed = v.keyed;
-          found = v.found;
+          room = v.room;
           named = still_named (instance_node id p) shown (λ name wrong. cc);
           importing = still_importing (instance_node id p) shown;
           told = told_before;
@@ -286,7 +278,7 @@ module _ (a : Inside) (v : Invariant a) where
           marked = λ s t i stands. still_marked s t i (old_argument s t i (added_edge a.edges (alias_edge instance (node_number n) position) (argument_edge s t i) (ap (λ es. set.contains es (argument_edge s t i)) (sym added) ∙ stands)));
           edged = λ t i is. let (s, stands) = still_edged t i is in (s, ap (λ es. set.contains es (argument_edge s t i)) added ∙ kept_edge a.edges (alias_edge instance (node_number n) position) (argument_edge s t i) stands);
           keyed = v.keyed;
-          found = v.found;
+          room = v.room;
           named = still_named (alias_node source kind) shown (λ name wrong. cc);
           importing = still_importing (alias_node source kind) shown;
           told = told_before;
@@ -310,7 +302,7 @@ module _ (a : Inside) (v : Invariant a) where
         marked = λ s t i stands. satisfied_now t.0 i ∙ marked s t i (added_edge a.edges (argument_edge source target position) (argument_edge s t i) (ap (λ es. set.contains es (argument_edge s t i)) (sym added) ∙ stands));
         edged = λ t i is. edged t i (satisfied_at (get a.nodes t.0) i) refl (sym (satisfied_now t.0 i) ∙ is);
         keyed = v.keyed;
-        found = v.found;
+        room = v.room;
         named = λ name n h. v.named name n (subst (λ ns. ImportIn ns name n) shown h);
         importing = λ name n at. subst (λ ns. ImportIn ns name n) (sym shown) (v.importing name n at);
         told = still_told nodes same;
@@ -351,7 +343,7 @@ module _ (a : Inside) (v : Invariant a) where
         marked = λ s t i stands. satisfied_same t.0 i ∙ v.marked s t i stands;
         edged = λ t i is. v.edged t i (sym (satisfied_same t.0 i) ∙ is);
         keyed = v.keyed;
-        found = v.found;
+        room = v.room;
         named = λ other n h. v.named other n (import_before (nodes_of a.nodes.slots) id (record (node_of before) { export_name = Some name }) other n (λ is. was other is) (subst (λ ns. ImportIn ns other n) shown h));
         importing = λ other n at. subst (λ ns. ImportIn ns other n) (sym shown) (import_after (nodes_of a.nodes.slots) id (record (node_of before) { export_name = Some name }) other n (λ h. is_so other h) (v.importing other n at));
         told = λ i other n at. told i other n (listed_before (names_of a.exports.entries) (name, id) i (other, n) (ap (λ es. slice_get es i) (sym (listed ∙ added)) ∙ at));
@@ -385,70 +377,27 @@ module _ (a : Inside) (v : Invariant a) where
             (λ same. ap (λ k. satisfied_at (get nodes k) i) same ∙ ap (λ o. satisfied_at o i) u.changed ∙ ap (λ k. satisfied k i) kept ∙ sym (ap (λ k. satisfied_at (get a.nodes k) i) same ∙ ap (λ o. satisfied_at o i) had))
             (λ differ. ap (λ o. satisfied_at o i) (u.others q differ))
 
-  look-insert : (k key : Key) (id : PackageId) (es : List (Key × PackageId)) → lookup (same_key key) es ≡ None → lookup (same_key k) (insert_entry same_key es key id) ≡ cond (same_key k key) (Some id) (lookup (same_key k) es)
-  look-insert k key id [] absent = refl
-  look-insert k key id (e ∷ es) absent = split (same_key key e.0) refl absent (λ h. look-insert k key id es h) where
-    swap : (x y : Bool) → (x ≡ true → y ≡ true → ⊥) → (o : Option PackageId) → cond x (Some e.1) (cond y (Some id) o) ≡ cond y (Some id) (cond x (Some e.1) o)
-    swap true true wrong o = absurd (wrong refl refl)
-    swap true false _ o = refl
-    swap false y _ o = refl
-
-    split : (b : Bool) → same_key key e.0 ≡ b → cond b (Some e.1) (lookup (same_key key) es) ≡ None → (lookup (same_key key) es ≡ None → lookup (same_key k) (insert_entry same_key es key id) ≡ cond (same_key k key) (Some id) (lookup (same_key k) es))
-        → lookup (same_key k) (cond b ((e.0, id) ∷ es) (e ∷ insert_entry same_key es key id)) ≡ cond (same_key k key) (Some id) (cond (same_key k e.0) (Some e.1) (lookup (same_key k) es))
-    split true is wrong _ = cc
-    split false is none more =
-        ap (cond (same_key k e.0) (Some e.1)) (more none)
-        ∙ swap (same_key k e.0) (same_key k key) (λ a b. clash (same_key key e.0) (ap (λ (x : Key). same_key x e.0) (sym (same_key-true k key b)) ∙ a) is) (lookup (same_key k) es)
+  -- the room that was made is room for one slot more
+  pub room_put : (p : PackageParts) (id : PackageId) (grown slots : Vec Slot Global) (more vacant : Vec ℕ Global) → TakesSlot (graph_of a) p id (record (graph_of a) { slots = slots.items; vacant = vacant_of vacant }) → grown.items ≡ a.slots.items → more.items ≡ a.vacant.items → vec_capacity a.vacant ≤ vec_capacity more
+      → (more.items ≡ [] → length grown.items < vec_capacity more) → vec_capacity vacant ≡ vec_capacity more → length slots.items ≤ vec_capacity vacant
+  room_put p id grown slots more vacant taken same noted wide link kept =
+      let room = room_takes (graph_of a) (record (graph_of a) { slots = slots.items; vacant = vacant_of vacant }) p id (vec_capacity a.vacant) (vec_capacity more) taken v.room wide
+      (λ none. let count : length grown.items ≡ length a.slots.items = ap length same in let free = link (noted ∙ sym (reverse-reverse a.vacant.items) ∙ ap reverse none) in omega (arith, count, free)) in
+      omega (arith, room, kept)
 
   -- a package more
-  pub invariant_register : (p : PackageParts) (key : Key) (id : PackageId) (slots : Vec Slot Global) (names : HashMap Key PackageId (BuildHasherDefault FoldHasher)) → key ≡ key_of p → lookup (same_key key) a.package_map.entries ≡ None → names.entries ≡ insert_entry same_key a.package_map.entries key id
-      → slots.items ≡ a.slots.items ++ record { generation = 0; «package» = Some p } ∷ [] → id ≡ record { slot = length a.slots.items; generation = 0 } → HoldsPackage a.types p
-      → Invariant (record a { package_map = names; slots = slots })
-  invariant_register p key id slots names is absent added grown new holds =
-      let more = sound_slot (graph_of a) v.sound (record { generation = 0; «package» = Some p }) (λ other q at. (subst (λ x. HoldsPackage a.types x) (only other q at) holds, λ id r. free id (subst (λ x. IsRegistered (graph_of a) (key_of x) id) (sym (only other q at)) r))) in
+  pub invariant_register : (p : PackageParts) (id : PackageId) (slots : Vec Slot Global) (vacant : Vec ℕ Global) (names : HashMap Key PackageId (BuildHasherDefault FoldHasher)) → lookup (same_key (key_of p)) a.package_map.entries ≡ None → names.entries ≡ insert_entry same_key a.package_map.entries (key_of p) id
+      → TakesSlot (graph_of a) p id (record (graph_of a) { slots = slots.items; vacant = vacant_of vacant }) → HoldsPackage a.types p → length slots.items ≤ vec_capacity vacant
+      → Invariant (record a { package_map = names; slots = slots; vacant = vacant })
+  invariant_register p id slots vacant names absent inserted taken holds room =
+      let put = put_takes (graph_of a) (record (graph_of a) { slots = slots.items; vacant = vacant_of vacant }) p id taken in
       record {
-        sound = subst (λ xs. IsSound (record (graph_of a) { slots = xs })) (sym grown) more;
+        sound = sound_takes (graph_of a) v.sound id p holds (λ other (q, at, same). free_key a.slots.items id p slots.items put a.package_map.entries v.keyed absent other q at same) (record (graph_of a) { slots = slots.items; vacant = vacant_of vacant }) taken;
         marked = v.marked;
         edged = v.edged;
-        keyed = λ other q at. ap (lookup (same_key (key_of q))) added ∙ look-insert (key_of q) key id a.package_map.entries absent ∙ keyed other q (package_after (graph_of a) v.sound (record { generation = 0; «package» = Some p }) other q (ap (λ (xs : List Slot). package_in (slice_get xs other.slot) other) (sym grown) ∙ at));
+        keyed = subst (AreKeyed slots.items) (sym inserted) (keyed_put a.slots.items id p slots.items put a.package_map.entries v.keyed absent);
+        room = room;
         named = v.named;
         importing = v.importing;
         told = v.told;
-        found = λ k other at. found k other (same_key k key) refl (sym (look-insert k key id a.package_map.entries absent) ∙ ap (lookup (same_key k)) (sym added) ∙ at);
-      } where
-        none_some : (o : Option PackageId) (x : PackageId) → o ≡ None → o ≡ Some x → ⊥
-        none_some o x p q = cc
-
-        free : (other : PackageId) → IsRegistered (graph_of a) (key_of p) other → ⊥
-        free other (q, there, same) = none_some (lookup (same_key key) a.package_map.entries) other absent (ap (λ (k : Key). lookup (same_key k) a.package_map.entries) (is ∙ sym same) ∙ v.keyed other q there)
-
-        only_generation : (b : Bool) (q : PackageParts) → cond b (Some p) None ≡ Some q → (b ≡ true) × (p ≡ q)
-        only_generation true q at = (refl, cc)
-        only_generation false q at = cc
-
-        only : (other : PackageId) (q : PackageParts) → package_in (Some (record { generation = 0; «package» = Some p })) other ≡ Some q → p ≡ q
-        only other q at = (only_generation (0 == other.generation) q at).1
-
-        keyed : (other : PackageId) (q : PackageParts) → (package_at (graph_of a) other ≡ Some q) ⊎ ((other.slot ≡ length a.slots.items) × (package_in (Some (record { generation = 0; «package» = Some p })) other ≡ Some q)) → cond (same_key (key_of q) key) (Some id) (lookup (same_key (key_of q)) a.package_map.entries) ≡ Some other
-        keyed other q (inl was) = split (same_key (key_of q) key) refl where
-          split : (b : Bool) → same_key (key_of q) key ≡ b → cond b (Some id) (lookup (same_key (key_of q)) a.package_map.entries) ≡ Some other
-          split false _ = v.keyed other q was
-          split true same = absurd (none_some (lookup (same_key key) a.package_map.entries) other absent (ap (λ (k : Key). lookup (same_key k) a.package_map.entries) (sym (same_key-true (key_of q) key same)) ∙ v.keyed other q was))
-        keyed other q (inr (at_slot, now)) =
-            let (of_first, same) = only_generation (0 == other.generation) q now in
-            let generation : 0 ≡ other.generation = eqb-true 0 other.generation of_first in
-            let same_id : id ≡ other = new ∙ (λ i. record { slot = sym at_slot i; generation = generation i }) in
-            let keys : same_key (key_of q) key ≡ true = ap (λ (x : Key). same_key (key_of q) x) (is ∙ ap key_of same) ∙ same_key_equiv.refl (key_of q) in
-            ap (λ b. cond b (Some id) (lookup (same_key (key_of q)) a.package_map.entries)) keys ∙ ap Some same_id
-
-        found : (k : Key) (other : PackageId) (b : Bool) → same_key k key ≡ b → cond b (Some id) (lookup (same_key k) a.package_map.entries) ≡ Some other → (q : PackageParts) × (package_in (slice_get slots.items other.slot) other ≡ Some q) × (same_key k (key_of q) ≡ true)
-        found k other true same at =
-            let is_id : id ≡ other = cc in (
-              p,
-              ap (λ (x : PackageId). package_in (slice_get slots.items x.slot) x) (sym is_id ∙ new) ∙ ap (λ (xs : List Slot). package_in (slice_get xs (length a.slots.items)) (record { slot = length a.slots.items; generation = 0 })) grown
-                  ∙ ap (λ o. package_in o (record { slot = length a.slots.items; generation = 0 })) (slice_get-middle a.slots.items (record { generation = 0; «package» = Some p }) []),
-              ap (same_key k) (sym is) ∙ same,
-            )
-        found k other false differ at =
-            let (q, there, same) = v.found k other at in
-            (q, ap (λ (xs : List Slot). package_in (slice_get xs other.slot) other) grown ∙ package_before (graph_of a) v.sound (record { generation = 0; «package» = Some p }) other q there, same)
+      }

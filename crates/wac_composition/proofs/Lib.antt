@@ -20,5 +20,6 @@ pub mod MergeLemmas
 pub mod NamingLemmas
 pub mod ComponentLemmas
 pub mod RemovedLemmas
+pub mod UnregisteredLemmas
 pub mod SourceLemmas
 pub mod OuterLemmas

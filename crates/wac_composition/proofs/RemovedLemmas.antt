@@ -1,48 +1,45 @@
 -- A graph is still one where nodes were taken out with all that goes with them, and it is the graph without them.
-use Rattle.std.proofs.Common.{◌≡◌, ◌≢◌, ℕ, zero, suc, Bool, true, false, cond, not, ◌&&◌, List, [], ◌∷◌, length, refl, ap, ◌∙◌, sym, subst, ◌⊎◌, inl, inr, Option, Some, None, IsSome, is_some, IsTrue, ◌↔◌, String, Global, string_bytes}
-use Rattle.std.specs.Prelude.{slice_get, IsSomeAnd, swap_remove}
+use Rattle.std.proofs.Common.{◌≡◌, ℕ, Bool, true, false, cond, not, ◌&&◌, List, refl, ap, ◌∙◌, sym, subst, ◌⊎◌, inl, inr, Option, Some, None, IsSome, is_some, String, Global, string_bytes}
+use Rattle.std.specs.Prelude.{slice_get, IsSomeAnd}
 use Rattle.std.specs.Option.{option_map}
-use Rattle.std.proofs.lemmas.Option.{slice_get-map}
 use Rattle.std.specs.Map.{lookup, KeepsOthers}
 use Rattle.std.specs.Str.{bytes_eq}
 use Rattle.std.specs.String.{string_eq}
 use Rattle.std.specs.FinMap as map
-use Rattle.std.specs.FinSet as set
 use Rattle.std.specs.HashMap.{HashMap}
 use Rattle.std.specs.declared.hash.FoldHasher.{FoldHasher}
 use Rattle.std.specs.declared.hash.BuildHasherDefault.{BuildHasherDefault}
 use Rattle.slab.specs.Slab.{Slab, get}
 use Rattle.wac_shapes.specs.Name.{Name, same_name, find_name}
-use Rattle.wac_shapes.proofs.Names.{same_name-true, same_name-from, same_name-refl, same_name-bytes_eq}
-use Rattle.wac_edges.specs.declared.edges.Edge.{Edge}
+use Rattle.wac_shapes.proofs.Names.{same_name-true, same_name-from, same_name-bytes_eq}
 use Rattle.wac_edges.specs.declared.edges.Label.{Label}
 use Rattle.wac_edges.specs.declared.edges.Label.TheVariants as label
 use Rattle.wac_edges.specs.declared.node.NodeId.{NodeId}
-use Rattle.wac_edges.specs.Edge.{alias_edge, argument_edge, node_number}
+use Rattle.wac_edges.specs.Edge.{alias_edge, argument_edge}
 use Rattle.wac_edges.specs.Order.{Edges}
 use Rattle.wac_nodes.specs.declared.node.Node.{Node}
 use Rattle.wac_nodes.specs.declared.node.NodeKind.{NodeKind}
 use Rattle.wac_nodes.specs.declared.node.NodeKind.TheVariants as code
 use Rattle.wac_nodes.specs.Graph as graph
 use Rattle.wac_nodes.specs.Graph.{Graph, GraphNode, Kind, node_at, IsImportOf}
-use Rattle.wac_nodes.specs.Nodes.{node_of, nodes_of, names_of, kind_of, satisfied_at, IsInstantiationAt}
+use Rattle.wac_nodes.specs.Nodes.{node_of, nodes_of, names_of, kind_of, IsInstantiationAt}
 use Rattle.wac_nodes.specs.Sound.{Joins}
-use Rattle.wac_nodes.specs.TakenOut.{taken_at, taken_below, without}
-use Rattle.wac_nodes.proofs.JoinLemmas.{alike_itself}
+use Rattle.wac_nodes.specs.TakenOut.{without}
 use Rattle.wac_nodes.proofs.NodeLemmas.{get-nodes_of, is_some-node_of, lookup_text}
-use Rattle.wac_nodes.proofs.PartLemmas.{IsPart, IsClosed, sound_part}
-use Rattle.wac_nodes.proofs.TakenOut.{Left, left_without, none_without, was_at}
+use Rattle.wac_nodes.proofs.TakenOut.{Left, left_without, none_without}
 use Rattle.wac_composition.specs.declared.graph.CompositionGraph.TheInside.{Inside}
 use Rattle.wac_composition.specs.Inside.{graph_of, Invariant}
-use Rattle.wac_removing.specs.Removal.{Follows, GoesWith, itself, behind, Removes}
+use Rattle.wac_removing.specs.Removal.{Follows, GoesWith, itself, behind, IsWithout, Removes}
 use Rattle.wac_removing.specs.Removing.{AreTied, AreTaken}
 use Rattle.wac_composition.specs.Removing.{imports, AreLeft}
 use Rattle.wac_removing.proofs.WayLemmas.{IsIn}
 use Rattle.wac_removing.proofs.TiedLemmas.{clash, none_some}
 use Rattle.wac_removing.specs.declared.lost.Lost.{Lost}
 use Rattle.wac_removing.specs.Lost.{is_again, AreNoted}
+use Rattle.wac_removing.specs.Slots.{vacant_of}
 use Rattle.wac_removing.specs.Told.{tells}
 use Rattle.wac_removing.proofs.LostLemmas.{told_there, alike_without}
+use Rattle.wac_removing.proofs.WithoutLemmas.{no_first, nodes_left, edges_left, still_there, sound_without}
 
 -- ---- names of imports
 abbrev Names : Type 0
@@ -82,20 +79,6 @@ pub left_named : (k : NodeKind) (name : String Global) (key : Name) (old new : L
 left_named k name key old new is key_is absent kept =
     subst (λ x. AreLeft x old new) (sym is) (left_others name old new (subst (λ q. lookup (λ s. bytes_eq q (string_bytes s)) new ≡ None) key_is absent) (subst (λ q. KeepsOthers string_eq (λ s. bytes_eq q (string_bytes s)) old new) key_is kept))
 
--- ---- bits
-iff_same : (a b : Bool) → (a ≡ true → b ≡ true) → (b ≡ true → a ≡ true) → a ≡ b
-iff_same true b f g = sym (f refl)
-iff_same false true f g = g refl
-iff_same false false f g = refl
-
-both_true : (x y : Bool) → (x && y) ≡ true → (x ≡ true) × (y ≡ true)
-both_true true y h = (refl, h)
-both_true false y h = cc
-
-not_true : (b : Bool) → not b ≡ true → b ≡ false
-not_true true h = cc
-not_true false h = refl
-
 no_some : {A : Type 0} {x : A} → None ≡ Some x → ⊥
 no_some h = cc
 
@@ -121,7 +104,7 @@ module _ (a : Inside) (v : Invariant a) where
     consumer : (s t : NodeId) (i : ℕ) → IsIn a.edges (argument_edge s t i) → IsInstantiationAt (get a.nodes t.0)
     consumer s t i h = let both = v.sound.ends (argument_edge s t i) h in by_stored s t i h (get a.nodes s.0) (get a.nodes t.0) refl refl (stored s both.0) (stored t both.1)
 
-  module _ (id : NodeId) (removed : Node) (had : option_map node_of (get a.nodes id.0) ≡ Some (node_of removed)) (nodes : Slab Node) (edges : Edges) (next : nodes.vacant_key ≡ id.0) (t : AreTaken id a.nodes a.edges nodes edges) (tied : AreTied nodes edges)
+  module _ (id : NodeId) (removed : Node) (had : option_map node_of (get a.nodes id.0) ≡ Some (node_of removed)) (nodes : Slab Node) (edges : Edges) (next : nodes.vacant_key ≡ id.0) (t : AreTaken (GoesWith a.edges id) a.nodes a.edges nodes edges) (tied : AreTied nodes edges)
       (names exports : Names) (left : AreLeft removed.kind a.imports.entries names.entries) (lost : names_of exports.entries ≡ without (λ m. not (is_some (get nodes m.0))) (names_of a.exports.entries)) (places : Lost) (noted : AreNoted nodes places a.exports.entries) (after : Lost) (kept_marks : (q : ℕ) → is_again after q ≡ is_again places q) where
     gone : NodeId → Bool
     gone n = is_some (get a.nodes n.0) && not (is_some (get nodes n.0))
@@ -150,41 +133,6 @@ module _ (a : Inside) (v : Invariant a) where
       split (inl same) = absurd (clash (gone n) h (same_stays n same))
       split (inr both) = both.1
 
-    there_stays : (n : NodeId) → IsSome (get nodes n.0) → gone n ≡ false
-    unfolding gone
-    there_stays n h = ap (λ b. is_some (get a.nodes n.0) && not b) h ∙ off (is_some (get a.nodes n.0)) where
-      off : (b : Bool) → (b && false) ≡ false
-      off true = refl
-      off false = refl
-
-    stays_there : (n : NodeId) → gone n ≡ false → IsSome (get a.nodes n.0) → IsSome (get nodes n.0)
-    unfolding gone
-    stays_there n h there = on (is_some (get nodes n.0)) (sym (ap (λ b. b && not (is_some (get nodes n.0))) there) ∙ h) where
-      on : (b : Bool) → not b ≡ false → b ≡ true
-      on true h = refl
-      on false h = cc
-
-    nodes_left : (n : NodeId) → map.get (nodes_of nodes.slots) n.0 ≡ cond (gone n) None (map.get (nodes_of a.nodes.slots) n.0)
-    nodes_left n = get-nodes_of nodes.slots n.0 ∙ split (t.others n) where
-      split : Was n → option_map node_of (get nodes n.0) ≡ cond (gone n) None (map.get (nodes_of a.nodes.slots) n.0)
-      split (inl same) = same ∙ sym (get-nodes_of a.nodes.slots n.0) ∙ ap (λ b. cond b None (map.get (nodes_of a.nodes.slots) n.0)) (sym (same_stays n same))
-      split (inr both) = ap (option_map node_of) both.0 ∙ ap (λ b. cond b None (map.get (nodes_of a.nodes.slots) n.0)) (sym (goes_gone n both.1))
-
-    edge_left : (e : Edge) → IsIn a.edges e → gone e.source ≡ false → gone e.target ≡ false → IsIn edges e
-    edge_left e h p q = split (t.taken e h) where
-      split : IsIn edges e ⊎ (GoesWith a.edges id e.source ⊎ GoesWith a.edges id e.target) → IsIn edges e
-      split (inl still) = still
-      split (inr (inl goes)) = absurd (clash (gone e.source) (goes_gone e.source goes) p)
-      split (inr (inr goes)) = absurd (clash (gone e.target) (goes_gone e.target goes) q)
-
-    edges_left : (e : Edge) → set.contains edges e ≡ (set.contains a.edges e && (not (gone e.source) && not (gone e.target)))
-    edges_left e = iff_same (set.contains edges e) (set.contains a.edges e && (not (gone e.source) && not (gone e.target)))
-        (λ h. let both = tied.ends e h in all (set.contains a.edges e) (gone e.source) (gone e.target) (t.less e h) (there_stays e.source both.0) (there_stays e.target both.1))
-        (λ h. let (stands, ends) = both_true (set.contains a.edges e) (not (gone e.source) && not (gone e.target)) h in
-        let (p, q) = both_true (not (gone e.source)) (not (gone e.target)) ends in edge_left e stands (not_true (gone e.source) p) (not_true (gone e.target) q)) where
-          all : (x y z : Bool) → x ≡ true → y ≡ false → z ≡ false → (x && (not y && not z)) ≡ true
-          all x y z p q r = ap (λ b. b && (not y && not z)) p ∙ ap (λ b. not b && not z) q ∙ ap not r
-
     exports_left : names_of exports.entries ≡ without gone (names_of a.exports.entries)
     unfolding gone
     exports_left = lost ∙ alike_without (λ m. not (is_some (get nodes m.0))) gone (names_of a.exports.entries)
@@ -195,67 +143,35 @@ module _ (a : Inside) (v : Invariant a) where
     abbrev now : Inside
     now = record a { nodes = nodes; edges = edges; imports = names; exports = exports; lost = after }
 
+    without_gone : IsWithout gone (graph_of a) (graph_of now)
+    without_gone = record {
+      types = refl;
+      nodes = nodes_left (GoesWith a.edges id) gone a.nodes a.edges nodes edges (λ n. (goes_gone n, gone_goes n)) t tied;
+      edges = edges_left (GoesWith a.edges id) gone a.nodes a.edges nodes edges (λ n. (goes_gone n, gone_goes n)) t tied;
+    }
+
     pub removes : Removes (graph_of a) id (graph_of now)
     removes = record {
       gone = gone;
       goes = λ n. (gone_goes n, goes_gone n);
-      rest = record { types = refl; nodes = nodes_left; edges = edges_left };
+      rest = without_gone;
       exports = exports_left;
       slots = refl;
       vacant = refl;
       next = next;
     }
 
-    was_there : (n : NodeId) (node : GraphNode) → map.get (nodes_of nodes.slots) n.0 ≡ Some node → (gone n ≡ false) × (map.get (nodes_of a.nodes.slots) n.0 ≡ Some node)
-    was_there n node at = split (gone n) refl (sym (nodes_left n) ∙ at) where
-      split : (b : Bool) → gone n ≡ b → cond b None (map.get (nodes_of a.nodes.slots) n.0) ≡ Some node → (gone n ≡ false) × (map.get (nodes_of a.nodes.slots) n.0 ≡ Some node)
-      split true is h = absurd (no_some h)
-      split false is h = (is, h)
-
-    still_there : (n : NodeId) → gone n ≡ false → map.get (nodes_of nodes.slots) n.0 ≡ map.get (nodes_of a.nodes.slots) n.0
-    still_there n is = nodes_left n ∙ ap (λ b. cond b None (map.get (nodes_of a.nodes.slots) n.0)) is
-
-    goes_behind : (e : Edge) → IsIn a.edges e → Follows e.label → gone e.source ≡ true → gone e.target ≡ true
-    goes_behind e stands follows h = goes_gone e.target (behind e (gone_goes e.source h) stands follows)
-
-    -- no stored node has a first name
-    no_first : (m : NodeId) (x : GraphNode) → map.get (nodes_of nodes.slots) m.0 ≡ Some x → x.first_name ≡ None
-    no_first m x at = by_stored (get nodes m.0) (sym (get-nodes_of nodes.slots m.0) ∙ at) where
-      by_stored : (o : Option Node) → option_map node_of o ≡ Some x → x.first_name ≡ None
-      by_stored None h = absurd (no_some h)
-      by_stored (Some y) h = let same : node_of y ≡ x = cc in ap (λ (z : GraphNode). z.first_name) (sym same)
+    goes_behind : (instance n : NodeId) (i : ℕ) → IsIn a.edges (alias_edge instance n i) → gone instance ≡ true → gone n ≡ true
+    goes_behind instance n i stands h = goes_gone n (behind (alias_edge instance n i) (gone_goes instance h) stands tt)
 
     kept : Left gone (names_of a.exports.entries) (names_of exports.entries)
     kept = subst (Left gone (names_of a.exports.entries)) (sym exports_left) (left_without gone (names_of a.exports.entries))
 
-    is_part : IsPart (graph_of a) (graph_of now)
-    is_part = record {
-      nodes = λ n node at. (node, (was_there n node at).1, alike_itself node);
-      edges = t.less;
-      place = kept.place;
-      exports = kept.was;
-      apart = kept.apart;
-      packages = λ p parts at. at;
-    }
+    none_left : (i : ℕ) (e : Name × NodeId) → slice_get (names_of exports.entries) i ≡ Some e → gone e.1 ≡ false
+    none_left i e at = none_without gone (names_of a.exports.entries) i e (ap (λ es. slice_get es i) (sym exports_left) ∙ at)
 
-    is_closed : IsClosed (graph_of a) (graph_of now)
-    is_closed = record {
-      ends = λ e h. let both = tied.ends e h in (shown e.source both.0, shown e.target both.1);
-      exported = λ i name n at. ap is_some (still_there n (none_without gone (names_of a.exports.entries) i (name, n) (ap (λ es. slice_get es i) (sym exports_left) ∙ at))) ∙ v.sound.exported (kept.place i) name n (kept.was i (name, n) at);
-      aliases = λ n node at is instance i stands. edge_left (alias_edge instance n i) stands (source_stays instance n i stands (was_there n node at).0) (was_there n node at).0;
-      instances = λ n node at is p parts owned registered. registered;
-      first_names = λ n node other at first. absurd (no_some (sym (no_first n node at) ∙ first));
-      vacant = v.sound.vacant;
-      vacant_once = v.sound.vacant_once;
-    } where
-      shown : (n : NodeId) → IsSome (get nodes n.0) → IsSome (map.get (nodes_of nodes.slots) n.0)
-      shown n h = ap is_some (get-nodes_of nodes.slots n.0) ∙ is_some-node_of (get nodes n.0) ∙ h
-
-      source_stays : (instance n : NodeId) (i : ℕ) → IsIn a.edges (alias_edge instance n i) → gone n ≡ false → gone instance ≡ false
-      source_stays instance n i stands is = split (gone instance) refl where
-        split : (b : Bool) → gone instance ≡ b → b ≡ false
-        split false _ = refl
-        split true h = absurd (clash (gone n) (goes_behind (alias_edge instance n i) stands tt h) is)
+    stays : (n : NodeId) → gone n ≡ false → node_at (graph_of now) n ≡ node_at (graph_of a) n
+    stays = still_there (graph_of a) v.sound gone (nodes_of nodes.slots) nodes.vacant_key edges (names_of exports.entries) a.slots.items (vacant_of a.vacant) without_gone
 
     -- of what goes with the node only the node itself can be an import
     imported : (n : NodeId) (name : Name) → IsImportOf (graph_of a) name n → GoesWith a.edges id n → imports removed.kind name ≡ true
@@ -276,23 +192,24 @@ module _ (a : Inside) (v : Invariant a) where
 
     pub invariant_removed : Invariant now
     invariant_removed = record {
-      sound = sound_part (graph_of a) v.sound (nodes_of nodes.slots) nodes.vacant_key edges (names_of exports.entries) a.slots.items [] is_part is_closed;
+      sound = sound_without (graph_of a) v.sound gone (nodes_of nodes.slots) nodes.vacant_key edges (names_of exports.entries) a.slots.items (vacant_of a.vacant) without_gone kept none_left goes_behind
+          (λ n node at. no_first nodes.slots n.0 node at) (λ p parts at. at) (λ n node at is p parts owned registered. registered) v.sound.vacant v.sound.vacant_once;
       marked = tied.marked;
       edged = tied.edged;
       keyed = v.keyed;
-      found = v.found;
+      room = v.room;
       named = λ name n h. named name n h (gone n) refl;
       importing = λ name n at. importing name n (imports removed.kind name) refl (sym (left name) ∙ at);
       told = λ i name n at. ap (λ b. tells b (option_map node_of (get nodes n.0)) name) (kept_marks n.0) ∙ told_there places (kept.place i) name n (option_map node_of (get nodes n.0)) (noted (kept.place i) name n (kept.was i (name, n) at)) (exported_there i name n at);
     } where
       exported_there : (i : ℕ) (name : Name) (n : NodeId) → slice_get (names_of exports.entries) i ≡ Some (name, n) → IsSome (option_map node_of (get nodes n.0))
-      exported_there i name n at = ap is_some (sym (get-nodes_of nodes.slots n.0)) ∙ is_closed.exported i name n at
+      exported_there i name n at = ap is_some (sym (get-nodes_of nodes.slots n.0) ∙ stays n (none_left i (name, n) at)) ∙ v.sound.exported (kept.place i) name n (kept.was i (name, n) at)
 
       named : (name : Name) (n : NodeId) → IsImportOf (graph_of now) name n → (b : Bool) → gone n ≡ b → find_name (names_of names.entries) name ≡ Some n
-      named name n h true is = absurd (subst (λ o. IsSomeAnd o (λ x. x.kind ≡ graph.import name)) (nodes_left n ∙ ap (λ b. cond b None (map.get (nodes_of a.nodes.slots) n.0)) is) h)
+      named name n h true is = absurd (subst (λ o. IsSomeAnd o (λ x. x.kind ≡ graph.import name)) (without_gone.nodes n ∙ ap (λ b. cond b None (map.get (nodes_of a.nodes.slots) n.0)) is) h)
       named name n h false is = left name ∙ other (imports removed.kind name) refl where
         before : IsImportOf (graph_of a) name n
-        before = subst (λ o. IsSomeAnd o (λ x. x.kind ≡ graph.import name)) (still_there n is) h
+        before = subst (λ o. IsSomeAnd o (λ x. x.kind ≡ graph.import name)) (stays n is) h
 
         other : (b : Bool) → imports removed.kind name ≡ b → cond b None (find_name (names_of a.imports.entries) name) ≡ Some n
         other false _ = v.named name n before
@@ -302,10 +219,10 @@ module _ (a : Inside) (v : Invariant a) where
 
       importing : (name : Name) (n : NodeId) (b : Bool) → imports removed.kind name ≡ b → cond b None (find_name (names_of a.imports.entries) name) ≡ Some n → IsImportOf (graph_of now) name n
       importing name n true does at = absurd (no_some at)
-      importing name n false does_not at = stays (gone n) refl where
+      importing name n false does_not at = still (gone n) refl where
         before : IsImportOf (graph_of a) name n
         before = v.importing name n at
 
-        stays : (b : Bool) → gone n ≡ b → IsImportOf (graph_of now) name n
-        stays true is = absurd (clash (imports removed.kind name) (imported n name before (gone_goes n is)) does_not)
-        stays false is = subst (λ o. IsSomeAnd o (λ x. x.kind ≡ graph.import name)) (sym (still_there n is)) before
+        still : (b : Bool) → gone n ≡ b → IsImportOf (graph_of now) name n
+        still true is = absurd (clash (imports removed.kind name) (imported n name before (gone_goes n is)) does_not)
+        still false is = subst (λ o. IsSomeAnd o (λ x. x.kind ≡ graph.import name)) (sym (stays n is)) before

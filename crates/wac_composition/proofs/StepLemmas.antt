@@ -1,5 +1,5 @@
 -- What a call leaves in the fields is a step of the graph.
-use Rattle.std.proofs.Common.{◌≡◌, ◌↔◌, ℕ, List, [], ◌∷◌, ◌++◌, length, ap, refl, ◌∙◌, sym, subst, Option, Some, None, IfSome, IsSome, Ok, Global, Vec}
+use Rattle.std.proofs.Common.{◌≡◌, ◌↔◌, ℕ, ap, refl, ◌∙◌, sym, subst, Option, Some, None, IfSome, IsSome, Ok, Global, Vec}
 use Rattle.std.specs.Option.{option_map}
 use Rattle.std.specs.Map.{lookup}
 use Rattle.std.specs.HashMap.{HashMap}
@@ -17,8 +17,9 @@ use Rattle.wac_composition.specs.declared.graph.CompositionGraph.TheInside.{Insi
 use Rattle.wac_nodes.specs.Graph as graph
 use Rattle.wac_nodes.specs.Graph.{Graph, GraphNode, node_at, package_at, package_in, exports_of, IsRegistered}
 use Rattle.wac_nodes.specs.Nodes.{node_of}
-use Rattle.wac_composition.specs.Inside.{graph_of, Invariant, key_of}
-use Rattle.wac_nodes.specs.Steps.{AddsNode, Instantiates, instance_node, Registers, added}
+use Rattle.wac_composition.specs.Inside.{graph_of, Invariant}
+use Rattle.wac_removing.specs.Slots.{key_of, vacant_of}
+use Rattle.wac_nodes.specs.Steps.{AddsNode, Instantiates, instance_node, Registers, TakesSlot}
 use Rattle.wac_nodes.proofs.NodeLemmas.{get-nodes_of, nodes_of-insert}
 
 -- a slab with one node more is a graph with one node more
@@ -43,27 +44,26 @@ instantiated a nodes n id p node shape at next vacant u =
     subst (λ o. IfSome o (λ q. AddsNode (graph_of a) (record { 0 = n }) (instance_node id q) (graph_of (record a { nodes = nodes })))) at
     (subst (λ x. AddsNode (graph_of a) (record { 0 = n }) x (graph_of (record a { nodes = nodes }))) shape (adds_node a nodes n node next vacant u))
 
--- a package of a key that was not there has a new slot
-pub registered : (a : Inside) (v : Invariant a) (p : PackageParts) (names : HashMap Key PackageId (BuildHasherDefault FoldHasher)) (slots : Vec Slot Global) (id : PackageId) → lookup (same_key (key_of p)) a.package_map.entries ≡ None
-    → slots.items ≡ a.slots.items ++ record { generation = 0; «package» = Some p } ∷ [] → id ≡ record { slot = length a.slots.items; generation = 0 }
-    → Registers (graph_of a) p (Ok id) (graph_of (record a { package_map = names; slots = slots }))
-registered a v p names slots id absent grown new = (
-  λ other (q, at, same). none_some (lookup (same_key (key_of p)) a.package_map.entries) other absent (ap (λ (k : Key). lookup (same_key k) a.package_map.entries) (sym same) ∙ v.keyed other q at),
-  added refl new (ap (λ (xs : List Slot). record (graph_of a) { slots = xs }) grown),
+-- a package of a key that was not there has a slot
+pub registered : (a : Inside) (v : Invariant a) (p : PackageParts) (names : HashMap Key PackageId (BuildHasherDefault FoldHasher)) (slots : Vec Slot Global) (vacant : Vec ℕ Global) (id : PackageId) → lookup (same_key (key_of p)) a.package_map.entries ≡ None
+    → TakesSlot (graph_of a) p id (record (graph_of a) { slots = slots.items; vacant = vacant_of vacant }) → Registers (graph_of a) p (Ok id) (graph_of (record a { package_map = names; slots = slots; vacant = vacant }))
+registered a v p names slots vacant id absent taken = (
+  λ other (q, at, same). none_some (lookup (same_key (key_of p)) a.package_map.entries) other absent (ap (λ (k : Key). lookup (same_key k) a.package_map.entries) (sym same) ∙ v.keyed.keyed other q at),
+  taken,
 ) where
   none_some : (o : Option PackageId) (x : PackageId) → o ≡ None → o ≡ Some x → ⊥
   none_some o x p q = cc
 
 pub there_already : (a : Inside) (v : Invariant a) (key : Key) (id : PackageId) → Some id ≡ lookup (same_key key) a.package_map.entries → (other : PackageId) × IsRegistered (graph_of a) key other
-there_already a v key id at = let (p, there, same) = v.found key id (sym at) in (id, (p, there, sym (same_key-true key (key_of p) same)))
+there_already a v key id at = let (p, there, same) = v.keyed.found key id (sym at) in (id, (p, there, sym (same_key-true key (key_of p) same)))
 
 -- what is found under a key is what is registered under it
 pub found_registered : (a : Inside) (v : Invariant a) (key : Key) (o : Option PackageId) → o ≡ lookup (same_key key) a.package_map.entries → (id : PackageId) → (o ≡ Some id) ↔ IsRegistered (graph_of a) key id
 found_registered a v key o at id = (
-  λ e. let (p, there, same) = v.found key id (sym at ∙ e) in (p, there, sym (same_key-true key (key_of p) same)),
-  λ (p, there, same). at ∙ ap (λ (k : Key). lookup (same_key k) a.package_map.entries) (sym same) ∙ v.keyed id p there,
+  λ e. let (p, there, same) = v.keyed.found key id (sym at ∙ e) in (p, there, sym (same_key-true key (key_of p) same)),
+  λ (p, there, same). at ∙ ap (λ (k : Key). lookup (same_key k) a.package_map.entries) (sym same) ∙ v.keyed.keyed id p there,
 )
 
 -- and is there
 pub found_package : (a : Inside) (v : Invariant a) (key : Key) (id : PackageId) → Some id ≡ lookup (same_key key) a.package_map.entries → IsSome (package_at (graph_of a) id)
-found_package a v key id at = let (p, there, same) = v.found key id (sym at) in subst (λ o. IsSome o) (sym there) refl
+found_package a v key id at = let (p, there, same) = v.keyed.found key id (sym at) in subst (λ o. IsSome o) (sym there) refl

@@ -1,14 +1,12 @@
 -- What is always true of a graph's fields stays true where an argument is taken away, and where a node is named.
-use Rattle.std.proofs.Common.{◌≡◌, ◌≢◌, ℕ, Bool, true, false, not, ◌||◌, ◌&&◌, ◌==◌, refl, ap, ◌∙◌, sym, subst, Option, Some, None, IfSome, IsSome, is_some, Ok, Err, String, Global, string_bytes, List, [], ◌∷◌, suc, ◌-◌, length, take, slice_set, get_or}
+use Rattle.std.proofs.Common.{◌≡◌, ◌≢◌, ℕ, Bool, true, false, not, ◌&&◌, ◌==◌, refl, ap, ◌∙◌, sym, subst, Option, Some, None, IfSome, IsSome, is_some, Ok, Err, String, Global, string_bytes, List, suc}
 use Rattle.std.specs.Prelude.{slice_get, IsSomeAnd, swap_remove, if◌then◌else◌}
 use Rattle.std.specs.HashMap.{HashMap}
 use Rattle.std.specs.declared.hash.FoldHasher.{FoldHasher}
 use Rattle.std.specs.declared.hash.BuildHasherDefault.{BuildHasherDefault}
-use Rattle.std.proofs.lemmas.List.{take-map, map-set, length-map}
-use Rattle.std.proofs.Math.ListN.{get_or-map}
 use Rattle.std.proofs.lemmas.Option.{slice_get-map}
 use Rattle.std.specs.Option.{option_map}
-use Rattle.std.specs.Ordering.{nat_cmp, eq_by_cmp, is_eq}
+use Rattle.std.specs.Ordering.{eq_by_cmp, is_eq}
 use Rattle.std.specs.Cmp.{tied_itself}
 use Rattle.std.specs.FinMap as map
 use Rattle.std.specs.FinSet as set
@@ -27,6 +25,7 @@ use Rattle.wac_nodes.specs.Graph.{Graph, GraphNode, node_at}
 use Rattle.wac_nodes.specs.Nodes.{node_of, nodes_of, names_of, kind_of, satisfied, satisfied_at}
 use Rattle.wac_removing.specs.Told.{tells}
 use Rattle.wac_removing.specs.Lost.{is_again, AreTold}
+use Rattle.wac_removing.specs.Slots.{vacant_of}
 use Rattle.wac_removing.specs.declared.lost.Lost.{Lost}
 use Rattle.wac_nodes.specs.Steps.{SetsName, Unexports}
 use Rattle.wac_nodes.specs.TakenOut.{taken_at, taken_below, without}
@@ -86,13 +85,13 @@ module _ (a : Inside) (v : Invariant a) where
       → Invariant (record a { nodes = nodes; edges = edges })
   invariant_taken nodes edges source target position next same satisfied_now stood taken =
       let shown : nodes_of nodes.slots ≡ nodes_of a.nodes.slots = nodes_of-same a.nodes.slots nodes.slots same in
-      let less = sound_part (graph_of a) v.sound (nodes_of a.nodes.slots) a.nodes.vacant_key (set.remove a.edges gone) (graph_of a).exports a.slots.items [] is_part is_closed in
+      let less = sound_part (graph_of a) v.sound (nodes_of a.nodes.slots) a.nodes.vacant_key (set.remove a.edges gone) (graph_of a).exports a.slots.items (vacant_of a.vacant) is_part is_closed in
       record {
         sound = subst IsSound (λ i. record (graph_of a) { nodes = sym shown i; next = sym next i; edges = sym taken i }) less;
         marked = λ s t i stands. satisfied_now t.0 i ∙ marked s t i (removed_edge a.edges gone (argument_edge s t i) (ap (λ es. set.contains es (argument_edge s t i)) (sym taken) ∙ stands));
         edged = λ t i is. edged t i (both_true (satisfied_at (get a.nodes t.0) i) (not (t.0 == target.0 && i == position)) (sym (satisfied_now t.0 i) ∙ is));
         keyed = v.keyed;
-        found = v.found;
+        room = v.room;
         named = λ name n h. v.named name n (subst (λ ns. ImportIn ns name n) shown h);
         importing = λ name n at. subst (λ ns. ImportIn ns name n) (sym shown) (v.importing name n at);
         told = λ i name n at. ap (λ o. tells (is_again a.lost n.0) o name) (same n.0) ∙ v.told i name n at;
@@ -203,11 +202,11 @@ module _ (a : Inside) (id : NodeId) (nodes : Slab Node) (before after : Node) (h
   pub invariant_rewritten : Invariant a → (names : HashMap (String Global) NodeId (BuildHasherDefault FoldHasher)) (gone : NodeId → Bool) → Left gone (names_of a.exports.entries) (names_of names.entries) → AreTold a.lost nodes names.entries → Invariant (record a { nodes = nodes; exports = names })
   invariant_rewritten v names gone left told =
       record {
-        sound = sound_part (graph_of a) v.sound (nodes_of nodes.slots) nodes.vacant_key a.edges (names_of names.entries) a.slots.items [] is_part is_closed;
+        sound = sound_part (graph_of a) v.sound (nodes_of nodes.slots) nodes.vacant_key a.edges (names_of names.entries) a.slots.items (vacant_of a.vacant) is_part is_closed;
         marked = λ s t i stands. satisfied_same t.0 i ∙ v.marked s t i stands;
         edged = λ t i is. v.edged t i (sym (satisfied_same t.0 i) ∙ is);
         keyed = v.keyed;
-        found = v.found;
+        room = v.room;
         named = λ other n h. v.named other n (imports_as (map.get (nodes_of a.nodes.slots) n.0) (map.get (nodes_of nodes.slots) n.0) other (sym (kinds n.0)) h);
         importing = λ other n at. imports_as (map.get (nodes_of nodes.slots) n.0) (map.get (nodes_of a.nodes.slots) n.0) other (kinds n.0) (v.importing other n at);
         told = told;

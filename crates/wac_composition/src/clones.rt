@@ -1,5 +1,5 @@
 //! Clones of graphs.
-ghost use Rattle.std.specs.Prelude.{◌≡◌, IfOk};
+ghost use Rattle.std.specs.Prelude.{◌≡◌, ◌≤◌, IfOk, vec_capacity};
 
 use crate::graph::CompositionGraph;
 use std::alloc::AllocError;
@@ -10,6 +10,7 @@ impl CompositionGraph {
     pub fn clone(&self) -> Result<CompositionGraph, AllocError>
         ensures { IfOk result (λ graph. graph ≡ self.now) }
     {
+        let vacant = clone_with_room(&self.vacant, self.slots.len())?;
         let types = self.types.clone()?;
         let nodes = self.nodes.clone()?;
         let edges = self.edges.clone()?;
@@ -27,7 +28,18 @@ impl CompositionGraph {
             exports,
             package_map,
             slots,
+            vacant,
             lost,
         })
     }
+}
+
+/// The same numbers, with room for so many more.
+fn clone_with_room(numbers: &Vec<usize>, count: usize) -> Result<Vec<usize>, AllocError>
+    ensures same { IfOk result (λ copy. copy.items ≡ numbers.now.items) }
+    ensures room { IfOk result (λ copy. count ≤ vec_capacity copy) }
+{
+    let mut copy = numbers.clone()?;
+    copy.reserve(count)?;
+    Ok(copy)
 }

@@ -76,6 +76,9 @@ fn first_clash(
     ensures first { IfSome result (λ c. (i : ℕ) (node : AnId) → i < c.0 → Clashes (positions.contains nat_cmp satisfied.now) imports.now (names_of nodes.now.entries) i node → ⊥) }
     ensures none { IfNone result ((i : ℕ) (node : AnId) → Clashes (positions.contains nat_cmp satisfied.now) imports.now (names_of nodes.now.entries) i node → ⊥) }
 {
+    if nodes.is_empty() {
+        return None;
+    }
     for i in 0..imports.len() {
         if let Some(node) = clash_at(satisfied, imports, nodes, i) {
             return Some((i, node));

@@ -30,12 +30,12 @@ ghost use Rattle.wac_validation.specs.Valid.{AreValid};
 ghost use Rattle.wac_composition.specs.EncoderView.{IsPlainNode, IsRefusedBefore};
 
 use crate::graph::CompositionGraph;
-use crate::writing::WrittenImports;
 use indexmap::IndexMap;
 use std::alloc::{AllocError, Global};
 use wac_binary::{ComponentBuilder, Sort, component_names, producers};
 use wac_causes::EncodeError;
 use wac_edges::order::order;
+use wac_importing::WrittenImports;
 use wac_merge::TypeAggregator;
 use wac_merge::laws::{class_laws, fault_law, order_law};
 use wac_nodes::{EncodeOptions, NodeId, NodeKind, PackageId, Processor};

@@ -30,7 +30,7 @@ use wac_nodes::{
     NodeId, NodeKind, PackageId, RegisterPackageError, Slot, UnexportError, export_fault,
     import_fault,
 };
-use wac_removing::Lost;
+use wac_removing::{Lost, next_id, put_package};
 use wac_types::laws::growth_keeps_trees;
 use wac_types::{
     AddTypeError, DefinedType, DefinedTypeId, FuncType, FuncTypeId, Interface, InterfaceId,
@@ -48,6 +48,8 @@ pub struct CompositionGraph {
     pub(crate) exports: IndexMap<String, NodeId>,
     pub(crate) package_map: IndexMap<PackageKey, PackageId>,
     pub(crate) slots: Vec<Slot>,
+    // The slots that were freed and may be used again, the one freed last at the end.
+    pub(crate) vacant: Vec<usize>,
     // What a removal knows of exports.
     pub(crate) lost: Lost,
 }
@@ -64,6 +66,7 @@ impl Drop for CompositionGraph {
             exports: _,
             package_map: _,
             slots: _,
+            vacant: _,
             lost: _,
         } = self;
     }
@@ -99,6 +102,7 @@ impl CompositionGraph {
             exports: IndexMap::new(alloc),
             package_map: IndexMap::new(alloc),
             slots: Vec::new(alloc),
+            vacant: Vec::new(alloc),
             lost: Lost::new(alloc),
         }
     }
@@ -225,18 +229,9 @@ impl CompositionGraph {
         if let Some(_) = self.package_map.get(&key) {
             return Err(RegisterPackageError::PackageAlreadyRegistered { key });
         }
-        self.slots.reserve(1)?;
-        let id = PackageId {
-            slot: self.slots.len(),
-            generation: 0,
-        };
+        let id = next_id(&mut self.slots, &mut self.vacant)?;
         self.package_map.insert(key, id)?;
-        self.slots
-            .push(Slot {
-                generation: 0,
-                package: Some(package),
-            })
-            .unwrap();
+        put_package(&mut self.slots, &mut self.vacant, id, package);
         Ok(id)
     }
 

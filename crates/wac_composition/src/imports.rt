@@ -10,7 +10,7 @@ ghost use Rattle.wac_asking.specs.ImportsLeft.{unset_from, node_left, instantiat
 use crate::graph::CompositionGraph;
 use std::collections::BTreeSet;
 use std::marker::Model;
-use wac_nodes::{NodeId, NodeKind};
+use wac_nodes::{NodeId, NodeKind, first_gap};
 use wac_types::{ItemKind, Named};
 
 /// The imports that a graph asks for and that are still to come, each with its name, its kind and, where it is an
@@ -148,10 +148,6 @@ fn first_unset<'a>(
 ) -> Option<(usize, &'a str, ItemKind)>
     ensures { MatchOption result (unset_from (positions.contains nat_cmp satisfied.now) imports.now from ≡ []) (λ r. unset_from (positions.contains nat_cmp satisfied.now) imports.now from ≡ (r.1.now, r.2) ∷ unset_from (positions.contains nat_cmp satisfied.now) imports.now r.0) }
 {
-    for i in from..imports.len() {
-        if !satisfied.contains(&i) {
-            return Some((i + 1, imports.name_at(i), *imports.value_at(i)));
-        }
-    }
-    None
+    let i = first_gap(satisfied, from, imports.len())?;
+    Some((i + 1, imports.name_at(i), *imports.value_at(i)))
 }

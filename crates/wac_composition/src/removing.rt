@@ -1,13 +1,14 @@
-//! Nodes that are taken out of a graph.
+//! Nodes and packages that are taken out of a graph.
 ghost use Rattle.std.specs.Prelude.{IsSome};
-ghost use Rattle.wac_nodes.specs.Graph.{node_at};
+ghost use Rattle.wac_nodes.specs.Graph.{node_at, package_at};
 ghost use Rattle.wac_removing.specs.Removal.{Removes};
+ghost use Rattle.wac_removing.specs.Unregistering.{Unregisters};
 ghost use Rattle.wac_composition.specs.Removing.{AreLeft};
 
 use crate::graph::CompositionGraph;
 use indexmap::IndexMap;
-use wac_nodes::{NodeId, NodeKind};
-use wac_removing::{take_lost, take_nodes};
+use wac_nodes::{NodeId, NodeKind, PackageId};
+use wac_removing::{take_lost, take_nodes, take_owned, take_owned_exports, take_package};
 
 impl CompositionGraph {
     /// Removes a node and all that goes with it: its aliases and the definitions that mention it, and what goes with these.
@@ -29,6 +30,25 @@ impl CompositionGraph {
         );
         take_import(&mut self.imports, &removed.kind);
         take_lost(&mut self.exports, &self.nodes, &mut self.lost);
+    }
+
+    /// Unregisters a package, and removes its nodes: its instances and the aliases that carry it.
+    ///
+    /// Their names, edges and exports go too, so an argument that was one of them is not set any more; the other exports keep
+    /// their order. The id is never valid again, and the package's slot is the next one to be used, under another id. The highest
+    /// number of the package's nodes is that of the next node. Takes no memory.
+    pub fn unregister_package(&mut self, package: PackageId)
+        requires { IsSome (package_at self.old «package») }
+        ensures { Unregisters self.old «package» self.new }
+    {
+        take_owned_exports(&mut self.exports, &self.nodes, package);
+        take_owned(&mut self.nodes, &mut self.edges, &mut self.lost, package);
+        take_package(
+            &mut self.package_map,
+            &mut self.slots,
+            &mut self.vacant,
+            package,
+        );
     }
 }
 

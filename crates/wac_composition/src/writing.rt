@@ -1,23 +1,19 @@
-//! Stand-in for the writer of imports.
-ghost use Rattle.std.specs.Prelude.{◌≡◌, ◌⊎◌, IfErr, IfNone, IfOk, IfSome, None};
+//! The writer of the imports of what a graph asks for.
+ghost use Rattle.std.specs.Prelude.{◌≡◌, ◌⊎◌, IfErr, IfNone, IfOk, IfSome};
+ghost use Rattle.wac_causes.specs.NotYet.{AllImportable};
+ghost use Rattle.wac_causes.specs.declared.errors.EncodeError.TheVariants as error;
 ghost use Rattle.wac_meaning.specs.Beginning.{Begins};
 ghost use Rattle.wac_meaning.specs.MergedImports.{merged_imports};
 ghost use Rattle.wac_writing.specs.Places.{AreOfSorts, IsMergedFor};
-ghost use Rattle.wac_causes.specs.NotYet.{AllImportable};
-ghost use Rattle.wac_causes.specs.declared.errors.EncodeError.TheVariants as error;
 
 use crate::graph::CompositionGraph;
-use wac_binary::{ComponentBuilder, Sort};
 use wac_causes::EncodeError;
+use wac_importing::{WrittenImports, write_imports};
 use wac_merge::TypeAggregator;
-
-#[derive(Drop)]
-pub(crate) struct WrittenImports {
-    pub root: ComponentBuilder,
-    pub places: Vec<(Sort, u32)>,
-}
+use wac_merge::laws::{class_laws, order_law};
 
 impl CompositionGraph {
+    /// The imports of what the graph asks for, as they are written; none where one is not importable so far.
     pub(crate) fn written_imports(
         &self,
         merge: &TypeAggregator,
@@ -29,7 +25,8 @@ impl CompositionGraph {
         ensures none { IfOk result (λ o. IfNone o (AllImportable self.now → ⊥)) }
         ensures refused { IfErr result (λ e. (e ≡ error.OutOfMemory) ⊎ ((e ≡ error.TooLarge) × AllImportable self.now)) }
     {
-        let _ = merge;
-        unreachable!()
+        class_laws();
+        order_law();
+        Ok(write_imports(self.alloc, merge)?)
     }
 }

@@ -1,3 +1,4 @@
+mod Cycling
 mod Following
 mod Plugging
 mod Weakening

@@ -1,5 +1,5 @@
 -- What plugging one package into another leaves in the graph.
-use Rattle.std.proofs.Common.{◌≡◌, ◌≢◌, ℕ, Bool, cond, true, false, List, [], ◌∷◌, ◌++◌, zero, suc, slice_get, refl, ap, ◌∙◌, sym, subst, Option, Some, None, Result, Ok, Err, IfSome, IsSome, is_some, IsErr, ◌⊎◌, inl, inr}
+use Rattle.std.proofs.Common.{◌≡◌, ℕ, Bool, cond, true, false, List, [], ◌∷◌, ◌++◌, zero, suc, slice_get, refl, ap, ◌∙◌, sym, subst, Option, Some, None, Result, Ok, Err, IfSome, IsSome, is_some, IsErr, ◌⊎◌, inl, inr}
 use Rattle.std.specs.Prelude.{IsSomeAnd, MatchOption}
 use Rattle.std.specs.FinMap as map
 use Rattle.std.specs.FinSet as set
@@ -10,7 +10,6 @@ use Rattle.wac_shapes.specs.Named.{names_of}
 use Rattle.wac_shapes.proofs.Names.{same_name-refl}
 use Rattle.wac_shapes.specs.declared.component.ItemKind.{ItemKind}
 use Rattle.wac_shapes.specs.declared.component.World.{World}
-use Rattle.wac_shapes.specs.declared.component.WorldId.{WorldId}
 use Rattle.wac_collection.specs.Collection.{Collection, item_at, world_imports, world_exports}
 use Rattle.wac_collection.specs.Package.{PackageParts}
 use Rattle.wac_binary.specs.Bytes.{preamble}
@@ -32,8 +31,8 @@ use Rattle.wac_plug.specs.Plugging.{Answer, answered, InOrder, Wires, PassesOn, 
 use Rattle.wac_plug.specs.Refusals.{of_alias, of_argument, of_export}
 use Rattle.wac_plug.specs.declared.errors.PlugError.{PlugError}
 use Rattle.wac_plug.specs.declared.errors.PlugError.TheVariants.{NoPlugHappened, OutOfMemory}
-use Rattle.wac_demo.specs.Composed.{IsInstanceOf, IsEmptyPackage, IsPluggedInto}
-use Rattle.wac_demo.proofs.Following.{alias-later, instance-later, some-of, there-is, parts-of}
+use Rattle.wac_demo.specs.Composed.{IsEmptyPackage, IsPluggedInto}
+use Rattle.wac_demo.proofs.Following.{alias-later, some-of, there-is, parts-of}
 
 abbrev done : Answer
 done = Ok tt

@@ -1,5 +1,5 @@
 -- What the compositions are.
-use Rattle.std.specs.Prelude.{◌≡◌, ℕ, List, [], Some, None, IsSomeAnd, false, codes, ◌⊎◌}
+use Rattle.std.specs.Prelude.{◌≡◌, ℕ, List, [], Some, None, IsSomeAnd, true, false, codes, ◌⊎◌}
 use Rattle.wac_shapes.specs.Name.{Name}
 use Rattle.wac_collection.specs.Collection.{Collection, item_at, world_imports, world_exports}
 use Rattle.wac_collection.specs.Package.{PackageParts}
@@ -8,16 +8,29 @@ use Rattle.wac_shapes.specs.declared.component.ItemKind.TheVariants as kind
 use Rattle.wac_binary.specs.Items.{Item}
 use Rattle.wac_binary.specs.Bytes.{preamble, bytes_of}
 use Rattle.wac_edges.specs.declared.node.NodeId.{NodeId}
+use Rattle.wac_edges.specs.Order.{IsLowestOnCycle}
+use Rattle.wac_nodes.specs.declared.options.EncodeOptions.{EncodeOptions}
 use Rattle.wac_nodes.specs.declared.packages.PackageId.{PackageId}
 use Rattle.wac_nodes.specs.Graph.{Graph, node_at, package_at, export_at}
 use Rattle.wac_nodes.specs.Options.{default_options}
 use Rattle.wac_meaning.specs.Means.{Means}
 use Rattle.wac_nodes.specs.Steps.{IsEmpty, instance_node}
 use Rattle.wac_nodes.specs.Stays.{IsAliasBy, IsArgumentBy}
+use Rattle.wac_causes.specs.declared.errors.EncodeError.{EncodeError}
+use Rattle.wac_causes.specs.declared.errors.EncodeError.TheVariants as error
 
--- the bytes are those of items that mean such a graph, encoded with the options that stand where nothing else is asked
-abbrev pub Compose : List ℕ → (Graph → Type 0) → Type 0
-Compose bytes P = (items : List Item) × (graph : Graph) × (bytes ≡ bytes_of items) × Means items graph default_options × P graph
+-- the bytes are those of items that mean such a graph, encoded with such options
+abbrev pub Compose : List ℕ → (EncodeOptions → Type 0) → (Graph → Type 0) → Type 0
+Compose bytes O P = (items : List Item) × (options : EncodeOptions) × (graph : Graph) × (bytes ≡ bytes_of items) × O options × Means items graph options × P graph
+
+-- the options that stand where nothing else is asked
+abbrev pub AreDefault : EncodeOptions → Type 0
+AreDefault options = options ≡ default_options
+
+-- those, but that a processor of this name and version is named
+abbrev pub NameProcessor : Name → Name → EncodeOptions → Type 0
+NameProcessor name version options =
+    (options.define_components ≡ true) × (options.validate ≡ true) × IsSomeAnd options.processor (λ p. (p.name.now ≡ name) × (p.version.now ≡ version))
 
 -- an instance of a package of this name
 abbrev pub IsInstanceOf : Graph → Name → NodeId → Type 0
@@ -55,6 +68,18 @@ abbrev pub IsPlainFunction : Collection → ItemKind → Type 0
 IsPlainFunction types (kind.Func f) = item_at types.funcs f.0 ≡ Some (record { params = []; result = None; is_async = false })
 IsPlainFunction types _ = ⊥
 
+-- an instance of a package of this name is its own argument for this import
+abbrev pub IsItsOwnArgument : Graph → Name → Name → Type 0
+IsItsOwnArgument g name imported = (n : NodeId) × IsInstanceOf g name n × IsArgumentBy g n imported n
+
+-- the package of the composition `cycle`: its instance is its own `i`
+abbrev pub IsCycle : Graph → Type 0
+IsCycle g = IsItsOwnArgument g (codes "my:package") (codes "i")
+
+-- the refusal names the lowest node on a cycle of the graph's edges, or memory ran out
+abbrev pub RefusesCycle : Graph → EncodeError → Type 0
+RefusesCycle g e = ((n : NodeId) × IsLowestOnCycle g.edges n × (e ≡ error.GraphContainsCycle n)) ⊎ (e ≡ error.OutOfMemory)
+
 -- the words of the compositions
 abbrev pub empty_word : List ℕ
 empty_word = codes "empty"
@@ -65,13 +90,18 @@ readme_word = codes "readme"
 abbrev pub plug_word : List ℕ
 plug_word = codes "plug"
 
+abbrev pub processor_word : List ℕ
+processor_word = codes "processor"
+
+abbrev pub cycle_word : List ℕ
+cycle_word = codes "cycle"
+
 abbrev pub IsWord : List ℕ → Type 0
-IsWord word = (word ≡ empty_word) ⊎ ((word ≡ readme_word) ⊎ (word ≡ plug_word))
+IsWord word = (word ≡ empty_word) ⊎ ((word ≡ processor_word) ⊎ ((word ≡ readme_word) ⊎ ((word ≡ cycle_word) ⊎ (word ≡ plug_word))))
 
--- the graph is the one of the word's composition
-abbrev pub IsOfWord : List ℕ → Graph → Type 0
-IsOfWord word graph = (word ≡ empty_word → IsEmpty graph) × (word ≡ readme_word → IsReadme graph) × (word ≡ plug_word → IsPlugged graph)
-
--- the bytes are those of the word's composition
-abbrev pub IsComposed : List ℕ → List ℕ → Type 0
-IsComposed word bytes = Compose bytes (IsOfWord word)
+-- the bytes are those of the word's composition; that of `cycle` has none
+pub data IsComposed (word bytes : List ℕ) : Type 0 where
+  of_empty : word ≡ empty_word → Compose bytes AreDefault IsEmpty → IsComposed word bytes
+  of_processor : word ≡ processor_word → Compose bytes (NameProcessor (codes "x") (codes "1")) IsEmpty → IsComposed word bytes
+  of_readme : word ≡ readme_word → Compose bytes AreDefault IsReadme → IsComposed word bytes
+  of_plug : word ≡ plug_word → Compose bytes AreDefault IsPlugged → IsComposed word bytes

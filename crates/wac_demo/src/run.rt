@@ -2,10 +2,10 @@
 ghost use Rattle.std.specs.Prelude.{◌≡◌, ◌≢◌, ◌⊎◌, ℕ, ◌<◌, List, IfOk, MatchOption, string_bytes};
 ghost use Rattle.std.specs.Io.KnownBytes.{Appends, Keeps};
 ghost use Rattle.anyhow.specs.Error.{error_message};
-ghost use Rattle.wac_demo.specs.Composed.{IsComposed, IsWord};
+ghost use Rattle.wac_demo.specs.Composed.{IsComposed, IsWord, cycle_word};
 ghost use Rattle.wac_demo.specs.Printed.{hex_line, line_of, unknown_line, Prints};
 
-use crate::compositions::{empty, plugged, readme};
+use crate::compositions::{cycle, empty, plugged, processor, readme};
 use anyhow::{Error, Result};
 use std::alloc::Global;
 use std::io::Write;
@@ -16,6 +16,7 @@ use std::io::Write;
 pub fn run<W: Write>(alloc: Global, word: &str, out: &mut W) -> u8
     ensures statuses { result < 4 }
     ensures composed { result ≡ 0 → (bytes : List ℕ) × IsComposed word.now bytes × Appends (W.contents out.old) (W.contents out.new) (hex_line bytes) }
+    ensures cycle { word.now ≡ cycle_word → result ≢ 0 }
     ensures refused { result ≡ 1 → IsWord word.now × ((text : List ℕ) × Appends (W.contents out.old) (W.contents out.new) (line_of text)) }
     ensures unknown { (IsWord word.now → ⊥) → Prints unknown_line 2 result (W.contents out.old) (W.contents out.new) }
     ensures known { IsWord word.now → result ≢ 2 }
@@ -58,7 +59,9 @@ fn compose(alloc: Global, word: &str) -> Option<Result<Vec<u8>>>
 {
     match word {
         "empty" => Some(empty(alloc)),
+        "processor" => Some(processor(alloc)),
         "readme" => Some(readme(alloc)),
+        "cycle" => Some(cycle(alloc)),
         "plug" => Some(plugged(alloc)),
         _ => None,
     }

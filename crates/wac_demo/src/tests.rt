@@ -5,3 +5,5 @@ mod names;
 mod packages;
 mod program;
 mod removal;
+mod unregistering;
+mod validation;

@@ -4,6 +4,8 @@
 #[cfg(test)]
 mod functions;
 #[cfg(test)]
+mod imports;
+#[cfg(test)]
 mod interfaces;
 #[cfg(test)]
 mod roots;

@@ -8,3 +8,4 @@ pub mod ExtendsLemmas
 pub mod StaysLemmas
 pub mod HeldLemmas
 pub mod ExternNameLemmas
+pub mod PositionLemmas

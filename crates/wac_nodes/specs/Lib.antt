@@ -13,3 +13,4 @@ pub mod Entries
 pub mod OuterImports
 pub mod Gives
 pub mod Stays
+pub mod Positions

@@ -10,6 +10,7 @@ mod names;
 mod node;
 mod options;
 mod packages;
+mod positions;
 
 pub use errors::{
     AliasError, ExportError, ImportError, InstantiationArgumentError, RegisterPackageError,
@@ -19,4 +20,5 @@ pub use names::{export_fault, import_fault, one_export_answer};
 pub use node::{Node, NodeKind};
 pub use options::{EncodeOptions, Processor};
 pub use packages::{BorrowedPackageKey, PackageId, Slot};
+pub use positions::first_gap;
 pub use wac_edges::node::NodeId;

@@ -1,7 +1,12 @@
 pub mod SatisfyLemmas
 pub mod WayLemmas
 pub mod TiedLemmas
+pub mod SlotLemmas
 pub mod ToldLemmas
 pub mod LostLemmas
 pub mod RemovingLemmas
+pub mod OwnedLemmas
+pub mod WithoutLemmas
+pub mod UnregisteringLemmas
 pub mod RemovalLaws
+pub mod UnregisteredLaws

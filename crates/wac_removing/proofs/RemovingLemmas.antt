@@ -16,7 +16,7 @@ use Rattle.wac_removing.proofs.WayLemmas.{IsIn, by_eq, by_node, same_id, one_dep
 use Rattle.wac_removing.proofs.TiedLemmas.{none_some, by_edge, removed_edge, left_edge, some_same, AreSame, tied_gone, fewer_then}
 
 -- what is there keeps its number below the count of slots
-within : (xs : List (Option Node)) (q : ℕ) → IsSome (get_or xs q None) → q < length xs
+pub within : (xs : List (Option Node)) (q : ℕ) → IsSome (get_or xs q None) → q < length xs
 within xs q h = by_slot xs q h where
   by_slot : (ys : List (Option Node)) (k : ℕ) → IsSome (get_or ys k None) → k < length ys
   by_slot [] k h = absurd (none_some {A = Node} None refl h)
@@ -171,7 +171,7 @@ module _ (old : Slab Node) (were : Edges) (id : NodeId) where
     smaller_behind less few = let small = shallow in omega (arith, few, small)
 
     -- the node itself is taken out last
-    pub taken_last : depth ≡ 0 → (now : Slab Node) → ((x : Edge) → IsIn edges x → x.source ≡ here → ⊥) → Updates nodes now here.0 None → AreTaken id old were now edges × AreTied now edges × (here ≡ id)
+    pub taken_last : depth ≡ 0 → (now : Slab Node) → ((x : Edge) → IsIn edges x → x.source ≡ here → ⊥) → Updates nodes now here.0 None → AreTaken (GoesWith were id) old were now edges × AreTied now edges × (here ≡ id)
     taken_last is now none u =
         let w : IsWay edges id 0 here = subst (λ d. IsWay edges id d here) is t.way in
         let gone : (n : NodeId) → (get nodes n.0 ≡ None) ⊎ GoesWith edges id n → get now n.0 ≡ None = λ n h. by_eq n.0 here.0 (λ at. ap (λ q. get now q) at ∙ u.changed) (λ differ. u.others n.0 differ ∙ was_gone w.0 none n differ h) in (

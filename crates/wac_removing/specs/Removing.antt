@@ -9,7 +9,7 @@ use Rattle.wac_edges.specs.Edge.{argument_edge}
 use Rattle.wac_edges.specs.Order.{Edges}
 use Rattle.wac_nodes.specs.declared.node.Node.{Node}
 use Rattle.wac_nodes.specs.Nodes.{node_of, satisfied_at, IsInstantiationAt}
-use Rattle.wac_removing.specs.Removal.{Follows, GoesWith}
+use Rattle.wac_removing.specs.Removal.{Follows}
 
 -- edges join nodes that are there; the positions that an instantiation keeps are those of its arguments, one for each
 pub record AreTied (nodes : Slab Node) (edges : Edges) : Type 0 where
@@ -19,12 +19,12 @@ pub record AreTied (nodes : Slab Node) (edges : Edges) : Type 0 where
   pub marked : (source target : NodeId) (position : ℕ) → set.contains edges (argument_edge source target position) ≡ true → satisfied_at (get nodes target.0) position ≡ true
   pub edged : (target : NodeId) (position : ℕ) → satisfied_at (get nodes target.0) position ≡ true → (source : NodeId) × (set.contains edges (argument_edge source target position) ≡ true)
 
--- the nodes that go with one are taken out, and edges at them; all other nodes are the same
-pub record AreTaken (id : NodeId) (nodes : Slab Node) (edges : Edges) (nodes' : Slab Node) (edges' : Edges) : Type 0 where
-  pub gone : (n : NodeId) → GoesWith edges id n → get nodes' n.0 ≡ None
-  pub others : (n : NodeId) → (option_map node_of (get nodes' n.0) ≡ option_map node_of (get nodes n.0)) ⊎ ((get nodes' n.0 ≡ None) × GoesWith edges id n)
+-- the nodes that go are taken out, and edges at them; all other nodes are the same
+pub record AreTaken (Goes : NodeId → Type 0) (nodes : Slab Node) (edges : Edges) (nodes' : Slab Node) (edges' : Edges) : Type 0 where
+  pub gone : (n : NodeId) → Goes n → get nodes' n.0 ≡ None
+  pub others : (n : NodeId) → (option_map node_of (get nodes' n.0) ≡ option_map node_of (get nodes n.0)) ⊎ ((get nodes' n.0 ≡ None) × Goes n)
   pub less : (e : Edge) → set.contains edges' e ≡ true → set.contains edges e ≡ true
-  pub taken : (e : Edge) → set.contains edges e ≡ true → (set.contains edges' e ≡ true) ⊎ (GoesWith edges id e.source ⊎ GoesWith edges id e.target)
+  pub taken : (e : Edge) → set.contains edges e ≡ true → (set.contains edges' e ≡ true) ⊎ (Goes e.source ⊎ Goes e.target)
 
 -- So many edges lead from the root to here, each followed by its target, and no other edge leads to a node on the way.
 abbrev pub IsWay : Edges → NodeId → ℕ → NodeId → Type 0

@@ -7,6 +7,7 @@ ghost use Rattle.wac_edges.specs.declared.edges.Edge.{Edge as AnEdge};
 ghost use Rattle.wac_edges.specs.Ends.{at_end};
 ghost use Rattle.wac_nodes.specs.Nodes.{node_of, satisfied_at, IsInstantiationAt};
 ghost use Rattle.wac_removing.specs.Lost.{AreNoted};
+ghost use Rattle.wac_removing.specs.Removal.{GoesWith};
 ghost use Rattle.wac_removing.specs.Removing.{AreTied, AreTaken};
 
 use crate::lost::{Lost, take_node};
@@ -30,7 +31,7 @@ pub fn take_nodes(
     requires tied { AreTied nodes.old edges.old }
     requires noted { AreNoted nodes.old lost.old exports.now.entries }
     ensures node { option_map node_of (get nodes.old id.0) ≡ Some (node_of result) }
-    ensures taken { AreTaken id nodes.old edges.old nodes.new edges.new }
+    ensures taken { AreTaken (GoesWith edges.old id) nodes.old edges.old nodes.new edges.new }
     ensures tied { AreTied nodes.new edges.new }
     ensures next { nodes.new.vacant_key ≡ id.0 }
     ensures noted { AreNoted nodes.new lost.new exports.now.entries }
@@ -86,7 +87,7 @@ fn leave(
 }
 
 /// Takes the edges into a node out, but for one that is kept.
-fn take_into(nodes: &mut Slab<Node>, edges: &mut Edges, node: NodeId, kept: Option<Edge>)
+pub(crate) fn take_into(nodes: &mut Slab<Node>, edges: &mut Edges, node: NodeId, kept: Option<Edge>)
     requires { AreTied nodes.old edges.old }
     ensures less { (e : AnEdge) → set.contains edges.new e ≡ true → set.contains edges.old e ≡ true }
     ensures others { (e : AnEdge) → set.contains edges.old e ≡ true → (e.target ≡ node → ⊥) → set.contains edges.new e ≡ true }
@@ -102,7 +103,7 @@ fn take_into(nodes: &mut Slab<Node>, edges: &mut Edges, node: NodeId, kept: Opti
 }
 
 /// Takes an edge out; an import that it satisfies is not satisfied then.
-fn take_edge(nodes: &mut Slab<Node>, edges: &mut Edges, edge: Edge)
+pub(crate) fn take_edge(nodes: &mut Slab<Node>, edges: &mut Edges, edge: Edge)
     requires stands { set.contains edges.old edge ≡ true }
     requires tied { AreTied nodes.old edges.old }
     ensures edges { edges.new ≡ set.remove edges.old edge }
@@ -116,7 +117,7 @@ fn take_edge(nodes: &mut Slab<Node>, edges: &mut Edges, edge: Edge)
 }
 
 /// An edge at this end of a node, if there is one.
-fn first_edge(edges: &Edges, node: NodeId, end: End) -> Option<Edge>
+pub(crate) fn first_edge(edges: &Edges, node: NodeId, end: End) -> Option<Edge>
     ensures there { IfSome result (λ e. (set.contains edges.now e ≡ true) × (at_end end e ≡ node)) }
     ensures none { IfNone result ((e : AnEdge) → set.contains edges.now e ≡ true → at_end end e ≡ node → ⊥) }
 {

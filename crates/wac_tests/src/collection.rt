@@ -287,6 +287,49 @@ fn a_core_module_imports_each_name_of_a_module_once(rt: HostRuntime) -> Result<(
     Ok(())
 }
 
+// A core module that imports these names of modules.
+fn importing(alloc: Global, names: &[(&str, &str)]) -> Result<ModuleType, ShapeError> {
+    let mut module_type = ModuleType::new(alloc);
+    for (source, name) in names {
+        module_type.import(alloc, *source, *name, global(false))?;
+    }
+    Ok(module_type)
+}
+
+// As the standard's binary format lists them: no module's imports are brought together.
+#[test]
+fn a_core_module_keeps_the_order_of_its_imports(rt: HostRuntime) -> Result<(), Fail> {
+    let alloc = rt.alloc();
+    let given = importing(alloc, &[("m", "f"), ("n", "g"), ("m", "h")])?;
+    let mut names = String::new(alloc);
+    for ((source, name), _) in &given.imports {
+        names.push_str(source)?;
+        names.push_str(name)?;
+    }
+    assert_eq!(rt; names.as_str(), "mfngmh");
+    assert!(rt; given.imports.get("m", "h").is_some());
+    assert!(rt; given.imports.get("n", "f").is_none());
+    assert!(rt; given.clone()? == given);
+    let grouped = importing(alloc, &[("m", "f"), ("m", "h"), ("n", "g")])?;
+    assert!(rt; grouped != given);
+    assert!(rt; ModuleType::new(alloc).imports.is_empty());
+    Ok(())
+}
+
+#[test]
+fn imports_show_as_a_map(rt: HostRuntime) -> Result<(), Fail> {
+    let alloc = rt.alloc();
+    let mut imports = CoreImports::new(alloc);
+    imports.insert(alloc, "m", "f", true)?;
+    imports.insert(alloc, "m", "g", false)?;
+    let shown = format!(in alloc; "{imports:?}")?;
+    assert_eq!(rt;
+        shown.as_str(),
+        "{(\"m\", \"f\"): true, (\"m\", \"g\"): false}"
+    );
+    Ok(())
+}
+
 #[test]
 fn a_clone_grows_on_its_own(rt: HostRuntime) -> Result<(), Fail> {
     let alloc = rt.alloc();

@@ -12,4 +12,6 @@ mod edges;
 #[cfg(test)]
 mod names;
 #[cfg(test)]
+mod refused;
+#[cfg(test)]
 mod subtyping;

@@ -1,5 +1,5 @@
 // Calls on a graph as the rows of a table, each with what it answers.
-use crate::compositions::{function, register};
+use crate::compositions::{empty_instance, function, register};
 use std::alloc::Global;
 use std::fmt::Display;
 use std::process::Abort;
@@ -9,6 +9,7 @@ use wac_graph::types::{
 };
 use wac_graph::{
     CompositionGraph, EncodeError, EncodeOptions, MergeFault, NodeId, NodeKind, PackageId,
+    ValidationFault,
 };
 
 // What a package imports or exports.
@@ -56,10 +57,20 @@ pub enum Call<'a> {
     // The node that is exported by this name.
     Exported(&'a str),
     Remove(usize),
+    Unregister(usize),
+    // Whether a package is registered.
+    Registered(usize),
     // Whether a node is there.
     Has(usize),
     // How many imports of an instantiation have an argument.
     Satisfied(usize),
+}
+
+impl Call<'_> {
+    // Whether something is taken away.
+    fn is_removal(&self) -> bool {
+        matches!(self, Call::Unset(..) | Call::Unexport(_) | Call::Remove(_))
+    }
 }
 
 // A graph, and what it answered so far.
@@ -108,11 +119,6 @@ fn exporting_telling(
     Ok(ItemKind::Instance(graph.add_interface(interface)?))
 }
 
-fn empty_instance(alloc: Global, graph: &mut CompositionGraph) -> Result<ItemKind, Fail> {
-    let interface = Interface::new(alloc, None, &[])?;
-    Ok(ItemKind::Instance(graph.add_interface(interface)?))
-}
-
 fn using_instance(
     alloc: Global,
     graph: &mut CompositionGraph,
@@ -145,7 +151,7 @@ impl Bench {
             Item::Instance => exporting(self.alloc, &mut self.graph, "a"),
             Item::Exporting(name) => exporting(self.alloc, &mut self.graph, name),
             Item::ExportingTelling(name) => exporting_telling(self.alloc, &mut self.graph, name),
-            Item::Empty => empty_instance(self.alloc, &mut self.graph),
+            Item::Empty => Ok(empty_instance(self.alloc, &mut self.graph)?),
             Item::Using(id, name, used) => {
                 using_instance(self.alloc, &mut self.graph, id, name, used)
             }
@@ -185,10 +191,15 @@ impl Bench {
         }
     }
 
+    fn package(&self, place: usize) -> Result<PackageId, Fail> {
+        match self.packages.get(place) {
+            Some(package) => Ok(*package),
+            None => Err(Fail::new("no such package")),
+        }
+    }
+
     fn instantiate(&mut self, rt: &impl Abort, place: usize) -> Result<String, Fail> {
-        let Some(id) = self.packages.get(place).copied() else {
-            return Err(Fail::new("no such package"));
-        };
+        let id = self.package(place)?;
         let held = self.graph.has_package(id);
         assert!(rt; held);
         match self.graph.instantiate(id) {
@@ -327,6 +338,18 @@ impl Bench {
         Ok(String::new(self.alloc))
     }
 
+    fn unregister(&mut self, rt: &impl Abort, place: usize) -> Result<String, Fail> {
+        let id = self.package(place)?;
+        let held = self.graph.has_package(id);
+        assert!(rt; held);
+        self.graph.unregister_package(id);
+        Ok(String::new(self.alloc))
+    }
+
+    fn registered(&self, place: usize) -> Result<String, Fail> {
+        shown(self.alloc, self.graph.has_package(self.package(place)?))
+    }
+
     fn has(&self, place: usize) -> Result<String, Fail> {
         shown(self.alloc, self.graph.has_node(self.node(place)?))
     }
@@ -357,17 +380,20 @@ impl Bench {
             Call::Source(place) => self.source(place),
             Call::Exported(name) => self.exported(name),
             Call::Remove(place) => self.remove(rt, place),
+            Call::Unregister(place) => self.unregister(rt, place),
+            Call::Registered(place) => self.registered(place),
             Call::Has(place) => self.has(place),
             Call::Satisfied(place) => self.satisfied(rt, place),
         }
     }
 
     // Makes the calls. One that is refused for want of memory changed nothing: made again it answers as if it had not
-    // been refused.
+    // been refused. What takes something away is never refused for that.
     pub fn calls(&mut self, rt: &impl Abort, rows: &[(Call<'_>, &str)]) -> Result<(), Fail> {
         for (call, want) in rows {
             let mut answer = self.call(rt, *call)?;
             if is_refused(answer.as_str()) {
+                assert!(rt; !call.is_removal() || !want.is_empty());
                 answer = self.call(rt, *call)?;
             }
             assert_eq!(rt; answer.as_str(), *want);
@@ -401,8 +427,21 @@ impl Bench {
         }
     }
 
+    // What is wrong with names.
+    fn invalid(&self, fault: ValidationFault) -> Result<String, Fail> {
+        match fault {
+            ValidationFault::BadName { name } => Ok(format!(in self.alloc; "BadName `{name}`")?),
+            ValidationFault::Clash { first, second } => {
+                Ok(format!(in self.alloc; "Clash `{first}`, `{second}`")?)
+            }
+            ValidationFault::NotExportable { name } => {
+                Ok(format!(in self.alloc; "NotExportable `{name}`")?)
+            }
+        }
+    }
+
     // What the refusal names: the node of a cycle, or the import, the instantiation, its package and the name, or an import
-    // that cannot be merged, the nodes that ask for it and the export that differs, or one of a circle.
+    // that cannot be merged, the nodes that ask for it and the export that differs, or one of a circle, or names.
     pub fn refused(&self) -> Result<String, Fail> {
         match self.encode(EncodeOptions::default()) {
             Err(EncodeError::GraphContainsCycle { node }) => shown(self.alloc, node),
@@ -433,6 +472,7 @@ impl Bench {
                 },
             ) => { Ok(format!(in self.alloc; "{import}, {node}, {other}")?) }
             Err(EncodeError::ImportsUseEachOther { import }) => Ok(import),
+            Err(EncodeError::ValidationFailure { source }) => self.invalid(source),
             _ => Ok(String::new(self.alloc)),
         }
     }

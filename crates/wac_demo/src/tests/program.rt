@@ -1,15 +1,22 @@
 use crate::args::asked_word;
+use crate::compositions::cycle_refusal;
 use crate::run::run;
 use std::env::{Env, FillError};
 use std::io;
 use std::io::Write;
 use std::test::Fail;
+use wac_graph::EncodeError;
 
 const README: &str =
     "0061736d0d00010004080061736d0d000100050401000000060601010000016104080061736d0d00010005080100010101620100\n";
 
 const PLUG: &str =
     "0061736d0d00010004080061736d0d000100050401000000060601010000016104080061736d0d000100050801000101016101000608010100010372756e0b0901000372756e010100\n";
+
+const PROCESSOR: &str =
+    "0061736d0d000100001d0970726f647563657273010c70726f6365737365642d62790101780131\n";
+
+const CYCLE: &str = "the graph contains a cycle and cannot be encoded\n";
 
 const UNKNOWN: &str = "unknown composition\n";
 
@@ -18,7 +25,9 @@ fn a_word_is_answered_by_a_line(rt: HostRuntime) -> Result<(), Fail> {
     let alloc = rt.alloc();
     let rows = [
         ("empty", "0061736d0d000100\n", 0),
+        ("processor", PROCESSOR, 0),
         ("readme", README, 0),
+        ("cycle", CYCLE, 1),
         ("plug", PLUG, 0),
         ("", UNKNOWN, 2),
         ("Readme", UNKNOWN, 2),
@@ -29,6 +38,16 @@ fn a_word_is_answered_by_a_line(rt: HostRuntime) -> Result<(), Fail> {
         assert_eq!(rt; run(alloc, word, &mut out), status, "{word}");
         assert!(rt; out.as_slice() == want.as_bytes(), "{word}");
     }
+    Ok(())
+}
+
+#[test]
+fn a_cycle_is_refused_by_its_node(rt: HostRuntime) -> Result<(), Fail> {
+    let alloc = rt.alloc();
+    let EncodeError::GraphContainsCycle { node } = cycle_refusal(alloc)? else {
+        return Err(Fail::new("no cycle is named"));
+    };
+    assert_eq!(rt; format!(in alloc; "{node}")?.as_str(), "0");
     Ok(())
 }
 

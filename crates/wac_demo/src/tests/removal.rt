@@ -1,6 +1,7 @@
 // Nodes that are removed, and what goes with them.
 use super::bench::Call::{
-    Alias, Export, Exported, Has, Import, Instantiate, Register, Remove, Satisfied, Set,
+    Alias, Export, Exported, Has, Import, Instantiate, Register, Remove, Satisfied, Set, Unexport,
+    Unset,
 };
 use super::bench::Item::{Empty, Instance, Plain};
 use super::bench::{Bench, Call};
@@ -101,6 +102,34 @@ const RING: &[(Call<'static>, &str)] = &[
     (Remove(3), ""),
     (Instantiate(0), "3"),
 ];
+
+// An argument, the exports of a node and a node with its aliases are taken away; none of these calls takes memory.
+const TAKEN: &[(Call<'static>, &str)] = &[
+    (Register("my:package1", &[], &[("a", Plain)]), ""),
+    (Register("my:package2", &[("b", Plain)], &[]), ""),
+    (Instantiate(0), "0"),
+    (Alias(0, "a"), "1"),
+    (Instantiate(1), "2"),
+    (Instantiate(1), "3"),
+    (Set(2, "b", 1), ""),
+    (Set(3, "b", 1), ""),
+    (Export(1, "x"), ""),
+    (Export(1, "y"), ""),
+    (Export(2, "z"), ""),
+    (Unset(2, "b", 1), ""),
+    (Unexport(1), ""),
+    (Remove(0), ""),
+    (Remove(3), ""),
+    (Has(1), "false"),
+    (Satisfied(2), "0"),
+    (Exported("x"), "none"),
+    (Exported("z"), "2"),
+];
+
+#[test]
+fn what_is_taken_away_takes_no_memory(rt: HostRuntime) -> Result<(), Fail> {
+    Bench::new(rt.alloc()).calls(&rt, TAKEN)
+}
 
 #[test]
 fn the_number_of_a_removed_node_comes_next(rt: HostRuntime) -> Result<(), Fail> {

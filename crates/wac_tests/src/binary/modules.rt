@@ -4,7 +4,7 @@ use wac_binary::{
     BinaryFault, ComponentBuilder, ComponentType, EntityType, GlobalType, InstanceType, MemoryType,
     ModuleType, TableType,
 };
-use wac_types::{CoreRefType, CoreType};
+use wac_types::{CoreExtern, CoreFuncType, CoreRefType, CoreType};
 
 const MEMORY: MemoryType = MemoryType {
     minimum: 1,
@@ -42,6 +42,36 @@ fn writes_a_module_type(rt: HostRuntime) -> Result<(), Fail> {
             "0061736d0d000100", // the preamble
             "03140150030160000000016d0166",
             "0000030165020001",
+        ],
+    )
+}
+
+// A held module type imports `f` of `m`, `g` of `n` and `h` of `m`, and they are written so, each with a type of its own before it.
+#[test]
+fn writes_imports_in_the_order_given(rt: HostRuntime) -> Result<(), Fail> {
+    let alloc = rt.alloc();
+    let mut held = wac_types::ModuleType::new(alloc);
+    for (source, name) in [("m", "f"), ("n", "g"), ("m", "h")] {
+        let func = CoreFuncType::new(alloc, &[], &[])?;
+        held.import(alloc, source, name, CoreExtern::Func(func))?;
+    }
+    let mut m = ModuleType::new(alloc);
+    for ((source, name), _) in &held.imports {
+        let f = m.func(&[], &[])?;
+        m.import(source, name, EntityType::Function(f))?;
+    }
+    let mut b = ComponentBuilder::new(alloc);
+    let _i = b.core_module_type(&m)?;
+    assert_written(
+        &rt,
+        rt.alloc(),
+        b.finish()?,
+        &[
+            "0061736d0d000100", // the preamble
+            "0324015006", // a module type of six declarations
+            "0160000000016d01660000",
+            "0160000000016e01670001",
+            "0160000000016d01680002",
         ],
     )
 }

@@ -1,6 +1,4 @@
-use Rattle.std.proofs.Common.{subst}
 use Rattle.std.specs.Prelude.{codes}
-use Rattle.wac_meaning.specs.Means.{Means}
 use Rattle.wac_demo.proofs.Plugging.{socket-there, plugs-there, plugs-it}
 use Rattle.wac_demo.proofs.compositions.plugged.Goals as goal
 
@@ -18,9 +16,11 @@ pub returns : goal.returns
 returns c =
     let means = c.in_ok-encode.ensures.means in (
       means.0,
+      c.default.result,
       c.plug.new.graph,
       means.1,
-      subst (λ o. Means means.0 c.plug.new.graph o) c.default.ensures means.2,
+      c.default.ensures,
+      means.2,
       plugs-it c.register.new.graph c.register-2.new.graph c.in_ok-giver.giver c.in_ok-socket.socket c.in_ok-plugs.plugs.items (codes "my:plug") (codes "a") (codes "my:socket") (codes "run") c.in_ok-function.function
           c.in_ok-giver.ensures.registered c.register-2.ensures.stays c.in_ok-socket.ensures.registered c.in_ok-plugs.ensures.items c.plug.new.graph c.law.ensures c.law-2.ensures c.in_ok-plug.ensures.step,
     )

@@ -1,23 +1,32 @@
-use Rattle.std.proofs.Common.{◌∙◌, sym, inl, inr}
+use Rattle.std.proofs.Common.{List, ℕ, codes, inl, inr}
 use Rattle.wac_nodes.specs.Steps.{IsEmpty}
-use Rattle.wac_demo.specs.Composed.{IsReadme, IsPlugged, IsOfWord}
-use Rattle.wac_demo.proofs.Weakening.{weaken, empty-not-readme, empty-not-plug, readme-not-plug}
+use Rattle.wac_demo.specs.Composed.{AreDefault, Compose, IsComposed, IsReadme, IsPlugged, NameProcessor, of_empty, of_processor, of_readme, of_plug}
+use Rattle.wac_demo.proofs.Weakening.{composed, no_bytes}
 use Rattle.wac_demo.proofs.run.compose.Goals as goal
 
 pub returns-in-empty : goal.returns-in-empty
 returns-in-empty c = (
   inl c.in-empty.is,
-  weaken (λ v. v.items) IsEmpty (IsOfWord c.args.word.now) (λ g p. ((λ _. p), (λ e. absurd (empty-not-readme (sym c.in-empty.is ∙ e))), (λ e. absurd (empty-not-plug (sym c.in-empty.is ∙ e))))) c.empty.result c.empty.ensures,
+  composed (λ v. v.items) (λ (bs : List ℕ). Compose bs AreDefault IsEmpty) (IsComposed c.args.word.now) (λ bs h. of_empty c.in-empty.is h) c.empty.result c.empty.ensures,
+)
+
+pub returns-in-processor : goal.returns-in-processor
+returns-in-processor c = (
+  inr (inl c.in-processor.is),
+  composed (λ v. v.items) (λ (bs : List ℕ). Compose bs (NameProcessor (codes "x") (codes "1")) IsEmpty) (IsComposed c.args.word.now) (λ bs h. of_processor c.in-processor.is h) c.processor.result c.processor.ensures,
 )
 
 pub returns-in-readme : goal.returns-in-readme
 returns-in-readme c = (
-  inr (inl c.in-readme.is),
-  weaken (λ v. v.items) IsReadme (IsOfWord c.args.word.now) (λ g p. ((λ e. absurd (empty-not-readme (sym e ∙ c.in-readme.is))), (λ _. p), (λ e. absurd (readme-not-plug (sym c.in-readme.is ∙ e))))) c.readme.result c.readme.ensures,
+  inr (inr (inl c.in-readme.is)),
+  composed (λ v. v.items) (λ (bs : List ℕ). Compose bs AreDefault IsReadme) (IsComposed c.args.word.now) (λ bs h. of_readme c.in-readme.is h) c.readme.result c.readme.ensures,
 )
+
+pub returns-in-cycle : goal.returns-in-cycle
+returns-in-cycle c = (inr (inr (inr (inl c.in-cycle.is))), no_bytes _ c.cycle.result c.cycle.ensures)
 
 pub returns-in-plug : goal.returns-in-plug
 returns-in-plug c = (
-  inr (inr c.in-plug.is),
-  weaken (λ v. v.items) IsPlugged (IsOfWord c.args.word.now) (λ g p. ((λ e. absurd (empty-not-plug (sym e ∙ c.in-plug.is))), (λ e. absurd (readme-not-plug (sym e ∙ c.in-plug.is))), (λ _. p))) c.plugged.result c.plugged.ensures,
+  inr (inr (inr (inr c.in-plug.is))),
+  composed (λ v. v.items) (λ (bs : List ℕ). Compose bs AreDefault IsPlugged) (IsComposed c.args.word.now) (λ bs h. of_plug c.in-plug.is h) c.plugged.result c.plugged.ensures,
 )

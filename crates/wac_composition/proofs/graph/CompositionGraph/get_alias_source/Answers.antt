@@ -1,4 +1,3 @@
-use Rattle.std.proofs.Common.{sym}
 use Rattle.wac_edges.specs.Edge.{node_number}
 use Rattle.wac_composition.proofs.AliasLemmas.{interface_there}
 use Rattle.wac_composition.proofs.WriteAliasLemmas.{alias_target, source_there, source_is_instance, position_there, alias_of}

@@ -1,6 +1,4 @@
-use Rattle.std.proofs.Common.{◌≡◌, ◌∙◌, ap, sym, true, false}
-use Rattle.std.specs.FinSet as set
-use Rattle.wac_edges.specs.Edge.{argument_edge}
+use Rattle.std.proofs.Common.{◌≡◌}
 use Rattle.wac_nodes.specs.Graph.{instantiation}
 use Rattle.wac_composition.proofs.EncodingLemmas.{contains_node, of_node, the_set}
 use Rattle.wac_composition.proofs.graph.CompositionGraph.is_given.Goals as goal

@@ -1,4 +1,4 @@
-use Rattle.std.proofs.Common.{◌≡◌, ◌<◌, ◌+◌, ◌-◌, ℕ, rules, length, refl, arith, subst, sym, slice_index_or}
+use Rattle.std.proofs.Common.{◌≡◌, ◌<◌, ◌+◌, ◌-◌, rules, length, refl, arith, subst, sym, slice_index_or}
 use Rattle.wac_edges.specs.Edge.{node_number}
 use Rattle.wac_meaning.specs.Encoding.{index_in}
 use Rattle.wac_composition.specs.Naming.{AreLowest, IsNamed, IsNamedAt}

@@ -1,4 +1,3 @@
-use Rattle.std.proofs.Common.{sym}
 use Rattle.wac_nodes.proofs.NodeLemmas.{there}
 use Rattle.wac_removing.proofs.LostLemmas.{noted_told}
 use Rattle.wac_composition.proofs.RemovedLemmas.{tied_inside, removes, invariant_removed}

@@ -1,0 +1,1 @@
+use Rattle.wac_composition.proofs.graph.CompositionGraph.written_imports.Goals as goal
