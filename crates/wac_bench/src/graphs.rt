@@ -42,13 +42,13 @@ struct Round {
 }
 
 /// Adds a function type without parameters and result.
-fn plain(alloc: Global, graph: &mut CompositionGraph) -> Result<ItemKind> {
+pub fn plain(alloc: Global, graph: &mut CompositionGraph) -> Result<ItemKind> {
     let function = FuncType::new(alloc, &[], None, false)?;
     Ok(ItemKind::Func(graph.add_func_type(function)?))
 }
 
 /// One item under a name.
-fn one(alloc: Global, name: &str, kind: ItemKind) -> Result<Named<ItemKind>> {
+pub fn one(alloc: Global, name: &str, kind: ItemKind) -> Result<Named<ItemKind>> {
     let mut items = Named::new(alloc);
     items.insert(alloc, name, kind)?;
     Ok(items)
@@ -84,7 +84,7 @@ fn function_names(alloc: Global, count: u64) -> Result<Vec<String>> {
 }
 
 /// Registers an empty component of a new world.
-fn register(
+pub fn register(
     alloc: Global,
     graph: &mut CompositionGraph,
     name: &str,
@@ -104,7 +104,7 @@ fn register(
 }
 
 /// Makes an instance of a package.
-fn instantiate(graph: &mut CompositionGraph, package: PackageId) -> Result<NodeId> {
+pub fn instantiate(graph: &mut CompositionGraph, package: PackageId) -> Result<NodeId> {
     if !graph.has_package(package) {
         bail!("a package is not registered");
     }
@@ -112,7 +112,7 @@ fn instantiate(graph: &mut CompositionGraph, package: PackageId) -> Result<NodeI
 }
 
 /// Makes an alias of an export.
-fn alias(graph: &mut CompositionGraph, instance: NodeId, name: &str) -> Result<NodeId> {
+pub fn alias(graph: &mut CompositionGraph, instance: NodeId, name: &str) -> Result<NodeId> {
     if !graph.has_node(instance) {
         bail!("an instance is not there");
     }
@@ -120,7 +120,7 @@ fn alias(graph: &mut CompositionGraph, instance: NodeId, name: &str) -> Result<N
 }
 
 /// Gives a node to an instance as its argument of this name.
-fn pass(
+pub fn pass(
     graph: &mut CompositionGraph,
     instance: NodeId,
     name: &str,
@@ -133,7 +133,7 @@ fn pass(
 }
 
 /// Exports a node.
-fn export(graph: &mut CompositionGraph, node: NodeId, name: &str) -> Result<()> {
+pub fn export(graph: &mut CompositionGraph, node: NodeId, name: &str) -> Result<()> {
     if !graph.has_node(node) {
         bail!("what is exported is not there");
     }

@@ -1,9 +1,10 @@
 //! Measures how long calls of the libraries take: `names` reads names, `comparing` adds and compares items, `merging` merges
-//! imports, `writing` writes components; `chain`, `fan`, `aliases` and `plug` make graphs and encode them. With such a word it
-//! takes a workload at some counts and prints its times and by which power of the count they grow; without one it does a little
-//! of each and prints no time. Another word ends it with status 2.
+//! imports, `writing` writes components; `chain`, `fan`, `aliases` and `plug` make graphs and encode them, and `churn` removes
+//! nodes and makes them again. With such a word it takes a workload at some counts and prints its times and by which power of
+//! the count they grow; without one it does a little of each and prints no time. Another word ends it with status 2.
 #![tactic(auto)]
 
+mod churn;
 mod comparing;
 mod graphs;
 mod merging;
@@ -23,7 +24,8 @@ fn show(rt: &HostRuntime) -> Result<()> {
     comparing::show(rt)?;
     merging::show(rt)?;
     writing::show(rt)?;
-    graphs::show(rt)
+    graphs::show(rt)?;
+    churn::show(rt)
 }
 
 /// Measures what the word names. Answers whether it names a workload.
@@ -37,6 +39,7 @@ fn measure(rt: &HostRuntime, word: &str) -> Result<bool> {
         "fan" => graphs::measure(rt, Sort::Fan)?,
         "aliases" => graphs::measure(rt, Sort::Aliases)?,
         "plug" => graphs::measure(rt, Sort::Plug)?,
+        "churn" => churn::measure(rt)?,
         _ => return Ok(false),
     }
     Ok(true)
@@ -50,6 +53,6 @@ fn main(rt: HostRuntime) -> Result<ExitCode> {
     if measure(&rt, word.as_str())? {
         return Ok(ExitCode::SUCCESS);
     }
-    println!(rt; "names, comparing, merging, writing, chain, fan, aliases or plug")?;
+    println!(rt; "names, comparing, merging, writing, chain, fan, aliases, plug or churn")?;
     Ok(ExitCode::from(2))
 }

@@ -57,14 +57,14 @@ there_all : (c : Collection) (es : List (Name × ItemKind)) → NoNameTwice es �
 there_all c es once there i e at = there_plain c e.1 (subst IsPlainWhereThere (listed_at c es i e once at) (there e.0))
 
 -- an interface is its exports under their names
-interface_is : (c : Collection) → IsWellFormed c → (i : InterfaceId) (it : Interface) → holds_type c (ty.Interface i) ≡ true → item_at c.interfaces i.0 ≡ Some it → type_tree c (ty.Interface i) ≡ instance (listed_in c it.exports)
+pub interface_is : (c : Collection) → IsWellFormed c → (i : InterfaceId) (it : Interface) → holds_type c (ty.Interface i) ≡ true → item_at c.interfaces i.0 ≡ Some it → type_tree c (ty.Interface i) ≡ instance (listed_in c it.exports)
 unfolding type_tree
 interface_is c wf i it held at =
     let (h, is, same) = held_item (slice_get c.interfaces i.0) it at in
     unfolded_step by_name c wf (resource_names c) (ty.Interface i) held
     ∙ ap (of_held (interface_tree by_name c (unfolded by_name c) (resource_names c))) is ∙ ap (λ (x : Interface). instance (listed_in c x.exports)) same
 
-exports_are : (c : Collection) (i : InterfaceId) (it : Interface) → item_at c.interfaces i.0 ≡ Some it → interface_exports c i ≡ it.exports
+pub exports_are : (c : Collection) (i : InterfaceId) (it : Interface) → item_at c.interfaces i.0 ≡ Some it → interface_exports c i ≡ it.exports
 exports_are c i it at = ap (λ o. option_case o [] (λ (x : Interface). x.exports)) at
 
 pub instance_importable : (c : Collection) → IsWellFormed c → (i : InterfaceId) (it : Interface) → holds_type c (ty.Interface i) ≡ true → item_at c.interfaces i.0 ≡ Some it → ArePlain c it.exports → IsImportableKind c (kind.Instance i)
@@ -73,7 +73,7 @@ instance_importable c wf i it held at all = subst (λ t. IsImportable (instance_
 pub importable_instance : (c : Collection) → IsWellFormed c → (i : InterfaceId) (it : Interface) → holds_type c (ty.Interface i) ≡ true → item_at c.interfaces i.0 ≡ Some it → NoNameTwice it.exports → IsImportableKind c (kind.Instance i) → ArePlain c it.exports
 importable_instance c wf i it held at once h = there_all c it.exports once (subst (λ t. IsImportable (instance_item t)) (interface_is c wf i it held at) h)
 
-interface_there : (c : Collection) → IsWellFormed c → (i : InterfaceId) → holds_type c (ty.Interface i) ≡ true → (it : Interface) × (item_at c.interfaces i.0 ≡ Some it)
+pub interface_there : (c : Collection) → IsWellFormed c → (i : InterfaceId) → holds_type c (ty.Interface i) ≡ true → (it : Interface) × (item_at c.interfaces i.0 ≡ Some it)
 interface_there c wf i held = by (slice_get c.interfaces i.0) refl (type_before c wf (ty.Interface i) held) where
   by : (o : Option (Held Interface)) → slice_get c.interfaces i.0 ≡ o → AddedBefore (size c) o → (it : Interface) × (item_at c.interfaces i.0 ≡ Some it)
   by None is b = absurd b

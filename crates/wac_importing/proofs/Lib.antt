@@ -4,3 +4,4 @@ pub mod Items
 pub mod Refusing
 pub mod Loop
 pub mod Merging
+pub mod Asked

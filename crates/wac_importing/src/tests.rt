@@ -57,11 +57,11 @@ fn each_import_stands_at_an_index_of_its_sort(rt: HostRuntime) -> Result<(), Fai
     let Some(written) = write_imports(alloc, &merge)? else {
         return Err(Fail::new("not written"));
     };
-    // the types before them: the enum, the type of f, the instance type, bool
+    // instances first, then type items; the types are those of the instance, bool, its item, the enum, and of the functions
     let places = [
-        (Sort::Func, 0),
         (Sort::Instance, 0),
-        (Sort::Type, 4),
+        (Sort::Type, 2),
+        (Sort::Func, 0),
         (Sort::Func, 1),
     ];
     assert!(rt; written.places.as_slice() == places.as_slice());
