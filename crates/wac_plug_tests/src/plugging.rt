@@ -19,8 +19,9 @@ struct Row {
     nodes: &'static [&'static str],
     // The names of the socket's imports.
     asked: &'static str,
-    // How many nodes there are when the socket's one import is satisfied, where it is.
-    passed: Option<usize>,
+    // How many nodes there are when an import of the socket is satisfied, and the names of those that are not then; none
+    // where no import is.
+    passed: Option<(usize, &'static str)>,
 }
 
 const NONE: &str = "the socket component had no matching imports for the plugs that were provided";
@@ -95,14 +96,11 @@ fn assert_asked(
     count: usize,
 ) -> Result<(), Fail> {
     let asked = asked(rt.alloc(), graph)?;
-    let is_passed = match row.passed {
-        Some(passed) => count > passed || (count == passed && asked.is_empty()),
-        None => false,
-    };
-    let want = if count == 0 || is_passed {
-        ""
-    } else {
-        row.asked
+    let want = match row.passed {
+        _ if count == 0 => "",
+        Some((passed, left)) if count > passed => left,
+        Some((passed, left)) if count == passed && asked.as_str() == left => left,
+        _ => row.asked,
     };
     assert_eq!(rt; asked.as_str(), want);
     Ok(())
@@ -141,7 +139,10 @@ fn assert_made(
         assert_eq!(rt; node.as_str(), *want);
     }
     let asked = asked(rt.alloc(), graph)?;
-    let want = if row.passed.is_some() { "" } else { row.asked };
+    let want = match row.passed {
+        Some((_, left)) => left,
+        None => row.asked,
+    };
     assert_eq!(rt; asked.as_str(), want);
     Ok(())
 }
@@ -170,7 +171,7 @@ const ONE: Row = Row {
         "alias my:socket as run",
     ],
     asked: "a; ",
-    passed: Some(3),
+    passed: Some((3, "")),
 };
 
 // Its bytes.
@@ -192,7 +193,7 @@ const TWO: Row = Row {
         "alias my:plug1",
     ],
     asked: "a; ",
-    passed: Some(3),
+    passed: Some((3, "")),
 };
 
 // One plug twice.
@@ -210,7 +211,7 @@ const TWICE: Row = Row {
         "alias my:plug0",
     ],
     asked: "a; ",
-    passed: Some(3),
+    passed: Some((3, "")),
 };
 
 // No import has the name of the plug's export.
@@ -269,7 +270,44 @@ const ONE_TRACK: Row = Row {
         "alias my:plug0",
     ],
     asked: "a:b/c@1.2.0; ",
-    passed: Some(3),
+    passed: Some((3, "")),
+};
+
+// No import has the export's name, and two are on its track: the first is taken, whose version is the higher one.
+const FIRST_ON_TRACK: Row = Row {
+    plugs: &[&[("a:b/c@1.0.0", Item::Exporting("f"))]],
+    order: (0, None),
+    imports: &[
+        ("a:b/c@1.2.0", Item::Exporting("f")),
+        ("a:b/c@1.1.0", Item::Exporting("f")),
+    ],
+    exports: RUN,
+    answer: "",
+    nodes: &[
+        "instance my:socket",
+        "instance my:plug0",
+        "alias my:plug0",
+        "alias my:socket as run",
+    ],
+    asked: "a:b/c@1.2.0; a:b/c@1.1.0; ",
+    passed: Some((3, "a:b/c@1.1.0; ")),
+};
+
+// The first plug matches nothing.
+const SECOND_ALONE: Row = Row {
+    plugs: &[&[("b", Item::Function)], FUNCTION_A],
+    order: (0, Some(1)),
+    imports: FUNCTION_A,
+    exports: RUN,
+    answer: "",
+    nodes: &[
+        "instance my:socket",
+        "instance my:plug1",
+        "alias my:plug1",
+        "alias my:socket as run",
+    ],
+    asked: "a; ",
+    passed: Some((3, "")),
 };
 
 // The socket exports what may not be exported.
@@ -286,7 +324,7 @@ const BAD_EXPORT: Row = Row {
         "alias my:socket",
     ],
     asked: "a; ",
-    passed: Some(3),
+    passed: Some((3, "")),
 };
 
 #[test]
@@ -346,6 +384,46 @@ fn a_socket_has_no_imports(rt: HostRuntime) -> Result<(), Fail> {
 #[test]
 fn the_import_of_the_name_is_of_another_type(rt: HostRuntime) -> Result<(), Fail> {
     assert_row(&rt, OTHER_TYPE)
+}
+
+#[test]
+fn the_first_import_on_a_track_is_given(rt: HostRuntime) -> Result<(), Fail> {
+    assert_row(&rt, FIRST_ON_TRACK)
+}
+
+// A plug without a match is left out.
+#[test]
+fn one_of_two_plugs_matches(rt: HostRuntime) -> Result<(), Fail> {
+    assert_row(&rt, SECOND_ALONE)
+}
+
+fn found(graph: &CompositionGraph, name: &str) -> Result<PackageId, Fail> {
+    match graph.get_package_by_name(name, None) {
+        Some((id, _)) => Ok(id),
+        None => Err(Fail::new("no package of this name")),
+    }
+}
+
+// The same packages once more: the socket's name is taken, and all but its export is made.
+#[test]
+fn an_export_is_there_already(rt: HostRuntime) -> Result<(), Fail> {
+    let mut graph = CompositionGraph::new(rt.alloc());
+    let first = answered(&rt, &mut graph, ONE)?;
+    let plug = found(&graph, "my:plug0")?;
+    let socket = found(&graph, "my:socket")?;
+    let second = plugged(&rt, &mut graph, plug, None, socket)?;
+    if first.as_str() == REFUSED || second.as_str() == REFUSED {
+        return Err(Fail::new(REFUSED));
+    }
+    assert_eq!(rt;
+        second.as_str(),
+        "an export with the name `run` already exists"
+    );
+    let nodes = first_nodes(&rt, &graph, 9)?;
+    assert_eq!(rt; nodes.len(), 8);
+    assert_eq!(rt; nodes[3].as_str(), "alias my:socket as run");
+    assert_eq!(rt; nodes[7].as_str(), "alias my:socket");
+    Ok(())
 }
 
 #[test]
