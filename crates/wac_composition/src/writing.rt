@@ -25,6 +25,7 @@ impl CompositionGraph {
         ensures none { IfOk result (λ o. IfNone o (AllImportable self.now → ⊥)) }
         ensures refused { IfErr result (λ e. (e ≡ error.OutOfMemory) ⊎ ((e ≡ error.TooLarge) × AllImportable self.now)) }
     {
+        self.law();
         class_laws();
         order_law();
         Ok(write_imports(self.alloc, merge)?)

@@ -8,7 +8,16 @@ use Rattle.wac_causes.specs.declared.errors.EncodeError.TheVariants as error
 use Rattle.wac_importing.specs.Written as written
 use Rattle.wac_importing.specs.declared.written.WrittenImports.{WrittenImports}
 use Rattle.wac_nodes.specs.Graph.{Graph}
+use Rattle.wac_entries.specs.Classes.{ClassLaws}
+use Rattle.wac_nodes.specs.Sound.{IsSound}
+use Rattle.wac_nodes.specs.Entries.{asked_entries}
+use Rattle.wac_nodes.specs.OuterImports.{outer_entries}
+use Rattle.wac_meaning.specs.MergedImports.{IsMergeOf}
+use Rattle.wac_meaning.proofs.MergeLemmas.{OrderHasClasses}
+use Rattle.wac_importing.proofs.Asked.{merge_importable}
 use Rattle.wac_writing.proofs.OuterLemmas.{asked_importable}
+use Rattle.wac_composition.proofs.AskedHeld.{held_entries}
+use Rattle.wac_composition.proofs.MergeLemmas.{merge_held}
 use Rattle.wac_composition.proofs.CauseLemmas.{exit_cause}
 use Rattle.wac_composition.proofs.graph.CompositionGraph.written_imports.Goals as goal
 
@@ -21,12 +30,13 @@ refused g m f binary.TooLarge h = inr (refl, f h.0)
 refused g m f binary.OutOfMemory h = inl refl
 
 -- where all that is asked for is importable so are the imports of its merge
-merged_importable : (g : Graph) (m : Merged) → AllImportable g → written.AllImportable m
-merged_importable g m all = ?
+merged_importable : ClassLaws → OrderHasClasses → (g : Graph) → IsSound g → (m : Merged) → IsMergeOf g m → AllImportable g → written.AllImportable m
+merged_importable laws has_classes g sound m whole =
+    merge_importable g.types whole.ordered (outer_entries g) (merge_held g.types (asked_entries g) (held_entries g sound whole.ordered)) m whole.merged_ordered whole.held whole.merge laws has_classes
 
-not_all : (g : Graph) (m : Merged) (o : Option WrittenImports) → (o ≡ None → written.HasUnimportable m) → IfNone o (AllImportable g → ⊥)
-not_all g m (Some w) f = tt
-not_all g m None f = let h = f refl in λ all. h.not_yet (merged_importable g m all h.p h.entry h.there)
+not_all : (g : Graph) (m : Merged) (o : Option WrittenImports) → (AllImportable g → written.AllImportable m) → (o ≡ None → written.HasUnimportable m) → IfNone o (AllImportable g → ⊥)
+not_all g m (Some w) each f = tt
+not_all g m None each f = let h = f refl in λ all. h.not_yet (each all h.p h.entry h.there)
 
 pub returns-in_err-write_imports-clause-refused : goal.returns-in_err-write_imports-clause-refused
 returns-in_err-write_imports-clause-refused c =
@@ -37,4 +47,7 @@ pub returns-clause-importable : goal.returns-clause-importable
 returns-clause-importable c = so c.in_ok-write_imports.field-0 (asked_importable c.class_laws.ensures (λ t es order w. (c.order_law.ensures t es order w).each) c.args.self.now c.args.merge.now c.requires) c.in_ok-write_imports.ensures.importable
 
 pub returns-clause-none : goal.returns-clause-none
-returns-clause-none c = not_all c.args.self.now c.args.merge.now.merge c.in_ok-write_imports.field-0 (λ none. c.write_imports.ensures.none (c.in_ok-write_imports.was ∙ ap Ok none))
+returns-clause-none c =
+    not_all c.args.self.now c.args.merge.now.merge c.in_ok-write_imports.field-0
+    (merged_importable c.class_laws.ensures (λ t es order w. (c.order_law.ensures t es order w).each) c.args.self.now c.law.ensures c.args.merge.now.merge c.requires.whole)
+    (λ none. c.write_imports.ensures.none (c.in_ok-write_imports.was ∙ ap Ok none))
