@@ -40,7 +40,7 @@ use Rattle.wac_causes.specs.Search.{NamesFault}
 use Rattle.wac_causes.proofs.StandsLemmas.{stands_invalid, invalid_alone}
 use Rattle.wac_composition.specs.declared.graph.CompositionGraph.TheInside.{Inside}
 use Rattle.wac_composition.specs.Inside.{graph_of}
-use Rattle.wac_composition.proofs.CauseLemmas.{IsChecked}
+use Rattle.wac_writing.proofs.CauseLemmas.{IsChecked}
 use Rattle.wac_composition.proofs.MeansLemmas.{no_first}
 use Rattle.wac_composition.proofs.WriteAliasLemmas.{take_at, entry_at}
 

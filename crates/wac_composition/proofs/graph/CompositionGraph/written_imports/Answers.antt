@@ -18,7 +18,7 @@ use Rattle.wac_importing.proofs.Asked.{merge_importable}
 use Rattle.wac_writing.proofs.OuterLemmas.{asked_importable}
 use Rattle.wac_composition.proofs.AskedHeld.{held_entries}
 use Rattle.wac_composition.proofs.MergeLemmas.{merge_held}
-use Rattle.wac_composition.proofs.CauseLemmas.{exit_cause}
+use Rattle.wac_writing.proofs.CauseLemmas.{exit_cause}
 use Rattle.wac_composition.proofs.graph.CompositionGraph.written_imports.Goals as goal
 
 so : {P Q : Type 0} (o : Option WrittenImports) → (P → Q) → IfSome o (λ w. P) → IfSome o (λ w. Q)

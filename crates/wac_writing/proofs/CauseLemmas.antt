@@ -24,7 +24,7 @@ use Rattle.wac_nodes.specs.Asked.{Entry}
 use Rattle.wac_nodes.specs.Entries.{asked_entries, to_merge}
 use Rattle.wac_causes.specs.Cause.{IsFirstConflict, HasNoConflict, HasMerge, IsMergeConflict, IsImplicitMerge, IsExplicitMerge, IsImportCircle, Cause, cycle, conflict, implicit_merge, explicit_merge, import_circle, not_yet, invalid, a_disagreement, an_invalid_name, rank, kind_of_cause, Stands, cause_of, AnswersFor}
 use Rattle.wac_causes.specs.Search.{IsRefused}
-use Rattle.wac_composition.specs.EncoderView.{IsRefusedBefore}
+use Rattle.wac_writing.specs.Refused.{IsRefusedBefore}
 use Rattle.wac_meaning.proofs.ThingLemmas.{DefinesNothing}
 use Rattle.wac_writing.proofs.OuterLemmas.{nothing_left}
 use Rattle.wac_causes.proofs.StandsLemmas.{stands_cycle, stands_not_yet, same_kind, none_there, invalid_alone}
