@@ -1,5 +1,5 @@
 -- What the fields say of the nodes that are written.
-use Rattle.std.proofs.Common.{◌≡◌, ℕ, zero, suc, ◌<◌, ◌≤◌, Bool, true, false, List, [], ◌∷◌, ◌++◌, ◌+◌, length, refl, ap, ◌∙◌, sym, subst, arith, Option, Some, None, IfSome, IsSome, IsSomeAnd, IsTrue, is_some, inl, inr, get_or, String, Global, string_bytes}
+use Rattle.std.proofs.Common.{◌≡◌, ℕ, zero, suc, ◌<◌, ◌≤◌, Bool, true, false, not, List, [], ◌∷◌, ◌++◌, ◌+◌, length, refl, ap, ◌∙◌, sym, subst, arith, Option, Some, None, IfSome, IsSome, IsSomeAnd, IsTrue, is_some, inl, inr, get_or, String, Global, string_bytes}
 use Rattle.std.proofs.lemmas.Bool.Decides.{nat_tests}
 use Rattle.std.specs.Prelude.{slice_get, nat_lt}
 use Rattle.std.proofs.lemmas.List.{get_or_append_left}
@@ -26,9 +26,10 @@ use Rattle.wac_edges.specs.Edge.{node_number}
 use Rattle.wac_nodes.specs.Graph.{Graph, GraphNode, Kind, node_at, package_at, package_in, package_of, imports_of}
 use Rattle.wac_nodes.specs.Nodes.{node_of, kind_of, satisfied, satisfied_at}
 use Rattle.wac_composition.specs.Inside.{graph_of, Invariant}
-use Rattle.wac_meaning.specs.Means.{is_there}
+use Rattle.wac_meaning.specs.Means.{is_import, is_written}
+use Rattle.wac_meaning.proofs.ThingLemmas.{DefinesNothing}
 use Rattle.wac_nodes.specs.Gives.{GivesNode}
-use Rattle.wac_causes.specs.NotYet.{IsNotYet, IsWritable, AllWritable, unset, defined, imported}
+use Rattle.wac_causes.specs.NotYet.{IsNotYet, defined}
 use Rattle.wac_nodes.proofs.NodeLemmas.{get-nodes_of}
 use Rattle.wac_composition.proofs.ArgumentLemmas.{owned, registered}
 use Rattle.wac_nodes.proofs.JoinLemmas.{imports_of_package}
@@ -36,13 +37,6 @@ use Rattle.wac_nodes.proofs.JoinLemmas.{imports_of_package}
 -- the node of a number, as the fields have it
 pub node_is : (a : Inside) (n : ℕ) (o : Option Node) → get a.nodes n ≡ o → node_at (graph_of a) (node_number n) ≡ option_map node_of o
 node_is a n o had = get-nodes_of a.nodes.slots n ∙ ap (option_map node_of) had
-
--- whether a node of the number is there
-pub there_is : (a : Inside) (n : ℕ) → is_there (graph_of a) (node_number n) ≡ is_some (get a.nodes n)
-there_is a n = ap (λ o. option_case o false (λ x. true)) (get-nodes_of a.nodes.slots n) ∙ decide (get a.nodes n) where
-  decide : (o : Option Node) → option_case (option_map node_of o) false (λ x. true) ≡ is_some o
-  decide None = refl
-  decide (Some x) = refl
 
 -- a node that a fact speaks of is in the fields
 the_node : (o : Option Node) (P : GraphNode → Type 0) → IsSomeAnd (option_map node_of o) P → (n : Node) × (o ≡ Some n) × P (node_of n)
@@ -100,15 +94,6 @@ imports_now g n id p w owner there at = by_node (node_at g (node_number n)) (pac
   by_node None h = tt
   by_node (Some x) h = sym (imports_of_package g x p h ∙ ap (λ y. option_case y [] (λ z. z.imports)) at)
 
--- whether a node is there
-pub there_now : (g : Graph) (n : ℕ) (b : Bool) → (IsTrue b → IsSome (node_at g (node_number n))) × (IsSome (node_at g (node_number n)) → IsTrue b) → b ≡ is_there g (node_number n)
-there_now g n b h = by_node b (node_at g (node_number n)) h where
-  by_node : (t : Bool) (o : Option GraphNode) → (IsTrue t → IsSome o) × (IsSome o → IsTrue t) → t ≡ option_case o false (λ x. true)
-  by_node true None h = sym (h.0 refl)
-  by_node true (Some x) h = refl
-  by_node false None h = refl
-  by_node false (Some x) h = h.1 refl
-
 -- no node is past the slots
 pub none_past : (a : Inside) (n : ℕ) → length a.nodes.slots ≤ n → get a.nodes n ≡ None
 none_past a n far = past a.nodes.slots n far where
@@ -126,19 +111,20 @@ flag_past (b ∷ flags) zero h = absurd (omega arith)
 flag_past (b ∷ flags) (suc m) h = flag_past flags m (omega arith)
 
 -- flags for all nodes
-pub all_flags : (a : Inside) (flags : List Bool) (k : ℕ) → length flags ≡ k → length a.nodes.slots ≤ k → ((m : NodeId) → m.0 < k → is_left flags m ≡ is_there (graph_of a) m) → (m : NodeId) → is_left flags m ≡ is_there (graph_of a) m
-all_flags a flags k many slots below m = by_lt m.0 k (below m) (λ above. flag_past flags m.0 (omega (arith, many, above)) ∙ sym (there_is a m.0 ∙ ap is_some (none_past a m.0 (omega (arith, slots, above)))))
+pub all_flags : (a : Inside) (flags : List Bool) (k : ℕ) → length flags ≡ k → length a.nodes.slots ≤ k → ((m : NodeId) → m.0 < k → is_left flags m ≡ is_written (graph_of a) m) → (m : NodeId) → is_left flags m ≡ is_written (graph_of a) m
+all_flags a flags k many slots below m =
+    by_lt m.0 k (below m) (λ above. flag_past flags m.0 (omega (arith, many, above)) ∙ sym (ap (λ o. option_case o false (λ x. not (is_import x.kind))) (node_is a m.0 None (none_past a m.0 (omega (arith, slots, above))))))
 
 -- one flag more
-pub next_flag : (g : Graph) (flags : List Bool) (k : ℕ) (b : Bool) → length flags ≡ k → ((m : NodeId) → m.0 < k → is_left flags m ≡ is_there g m) → b ≡ is_there g (node_number k) → (m : NodeId) → m.0 < k + 1 → is_left (flags ++ b ∷ []) m ≡ is_there g m
+pub next_flag : (g : Graph) (flags : List Bool) (k : ℕ) (b : Bool) → length flags ≡ k → ((m : NodeId) → m.0 < k → is_left flags m ≡ is_written g m) → b ≡ is_written g (node_number k) → (m : NodeId) → m.0 < k + 1 → is_left (flags ++ b ∷ []) m ≡ is_written g m
 next_flag g flags k b many below now m small = by_lt m.0 k
     (λ under. get_or_append_left flags (b ∷ []) false m.0 (omega (arith, many, under)) ∙ below m under)
-    (λ over. let same : m.0 ≡ length flags = omega (arith, many, over, small) in let last : k ≡ m.0 = omega (arith, over, small) in ap (λ q. is_left (flags ++ b ∷ []) (node_number q)) same ∙ get_or-append_seam flags b [] false ∙ now ∙ ap (λ q. is_there g (node_number q)) last)
+    (λ over. let same : m.0 ≡ length flags = omega (arith, many, over, small) in let last : k ≡ m.0 = omega (arith, over, small) in ap (λ q. is_left (flags ++ b ∷ []) (node_number q)) same ∙ get_or-append_seam flags b [] false ∙ now ∙ ap (λ q. is_written g (node_number q)) last)
 
--- all nodes are writable where those below the capacity are
-pub all_writable : (a : Inside) (k : ℕ) → length a.nodes.slots ≤ k → ((m : NodeId) → m.0 < k → IfSome (node_at (graph_of a) m) (IsWritable (graph_of a) m)) → AllWritable (graph_of a)
-all_writable a k slots below m node there = by_lt m.0 k
-    (λ small. subst (λ o. IfSome o (IsWritable (graph_of a) m)) there (below m small))
+-- no node is a definition where none below the capacity is
+pub defines_nothing : (a : Inside) (k : ℕ) → length a.nodes.slots ≤ k → ((m : NodeId) → m.0 < k → IfSome (node_at (graph_of a) m) (λ node. node.kind ≡ graph.definition → ⊥)) → DefinesNothing (graph_of a)
+defines_nothing a k slots below m node there = by_lt m.0 k
+    (λ small. subst (λ o. IfSome o (λ x. x.kind ≡ graph.definition → ⊥)) there (below m small))
     (λ above. absurd (nothing (node_at (graph_of a) m) (node_is a m.0 None (none_past a m.0 (omega (arith, slots, above)))) there)) where
       nothing : (o : Option GraphNode) → o ≡ None → o ≡ Some node → ⊥
       nothing o p q = cc
@@ -149,37 +135,8 @@ some_and a n node P had p = subst (λ o. IsSomeAnd o P) (sym (node_is a n (Some 
 pub if_none : (a : Inside) (n : ℕ) (P : GraphNode → Type 0) → get a.nodes n ≡ None → IfSome (node_at (graph_of a) (node_number n)) P
 if_none a n P had = subst (λ o. IfSome o P) (sym (node_is a n None had)) tt
 
-pub a_definition : (a : Inside) (n : ℕ) (node : Node) (o : EncodeOptions) → get a.nodes n ≡ Some node → node.kind ≡ code.Definition → IsNotYet (graph_of a) o
-a_definition a n node o had is = defined (node_number n) (node_of node) (node_is a n (Some node) had) (ap kind_of is)
-
-pub an_import : (a : Inside) (n : ℕ) (node : Node) (name : String Global) (o : EncodeOptions) → get a.nodes n ≡ Some node → node.kind ≡ code.Import name → IsNotYet (graph_of a) o
-an_import a n node name o had is = imported (node_number n) (node_of node) (string_bytes name) (node_is a n (Some node) had) (ap kind_of is)
-
-module _ (a : Inside) (v : Invariant a) (n : ℕ) (node : Node) (s : BTreeSet ℕ) (had : get a.nodes n ≡ Some node) (is : node.kind ≡ code.Instantiation s) where
-  marked : (i : ℕ) (b : Bool) → positions.contains nat_cmp s i ≡ b → satisfied_at (get a.nodes n) i ≡ b
-  marked i b h = ap (λ x. satisfied_at x i) had ∙ ap (λ k. satisfied k i) is ∙ h
-
-  pub a_gap : (i : ℕ) (count : ℕ) (o : EncodeOptions) → count ≡ length (imports_of (graph_of a) (node_of node)) → i < count → positions.contains nat_cmp s i ≡ false → IsNotYet (graph_of a) o
-  a_gap i count o many small gap =
-      unset (node_number n) (node_of node) i (node_is a n (Some node) had) (ap kind_of is) (omega (arith, many))
-      (λ source stands. clash (satisfied_at (get a.nodes n) i) (v.marked source (node_number n) i stands) (marked i false gap)) where
-        clash : (b : Bool) → b ≡ true → b ≡ false → ⊥
-        clash true _ h = cc
-        clash false h _ = cc
-
-  pub no_gap : (count : ℕ) → count ≡ length (imports_of (graph_of a) (node_of node)) → ((i : ℕ) → i < count → positions.contains nat_cmp s i ≡ true) → IfSome (node_at (graph_of a) (node_number n)) (IsWritable (graph_of a) (node_number n))
-  no_gap count many full = if_node a n node (IsWritable (graph_of a) (node_number n)) had (record {
-    plain = inl (ap kind_of is);
-    set = λ _ i small. v.edged (node_number n) i (marked i true (full i (omega (arith, many))));
-  })
-
-pub an_alias : (a : Inside) (n : ℕ) (node : Node) → get a.nodes n ≡ Some node → node.kind ≡ code.Alias → IfSome (node_at (graph_of a) (node_number n)) (IsWritable (graph_of a) (node_number n))
-an_alias a n node had is = if_node a n node (IsWritable (graph_of a) (node_number n)) had (record {
-  plain = inr (ap kind_of is);
-  set = λ wrong. absurd (two_kinds (ap kind_of is) wrong);
-}) where
-  two_kinds : {k : Kind} → k ≡ graph.alias → k ≡ graph.instantiation → ⊥
-  two_kinds a b = cc
+pub a_definition : (a : Inside) (n : ℕ) (node : Node) (o : EncodeOptions) → get a.nodes n ≡ Some node → kind_of node.kind ≡ graph.definition → IsNotYet (graph_of a) o
+a_definition a n node o had is = defined (node_number n) (node_of node) (node_is a n (Some node) had) is
 
 pub of_if : (a : Inside) (n : ℕ) (node : Node) (P : GraphNode → Type 0) → IfSome (node_at (graph_of a) (node_number n)) P → get a.nodes n ≡ Some node → P (node_of node)
 of_if a n node P h had = subst (λ o. IfSome o P) (node_is a n (Some node) had) h
@@ -197,3 +154,7 @@ gives_node a v id node had = record {
   set = λ i h. v.edged id i (ap (λ o. satisfied_at o i) had ∙ h);
   only = λ i (source, stands). sym (ap (λ o. satisfied_at o i) had) ∙ v.marked source id i stands;
 }
+
+pub clash_of : (b : Bool) → b ≡ true → b ≡ false → ⊥
+clash_of true _ h = cc
+clash_of false h _ = cc

@@ -29,7 +29,7 @@ use Rattle.wac_composition.specs.declared.graph.CompositionGraph.TheInside.{Insi
 use Rattle.wac_edges.specs.Edge.{edge_cmp, argument_edge}
 use Rattle.wac_nodes.specs.Graph as graph
 use Rattle.wac_edges.specs.Edge.{node_number}
-use Rattle.wac_nodes.specs.Graph.{Graph, GraphNode, Kind, node_at, imports_of, import_name}
+use Rattle.wac_nodes.specs.Graph.{Graph, GraphNode, Kind, node_at, imports_of, import_name, IsUnsatisfied}
 use Rattle.wac_nodes.specs.Nodes.{node_of, nodes_of, kind_of, satisfied, satisfied_at}
 use Rattle.wac_composition.specs.Inside.{graph_of, Invariant}
 use Rattle.wac_nodes.specs.Asked.{is_argument, is_argument_label, is_satisfied, unsatisfied, asked_by, imported_by}
@@ -118,6 +118,13 @@ edge_there edges n i h =
     let inside : set.contains edges e ≡ true = set.contains-items edges e ∙ list_any_at (eq_by_cmp edge_cmp e) (set.items edges) there.0 e there.1 (ap (λ (x : Edge). eq_by_cmp edge_cmp e x) there.2 ∙ ap is_eq (tied_itself edge_cmp_total e)) in
     (e.source, ap (set.contains edges) (sym (edge_is n i e passes)) ∙ inside)
 
+-- a position without an argument is not satisfied
+pub unsatisfied_false : (g : Graph) (n : NodeId) (i : ℕ) → IsUnsatisfied g n i → is_satisfied g n.0 i ≡ false
+unsatisfied_false g n i none = split (is_satisfied g n.0 i) refl where
+  split : (b : Bool) → is_satisfied g n.0 i ≡ b → b ≡ false
+  split true is = let (source, stands) = edge_there g.edges n.0 i is in absurd (none source stands)
+  split false is = refl
+
 -- what a node of each kind has
 left_by_kind : (g : Graph) (n i : ℕ) (x : GraphNode) → x.kind ≡ graph.instantiation → node_left g n i (Some x) ≡ map row_of (unset_from (is_satisfied g n) (imports_of g x) i)
 left_by_kind g n i x e = rw e refl
@@ -139,6 +146,28 @@ named_by_kind n x name graph.instantiation e h = cc
 named_by_kind n x name graph.definition e h = cc
 named_by_kind n x name (graph.import text) e h = let is : text ≡ name = cc in rw e (ap (λ (t : Name). let row : Row = (t, x.item_kind, Some (node_number n)) in row ∷ []) is)
 named_by_kind n x name graph.alias e h = cc
+
+-- a row of a number is that of its import node
+pub node_row_at : (g : Graph) (n : ℕ) (node : GraphNode) (name : Name) → node_at g (node_number n) ≡ Some node → node.kind ≡ graph.import name → node_rows g n ≡ (name, node.item_kind, Some (node_number n)) ∷ []
+node_row_at g n node name there is = ap (λ o. map node_row (imported_by n o)) there ∙ named_by_kind n node name (graph.import name) is refl
+
+one_name : (x y : Row) → ◌≡◌ {A = List Row} (x ∷ []) (y ∷ []) → x.0 ≡ y.0
+one_name x y h = let same : x ≡ y = cc in ap (λ (r : Row). r.0) same
+
+pub row_node : (g : Graph) (n : ℕ) (name : Name) (k : ItemKind) → node_rows g n ≡ (name, k, Some (node_number n)) ∷ [] → (node : GraphNode) × (node_at g (node_number n) ≡ Some node) × (node.kind ≡ graph.import name)
+row_node g n name k rows = by_node (node_at g (node_number n)) refl rows where
+  row : Row
+  row = (name, k, Some (node_number n))
+
+  by_kind : (node : GraphNode) → node_at g (node_number n) ≡ Some node → (kind : Kind) → node.kind ≡ kind → map node_row (imported_by n (Some node)) ≡ row ∷ [] → (node : GraphNode) × (node_at g (node_number n) ≡ Some node) × (node.kind ≡ graph.import name)
+  by_kind node there (graph.import text) is rows = (node, there, is ∙ ap graph.import (one_name (text, node.item_kind, Some (node_number n)) row (sym (named_by_kind n node text (graph.import text) is refl) ∙ rows)))
+  by_kind node there graph.instantiation is rows = let none : ◌≡◌ {A = List Row} [] (row ∷ []) = sym (unnamed_by_kind n node graph.instantiation is refl) ∙ rows in cc
+  by_kind node there graph.definition is rows = let none : ◌≡◌ {A = List Row} [] (row ∷ []) = sym (unnamed_by_kind n node graph.definition is refl) ∙ rows in cc
+  by_kind node there graph.alias is rows = let none : ◌≡◌ {A = List Row} [] (row ∷ []) = sym (unnamed_by_kind n node graph.alias is refl) ∙ rows in cc
+
+  by_node : (o : Option GraphNode) → node_at g (node_number n) ≡ o → map node_row (imported_by n o) ≡ row ∷ [] → (node : GraphNode) × (node_at g (node_number n) ≡ Some node) × (node.kind ≡ graph.import name)
+  by_node None there rows = let none : ◌≡◌ {A = List Row} [] (row ∷ []) = rows in cc
+  by_node (Some node) there rows = by_kind node there node.kind refl rows
 
 module _ (a : Inside) (v : Invariant a) (n : ℕ) (node : Node) (had : get a.nodes n ≡ Some node) where
   module _ (s : BTreeSet ℕ) (is : node.kind ≡ code.Instantiation s) where

@@ -7,7 +7,6 @@ pub mod ArgumentLemmas
 pub mod TakingLemmas
 pub mod EncodingLemmas
 pub mod MeansLemmas
-pub mod CauseLemmas
 pub mod ConflictLemmas
 pub mod WriteAliasLemmas
 pub mod WriteArgumentsLemmas
@@ -18,7 +17,6 @@ pub mod AskingWalk
 pub mod AskedHeld
 pub mod MergeLemmas
 pub mod NamingLemmas
-pub mod ComponentLemmas
 pub mod RemovedLemmas
 pub mod UnregisteredLemmas
 pub mod SourceLemmas

@@ -1,6 +1,5 @@
 -- From what merging answers to what `encode` does.
 use Rattle.std.proofs.Common.{lit<, ◌≡◌, ℕ, zero, suc, ◌<◌, true, false, is_some, List, [], ◌∷◌, length, map, get_or, refl, ap, ◌∙◌, sym, subst, arith, Some, None, Option, IfSome, ◌⊎◌, inl, inr}
-use Rattle.std.proofs.lemmas.Bool.{eqb-true}
 use Rattle.std.specs.Global.{Global}
 use Rattle.std.specs.Prelude.{slice_get, string_bytes, ◌==◌}
 use Rattle.std.specs.List.{AllByRecursion}
@@ -14,14 +13,11 @@ use Rattle.wac_merge.specs.Aggregate.{IsFault}
 use Rattle.wac_entries.specs.Bindings.{AreHeld}
 use Rattle.wac_entries.specs.Classes as merge
 use Rattle.wac_entries.specs.Classes.{by_names}
-use Rattle.wac_cycles.specs.Cycles.{Path, step, further}
 use Rattle.wac_terms.specs.NoDisagreement.{HasNoDisagreement}
-use Rattle.wac_terms.specs.ClassOrder.{RestsOn, by_use, by_resource}
 use Rattle.wac_agreement.specs.Faults.{Disagrees, HasFault, HasNoCircle, UseEachOther, disagree, fault_of, use_each_other}
 use Rattle.wac_agreement.specs.declared.fault.MergeFault.{MergeFault}
 use Rattle.wac_agreement.specs.declared.fault.MergeFault.TheVariants as fault
 use Rattle.wac_nodes.specs.declared.options.EncodeOptions.{EncodeOptions}
-use Rattle.wac_asking.specs.declared.asked.AskedEntry.{AskedEntry}
 use Rattle.wac_causes.specs.declared.errors.EncodeError.TheVariants as error
 use Rattle.wac_edges.specs.declared.node.NodeId.{NodeId}
 use Rattle.wac_nodes.specs.Graph as graph
@@ -156,22 +152,3 @@ pub is_fault : (c : Collection) (es : List merge.Entry) (e : MergeFault) → IfS
 is_fault c es (fault.Disagree p q x) h = inr (disagree p q (string_bytes x), refl, h)
 is_fault c es (fault.UseEachOther x) h = inr (use_each_other (string_bytes x), refl, h)
 is_fault c es fault.OutOfMemory h = inl refl
-
--- where no entries are collected nothing is asked for
-pub none_asked : (es : List AskedEntry) (g : Graph) → (length es == 0) ≡ true → map entry_view es ≡ asked_entries g → asked_entries g ≡ []
-none_asked [] g none is = sym is
-none_asked (e ∷ es) g none is = absurd (let h = eqb-true (length (e ∷ es)) 0 none in omega (arith, h))
-
--- where nothing is asked for there is nothing to merge
-pub nothing_merges : (g : Graph) → asked_entries g ≡ [] → HasMerge g
-nothing_merges g none = subst (λ es. HasNoDisagreement by_names g.types (to_merge es) × HasNoCircle by_names g.types (to_merge es)) (sym none) (λ i j d. no_entry d.earlier d.at_first, λ n on. no_path n n on) where
-  no_entry : (e : merge.Entry) → None ≡ Some e → ⊥
-  no_entry e h = cc
-
-  rests_nowhere : (a b : ℕ) → RestsOn by_names g.types [] a b → ⊥
-  rests_nowhere a b (by_use _ _ class other name id e i it used u differ at _ _ _ _ _ _ _ _) = let wrong : None ≡ Some class = at in cc
-  rests_nowhere a b (by_resource _ _ class e differ at _ _) = let wrong : None ≡ Some class = at in cc
-
-  no_path : (a b : ℕ) → Path (RestsOn by_names g.types []) a b → ⊥
-  no_path a b (step _ _ rests) = rests_nowhere a b rests
-  no_path a b (further _ c _ rests _) = rests_nowhere a c rests

@@ -1,9 +1,9 @@
--- The outer names of a graph that is written today: no imports, and the names of its exports in order.
+-- The outer names of a graph that is written: those of its imports, and the names of its exports in order.
 use Rattle.std.proofs.Common.{◌≡◌, ℕ, suc, ◌+◌, ◌≤◌, true, IsTrue, List, [], ◌∷◌, ◌++◌, length, map, take, Option, Some, None, IfSome, IsSome, refl, ap, ◌∙◌, sym, subst, arith, inl, inr, String, Global, string_bytes}
 use Rattle.std.specs.Borrow.{Bor}
 use Rattle.std.specs.List.{flat_map}
 use Rattle.std.specs.Prelude.{slice_get}
-use Rattle.std.proofs.lemmas.List.{map-append, take_all, length-map}
+use Rattle.std.proofs.lemmas.List.{append-nil, map-append, take_all, length-map}
 use Rattle.wac_shapes.specs.Name.{Name}
 use Rattle.wac_collection.specs.Tree.{Tree}
 use Rattle.wac_binary.specs.declared.sorts.Sort.{Sort}
@@ -13,14 +13,20 @@ use Rattle.wac_edges.specs.declared.node.NodeId.{NodeId}
 use Rattle.wac_edges.specs.Order.{Writes}
 use Rattle.wac_nodes.specs.declared.options.EncodeOptions.{EncodeOptions}
 use Rattle.wac_nodes.specs.Graph.{Graph, GraphNode, node_at}
-use Rattle.wac_nodes.specs.Asked.{asked}
 use Rattle.wac_nodes.specs.OuterImports.{AreOuterImports}
 use Rattle.wac_nodes.specs.Sound.{IsSound}
 use Rattle.wac_nodes.proofs.NodeLemmas.{text_pair}
-use Rattle.wac_meaning.specs.Means.{is_there, is_written, further_exports, shown, export_of, Means}
+use Rattle.wac_meaning.specs.Means.{is_written, package_imports, further_exports, shown, export_of, Means}
 use Rattle.wac_meaning.proofs.DefinedLemmas.{HasNoFirst, further_all, no_package_imports, no_first_exports}
-use Rattle.wac_meaning.proofs.AskedLemmas.{asked_none, no_imports}
-use Rattle.wac_meaning.proofs.OuterOrder.{one_order}
+use Rattle.wac_meaning.specs.MergedImports.{imports_from, merged_imports}
+use Rattle.wac_meaning.proofs.MergeLemmas.{OrderHasClasses, outer_of_merge}
+use Rattle.wac_meaning.proofs.ThingLemmas.{DefinesNothing}
+use Rattle.wac_entries.specs.Classes.{Entry, ClassLaws}
+use Rattle.wac_terms.specs.Merge.{Merged, import_entries}
+use Rattle.wac_shapes.specs.declared.component.ItemKind.{ItemKind}
+use Rattle.wac_merge.specs.Aggregate.{Aggregate}
+use Rattle.wac_writing.specs.Places.{IsMergedFor, names_of}
+use Rattle.wac_writing.proofs.OuterLemmas.{one_outer}
 use Rattle.wac_validation.specs.FirstFault.{Fault, IsFirstFault, IsRefusal, fault_view}
 use Rattle.wac_validation.specs.Valid.{AreValid}
 use Rattle.wac_validation.specs.Views.{texts}
@@ -29,17 +35,19 @@ use Rattle.wac_validation.specs.declared.fault.ValidationError.TheVariants as va
 use Rattle.wac_causes.specs.declared.errors.EncodeError.{EncodeError}
 use Rattle.wac_causes.specs.Cause.{Cause, cycle, conflict, implicit_merge, explicit_merge, import_circle, not_yet, invalid, an_invalid_name, kind_of_cause, IsNamed, Stands, cause_of, AnswersFor}
 use Rattle.wac_causes.specs.Faults.{validation_failure}
-use Rattle.wac_causes.specs.NotYet.{AllWritable}
 use Rattle.wac_causes.specs.OuterNames.{first_name_of, AreOuterNames, import_names, export_names, IsOuterFault}
 use Rattle.wac_causes.specs.Search.{NamesFault}
 use Rattle.wac_causes.proofs.StandsLemmas.{stands_invalid, invalid_alone}
 use Rattle.wac_composition.specs.declared.graph.CompositionGraph.TheInside.{Inside}
 use Rattle.wac_composition.specs.Inside.{graph_of}
-use Rattle.wac_composition.proofs.CauseLemmas.{IsChecked}
-use Rattle.wac_composition.proofs.MeansLemmas.{plain, all_set, no_first, writes_all}
+use Rattle.wac_writing.proofs.CauseLemmas.{IsChecked}
+use Rattle.wac_composition.proofs.MeansLemmas.{no_first}
 use Rattle.wac_composition.proofs.WriteAliasLemmas.{take_at, entry_at}
 
-module _ (g : Graph) (o : EncodeOptions) (define : o.define_components ≡ true) (none_asked : asked g ≡ []) (no_first : HasNoFirst g) where
+module _ (g : Graph) (o : EncodeOptions) (define : o.define_components ≡ true) (laws : ClassLaws) (has_classes : OrderHasClasses) (no_first : HasNoFirst g) (classes : List (Name × Tree)) (outer : AreOuterImports g classes) where
+  abbrev names : List Name
+  names = map (λ e. e.0) classes
+
   no_first_names : (order : List NodeId) → flat_map (first_name_of g) order ≡ []
   no_first_names [] = refl
   no_first_names (n ∷ ns) = rw (here (node_at g n) refl) (no_first_names ns) where
@@ -47,42 +55,38 @@ module _ (g : Graph) (o : EncodeOptions) (define : o.define_components ≡ true)
     here None is = rw is refl
     here (Some node) is = rw is (rw (no_first n node is) refl)
 
-  empty : {A : Type 0} (xs : List A) → length xs ≡ 0 → xs ≡ []
-  empty [] h = refl
-  empty (x ∷ xs) h = cc
+  nothing_behind : {A : Type 0} (xs ys : List A) → ys ≡ [] → xs ++ ys ≡ xs
+  nothing_behind xs ys none = ap (λ zs. xs ++ zs) none ∙ append-nil xs
 
-  no_classes : (classes : List (Name × Tree)) → AreOuterImports g classes → classes ≡ []
-  no_classes classes outer =
-      let none = no_imports g none_asked in
-      empty classes (outer.count ∙ ap length (one_order g outer.order none.order outer.written none.written) ∙ sym none.count)
+  all_imports : (others : List (Name × Tree)) → AreOuterImports g others → (order : List NodeId) → map (λ (e : Name × Tree). e.0) (others ++ package_imports g o order) ≡ names
+  all_imports others are order = ap (λ (xs : List (Name × Tree)). map (λ e. e.0) xs) (nothing_behind others (package_imports g o order) (no_package_imports g o define order) ∙ one_outer laws has_classes g others classes are outer)
 
   -- these are its outer names
-  names_today : (order : List NodeId) → Writes g.edges (is_written g) order → AreOuterNames g o [] (map (λ e. e.0) g.exports)
-  names_today order writes = record {
+  names_now : (order : List NodeId) → Writes g.edges (is_written g) order → AreOuterNames g o names (map (λ e. e.0) g.exports)
+  names_now order writes = record {
     order = order;
     in_order = writes;
-    classes = [];
-    outer = no_imports g none_asked;
-    imported = ap (λ (imports : List (Name × Tree)). map (λ e. e.0) imports) (sym (no_package_imports g o define order));
+    classes = classes;
+    outer = outer;
+    imported = sym (all_imports classes outer order);
     exported = ap (λ (es : List (Name × NodeId)). map (λ e. e.0) es) (sym (further_all g no_first)) ∙ ap (λ xs. xs ++ map (λ e. e.0) (further_exports g)) (sym (no_first_names order));
   }
 
   -- and no others are
-  no_outer_imports : (imports exports : List Name) → AreOuterNames g o imports exports → imports ≡ []
-  no_outer_imports imports exports named =
-      named.imported ∙ ap (λ (xs : List (Name × Tree)). map (λ e. e.0) xs) ((λ i. no_classes named.classes named.outer i ++ no_package_imports g o define named.order i))
+  outer_imports : (imports exports : List Name) → AreOuterNames g o imports exports → imports ≡ names
+  outer_imports imports exports named = named.imported ∙ all_imports named.classes named.outer named.order
 
   outer_exports : (imports exports : List Name) → AreOuterNames g o imports exports → exports ≡ map (λ e. e.0) g.exports
   outer_exports imports exports named =
       named.exported ∙ (λ i. no_first_names named.order i ++ map (λ e. e.0) (further_all g no_first i))
 
   -- a fault of these is one of the graph
-  pub fault_today : (order : List NodeId) → Writes g.edges (is_written g) order → (f : Fault) → IsFirstFault [] (map (λ e. e.0) g.exports) f → IsOuterFault g o f
-  fault_today order writes f first = record { imports = []; exports = map (λ e. e.0) g.exports; named = names_today order writes; first = first }
+  pub fault_now : (order : List NodeId) → Writes g.edges (is_written g) order → (f : Fault) → IsFirstFault names (map (λ e. e.0) g.exports) f → IsOuterFault g o f
+  fault_now order writes f first = record { imports = names; exports = map (λ e. e.0) g.exports; named = names_now order writes; first = first }
 
   -- and the other way
-  pub today_fault : (f : Fault) → IsOuterFault g o f → IsFirstFault [] (map (λ e. e.0) g.exports) f
-  today_fault f is = subst (λ xs. IsFirstFault xs (map (λ e. e.0) g.exports) f) (no_outer_imports is.imports is.exports is.named)
+  pub now_fault : (f : Fault) → IsOuterFault g o f → IsFirstFault names (map (λ e. e.0) g.exports) f
+  now_fault f is = subst (λ xs. IsFirstFault xs (map (λ e. e.0) g.exports) f) (outer_imports is.imports is.exports is.named)
       (subst (λ ys. IsFirstFault is.imports ys f) (outer_exports is.imports is.exports is.named) is.first)
 
   -- ---- the names of items that mean it
@@ -99,8 +103,8 @@ module _ (g : Graph) (o : EncodeOptions) (define : o.define_components ≡ true)
     one None is h rest = cc
     one (Some node) is h rest = rw is (ap (λ r. e.0 ∷ r) rest)
 
-  pub items_import : (items : List Item) → Means items g o → import_names items ≡ []
-  items_import items m = ap (λ (xs : List (Name × Tree)). map (λ e. e.0) xs) (m.imports ∙ (λ i. no_classes m.classes m.outer i ++ no_package_imports g o define m.order i))
+  pub items_import : (items : List Item) → Means items g o → import_names items ≡ names
+  items_import items m = ap (λ (xs : List (Name × Tree)). map (λ e. e.0) xs) m.imports ∙ all_imports m.classes m.outer m.order
 
   pub items_export : IsSound g → (items : List Item) → Means items g o → export_names items ≡ map (λ e. e.0) g.exports
   items_export sound items m =
@@ -141,24 +145,45 @@ pub refusal_names : (P : Fault → Type 0) → ((f other : Fault) → P f → P 
 refusal_names P one (validation.Fault f) h = inr (fault_view f, refl, h, λ other is. one other (fault_view f) is h)
 refusal_names P one validation.OutOfMemory h = inl refl
 
-module _ (g : Graph) (sound : IsSound g) (all : AllWritable g) (o : EncodeOptions) (define : o.define_components ≡ true) (order : List NodeId) (writes : Writes g.edges (is_there g) order) where
-  abbrev AreWrong : Fault → Type 0
-  AreWrong = IsFirstFault [] (map (λ e. e.0) g.exports)
+-- as many imports as there are
+pub merged_count : (m : Merged) (p : ℕ) (es : List Entry) → length (imports_from m p es) ≡ length es
+merged_count m p [] = refl
+merged_count m p (e ∷ es) = ap suc (merged_count m (suc p) es)
 
-  no_asked : asked g ≡ []
-  no_asked = asked_none g (plain g all) (all_set g all)
+-- the names of imports, as entries or not
+pub entry_names : (es : List (Name × ItemKind)) → map (λ (e : Name × ItemKind). e.0) es ≡ names_of (import_entries es)
+entry_names [] = refl
+entry_names (e ∷ es) = ap (λ ns. e.0 ∷ ns) (entry_names es)
+
+-- the names of a merge's imports are those that are listed
+named_from : (m : Merged) (p : ℕ) (es : List Entry) → map (λ (e : Name × Tree). e.0) (imports_from m p es) ≡ names_of es
+named_from m p [] = refl
+named_from m p (e ∷ es) = ap (λ ns. e.name ∷ ns) (named_from m (suc p) es)
+
+module _ (g : Graph) (sound : IsSound g) (none : DefinesNothing g) (o : EncodeOptions) (define : o.define_components ≡ true) (laws : ClassLaws) (has_classes : OrderHasClasses) (a : Aggregate) (merged : IsMergedFor g a) (order : List NodeId) (writes : Writes g.edges (is_written g) order) where
+  abbrev imports : List Name
+  imports = names_of (a.merge).imports
+
+  abbrev AreWrong : Fault → Type 0
+  AreWrong = IsFirstFault imports (map (λ e. e.0) g.exports)
+
+  outer : AreOuterImports g (merged_imports a.merge)
+  outer = outer_of_merge g a.merge (merged.whole).merge
+
+  named : map (λ (e : Name × Tree). e.0) (merged_imports a.merge) ≡ imports
+  named = named_from a.merge 0 (a.merge).imports
 
   from_graph : (f : Fault) → IsOuterFault g o f → AreWrong f
-  from_graph = today_fault g o define no_asked (no_first g sound (plain g all))
+  from_graph f is = subst (λ ns. IsFirstFault ns (map (λ e. e.0) g.exports) f) named (now_fault g o define laws has_classes (no_first g sound none) (merged_imports a.merge) outer f is)
 
   of_graph : (f : Fault) → AreWrong f → IsOuterFault g o f
-  of_graph = fault_today g o define no_asked (no_first g sound (plain g all)) order (writes_all g sound all order writes)
+  of_graph f is = fault_now g o define laws has_classes (no_first g sound none) (merged_imports a.merge) outer order writes f (subst (λ ns. IsFirstFault ns (map (λ e. e.0) g.exports) f) (sym named) is)
 
   -- items that mean the graph have these names
-  pub items_valid : IsTrue o.validate → (IsTrue o.validate → AreValid [] (map (λ e. e.0) g.exports)) → (items : List Item) → Means items g o → AreValid (import_names items) (export_names items)
+  pub items_valid : IsTrue o.validate → (IsTrue o.validate → AreValid imports (map (λ e. e.0) g.exports)) → (items : List Item) → Means items g o → AreValid (import_names items) (export_names items)
   items_valid asked valid items m =
-      subst (λ xs. AreValid xs (export_names items)) (sym (items_import g o define no_asked (no_first g sound (plain g all)) items m))
-      (subst (λ ys. AreValid [] ys) (sym (items_export g o define no_asked (no_first g sound (plain g all)) sound items m)) (valid asked))
+      subst (λ xs. AreValid xs (export_names items)) (sym (items_import g o define laws has_classes (no_first g sound none) (merged_imports a.merge) outer items m ∙ named))
+      (subst (λ ys. AreValid imports ys) (sym (items_export g o define laws has_classes (no_first g sound none) (merged_imports a.merge) outer sound items m)) (valid asked))
 
   -- names that were looked at are not at fault
   pub names_valid : (IsTrue o.validate → (f : Fault) → AreWrong f → ⊥) → IsTrue o.validate → (f : Fault) → IsOuterFault g o f → ⊥

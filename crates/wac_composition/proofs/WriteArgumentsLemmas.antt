@@ -1,5 +1,5 @@
 -- Steps of writing arguments, instantiations and nodes.
-use Rattle.std.proofs.Common.{◌≡◌, ℕ, zero, suc, ◌+◌, ◌<◌, ◌≤◌, Bool, true, false, List, [], ◌∷◌, ◌++◌, length, take, drop, refl, ap, ◌∙◌, sym, subst, arith, Option, Some, None, IfSome, IsSome, IsSomeAnd, ◌⊎◌, inl, inr, String, Global, string_bytes}
+use Rattle.std.proofs.Common.{◌≡◌, ℕ, zero, suc, ◌+◌, ◌<◌, ◌≤◌, Bool, true, false, List, [], ◌∷◌, ◌++◌, length, take, drop, refl, ap, ◌∙◌, sym, subst, arith, Option, Some, None, IfSome, IfNone, IsSome, IsSomeAnd, is_some, ◌⊎◌, inl, inr, String, Global, string_bytes}
 use Rattle.std.specs.Borrow.{Bor}
 use Rattle.std.specs.Prelude.{slice_get, slice_set, slice_index_or}
 use Rattle.std.proofs.lemmas.Option.{slice_get-get_or}
@@ -27,29 +27,44 @@ use Rattle.wac_edges.specs.declared.edges.Edge.{Edge}
 use Rattle.wac_edges.specs.Edge.{argument_edge}
 use Rattle.wac_nodes.specs.Graph as graph
 use Rattle.wac_edges.specs.Edge.{node_number}
-use Rattle.wac_nodes.specs.Graph.{Graph, GraphNode, node_at, imports_of, package_at}
+use Rattle.wac_nodes.specs.Graph.{Graph, GraphNode, node_at, imports_of, package_at, IsArgumentOf, IsUnsatisfied}
 use Rattle.wac_nodes.specs.Nodes.{node_of, kind_of}
 use Rattle.wac_composition.specs.Inside.{graph_of, Invariant}
 use Rattle.wac_meaning.specs.Means.{sort_of_kind, package_bytes}
-use Rattle.wac_meaning.specs.Encoding.{IsArgumentItem, AreArgumentItems, index_in, HasComponent, HasRoom, WritesNode, writes_instantiation, Progress, Wrote, WroteAll}
-use Rattle.wac_composition.specs.EncoderView.{progress}
-use Rattle.wac_causes.specs.NotYet.{IsWritable}
+use Rattle.wac_meaning.specs.Encoding.{index_in, HasComponent, HasRoom, Progress}
+use Rattle.wac_meaning.specs.Beginning.{Places}
+use Rattle.wac_meaning.specs.Writing.{IsArgumentItem, of_node, of_import, AreArgumentItems, WritesNode, writes_instantiation, Wrote, WroteAll}
+use Rattle.wac_entries.specs.Classes.{Entry, ClassLaws}
+use Rattle.wac_nodes.specs.OuterImports.{outer_entries}
+use Rattle.wac_meaning.specs.MergedImports.{IsFoundAt}
+use Rattle.wac_nodes.specs.Imports.{node_rows}
+use Rattle.std.proofs.lemmas.List.{get_or_append_left}
+use Rattle.std.proofs.Math.Seq.{get_or-append_seam}
+use Rattle.wac_meaning.proofs.AskedMembers.{IsIn, import_asked, unset_asked}
+use Rattle.wac_meaning.proofs.MergeLemmas.{OrderHasClasses, placed_argument}
+use Rattle.wac_writing.specs.declared.places.ImportPlaces.{ImportPlaces}
+use Rattle.wac_writing.specs.Places.{IsImportedName, IsPlaceOf, ArePlaced, AreFound}
+use Rattle.wac_writing.proofs.OuterLemmas.{asked_imported, asked_sort, found_at}
+use Rattle.wac_composition.proofs.SourceLemmas.{source_at}
+use Rattle.wac_composition.proofs.ImportRows.{unsatisfied_false, row_node}
+use Rattle.wac_composition.specs.EncoderView.{progress, IsPlainNode}
 use Rattle.wac_nodes.proofs.NodeLemmas.{there}
-use Rattle.wac_composition.proofs.EncodingLemmas.{node_is, of_node}
+use Rattle.wac_composition.proofs.EncodingLemmas as nodes
+use Rattle.wac_composition.proofs.EncodingLemmas.{node_is}
 
 -- one argument more
-push_argument : (g : Graph) (index : NodeId → ℕ) (n : NodeId) (k j : ℕ) (xs : List (Name × ItemKind)) (args : List (Name × Sort × ℕ)) (x : Name × ItemKind) (a : Name × Sort × ℕ) → slice_get xs j ≡ Some x → AreArgumentItems g index n k (take j xs) args → IsArgumentItem g index n (k + j) x.0 a
-    → AreArgumentItems g index n k (take (suc j) xs) (args ++ a ∷ [])
-push_argument g index n k j [] args x a at had it = cc
-push_argument g index n k zero (y ∷ ys) [] x a at had it =
+push_argument : (g : Graph) (places : Places) (index : NodeId → ℕ) (n : NodeId) (k j : ℕ) (xs : List (Name × ItemKind)) (args : List (Name × Sort × ℕ)) (x : Name × ItemKind) (a : Name × Sort × ℕ) → slice_get xs j ≡ Some x → AreArgumentItems g places index n k (take j xs) args
+    → IsArgumentItem g places index n (k + j) x.0 a → AreArgumentItems g places index n k (take (suc j) xs) (args ++ a ∷ [])
+push_argument g places index n k j [] args x a at had it = cc
+push_argument g places index n k zero (y ∷ ys) [] x a at had it =
     let same : y ≡ x = cc in
     let here : k + 0 ≡ k = omega arith in
-    (subst (λ z. IsArgumentItem g index n z y.0 a) here (subst (λ (z : Name × ItemKind). IsArgumentItem g index n (k + 0) z.0 a) (sym same) it), tt)
-push_argument g index n k zero (y ∷ ys) (b ∷ args) x a at had it = absurd had
-push_argument g index n k (suc j) (y ∷ ys) [] x a at had it = absurd had
-push_argument g index n k (suc j) (y ∷ ys) (b ∷ args) x a at had it =
+    (subst (λ z. IsArgumentItem g places index n z y.0 a) here (subst (λ (z : Name × ItemKind). IsArgumentItem g places index n (k + 0) z.0 a) (sym same) it), tt)
+push_argument g places index n k zero (y ∷ ys) (b ∷ args) x a at had it = absurd had
+push_argument g places index n k (suc j) (y ∷ ys) [] x a at had it = absurd had
+push_argument g places index n k (suc j) (y ∷ ys) (b ∷ args) x a at had it =
     let here : k + suc j ≡ suc k + j = omega arith in
-    (had.0, push_argument g index n (suc k) j ys args x a at had.1 (subst (λ z. IsArgumentItem g index n z x.0 a) here it))
+    (had.0, push_argument g places index n (suc k) j ys args x a at had.1 (subst (λ z. IsArgumentItem g places index n z x.0 a) here it))
 
 arguments_last : (args : List (Bor (List ℕ) × Sort × ℕ)) (a : Bor (List ℕ) × Sort × ℕ) → arguments_of (args ++ a ∷ []) ≡ arguments_of args ++ (a.0.now, a.1, a.2) ∷ []
 arguments_last [] a = refl
@@ -59,94 +74,101 @@ arguments_last (b ∷ args) a = ap (λ xs. (b.0.now, b.1, b.2) ∷ xs) (argument
 pub argument_there : (a : Inside) → Invariant a → (source n i : ℕ) → set.contains a.edges (argument_edge (node_number source) (node_number n) i) ≡ true → ContainsKey a.nodes source
 argument_there a v source n i stands = there a.nodes.slots source ((v.sound).ends (argument_edge (node_number source) (node_number n) i) stands).0
 
--- every argument of an instantiation that is writable is set
-pub argument_set : (g : Graph) (n i count : ℕ) (imports : List (Name × ItemKind)) → IsSomeAnd (node_at g (node_number n)) (λ x. x.kind ≡ graph.instantiation) → IsSomeAnd (node_at g (node_number n)) (IsWritable g (node_number n)) → IfSome (node_at g (node_number n)) (λ x. imports ≡ imports_of g x)
-    → count ≡ length imports → i < count → ((source : NodeId) → set.contains g.edges (argument_edge source (node_number n) i) ≡ false) → ⊥
-argument_set g n i count imports one writable are many small none = by_node (node_at g (node_number n)) one writable are where
-  clash : (b : Bool) → b ≡ true → b ≡ false → ⊥
-  clash true _ h = cc
-  clash false h _ = cc
-
-  by_node : (o : Option GraphNode) → IsSomeAnd o (λ x. x.kind ≡ graph.instantiation) → IsSomeAnd o (IsWritable g (node_number n)) → IfSome o (λ x. imports ≡ imports_of g x) → ⊥
-  by_node None h w e = absurd h
-  by_node (Some x) h w e =
-      let few : count ≡ length (imports_of g x) = many ∙ ap length e in
-      let (source, stands) = w.set h i (subst (λ k. i < k) few small) in
-      clash (set.contains g.edges (argument_edge source (node_number n) i)) stands (none source)
-
 named_entry : (o : Option (Name × ItemKind)) (name : Name) → option_map (λ e. e.0) o ≡ Some name → (x : Name × ItemKind) × (o ≡ Some x) × (name ≡ x.0)
 named_entry None name h = cc
 named_entry (Some x) name h = let e : name ≡ x.0 = cc in (x, refl, e)
 
-pub pushed : (a : Inside) (g : Graph) → graph_of a ≡ g → (indexes : List ℕ) (n i source : ℕ) (imports : List (Name × ItemKind)) (args new : List (Bor (List ℕ) × Sort × ℕ)) (node : Node) (name : Bor (List ℕ)) (s : Sort) (k : ℕ)
-    → get a.nodes source ≡ Some node → set.contains a.edges (argument_edge (node_number source) (node_number n) i) ≡ true → option_map (λ e. e.0) (slice_get imports i) ≡ Some name.now → s ≡ sort_of_kind node.item_kind → k ≡ index_in indexes (node_number source) → new ≡ args ++ (name, s, k) ∷ []
-    → AreArgumentItems g (index_in indexes) (node_number n) 0 (take i imports) (arguments_of args) → AreArgumentItems g (index_in indexes) (node_number n) 0 (take (i + 1) imports) (arguments_of new)
-pushed a g e indexes n i source imports args new node name s k had stands named sorted placed grown before =
+pub pushed : (g : Graph) (places : Places) (index : NodeId → ℕ) (n i : ℕ) (imports : List (Name × ItemKind)) (args new : List (Bor (List ℕ) × Sort × ℕ)) (name : Bor (List ℕ)) (s : Sort) (k : ℕ)
+    → option_map (λ e. e.0) (slice_get imports i) ≡ Some name.now → new ≡ args ++ (name, s, k) ∷ [] → IsArgumentItem g places index (node_number n) i name.now (name.now, s, k)
+    → AreArgumentItems g places index (node_number n) 0 (take i imports) (arguments_of args) → AreArgumentItems g places index (node_number n) 0 (take (i + 1) imports) (arguments_of new)
+pushed g places index n i imports args new name s k named grown it before =
     let (x, at, same) = named_entry (slice_get imports i) name.now named in
-    let here : 0 + i ≡ i = omega arith in
+    let here : i ≡ 0 + i = omega arith in
     let next : suc i ≡ i + 1 = omega arith in
-    let it : IsArgumentItem (graph_of a) (index_in indexes) (node_number n) i x.0 (name.now, s, k) = record {
-      named = same;
-      source = node_number source;
-      given = stands;
-      node = node_of node;
-      there = node_is a source (Some node) had;
-      of_sort = sorted;
-      placed = placed;
-    } in
-    let one : IsArgumentItem g (index_in indexes) (node_number n) (0 + i) x.0 (name.now, s, k) = subst (λ h. IsArgumentItem h (index_in indexes) (node_number n) (0 + i) x.0 (name.now, s, k)) e (subst (λ z. IsArgumentItem (graph_of a) (index_in indexes) (node_number n) z x.0 (name.now, s, k)) (sym here) it) in
-    subst (λ z. AreArgumentItems g (index_in indexes) (node_number n) 0 (take z imports) (arguments_of new)) next
-    (subst (λ z. AreArgumentItems g (index_in indexes) (node_number n) 0 (take (suc i) imports) z) (sym (ap arguments_of grown ∙ arguments_last args (name, s, k)))
-    (push_argument g (index_in indexes) (node_number n) 0 i imports (arguments_of args) x (name.now, s, k) at before one))
+    let one : IsArgumentItem g places index (node_number n) (0 + i) x.0 (name.now, s, k) =
+    subst (λ z. IsArgumentItem g places index (node_number n) z x.0 (name.now, s, k)) here (subst (λ (z : Name). IsArgumentItem g places index (node_number n) i z (name.now, s, k)) same it) in
+    subst (λ z. AreArgumentItems g places index (node_number n) 0 (take z imports) (arguments_of new)) next
+    (subst (λ z. AreArgumentItems g places index (node_number n) 0 (take (suc i) imports) z) (sym (ap arguments_of grown ∙ arguments_last args (name, s, k)))
+    (push_argument g places index (node_number n) 0 i imports (arguments_of args) x (name.now, s, k) at before one))
+
+-- an argument that was set
+pub set_argument : (a : Inside) (g : Graph) → graph_of a ≡ g → (places : Places) (indexes : List ℕ) (n i source : ℕ) (node : Node) (name : Name) (s : Sort)
+    → get a.nodes source ≡ Some node → IsArgumentOf g (node_number n) i (node_number source) → s ≡ sort_of_kind node.item_kind → IsArgumentItem g places (index_in indexes) (node_number n) i name (name, s, index_in indexes (node_number source))
+set_argument a g e places indexes n i source node name s had given sorted =
+    of_node (node_number source) (node_of node) refl given (subst (λ h. node_at h (node_number source) ≡ Some (node_of node)) e (node_is a source (Some node) had)) sorted refl
+
+-- one that was not
+module _ (laws : ClassLaws) (has_classes : OrderHasClasses) (g : Graph) (p : ImportPlaces) (placed : ArePlaced g p) (n : NodeId) (i : ℕ) (name : Name)
+    (asked : IsSomeAnd (node_at g n) (λ node. (node.kind ≡ graph.instantiation) × IsSomeAnd (slice_get (imports_of g node) i) (λ e. e.0 ≡ name))) (unset : IsUnsatisfied g n i) where
+  asked_entry : (k : ItemKind) × IsIn (outer_entries g) (record { name = name; kind = k })
+  asked_entry = by_node (node_at g n) refl asked where
+    by_entry : (node : GraphNode) → node_at g n ≡ Some node → node.kind ≡ graph.instantiation → (e : Option (Name × ItemKind)) → slice_get (imports_of g node) i ≡ e → IsSomeAnd e (λ e. e.0 ≡ name) → (k : ItemKind) × IsIn (outer_entries g) (record { name = name; kind = k })
+    by_entry node there is None at h = absurd h
+    by_entry node there is (Some e) at h = (
+      e.1,
+      unset_asked g n node there is i name e.1 (at ∙ ap (λ (m : Name). let entry : Name × ItemKind = (m, e.1) in Some entry) h) (unsatisfied_false g n i unset),
+    )
+
+    by_node : (o : Option GraphNode) → node_at g n ≡ o → IsSomeAnd o (λ node. (node.kind ≡ graph.instantiation) × IsSomeAnd (slice_get (imports_of g node) i) (λ e. e.0 ≡ name)) → (k : ItemKind) × IsIn (outer_entries g) (record { name = name; kind = k })
+    by_node None there h = absurd h
+    by_node (Some node) there h = by_entry node there h.0 (slice_get (imports_of g node) i) refl h.1
+
+  pub unset_imported : IsImportedName p.merge name
+  unset_imported = let (k, within) = asked_entry in asked_imported laws has_classes g p.merge placed.merged (record { name = name; kind = k }) within
+
+  pub unset_argument : (index : NodeId → ℕ) (place : Sort × ℕ) → IsPlaceOf p.merge p.places.items name place → IsArgumentItem g p.places.items index n i name (name, place.0, place.1)
+  unset_argument index place at =
+      let (k, within) = asked_entry in
+      of_import refl unset (placed_argument laws has_classes g (p.merge).merge ((placed.merged).whole).merge p.places.items name place.0 place.1 (found_at laws has_classes g p.merge placed.merged (record { name = name; kind = k }) within p.places.items place at))
 
 -- all arguments
-pub all_arguments : (g : Graph) (index : NodeId → ℕ) (n i : ℕ) (imports : List (Name × ItemKind)) (args : List (Bor (List ℕ) × Sort × ℕ)) → i ≡ length imports → IfSome (node_at g (node_number n)) (λ x. imports ≡ imports_of g x) → AreArgumentItems g index (node_number n) 0 (take i imports) (arguments_of args)
-    → IfSome (node_at g (node_number n)) (λ x. AreArgumentItems g index (node_number n) 0 (imports_of g x) (arguments_of args))
-all_arguments g index n i imports args end are items = by_node (node_at g (node_number n)) are where
-  whole : AreArgumentItems g index (node_number n) 0 imports (arguments_of args)
-  whole = subst (λ xs. AreArgumentItems g index (node_number n) 0 xs (arguments_of args)) (ap (λ k. take k imports) end ∙ take-length imports) items
+pub all_arguments : (g : Graph) (at : Places) (index : NodeId → ℕ) (n i : ℕ) (imports : List (Name × ItemKind)) (args : List (Bor (List ℕ) × Sort × ℕ)) → i ≡ length imports → IfSome (node_at g (node_number n)) (λ x. imports ≡ imports_of g x) → AreArgumentItems g at index (node_number n) 0 (take i imports) (arguments_of args)
+    → IfSome (node_at g (node_number n)) (λ x. AreArgumentItems g at index (node_number n) 0 (imports_of g x) (arguments_of args))
+all_arguments g at index n i imports args end are items = by_node (node_at g (node_number n)) are where
+  whole : AreArgumentItems g at index (node_number n) 0 imports (arguments_of args)
+  whole = subst (λ xs. AreArgumentItems g at index (node_number n) 0 xs (arguments_of args)) (ap (λ k. take k imports) end ∙ take-length imports) items
 
-  by_node : (o : Option GraphNode) → IfSome o (λ x. imports ≡ imports_of g x) → IfSome o (λ x. AreArgumentItems g index (node_number n) 0 (imports_of g x) (arguments_of args))
+  by_node : (o : Option GraphNode) → IfSome o (λ x. imports ≡ imports_of g x) → IfSome o (λ x. AreArgumentItems g at index (node_number n) 0 (imports_of g x) (arguments_of args))
   by_node None h = tt
-  by_node (Some x) h = subst (λ xs. AreArgumentItems g index (node_number n) 0 xs (arguments_of args)) h whole
+  by_node (Some x) h = subst (λ xs. AreArgumentItems g at index (node_number n) 0 xs (arguments_of args)) h whole
 
 -- an instantiation is written behind its package's component
-pub added_instantiation : (g : Graph) (n : ℕ) (id : PackageId) (p : PackageParts) (bytes : List ℕ) (places read : List ℕ) (args given : List (Bor (List ℕ) × Sort × ℕ)) (c : ℕ) (components components' : List (PackageId × ℕ)) (items mid items' : List Item) (i : ℕ)
+pub added_instantiation : (g : Graph) (at : Places) (n : ℕ) (id : PackageId) (p : PackageParts) (bytes : List ℕ) (places read : List ℕ) (args given : List (Bor (List ℕ) × Sort × ℕ)) (c : ℕ) (components components' : List (PackageId × ℕ)) (items mid items' : List Item) (i : ℕ)
     → IsSomeAnd (node_at g (node_number n)) (λ x. x.kind ≡ graph.instantiation) → IfSome (node_at g (node_number n)) (λ x. x.owner ≡ Some id) → package_at g id ≡ Some p → bytes ≡ p.bytes → read ≡ places → given ≡ args
-    → IfSome (node_at g (node_number n)) (λ x. AreArgumentItems g (index_in read) (node_number n) 0 (imports_of g x) (arguments_of args))
+    → IfSome (node_at g (node_number n)) (λ x. AreArgumentItems g at (index_in read) (node_number n) 0 (imports_of g x) (arguments_of args))
     → HasComponent bytes id c components components' items mid → items' ≡ mid ++ instantiate c (arguments_of given) ∷ [] → i ≡ indexes (space sort.Instance) mid
-    → IfSome (node_at g (node_number n)) (λ x. WritesNode g (node_number n) x (index_in places) components components' items items' i)
-added_instantiation g n id p bytes places read args given c components components' items mid items' i one owner there content placed same are has grown counted = by_node (node_at g (node_number n)) one owner are where
+    → IfSome (node_at g (node_number n)) (λ x. WritesNode g at (node_number n) x (index_in places) components components' items items' i)
+added_instantiation g at n id p bytes places read args given c components components' items mid items' i one owner there content placed same are has grown counted = by_node (node_at g (node_number n)) one owner are where
   its : HasComponent (package_bytes g id) id c components components' items mid
   its = subst (λ b. HasComponent b id c components components' items mid) (content ∙ ap (λ (o : Option PackageParts). option_case o [] (λ it. it.bytes)) (sym there)) has
 
   last : items' ≡ mid ++ instantiate c (arguments_of args) ∷ []
   last = grown ∙ ap (λ xs. mid ++ instantiate c (arguments_of xs) ∷ []) same
 
-  by_node : (o : Option GraphNode) → IsSomeAnd o (λ x. x.kind ≡ graph.instantiation) → IfSome o (λ x. x.owner ≡ Some id) → IfSome o (λ x. AreArgumentItems g (index_in read) (node_number n) 0 (imports_of g x) (arguments_of args))
-      → IfSome o (λ x. WritesNode g (node_number n) x (index_in places) components components' items items' i)
+  by_node : (o : Option GraphNode) → IsSomeAnd o (λ x. x.kind ≡ graph.instantiation) → IfSome o (λ x. x.owner ≡ Some id) → IfSome o (λ x. AreArgumentItems g at (index_in read) (node_number n) 0 (imports_of g x) (arguments_of args))
+      → IfSome o (λ x. WritesNode g at (node_number n) x (index_in places) components components' items items' i)
   by_node None k w h = tt
-  by_node (Some x) k w h = writes_instantiation id c mid (arguments_of args) k w its (subst (λ r. AreArgumentItems g (index_in r) (node_number n) 0 (imports_of g x) (arguments_of args)) placed h) last counted
+  by_node (Some x) k w h = writes_instantiation id c mid (arguments_of args) k w its (subst (λ r. AreArgumentItems g at (index_in r) (node_number n) 0 (imports_of g x) (arguments_of args)) placed h) last counted
 
 -- a node's index is noted
-pub noted : (g : Graph) (n : ℕ) (old new last : Encoder) (i k : ℕ) → last ≡ new → k ≡ i → IfSome (node_at g (node_number n)) (λ x. WritesNode g (node_number n) x (index_in old.indexes.items) old.components.entries new.components.entries old.builder new.builder i) → new.indexes ≡ old.indexes
-    → Wrote g (node_number n) (progress old) (record { items = last.builder; components = last.components.entries; indexes = slice_set last.indexes.items n k })
-noted g n old new last i k same placed added kept = by_node (node_at g (node_number n)) added where
-  by_node : (o : Option GraphNode) → IfSome o (λ x. WritesNode g (node_number n) x (index_in old.indexes.items) old.components.entries new.components.entries old.builder new.builder i)
-      → IfSome o (λ x. (j : ℕ) × WritesNode g (node_number n) x (index_in old.indexes.items) old.components.entries last.components.entries old.builder last.builder j × (slice_set last.indexes.items n k ≡ slice_set old.indexes.items n j))
+pub noted : (g : Graph) (at : Places) (n : ℕ) (old new last : Encoder) (i k : ℕ) → last ≡ new → k ≡ i → IfSome (node_at g (node_number n)) (λ x. WritesNode g at (node_number n) x (index_in old.indexes.items) old.components.entries new.components.entries old.builder new.builder i) → new.indexes ≡ old.indexes
+    → Wrote g at (node_number n) (progress old) (record { items = last.builder; components = last.components.entries; indexes = slice_set last.indexes.items n k })
+noted g at n old new last i k same placed added kept = by_node (node_at g (node_number n)) added where
+  by_node : (o : Option GraphNode) → IfSome o (λ x. WritesNode g at (node_number n) x (index_in old.indexes.items) old.components.entries new.components.entries old.builder new.builder i)
+      → IfSome o (λ x. (j : ℕ) × WritesNode g at (node_number n) x (index_in old.indexes.items) old.components.entries last.components.entries old.builder last.builder j × (slice_set last.indexes.items n k ≡ slice_set old.indexes.items n j))
   by_node None h = tt
   by_node (Some x) h = (
     i,
-    subst (λ (e : Encoder). WritesNode g (node_number n) x (index_in old.indexes.items) old.components.entries e.components.entries old.builder e.builder i) (sym same) h,
+    subst (λ (e : Encoder). WritesNode g at (node_number n) x (index_in old.indexes.items) old.components.entries e.components.entries old.builder e.builder i) (sym same) h,
     ap (λ (e : Encoder). slice_set e.indexes.items n k) same ∙ ap (λ v. slice_set v.items n k) kept ∙ ap (λ j. slice_set old.indexes.items n j) placed,
   )
 
 -- one node more is written
-pub wrote_next : (g : Graph) (xs : List NodeId) (i : ℕ) (x : NodeId) (p mid q : Progress) → slice_get xs i ≡ Some x → Wrote g x p mid → WroteAll g (drop (i + 1) xs) mid q → WroteAll g (drop i xs) p q
-wrote_next g xs i x p mid q at one more = let e : i + 1 ≡ suc i = omega arith in at_suc xs i at (subst (λ k. WroteAll g (drop k xs) mid q) e more) where
-  at_suc : (ys : List NodeId) (j : ℕ) → slice_get ys j ≡ Some x → WroteAll g (drop (suc j) ys) mid q → WroteAll g (drop j ys) p q
+pub wrote_next : (g : Graph) (place : Places) (xs : List NodeId) (i : ℕ) (x : NodeId) (p mid q : Progress) → slice_get xs i ≡ Some x → Wrote g place x p mid → WroteAll g place (drop (i + 1) xs) mid q → WroteAll g place (drop i xs) p q
+wrote_next g place xs i x p mid q at one more = let e : i + 1 ≡ suc i = omega arith in at_suc xs i at (subst (λ k. WroteAll g place (drop k xs) mid q) e more) where
+  at_suc : (ys : List NodeId) (j : ℕ) → slice_get ys j ≡ Some x → WroteAll g place (drop (suc j) ys) mid q → WroteAll g place (drop j ys) p q
   at_suc [] j h m = cc
-  at_suc (y ∷ ys) zero h m = let same : x ≡ y = cc in (mid, subst (λ k. Wrote g k p mid) same one, m)
+  at_suc (y ∷ ys) zero h m = let same : x ≡ y = cc in (mid, subst (λ k. Wrote g place k p mid) same one, m)
   at_suc (y ∷ ys) (suc j) h m = at_suc ys j h m
 
 pub dropped_all : {A : Type 0} (xs : List A) (i : ℕ) → length xs ≤ i → drop i xs ≡ []
@@ -155,9 +177,9 @@ dropped_all [] (suc i) h = refl
 dropped_all (x ∷ xs) zero h = absurd (omega arith)
 dropped_all (x ∷ xs) (suc i) h = dropped_all xs i (omega arith)
 
--- a writable node is no definition and no import
-pub not_writable : (a : Inside) (n : ℕ) (node : Node) → get a.nodes n ≡ Some node → IsSomeAnd (node_at (graph_of a) (node_number n)) (IsWritable (graph_of a) (node_number n)) → (node.kind ≡ code.Definition) ⊎ ((name : String Global) × (node.kind ≡ code.Import name)) → ⊥
-not_writable a n node had writable is = by_kind node.kind (of_node a n node (IsWritable (graph_of a) (node_number n)) writable had).plain is where
+-- a node that is written is no definition and no import
+pub not_plain : (a : Inside) (n : ℕ) (node : Node) → get a.nodes n ≡ Some node → IsSomeAnd (node_at (graph_of a) (node_number n)) IsPlainNode → (node.kind ≡ code.Definition) ⊎ ((name : String Global) × (node.kind ≡ code.Import name)) → ⊥
+not_plain a n node had plain is = by_kind node.kind (nodes.of_node a n node IsPlainNode plain had) is where
   by_kind : (k : NodeKind) → (kind_of k ≡ graph.instantiation) ⊎ (kind_of k ≡ graph.alias) → (k ≡ code.Definition) ⊎ ((name : String Global) × (k ≡ code.Import name)) → ⊥
   by_kind k (inl h) (inl e) = let f : graph.definition ≡ graph.instantiation = sym (ap kind_of e) ∙ h in cc
   by_kind k (inl h) (inr e) = let f : graph.import (string_bytes e.0) ≡ graph.instantiation = sym (ap kind_of e.1) ∙ h in cc
@@ -178,3 +200,74 @@ room_kept g xs ys same room n there = subst (λ k. n.0 < k) (sym same) (room n t
 -- what is read there is the index that is noted
 pub index_is : (xs : List ℕ) (n x : ℕ) → n < length xs → x ≡ slice_index_or xs n x → x ≡ index_in xs (node_number n)
 index_is xs n x small e = e ∙ get_or_default_zero xs n x small
+
+pub is_there_of : (g : Graph) (n : NodeId) → IsSomeAnd (node_at g n) IsPlainNode → IsSome (node_at g n)
+is_there_of g n h = some (node_at g n) h where
+  some : (o : Option GraphNode) → IsSomeAnd o IsPlainNode → IsSome o
+  some None h = absurd h
+  some (Some x) h = refl
+
+-- ---- import nodes
+module _ (laws : ClassLaws) (has_classes : OrderHasClasses) (g : Graph) (p : ImportPlaces) (placed : ArePlaced g p) where
+  pub node_imported : (n : NodeId) (node : GraphNode) (name : Name) → node_at g n ≡ Some node → node.kind ≡ graph.import name → IsImportedName p.merge name
+  node_imported n node name there is = asked_imported laws has_classes g p.merge placed.merged (record { name = name; kind = node.item_kind }) (import_asked g n node name there is)
+
+  -- the place of an import node's name is of the node's sort
+  pub node_placed : (n : NodeId) (node : GraphNode) (name : Name) → node_at g n ≡ Some node → node.kind ≡ graph.import name → (place : Sort × ℕ) → IsPlaceOf p.merge p.places.items name place → IsFoundAt g (p.merge).merge p.places.items name (sort_of_kind node.item_kind) place.1
+  node_placed n node name there is place at =
+      let x : Entry = record { name = name; kind = node.item_kind } in
+      let within = import_asked g n node name there is in
+      let found = found_at laws has_classes g p.merge placed.merged x within p.places.items place at in
+      let sorted : place.0 ≡ sort_of_kind node.item_kind = placed.sorts found.p found.entry (place.0, place.1) found.there found.placed ∙ asked_sort laws has_classes g p.merge placed.merged x within found.p found.entry found.there found.named in
+      subst (λ t. IsFoundAt g (p.merge).merge p.places.items name t place.1) sorted found
+
+  pub node_found : (n : ℕ) (name : Name) (k : ItemKind) → node_rows g n ≡ (name, k, Some (node_number n)) ∷ [] → (place : Sort × ℕ) → IsPlaceOf p.merge p.places.items name place
+      → IfSome (node_at g (node_number n)) (λ node. (text : Name) → node.kind ≡ graph.import text → IsFoundAt g (p.merge).merge p.places.items text (sort_of_kind node.item_kind) place.1)
+  node_found n name k rows place at =
+      let (node, there, is) = row_node g n name k rows in
+      subst (λ o. IfSome o (λ node. (text : Name) → node.kind ≡ graph.import text → IsFoundAt g (p.merge).merge p.places.items text (sort_of_kind node.item_kind) place.1)) (sym there)
+      (λ text kind. let same : name ≡ text = one_import (sym is ∙ kind) in subst (λ t. IsFoundAt g (p.merge).merge p.places.items t (sort_of_kind node.item_kind) place.1) same (node_placed (node_number n) node name there is place at)) where
+        one_import : {x y : Name} → graph.import x ≡ graph.import y → x ≡ y
+        one_import h = cc
+
+-- so far each import node has its index
+abbrev pub AreFoundBelow : Graph → ImportPlaces → ℕ → List ℕ → Type 0
+AreFoundBelow g p k indexes = (m : NodeId) → m.0 < k → IfSome (node_at g m) (λ node. (name : Name) → node.kind ≡ graph.import name → IsFoundAt g (p.merge).merge p.places.items name (sort_of_kind node.item_kind) (index_in indexes m))
+
+pub found_next : (g : Graph) (p : ImportPlaces) (k : ℕ) (indexes : List ℕ) (i : ℕ) → length indexes ≡ k → AreFoundBelow g p k indexes
+    → IfSome (node_at g (node_number k)) (λ node. (name : Name) → node.kind ≡ graph.import name → IsFoundAt g (p.merge).merge p.places.items name (sort_of_kind node.item_kind) i) → AreFoundBelow g p (k + 1) (indexes ++ i ∷ [])
+found_next g p k indexes i long before now m small = nodes.by_lt m.0 k
+    (λ below. subst (λ j. IfSome (node_at g m) (λ node. (name : Name) → node.kind ≡ graph.import name → IsFoundAt g (p.merge).merge p.places.items name (sort_of_kind node.item_kind) j)) (sym (get_or_append_left indexes (i ∷ []) 0 m.0 (omega (arith, long, below)))) (before m below))
+    (λ above. let here : k ≡ m.0 = omega (arith, above, small) in
+    let at : index_in (indexes ++ i ∷ []) m ≡ i = ap (λ q. index_in (indexes ++ i ∷ []) (node_number q)) (sym here ∙ sym long) ∙ get_or-append_seam indexes i [] 0 in
+    subst (λ j. IfSome (node_at g m) (λ node. (name : Name) → node.kind ≡ graph.import name → IsFoundAt g (p.merge).merge p.places.items name (sort_of_kind node.item_kind) j)) (sym at)
+    (subst (λ q. IfSome (node_at g (node_number q)) (λ node. (name : Name) → node.kind ≡ graph.import name → IsFoundAt g (p.merge).merge p.places.items name (sort_of_kind node.item_kind) i)) here now))
+
+pub found_all : (g : Graph) (p : ImportPlaces) (k : ℕ) (indexes : List ℕ) → AreFoundBelow g p k indexes → ((n : NodeId) → IsSome (node_at g n) → n.0 < k) → AreFound g p indexes
+found_all g p k indexes below room n node name there is =
+    subst (λ o. IfSome o (λ node. (name : Name) → node.kind ≡ graph.import name → IsFoundAt g (p.merge).merge p.places.items name (sort_of_kind node.item_kind) (index_in indexes n))) there (below n (room n (ap is_some there))) name is
+
+-- ---- what an argument is asked with
+pub asked_now : (g : Graph) (n i : ℕ) (imports : List (Name × ItemKind)) (name : Name) → IsSomeAnd (node_at g (node_number n)) (λ x. x.kind ≡ graph.instantiation) → IfSome (node_at g (node_number n)) (λ x. imports ≡ imports_of g x) → option_map (λ e. e.0) (slice_get imports i) ≡ Some name
+    → IsSomeAnd (node_at g (node_number n)) (λ node. (node.kind ≡ graph.instantiation) × IsSomeAnd (slice_get (imports_of g node) i) (λ e. e.0 ≡ name))
+asked_now g n i imports name one are named = by_node (node_at g (node_number n)) one are where
+  by_entry : (o : Option (Name × ItemKind)) → option_map (λ e. e.0) o ≡ Some name → IsSomeAnd o (λ e. e.0 ≡ name)
+  by_entry None h = cc
+  by_entry (Some e) h = let same : e.0 ≡ name = cc in same
+
+  by_node : (o : Option GraphNode) → IsSomeAnd o (λ x. x.kind ≡ graph.instantiation) → IfSome o (λ x. imports ≡ imports_of g x) → IsSomeAnd o (λ node. (node.kind ≡ graph.instantiation) × IsSomeAnd (slice_get (imports_of g node) i) (λ e. e.0 ≡ name))
+  by_node None h e = absurd h
+  by_node (Some x) h e = (h, subst (λ es. IsSomeAnd (slice_get es i) (λ e. e.0 ≡ name)) e (by_entry (slice_get imports i) named))
+
+module _ (g : Graph) (n i count : ℕ) (sources : List (Option NodeId)) (x : Option NodeId) (counted : length sources ≡ count) (small : i < count) (read : x ≡ slice_index_or sources i x) where
+  pub source_set : ((j : ℕ) (s : NodeId) → slice_get sources j ≡ Some (Some s) → IsArgumentOf g (node_number n) j s) → IfSome x (IsArgumentOf g (node_number n) i)
+  source_set set_at = by_source x refl where
+    by_source : (y : Option NodeId) → x ≡ y → IfSome y (IsArgumentOf g (node_number n) i)
+    by_source None is = tt
+    by_source (Some s) is = set_at i s (source_at sources count i x (Some s) counted small read is)
+
+  pub source_unset : ((j : ℕ) (s : NodeId) → slice_get sources j ≡ Some None → IsArgumentOf g (node_number n) j s → ⊥) → IfNone x (IsUnsatisfied g (node_number n) i)
+  source_unset unset_at = by_source x refl where
+    by_source : (y : Option NodeId) → x ≡ y → IfNone y (IsUnsatisfied g (node_number n) i)
+    by_source (Some s) is = tt
+    by_source None is = λ s given. unset_at i s (source_at sources count i x None counted small read is) given

@@ -1,39 +1,47 @@
 //! From a graph to the bytes of one component.
-ghost use Rattle.std.specs.Prelude.{◌≡◌, ◌≢◌, ◌⊎◌, ◌++◌, [], ℕ, ◌<◌, IsSomeAnd, Bool, true, false, IsSome, IsTrue, OnOk, OnErr, IfOk, IfErr, IfSome, Some, None, Ok, Err, List, length, map, slice_get, slice_set, slice_index_or};
+ghost use Rattle.std.specs.Prelude.{◌≡◌, ◌↔◌, ◌++◌, [], ℕ, ◌<◌, IsSomeAnd, true, IsTrue, OnOk, IfOk, IfErr, IfSome, IfNone, Some, None, List, length, map, slice_get};
 ghost use Rattle.std.specs.Bool.{OnTrue, OnFalse};
 ghost use Rattle.wac_binary.specs.Bytes.{bytes_of};
 ghost use Rattle.wac_binary.specs.Items.{Item as AnItem};
 ghost use Rattle.std.specs.List.{flat_map};
-ghost use Rattle.std.specs.BTreeSet as positions;
-ghost use Rattle.std.specs.Ordering.{nat_cmp};
 ghost use Rattle.wac_binary.specs.Views.{arguments_of};
 ghost use Rattle.wac_binary.specs.declared.sorts.Sort.{Sort as ASort};
 ghost use Rattle.wac_shapes.specs.Name.{Name as AName};
 ghost use Rattle.wac_edges.specs.declared.node.NodeId.{NodeId as AnId};
 ghost use Rattle.wac_edges.specs.Edge.{is_left};
 ghost use Rattle.wac_edges.specs.Edge.{node_number};
-ghost use Rattle.wac_nodes.specs.Graph.{node_at, imports_of, instantiation, alias};
-ghost use Rattle.wac_meaning.specs.Means.{Means, is_there, sort_of_kind, export_item_of, custom_item, name_customs, AreNames, processor_customs};
-ghost use Rattle.wac_meaning.specs.Encoding.{WritesNode, AreArgumentItems, Wrote, WroteAll, HasRoom, index_in};
+ghost use Rattle.wac_nodes.specs.Graph.{node_at, imports_of, definition, instantiation, alias, import, IsArgumentOf, IsUnsatisfied};
+ghost use Rattle.wac_nodes.specs.Nodes.{kind_of};
+ghost use Rattle.wac_meaning.specs.Means.{Means, is_written, is_import, sort_of_kind, export_item_of, custom_item, name_customs, AreNames, processor_customs};
+ghost use Rattle.wac_meaning.specs.Beginning.{Begins};
+ghost use Rattle.wac_meaning.specs.MergedImports.{merged_imports, IsFoundAt};
+ghost use Rattle.wac_meaning.specs.Encoding.{HasRoom, index_in};
+ghost use Rattle.wac_meaning.specs.Writing.{WritesNode, IsArgumentItem, AreArgumentItems, Wrote, WroteAll};
+ghost use Rattle.wac_meaning.proofs.ThingLemmas.{DefinesNothing};
+ghost use Rattle.wac_writing.specs.Places.{IsMergedFor, ArePlaced, AreFound};
 ghost use Rattle.std.specs.Result.{IsErrAnd};
-ghost use Rattle.wac_causes.specs.Cause.{AnswersFor, Cause, cause_of, Stands};
+ghost use Rattle.wac_causes.specs.Cause.{AnswersFor, Cause, cause_of, HasMerge, HasNoConflict, Stands};
 ghost use Rattle.wac_causes.specs.OuterNames.{export_names, import_names};
 ghost use Rattle.wac_causes.specs.Search.{IsRefused};
-ghost use Rattle.wac_causes.specs.NotYet.{IsNotYet, IsWritable, AllWritable};
+ghost use Rattle.wac_causes.specs.NotYet.{IsNotYet};
 ghost use Rattle.wac_edges.specs.Order.{Writes, IsOnCycle, IsAcyclic};
 ghost use Rattle.wac_nodes.specs.declared.options.EncodeOptions.{EncodeOptions as Asked};
 ghost use Rattle.wac_validation.specs.Valid.{AreValid};
+ghost use Rattle.wac_composition.specs.EncoderView.{IsPlainNode};
+ghost use Rattle.wac_writing.specs.Refused.{IsRefusedBefore};
 
 use crate::graph::CompositionGraph;
 use indexmap::IndexMap;
 use std::alloc::{AllocError, Global};
-use std::collections::BTreeSet;
 use wac_binary::{ComponentBuilder, Sort, component_names, producers};
 use wac_causes::EncodeError;
 use wac_edges::order::order;
-use wac_merge::laws::fault_law;
-use wac_nodes::{EncodeOptions, NodeId, NodeKind, PackageId, Processor, first_gap};
+use wac_importing::WrittenImports;
+use wac_merge::TypeAggregator;
+use wac_merge::laws::{class_laws, fault_law, order_law};
+use wac_nodes::{EncodeOptions, NodeId, NodeKind, PackageId, Processor};
 use wac_types::ItemKind;
+use wac_writing::ImportPlaces;
 
 /// A component that is being written: its items, the component index of each package, and the index of each node.
 #[derive(Drop)]
@@ -47,17 +55,17 @@ struct Encoder {
 impl CompositionGraph {
     ghost use Rattle.wac_composition.specs.EncoderView.{progress};
 
-    /// The bytes of one component that is what the graph composes: its packages, instances, aliases and exports.
+    /// The bytes of one component that is what the graph composes: its imports, packages, instances, aliases and exports.
     ///
     /// Answers `GraphContainsCycle` exactly where edges form a cycle, with the lowest node on one; else
     /// `ImplicitImportConflict` where an import of an instantiation is not satisfied and has exactly the name of an import
     /// node, with the lowest such instantiation and its first such import; else, where two imports of one class do not
     /// agree, with the first that does not agree with an earlier one and the first that it does not agree with,
     /// `ImportTypeMergeConflict` where an instantiation asks for it and `ExplicitImportMergeConflict` where it is an import
-    /// node; else `ImportsUseEachOther` where imports rest on each other in a circle; else `NotYet` where an argument is not
-    /// set, a node is an import, or the options ask for imported components; else `TooLarge` where a size
-    /// does not fit 32 bits; else, where the options ask for it, `ValidationFailure` where the outer names may not stand
-    /// together, with their first fault. Where memory ran out it answers `OutOfMemory`.
+    /// node; else `ImportsUseEachOther` where imports rest on each other in a circle; else `NotYet` where a node is a
+    /// definition, an import has an item that is not imported so far, or the options ask for imported components; else
+    /// `TooLarge` where a size does not fit 32 bits; else, where the options ask for it, `ValidationFailure` where the outer
+    /// names may not stand together, with their first fault. Where memory ran out it answers `OutOfMemory`.
     pub fn encode(&self, options: EncodeOptions<'_>) -> Result<Vec<u8>, EncodeError>
         ensures means { IfOk result (λ bytes. (items : List AnItem) × (bytes.items ≡ bytes_of items) × Means items self.now options.entry) }
         ensures cause { IfErr result (λ e. IfSome (cause_of e) (Stands self.now options.entry)) }
@@ -66,30 +74,59 @@ impl CompositionGraph {
     {
         wac_binary::law();
         fault_law();
+        class_laws();
+        order_law();
         self.law();
         let order = self.ordered()?;
         self.check_conflicts()?;
-        self.check_merge()?;
-        if !options.define_components || self.holds_unwritten() {
-            return Err(EncodeError::NotYet);
-        }
-        let mut encoder = Encoder::new(self.alloc, self.nodes.capacity())?;
-        self.write_nodes(&mut encoder, &order)?;
+        let merge = self.merged()?;
+        let (root, imports) = self.begin(options.define_components, merge)?;
+        let indexes = self.import_indexes(&imports)?;
+        let mut encoder = Encoder::new(self.alloc, root, indexes);
+        self.write_nodes(&mut encoder, &imports, &order)?;
         self.write_exports(&mut encoder)?;
         self.write_names(&mut encoder)?;
         encoder.write_processor(options.processor)?;
         let bytes = encoder.builder.into_bytes()?;
-        self.check_names(options.validate)?;
+        self.check_names(&imports.merge, options.validate)?;
         Ok(bytes)
     }
 
-    /// The nodes, each the lowest of those that are left to which no edge leads from one that is left.
+    /// The items that import what the graph asks for, and where each import stands.
+    fn begin(
+        &self,
+        define_components: bool,
+        merge: TypeAggregator,
+    ) -> Result<(ComponentBuilder, ImportPlaces), EncodeError>
+        requires acyclic { IsAcyclic self.now.edges }
+        requires apart { HasNoConflict self.now }
+        requires merges { HasMerge self.now }
+        requires merged { IsMergedFor self.now merge }
+        ensures begins { IfOk result (λ b. Begins (merged_imports b.1.merge.merge) b.1.places.items b.0) }
+        ensures placed { IfOk result (λ b. ArePlaced self.now b.1) }
+        ensures defines { OnOk result (DefinesNothing self.now) }
+        ensures written { OnOk result ((o : Asked) → o.define_components ≡ define_components → IsNotYet self.now o → ⊥) }
+        ensures defined { OnOk result (define_components ≡ true) }
+        ensures refused { IfErr result (λ e. (o : Asked) → o.define_components ≡ define_components → IsRefusedBefore self.now o e) }
+    {
+        class_laws();
+        order_law();
+        if !define_components || self.holds_definition() {
+            return Err(EncodeError::NotYet);
+        }
+        match self.written_imports(&merge)? {
+            Some(WrittenImports { root, places }) => Ok((root, ImportPlaces { merge, places })),
+            None => Err(EncodeError::NotYet),
+        }
+    }
+
+    /// The nodes that are no imports, each the lowest of those that are left to which no edge leads from one that is left.
     fn ordered(&self) -> Result<Vec<NodeId>, EncodeError>
-        ensures whole { IfOk result (λ ns. Writes self.now.edges (is_there self.now) ns.items) }
+        ensures whole { IfOk result (λ ns. Writes self.now.edges (is_written self.now) ns.items) }
         ensures acyclic { OnOk result (IsAcyclic self.now.edges) }
         ensures refused { IfErr result (λ e. (o : Asked) → IsRefused self.now o e) }
     {
-        match order(self.alloc, &self.edges, self.there()?)? {
+        match order(self.alloc, &self.edges, self.to_write()?)? {
             Some(order) => Ok(order),
             None => Err(self.cycle()?),
         }
@@ -109,73 +146,115 @@ impl CompositionGraph {
         Ok(EncodeError::GraphContainsCycle { node: n })
     }
 
-    /// Whether a node is a definition or an import, or an instantiation of which an argument is not set.
-    fn holds_unwritten(&self) -> bool
-        ensures unwritten { OnTrue result ((o : Asked) → IsNotYet self.now o) }
-        ensures writable { OnFalse result (AllWritable self.now) }
+    /// Whether a node is a definition.
+    fn holds_definition(&self) -> bool
+        ensures holds { OnTrue result ((o : Asked) → IsNotYet self.now o) }
+        ensures none { OnFalse result (DefinesNothing self.now) }
     {
         for n in 0..self.nodes.capacity() {
-            if self.is_unwritten(n) {
+            if self.is_definition(n) {
                 return true;
             }
         }
         false
     }
 
-    /// Whether the node of this number is one that is not written yet.
-    fn is_unwritten(&self, n: usize) -> bool
-        ensures unwritten { OnTrue result ((o : Asked) → IsNotYet self.now o) }
-        ensures writable { OnFalse result (IfSome (node_at self.now (node_number n)) (IsWritable self.now (node_number n))) }
+    /// Whether the node of this number is a definition.
+    fn is_definition(&self, n: usize) -> bool
+        ensures holds { OnTrue result ((o : Asked) → IsNotYet self.now o) }
+        ensures none { OnFalse result (IfSome (node_at self.now (node_number n)) (λ node. node.kind ≡ definition → ⊥)) }
     {
-        let Some(node) = self.nodes.get(n) else {
-            return false;
-        };
-        match &node.kind {
-            NodeKind::Definition => true,
-            NodeKind::Import(_) => true,
-            NodeKind::Alias => false,
-            NodeKind::Instantiation(satisfied) => has_gap(satisfied, self.imports_at(n).len()),
+        match self.nodes.get(n) {
+            Some(node) => is_definition(&node.kind),
+            None => false,
         }
     }
 
-    /// Which numbers are those of nodes.
-    fn there(&self) -> Result<Vec<bool>, AllocError>
-        ensures { IfOk result (λ there. (n : AnId) → is_left there.items n ≡ is_there self.now n) }
+    /// Which numbers are those of nodes that are no imports.
+    fn to_write(&self) -> Result<Vec<bool>, AllocError>
+        ensures { IfOk result (λ left. (n : AnId) → is_left left.items n ≡ is_written self.now n) }
     {
-        let mut there = Vec::new(self.alloc);
+        let mut left = Vec::new(self.alloc);
         for n in 0..self.nodes.capacity() {
-            there.push(self.has_node(NodeId(n)))?;
+            left.push(self.is_to_write(n))?;
         }
-        Ok(there)
+        Ok(left)
+    }
+
+    /// Whether the number is that of a node that is no import.
+    fn is_to_write(&self, n: usize) -> bool
+        ensures { result ≡ is_written self.now (node_number n) }
+    {
+        match self.nodes.get(n) {
+            Some(node) => !is_import(&node.kind),
+            None => false,
+        }
+    }
+
+    /// At each import node's number the index of its import.
+    fn import_indexes(&self, imports: &ImportPlaces) -> Result<Vec<u32>, AllocError>
+        requires { ArePlaced self.now imports.now }
+        ensures room { IfOk result (λ v. HasRoom self.now v.items) }
+        ensures found { IfOk result (λ v. AreFound self.now imports.now v.items) }
+    {
+        let mut indexes = Vec::new(self.alloc);
+        for n in 0..self.nodes.capacity() {
+            indexes.push(self.import_index(imports, n))?;
+        }
+        Ok(indexes)
+    }
+
+    /// The index of the import of an import node; zero of any other number.
+    fn import_index(&self, imports: &ImportPlaces, n: usize) -> u32
+        requires { ArePlaced self.now imports.now }
+        ensures { IfSome (node_at self.now (node_number n)) (λ node. (name : AName) → node.kind ≡ import name → IsFoundAt self.now imports.now.merge.merge imports.now.places.items name (sort_of_kind node.item_kind) result) }
+    {
+        class_laws();
+        order_law();
+        match self.import_node_at(n) {
+            Some((name, _)) => imports.place_of(name).1,
+            None => 0,
+        }
     }
 
     /// Writes these nodes one after another.
-    fn write_nodes(&self, encoder: &mut Encoder, order: &[NodeId]) -> Result<(), EncodeError>
-        requires writable { AllWritable self.now }
-        requires nodes { (i : ℕ) (n : AnId) → slice_get order.now i ≡ Some n → IsSome (node_at self.now n) }
+    fn write_nodes(
+        &self,
+        encoder: &mut Encoder,
+        imports: &ImportPlaces,
+        order: &[NodeId],
+    ) -> Result<(), EncodeError>
+        requires placed { ArePlaced self.now imports.now }
+        requires nodes { (i : ℕ) (n : AnId) → slice_get order.now i ≡ Some n → IsSomeAnd (node_at self.now n) IsPlainNode }
         requires room { HasRoom self.now encoder.old.indexes.items }
-        ensures written { OnOk result (WroteAll self.now order.now (progress encoder.old) (progress encoder.new)) }
+        ensures written { OnOk result (WroteAll self.now imports.now.places.items order.now (progress encoder.old) (progress encoder.new)) }
         ensures kept { length encoder.new.indexes.items ≡ length encoder.old.indexes.items }
         ensures fault { IfErr result (λ e. cause_of e ≡ None) }
     {
         for n in order {
-            self.write_node(encoder, *n)?;
+            self.write_node(encoder, imports, *n)?;
         }
         Ok(())
     }
 
     /// Writes a node, and notes the index at which it stands.
-    fn write_node(&self, encoder: &mut Encoder, n: NodeId) -> Result<(), EncodeError>
-        requires writable { IsSomeAnd (node_at self.now n) (IsWritable self.now n) }
+    fn write_node(
+        &self,
+        encoder: &mut Encoder,
+        imports: &ImportPlaces,
+        n: NodeId,
+    ) -> Result<(), EncodeError>
+        requires placed { ArePlaced self.now imports.now }
+        requires plain { IsSomeAnd (node_at self.now n) IsPlainNode }
         requires room { HasRoom self.now encoder.old.indexes.items }
         requires noted { n.0 < length encoder.old.indexes.items }
-        ensures written { OnOk result (Wrote self.now n (progress encoder.old) (progress encoder.new)) }
+        ensures written { OnOk result (Wrote self.now imports.now.places.items n (progress encoder.old) (progress encoder.new)) }
         ensures kept { length encoder.new.indexes.items ≡ length encoder.old.indexes.items }
         ensures fault { IfErr result (λ e. cause_of e ≡ None) }
     {
         let index = match &self.nodes[n.0].kind {
-            NodeKind::Instantiation(_) => self.write_instantiation(encoder, n)?,
-            NodeKind::Alias => self.write_alias(encoder, n)?,
+            NodeKind::Instantiation(_) => self.write_instantiation(encoder, imports, n)?,
+            NodeKind::Alias => self.write_alias(encoder, imports, n)?,
             NodeKind::Definition | NodeKind::Import(_) => unreachable!(),
         };
         encoder.indexes[n.0] = index;
@@ -183,47 +262,86 @@ impl CompositionGraph {
     }
 
     /// Writes an instantiation behind its package's component, and answers its index.
-    fn write_instantiation(&self, encoder: &mut Encoder, n: NodeId) -> Result<u32, EncodeError>
+    fn write_instantiation(
+        &self,
+        encoder: &mut Encoder,
+        imports: &ImportPlaces,
+        n: NodeId,
+    ) -> Result<u32, EncodeError>
+        requires placed { ArePlaced self.now imports.now }
         requires instantiation { IsSomeAnd (node_at self.now n) (λ node. node.kind ≡ instantiation) }
-        requires set { IsSomeAnd (node_at self.now n) (IsWritable self.now n) }
         requires room { HasRoom self.now encoder.old.indexes.items }
-        ensures written { IfOk result (λ i. IfSome (node_at self.now n) (λ node. WritesNode self.now n node (index_in encoder.old.indexes.items) encoder.old.components.entries encoder.new.components.entries encoder.old.builder encoder.new.builder i)) }
+        ensures written { IfOk result (λ i. IfSome (node_at self.now n) (λ node. WritesNode self.now imports.now.places.items n node (index_in encoder.old.indexes.items) encoder.old.components.entries encoder.new.components.entries encoder.old.builder encoder.new.builder i)) }
         ensures kept { encoder.new.indexes ≡ encoder.old.indexes }
         ensures fault { IfErr result (λ e. cause_of e ≡ None) }
     {
         let (id, package) = self.package_of(n.0);
-        let arguments = self.arguments(&encoder.indexes, n)?;
+        let arguments = self.arguments(imports, &encoder.indexes, n)?;
         let component = encoder.component(id, package.bytes())?;
         Ok(encoder.builder.instantiate(component, &arguments)?)
     }
 
     /// An instantiation's arguments in world order: the import's name, with the sort and the index of the node that
-    /// was set.
-    fn arguments(&self, indexes: &[u32], n: NodeId) -> Result<Vec<(&str, Sort, u32)>, AllocError>
+    /// was set, or of the import into which the name fell.
+    fn arguments(
+        &self,
+        imports: &ImportPlaces,
+        indexes: &[u32],
+        n: NodeId,
+    ) -> Result<Vec<(&str, Sort, u32)>, AllocError>
+        requires placed { ArePlaced self.now imports.now }
         requires instantiation { IsSomeAnd (node_at self.now n) (λ node. node.kind ≡ instantiation) }
-        requires set { IsSomeAnd (node_at self.now n) (IsWritable self.now n) }
         requires room { HasRoom self.now indexes.now }
-        ensures { IfOk result (λ v. IfSome (node_at self.now n) (λ node. AreArgumentItems self.now (index_in indexes.now) n 0 (imports_of self.now node) (arguments_of v.items))) }
+        ensures { IfOk result (λ v. IfSome (node_at self.now n) (λ node. AreArgumentItems self.now imports.now.places.items (index_in indexes.now) n 0 (imports_of self.now node) (arguments_of v.items))) }
     {
-        let imports = self.imports_at(n.0);
-        let count = imports.len();
+        let names = self.imports_at(n.0);
+        let count = names.len();
         let sources = self.sources(n.0, count)?;
         let mut arguments = Vec::new(self.alloc);
         for i in 0..count {
-            let Some(source) = sources[i] else {
-                unreachable!()
-            };
-            let sort = sort_of(self.nodes[source.0].item_kind);
-            arguments.push((imports.name_at(i), sort, indexes[source.0]))?;
+            let name = names.name_at(i);
+            let (sort, index) = self.argument(imports, indexes, n, i, name, sources[i]);
+            arguments.push((name, sort, index))?;
         }
         Ok(arguments)
     }
 
+    /// The sort and the index of an instantiation's argument: of the node that was set, or of the import into which the name
+    /// fell.
+    fn argument(
+        &self,
+        imports: &ImportPlaces,
+        indexes: &[u32],
+        n: NodeId,
+        position: usize,
+        name: &str,
+        source: Option<NodeId>,
+    ) -> (Sort, u32)
+        requires placed { ArePlaced self.now imports.now }
+        requires room { HasRoom self.now indexes.now }
+        requires asked { IsSomeAnd (node_at self.now n) (λ node. (node.kind ≡ instantiation) × IsSomeAnd (slice_get (imports_of self.now node) position) (λ e. e.0 ≡ name.now)) }
+        requires set { IfSome source (IsArgumentOf self.now n position) }
+        requires unset { IfNone source (IsUnsatisfied self.now n position) }
+        ensures { IsArgumentItem self.now imports.now.places.items (index_in indexes.now) n position name.now (name.now, result.0, result.1) }
+    {
+        class_laws();
+        order_law();
+        match source {
+            Some(source) => (sort_of(self.nodes[source.0].item_kind), indexes[source.0]),
+            None => imports.place_of(name),
+        }
+    }
+
     /// Writes an alias, and answers its index.
-    fn write_alias(&self, encoder: &mut Encoder, n: NodeId) -> Result<u32, EncodeError>
+    fn write_alias(
+        &self,
+        encoder: &mut Encoder,
+        imports: &ImportPlaces,
+        n: NodeId,
+    ) -> Result<u32, EncodeError>
         requires alias { IsSomeAnd (node_at self.now n) (λ node. node.kind ≡ alias) }
         requires room { HasRoom self.now encoder.old.indexes.items }
-        ensures written { IfOk result (λ i. IfSome (node_at self.now n) (λ node. WritesNode self.now n node (index_in encoder.old.indexes.items) encoder.old.components.entries encoder.new.components.entries encoder.old.builder encoder.new.builder i)) }
+        ensures written { IfOk result (λ i. IfSome (node_at self.now n) (λ node. WritesNode self.now imports.now.places.items n node (index_in encoder.old.indexes.items) encoder.old.components.entries encoder.new.components.entries encoder.old.builder encoder.new.builder i)) }
         ensures kept { encoder.new.indexes ≡ encoder.old.indexes }
         ensures fault { IfErr result (λ e. cause_of e ≡ None) }
     {
@@ -276,19 +394,18 @@ impl CompositionGraph {
 impl Encoder {
     ghost use Rattle.wac_meaning.specs.Encoding.{HasComponent};
 
-    /// Nothing is written yet, and there is room for the indexes of so many nodes.
-    fn new(alloc: Global, nodes: usize) -> Result<Encoder, AllocError>
-        ensures items { IfOk result (λ e. e.builder ≡ []) }
-        ensures components { IfOk result (λ e. e.components.entries ≡ []) }
-        ensures indexes { IfOk result (λ e. length e.indexes.items ≡ nodes) }
+    /// What is written is this, with no component yet, and these are the indexes of nodes.
+    fn new(alloc: Global, builder: ComponentBuilder, indexes: Vec<u32>) -> Encoder
+        ensures items { result.builder ≡ builder }
+        ensures components { result.components.entries ≡ [] }
+        ensures indexes { result.indexes ≡ indexes }
     {
-        let indexes = vec![in alloc; 0u32; nodes]?;
-        Ok(Encoder {
+        Encoder {
             alloc,
-            builder: ComponentBuilder::new(alloc),
+            builder,
             components: IndexMap::new(alloc),
             indexes,
-        })
+        }
     }
 
     /// Writes the custom section that names the processor, where one is given.
@@ -319,12 +436,24 @@ impl Encoder {
     }
 }
 
-/// Whether one of the first so many positions is not in the set.
-fn has_gap(satisfied: &BTreeSet<usize>, count: usize) -> bool
-    ensures gap { OnTrue result ((i : ℕ) × (i < count) × (positions.contains nat_cmp satisfied.now i ≡ false)) }
-    ensures full { OnFalse result ((i : ℕ) → i < count → positions.contains nat_cmp satisfied.now i ≡ true) }
+/// Whether a node of this kind is a definition.
+fn is_definition(kind: &NodeKind) -> bool
+    ensures { (result ≡ true) ↔ (kind_of kind.now ≡ definition) }
 {
-    first_gap(satisfied, 0, count).is_some()
+    match kind {
+        NodeKind::Definition => true,
+        NodeKind::Import(_) | NodeKind::Instantiation(_) | NodeKind::Alias => false,
+    }
+}
+
+/// Whether a node of this kind is an import.
+fn is_import(kind: &NodeKind) -> bool
+    ensures { result ≡ is_import (kind_of kind.now) }
+{
+    match kind {
+        NodeKind::Import(_) => true,
+        NodeKind::Definition | NodeKind::Instantiation(_) | NodeKind::Alias => false,
+    }
 }
 
 /// The sort of an item's index.

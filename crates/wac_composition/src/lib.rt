@@ -19,6 +19,7 @@ mod naming;
 mod removing;
 mod sources;
 mod validating;
+mod writing;
 
 pub use arguments_of::Arguments;
 pub use graph::CompositionGraph;

@@ -9,6 +9,7 @@ ghost use Rattle.wac_nodes.specs.Entries.{asked_entries, to_merge};
 ghost use Rattle.wac_asking.specs.EntriesLeft.{entry_view, IsHeldKind};
 ghost use Rattle.wac_edges.specs.Order.{IsAcyclic};
 ghost use Rattle.wac_causes.specs.Search.{IsRefused};
+ghost use Rattle.wac_writing.specs.Places.{IsMergedFor};
 ghost use Rattle.wac_nodes.specs.declared.options.EncodeOptions.{EncodeOptions as Asked};
 
 use crate::graph::CompositionGraph;
@@ -17,24 +18,28 @@ use wac_asking::AskedEntry;
 use wac_causes::EncodeError;
 use wac_merge::{MergeFault, TypeAggregator};
 use wac_nodes::NodeId;
+use wac_writing::exports_law;
 
 impl CompositionGraph {
-    /// Refuses a graph that asks for what cannot be merged.
-    pub(crate) fn check_merge(&self) -> Result<(), EncodeError>
+    /// The merge of all that the graph asks for. Refuses a graph that asks for what cannot be merged.
+    pub(crate) fn merged(&self) -> Result<TypeAggregator, EncodeError>
         requires acyclic { IsAcyclic self.now.edges }
         requires apart { HasNoConflict self.now }
+        ensures merged { IfOk result (λ a. IsMergedFor self.now a) }
         ensures merges { OnOk result (HasMerge self.now) }
         ensures refused { IfErr result (λ e. (o : Asked) → IsRefused self.now o e) }
     {
         self.law();
         self.types.law();
         let entries = self.asked_entries()?;
-        if entries.is_empty() {
-            return Ok(());
-        }
         let aggregator = self.aggregated(entries.as_slice())?;
         match aggregator.finish(&self.types) {
-            Ok(_) => Ok(()),
+            Ok(merge) => {
+                exports_law(&self.types);
+                exports_law(merge.types());
+                merge.types().law();
+                Ok(merge)
+            }
             Err(fault) => Err(self.merge_error(entries.as_slice(), fault)?),
         }
     }

@@ -1,29 +1,33 @@
 //! Whether the outer names of what a graph composes may stand together.
-ghost use Rattle.std.specs.Prelude.{◌≡◌, [], map, IfErr, IfOk, IsTrue, OnOk};
+ghost use Rattle.std.specs.Prelude.{◌≡◌, true, map, IfErr, IfOk, IsTrue, OnOk};
 ghost use Rattle.wac_causes.specs.Search.{NamesFault};
 ghost use Rattle.wac_validation.specs.FirstFault.{Fault, IsFirstFault};
 ghost use Rattle.wac_validation.specs.Valid.{AreValid};
 ghost use Rattle.wac_validation.specs.Views.{texts};
+ghost use Rattle.wac_writing.specs.Places.{names_of};
 
 use crate::graph::CompositionGraph;
 use std::alloc::AllocError;
 use wac_causes::EncodeError;
+use wac_merge::TypeAggregator;
 use wac_validation::{one_answer, validate};
+use wac_writing::import_names;
 
 impl CompositionGraph {
-    /// Refuses, where it is asked for, exports whose names may not stand together, with the first fault. A graph that is
-    /// written has no imports.
-    pub(crate) fn check_names(&self, asked: bool) -> Result<(), EncodeError>
-        ensures valid { OnOk result (IsTrue asked → AreValid [] (map (λ e. e.0) self.now.exports)) }
-        ensures none { OnOk result (IsTrue asked → (f : Fault) → ¬ IsFirstFault [] (map (λ e. e.0) self.now.exports) f) }
-        ensures fault { IfErr result (λ e. IsTrue asked × NamesFault (IsFirstFault [] (map (λ e. e.0) self.now.exports)) e) }
+    /// Refuses, where it is asked for, imports and exports whose names may not stand together, with the first fault.
+    pub(crate) fn check_names(&self, merge: &TypeAggregator, asked: bool) -> Result<(), EncodeError>
+        requires { merge.now.is_finished ≡ true }
+        ensures valid { OnOk result (IsTrue asked → AreValid (names_of merge.now.merge.imports) (map (λ e. e.0) self.now.exports)) }
+        ensures none { OnOk result (IsTrue asked → (f : Fault) → ¬ IsFirstFault (names_of merge.now.merge.imports) (map (λ e. e.0) self.now.exports) f) }
+        ensures fault { IfErr result (λ e. IsTrue asked × NamesFault (IsFirstFault (names_of merge.now.merge.imports) (map (λ e. e.0) self.now.exports)) e) }
     {
         if !asked {
             return Ok(());
         }
         one_answer();
-        let names = self.export_names()?;
-        validate(self.alloc, &[], &names)?;
+        let imports = import_names(self.alloc, merge.imports())?;
+        let exports = self.export_names()?;
+        validate(self.alloc, &imports, &exports)?;
         Ok(())
     }
 

@@ -1,6 +1,6 @@
 -- What the writer of imports writes.
-use Rattle.std.specs.Prelude.{ℕ, suc, ◌≡◌, ◌⊎◌, ◌&&◌, ◌==◌, Bool, true, false, List, [], ◌∷◌, ◌++◌, length, Option, Some, None, Result, Ok, Err}
-use Rattle.wac_shapes.specs.Name.{Name, option_case}
+use Rattle.std.specs.Prelude.{ℕ, suc, ◌≡◌, ◌⊎◌, Bool, true, false, List, [], ◌∷◌, ◌++◌, length, Option, Some, None, Result, Ok, Err}
+use Rattle.wac_shapes.specs.Name.{Name}
 use Rattle.wac_shapes.specs.declared.component.DefinedTypeId.{DefinedTypeId}
 use Rattle.wac_shapes.specs.declared.component.InterfaceId.{InterfaceId}
 use Rattle.wac_shapes.specs.declared.component.ItemKind.{ItemKind}
@@ -9,7 +9,7 @@ use Rattle.wac_shapes.specs.declared.component.ValueType.{ValueType}
 use Rattle.wac_shapes.specs.declared.component.ValueType.TheVariants as val
 use Rattle.wac_shapes.specs.declared.component.«Type».TheVariants as ty
 use Rattle.wac_collection.specs.Tree.{imported, Place, position, Tree}
-use Rattle.wac_collection.specs.Collection.{Collection, item_at}
+use Rattle.wac_collection.specs.Collection.{Collection}
 use Rattle.wac_collection.specs.Aliases.{value_resolved}
 use Rattle.wac_collection.specs.Bound.{Bindings, held_tree, held_item}
 use Rattle.wac_binary.specs.Indexes.{space, described_sort}
@@ -31,18 +31,14 @@ use Rattle.wac_encode.specs.Made.{MadeOf}
 use Rattle.wac_encode.specs.Written.{WritesFor, HasHandle, IsOfFunc}
 use Rattle.wac_encode.specs.Listing.{lists_plain, WritesInterface, NeededBy, own_types, IsDescribed, SameRecords, TypeDoesNotFit, IsInterfaceRefused}
 
--- whether an interface uses no type of another
-abbrev pub uses_nothing : Collection → InterfaceId → Bool
-uses_nothing c i = option_case (item_at c.interfaces i.0) true (λ it. length it.uses == 0)
-
 -- whether an item is of a sort that the root imports so far, or that it cannot import: not yet are type items of resources, function types,
--- interfaces and worlds, interfaces with uses or with an item that is not written yet, components and core modules
+-- interfaces and worlds, interfaces with an item that is not written yet, components and core modules
 abbrev pub is_importable : Collection → ItemKind → Bool
 is_importable c (kind.TypeItem (ty.Value v)) = true
 is_importable c (kind.TypeItem (ty.Module m)) = true
 is_importable c (kind.TypeItem t) = false
 is_importable c (kind.Func f) = true
-is_importable c (kind.Instance i) = uses_nothing c i && lists_plain c i
+is_importable c (kind.Instance i) = lists_plain c i
 is_importable c (kind.Component w) = false
 is_importable c (kind.Module m) = false
 is_importable c (kind.Value v) = true

@@ -11,7 +11,7 @@ ghost use Rattle.wac_scopes.specs.Contents.{IsRoot};
 ghost use Rattle.wac_scopes.specs.Scoped.{value_index};
 ghost use Rattle.wac_encode.specs.Written.{ImportsHeldFunc, EndsWithImport, WritesFuncAtMost, IsImportRefused};
 ghost use Rattle.wac_encode.specs.Listing.{lists_plain};
-ghost use Rattle.wac_encode.specs.Importing.{is_importable as importable, uses_nothing as without_uses, ImportsHeld, WritesImport, WritesTypesOf, IsItemNotImported, ImportsIfThere, WritesImportIfThere, ImportsOneMore};
+ghost use Rattle.wac_encode.specs.Importing.{is_importable as importable, ImportsHeld, WritesImport, WritesTypesOf, IsItemNotImported, ImportsIfThere, WritesImportIfThere, ImportsOneMore};
 
 use crate::encoder::TypeEncoder;
 use wac_binary::{ComponentValType, listed_law};
@@ -202,14 +202,6 @@ impl<'a> TypeEncoder<'a> {
         Ok(import)
     }
 
-    /// Whether an interface uses no type of another.
-    fn uses_nothing(&self, interface: InterfaceId) -> bool
-        requires { HasInterface self.now.types.now interface }
-        ensures { result ≡ without_uses self.now.types.now interface }
-    {
-        self.types[interface].uses.len() == 0
-    }
-
     /// Whether an item is of a sort that the root imports so far, or that it cannot import.
     fn is_importable(&self, item: ItemKind) -> bool
         requires { holds_type self.now.types.now (kind_type item) ≡ true }
@@ -219,7 +211,7 @@ impl<'a> TypeEncoder<'a> {
             ItemKind::TypeItem(Type::Value(_) | Type::Module(_)) => true,
             ItemKind::TypeItem(_) | ItemKind::Component(_) | ItemKind::Module(_) => false,
             ItemKind::Func(_) | ItemKind::Value(_) => true,
-            ItemKind::Instance(id) => self.uses_nothing(id) && self.lists_plain(id),
+            ItemKind::Instance(id) => self.lists_plain(id),
         }
     }
 
@@ -251,8 +243,8 @@ impl<'a> TypeEncoder<'a> {
     /// is written by the first such item's index.
     ///
     /// Answers none, and writes nothing, exactly where the item is of a sort that is not imported yet: a type item of a resource, of a
-    /// function type, of an interface or of a world, an interface that uses another or has an item that is not written yet, a component,
-    /// or a core module. Answers `UnboundResource` for an item that is made of a handle, `ModuleAsType` for a type item of a core module
+    /// function type, of an interface or of a world, an interface that has an item that is not written yet, a component, or a core
+    /// module. Answers `UnboundResource` for an item that is made of a handle, `ModuleAsType` for a type item of a core module
     /// type, `ValueItem` for a value, what `interface_type` answers where it refuses the interface, and `TooLarge` where what is written
     /// next does not fit; `OutOfMemory` where memory was refused. Then some of its types may stand, each whole.
     pub fn import(

@@ -1,6 +1,7 @@
 pub mod Definition
 pub mod Means
 pub mod Beginning
+pub mod Importable
 pub mod MergedImports
 pub mod Encoding
 pub mod Writing

@@ -1,5 +1,5 @@
 use Rattle.std.proofs.Common.{refl, inl, inr, ◌∙◌}
-use Rattle.wac_composition.proofs.ComponentLemmas.{noted_for, noted_nowhere, noted_last}
+use Rattle.wac_writing.proofs.ComponentLemmas.{noted_for, noted_nowhere, noted_last}
 use Rattle.wac_composition.proofs.encode.Encoder.component.Goals as goal
 
 pub returns-in-Some-clause-there : goal.returns-in-Some-clause-there

@@ -1,5 +1,5 @@
--- A refusal names the one fault of the names of the exports.
-use Rattle.std.proofs.Common.{◌≡◌, [], List, IsTrue, map, ap, ◌∙◌, subst}
+-- A refusal names the one fault of the names of the imports and exports.
+use Rattle.std.proofs.Common.{◌≡◌, List, IsTrue, map, ap, ◌∙◌, subst}
 use Rattle.wac_shapes.specs.Name.{Name}
 use Rattle.wac_edges.specs.declared.node.NodeId.{NodeId}
 use Rattle.wac_validation.specs.FirstFault.{IsFirstFault, IsRefusal}
@@ -7,25 +7,33 @@ use Rattle.wac_validation.specs.Valid.{AreValid}
 use Rattle.wac_validation.specs.Views.{texts}
 use Rattle.wac_causes.specs.Faults.{validation_failure}
 use Rattle.wac_causes.specs.Search.{NamesFault}
-use Rattle.wac_composition.proofs.CauseLemmas.{exit_cause}
-use Rattle.wac_composition.proofs.OuterLemmas.{refusal_names}
+use Rattle.wac_terms.specs.Merge.{import_entries}
+use Rattle.wac_writing.specs.Places.{names_of}
+use Rattle.wac_writing.proofs.CauseLemmas.{exit_cause}
+use Rattle.wac_composition.proofs.OuterLemmas.{refusal_names, entry_names}
 use Rattle.wac_composition.proofs.graph.CompositionGraph.check_names.Goals as goal
 
 pub returns-in_err-validate-clause-fault : goal.returns-in_err-validate-clause-fault
 returns-in_err-validate-clause-fault c =
+    let imports : List Name = names_of c.args.merge.now.merge.imports in
     let names : List Name = map (λ (e : Name × NodeId). e.0) c.args.self.now.exports in
-    let same : texts c.deref.result.now ≡ names = ap texts c.deref.ensures.value ∙ c.in_ok-names.ensures in
-    exit_cause (λ e. IsTrue c.args.asked × NamesFault (IsFirstFault [] names) e) c.from_residual-in_err-validate.result (validation_failure (c.in_err-validate.field-0).0) c.from_residual-in_err-validate.ensures.1 (
+    let first : texts c.deref.result.now ≡ imports = ap texts c.deref.ensures.value ∙ c.in_ok-imports.ensures ∙ entry_names c.imports.result.now ∙ ap names_of c.imports.ensures in
+    let same : texts c.deref-2.result.now ≡ names = ap texts c.deref-2.ensures.value ∙ c.in_ok-exports.ensures in
+    exit_cause (λ e. IsTrue c.args.asked × NamesFault (IsFirstFault imports names) e) c.from_residual-in_err-validate.result (validation_failure (c.in_err-validate.field-0).0) c.from_residual-in_err-validate.ensures.1 (
       c.if-not-asked.false,
-      refusal_names (IsFirstFault [] names) (c.one_answer.ensures [] names).one_fault (c.in_err-validate.field-0).0
-          (subst (λ xs. IsRefusal (IsFirstFault [] xs) (c.in_err-validate.field-0).0) same c.in_err-validate.ensures),
+      refusal_names (IsFirstFault imports names) (c.one_answer.ensures imports names).one_fault (c.in_err-validate.field-0).0
+          (subst (λ ys. IsRefusal (IsFirstFault ys names) (c.in_err-validate.field-0).0) first (subst (λ xs. IsRefusal (IsFirstFault (texts c.deref.result.now) xs) (c.in_err-validate.field-0).0) same c.in_err-validate.ensures)),
     )
 
 pub returns-clause-valid : goal.returns-clause-valid
-returns-clause-valid c = λ asked. subst (λ xs. AreValid [] xs) (ap texts c.deref.ensures.value ∙ c.in_ok-names.ensures) c.in_ok-validate.ensures
+returns-clause-valid c = λ asked.
+    let names : List Name = map (λ (e : Name × NodeId). e.0) c.args.self.now.exports in
+    let first : texts c.deref.result.now ≡ names_of c.args.merge.now.merge.imports = ap texts c.deref.ensures.value ∙ c.in_ok-imports.ensures ∙ entry_names c.imports.result.now ∙ ap names_of c.imports.ensures in
+    let same : texts c.deref-2.result.now ≡ names = ap texts c.deref-2.ensures.value ∙ c.in_ok-exports.ensures in
+    subst (λ ys. AreValid ys names) first (subst (λ xs. AreValid (texts c.deref.result.now) xs) same c.in_ok-validate.ensures)
 
 pub returns-clause-none : goal.returns-clause-none
 returns-clause-none c = λ asked f first.
+    let imports : List Name = names_of c.args.merge.now.merge.imports in
     let names : List Name = map (λ (e : Name × NodeId). e.0) c.args.self.now.exports in
-    let valid : AreValid [] names = subst (λ xs. AreValid [] xs) (ap texts c.deref.ensures.value ∙ c.in_ok-names.ensures) c.in_ok-validate.ensures in
-    (c.one_answer.ensures [] names).apart f valid first
+    (c.one_answer.ensures imports names).apart f (returns-clause-valid c asked) first

@@ -1,7 +1,7 @@
 use Rattle.std.proofs.Common.{arith, subst, MatchOption}
 use Rattle.wac_edges.specs.Order.{IsAcyclic, IsLowestOnCycle}
 use Rattle.wac_composition.proofs.MeansLemmas.{targets_below, acyclic_now, lowest_now}
-use Rattle.wac_composition.proofs.CauseLemmas.{at_cycle}
+use Rattle.wac_writing.proofs.CauseLemmas.{at_cycle}
 use Rattle.wac_composition.proofs.graph.CompositionGraph.cycle.Goals as goal
 
 pub lowest_on_cycle-requires : goal.lowest_on_cycle-requires

@@ -5,7 +5,7 @@ use Rattle.wac_nodes.specs.Nodes.{kind_of}
 use Rattle.wac_nodes.specs.Steps.{UnsetsArgument}
 use Rattle.wac_edges.specs.declared.node.NodeId.{NodeId}
 use Rattle.wac_nodes.specs.declared.errors.InstantiationArgumentError.TheVariants.{OutOfMemory}
-use Rattle.wac_composition.proofs.CauseLemmas.{exit_cause}
+use Rattle.wac_writing.proofs.CauseLemmas.{exit_cause}
 use Rattle.wac_nodes.proofs.NodeLemmas.{there}
 use Rattle.wac_composition.proofs.EncodingLemmas.{some_and, of_if}
 use Rattle.wac_composition.proofs.ArgumentLemmas.{not_instantiation, not_instantiation_unset, world_there, invalid_name, invalid_name_unset, no_memory_unset, import_held, has_import}

@@ -1,0 +1,8 @@
+use Rattle.std.proofs.Common.{◌≡◌, ◌<◌, length}
+use Rattle.wac_edges.specs.declared.node.NodeId.{NodeId}
+use Rattle.wac_edges.specs.Edge.{is_left}
+use Rattle.wac_meaning.specs.Means.{is_written}
+use Rattle.wac_composition.proofs.graph.CompositionGraph.to_write.Given as goal
+
+abbrev pub invariant-loop-n : goal.invariant-loop-n
+invariant-loop-n l = (length l.left.items ≡ l.n) × ((m : NodeId) → m.0 < l.n → is_left l.left.items m ≡ is_written l.self m)

@@ -1,0 +1,33 @@
+//! The writer of the imports of what a graph asks for.
+ghost use Rattle.std.specs.Prelude.{◌≡◌, ◌⊎◌, IfErr, IfNone, IfOk, IfSome};
+ghost use Rattle.wac_causes.specs.NotYet.{AllImportable};
+ghost use Rattle.wac_causes.specs.declared.errors.EncodeError.TheVariants as error;
+ghost use Rattle.wac_meaning.specs.Beginning.{Begins};
+ghost use Rattle.wac_meaning.specs.MergedImports.{merged_imports};
+ghost use Rattle.wac_writing.specs.Places.{AreOfSorts, IsMergedFor};
+
+use crate::graph::CompositionGraph;
+use wac_causes::EncodeError;
+use wac_importing::{WrittenImports, write_imports};
+use wac_merge::TypeAggregator;
+use wac_merge::laws::{class_laws, order_law};
+
+impl CompositionGraph {
+    /// The imports of what the graph asks for, as they are written; none where one is not importable so far.
+    pub(crate) fn written_imports(
+        &self,
+        merge: &TypeAggregator,
+    ) -> Result<Option<WrittenImports>, EncodeError>
+        requires { IsMergedFor self.now merge.now }
+        ensures begins { IfOk result (λ o. IfSome o (λ w. Begins (merged_imports merge.now.merge) w.places.items w.root)) }
+        ensures sorts { IfOk result (λ o. IfSome o (λ w. AreOfSorts merge.now.merge w.places.items)) }
+        ensures importable { IfOk result (λ o. IfSome o (λ w. AllImportable self.now)) }
+        ensures none { IfOk result (λ o. IfNone o (AllImportable self.now → ⊥)) }
+        ensures refused { IfErr result (λ e. (e ≡ error.OutOfMemory) ⊎ ((e ≡ error.TooLarge) × AllImportable self.now)) }
+    {
+        self.law();
+        class_laws();
+        order_law();
+        Ok(write_imports(self.alloc, merge)?)
+    }
+}

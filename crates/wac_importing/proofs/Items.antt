@@ -1,0 +1,126 @@
+-- Which items are plain, and which are imported so far.
+use Rattle.std.proofs.Common.{◌≡◌, ℕ, zero, suc, Bool, true, false, cond, List, [], ◌∷◌, refl, ap, ◌∙◌, sym, subst, Option, Some, None}
+use Rattle.std.specs.Prelude.{slice_get}
+use Rattle.wac_shapes.specs.Name.{Name, same_name, find_name, option_case}
+use Rattle.wac_shapes.specs.Named.{NoNameTwice}
+use Rattle.wac_shapes.specs.Kinds.{kind_type}
+use Rattle.wac_shapes.proofs.Names.{same_name-true, same_name-refl, found_at}
+use Rattle.wac_shapes.specs.declared.component.Interface.{Interface}
+use Rattle.wac_shapes.specs.declared.component.InterfaceId.{InterfaceId}
+use Rattle.wac_shapes.specs.declared.component.ItemKind.{ItemKind}
+use Rattle.wac_shapes.specs.declared.component.ItemKind.TheVariants as kind
+use Rattle.wac_shapes.specs.declared.component.ValueType.{ValueType}
+use Rattle.wac_shapes.specs.declared.component.«Type».{«Type» as AnyType}
+use Rattle.wac_shapes.specs.declared.component.«Type».TheVariants as ty
+use Rattle.wac_collection.specs.declared.collection.Held.{Held}
+use Rattle.wac_collection.specs.Tree.{TypeTree, absent, resource, instance, type_equal, instance_item}
+use Rattle.wac_collection.specs.Collection.{Collection, IsWellFormed, AddedBefore, size, holds_type, item_at, item_of, interface_exports}
+use Rattle.wac_collection.specs.Held.{resolved, interface_tree, of_held, unfolded}
+use Rattle.wac_subtyping.specs.Subtype.{by_name, resource_names, type_tree, kind_tree, listed_in}
+use Rattle.wac_subtyping.proofs.Unfolding.{type_before, unfolded_step, type_step, held_item}
+use Rattle.wac_meaning.specs.Importable.{HasNoHandle, IsPlainItem, IsPlainWhereThere, IsImportable, IsImportableKind}
+use Rattle.wac_importing.specs.Looked.{ArePlain, ListsPlain}
+use Rattle.wac_importing.proofs.Handles.{plain_free, plain_reached, reached_none}
+
+-- an item that is there
+plain_there : {L : Type 0} (t : TypeTree L) → IsPlainItem t → IsPlainWhereThere t
+plain_there absent h = absurd h
+plain_there t h = h
+
+there_plain : (c : Collection) (k : ItemKind) → IsPlainWhereThere (kind_tree c k) → IsPlainItem (kind_tree c k)
+there_plain c (kind.TypeItem a) h = h
+there_plain c (kind.Func f) h = h
+there_plain c (kind.Instance i) h = h
+there_plain c (kind.Component w) h = h
+there_plain c (kind.Module m) h = h
+there_plain c (kind.Value v) h = h
+
+-- items under their names
+all_there : (c : Collection) (es : List (Name × ItemKind)) → ArePlain c es → (n : Name) → IsPlainWhereThere (listed_in c es n)
+all_there c [] all n = tt
+all_there c (e ∷ es) all n = by (same_name n e.0) (all_there c es (λ i x at. all (suc i) x at) n) where
+  by : (b : Bool) → IsPlainWhereThere (listed_in c es n) → IsPlainWhereThere (cond b (kind_tree c e.1) (listed_in c es n))
+  by true later = plain_there (kind_tree c e.1) (all 0 e refl)
+  by false later = later
+
+listed_at : (c : Collection) (es : List (Name × ItemKind)) (p : ℕ) (e : Name × ItemKind) → NoNameTwice es → slice_get es p ≡ Some e → listed_in c es e.0 ≡ kind_tree c e.1
+listed_at c [] p e once at = cc
+listed_at c (x ∷ es) zero e once at =
+    let same : x ≡ e = cc in
+    subst (λ y. listed_in c (y ∷ es) e.0 ≡ kind_tree c e.1) (sym same) (ap (λ b. cond b (kind_tree c e.1) (listed_in c es e.0)) (same_name-refl e.0))
+listed_at c (x ∷ es) (suc p) e once at = split (same_name e.0 x.0) refl (listed_at c es p e once.1 at) where
+  split : (b : Bool) → same_name e.0 x.0 ≡ b → listed_in c es e.0 ≡ kind_tree c e.1 → cond (same_name e.0 x.0) (kind_tree c x.1) (listed_in c es e.0) ≡ kind_tree c e.1
+  split true is later = absurd (found_at es p e.0 e.1 at (ap (find_name es) (same_name-true e.0 x.0 is) ∙ once.0))
+  split false is later = ap (λ b. cond b (kind_tree c x.1) (listed_in c es e.0)) is ∙ later
+
+there_all : (c : Collection) (es : List (Name × ItemKind)) → NoNameTwice es → ((n : Name) → IsPlainWhereThere (listed_in c es n)) → ArePlain c es
+there_all c es once there i e at = there_plain c e.1 (subst IsPlainWhereThere (listed_at c es i e once at) (there e.0))
+
+-- an interface is its exports under their names
+pub interface_is : (c : Collection) → IsWellFormed c → (i : InterfaceId) (it : Interface) → holds_type c (ty.Interface i) ≡ true → item_at c.interfaces i.0 ≡ Some it → type_tree c (ty.Interface i) ≡ instance (listed_in c it.exports)
+unfolding type_tree
+interface_is c wf i it held at =
+    let (h, is, same) = held_item (slice_get c.interfaces i.0) it at in
+    unfolded_step by_name c wf (resource_names c) (ty.Interface i) held
+    ∙ ap (of_held (interface_tree by_name c (unfolded by_name c) (resource_names c))) is ∙ ap (λ (x : Interface). instance (listed_in c x.exports)) same
+
+pub exports_are : (c : Collection) (i : InterfaceId) (it : Interface) → item_at c.interfaces i.0 ≡ Some it → interface_exports c i ≡ it.exports
+exports_are c i it at = ap (λ o. option_case o [] (λ (x : Interface). x.exports)) at
+
+pub instance_importable : (c : Collection) → IsWellFormed c → (i : InterfaceId) (it : Interface) → holds_type c (ty.Interface i) ≡ true → item_at c.interfaces i.0 ≡ Some it → ArePlain c it.exports → IsImportableKind c (kind.Instance i)
+instance_importable c wf i it held at all = subst (λ t. IsImportable (instance_item t)) (sym (interface_is c wf i it held at)) (all_there c it.exports all)
+
+pub importable_instance : (c : Collection) → IsWellFormed c → (i : InterfaceId) (it : Interface) → holds_type c (ty.Interface i) ≡ true → item_at c.interfaces i.0 ≡ Some it → NoNameTwice it.exports → IsImportableKind c (kind.Instance i) → ArePlain c it.exports
+importable_instance c wf i it held at once h = there_all c it.exports once (subst (λ t. IsImportable (instance_item t)) (interface_is c wf i it held at) h)
+
+pub interface_there : (c : Collection) → IsWellFormed c → (i : InterfaceId) → holds_type c (ty.Interface i) ≡ true → (it : Interface) × (item_at c.interfaces i.0 ≡ Some it)
+interface_there c wf i held = by (slice_get c.interfaces i.0) refl (type_before c wf (ty.Interface i) held) where
+  by : (o : Option (Held Interface)) → slice_get c.interfaces i.0 ≡ o → AddedBefore (size c) o → (it : Interface) × (item_at c.interfaces i.0 ≡ Some it)
+  by None is b = absurd b
+  by (Some h) is b = (h.item, ap item_of is)
+
+-- what lists plain items is imported so far
+pub lists_importable : (c : Collection) → IsWellFormed c → (k : ItemKind) → holds_type c (kind_type k) ≡ true → ListsPlain c k → IsImportableKind c k
+lists_importable c wf (kind.Instance i) held all =
+    let (it, at) = interface_there c wf i held in
+    instance_importable c wf i it held at (subst (ArePlain c) (exports_are c i it at) all)
+lists_importable c wf (kind.TypeItem a) held h = h
+lists_importable c wf (kind.Func f) held h = h
+lists_importable c wf (kind.Component w) held h = h
+lists_importable c wf (kind.Module m) held h = h
+lists_importable c wf (kind.Value v) held h = h
+
+-- a type item of another sort is not
+abbrev TypePlain : TypeTree Name → Type 0
+TypePlain t = IsPlainItem (type_equal t)
+
+named_resource : (o : Option Name) → TypePlain (option_case o absent resource) → ⊥
+named_resource None h = h
+named_resource (Some n) h = h
+
+held_none : {A : Type 0} (g : A → TypeTree Name) → ((x : A) → TypePlain (g x) → ⊥) → (o : Option (Held A)) → TypePlain (of_held g o) → ⊥
+held_none g none None h = h
+held_none g none (Some x) h = none x.item h
+
+pub type_not_plain : (c : Collection) → IsWellFormed c → (a : AnyType) → holds_type c a ≡ true → ((v : _) → a ≡ ty.Value v → ⊥) → IsPlainItem (kind_tree c (kind.TypeItem a)) → ⊥
+type_not_plain c wf (ty.Value v) held other h = other v refl
+type_not_plain c wf (ty.Resource r) held other h = named_resource (resource_names c (resolved c r)) (subst TypePlain (type_step c wf (ty.Resource r) held) h)
+type_not_plain c wf (ty.Func f) held other h = held_none _ (λ x h. h) (slice_get c.funcs f.0) (subst TypePlain (type_step c wf (ty.Func f) held) h)
+type_not_plain c wf (ty.Interface i) held other h = held_none _ (λ x h. h) (slice_get c.interfaces i.0) (subst TypePlain (type_step c wf (ty.Interface i) held) h)
+type_not_plain c wf (ty.World w) held other h = held_none _ (λ x h. h) (slice_get c.worlds w.0) (subst TypePlain (type_step c wf (ty.World w) held) h)
+type_not_plain c wf (ty.Module m) held other h = held_none _ (λ x h. h) (slice_get c.modules m.0) (subst TypePlain (type_step c wf (ty.Module m) held) h)
+
+-- a value type without handles is plain as a type item
+pub value_plain : (c : Collection) → IsWellFormed c → (a : AnyType) (v : ValueType) → a ≡ ty.Value v → holds_type c a ≡ true → HasNoHandle (type_tree c a) → IsPlainItem (kind_tree c (kind.TypeItem a))
+value_plain c wf a v is held free =
+    let here : holds_type c (ty.Value v) ≡ true = subst (λ b. holds_type c b ≡ true) is held in
+    subst (λ b. IsPlainItem (kind_tree c (kind.TypeItem b))) (sym is)
+    (plain_reached c wf v here (reached_none c wf (ty.Value v) tt here (subst (λ b. HasNoHandle (type_tree c b)) is free)))
+
+pub plain_value : (c : Collection) (a : AnyType) → IsPlainItem (kind_tree c (kind.TypeItem a)) → HasNoHandle (type_tree c a)
+plain_value c a h = plain_free (type_tree c a) h
+
+-- an interface that is imported so far lists plain items
+pub importable_lists : (c : Collection) → IsWellFormed c → (k : ItemKind) (i : InterfaceId) (it : Interface) → k ≡ kind.Instance i → holds_type c (kind_type k) ≡ true → item_at c.interfaces i.0 ≡ Some it → NoNameTwice it.exports → IsImportableKind c k → ArePlain c it.exports
+importable_lists c wf k i it is held at once h =
+    importable_instance c wf i it (subst (λ (x : ItemKind). holds_type c (kind_type x) ≡ true) is held) at once (subst (IsImportableKind c) is h)

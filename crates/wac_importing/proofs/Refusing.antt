@@ -1,0 +1,115 @@
+-- What lists plain items is neither none nor a fault to the writer of imports.
+use Rattle.std.proofs.Common.{◌≡◌, ℕ, zero, suc, ◌++◌, true, List, [], ◌∷◌, refl, ap, ◌∙◌, sym, subst, Option, Some, None}
+use Rattle.std.specs.Prelude.{slice_get}
+use Rattle.std.proofs.lemmas.List.Sorted.{IsPermutation-sym}
+use Rattle.wac_shapes.specs.Name.{Name, option_case}
+use Rattle.wac_shapes.specs.Kinds.{kind_type}
+use Rattle.wac_shapes.specs.declared.component.Interface.{Interface}
+use Rattle.wac_shapes.specs.declared.component.InterfaceId.{InterfaceId}
+use Rattle.wac_shapes.specs.declared.component.ItemKind.{ItemKind}
+use Rattle.wac_shapes.specs.declared.component.ItemKind.TheVariants as kind
+use Rattle.wac_shapes.specs.declared.component.ValueType.{ValueType}
+use Rattle.wac_shapes.specs.declared.component.«Type».{«Type» as AnyType}
+use Rattle.wac_shapes.specs.declared.component.«Type».TheVariants as ty
+use Rattle.wac_collection.specs.Collection.{Collection, IsWellFormed, IsBefore, holds_type, item_at, interface_exports, kind_types, used_types}
+use Rattle.wac_subtyping.specs.Subtype.{type_tree, kind_tree}
+use Rattle.wac_subtyping.proofs.Unfolding.{all_right, before_held, held_item}
+use Rattle.std.specs.List.{AllByRecursion}
+use Rattle.wac_scopes.specs.declared.fault.WriteFault.{WriteFault}
+use Rattle.wac_scopes.specs.declared.fault.EncodeFault.TheVariants as fault
+use Rattle.wac_encode.specs.Listing.{is_plain, lists_plain, are_plain, IsItemFault, HasRefusedItem}
+use Rattle.wac_encode.specs.Importing.{is_importable, IsImportFault}
+use Rattle.wac_encode.proofs.Ordered.{stands-there}
+use Rattle.wac_meaning.specs.Importable.{IsPlainItem}
+use Rattle.wac_importing.specs.Looked.{ArePlain, ListsPlain}
+use Rattle.wac_importing.proofs.Handles.{plain_free, value_needs_none, func_needs_none}
+use Rattle.wac_importing.proofs.Items.{type_not_plain}
+
+module _ (c : Collection) (wf : IsWellFormed c) where
+  -- a type item that is plain is one of a value type
+  of_value : (a : AnyType) (P : Type 0) → holds_type c a ≡ true → IsPlainItem (kind_tree c (kind.TypeItem a)) → ((v : ValueType) → a ≡ ty.Value v → ⊥) → P
+  of_value a P held plain other = absurd (type_not_plain c wf a held other plain)
+
+  plain_is : (k : ItemKind) → holds_type c (kind_type k) ≡ true → IsPlainItem (kind_tree c k) → is_plain k ≡ true
+  plain_is (kind.TypeItem (ty.Value v)) held plain = refl
+  plain_is (kind.TypeItem (ty.Resource r)) held plain = of_value (ty.Resource r) _ held plain (λ v e. cc)
+  plain_is (kind.TypeItem (ty.Func f)) held plain = of_value (ty.Func f) _ held plain (λ v e. cc)
+  plain_is (kind.TypeItem (ty.Interface i)) held plain = of_value (ty.Interface i) _ held plain (λ v e. cc)
+  plain_is (kind.TypeItem (ty.World w)) held plain = of_value (ty.World w) _ held plain (λ v e. cc)
+  plain_is (kind.TypeItem (ty.Module m)) held plain = refl
+  plain_is (kind.Func f) held plain = refl
+  plain_is (kind.Instance i) held plain = absurd plain
+  plain_is (kind.Component w) held plain = refl
+  plain_is (kind.Module m) held plain = refl
+  plain_is (kind.Value v) held plain = refl
+
+  -- no fault stands at a plain item
+  item_fault : (k : ItemKind) → holds_type c (kind_type k) ≡ true → IsPlainItem (kind_tree c k) → (f : WriteFault) → IsItemFault c k f → ⊥
+  item_fault (kind.TypeItem (ty.Value v)) held plain f h = value_needs_none c wf v held (plain_free (type_tree c (ty.Value v)) plain) h.1
+  item_fault (kind.Func g) held plain f h = func_needs_none c wf g held plain h.1
+  item_fault (kind.TypeItem (ty.Resource r)) held plain f h = of_value (ty.Resource r) _ held plain (λ v e. cc)
+  item_fault (kind.TypeItem (ty.Func g)) held plain f h = of_value (ty.Func g) _ held plain (λ v e. cc)
+  item_fault (kind.TypeItem (ty.Interface i)) held plain f h = of_value (ty.Interface i) _ held plain (λ v e. cc)
+  item_fault (kind.TypeItem (ty.World w)) held plain f h = of_value (ty.World w) _ held plain (λ v e. cc)
+  item_fault (kind.TypeItem (ty.Module m)) held plain f h = of_value (ty.Module m) _ held plain (λ v e. cc)
+  item_fault (kind.Instance i) held plain f h = absurd plain
+  item_fault (kind.Component w) held plain f h = absurd plain
+  item_fault (kind.Module m) held plain f h = absurd plain
+  item_fault (kind.Value v) held plain f h = absurd plain
+
+  all_at : (P : AnyType → Type 0) (es : List (Name × ItemKind)) → AllByRecursion P (kind_types es) → (i : ℕ) (e : Name × ItemKind) → slice_get es i ≡ Some e → P (kind_type e.1)
+  all_at P [] all i e at = cc
+  all_at P (x ∷ es) all zero e at = let same : x ≡ e = cc in subst (λ (y : Name × ItemKind). P (kind_type y.1)) same all.0
+  all_at P (x ∷ es) all (suc i) e at = all_at P es all.1 i e at
+
+  -- what an interface exports is held
+  pub exports_held : (i : InterfaceId) (it : Interface) → item_at c.interfaces i.0 ≡ Some it → (j : ℕ) (e : Name × ItemKind) → slice_get it.exports j ≡ Some e → holds_type c (kind_type e.1) ≡ true
+  exports_held i it found j e at =
+      let (h, is, same) = held_item (slice_get c.interfaces i.0) it found in
+      let there : slice_get h.item.exports j ≡ Some e = subst (λ (x : Interface). slice_get x.exports j ≡ Some e) (sym same) at in
+      before_held c h.before (kind_type e.1) (all_at (IsBefore c h.before) h.item.exports (all_right (IsBefore c h.before) (used_types h.item.uses) (kind_types h.item.exports) (wf.interfaces i.0 h is).1) j e there)
+
+  all_plain : (es : List (Name × ItemKind)) → ((j : ℕ) (e : Name × ItemKind) → slice_get es j ≡ Some e → is_plain e.1 ≡ true) → are_plain es ≡ true
+  all_plain [] each = refl
+  all_plain (e ∷ es) each = rw (each 0 e refl) (all_plain es (λ j x at. each (suc j) x at))
+
+  lists : (i : InterfaceId) → ArePlain c (interface_exports c i) → lists_plain c i ≡ true
+  lists i all = by (item_at c.interfaces i.0) refl all where
+    by : (o : Option Interface) → item_at c.interfaces i.0 ≡ o → ArePlain c (option_case o [] (λ it. it.exports)) → option_case o true (λ it. are_plain it.exports) ≡ true
+    by None is all = refl
+    by (Some it) is all = all_plain it.exports (λ j e at. plain_is e.1 (exports_held i it is j e at) (all j e at))
+
+  pub is_written : (k : ItemKind) → holds_type c (kind_type k) ≡ true → ListsPlain c k → is_importable c k ≡ true
+  is_written (kind.Instance i) held plain = lists i plain
+  is_written (kind.TypeItem (ty.Value v)) held plain = refl
+  is_written (kind.TypeItem (ty.Resource r)) held plain = of_value (ty.Resource r) _ held plain (λ v e. cc)
+  is_written (kind.TypeItem (ty.Func f)) held plain = of_value (ty.Func f) _ held plain (λ v e. cc)
+  is_written (kind.TypeItem (ty.Interface i)) held plain = of_value (ty.Interface i) _ held plain (λ v e. cc)
+  is_written (kind.TypeItem (ty.World w)) held plain = of_value (ty.World w) _ held plain (λ v e. cc)
+  is_written (kind.TypeItem (ty.Module m)) held plain = refl
+  is_written (kind.Func f) held plain = refl
+  is_written (kind.Component w) held plain = absurd plain
+  is_written (kind.Module m) held plain = absurd plain
+  is_written (kind.Value v) held plain = refl
+
+  in_split : {A : Type 0} (xs : List A) (x : A) (ys : List A) → (k : ℕ) × (slice_get (xs ++ x ∷ ys) k ≡ Some x)
+  in_split [] x ys = (0, refl)
+  in_split (y ∷ xs) x ys = let (k, at) = in_split xs x ys in (suc k, at)
+
+  instance_fault : (i : InterfaceId) → ArePlain c (interface_exports c i) → (f : WriteFault) → HasRefusedItem c i (fault.Write f) → ⊥
+  instance_fault i all f h =
+      let e : Name × ItemKind = (h.stopped.name, h.stopped.item) in
+      let (k, at) = in_split h.stopped.before e h.stopped.after in
+      let (j, there) = stands-there h.order h.interface.exports (IsPermutation-sym h.interface.exports h.order h.ordered.permutation) k e (ap (λ es. slice_get es k) h.stopped.split ∙ at) in
+      let exported : interface_exports c i ≡ h.interface.exports = ap (λ o. option_case o [] (λ (x : Interface). x.exports)) h.found in
+      item_fault h.stopped.item (exports_held i h.interface h.found j e there) (subst (ArePlain c) exported all j e there) f h.stopped.refused
+
+  pub no_fault : (k : ItemKind) → holds_type c (kind_type k) ≡ true → ListsPlain c k → (f : WriteFault) → IsImportFault c k f → ⊥
+  no_fault (kind.Instance i) held plain f h = instance_fault i plain f h
+  no_fault (kind.TypeItem (ty.Value v)) held plain f h = value_needs_none c wf v held (plain_free (type_tree c (ty.Value v)) plain) h.1
+  no_fault (kind.Func g) held plain f h = func_needs_none c wf g held plain h.1
+  no_fault (kind.TypeItem (ty.Module m)) held plain f h = of_value (ty.Module m) _ held plain (λ v e. cc)
+  no_fault (kind.Value v) held plain f h = absurd plain
+  no_fault (kind.TypeItem a) held plain f h = absurd h
+  no_fault (kind.Component w) held plain f h = absurd plain
+  no_fault (kind.Module m) held plain f h = absurd plain

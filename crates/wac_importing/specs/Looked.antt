@@ -1,0 +1,42 @@
+-- What is looked at before imports are written.
+use Rattle.std.specs.Prelude.{ℕ, ◌≡◌, List, Some, slice_get}
+use Rattle.wac_shapes.specs.Name.{Name}
+use Rattle.wac_shapes.specs.declared.component.ItemKind.{ItemKind}
+use Rattle.wac_shapes.specs.declared.component.ItemKind.TheVariants as kind
+use Rattle.wac_shapes.specs.declared.component.ResourceId.{ResourceId}
+use Rattle.wac_shapes.specs.declared.component.«Type».{«Type» as AnyType}
+use Rattle.wac_shapes.specs.declared.component.«Type».TheVariants as ty
+use Rattle.wac_collection.specs.Collection.{Collection, interface_exports}
+use Rattle.wac_reach.specs.Reach.{IsIn}
+use Rattle.wac_subtyping.specs.Subtype.{kind_tree}
+use Rattle.wac_meaning.specs.Importable.{IsPlainItem, IsImportableKind}
+
+-- a value type or a function type
+abbrev pub IsOfValues : AnyType → Type 0
+IsOfValues (ty.Value v) = Unit {0}
+IsOfValues (ty.Func f) = Unit {0}
+IsOfValues t = ⊥
+
+-- no resource is among the types
+abbrev pub HasNoResource : List AnyType → Type 0
+HasNoResource ts = (r : ResourceId) → IsIn (ty.Resource r) ts → ⊥
+
+-- listed items are all plain
+abbrev pub ArePlain : Collection → List (Name × ItemKind) → Type 0
+ArePlain c es = (i : ℕ) (e : Name × ItemKind) → slice_get es i ≡ Some e → IsPlainItem (kind_tree c e.1)
+
+-- an item is plain, or an instance that lists plain ones
+abbrev pub ListsPlain : Collection → ItemKind → Type 0
+ListsPlain c (kind.Instance i) = ArePlain c (interface_exports c i)
+ListsPlain c k = IsPlainItem (kind_tree c k)
+
+-- and so are all
+abbrev pub AreImportable : Collection → List (Name × ItemKind) → Type 0
+AreImportable c es = (i : ℕ) (e : Name × ItemKind) → slice_get es i ≡ Some e → ListsPlain c e.1
+
+-- one is not
+pub record HasNotYet (c : Collection) (es : List (Name × ItemKind)) : Type 0 where
+  pub i : ℕ
+  pub entry : Name × ItemKind
+  pub there : slice_get es i ≡ Some entry
+  pub not_yet : IsImportableKind c entry.1 → ⊥

@@ -1,0 +1,131 @@
+//! Which imports can be written so far.
+
+ghost use Rattle.std.specs.Prelude.{◌≡◌, ◌<◌, ℕ, true, false, List, Some, Ok as Answers, length, slice_get};
+ghost use Rattle.wac_shapes.specs.Kinds.{kind_type};
+ghost use Rattle.wac_shapes.specs.declared.component.ItemKind.{ItemKind as AnyItem};
+ghost use Rattle.wac_shapes.specs.declared.component.ItemKind.TheVariants as kind;
+ghost use Rattle.wac_collection.specs.Collection.{holds_type};
+ghost use Rattle.wac_subtyping.specs.Subtype.{type_tree, kind_tree};
+ghost use Rattle.wac_meaning.specs.Importable.{HasNoHandle, IsPlainItem, IsImportableKind};
+ghost use Rattle.wac_importing.specs.Looked.{IsOfValues, HasNoResource, ArePlain, ListsPlain, AreImportable, HasNotYet};
+
+use std::alloc::AllocError;
+use wac_collection::{ItemKind, Named, Type, Types};
+use wac_reach::reach;
+
+/// Whether a held value type or function type is made of no handle.
+fn has_no_handle(types: &Types, ty: Type) -> Result<bool, AllocError>
+    requires held { holds_type types.now ty ≡ true }
+    requires of_values { IsOfValues ty }
+    ensures none { result ≡ Answers true → HasNoHandle (type_tree types.now ty) }
+    ensures some { result ≡ Answers false → HasNoHandle (type_tree types.now ty) → ⊥ }
+{
+    types.law();
+    let reached = reach(types, ty)?;
+    Ok(holds_no_resource(reached.as_slice()))
+}
+
+/// Whether no type is a resource.
+fn holds_no_resource(types: &[Type]) -> bool
+    ensures none { result ≡ true → HasNoResource types.now }
+    ensures some { result ≡ false → HasNoResource types.now → ⊥ }
+{
+    for i in 0..types.len() {
+        if let Type::Resource(_) = type_at(types, i) {
+            return false;
+        }
+    }
+    true
+}
+
+/// The type at a position, which is one of the list.
+fn type_at(types: &[Type], index: usize) -> Type
+    requires { index < length types.now }
+    ensures { slice_get types.now index ≡ Some result }
+{
+    types[index]
+}
+
+/// Whether a type item of a held type is one of a value type that is made of no handle.
+fn is_plain_type(types: &Types, ty: Type) -> Result<bool, AllocError>
+    requires { holds_type types.now ty ≡ true }
+    ensures plain { result ≡ Answers true → IsPlainItem (kind_tree types.now (kind.TypeItem ty)) }
+    ensures not { result ≡ Answers false → IsPlainItem (kind_tree types.now (kind.TypeItem ty)) → ⊥ }
+{
+    types.law();
+    match ty {
+        Type::Value(_) => has_no_handle(types, ty),
+        _ => Ok(false),
+    }
+}
+
+/// Whether a held item is a function or a type item of a value type, and made of no handle.
+fn is_plain(types: &Types, item: ItemKind) -> Result<bool, AllocError>
+    requires { holds_type types.now (kind_type item) ≡ true }
+    ensures plain { result ≡ Answers true → IsPlainItem (kind_tree types.now item) }
+    ensures not { result ≡ Answers false → IsPlainItem (kind_tree types.now item) → ⊥ }
+{
+    match item {
+        ItemKind::Func(func) => has_no_handle(types, Type::Func(func)),
+        ItemKind::TypeItem(ty) => is_plain_type(types, ty),
+        _ => Ok(false),
+    }
+}
+
+/// Whether all items are.
+fn are_plain(types: &Types, items: &Named<ItemKind>) -> Result<bool, AllocError>
+    requires { (i : ℕ) (e : List ℕ × AnyItem) → slice_get items.now i ≡ Some e → holds_type types.now (kind_type e.1) ≡ true }
+    ensures plain { result ≡ Answers true → ArePlain types.now items.now }
+    ensures not { result ≡ Answers false → ArePlain types.now items.now → ⊥ }
+{
+    for i in 0..items.len() {
+        let (_, item) = items.entry_at(i);
+        if !is_plain(types, *item)? {
+            return Ok(false);
+        }
+    }
+    Ok(true)
+}
+
+/// Whether a held item is plain, or an instance that lists plain ones.
+fn lists_plain(types: &Types, item: ItemKind) -> Result<bool, AllocError>
+    requires { holds_type types.now (kind_type item) ≡ true }
+    ensures plain { result ≡ Answers true → ListsPlain types.now item }
+    ensures not { result ≡ Answers false → IsImportableKind types.now item → ⊥ }
+{
+    types.law();
+    match item {
+        ItemKind::Instance(id) => {
+            let exports = &types[id].exports;
+            exports.law();
+            are_plain(types, exports)
+        }
+        _ => is_plain(types, item),
+    }
+}
+
+/// Whether a held item is imported so far: it is a function, a type item of a value type or an instance of such items, and made of no
+/// handle. Answers `AllocError` where memory ran out. Linear in what each of its items reaches.
+pub fn is_importable(types: &Types, item: ItemKind) -> Result<bool, AllocError>
+    requires { holds_type types.now (kind_type item) ≡ true }
+    ensures importable { result ≡ Answers true → IsImportableKind types.now item }
+    ensures not { result ≡ Answers false → IsImportableKind types.now item → ⊥ }
+{
+    types.law();
+    lists_plain(types, item)
+}
+
+/// Whether all held items are.
+pub(crate) fn are_importable(types: &Types, items: &Named<ItemKind>) -> Result<bool, AllocError>
+    requires { (i : ℕ) (e : List ℕ × AnyItem) → slice_get items.now i ≡ Some e → holds_type types.now (kind_type e.1) ≡ true }
+    ensures importable { result ≡ Answers true → AreImportable types.now items.now }
+    ensures not { result ≡ Answers false → HasNotYet types.now items.now }
+{
+    for i in 0..items.len() {
+        let (_, item) = items.entry_at(i);
+        if !lists_plain(types, *item)? {
+            return Ok(false);
+        }
+    }
+    Ok(true)
+}

@@ -1,0 +1,142 @@
+//! The writer of a merge's imports.
+
+ghost use Rattle.std.specs.Prelude.{◌≡◌, ◌⊎◌, ℕ, true, false, List, None, Some, Ok as Answers, Err as Refused, IfOk, IfErr, IfSome, OnOk, slice_get};
+ghost use Rattle.wac_shapes.specs.Kinds.{kind_type};
+ghost use Rattle.wac_shapes.specs.declared.component.ItemKind.{ItemKind as AnyItem};
+ghost use Rattle.wac_collection.specs.Collection.{IsWellFormed, holds_type};
+ghost use Rattle.wac_entries.specs.Bindings.{AreHeld};
+ghost use Rattle.wac_binary.specs.declared.fault.BinaryFault.TheVariants.{OutOfMemory};
+ghost use Rattle.wac_scopes.specs.declared.encodable.Encodable.TheVariants.{Builder};
+ghost use Rattle.wac_scopes.specs.Contents.{IsRoot};
+ghost use Rattle.wac_encode.specs.Importing.{ImportsHeld, WritesImport};
+ghost use Rattle.wac_meaning.specs.Beginning.{Begins};
+ghost use Rattle.wac_meaning.specs.Means.{sort_of_kind};
+ghost use Rattle.wac_meaning.specs.MergedImports.{merged_imports};
+ghost use Rattle.wac_importing.specs.Written.{AllImportable, HasUnimportable, AreOfSorts, AreRefused, merge_of, IsTooLarge, IsNotWritten};
+ghost use Rattle.wac_importing.specs.Looked.{ListsPlain, AreImportable};
+
+use crate::importable::are_importable;
+use std::alloc::Global;
+use wac_binary::{BinaryFault, ComponentBuilder, Sort};
+use wac_collection::{ItemKind, Named, Types};
+use wac_encode::TypeEncoder;
+use wac_merge::TypeAggregator;
+use wac_scopes::{Encodable, EncodeFault, Scope, root_law};
+
+/// The imports of a merge as they are written: a component that has them and the types that they are made of, and of each import, in
+/// order, the sort and its index of that sort.
+#[derive(Drop)]
+pub struct WrittenImports {
+    /// The component that is begun.
+    pub root: ComponentBuilder,
+    /// Where each import stands.
+    pub places: Vec<(Sort, u32)>,
+}
+
+/// Writes the imports of a finished merge, in order, each under its name, behind the types that it is made of, each of which is
+/// written once.
+///
+/// Answers none exactly where an import is not importable so far: it is no function, no type item of a value type and no instance
+/// of such items, or it is made of a handle; memory may be refused before that is known. Answers `TooLarge` where an import does not
+/// fit behind those before it; `OutOfMemory` where memory was refused.
+pub fn write_imports(
+    alloc: Global,
+    merge: &TypeAggregator,
+) -> Result<Option<WrittenImports>, BinaryFault>
+    requires finished { merge.now.is_finished ≡ true }
+    requires held { AreHeld merge.now.merge.types merge.now.merge.imports }
+    ensures begins { IfOk result (λ o. IfSome o (λ w. Begins (merged_imports merge.now.merge) w.places.items w.root)) }
+    ensures sorts { IfOk result (λ o. IfSome o (λ w. AreOfSorts merge.now.merge w.places.items)) }
+    ensures importable { IfOk result (λ o. IfSome o (λ _. AllImportable merge.now.merge)) }
+    ensures none { result ≡ Answers None → HasUnimportable merge.now.merge }
+    ensures refused { HasUnimportable merge.now.merge → (result ≡ Answers None) ⊎ (result ≡ Refused OutOfMemory) }
+    ensures fault { IfErr result (AreRefused merge.now.merge) }
+{
+    let types = merge.types();
+    let imports = merge.imports();
+    types.law();
+    if !are_importable(types, imports)? {
+        return Ok(None);
+    }
+    Ok(Some(write_all(alloc, types, imports)?))
+}
+
+/// Writes imports that all are imported so far.
+fn write_all(
+    alloc: Global,
+    types: &Types,
+    imports: &Named<ItemKind>,
+) -> Result<WrittenImports, BinaryFault>
+    requires held { (i : ℕ) (e : List ℕ × AnyItem) → slice_get imports.now i ≡ Some e → holds_type types.now (kind_type e.1) ≡ true }
+    requires importable { AreImportable types.now imports.now }
+    ensures begins { IfOk result (λ w. Begins (merged_imports (merge_of types.now imports.now)) w.places.items w.root) }
+    ensures sorts { IfOk result (λ w. AreOfSorts (merge_of types.now imports.now) w.places.items) }
+    ensures fault { IfErr result (IsTooLarge (merge_of types.now imports.now)) }
+{
+    types.law();
+    imports.law();
+    wac_binary::law();
+    root_law();
+    let encoder = TypeEncoder::new(types);
+    let mut root = Scope::new(alloc, Encodable::Builder(ComponentBuilder::new(alloc)));
+    let mut places = Vec::new(alloc);
+    for i in 0..imports.len() {
+        let (name, item) = imports.entry_at(i);
+        let index = write_one(&encoder, &mut root, name, *item)?;
+        places.push((sort_of(*item), index))?;
+    }
+    Ok(WrittenImports {
+        root: builder_of(root.into_content()),
+        places,
+    })
+}
+
+/// Writes an import that is imported so far, and answers its index.
+fn write_one(
+    encoder: &TypeEncoder<'_>,
+    root: &mut Scope,
+    name: &str,
+    item: ItemKind,
+) -> Result<u32, BinaryFault>
+    requires held { holds_type encoder.now.types.now (kind_type item) ≡ true }
+    requires ordered { IsWellFormed encoder.now.types.now }
+    requires importable { ListsPlain encoder.now.types.now item }
+    requires root { IsRoot root.old.content }
+    ensures imports { IfOk result (ImportsHeld encoder.now.types.now root.old root.new name.now item) }
+    ensures written { IfOk result (WritesImport encoder.now.types.now root.old root.new name.now item) }
+    ensures fault { IfErr result (IsNotWritten encoder.now.types.now root.old name.now item) }
+    ensures root { IsRoot root.new.content }
+{
+    match encoder.import(root, name, item) {
+        Ok(Some(index)) => Ok(index),
+        Ok(None) => unreachable!(),
+        Err(EncodeFault::Write(_)) => unreachable!(),
+        Err(EncodeFault::TooLarge) => Err(BinaryFault::TooLarge),
+        Err(EncodeFault::OutOfMemory) => Err(BinaryFault::OutOfMemory),
+    }
+}
+
+/// The component that is written in the root.
+fn builder_of(content: Encodable) -> ComponentBuilder
+    requires { IsRoot content }
+    ensures { content ≡ Builder result }
+{
+    match content {
+        Encodable::Builder(builder) => builder,
+        Encodable::Instance(_) | Encodable::Component(_) => unreachable!(),
+    }
+}
+
+/// The sort of an item's index.
+fn sort_of(kind: ItemKind) -> Sort
+    ensures { result ≡ sort_of_kind kind }
+{
+    match kind {
+        ItemKind::TypeItem(_) => Sort::Type,
+        ItemKind::Func(_) => Sort::Func,
+        ItemKind::Instance(_) => Sort::Instance,
+        ItemKind::Component(_) => Sort::Component,
+        ItemKind::Module(_) => Sort::CoreModule,
+        ItemKind::Value(_) => Sort::Value,
+    }
+}

@@ -1,0 +1,47 @@
+-- Which items are imported so far.
+use Rattle.std.specs.Prelude.{ℕ}
+use Rattle.wac_shapes.specs.Name.{Name}
+use Rattle.wac_shapes.specs.declared.component.ItemKind.{ItemKind}
+use Rattle.wac_collection.specs.Tree.{TypeTree, absent, resource, primitive, own, borrow, record_of, variant_of, list_of, fixed_list_of, tuple_of, flags_of, enum_of, option_of, result_of, stream_of, future_of, function, instance, component, module_of, fresh, type_equal, function_item, instance_item, component_item, module_item, value_item}
+use Rattle.wac_collection.specs.Collection.{Collection}
+use Rattle.wac_subtyping.specs.Subtype.{kind_tree}
+
+-- no resource stands in a value type, or in what a function takes and gives
+abbrev pub HasNoHandle : {L : Type 0} → TypeTree L → Type 0
+HasNoHandle absent = Unit {0}
+HasNoHandle (primitive p) = Unit {0}
+HasNoHandle (record_of names parts) = (i : ℕ) → HasNoHandle (parts i)
+HasNoHandle (variant_of names parts) = (i : ℕ) → HasNoHandle (parts i)
+HasNoHandle (list_of t) = HasNoHandle t
+HasNoHandle (fixed_list_of n t) = HasNoHandle t
+HasNoHandle (tuple_of n parts) = (i : ℕ) → HasNoHandle (parts i)
+HasNoHandle (flags_of names) = Unit {0}
+HasNoHandle (enum_of names) = Unit {0}
+HasNoHandle (option_of t) = HasNoHandle t
+HasNoHandle (result_of t u) = HasNoHandle t × HasNoHandle u
+HasNoHandle (stream_of t) = HasNoHandle t
+HasNoHandle (future_of t) = HasNoHandle t
+HasNoHandle (function is_async names params result) = ((i : ℕ) → HasNoHandle (params i)) × HasNoHandle result
+HasNoHandle _ = ⊥
+
+-- a function, or a type item of a value type, without a resource in it
+abbrev pub IsPlainItem : {L : Type 0} → TypeTree L → Type 0
+IsPlainItem (function_item t) = HasNoHandle t
+IsPlainItem (type_equal absent) = ⊥
+IsPlainItem (type_equal (function is_async names params result)) = ⊥
+IsPlainItem (type_equal t) = HasNoHandle t
+IsPlainItem _ = ⊥
+
+-- where an instance has an item, it is plain
+abbrev pub IsPlainWhereThere : {L : Type 0} → TypeTree L → Type 0
+IsPlainWhereThere absent = Unit {0}
+IsPlainWhereThere t = IsPlainItem t
+
+-- an item that is imported so far: a plain one, or an instance of such
+abbrev pub IsImportable : {L : Type 0} → TypeTree L → Type 0
+IsImportable (instance_item (instance items)) = (n : Name) → IsPlainWhereThere (items n)
+IsImportable t = IsPlainItem t
+
+-- and so of a kind of item; a resource goes by its name, so that it is seen also where nothing binds it
+abbrev pub IsImportableKind : Collection → ItemKind → Type 0
+IsImportableKind c k = IsImportable (kind_tree c k)

@@ -1,0 +1,62 @@
+-- What is importable stays so where it offers less.
+use Rattle.std.proofs.Common.{◌≡◌, ◌≢◌, ℕ, Bool, true, false, refl, ap, ◌∙◌, sym, subst, Some}
+use Rattle.std.specs.Prelude.{slice_get}
+use Rattle.wac_shapes.specs.Name.{Name}
+use Rattle.wac_collection.specs.Tree.{TypeTree, absent, resource, primitive, own, borrow, record_of, variant_of, list_of, fixed_list_of, tuple_of, flags_of, enum_of, option_of, result_of, stream_of, future_of, function, instance, component, module_of, fresh, type_equal, function_item, instance_item, component_item, module_item, value_item}
+use Rattle.wac_subtyping.specs.Subtype.{Sub}
+use Rattle.wac_meaning.specs.Importable.{HasNoHandle, IsPlainItem, IsPlainWhereThere, IsImportable}
+
+abbrev is_absent : {L : Type 0} → TypeTree L → Bool
+is_absent absent = true
+is_absent _ = false
+
+absent_of : {L : Type 0} (t : TypeTree L) → is_absent t ≡ true → t ≡ absent
+absent_of absent h = refl
+absent_of t h = cc
+
+-- a type item of a value type is one both ways
+plain_type : {L : Type 0} (a b : TypeTree L) → Sub a b → IsPlainItem (type_equal a) → IsPlainItem (type_equal b)
+plain_type a b (Sub.same _ p) h = h
+plain_type a b (Sub.instances _ _ f) h = absurd h
+plain_type a b (Sub.components _ _ _ _ f g) h = absurd h
+plain_type a b (Sub.modules _ _ _ _ f g) h = absurd h
+plain_type a b (Sub.type_items _ _ s t) h = absurd h
+plain_type a b (Sub.instance_items _ _ s) h = absurd h
+plain_type a b (Sub.component_items _ _ s) h = absurd h
+plain_type a b (Sub.module_items _ _ s) h = absurd h
+
+plain_item : {L : Type 0} (a b : TypeTree L) → Sub a b → IsPlainWhereThere a → IsPlainWhereThere b
+plain_item a b (Sub.same _ p) h = h
+plain_item a b (Sub.instances _ _ f) h = absurd h
+plain_item a b (Sub.components _ _ _ _ f g) h = absurd h
+plain_item a b (Sub.modules _ _ _ _ f g) h = absurd h
+plain_item a b (Sub.type_items c d s t) h = plain_type c d s h
+plain_item a b (Sub.instance_items _ _ s) h = absurd h
+plain_item a b (Sub.component_items _ _ s) h = absurd h
+plain_item a b (Sub.module_items _ _ s) h = absurd h
+
+-- an instance that exports less
+plain_instance : {L : Type 0} (a b : TypeTree L) → Sub a b → IsImportable (instance_item a) → IsImportable (instance_item b)
+plain_instance a b (Sub.same _ p) h = h
+plain_instance {L} a b (Sub.instances xs ys f) h = λ n. split n (is_absent (ys n)) refl where
+  split : (n : Name) → (e : Bool) → is_absent (ys n) ≡ e → IsPlainWhereThere (ys n)
+  split n true is = subst (λ (t : TypeTree L). IsPlainWhereThere t) (sym (absent_of (ys n) is)) tt
+  split n false is = plain_item (xs n) (ys n) (f n (λ none. two (ap is_absent none) is)) (h n) where
+    two : {e : Bool} → e ≡ true → e ≡ false → ⊥
+    two p q = cc
+plain_instance a b (Sub.components _ _ _ _ f g) h = absurd h
+plain_instance a b (Sub.modules _ _ _ _ f g) h = absurd h
+plain_instance a b (Sub.type_items _ _ s t) h = absurd h
+plain_instance a b (Sub.instance_items _ _ s) h = absurd h
+plain_instance a b (Sub.component_items _ _ s) h = absurd h
+plain_instance a b (Sub.module_items _ _ s) h = absurd h
+
+pub importable_super : {L : Type 0} (a b : TypeTree L) → Sub a b → IsImportable a → IsImportable b
+importable_super a b (Sub.same _ p) h = h
+importable_super a b (Sub.instances _ _ f) h = absurd h
+importable_super a b (Sub.components _ _ _ _ f g) h = absurd h
+importable_super a b (Sub.modules _ _ _ _ f g) h = absurd h
+importable_super a b (Sub.type_items c d s t) h = plain_type c d s h
+importable_super a b (Sub.instance_items c d s) h = plain_instance c d s h
+importable_super a b (Sub.component_items _ _ s) h = absurd h
+importable_super a b (Sub.module_items _ _ s) h = absurd h

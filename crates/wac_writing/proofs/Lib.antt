@@ -1,0 +1,5 @@
+pub mod ImportableLemmas
+pub mod PlaceLemmas
+pub mod OuterLemmas
+pub mod ComponentLemmas
+pub mod CauseLemmas

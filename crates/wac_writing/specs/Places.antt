@@ -1,0 +1,55 @@
+-- The merged imports of what a graph asks for, and where the import of a name stands.
+use Rattle.std.specs.Prelude.{ℕ, ◌≡◌, true, length, map, List, Some, slice_get}
+use Rattle.wac_shapes.specs.Name.{Name}
+use Rattle.wac_entries.specs.Classes.{Entry, by_names, imported_as}
+use Rattle.wac_terms.specs.Merge.{Merged}
+use Rattle.wac_merge.specs.Aggregate.{Aggregate}
+use Rattle.wac_binary.specs.declared.sorts.Sort.{Sort}
+use Rattle.wac_edges.specs.declared.node.NodeId.{NodeId}
+use Rattle.wac_nodes.specs.Graph as graph
+use Rattle.wac_nodes.specs.Graph.{Graph, GraphNode, node_at}
+use Rattle.wac_nodes.specs.OuterImports.{outer_entries}
+use Rattle.wac_meaning.specs.Means.{sort_of_kind}
+use Rattle.wac_meaning.specs.Beginning.{Places}
+use Rattle.wac_meaning.specs.Encoding.{index_in}
+use Rattle.wac_meaning.specs.MergedImports.{IsMergeOf, IsFoundAt}
+use Rattle.wac_writing.specs.declared.places.ImportPlaces.{ImportPlaces}
+
+-- there is an import under what the name is imported as
+pub record IsImportedName (a : Aggregate) (name : Name) : Type 0 where
+  pub p : ℕ
+  pub entry : Entry
+  pub there : slice_get (a.merge).imports p ≡ Some entry
+  pub named : entry.name ≡ imported_as by_names a.entries name
+
+-- it stands at this index of this sort
+pub record IsPlaceOf (a : Aggregate) (places : Places) (name : Name) (place : Sort × ℕ) : Type 0 where
+  pub p : ℕ
+  pub entry : Entry
+  pub there : slice_get (a.merge).imports p ≡ Some entry
+  pub named : entry.name ≡ imported_as by_names a.entries name
+  pub placed : slice_get places p ≡ Some place
+
+-- each place is of the sort of its import
+abbrev pub AreOfSorts : Merged → Places → Type 0
+AreOfSorts m places = (p : ℕ) (e : Entry) (place : Sort × ℕ) → slice_get m.imports p ≡ Some e → slice_get places p ≡ Some place → place.0 ≡ sort_of_kind e.kind
+
+-- the merge of all that the graph asks for
+pub record IsMergedFor (g : Graph) (a : Aggregate) : Type 0 where
+  pub finished : a.is_finished ≡ true
+  pub entries : a.entries ≡ outer_entries g
+  pub whole : IsMergeOf g a.merge
+
+-- these are its imports, each with its place
+pub record ArePlaced (g : Graph) (p : ImportPlaces) : Type 0 where
+  pub merged : IsMergedFor g p.merge
+  pub counted : length p.places.items ≡ length ((p.merge).merge).imports
+  pub sorts : AreOfSorts (p.merge).merge p.places.items
+
+-- each import node has the index of the import into which its name fell
+abbrev pub AreFound : Graph → ImportPlaces → List ℕ → Type 0
+AreFound g p indexes = (n : NodeId) (node : GraphNode) (name : Name) → node_at g n ≡ Some node → node.kind ≡ graph.import name → IsFoundAt g (p.merge).merge p.places.items name (sort_of_kind node.item_kind) (index_in indexes n)
+
+-- the names of imports
+abbrev pub names_of : List Entry → List Name
+names_of es = map (λ e. e.name) es

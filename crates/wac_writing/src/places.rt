@@ -1,0 +1,58 @@
+//! Where a name's import stands.
+ghost use Rattle.std.specs.Prelude.{◌≡◌, IfOk, length, map, true};
+ghost use Rattle.wac_meaning.specs.MergedImports.{ExportsOnce};
+ghost use Rattle.wac_validation.specs.Views.{texts};
+ghost use Rattle.wac_writing.specs.Places.{IsImportedName, IsPlaceOf};
+
+use std::alloc::{AllocError, Global};
+use wac_binary::Sort;
+use wac_merge::TypeAggregator;
+use wac_types::{ItemKind, Named, Types};
+
+/// The imports of a finished merge, with the sort and the index at which each stands.
+#[derive(Drop)]
+pub struct ImportPlaces {
+    /// The merge.
+    pub merge: TypeAggregator,
+    /// The places, by the position of the import.
+    pub places: Vec<(Sort, u32)>,
+}
+
+impl ImportPlaces {
+    /// The sort and the index of the import under which a name is imported.
+    pub fn place_of(&self, name: &str) -> (Sort, u32)
+        requires finished { self.now.merge.is_finished ≡ true }
+        requires counted { length self.now.places.items ≡ length self.now.merge.merge.imports }
+        requires imported { IsImportedName self.now.merge name.now }
+        ensures { IsPlaceOf self.now.merge self.now.places.items name.now result }
+    {
+        let imports = self.merge.imports();
+        let Some((position, _)) = imports.get_full(self.merge.canonical_import_name(name)) else {
+            unreachable!()
+        };
+        self.places[position]
+    }
+}
+
+/// The law of the interfaces of a collection: none exports a name twice.
+pub fn exports_law(types: &Types)
+    ensures { ExportsOnce types.now }
+{
+    for (_, interface) in types.interfaces() {
+        interface.exports.law();
+    }
+}
+
+/// The names of imports, in order.
+pub fn import_names(
+    alloc: Global,
+    imports: &Named<ItemKind>,
+) -> Result<Vec<&str>, AllocError>
+    ensures { IfOk result (λ v. texts v.items ≡ map (λ e. e.0) imports.now) }
+{
+    let mut names = Vec::new(alloc);
+    for i in 0..imports.len() {
+        names.push(imports.name_at(i))?;
+    }
+    Ok(names)
+}
