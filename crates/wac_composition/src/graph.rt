@@ -81,11 +81,12 @@ impl Model for CompositionGraph {
 
     ghost coded = { Prim.hlevel (codes, map.code) };
 
-    ghost use Rattle.wac_composition.specs.Inside.{graph_of, Invariant};
+    ghost use Rattle.wac_fields.specs.Fields.{graph_of, Invariant};
+    ghost use Rattle.wac_composition.specs.Inside.{fields_of};
 
-    ghost view = { graph_of };
+    ghost view = { λ s. graph_of (fields_of s) };
 
-    ghost invariant = { Invariant };
+    ghost invariant = { λ s. Invariant (fields_of s) };
 }
 
 impl CompositionGraph {

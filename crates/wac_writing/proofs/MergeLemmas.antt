@@ -30,7 +30,7 @@ use Rattle.wac_asking.specs.EntriesLeft.{IsHeldKind, entry_view}
 use Rattle.wac_nodes.specs.Imports.{node_row, node_rows}
 use Rattle.wac_edges.specs.Order.{IsAcyclic}
 use Rattle.wac_causes.specs.Search.{IsRefused}
-use Rattle.wac_composition.proofs.AskedHeld.{asking_nodes}
+use Rattle.wac_writing.proofs.AskedHeld.{asking_nodes}
 use Rattle.wac_causes.proofs.StandsLemmas.{stands_implicit, stands_explicit, stands_circle}
 
 -- what holds of all holds of the one at a position
