@@ -19,7 +19,7 @@ use Rattle.wac_edges.specs.Edge.{edge_cmp, argument_edge, node_number}
 use Rattle.wac_edges.proofs.EdgeLemmas.{edge_cmp_total}
 use Rattle.wac_nodes.specs.declared.node.Node.{Node}
 use Rattle.wac_nodes.specs.Graph as graph
-use Rattle.wac_nodes.specs.Graph.{Graph, GraphNode, Kind, node_at, imports_of, IsArgumentOf, IsUnsatisfied}
+use Rattle.wac_nodes.specs.Graph.{Graph, GraphNode, Kind, imports_of, IsArgumentOf, IsUnsatisfied}
 use Rattle.wac_nodes.specs.Nodes.{node_of, kind_of}
 use Rattle.wac_nodes.specs.Gives.{GivesNode}
 use Rattle.wac_nodes.specs.Asked.{is_argument}

@@ -29,7 +29,7 @@ use Rattle.wac_nodes.specs.declared.errors.InstantiationArgumentError.TheVariant
 use Rattle.wac_edges.specs.Edge.{edge_cmp, argument_edge}
 use Rattle.wac_nodes.specs.Graph as graph
 use Rattle.wac_fields.specs.Arguments.{IsInstantiation, HasImport, Fits, CanBeGiven}
-use Rattle.wac_nodes.specs.Graph.{Graph, GraphNode, Kind, node_at, package_at, package_in, package_of, imports_of, IsSatisfied, IsUnsatisfied, IsArgumentOf}
+use Rattle.wac_nodes.specs.Graph.{Graph, GraphNode, node_at, package_at, package_in, package_of, imports_of, IsUnsatisfied, IsArgumentOf}
 use Rattle.wac_nodes.specs.Nodes.{node_of, kind_of, satisfied, satisfied_at, IsInstantiationAt}
 use Rattle.wac_fields.specs.Fields.{Fields, graph_of, Invariant}
 use Rattle.wac_nodes.specs.Steps.{SetsArgument, SetsOn, UnsetsArgument, UnsetsOn, import_named}
@@ -228,12 +228,6 @@ is_instantiation a id h = split (get a.nodes id.0) (subst (λ x. IsSomeAnd x (λ
   split : (o : Option Node) → IsSomeAnd (option_map node_of o) (λ m. m.kind ≡ graph.instantiation) → IsInstantiationAt o
   split None wrong = absurd wrong
   split (Some x) is = is
-
-pub instantiation_there : (a : Fields) (id : NodeId) → IsInstantiation (graph_of a) id → IsSome (get a.nodes id.0)
-instantiation_there a id h = split (get a.nodes id.0) (is_instantiation a id h) where
-  split : (o : Option Node) → IsInstantiationAt o → IsSome o
-  split None wrong = absurd wrong
-  split (Some x) is = refl
 
 pub absent_edge : (b : Bool) → (b ≡ true → ⊥) → b ≡ false
 absent_edge true h = absurd (h refl)

@@ -23,7 +23,7 @@ use Rattle.wac_nodes.specs.declared.packages.Slot.{Slot}
 use Rattle.wac_edges.specs.Edge.{edge_cmp, alias_edge, argument_edge}
 use Rattle.wac_edges.specs.Edge.{node_number}
 use Rattle.wac_nodes.specs.Graph as graph
-use Rattle.wac_nodes.specs.Graph.{GraphNode, node_at, package_at, package_in, exports_of, IsAliasOf, IsRegistered}
+use Rattle.wac_nodes.specs.Graph.{GraphNode, node_at, package_at, package_in, exports_of, IsAliasOf}
 use Rattle.wac_fields.specs.Arguments.{CanBeGiven}
 use Rattle.wac_nodes.specs.Sound.{IsSound}
 use Rattle.wac_nodes.specs.Nodes.{node_of, nodes_of, names_of, satisfied, satisfied_at}

@@ -21,7 +21,7 @@ use Rattle.wac_nodes.specs.declared.node.Node.{Node}
 use Rattle.wac_nodes.specs.declared.node.NodeKind.{NodeKind}
 use Rattle.wac_nodes.specs.declared.node.NodeKind.TheVariants as code
 use Rattle.wac_nodes.specs.Graph as graph
-use Rattle.wac_nodes.specs.Graph.{Graph, GraphNode, Kind, node_at, IsImportOf}
+use Rattle.wac_nodes.specs.Graph.{GraphNode, node_at, IsImportOf}
 use Rattle.wac_nodes.specs.Nodes.{node_of, nodes_of, names_of, kind_of, IsInstantiationAt}
 use Rattle.wac_nodes.specs.Sound.{Joins}
 use Rattle.wac_nodes.specs.TakenOut.{without}

@@ -14,7 +14,7 @@ use Rattle.wac_nodes.specs.declared.node.Node.{Node}
 use Rattle.wac_nodes.specs.declared.packages.PackageId.{PackageId}
 use Rattle.wac_nodes.specs.declared.packages.Slot.{Slot}
 use Rattle.wac_nodes.specs.Graph as graph
-use Rattle.wac_nodes.specs.Graph.{Graph, GraphNode, node_at, package_at, package_in, exports_of, IsRegistered}
+use Rattle.wac_nodes.specs.Graph.{GraphNode, package_at, IsRegistered}
 use Rattle.wac_nodes.specs.Nodes.{node_of}
 use Rattle.wac_fields.specs.Fields.{Fields, graph_of, Invariant}
 use Rattle.wac_removing.specs.Slots.{key_of, vacant_of}

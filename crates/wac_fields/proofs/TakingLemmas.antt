@@ -1,5 +1,5 @@
 -- What is always true of a graph's fields stays true where an argument is taken away, and where a node is named.
-use Rattle.std.proofs.Common.{◌≡◌, ◌≢◌, ℕ, Bool, true, false, not, ◌&&◌, ◌==◌, refl, ap, ◌∙◌, sym, subst, Option, Some, None, IfSome, IsSome, is_some, Ok, Err, String, Global, string_bytes, List, suc}
+use Rattle.std.proofs.Common.{◌≡◌, ◌≢◌, ℕ, Bool, true, false, not, ◌&&◌, ◌==◌, refl, ap, ◌∙◌, sym, subst, Option, Some, None, IfSome, IsSome, is_some, Ok, Err, String, Global, string_bytes, List}
 use Rattle.std.specs.Prelude.{slice_get, IsSomeAnd, swap_remove, if◌then◌else◌}
 use Rattle.std.specs.HashMap.{HashMap}
 use Rattle.std.specs.declared.hash.FoldHasher.{FoldHasher}
@@ -28,7 +28,7 @@ use Rattle.wac_removing.specs.Lost.{is_again, AreTold}
 use Rattle.wac_removing.specs.Slots.{vacant_of}
 use Rattle.wac_removing.specs.declared.lost.Lost.{Lost}
 use Rattle.wac_nodes.specs.Steps.{SetsName, Unexports}
-use Rattle.wac_nodes.specs.TakenOut.{taken_at, taken_below, without}
+use Rattle.wac_nodes.specs.TakenOut.{taken_at, without}
 use Rattle.wac_nodes.specs.declared.errors.UnexportError.TheVariants.{MustExportDefinition}
 use Rattle.wac_nodes.specs.declared.node.NodeKind.{NodeKind}
 use Rattle.wac_nodes.specs.declared.node.NodeKind.TheVariants as code
@@ -312,10 +312,6 @@ no_definition code.Definition h e = h refl
 no_definition (code.Import name) h e = cc
 no_definition (code.Instantiation s) h e = cc
 no_definition code.Alias h e = cc
-
--- one step further down
-pub taken_step : (gone : NodeId → Bool) (k : ℕ) (es old new : List (Name × NodeId)) → new ≡ taken_at gone k (slice_get es k) es → taken_below gone (suc k) es ≡ without gone old → taken_below gone k new ≡ without gone old
-taken_step gone k es old new is h = ap (taken_below gone k) is ∙ h
 
 -- one entry of a map, where it is of the node and where it is not
 pub entry_taken : (id : NodeId) (entries now : List (String Global × NodeId)) (k : ℕ) (e : String Global × NodeId) → slice_get entries k ≡ Some e → ((e.1).0 == id.0) ≡ true → now ≡ swap_remove entries k e

@@ -18,7 +18,7 @@ use Rattle.wac_edges.specs.declared.node.NodeId.{NodeId}
 use Rattle.wac_nodes.specs.declared.node.NodeKind.TheVariants as code
 use Rattle.wac_nodes.specs.Graph as graph
 use Rattle.wac_edges.specs.Edge.{node_number}
-use Rattle.wac_nodes.specs.Graph.{Graph, GraphNode, node_at, package_at, package_of, imports_of}
+use Rattle.wac_nodes.specs.Graph.{Graph, GraphNode, node_at, package_of, imports_of}
 use Rattle.wac_nodes.specs.Nodes.{node_of, kind_of, names_of, satisfied, satisfied_at}
 use Rattle.wac_fields.specs.Fields.{Fields, graph_of, Invariant}
 use Rattle.wac_edges.specs.Order.{IsAcyclic}

@@ -1,13 +1,11 @@
 -- What the fields say of the nodes that are written.
-use Rattle.std.proofs.Common.{◌≡◌, ℕ, zero, suc, ◌<◌, ◌≤◌, Bool, true, false, not, List, [], ◌∷◌, ◌++◌, ◌+◌, length, refl, ap, ◌∙◌, sym, subst, arith, Option, Some, None, IfSome, IsSome, IsSomeAnd, IsTrue, is_some, inl, inr, get_or, String, Global, string_bytes}
+use Rattle.std.proofs.Common.{◌≡◌, ℕ, zero, suc, ◌<◌, ◌≤◌, Bool, true, false, not, List, [], ◌∷◌, ◌++◌, ◌+◌, length, refl, ap, ◌∙◌, sym, subst, arith, Option, Some, None, IfSome, IsSome, IsSomeAnd, is_some, get_or}
 use Rattle.std.proofs.lemmas.Bool.Decides.{nat_tests}
 use Rattle.std.specs.Prelude.{slice_get, nat_lt}
 use Rattle.std.proofs.lemmas.List.{get_or_append_left}
 use Rattle.std.proofs.Math.Seq.{get_or-append_seam}
 use Rattle.std.specs.Option.{option_map, option_and_then}
-use Rattle.std.specs.BTreeSet as positions
 use Rattle.std.specs.BTreeSet.{BTreeSet}
-use Rattle.std.specs.Ordering.{nat_cmp}
 use Rattle.slab.specs.Slab.{get, ContainsKey}
 use Rattle.wac_shapes.specs.Name.{option_case}
 use Rattle.wac_collection.specs.Collection.{item_at}
@@ -22,8 +20,8 @@ use Rattle.wac_nodes.specs.declared.options.EncodeOptions.{EncodeOptions}
 use Rattle.wac_edges.specs.Edge.{is_left}
 use Rattle.wac_nodes.specs.Graph as graph
 use Rattle.wac_edges.specs.Edge.{node_number}
-use Rattle.wac_nodes.specs.Graph.{Graph, GraphNode, Kind, node_at, package_at, package_in, package_of, imports_of}
-use Rattle.wac_nodes.specs.Nodes.{node_of, kind_of, satisfied, satisfied_at}
+use Rattle.wac_nodes.specs.Graph.{Graph, GraphNode, node_at, package_at, package_in, package_of, imports_of}
+use Rattle.wac_nodes.specs.Nodes.{node_of, kind_of, satisfied_at}
 use Rattle.wac_fields.specs.Fields.{Fields, graph_of, Invariant}
 use Rattle.wac_meaning.specs.Means.{is_import, is_written}
 use Rattle.wac_meaning.proofs.ThingLemmas.{DefinesNothing}

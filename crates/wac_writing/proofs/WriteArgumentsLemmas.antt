@@ -1,5 +1,5 @@
 -- Steps of writing arguments, instantiations and nodes.
-use Rattle.std.proofs.Common.{◌≡◌, ℕ, zero, suc, ◌+◌, ◌<◌, ◌≤◌, Bool, true, false, List, [], ◌∷◌, ◌++◌, length, take, drop, refl, ap, ◌∙◌, sym, subst, arith, Option, Some, None, IfSome, IfNone, IsSome, IsSomeAnd, is_some, ◌⊎◌, inl, inr, String, Global, string_bytes}
+use Rattle.std.proofs.Common.{◌≡◌, ℕ, zero, suc, ◌+◌, ◌<◌, ◌≤◌, true, List, [], ◌∷◌, ◌++◌, length, take, drop, refl, ap, ◌∙◌, sym, subst, arith, Option, Some, None, IfSome, IfNone, IsSome, IsSomeAnd, is_some, ◌⊎◌, inl, inr, String, Global, string_bytes}
 use Rattle.std.specs.Borrow.{Bor}
 use Rattle.std.specs.Prelude.{slice_get, slice_set, slice_index_or}
 use Rattle.std.proofs.lemmas.Option.{slice_get-get_or}

@@ -1,8 +1,6 @@
-use Rattle.std.proofs.Common.{◌≡◌, ◌<◌, IfSome, IfNone, Some, None, ap, sym, subst, arith, rules, length, slice_index_or, refl}
-use Rattle.wac_edges.specs.Edge.{argument_edge, node_number}
 use Rattle.wac_nodes.specs.Graph.{IsArgumentOf, IsUnsatisfied}
 use Rattle.wac_writing.proofs.MeansLemmas.{when_some, when_none}
-use Rattle.wac_writing.proofs.WriteArgumentsLemmas.{argument_there, source_noted, set_argument, unset_imported, unset_argument}
+use Rattle.wac_writing.proofs.WriteArgumentsLemmas.{argument_there, set_argument, unset_imported, unset_argument}
 use Rattle.wac_composition.specs.Inside.{fields_of}
 use Rattle.wac_composition.proofs.graph.CompositionGraph.argument.Goals as goal
 

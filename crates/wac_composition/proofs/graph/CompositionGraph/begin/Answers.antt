@@ -1,9 +1,8 @@
 use Rattle.std.proofs.Common.{◌≡◌, true, inl, ◌∙◌}
 use Rattle.wac_causes.specs.NotYet.{AllImportable, undefined_components, unwritten}
 use Rattle.wac_meaning.specs.Beginning.{Begins}
-use Rattle.wac_meaning.specs.MergedImports.{merged_imports}
+use Rattle.wac_meaning.specs.MergedImports.{merged_imports, AreOfSorts}
 use Rattle.wac_nodes.specs.declared.options.EncodeOptions.{EncodeOptions}
-use Rattle.wac_writing.specs.Places.{AreOfSorts}
 use Rattle.wac_writing.proofs.OuterLemmas.{nothing_left}
 use Rattle.wac_writing.specs.Refused.{IsRefusedBefore}
 use Rattle.wac_importing.specs.declared.written.WrittenImports.{WrittenImports}

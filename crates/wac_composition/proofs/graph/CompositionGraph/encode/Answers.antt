@@ -1,4 +1,4 @@
-use Rattle.std.proofs.Common.{IfSome, length, slice_get, refl, ap, ◌∙◌, sym, subst, IsSomeAnd}
+use Rattle.std.proofs.Common.{IfSome, length, slice_get, refl, ap, ◌∙◌, sym, subst}
 use Rattle.wac_causes.specs.Cause.{AnswersFor, Stands, cause_of}
 use Rattle.wac_causes.specs.Faults.{encode_error}
 use Rattle.wac_meaning.specs.Means.{AreNames}

@@ -1,4 +1,4 @@
-use Rattle.std.proofs.Common.{◌≡◌, ◌+◌, [], ◌∷◌, length, arith, ap, ◌∙◌, subst, sym}
+use Rattle.std.proofs.Common.{◌+◌, [], ◌∷◌, length, arith, ap, ◌∙◌, subst, sym}
 use Rattle.std.proofs.lemmas.List.{length-append}
 use Rattle.wac_writing.proofs.MeansLemmas.{has_room}
 use Rattle.wac_writing.proofs.WriteArgumentsLemmas.{AreFoundBelow, found_next, found_all}

@@ -1,4 +1,4 @@
-use Rattle.std.proofs.Common.{◌≡◌, true, false, sym, ◌∙◌}
+use Rattle.std.proofs.Common.{◌≡◌, sym}
 use Rattle.std.proofs.lemmas.Bool.{OnTrue_from, OnFalse_from}
 use Rattle.wac_nodes.specs.Graph.{definition}
 use Rattle.wac_writing.proofs.EncodingLemmas.{if_none, if_node, a_definition, clash_of}
