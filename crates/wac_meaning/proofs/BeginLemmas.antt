@@ -10,14 +10,15 @@ use Rattle.wac_binary.specs.declared.sorts.Sort.{Sort}
 use Rattle.wac_binary.specs.declared.sorts.Sort.TheVariants as sort
 use Rattle.wac_binary.specs.declared.sorts.Description.{Description}
 use Rattle.wac_binary.specs.declared.sorts.Description.TheVariants as e
-use Rattle.wac_binary.specs.Items.{Item, TypeDef, core_type, alias_item, export_alias, outer_alias, type_item, import_item}
+use Rattle.wac_binary.specs.Items.{Item, TypeDef, type_item, import_item}
 use Rattle.wac_binary.specs.Indexes.{space, described_sort, indexes}
 use Rattle.wac_binary.specs.Unfold.{Scope, Bound, bound_at, type_at, described_item, with_bound}
-use Rattle.wac_binary.specs.Meaning.{Thing, import_at, Root, start, stands_for, things, thing_at, read, read_all, meaning}
+use Rattle.wac_binary.specs.Meaning.{Thing, import_at, Root, start, stands_for, things, thing_at, meaning}
 use Rattle.wac_binary.specs.HasMeaning.{ItemHasMeaning, AllHaveMeaning, HasMeaning}
 use Rattle.wac_meaning.specs.Beginning.{Places, Begins}
-use Rattle.wac_meaning.proofs.MeaningLemmas.{Laws, Rest, rest, meaning-push, rest-with_thing, things-with_thing, thing_at-last, bound_at-last, alias_rest, indexes-push}
+use Rattle.wac_meaning.proofs.MeaningLemmas.{Laws, Rest, rest, meaning-push, rest-with_thing, things-with_thing, thing_at-last, bound_at-last, indexes-push}
 use Rattle.wac_meaning.proofs.MeantLemmas.{meant-push}
+use Rattle.wac_meaning.proofs.QuietLemmas.{IsQuiet, quiet_rest, all_behind, first_all}
 use Rattle.wac_meaning.proofs.WrittenLemmas.{slice_get-push, counted_up}
 
 -- nothing is written yet
@@ -35,20 +36,6 @@ nothing_begins = record {
 } where
   no_such : {A : Type 0} {P : Type 0} (x : A) → None ≡ Some x → P
   no_such x h = cc
-
--- a type, a core type or an alias
-abbrev pub IsQuiet : Item → Type 0
-IsQuiet (core_type m) = Unit {0}
-IsQuiet (alias_item a) = Unit {0}
-IsQuiet (type_item t) = Unit {0}
-IsQuiet _ = ⊥
-
-quiet_rest : (items : List Item) (x : Item) → IsQuiet x → rest (meaning (items ++ x ∷ [])) ≡ rest (meaning items)
-quiet_rest items (core_type m) q = ap rest (meaning-push items (core_type m))
-quiet_rest items (type_item t) q = ap rest (meaning-push items (type_item t))
-quiet_rest items (alias_item (export_alias t i n)) q = alias_rest items t i n
-quiet_rest items (alias_item (outer_alias t k i)) q = ap rest (meaning-push items (alias_item (outer_alias t k i))) ∙ rest-with_thing _ t _
-quiet_rest items x q = absurd q
 
 things-imported : (r : Root) (c : Scope) (is : List (Name × Tree)) (t : Sort) → things (record r { scope = c; imports = is }) t ≡ things r t
 things-imported r c is sort.CoreModule = refl
@@ -138,11 +125,6 @@ module _ (laws : Laws) (imports : List (Name × Tree)) (places : Places) (items 
               ∙ ap (λ (z : Bound). instance_item z.type) (sym (ap (bound_at (meaning (items ++ import_item n (e.Instance j) ∷ [])).scope.instances) (ap (λ (x : Sort × ℕ). x.1) placed) ∙ import_bound laws items n j))
           of_instance d' placed is = let no : sort.Instance ≡ described_sort d' = ap (λ (x : Sort × ℕ). x.0) placed in cc
 
--- items have a meaning behind those before them
-all_behind : (r : Root) (items more : List Item) → AllHaveMeaning r (items ++ more) → AllHaveMeaning (read_all r items) more
-all_behind r [] more h = h
-all_behind r (x ∷ items) more h = all_behind (read r x) items more h.1
-
 module _ (laws : Laws) (imports : List (Name × Tree)) (places : Places) where
   quiet_all : (more items : List Item) → AllByRecursion IsQuiet more → AllHaveMeaning (meaning items) more → Begins imports places items → Begins imports places (items ++ more)
   quiet_all [] items quiet meant b = subst (Begins imports places) (sym (append-nil items)) b
@@ -158,10 +140,7 @@ module _ (laws : Laws) (imports : List (Name × Tree)) (places : Places) where
       let before : AllHaveMeaning (meaning items) (more ++ import_item n d ∷ []) = all_behind start items (more ++ import_item n d ∷ []) (subst HasMeaning (append_assoc items more (import_item n d ∷ [])) meant) in
       let mid : Begins imports places (items ++ more) = quiet_all more items quiet (first_all (meaning items) more (import_item n d ∷ []) before) b in
       let next = begins_import laws imports places (items ++ more) mid n d (all_behind start (items ++ more) (import_item n d ∷ []) meant).0 in
-      subst (λ is. Begins is (places ++ (described_sort d, indexes (space (described_sort d)) (items ++ more)) ∷ []) ((items ++ more) ++ import_item n d ∷ [])) (sym next.imports_are ∙ listed) next where
-        first_all : (r : Root) (xs ys : List Item) → AllHaveMeaning r (xs ++ ys) → AllHaveMeaning r xs
-        first_all r [] ys h = tt
-        first_all r (x ∷ xs) ys h = (h.0, first_all (read r x) xs ys h.1)
+      subst (λ is. Begins is (places ++ (described_sort d, indexes (space (described_sort d)) (items ++ more)) ∷ []) ((items ++ more) ++ import_item n d ∷ [])) (sym next.imports_are ∙ listed) next
 
   -- and so where types alone stand before it
   pub begins_behind_types : (items : List Item) (types : List TypeDef) (n : Name) (d : Description) (t : Tree) → Begins imports places items → HasMeaning ((items ++ map type_item types) ++ import_item n d ∷ [])

@@ -1,16 +1,17 @@
 -- From what is written of a graph, behind items that begin with its imports, to items that mean it.
-use Rattle.std.proofs.Common.{◌≡◌, ℕ, ◌<◌, Bool, true, false, cond, List, [], ◌∷◌, ◌++◌, length, map, refl, ap, ◌∙◌, sym, subst, arith, append_assoc, Option, Some, None, IfSome, IsSome, is_some, inl, inr}
+use Rattle.std.proofs.Common.{◌≡◌, ℕ, ◌<◌, Bool, true, false, ◌||◌, cond, List, [], ◌∷◌, ◌++◌, length, map, refl, ap, ◌∙◌, sym, subst, arith, append_assoc, Option, Some, None, IfSome, IsSome, is_some, inl, inr}
 use Rattle.std.specs.List.{flat_map}
 use Rattle.std.specs.Prelude.{slice_get, slice_set}
 use Rattle.std.proofs.lemmas.Bool.Decides.{nat_tests}
 use Rattle.std.proofs.lemmas.List.{append-nil, map-append, length-set, get_or-set_same, get_or-set_other}
 use Rattle.std.proofs.lemmas.List.Elements.{filter-append}
-use Rattle.std.proofs.lemmas.Option.{slice_get_within}
 use Rattle.std.proofs.lemmas.Grind.{flat_map-append}
 use Rattle.wac_shapes.specs.Name.{Name, option_case}
 use Rattle.wac_shapes.specs.declared.component.InterfaceId.{InterfaceId}
 use Rattle.wac_shapes.specs.declared.component.ItemKind.{ItemKind}
 use Rattle.wac_shapes.specs.declared.component.ItemKind.TheVariants as item
+use Rattle.wac_shapes.specs.declared.component.ItemKind.TheVariants.{TypeItem}
+use Rattle.wac_shapes.specs.declared.component.«Type».{«Type» as AnyType}
 use Rattle.wac_collection.specs.Tree.{Tree, instance_item}
 use Rattle.wac_binary.specs.declared.sorts.Sort.{Sort}
 use Rattle.wac_binary.specs.declared.sorts.Sort.TheVariants as sort
@@ -27,17 +28,19 @@ use Rattle.wac_nodes.specs.Graph.{Graph, GraphNode, Kind, node_at}
 use Rattle.wac_nodes.specs.OuterImports.{AreOuterImports, IsImportPlace}
 use Rattle.wac_nodes.specs.Sound.{IsSound}
 use Rattle.wac_edges.specs.Order.{Writes, IsLowestReady}
-use Rattle.wac_meaning.specs.Means.{node_is, is_import, is_instantiation, is_written, instantiations, IsThing, sort_of_kind, with_package, used_after, used_packages, package_bytes, HasItem, shown, export_of, export_item_of, AreNames, Means, further_exports, name_customs, processor_customs, custom_item}
+use Rattle.wac_meaning.specs.Definition.{definition_tree}
+use Rattle.wac_meaning.specs.Means.{node_is, is_import, is_instantiation, is_written, instantiations, IsThing, sort_of_kind, with_package, used_after, used_packages, package_bytes, HasItem, shown, first_export, export_of, export_item_of, AreNames, Means, further_exports, name_customs, processor_customs, custom_item}
 use Rattle.wac_meaning.specs.Beginning.{Places, Begins, Covers, IsPlacedNode}
 use Rattle.wac_meaning.specs.Encoding.{Progress, index_in, HasRoom}
-use Rattle.wac_meaning.specs.Writing.{WritesNode, writes_instantiation, writes_alias, WroteAll}
-use Rattle.wac_edges.proofs.WrittenOrder.{minus, minus-push, minus-true, same, all_in, slice_get-middle}
-use Rattle.wac_meaning.proofs.ThingLemmas.{DefinesNothing, Stands, written_node, node_of_written, AreImported, all_things}
+use Rattle.wac_meaning.specs.Writing.{WritesNode, writes_instantiation, writes_alias, writes_definition, Wrote, WroteAll}
+use Rattle.wac_edges.proofs.WrittenOrder.{has, minus, minus-push, minus-true, same, same-true, all_in, slice_get-middle}
+use Rattle.wac_meaning.proofs.ThingLemmas.{DefinesTypes, Stands, written_node, node_of_written, AreImported, all_things}
 use Rattle.wac_meaning.proofs.CoverLemmas.{IsKnown}
-use Rattle.wac_meaning.proofs.MeantLemmas.{meant-push, something, IsAmong, new_name}
+use Rattle.wac_meaning.proofs.MeantLemmas.{meant-push, something, IsAmong, IsFirstAmong, new_name}
+use Rattle.wac_meaning.proofs.FurtherLemmas.{further_there, further_new, further_no_first}
 use Rattle.wac_meaning.proofs.MeaningLemmas.{Laws, export_shown, export_others, custom_rest, indexes-push}
-use Rattle.wac_meaning.proofs.WrittenLemmas.{Written, with_component, instance_more, alias_more, used-append, HasItem-push, used_prefix, slice_get-prefix}
-use Rattle.wac_meaning.proofs.DefinedLemmas.{AreMade, defined_components, no_package_imports, made_instantiations, HasNoFirst, further_all, no_first_exports}
+use Rattle.wac_meaning.proofs.WrittenLemmas.{Written, with_type, with_component, instance_more, alias_more, definition_more, used-append, HasItem-push, used_prefix}
+use Rattle.wac_meaning.proofs.DefinedLemmas.{AreMade, defined_components, no_package_imports, made_instantiations}
 
 clash : (b : Bool) → b ≡ true → b ≡ false → ⊥
 clash true _ h = cc
@@ -46,22 +49,6 @@ clash false h _ = cc
 the_node : (o : Option GraphNode) → IsSome o → (node : GraphNode) × (o ≡ Some node)
 the_node None h = cc
 the_node (Some node) h = (node, refl)
-
--- where no node is a definition none has a first name
-no_first : (g : Graph) → IsSound g → DefinesNothing g → HasNoFirst g
-no_first g sound none n node there = split node.first_name refl where
-  split : (o : Option Name) → node.first_name ≡ o → o ≡ None
-  split None is = refl
-  split (Some name) is = absurd (none n node there (sound.first_names n node name there is).0)
-
--- an export's name is none of those before it
-new_export : (g : Graph) → IsSound g → (es : List (Name × NodeId)) (x : Name × NodeId) (rest : List (Name × NodeId)) → g.exports ≡ es ++ x ∷ rest → IsAmong es x.0 → ⊥
-new_export g sound es x rest here (i, n, at) =
-    let first : slice_get g.exports i ≡ Some (x.0, n) = ap (λ xs. slice_get xs i) here ∙ slice_get-prefix es (x ∷ rest) i (x.0, n) at in
-    let last : slice_get g.exports (length es) ≡ Some (x.0, x.1) = ap (λ xs. slice_get xs (length es)) here ∙ slice_get-middle es x rest in
-    let same : i ≡ length es = sound.one_export x.0 i (length es) n x.1 first last in
-    let within : i < length es = slice_get_within es i (x.0, n) at in
-    omega (arith, same, within)
 
 module _ (laws : Laws) (g : Graph) (sound : IsSound g) (order : List NodeId) (at : NodeId → Thing) (is_thing : (n : NodeId) (node : GraphNode) → node_at g n ≡ Some node → IsThing g at order n node) (imported : List (Name × Tree)) (places : Places) where
   abbrev pub Done : List NodeId → List Item → List (PackageId × ℕ) → (NodeId → ℕ) → Type 0
@@ -104,6 +91,14 @@ module _ (laws : Laws) (g : Graph) (sound : IsSound g) (order : List NodeId) (at
       let more = instance_more laws g sound order at is_thing imported places done later n node here ready writes there index index' i now others (with_package (used_packages g done) (Some id)) mid components' id c k arguments mid_written kind owned first stands typed given counts in
       subst (λ us. Written laws g sound order at is_thing imported places (done ++ n ∷ []) us items' components' index') (sym used)
       (subst (λ its. Written laws g sound order at is_thing imported places (done ++ n ∷ []) (with_package (used_packages g done) (Some id)) its components' index') (sym added) more)
+  adds_more done later n node here ready writes there index index' i now others components components' items items' (writes_definition t name k mid kind is_type first same wrote added counts) w =
+      let test : node_is g (λ x. is_instantiation x.kind) n ≡ false = ap (λ o. option_case o false (λ x. is_instantiation x.kind)) there ∙ ap is_instantiation kind in
+      let x : Item = export_item name sort.«Type» k in
+      let (typed, stands) = with_type laws g sound order at is_thing imported places done (used_packages g done) items mid components index (definition_tree g.types t) k w wrote in
+      let more = definition_more laws g sound order at is_thing imported places done later n node here ready writes there index index' i now others (used_packages g done) mid components t name k typed kind is_type first stands counts in
+      subst (λ us. Written laws g sound order at is_thing imported places (done ++ n ∷ []) us items' components' index') (sym (used_push done n false test))
+      (subst (λ cs. Written laws g sound order at is_thing imported places (done ++ n ∷ []) (used_packages g done) items' cs index') (sym same)
+      (subst (λ its. Written laws g sound order at is_thing imported places (done ++ n ∷ []) (used_packages g done) its components index') (sym added) more))
 
   -- what is to be known of an import node
   abbrev pub IsPlaced : (NodeId → ℕ) → NodeId → GraphNode → ℕ → Type 0
@@ -116,7 +111,7 @@ module _ (laws : Laws) (g : Graph) (sound : IsSound g) (order : List NodeId) (at
     meant = begins.meant;
     imports = begins.imports_are;
     customs = begins.customs;
-    exports = begins.exports;
+    exports = ap (map shown) begins.exports;
     bytes = begins.components;
     packages = refl;
     numbers = λ k e wrong. cc;
@@ -162,7 +157,7 @@ module _ (laws : Laws) (g : Graph) (sound : IsSound g) (order : List NodeId) (at
     pub customs : (meaning items).customs ≡ []
     pub bytes : (meaning items).nested_bytes ≡ map (package_bytes g) (used_packages g order)
     pub made : AreMade g at order (instantiations g order) (meaning items).instantiations
-    pub exports : map shown (meaning items).exports ≡ flat_map (export_of g at) es
+    pub exports : map shown (meaning items).exports ≡ flat_map (first_export g at) order ++ flat_map (export_of g at) es
     pub stand : (n : NodeId) (node : GraphNode) → node_at g n ≡ Some node
         → (index n < indexes (space (sort_of_kind node.item_kind)) items) × (stands_for (meaning items) (sort_of_kind node.item_kind) (index n) ≡ at n)
     pub own : (n : NodeId) (node : GraphNode) → node_at g n ≡ Some node → is_import node.kind ≡ false → HasItem items node (index n) (place n)
@@ -175,7 +170,7 @@ module _ (laws : Laws) (g : Graph) (sound : IsSound g) (order : List NodeId) (at
     customs = w.customs;
     bytes = w.bytes;
     made = w.made;
-    exports = ap (map shown) w.exports;
+    exports = w.exports ∙ sym (append-nil (flat_map (first_export g at) order));
     stand = λ n node there. w.stand n node (stands n node there) there;
     own = λ n node there no_import. w.own n node (stands n node there) there no_import;
   } where
@@ -186,9 +181,9 @@ module _ (laws : Laws) (g : Graph) (sound : IsSound g) (order : List NodeId) (at
       split false is = inr (all_in g.edges (is_written g) order [] writes n (written_node g n node there is))
 
   -- one export more
-  pub export_more : (base : List Item) (es : List (Name × NodeId)) (items : List Item) (index place : NodeId → ℕ) (name : Name) (id : NodeId) (node : GraphNode) → node_at g id ≡ Some node → (IsAmong es name → ⊥) → Exported base es items index place
+  pub export_more : (base : List Item) (es : List (Name × NodeId)) (items : List Item) (index place : NodeId → ℕ) (name : Name) (id : NodeId) (node : GraphNode) → node_at g id ≡ Some node → (IsFirstAmong g order name → ⊥) → (IsAmong es name → ⊥) → Exported base es items index place
       → Exported base (es ++ (name, id) ∷ []) (items ++ export_item name (sort_of_kind node.item_kind) (index id) ∷ []) index place
-  export_more base es items index place name id node there new e =
+  export_more base es items index place name id node there no_first new e =
       let t : Sort = sort_of_kind node.item_kind in
       let x : Item = export_item name t (index id) in
       let o = export_others items t (index id) name in
@@ -197,14 +192,15 @@ module _ (laws : Laws) (g : Graph) (sound : IsSound g) (order : List NodeId) (at
       record {
         split = ap (λ xs. xs ++ x ∷ []) e.split ∙ append_assoc base (flat_map (export_item_of g index) es) (x ∷ [])
             ∙ ap (λ ys. base ++ ys) (sym (flat_map-append (export_item_of g index) es ((name, id) ∷ []) ∙ ap (λ ys. flat_map (export_item_of g index) es ++ ys) (rw append-nil one)));
-        meant = meant-push items x e.meant (new_name g at items es name e.exports new, subst IsSomething (sym (e.stand id node there).1) (something g at order id node (is_thing id node there)));
+        meant = meant-push items x e.meant (new_name g at items order es name e.exports no_first new, subst IsSomething (sym (e.stand id node there).1) (something g at order id node (is_thing id node there)));
         imports = o.0 ∙ e.imports;
         bytes = o.1 ∙ e.bytes;
         made = subst (λ made. AreMade g at order (instantiations g order) made) (sym o.2) e.made;
         customs = o.3 ∙ e.customs;
         exports = export_shown items t (index id) name ∙ ap (λ xs. xs ++ (name, t, stands_for (meaning items) t (index id)) ∷ []) e.exports
-            ∙ ap (λ z. flat_map (export_of g at) es ++ (name, t, z) ∷ []) (e.stand id node there).1
-            ∙ sym (flat_map-append (export_of g at) es ((name, id) ∷ []) ∙ ap (λ ys. flat_map (export_of g at) es ++ ys) (rw append-nil two));
+            ∙ ap (λ z. (flat_map (first_export g at) order ++ flat_map (export_of g at) es) ++ (name, t, z) ∷ []) (e.stand id node there).1
+            ∙ append_assoc (flat_map (first_export g at) order) (flat_map (export_of g at) es) ((name, t, at id) ∷ [])
+            ∙ ap (λ ys. flat_map (first_export g at) order ++ ys) (sym (flat_map-append (export_of g at) es ((name, id) ∷ []) ∙ ap (λ ys. flat_map (export_of g at) es ++ ys) (rw append-nil two)));
         stand = λ n other other_there.
             let s = e.stand n other other_there in
             (indexes_rise (space (sort_of_kind other.item_kind)) items x (index n) s.0, laws.earlier items (x ∷ []) (sort_of_kind other.item_kind) (index n) s.0 ∙ s.1);
@@ -215,20 +211,20 @@ module _ (laws : Laws) (g : Graph) (sound : IsSound g) (order : List NodeId) (at
 
   -- all nodes are written, all exports behind them, and these custom sections last
   pub record Closed (base : List Item) (customs : List (Name × List ℕ)) (items : List Item) (index place : NodeId → ℕ) : Type 0 where
-    pub split : items ≡ base ++ flat_map (export_item_of g index) g.exports ++ map custom_item customs
+    pub split : items ≡ base ++ flat_map (export_item_of g index) (further_exports g) ++ map custom_item customs
     pub meant : HasMeaning items
     pub imports : (meaning items).imports ≡ imported
     pub customs_are : (meaning items).customs ≡ customs
     pub bytes : (meaning items).nested_bytes ≡ map (package_bytes g) (used_packages g order)
     pub made : AreMade g at order (instantiations g order) (meaning items).instantiations
-    pub exports : map shown (meaning items).exports ≡ flat_map (export_of g at) g.exports
+    pub exports : map shown (meaning items).exports ≡ flat_map (first_export g at) order ++ flat_map (export_of g at) (further_exports g)
     pub stand : (n : NodeId) (node : GraphNode) → node_at g n ≡ Some node
         → (index n < indexes (space (sort_of_kind node.item_kind)) items) × (stands_for (meaning items) (sort_of_kind node.item_kind) (index n) ≡ at n)
     pub own : (n : NodeId) (node : GraphNode) → node_at g n ≡ Some node → is_import node.kind ≡ false → HasItem items node (index n) (place n)
 
-  no_customs : (base items : List Item) (index place : NodeId → ℕ) → Exported base g.exports items index place → Closed base [] items index place
+  no_customs : (base items : List Item) (index place : NodeId → ℕ) → Exported base (further_exports g) items index place → Closed base [] items index place
   no_customs base items index place e = record {
-    split = e.split ∙ sym (append-nil (base ++ flat_map (export_item_of g index) g.exports));
+    split = e.split ∙ sym (append-nil (base ++ flat_map (export_item_of g index) (further_exports g)));
     meant = e.meant;
     imports = e.imports;
     customs_are = e.customs;
@@ -245,7 +241,7 @@ module _ (laws : Laws) (g : Graph) (sound : IsSound g) (order : List NodeId) (at
   custom_more base customs items index place name bytes c =
       let x : Item = custom name bytes in
       let o = custom_rest items name bytes in
-      let shown_items : List Item = base ++ flat_map (export_item_of g index) g.exports in
+      let shown_items : List Item = base ++ flat_map (export_item_of g index) (further_exports g) in
       record {
         split = ap (λ xs. xs ++ x ∷ []) c.split ∙ append_assoc shown_items (map custom_item customs) (x ∷ []) ∙ ap (λ ys. shown_items ++ ys) (sym (map-append custom_item customs ((name, bytes) ∷ [])));
         meant = meant-push items x c.meant tt;
@@ -272,14 +268,14 @@ module _ (laws : Laws) (g : Graph) (sound : IsSound g) (order : List NodeId) (at
       (customs_more base more (customs ++ e ∷ []) (items ++ custom e.0 e.1 ∷ []) index place (custom_more base customs items index place e.0 e.1 c)))
 
   -- these custom sections are behind all exports
-  pub closed : (base items : List Item) (index place : NodeId → ℕ) (customs : List (Name × List ℕ)) → Exported base g.exports items index place → Closed base customs (items ++ map custom_item customs) index place
+  pub closed : (base items : List Item) (index place : NodeId → ℕ) (customs : List (Name × List ℕ)) → Exported base (further_exports g) items index place → Closed base customs (items ++ map custom_item customs) index place
   closed base items index place customs e = customs_more base customs [] items index place (no_customs base items index place e)
 
   -- the items mean the graph
-  means : (o : EncodeOptions) → o.define_components ≡ true → HasNoFirst g → AreOuterImports g imported → (names : List (Sort × ℕ × Name))
+  means : (o : EncodeOptions) → o.define_components ≡ true → AreOuterImports g imported → (names : List (Sort × ℕ × Name))
       → (base items : List Item) (index place : NodeId → ℕ) → AreNames g index names → Writes g.edges (is_written g) order → Closed base (name_customs names ++ processor_customs o.processor) items index place
       → ((i j : ℕ) (n m : NodeId) → i < j → slice_get order i ≡ Some n → slice_get order j ≡ Some m → place n < place m) → Means items g o
-  means o define no_first outer names base items index place named writes e in_place = record {
+  means o define outer names base items index place named writes e in_place = record {
     order = order;
     in_order = writes;
     at = at;
@@ -292,7 +288,7 @@ module _ (laws : Laws) (g : Graph) (sound : IsSound g) (order : List NodeId) (at
     instances = made_instantiations g o define (length imported) at order (instantiations g order) (meaning items).instantiations e.made;
     things = is_thing;
     stand = λ n node there. (e.stand n node there).1;
-    exports = e.exports ∙ ap (flat_map (export_of g at)) (sym (further_all g no_first)) ∙ ap (λ xs. xs ++ flat_map (export_of g at) (further_exports g)) (sym (no_first_exports g no_first at order));
+    exports = e.exports;
     place = place;
     own_items = e.own;
     in_place = in_place;
@@ -300,7 +296,7 @@ module _ (laws : Laws) (g : Graph) (sound : IsSound g) (order : List NodeId) (at
     named = named;
     customs = e.customs_are;
     body = base;
-    last = e.split ∙ ap (λ es. base ++ flat_map (export_item_of g index) es ++ map custom_item (name_customs names ++ processor_customs o.processor)) (sym (further_all g no_first))
+    last = e.split
         ∙ ap (λ cs. base ++ flat_map (export_item_of g index) (further_exports g) ++ map custom_item cs) (sym e.customs_are);
   }
 
@@ -319,46 +315,70 @@ module _ (laws : Laws) (g : Graph) (sound : IsSound g) (order : List NodeId) (at
       p.components mid.components p.items mid.items adds d)
 
   -- all exports are written
-  all_exported : (base : List Item) (index place : NodeId → ℕ) (rest es : List (Name × NodeId)) (items : List Item) → g.exports ≡ es ++ rest → Exported base es items index place
-      → Exported base g.exports (items ++ flat_map (export_item_of g index) rest) index place
+  all_exported : (base : List Item) (index place : NodeId → ℕ) (rest es : List (Name × NodeId)) (items : List Item) → further_exports g ≡ es ++ rest → Exported base es items index place
+      → Exported base (further_exports g) (items ++ flat_map (export_item_of g index) rest) index place
   all_exported base index place [] es items here e =
       subst (λ xs. Exported base xs (items ++ []) index place) (sym (here ∙ append-nil es)) (subst (λ ys. Exported base es ys index place) (sym (append-nil items)) e)
   all_exported base index place (x ∷ rest) es items here e =
-      let (node, there) = the_node (node_at g x.1) (sound.exported (length es) x.0 x.1 (ap (λ xs. slice_get xs (length es)) here ∙ slice_get-middle es x rest)) in
+      let placed : slice_get (further_exports g) (length es) ≡ Some x = ap (λ xs. slice_get xs (length es)) here ∙ slice_get-middle es x rest in
+      let (node, there) = the_node (node_at g x.1) (further_there g sound (length es) x placed) in
       let one : export_item_of g index x ≡ export_item x.0 (sort_of_kind node.item_kind) (index x.1) ∷ [] = ap (λ z. option_case z [] (λ z'. export_item x.0 (sort_of_kind z'.item_kind) (index x.1) ∷ [])) there in
-      let next = export_more base es items index place x.0 x.1 node there (new_export g sound es x rest here) e in
-      subst (λ ys. Exported base g.exports ys index place)
+      let next = export_more base es items index place x.0 x.1 node there (λ (m, other, _, other_there, first). further_no_first g sound (length es) x placed m other other_there first) (further_new g sound es x rest here) e in
+      subst (λ ys. Exported base (further_exports g) ys index place)
       (append_assoc items (export_item x.0 (sort_of_kind node.item_kind) (index x.1) ∷ []) (flat_map (export_item_of g index) rest) ∙ ap (λ ys. items ++ (ys ++ flat_map (export_item_of g index) rest)) (sym one))
       (all_exported base index place rest (es ++ x ∷ []) (items ++ export_item x.0 (sort_of_kind node.item_kind) (index x.1) ∷ []) (here ∙ sym (append_assoc es (x ∷ []) rest)) next)
 
-  pub all_written : (o : EncodeOptions) → o.define_components ≡ true → HasNoFirst g → AreOuterImports g imported → Writes g.edges (is_written g) order
+  pub all_written : (o : EncodeOptions) → o.define_components ≡ true → AreOuterImports g imported → Writes g.edges (is_written g) order
       → (begin : List Item) (indexes : List ℕ) → Begins imported places begin → AreImported g (IsPlaced (index_in indexes)) at → HasRoom g indexes
       → (q : Progress) → WroteAll g places order (record { items = begin; components = []; indexes = indexes }) q → (names : List (Sort × ℕ × Name)) → AreNames g (index_in q.indexes) names
-      → Means ((q.items ++ flat_map (export_item_of g (index_in q.indexes)) g.exports) ++ map custom_item (name_customs names ++ processor_customs o.processor)) g o
-  all_written o define unnamed outer writes begin from begins placed room q wrote names named =
+      → Means ((q.items ++ flat_map (export_item_of g (index_in q.indexes)) (further_exports g)) ++ map custom_item (name_customs names ++ processor_customs o.processor)) g o
+  all_written o define outer writes begin from begins placed room q wrote names named =
       let d = all_done order [] (record { items = begin; components = []; indexes = from }) q refl writes room wrote (nothing_done begin (index_in from) begins placed) in
-      let e = all_exported q.items (index_in q.indexes) d.place g.exports [] q.items refl (no_exports q.items q.components (index_in q.indexes) writes d) in
+      let e = all_exported q.items (index_in q.indexes) d.place (further_exports g) [] q.items refl (no_exports q.items q.components (index_in q.indexes) writes d) in
       let customs = name_customs names ++ processor_customs o.processor in
-      let exported : List Item = q.items ++ flat_map (export_item_of g (index_in q.indexes)) g.exports in
+      let exported : List Item = q.items ++ flat_map (export_item_of g (index_in q.indexes)) (further_exports g) in
       let c = closed q.items exported (index_in q.indexes) d.place customs e in
-      means o define unnamed outer names q.items (exported ++ map custom_item customs) (index_in q.indexes) d.place named writes c d.in_place
+      means o define outer names q.items (exported ++ map custom_item customs) (index_in q.indexes) d.place named writes c d.in_place
+
+-- a node of these is written some time
+wrote_one : (g : Graph) (places : Places) (ns : List NodeId) (p q : Progress) → WroteAll g places ns p q → (n : NodeId) → has ns n ≡ true → (before : Progress) × (after : Progress) × Wrote g places n before after
+wrote_one g places [] p q wrote n wrong = cc
+wrote_one g places (m ∷ ns) p q (mid, one, later) n within = split (same n m) refl within (wrote_one g places ns mid q later n) where
+  split : (b : Bool) → same n m ≡ b → (b || has ns n) ≡ true → (has ns n ≡ true → (before : Progress) × (after : Progress) × Wrote g places n before after) → (before : Progress) × (after : Progress) × Wrote g places n before after
+  split true is _ _ = (p, mid, subst (λ k. Wrote g places k p mid) (sym (same-true n m is)) one)
+  split false _ rest more = more rest
+
+-- where all nodes are written, a definition is one of a type
+defines_types : (g : Graph) (places : Places) (order : List NodeId) (p q : Progress) → Writes g.edges (is_written g) order → WroteAll g places order p q → DefinesTypes g
+defines_types g places order p q writes wrote n node there kind =
+    let (before, after, one) = wrote_one g places order p q wrote n (all_in g.edges (is_written g) order [] writes n (written_node g n node there (ap is_import kind))) in
+    let (i, adds, _) = subst (λ o. IfSome o (λ x. (i : ℕ) × WritesNode g places n x (index_in before.indexes) before.components after.components before.items after.items i × (after.indexes ≡ slice_set before.indexes n.0 i))) there one in
+    of (index_in before.indexes) before.components after.components before.items after.items i adds where
+      of : (index : NodeId → ℕ) (components components' : List (PackageId × ℕ)) (items items' : List Item) (i : ℕ) → WritesNode g places n node index components components' items items' i → (t : AnyType) × (node.item_kind ≡ TypeItem t)
+      of index components components' items items' i (writes_instantiation id c mid arguments other _ _ _ _ _) = absurd (two_kinds kind other) where
+        two_kinds : {k : Kind} → k ≡ graph.definition → k ≡ graph.instantiation → ⊥
+        two_kinds a b = cc
+      of index components components' items items' i (writes_alias instance source k name other _ _ _ _ _ _) = absurd (two_kinds kind other) where
+        two_kinds : {k : Kind} → k ≡ graph.definition → k ≡ graph.alias → ⊥
+        two_kinds a b = cc
+      of index components components' items items' i (writes_definition t name k mid _ is_type _ _ _ _ _) = (t, is_type)
 
 -- Where items begin a component with what the graph asks for, then its nodes are written in order, its exports behind them, then the names, and the processor
 -- last, they mean the graph.
-pub means_all : Laws → (g : Graph) → IsSound g → DefinesNothing g → (order : List NodeId) → Writes g.edges (is_written g) order
+pub means_all : Laws → (g : Graph) → IsSound g → (order : List NodeId) → Writes g.edges (is_written g) order
     → (o : EncodeOptions) → o.define_components ≡ true → (imported : List (Name × Tree)) (places : Places) → AreOuterImports g imported
     → (begin : List Item) (indexes : List ℕ) → Begins imported places begin
     → ((n : NodeId) (node : GraphNode) (name : Name) → node_at g n ≡ Some node → node.kind ≡ graph.import name → (p : ℕ) × IsImportPlace g name p × IsPlacedNode g imported places (index_in indexes) n node p)
     → HasRoom g indexes → (p q : Progress) → p ≡ record { items = begin; components = []; indexes = indexes } → WroteAll g places order p q
     → (names : List (Sort × ℕ × Name)) → AreNames g (index_in q.indexes) names
-    → (items with_names written : List Item) → items ≡ q.items ++ flat_map (export_item_of g (index_in q.indexes)) g.exports
+    → (items with_names written : List Item) → items ≡ q.items ++ flat_map (export_item_of g (index_in q.indexes)) (further_exports g)
     → with_names ≡ items ++ map custom_item (name_customs names) → written ≡ with_names ++ map custom_item (processor_customs o.processor) → Means written g o
-means_all laws g sound none order writes o define imported places outer begin indexes begins placed room p q start wrote names named items with_names written end next last =
-    let (at, imports, is_thing) = all_things g sound none (IsPlacedNode g imported places (index_in indexes)) order placed writes in
-    let exported : List Item = q.items ++ flat_map (export_item_of g (index_in q.indexes)) g.exports in
+means_all laws g sound order writes o define imported places outer begin indexes begins placed room p q start wrote names named items with_names written end next last =
+    let (at, imports, is_thing) = all_things g sound (defines_types g places order p q writes wrote) (IsPlacedNode g imported places (index_in indexes)) order placed writes in
+    let exported : List Item = q.items ++ flat_map (export_item_of g (index_in q.indexes)) (further_exports g) in
     let whole : written ≡ exported ++ map custom_item (name_customs names ++ processor_customs o.processor) =
     last ∙ ap (λ its. its ++ map custom_item (processor_customs o.processor)) (next ∙ ap (λ its. its ++ map custom_item (name_customs names)) end)
     ∙ append_assoc exported (map custom_item (name_customs names)) (map custom_item (processor_customs o.processor))
     ∙ ap (λ its. exported ++ its) (sym (map-append custom_item (name_customs names) (processor_customs o.processor))) in
     subst (λ its. Means its g o) (sym whole)
-    (all_written laws g sound order at is_thing imported places o define (no_first g sound none) outer writes begin indexes begins imports room q (subst (λ x. WroteAll g places order x q) start wrote) names named)
+    (all_written laws g sound order at is_thing imported places o define outer writes begin indexes begins imports room q (subst (λ x. WroteAll g places order x q) start wrote) names named)

@@ -1,11 +1,13 @@
 pub mod MeaningLemmas
 pub mod MeantLemmas
+pub mod QuietLemmas
 pub mod CoverLemmas
 pub mod MergedCover
 pub mod DefinedLemmas
 pub mod ThingLemmas
 pub mod AskedLemmas
 pub mod WrittenLemmas
+pub mod FurtherLemmas
 pub mod EncodeLemmas
 pub mod OuterOrder
 pub mod BeginLemmas

@@ -101,6 +101,14 @@ export_shown items t i name =
     ∙ ap (λ r. map shown r.exports) (rest-with_thing _ t (stands_for (meaning items) t i))
     ∙ map-append shown (meaning items).exports _
 
+-- the index that a type's export adds stands for the type
+pub type_export_stands : (items : List Item) (k : ℕ) (name : Name) (i : ℕ) → i ≡ length (things (meaning items) sort.«Type»)
+    → stands_for (meaning (items ++ export_item name sort.«Type» k ∷ [])) sort.«Type» i ≡ stands_for (meaning items) sort.«Type» k
+type_export_stands items k name i is =
+    ap (λ r. stands_for r sort.«Type» i) (meaning-push items (export_item name sort.«Type» k))
+    ∙ ap (thing_at ((meaning items).types ++ stands_for (meaning items) sort.«Type» k ∷ [])) is
+    ∙ thing_at-last (meaning items).types _
+
 -- and to nothing else
 pub export_others : (items : List Item) (t : Sort) (i : ℕ) (name : Name)
     → ((meaning (items ++ export_item name t i ∷ [])).imports ≡ (meaning items).imports)

@@ -22,7 +22,7 @@ use Rattle.wac_nodes.specs.Graph as graph
 use Rattle.wac_nodes.specs.Graph.{Graph, GraphNode, node_at}
 use Rattle.wac_nodes.specs.Sound.{IsSound}
 use Rattle.wac_nodes.specs.OuterImports.{outer_entries, AreOuterImports, IsImportPlace}
-use Rattle.wac_meaning.specs.Means.{is_written, sort_of_kind, export_item_of, AreNames, Means, name_customs, processor_customs, custom_item}
+use Rattle.wac_meaning.specs.Means.{is_written, sort_of_kind, export_item_of, further_exports, AreNames, Means, name_customs, processor_customs, custom_item}
 use Rattle.wac_meaning.specs.Beginning.{Places, IsPlacedAt, Begins, IsPlacedNode}
 use Rattle.wac_meaning.specs.MergedImports.{merged_item, imports_from, merged_imports, IsMergeOf, IsFoundAt}
 use Rattle.wac_meaning.specs.Encoding.{Progress, index_in, HasRoom}
@@ -30,7 +30,6 @@ use Rattle.wac_meaning.specs.Writing.{WroteAll}
 use Rattle.wac_meaning.proofs.AskedMembers.{IsIn, in_filter, import_asked}
 use Rattle.wac_meaning.proofs.EncodeLemmas.{means_all}
 use Rattle.wac_meaning.proofs.MeaningLemmas.{Laws}
-use Rattle.wac_meaning.proofs.ThingLemmas.{DefinesNothing}
 use Rattle.wac_meaning.proofs.MergedCover.{subtype_covers}
 
 from-length : (m : Merged) (p : ℕ) (es : List Entry) → length (imports_from m p es) ≡ length es
@@ -211,13 +210,13 @@ pub placed_argument : ClassLaws → OrderHasClasses → (g : Graph) (m : Merged)
 placed_argument laws has_classes g m merge places name t i found = record { p = found.p; fell = import_place g m merge laws has_classes found.p found.entry found.there name found.named; placed = found.placed }
 
 -- Where items begin a component with the imports of a merge of all that is asked for, and its nodes, exports, names and processor are written behind them, they mean the graph.
-pub means_merged : Laws → ClassLaws → OrderHasClasses → (g : Graph) → IsSound g → DefinesNothing g → (m : Merged) → IsMergeOf g m → (order : List NodeId) → Writes g.edges (is_written g) order
+pub means_merged : Laws → ClassLaws → OrderHasClasses → (g : Graph) → IsSound g → (m : Merged) → IsMergeOf g m → (order : List NodeId) → Writes g.edges (is_written g) order
     → (o : EncodeOptions) → o.define_components ≡ true → (places : Places) (begin : List Item) (indexes : List ℕ) → Begins (merged_imports m) places begin
     → ((n : NodeId) (node : GraphNode) (name : Name) → node_at g n ≡ Some node → node.kind ≡ graph.import name → IsFoundAt g m places name (sort_of_kind node.item_kind) (index_in indexes n))
     → HasRoom g indexes → (p q : Progress) → p ≡ record { items = begin; components = []; indexes = indexes } → WroteAll g places order p q
     → (names : List (Sort × ℕ × Name)) → AreNames g (index_in q.indexes) names
-    → (items with_names written : List Item) → items ≡ q.items ++ flat_map (export_item_of g (index_in q.indexes)) g.exports
+    → (items with_names written : List Item) → items ≡ q.items ++ flat_map (export_item_of g (index_in q.indexes)) (further_exports g)
     → with_names ≡ items ++ map custom_item (name_customs names) → written ≡ with_names ++ map custom_item (processor_customs o.processor) → Means written g o
-means_merged laws class_laws has_classes g sound none m whole order writes o define places begin indexes begins found =
-    means_all laws g sound none order writes o define (merged_imports m) places (outer_of_merge g m whole.merge) begin indexes begins
+means_merged laws class_laws has_classes g sound m whole order writes o define places begin indexes begins found =
+    means_all laws g sound order writes o define (merged_imports m) places (outer_of_merge g m whole.merge) begin indexes begins
     (λ n node name there kind. placed_node class_laws has_classes g sound m whole places (index_in indexes) n node name there kind (found n node name there kind))

@@ -6,7 +6,9 @@ use Rattle.std.specs.FinSet as set
 use Rattle.std.proofs.lemmas.List.{append-nil}
 use Rattle.std.proofs.lemmas.List.Elements.{filter-append}
 use Rattle.wac_shapes.specs.Name.{Name, option_case}
-use Rattle.wac_binary.specs.Meaning.{Thing, nothing, import_at, instance_at, projection}
+use Rattle.wac_shapes.specs.declared.component.ItemKind.TheVariants.{TypeItem}
+use Rattle.wac_shapes.specs.declared.component.«Type».{«Type» as AnyType}
+use Rattle.wac_binary.specs.Meaning.{Thing, nothing, import_at, instance_at, projection, written}
 use Rattle.wac_edges.specs.declared.edges.Edge.{Edge}
 use Rattle.wac_edges.specs.declared.node.NodeId.{NodeId}
 use Rattle.wac_edges.specs.Edge.{alias_edge}
@@ -15,6 +17,7 @@ use Rattle.wac_nodes.specs.Graph.{Graph, GraphNode, Kind, node_at}
 use Rattle.wac_nodes.specs.OuterImports.{IsImportPlace}
 use Rattle.wac_nodes.specs.Sound.{IsSound}
 use Rattle.wac_edges.specs.Order.{Writes, IsLowestReady}
+use Rattle.wac_meaning.specs.Definition.{definition_tree}
 use Rattle.wac_meaning.specs.Means.{node_is, is_import, is_instantiation, is_written, instantiations, IsThing, as_import, as_instantiation, as_alias, as_definition}
 use Rattle.wac_edges.proofs.WrittenOrder.{has, minus, minus-push, minus-false, minus-true, same, same-true, same_itself, apart, in_push, still_in, all_in, slice_get-middle}
 
@@ -29,6 +32,10 @@ DefinesNothing g = (n : NodeId) (node : GraphNode) → node_at g n ≡ Some node
 the_node : (o : Option GraphNode) → IsSome o → (node : GraphNode) × (o ≡ Some node)
 the_node None h = cc
 the_node (Some node) h = (node, refl)
+
+-- what a definition stands for is a type
+abbrev pub DefinesTypes : Graph → Type 0
+DefinesTypes g = (n : NodeId) (node : GraphNode) → node_at g n ≡ Some node → node.kind ≡ graph.definition → (t : AnyType) × (node.item_kind ≡ TypeItem t)
 
 -- a node stands for something already: it is an import, or it is written
 abbrev pub Stands : List NodeId → NodeId → GraphNode → Type 0
@@ -92,7 +99,7 @@ module _ (g : Graph) (P : NodeId → GraphNode → ℕ → Type 0) where
   abbrev pub AreImported : (NodeId → Thing) → Type 0
   AreImported at = (n : NodeId) (node : GraphNode) (name : Name) → node_at g n ≡ Some node → node.kind ≡ graph.import name → IsImported n node name (at n)
 
-module _ (g : Graph) (sound : IsSound g) (none : DefinesNothing g) (P : NodeId → GraphNode → ℕ → Type 0) (order : List NodeId) (placed : (n : NodeId) (node : GraphNode) (name : Name) → node_at g n ≡ Some node → node.kind ≡ graph.import name → (p : ℕ) × IsImportPlace g name p × P n node p) where
+module _ (g : Graph) (sound : IsSound g) (types : DefinesTypes g) (P : NodeId → GraphNode → ℕ → Type 0) (order : List NodeId) (placed : (n : NodeId) (node : GraphNode) (name : Name) → node_at g n ≡ Some node → node.kind ≡ graph.import name → (p : ℕ) × IsImportPlace g name p × P n node p) where
   abbrev thing_of_kind : (n : NodeId) (node : GraphNode) → node_at g n ≡ Some node → (k : Kind) → node.kind ≡ k → Thing
   thing_of_kind n node there (graph.import name) is = import_at (placed n node name there is).0
   thing_of_kind n node there _ is = nothing
@@ -165,7 +172,10 @@ module _ (g : Graph) (sound : IsSound g) (none : DefinesNothing g) (P : NodeId �
   next_thing done rest n node at e ready there no_import = split node.kind refl where
     split : (k : Kind) → node.kind ≡ k → (t : Thing) × IsThing g (put_at at n t) order n node
     split (graph.import name) is = absurd (clash (is_import node.kind) (ap is_import is) no_import)
-    split graph.definition is = absurd (none n node there is)
+    split graph.definition is =
+        let (d, is_type) = types n node there is in
+        let t : Thing = written (definition_tree g.types d) in
+        (t, as_definition d is is_type (put_here at n t))
     split graph.instantiation is =
         let t : Thing = instance_at (length (instantiations g done)) in
         (t, as_instantiation (length (instantiations g done)) is (place_of done rest n node e there is) (put_here at n t))
@@ -218,6 +228,6 @@ module _ (g : Graph) (sound : IsSound g) (none : DefinesNothing g) (P : NodeId �
       (at, good.imports, λ n node there. thing at good n node there node.kind refl) where
         thing : (at : NodeId → Thing) → Good order at → (n : NodeId) (node : GraphNode) → node_at g n ≡ Some node → (k : Kind) → node.kind ≡ k → IsThing g at order n node
         thing at good n node there (graph.import name) is = let i = good.imports n node name there is in as_import name i.p is i.fell i.is
-        thing at good n node there graph.definition is = absurd (none n node there is)
+        thing at good n node there graph.definition is = good.things n node (all_in g.edges (is_written g) order [] writes n (written_node g n node there (ap is_import is))) there
         thing at good n node there graph.instantiation is = good.things n node (all_in g.edges (is_written g) order [] writes n (written_node g n node there (ap is_import is))) there
         thing at good n node there graph.alias is = good.things n node (all_in g.edges (is_written g) order [] writes n (written_node g n node there (ap is_import is))) there

@@ -1,41 +1,46 @@
 -- What is written of a graph after some of its nodes, behind items that begin with its imports.
 use Rattle.std.proofs.Common.{◌≡◌, ℕ, zero, suc, ◌<◌, Bool, true, false, ◌||◌, cond, List, [], ◌∷◌, ◌++◌, length, map, refl, ap, ◌∙◌, sym, subst, arith, append_assoc, Option, Some, None, ◌⊎◌, inl, inr}
-use Rattle.std.specs.List.{AllByRecursion, list_any, filter}
+use Rattle.std.specs.List.{AllByRecursion, list_any, filter, flat_map}
 use Rattle.std.specs.Prelude.{slice_get}
 use Rattle.std.specs.FinSet as set
 use Rattle.std.proofs.lemmas.List.{append-nil, length-append, map-append, length-map}
 use Rattle.std.proofs.lemmas.List.Elements.{filter-append}
 use Rattle.std.proofs.lemmas.Option.{slice_get_within}
-use Rattle.wac_shapes.specs.Name.{Name, option_case}
+use Rattle.std.proofs.lemmas.Grind.{flat_map-append}
+use Rattle.wac_shapes.specs.Name.{Name, same_name, option_case}
+use Rattle.wac_shapes.proofs.Names.{same_name-refl}
 use Rattle.wac_shapes.specs.declared.component.InterfaceId.{InterfaceId}
 use Rattle.wac_shapes.specs.declared.component.ItemKind.{ItemKind}
+use Rattle.wac_shapes.specs.declared.component.«Type».{«Type» as AnyType}
 use Rattle.wac_collection.specs.Tree.{Tree}
 use Rattle.wac_collection.specs.Collection.{interface_exports}
 use Rattle.wac_shapes.specs.declared.component.ItemKind.TheVariants as item
 use Rattle.wac_binary.specs.declared.sorts.Sort.{Sort}
 use Rattle.wac_binary.specs.declared.sorts.Sort.TheVariants as sort
-use Rattle.wac_binary.specs.Items.{Item, nested, instantiate, alias_item, export_alias}
+use Rattle.wac_binary.specs.Items.{Item, nested, instantiate, alias_item, export_alias, export_item}
 use Rattle.wac_binary.specs.Indexes.{space, indexes, is_in, adds, sort_added}
-use Rattle.wac_binary.specs.Meaning.{Thing, import_at, instance_at, component_at, projection, projected, Instantiation, stands_for, meaning}
+use Rattle.wac_binary.specs.Meaning.{Thing, import_at, instance_at, component_at, projection, projected, written, Instantiation, start, stands_for, meaning}
 use Rattle.wac_binary.specs.Unfold.{Bound, bound_at}
-use Rattle.wac_binary.specs.HasMeaning.{HasMeaning, IsSomething, HasExport}
+use Rattle.wac_binary.specs.HasMeaning.{ItemHasMeaning, AllHaveMeaning, HasMeaning, IsSomething, HasExport}
 use Rattle.wac_edges.specs.declared.edges.Edge.{Edge}
 use Rattle.wac_edges.specs.declared.node.NodeId.{NodeId}
 use Rattle.wac_nodes.specs.declared.packages.PackageId.{PackageId}
 use Rattle.wac_edges.specs.Edge.{alias_edge, argument_edge}
 use Rattle.wac_nodes.specs.Graph as graph
-use Rattle.wac_nodes.specs.Graph.{Graph, GraphNode, Kind, node_at, imports_of, exports_of, IsAliasOf, IsArgumentOf}
+use Rattle.wac_nodes.specs.Graph.{Graph, GraphNode, Kind, node_at, export_at, imports_of, exports_of, IsAliasOf, IsArgumentOf}
 use Rattle.wac_nodes.specs.Sound.{IsSound}
 use Rattle.wac_edges.specs.Order.{Writes, IsLowestReady}
-use Rattle.wac_meaning.specs.Means.{node_is, is_import, is_instantiation, is_written, instantiations, IsThing, as_import, as_instantiation, as_alias, sort_of_kind, same_package, with_package, used_after, used_packages, package_bytes, IsArgument, given, AreArguments, HasItem, is_own_item, as_definition, asked}
+use Rattle.wac_meaning.specs.Means.{node_is, is_import, is_instantiation, is_written, instantiations, IsThing, as_import, as_instantiation, as_alias, sort_of_kind, same_package, with_package, used_after, used_packages, package_bytes, IsArgument, given, AreArguments, HasItem, is_first, is_own_item, as_definition, asked, shown, first_export}
+use Rattle.wac_meaning.specs.Definition.{definition_tree}
 use Rattle.wac_meaning.specs.Beginning.{Places}
 use Rattle.wac_meaning.specs.Encoding.{HasComponent}
-use Rattle.wac_meaning.specs.Writing.{IsArgumentItem, of_node, of_import, AreArgumentItems}
+use Rattle.wac_meaning.specs.Writing.{IsArgumentItem, of_node, of_import, AreArgumentItems, WritesType}
 use Rattle.wac_edges.proofs.WrittenOrder.{has, minus, minus-true, same, same_itself, eqb_same, apart, in_list, in_push, now_in, slice_get-middle, written_left, only_place, has-filter}
 use Rattle.wac_meaning.proofs.ThingLemmas.{Stands, node_of_written, stands_apart, stood, ready_sources}
 use Rattle.wac_meaning.proofs.CoverLemmas.{IsKnown, known_export, known_alias}
-use Rattle.wac_meaning.proofs.MeantLemmas.{meant-push, alias_meant, something}
-use Rattle.wac_meaning.proofs.MeaningLemmas.{Laws, alias_stands, alias_bound, instance_bound, alias_rest, nested_bytes_more, nested_stands, instantiations_more, instance_stands, made_of, indexes-push}
+use Rattle.wac_meaning.proofs.MeantLemmas.{meant-push, alias_meant, something, IsAmong, IsFirstAmong, new_name}
+use Rattle.wac_meaning.proofs.QuietLemmas.{IsQuiet, quiet_rest, quiet_types, all_behind}
+use Rattle.wac_meaning.proofs.MeaningLemmas.{Laws, meaning-push, alias_stands, alias_bound, instance_bound, alias_rest, nested_bytes_more, nested_stands, instantiations_more, instance_stands, export_shown, type_export_stands, export_others, made_of, indexes-push}
 use Rattle.wac_meaning.proofs.DefinedLemmas.{IsMadeOf, AreMade}
 
 clash : (b : Bool) → b ≡ true → b ≡ false → ⊥
@@ -126,7 +131,7 @@ module _ (laws : Laws) (g : Graph) (sound : IsSound g) (order : List NodeId) (at
     pub meant : HasMeaning items
     pub imports : (meaning items).imports ≡ imported
     pub customs : (meaning items).customs ≡ []
-    pub exports : (meaning items).exports ≡ []
+    pub exports : map shown (meaning items).exports ≡ flat_map (first_export g at) done
     pub bytes : (meaning items).nested_bytes ≡ map (package_bytes g) used
     pub packages : map (λ e. e.0) components ≡ used
     pub numbers : (k : ℕ) (e : PackageId × ℕ) → slice_get components k ≡ Some e → (e.1 < indexes (space sort.Component) items) × (stands_for (meaning items) sort.Component e.1 ≡ component_at k)
@@ -163,6 +168,28 @@ module _ (laws : Laws) (g : Graph) (sound : IsSound g) (order : List NodeId) (at
         let n = w.numbers k e there in
         (omega (arith, n.0, indexes-push (space sort.Component) items x), laws.earlier items (x ∷ []) sort.Component e.1 n.0 ∙ n.1)
 
+    -- a type or an alias more
+    quiet_more : (x : Item) → IsQuiet x → ItemHasMeaning (meaning items) x → Written done used (items ++ x ∷ []) components index
+    quiet_more x quiet meant =
+        let same_ = quiet_rest items x quiet in
+        record {
+          nodes = w.nodes;
+          meant = meant-push items x w.meant meant;
+          imports = ap (λ r. r.imports) same_ ∙ w.imports;
+          customs = ap (λ r. r.customs) same_ ∙ w.customs;
+          exports = ap (λ r. map shown r.exports) same_ ∙ w.exports;
+          bytes = ap (λ r. r.nested_bytes) same_ ∙ w.bytes;
+          packages = w.packages;
+          numbers = kept_number x;
+          made = subst (λ made. AreMade g at order (instantiations g done) made) (sym (ap (λ r. r.instantiations) same_)) w.made;
+          asked_for = asked-push x;
+          stand = stand-push x;
+          known = known-push x;
+          place = w.place;
+          own = λ n node here there no_import. HasItem-push items x node (index n) (w.place n) (w.own n node here there no_import);
+          in_place = w.in_place;
+        }
+
     -- a component more
     component_more : (id : PackageId) → list_any (same_package id) used ≡ false
         → Written done (used ++ id ∷ []) (items ++ nested (package_bytes g id) ∷ []) (components ++ (id, indexes (space sort.Component) items) ∷ []) index
@@ -174,7 +201,7 @@ module _ (laws : Laws) (g : Graph) (sound : IsSound g) (order : List NodeId) (at
           meant = meant-push items (nested (package_bytes g id)) w.meant tt;
           imports = ap (λ r. r.imports) more ∙ w.imports;
           customs = ap (λ r. r.customs) more ∙ w.customs;
-          exports = ap (λ r. r.exports) more ∙ w.exports;
+          exports = ap (λ r. map shown r.exports) more ∙ w.exports;
           bytes = ap (λ r. r.nested_bytes) more ∙ ap (λ bs. bs ++ package_bytes g id ∷ []) w.bytes ∙ sym (map-append (package_bytes g) used (id ∷ []));
           packages = map-append (λ e. e.0) components ((id, indexes (space sort.Component) items) ∷ []) ∙ ap (λ us. us ++ id ∷ []) w.packages;
           numbers = λ k e at_k. numbers many k e (slice_get-push components (id, indexes (space sort.Component) items) k e at_k);
@@ -195,6 +222,22 @@ module _ (laws : Laws) (g : Graph) (sound : IsSound g) (order : List NodeId) (at
             ap (stands_for (meaning (items ++ nested (package_bytes g id) ∷ [])) sort.Component) (ap (λ x. x.1) is)
                 ∙ nested_stands items (package_bytes g id) (indexes (space sort.Component) items) (sym (laws.counted items sort.Component)) ∙ ap component_at (many ∙ sym last),
           )
+
+  -- types and aliases more
+  quiet_all : (done : List NodeId) (used : List PackageId) (more items : List Item) (components : List (PackageId × ℕ)) (index : NodeId → ℕ) → AllByRecursion IsQuiet more → AllHaveMeaning (meaning items) more
+      → Written done used items components index → Written done used (items ++ more) components index
+  quiet_all done used [] items components index quiet meant w = subst (λ its. Written done used its components index) (sym (append-nil items)) w
+  quiet_all done used (x ∷ more) items components index quiet meant w =
+      subst (λ its. Written done used its components index) (append_assoc items (x ∷ []) more)
+      (quiet_all done used more (items ++ x ∷ []) components index quiet.1 (subst (λ r. AllHaveMeaning r more) (sym (meaning-push items x)) meant.1) (quiet_more done used items components index w x quiet.0 meant.0))
+
+  -- types alone more, of which one stands for this tree
+  pub with_type : (done : List NodeId) (used : List PackageId) (items mid : List Item) (components : List (PackageId × ℕ)) (index : NodeId → ℕ) (tree : Tree) (k : ℕ)
+      → Written done used items components index → WritesType tree items mid k → Written done used mid components index × (stands_for (meaning mid) sort.«Type» k ≡ written tree)
+  with_type done used items mid components index tree k w t =
+      let (meant, stands) = t.meant w.meant in
+      let behind : AllHaveMeaning (meaning items) t.types = all_behind start items t.types (subst HasMeaning t.added meant) in
+      (subst (λ its. Written done used its components index) (sym t.added) (quiet_all done used t.types items components index (quiet_types t.types t.alone) behind w), stands)
 
   -- the component of a package, which is written where it was not
   pub with_component : (done : List NodeId) (used : List PackageId) (items mid : List Item) (components after : List (PackageId × ℕ)) (index : NodeId → ℕ) (id : PackageId) (c : ℕ)
@@ -310,6 +353,47 @@ module _ (laws : Laws) (g : Graph) (sound : IsSound g) (order : List NodeId) (at
     kind_test : (k : Bool) → is_instantiation node.kind ≡ k → node_is g (λ x. is_instantiation x.kind) n ≡ k
     kind_test k is = ap (λ o. option_case o false (λ x. is_instantiation x.kind)) there ∙ is
 
+    nodes_more : (used : List PackageId) (items : List Item) (components : List (PackageId × ℕ)) → Written done used items components index → (m : NodeId) → (m ≡ n) ⊎ (has done m ≡ true) → is_written g m ≡ true
+    nodes_more used items components w m (inl same) = ap (is_written g) same ∙ (minus-true (is_written g) done n ready.here).0
+    nodes_more used items components w m (inr was) = w.nodes m was
+
+    -- what the nodes stand for so far, where this one stands
+    stand_more : (used : List PackageId) (items : List Item) (components : List (PackageId × ℕ)) → Written done used items components index → (x : Item)
+        → (i < indexes (space (sort_of_kind node.item_kind)) (items ++ x ∷ [])) × (stands_for (meaning (items ++ x ∷ [])) (sort_of_kind node.item_kind) i ≡ at n)
+        → (m : NodeId) (other : GraphNode) → Stands (done ++ n ∷ []) m other → node_at g m ≡ Some other
+        → (index' m < indexes (space (sort_of_kind other.item_kind)) (items ++ x ∷ [])) × (stands_for (meaning (items ++ x ∷ [])) (sort_of_kind other.item_kind) (index' m) ≡ at m)
+    stand_more used items components w x last =
+        each (λ m other. (index' m < indexes (space (sort_of_kind other.item_kind)) (items ++ x ∷ [])) × (stands_for (meaning (items ++ x ∷ [])) (sort_of_kind other.item_kind) (index' m) ≡ at m))
+        (λ m other was other_there.
+        let s = stand-push done used items components index w x m other was other_there in
+        subst (λ j. (j < indexes (space (sort_of_kind other.item_kind)) (items ++ x ∷ [])) × (stands_for (meaning (items ++ x ∷ [])) (sort_of_kind other.item_kind) j ≡ at m)) (sym (index_kept m other was other_there)) s)
+        (subst (λ j. (j < indexes (space (sort_of_kind node.item_kind)) (items ++ x ∷ [])) × (stands_for (meaning (items ++ x ∷ [])) (sort_of_kind node.item_kind) j ≡ at n)) (sym now) last)
+
+    -- and of which instances something is known
+    known_more : (used : List PackageId) (items : List Item) (components : List (PackageId × ℕ)) → Written done used items components index → (x : Item)
+        → ((j : InterfaceId) → node.item_kind ≡ item.Instance j → IsKnown g.types j (bound_at (meaning (items ++ x ∷ [])).scope.instances i))
+        → (m : NodeId) (other : GraphNode) → Stands (done ++ n ∷ []) m other → node_at g m ≡ Some other
+        → (j : InterfaceId) → other.item_kind ≡ item.Instance j → IsKnown g.types j (bound_at (meaning (items ++ x ∷ [])).scope.instances (index' m))
+    known_more used items components w x last =
+        each (λ m other. (j : InterfaceId) → other.item_kind ≡ item.Instance j → IsKnown g.types j (bound_at (meaning (items ++ x ∷ [])).scope.instances (index' m)))
+        (λ m other was other_there j is. subst (λ k. IsKnown g.types j (bound_at (meaning (items ++ x ∷ [])).scope.instances k)) (sym (index_kept m other was other_there)) (known-push done used items components index w x m other was other_there j is))
+        (λ j is. subst (λ k. IsKnown g.types j (bound_at (meaning (items ++ x ∷ [])).scope.instances k)) (sym now) (last j is))
+
+    -- the exports by first names, with the node's where it has one
+    first-push : (o : Option Name) → node.first_name ≡ o → flat_map (first_export g at) (done ++ n ∷ []) ≡ flat_map (first_export g at) done ++ option_case o [] (λ name. (name, sort_of_kind node.item_kind, at n) ∷ [])
+    first-push o is =
+        flat_map-append (first_export g at) done (n ∷ [])
+        ∙ ap (λ es. flat_map (first_export g at) done ++ es)
+        (append-nil (first_export g at n) ∙ ap (λ z. option_case z [] (λ x. option_case x.first_name [] (λ name. (name, sort_of_kind x.item_kind, at n) ∷ []))) there
+        ∙ ap (λ z. option_case z [] (λ name. (name, sort_of_kind node.item_kind, at n) ∷ [])) is)
+
+    -- only a definition has one
+    no_first : (node.kind ≡ graph.definition → ⊥) → flat_map (first_export g at) done ≡ flat_map (first_export g at) (done ++ n ∷ [])
+    no_first other = sym (first-push None (split node.first_name refl) ∙ append-nil (flat_map (first_export g at) done)) where
+      split : (o : Option Name) → node.first_name ≡ o → o ≡ None
+      split None is = refl
+      split (Some name) is = absurd (other (sound.first_names n node name there is).0)
+
     -- an alias is written
     pub alias_more : (used : List PackageId) (items : List Item) (components : List (PackageId × ℕ)) (instance : NodeId) (source : GraphNode) (k : ℕ) (name : Name) → Written done used items components index
         → node.kind ≡ graph.alias → IsAliasOf g instance k n → node_at g instance ≡ Some source → slice_get (exports_of g source) k ≡ Some (name, node.item_kind)
@@ -321,32 +405,25 @@ module _ (laws : Laws) (g : Graph) (sound : IsSound g) (order : List NodeId) (at
         let more = alias_rest items t (index instance) name in
         let (place, own, in_place) = placed used items components w x (ap (λ q. is_own_item node q x) kind) refl counts in
         record {
-          nodes = λ m within. nodes m (in_push done n m within);
+          nodes = λ m within. nodes_more used items components w m (in_push done n m within);
           meant = meant-push items x w.meant (alias_meant items t (index instance) name (subst IsSomething (sym of_instance) (something g at order instance source (is_thing instance source source_there))) has_export);
           imports = ap (λ r. r.imports) more ∙ w.imports;
           customs = ap (λ r. r.customs) more ∙ w.customs;
-          exports = ap (λ r. r.exports) more ∙ w.exports;
+          exports = ap (λ r. map shown r.exports) more ∙ w.exports ∙ no_first (λ other. two_kinds kind other);
           bytes = ap (λ r. r.nested_bytes) more ∙ w.bytes;
           packages = w.packages;
           numbers = kept_number done used items components index w x;
           made = subst (λ ns. AreMade g at order ns (meaning (items ++ x ∷ [])).instantiations) (sym (instantiations-push false (kind_test false (ap is_instantiation kind)) ∙ rw append-nil refl))
               (subst (λ made. AreMade g at order (instantiations g done) made) (sym (ap (λ r. r.instantiations) more)) w.made);
           asked_for = asked-push done used items components index w x;
-          stand = each (λ m other. (index' m < indexes (space (sort_of_kind other.item_kind)) (items ++ x ∷ [])) × (stands_for (meaning (items ++ x ∷ [])) (sort_of_kind other.item_kind) (index' m) ≡ at m))
-              (λ m other was other_there.
-              let s = stand-push done used items components index w x m other was other_there in
-              subst (λ j. (j < indexes (space (sort_of_kind other.item_kind)) (items ++ x ∷ [])) × (stands_for (meaning (items ++ x ∷ [])) (sort_of_kind other.item_kind) j ≡ at m)) (sym (index_kept m other was other_there)) s)
-              (subst (λ j. (j < indexes (space t) (items ++ x ∷ [])) × (stands_for (meaning (items ++ x ∷ [])) t j ≡ at n)) (sym (now ∙ counts)) here_stands);
-          known = each (λ m other. (i : InterfaceId) → other.item_kind ≡ item.Instance i → IsKnown g.types i (bound_at (meaning (items ++ x ∷ [])).scope.instances (index' m)))
-              (λ m other was other_there i is. subst (λ j. IsKnown g.types i (bound_at (meaning (items ++ x ∷ [])).scope.instances j)) (sym (index_kept m other was other_there)) (known-push done used items components index w x m other was other_there i is))
-              here_known;
+          stand = stand_more used items components w x (subst (λ j. (j < indexes (space t) (items ++ x ∷ [])) × (stands_for (meaning (items ++ x ∷ [])) t j ≡ at n)) (sym counts) here_stands);
+          known = known_more used items components w x here_known;
           place = place;
           own = own;
           in_place = in_place;
         } where
-          nodes : (m : NodeId) → (m ≡ n) ⊎ (has done m ≡ true) → is_written g m ≡ true
-          nodes m (inl same) = ap (is_written g) same ∙ (minus-true (is_written g) done n ready.here).0
-          nodes m (inr was) = w.nodes m was
+          two_kinds : {q : Kind} → q ≡ graph.alias → q ≡ graph.definition → ⊥
+          two_kinds a b = cc
 
           -- what is no instance exports nothing
           no_exports : (z : GraphNode) → exports_of g z ≡ [] → slice_get (exports_of g z) k ≡ Some (name, node.item_kind) → ⊥
@@ -375,9 +452,7 @@ module _ (laws : Laws) (g : Graph) (sound : IsSound g) (order : List NodeId) (at
           is_projection (as_instantiation j other_kind at_j is) = absurd (two_kinds kind other_kind) where
             two_kinds : {q : Kind} → q ≡ graph.alias → q ≡ graph.instantiation → ⊥
             two_kinds a b = cc
-          is_projection (as_definition t other_kind _ _) = absurd (two_kinds kind other_kind) where
-            two_kinds : {q : Kind} → q ≡ graph.alias → q ≡ graph.definition → ⊥
-            two_kinds a b = cc
+          is_projection (as_definition t other_kind _ _) = absurd (two_kinds kind other_kind)
           is_projection (as_alias other other_source j other_name _ other_aliased other_there other_exported is) =
               let (same, at_same) = sound.one_source n instance other k j aliased other_aliased in
               let sources : source ≡ other_source = let e : node_at g instance ≡ Some other_source = ap (node_at g) same ∙ other_there in cc in
@@ -399,14 +474,14 @@ module _ (laws : Laws) (g : Graph) (sound : IsSound g) (order : List NodeId) (at
               let (j, is, found) = instance_of source.item_kind source refl exported in
               known_export g.types j (bound_at (meaning items).scope.instances (index instance)) k name node.item_kind (w.known instance source source_stands source_there j is) found
 
-          here_known : (l : InterfaceId) → node.item_kind ≡ item.Instance l → IsKnown g.types l (bound_at (meaning (items ++ alias_item (export_alias (sort_of_kind node.item_kind) (index instance) name) ∷ [])).scope.instances (index' n))
+          here_known : (l : InterfaceId) → node.item_kind ≡ item.Instance l → IsKnown g.types l (bound_at (meaning (items ++ alias_item (export_alias (sort_of_kind node.item_kind) (index instance) name) ∷ [])).scope.instances i)
           here_known l is_instance =
               let (j, is, found) = instance_of source.item_kind source refl exported in
               let b = bound_at (meaning items).scope.instances (index instance) in
               let here : IsKnown g.types l (bound_at (meaning (items ++ alias_item (export_alias sort.Instance (index instance) name) ∷ [])).scope.instances (indexes (space sort.Instance) items)) =
               subst (IsKnown g.types l) (sym (alias_bound laws items (index instance) name))
               (known_alias g.types j l b k name (w.known instance source source_stands source_there j is) (found ∙ ap (λ (q : ItemKind). Some (name, q)) is_instance)) in
-              subst (λ q. IsKnown g.types l (bound_at (meaning (items ++ alias_item (export_alias (sort_of_kind node.item_kind) (index instance) name) ∷ [])).scope.instances q)) (sym (now ∙ counts))
+              subst (λ q. IsKnown g.types l (bound_at (meaning (items ++ alias_item (export_alias (sort_of_kind node.item_kind) (index instance) name) ∷ [])).scope.instances q)) (sym counts)
               (subst (λ (q : ItemKind). IsKnown g.types l (bound_at (meaning (items ++ alias_item (export_alias (sort_of_kind q) (index instance) name) ∷ [])).scope.instances (indexes (space (sort_of_kind q)) items))) (sym is_instance) here)
 
           here_stands : (indexes (space (sort_of_kind node.item_kind)) items < indexes (space (sort_of_kind node.item_kind)) (items ++ alias_item (export_alias (sort_of_kind node.item_kind) (index instance) name) ∷ []))
@@ -439,11 +514,11 @@ module _ (laws : Laws) (g : Graph) (sound : IsSound g) (order : List NodeId) (at
         let more = instantiations_more items c arguments in
         let (place, own, in_place) = placed used items components w x (ap (λ q. is_own_item node q x) kind) (ap Some (sym typed)) (counts ∙ ap (λ t. indexes (space t) items) (sym typed)) in
         record {
-          nodes = λ m within. nodes m (in_push done n m within);
+          nodes = λ m within. nodes_more used items components w m (in_push done n m within);
           meant = meant-push items x w.meant (subst IsSomething (sym stands) tt, arguments_meant 0 (imports_of g node) arguments given_items);
           imports = ap (λ r. r.imports) more ∙ w.imports;
           customs = ap (λ r. r.customs) more ∙ w.customs;
-          exports = ap (λ r. r.exports) more ∙ w.exports;
+          exports = ap (λ r. map shown r.exports) more ∙ w.exports ∙ no_first (λ other. two_kinds kind other);
           bytes = ap (λ r. r.nested_bytes) more ∙ w.bytes;
           packages = w.packages;
           numbers = kept_number done used items components index w x;
@@ -451,22 +526,17 @@ module _ (laws : Laws) (g : Graph) (sound : IsSound g) (order : List NodeId) (at
               (subst (λ made. AreMade g at order (instantiations g done ++ n ∷ []) made) (sym (ap (λ r. r.instantiations) more))
               (are_push (instantiations g done) (meaning items).instantiations w.made this));
           asked_for = asked-push done used items components index w x;
-          stand = each (λ m other. (index' m < indexes (space (sort_of_kind other.item_kind)) (items ++ x ∷ [])) × (stands_for (meaning (items ++ x ∷ [])) (sort_of_kind other.item_kind) (index' m) ≡ at m))
-              (λ m other was other_there.
-              let s = stand-push done used items components index w x m other was other_there in
-              subst (λ j. (j < indexes (space (sort_of_kind other.item_kind)) (items ++ x ∷ [])) × (stands_for (meaning (items ++ x ∷ [])) (sort_of_kind other.item_kind) j ≡ at m)) (sym (index_kept m other was other_there)) s)
-              (subst (λ j. (j < indexes (space (sort_of_kind node.item_kind)) (items ++ x ∷ [])) × (stands_for (meaning (items ++ x ∷ [])) (sort_of_kind node.item_kind) j ≡ at n)) (sym (now ∙ counts))
+          stand = stand_more used items components w x
+              (subst (λ j. (j < indexes (space (sort_of_kind node.item_kind)) (items ++ x ∷ [])) × (stands_for (meaning (items ++ x ∷ [])) (sort_of_kind node.item_kind) j ≡ at n)) (sym counts)
               (subst (λ t. (indexes (space sort.Instance) items < indexes (space t) (items ++ x ∷ [])) × (stands_for (meaning (items ++ x ∷ [])) t (indexes (space sort.Instance) items) ≡ at n)) (sym typed) here_stands));
-          known = each (λ m other. (i : InterfaceId) → other.item_kind ≡ item.Instance i → IsKnown g.types i (bound_at (meaning (items ++ x ∷ [])).scope.instances (index' m)))
-              (λ m other was other_there i is. subst (λ j. IsKnown g.types i (bound_at (meaning (items ++ x ∷ [])).scope.instances j)) (sym (index_kept m other was other_there)) (known-push done used items components index w x m other was other_there i is))
-              (λ i is. inl (ap (λ j. (bound_at (meaning (items ++ x ∷ [])).scope.instances j).type) (now ∙ counts) ∙ ap (λ (b : Bound). b.type) (instance_bound laws items c arguments)));
+          known = known_more used items components w x
+              (λ j is. inl (ap (λ k. (bound_at (meaning (items ++ x ∷ [])).scope.instances k).type) counts ∙ ap (λ (b : Bound). b.type) (instance_bound laws items c arguments)));
           place = place;
           own = own;
           in_place = in_place;
         } where
-          nodes : (m : NodeId) → (m ≡ n) ⊎ (has done m ≡ true) → is_written g m ≡ true
-          nodes m (inl same) = ap (is_written g) same ∙ (minus-true (is_written g) done n ready.here).0
-          nodes m (inr was) = w.nodes m was
+          two_kinds : {q : Kind} → q ≡ graph.instantiation → q ≡ graph.definition → ⊥
+          two_kinds a b = cc
 
           are_push : (ns : List NodeId) (its : List Instantiation) → AreMade g at order ns its → IsMadeOf g at order n (made_of (meaning items) c arguments) → AreMade g at order (ns ++ n ∷ []) (its ++ made_of (meaning items) c arguments ∷ [])
           are_push [] [] h it = (it, tt)
@@ -517,9 +587,7 @@ module _ (laws : Laws) (g : Graph) (sound : IsSound g) (order : List NodeId) (at
             two_kinds : {q : Kind} {m : Name} → q ≡ graph.instantiation → q ≡ graph.import m → ⊥
             two_kinds a b = cc
           is_instance (as_instantiation j _ at_j is) = is ∙ ap instance_at (only_instance j kind at_j)
-          is_instance (as_definition t other_kind _ _) = absurd (two_kinds kind other_kind) where
-            two_kinds : {q : Kind} → q ≡ graph.instantiation → q ≡ graph.definition → ⊥
-            two_kinds a b = cc
+          is_instance (as_definition t other_kind _ _) = absurd (two_kinds kind other_kind)
           is_instance (as_alias other other_source j other_name other_kind _ _ _ _) = absurd (two_kinds kind other_kind) where
             two_kinds : {q : Kind} → q ≡ graph.instantiation → q ≡ graph.alias → ⊥
             two_kinds a b = cc
@@ -531,4 +599,74 @@ module _ (laws : Laws) (g : Graph) (sound : IsSound g) (order : List NodeId) (at
             instance_stands items c arguments (indexes (space sort.Instance) items) (sym (laws.counted items sort.Instance))
                 ∙ ap instance_at (are_many (instantiations g done) (meaning items).instantiations w.made)
                 ∙ sym (is_instance (is_thing n node there)),
+          )
+
+    -- a definition is exported by its first name
+    pub definition_more : (used : List PackageId) (items : List Item) (components : List (PackageId × ℕ)) (t : AnyType) (name : Name) (k : ℕ) → Written done used items components index
+        → node.kind ≡ graph.definition → node.item_kind ≡ item.TypeItem t → node.first_name ≡ Some name → stands_for (meaning items) sort.«Type» k ≡ written (definition_tree g.types t)
+        → i ≡ indexes (space sort.«Type») items
+        → Written (done ++ n ∷ []) used (items ++ export_item name sort.«Type» k ∷ []) components index'
+    definition_more used items components t name k w kind is_type first stands counts =
+        let x : Item = export_item name sort.«Type» k in
+        let more = export_others items sort.«Type» k name in
+        let typed : sort_of_kind node.item_kind ≡ sort.«Type» = ap sort_of_kind is_type in
+        let own_name : is_first node name ≡ true = ap (λ o. option_case o false (same_name name)) first ∙ same_name-refl name in
+        let (place, own, in_place) = placed used items components w x (ap (λ q. is_own_item node q x) kind ∙ own_name) (ap Some (sym typed)) (counts ∙ ap (λ z. indexes (space z) items) (sym typed)) in
+        let exported : map shown (meaning (items ++ x ∷ [])).exports ≡ flat_map (first_export g at) done ++ (name, sort_of_kind node.item_kind, at n) ∷ [] =
+        export_shown items sort.«Type» k name
+        ∙ ap (λ es. es ++ (name, sort.«Type», stands_for (meaning items) sort.«Type» k) ∷ []) w.exports
+        ∙ ap (λ z. flat_map (first_export g at) done ++ (name, sort.«Type», z) ∷ []) (stands ∙ sym (is_type_written (is_thing n node there)))
+        ∙ ap (λ z. flat_map (first_export g at) done ++ (name, z, at n) ∷ []) (sym typed) in
+        record {
+          nodes = λ m within. nodes_more used items components w m (in_push done n m within);
+          meant = meant-push items x w.meant (new_name g at items done [] name (w.exports ∙ sym (append-nil (flat_map (first_export g at) done))) not_first no_others, subst IsSomething (sym stands) tt);
+          imports = more.0 ∙ w.imports;
+          customs = more.3 ∙ w.customs;
+          exports = exported ∙ sym (first-push (Some name) first);
+          bytes = more.1 ∙ w.bytes;
+          packages = w.packages;
+          numbers = kept_number done used items components index w x;
+          made = subst (λ ns. AreMade g at order ns (meaning (items ++ x ∷ [])).instantiations) (sym (instantiations-push false (kind_test false (ap is_instantiation kind)) ∙ rw append-nil refl))
+              (subst (λ made. AreMade g at order (instantiations g done) made) (sym more.2) w.made);
+          asked_for = asked-push done used items components index w x;
+          stand = stand_more used items components w x
+              (subst (λ j. (j < indexes (space (sort_of_kind node.item_kind)) (items ++ x ∷ [])) × (stands_for (meaning (items ++ x ∷ [])) (sort_of_kind node.item_kind) j ≡ at n)) (sym counts)
+              (subst (λ z. (indexes (space sort.«Type») items < indexes (space z) (items ++ x ∷ [])) × (stands_for (meaning (items ++ x ∷ [])) z (indexes (space sort.«Type») items) ≡ at n)) (sym typed) here_stands));
+          known = known_more used items components w x (λ j is. absurd (no_instance is_type is));
+          place = place;
+          own = own;
+          in_place = in_place;
+        } where
+          no_instance : {q : ItemKind} {j : InterfaceId} → q ≡ item.TypeItem t → q ≡ item.Instance j → ⊥
+          no_instance a b = cc
+
+          no_others : IsAmong [] name → ⊥
+          no_others (j, m, wrong) = cc
+
+          not_first : IsFirstAmong g done name → ⊥
+          not_first (m, other, within, other_there, also) =
+              let e : m ≡ n = one_node (export_at g name) (sound.first_names m other name other_there also).1 (sound.first_names n node name there first).1 in
+              clash (has done n) (ap (has done) (sym e) ∙ within) absent where
+                one_node : (o : Option NodeId) → o ≡ Some m → o ≡ Some n → m ≡ n
+                one_node o a b = cc
+
+          is_type_written : IsThing g at order n node → at n ≡ written (definition_tree g.types t)
+          is_type_written (as_import other p other_kind at_p is) = absurd (no_import kind other_kind) where
+            no_import : {q : Kind} {m : Name} → q ≡ graph.definition → q ≡ graph.import m → ⊥
+            no_import a b = cc
+          is_type_written (as_instantiation j other_kind at_j is) = absurd (no_kind kind other_kind) where
+            no_kind : {q : Kind} → q ≡ graph.definition → q ≡ graph.instantiation → ⊥
+            no_kind a b = cc
+          is_type_written (as_definition other other_kind other_type is) = is ∙ ap (λ z. written (definition_tree g.types z)) (one_type node.item_kind other_type is_type) where
+            one_type : (q : ItemKind) → q ≡ item.TypeItem other → q ≡ item.TypeItem t → other ≡ t
+            one_type q a b = cc
+          is_type_written (as_alias other other_source j other_name other_kind _ _ _ _) = absurd (no_kind kind other_kind) where
+            no_kind : {q : Kind} → q ≡ graph.definition → q ≡ graph.alias → ⊥
+            no_kind a b = cc
+
+          here_stands : (indexes (space sort.«Type») items < indexes (space sort.«Type») (items ++ export_item name sort.«Type» k ∷ []))
+              × (stands_for (meaning (items ++ export_item name sort.«Type» k ∷ [])) sort.«Type» (indexes (space sort.«Type») items) ≡ at n)
+          here_stands = (
+            counted_up sort.«Type» items (export_item name sort.«Type» k) refl,
+            type_export_stands items k name (indexes (space sort.«Type») items) (sym (laws.counted items sort.«Type»)) ∙ stands ∙ sym (is_type_written (is_thing n node there)),
           )

@@ -1,15 +1,22 @@
 -- What a node adds to the items that are written so far, where these begin with imports.
 use Rattle.std.specs.Prelude.{ℕ, suc, ◌≡◌, IfSome, List, [], ◌∷◌, ◌++◌, Some, slice_get, slice_set}
+use Rattle.std.specs.List.{AllByRecursion}
 use Rattle.wac_shapes.specs.Name.{Name}
 use Rattle.wac_shapes.specs.declared.component.ItemKind.{ItemKind}
+use Rattle.wac_shapes.specs.declared.component.ItemKind.TheVariants.{TypeItem}
+use Rattle.wac_shapes.specs.declared.component.«Type».{«Type» as AnyType}
+use Rattle.wac_collection.specs.Tree.{Tree}
 use Rattle.wac_binary.specs.declared.sorts.Sort.{Sort}
 use Rattle.wac_binary.specs.declared.sorts.Sort.TheVariants as sort
-use Rattle.wac_binary.specs.Items.{Item, instantiate, alias_item, export_alias}
-use Rattle.wac_binary.specs.Indexes.{space, indexes}
+use Rattle.wac_binary.specs.Items.{Item, core_type, instantiate, alias_item, export_alias, type_item, export_item}
+use Rattle.wac_binary.specs.Indexes.{space, alias_sort, indexes}
+use Rattle.wac_binary.specs.Meaning.{written, meaning, stands_for}
+use Rattle.wac_binary.specs.HasMeaning.{HasMeaning}
 use Rattle.wac_edges.specs.declared.node.NodeId.{NodeId}
 use Rattle.wac_nodes.specs.declared.packages.PackageId.{PackageId}
 use Rattle.wac_nodes.specs.Graph as graph
 use Rattle.wac_nodes.specs.Graph.{Graph, GraphNode, node_at, imports_of, exports_of, IsAliasOf, IsArgumentOf, IsUnsatisfied}
+use Rattle.wac_meaning.specs.Definition.{definition_tree}
 use Rattle.wac_meaning.specs.Means.{package_bytes, sort_of_kind}
 use Rattle.wac_meaning.specs.Beginning.{Places, IsPlacedAt}
 use Rattle.wac_meaning.specs.Encoding.{HasComponent, Progress, index_in}
@@ -25,6 +32,20 @@ AreArgumentItems g places index n i [] [] = Unit {0}
 AreArgumentItems g places index n i (e ∷ imports) (a ∷ arguments) = IsArgumentItem g places index n i e.0 a × AreArgumentItems g places index n (suc i) imports arguments
 AreArgumentItems g places index n i _ _ = ⊥
 
+-- a type, a core type, or an alias of a type
+abbrev pub IsTypeAlone : Item → Type 0
+IsTypeAlone (core_type m) = Unit {0}
+IsTypeAlone (type_item t) = Unit {0}
+IsTypeAlone (alias_item a) = alias_sort a ≡ sort.«Type»
+IsTypeAlone _ = ⊥
+
+-- Types alone are written behind what stood. Where that had a meaning, all has one, and type index k stands for this tree.
+pub record WritesType (tree : Tree) (items items' : List Item) (k : ℕ) : Type 0 where
+  pub types : List Item
+  pub alone : AllByRecursion IsTypeAlone types
+  pub added : items' ≡ items ++ types
+  pub meant : HasMeaning items → HasMeaning items' × (stands_for (meaning items') sort.«Type» k ≡ written tree)
+
 -- node n is written, and stands at index i
 pub data WritesNode (g : Graph) (places : Places) (n : NodeId) (node : GraphNode) (index : NodeId → ℕ) (components components' : List (PackageId × ℕ)) (items items' : List Item) (i : ℕ) : Type 0 where
   writes_instantiation : (id : PackageId) (c : ℕ) (mid : List Item) (arguments : List (Name × Sort × ℕ))
@@ -36,6 +57,12 @@ pub data WritesNode (g : Graph) (places : Places) (n : NodeId) (node : GraphNode
       → node.kind ≡ graph.alias → IsAliasOf g instance k n → node_at g instance ≡ Some source → slice_get (exports_of g source) k ≡ Some (name, node.item_kind)
       → components' ≡ components
       → items' ≡ items ++ alias_item (export_alias (sort_of_kind node.item_kind) (index instance) name) ∷ [] → i ≡ indexes (space (sort_of_kind node.item_kind)) items
+      → WritesNode g places n node index components components' items items' i
+  writes_definition : (t : AnyType) (name : Name) (k : ℕ) (mid : List Item)
+      → node.kind ≡ graph.definition → node.item_kind ≡ TypeItem t → node.first_name ≡ Some name
+      → components' ≡ components
+      → WritesType (definition_tree g.types t) items mid k
+      → items' ≡ mid ++ export_item name sort.«Type» k ∷ [] → i ≡ indexes (space sort.«Type») mid
       → WritesNode g places n node index components components' items items' i
 
 -- a node is written
