@@ -1,12 +1,14 @@
-use Rattle.std.proofs.Common.{IfSome, length, slice_get, refl, ap, ◌∙◌, sym, subst}
+use Rattle.std.proofs.Common.{◌++◌, IfSome, length, slice_get, refl, ap, ◌∙◌, sym, subst}
+use Rattle.std.specs.List.{flat_map}
 use Rattle.wac_causes.specs.Cause.{AnswersFor, Stands, cause_of}
 use Rattle.wac_causes.specs.Faults.{encode_error}
-use Rattle.wac_meaning.specs.Means.{AreNames}
+use Rattle.wac_meaning.specs.Means.{export_item_of, AreNames}
 use Rattle.wac_meaning.specs.Encoding.{HasRoom, index_in}
 use Rattle.wac_meaning.specs.Writing.{WroteAll}
+use Rattle.wac_meaning.proofs.DefinedLemmas.{further_all}
 use Rattle.wac_meaning.proofs.MergeLemmas.{means_merged}
 use Rattle.wac_composition.specs.EncoderView.{progress}
-use Rattle.wac_writing.proofs.MeansLemmas.{in_order}
+use Rattle.wac_writing.proofs.MeansLemmas.{no_first, in_order}
 use Rattle.wac_writing.proofs.WriteArgumentsLemmas.{room_kept}
 use Rattle.wac_writing.proofs.CauseLemmas.{names_cause, refused_for, binary_nameless, begun_cause, begun_refused, none_stands, nameless_answers, exit_cause, exit_refused}
 use Rattle.wac_writing.proofs.OuterNameLemmas.{items_valid, names_valid, fault_stands, fault_answers}
@@ -90,10 +92,12 @@ write_names-requires c = subst (λ v. HasRoom c.args.self.now v.items) (sym c.in
 
 pub returns-clause-means : goal.returns-clause-means
 returns-clause-means c =
-    let places = c.in_ok-root.imports.places.items in (
+    let places = c.in_ok-root.imports.places.items in
+    -- where nothing is defined all exports come last
+    let all_last = ap (λ es. c.write_nodes.new.encoder.builder ++ flat_map (export_item_of c.args.self.now (index_in c.write_nodes.new.encoder.indexes.items)) es) (sym (further_all c.args.self.now (no_first c.args.self.now c.law-2.ensures c.in_ok-root.ensures.defines))) in (
       c.write_processor.new.self.builder,
       c.in_ok-bytes.ensures.bytes,
-      means_merged (record { counted = c.law.ensures.counted; earlier = c.law.ensures.earlier; bounds_counted = c.law.ensures.instances_counted; bounds_earlier = c.law.ensures.instances_earlier }) c.class_laws.ensures (λ t es order w. (c.order_law.ensures t es order w).each) c.args.self.now c.law-2.ensures c.in_ok-root.ensures.defines
+      means_merged (record { counted = c.law.ensures.counted; earlier = c.law.ensures.earlier; bounds_counted = c.law.ensures.instances_counted; bounds_earlier = c.law.ensures.instances_earlier }) c.class_laws.ensures (λ t es order w. (c.order_law.ensures t es order w).each) c.args.self.now c.law-2.ensures
           c.in_ok-root.imports.merge.merge (c.in_ok-root.ensures.placed.merged).whole c.in_ok-order.order.items c.in_ok-order.ensures.whole c.args.options c.in_ok-root.ensures.defined
           places c.in_ok-root.root c.in_ok-indexes.indexes.items c.in_ok-root.ensures.begins c.in_ok-indexes.ensures.found c.in_ok-indexes.ensures.room
           (progress c.new-encoder.result) (progress c.write_nodes.new.encoder)
@@ -102,7 +106,7 @@ returns-clause-means c =
           c.in_ok-write_names.ensures.written.0
           (subst (λ v. AreNames c.args.self.now (index_in v.items) c.in_ok-write_names.ensures.written.0) c.in_ok-write_exports.ensures.kept c.in_ok-write_names.ensures.written.1)
           c.write_exports.new.encoder.builder c.write_names.new.encoder.builder c.write_processor.new.self.builder
-          c.in_ok-write_exports.ensures.written c.in_ok-write_names.ensures.written.2 c.in_ok-write_processor.ensures.written,
+          (c.in_ok-write_exports.ensures.written ∙ all_last) c.in_ok-write_names.ensures.written.2 c.in_ok-write_processor.ensures.written,
     )
 
 pub returns-clause-valid : goal.returns-clause-valid
