@@ -1,7 +1,8 @@
 -- Worked examples: a definition that is exported twice, an interface that uses a type of another, and a package that is imported.
-use Rattle.std.proofs.Common.{◌≡◌, ℕ, suc, false, not, List, [], ◌∷◌, ◌++◌, map, Option, Some, None, codes, refl, ap, sym, ◌∙◌, subst}
+use Rattle.std.proofs.Common.{◌≡◌, ℕ, suc, false, List, [], ◌∷◌, ◌++◌, map, Option, Some, None, IfSome, codes, refl, ap, sym, ◌∙◌, subst}
 use Rattle.std.specs.FinMap as finite
 use Rattle.std.specs.List.{flat_map}
+use Rattle.std.specs.Prelude.{slice_set}
 use Rattle.std.proofs.lemmas.List.{append-nil}
 use Rattle.wac_shapes.specs.Name.{Name}
 use Rattle.wac_shapes.specs.declared.component.DefinedType.TheVariants as def
@@ -23,6 +24,8 @@ use Rattle.wac_nodes.specs.Graph as graph
 use Rattle.wac_edges.specs.Edge.{node_number}
 use Rattle.wac_nodes.specs.Graph.{Graph, GraphNode, node_at}
 use Rattle.wac_meaning.specs.Means.{Means, is_written, instantiations, sort_of_kind, AreInstantiations, IsThing, as_definition, HasItem, shown, export_of, first_export, further_exports, export_item_of, custom_item}
+use Rattle.wac_meaning.specs.Encoding.{index_in}
+use Rattle.wac_meaning.specs.Writing.{WritesNode, writes_definition, Wrote}
 use Rattle.wac_meaning.proofs.DefinedLemmas.{no_names}
 use Rattle.wac_meaning.proofs.AskedLemmas.{no_imports}
 use Rattle.wac_examples.proofs.OptionRows.{with_one, node_0, by_one, one_in_order, in_one}
@@ -124,6 +127,17 @@ definition_means = record {
 } where
   no_instances : instantiations defining_bool (node_number 0 ∷ []) ≡ []
   no_instances = rw (node_0 base defined) refl
+
+-- the definition is written so: the type, and behind it the export by the first name
+pub definition_is_written : Wrote defining_bool [] (node_number 0) (record { items = []; components = []; indexes = 0 ∷ [] })
+    (record { items = type_item (value_def (primitive_def prim.Bool)) ∷ export_item (codes "foo") s.«Type» 0 ∷ []; components = []; indexes = 1 ∷ [] })
+definition_is_written = subst
+    (λ o. IfSome o (λ node. (i : ℕ)
+    × WritesNode defining_bool [] (node_number 0) node (index_in (0 ∷ [])) [] [] [] (type_item (value_def (primitive_def prim.Bool)) ∷ export_item (codes "foo") s.«Type» 0 ∷ []) i × (1 ∷ [] ≡ slice_set (0 ∷ []) 0 i)))
+    (sym (node_0 base defined))
+    (1, writes_definition of_bool (codes "foo") 0 types refl refl refl refl (record { types = types; alone = (tt, tt); added = refl; meant = λ _. ((tt, tt), bool_is) }) refl refl, refl) where
+      types : List Item
+      types = type_item (value_def (primitive_def prim.Bool)) ∷ []
 
 -- items that lose the second name do not mean the graph
 pub no_lost_export : Means (type_item (value_def (primitive_def prim.Bool)) ∷ export_item (codes "foo") s.«Type» 0 ∷ []) defining_bool defining → ⊥
