@@ -34,7 +34,7 @@ use Rattle.wac_unions.proofs.AssembledLists.{count, listed, names}
 use Rattle.wac_unions.proofs.AssembledSubtypes.{subtypes}
 use Rattle.wac_fitting.proofs.BecameEnds.{became-ends}
 use Rattle.wac_entries.proofs.ClassFacts.{class-refl}
-use Rattle.wac_unions.proofs.ClassFolds.{mapped_at}
+use Rattle.wac_uses.proofs.ClassFolds.{mapped_at}
 use Rattle.wac_terms.proofs.Found.{no_some}
 use Rattle.wac_renaming.proofs.Extending.{same_interface}
 use Rattle.wac_entries.proofs.Lists.{some-at}

@@ -1,9 +1,9 @@
 -- What is looked up of what a class binds under a name.
-use Rattle.std.proofs.Common.{◌≡◌, ℕ, ◌<◌, ◌≤◌, ◌==◌, ◌&&◌, Bool, true, false, cond, not, is_none, List, [], ◌∷◌, filter, length, get_or, Option, Some, None, slice_get, refl, sym, ap, ◌∙◌, subst, inl, inr, zero, suc, arith}
+use Rattle.std.proofs.Common.{◌≡◌, ℕ, ◌<◌, ◌≤◌, ◌==◌, ◌&&◌, Bool, true, false, cond, not, is_none, List, [], ◌∷◌, length, get_or, Option, Some, None, slice_get, refl, sym, ap, ◌∙◌, subst, inl, inr, suc, arith}
 use Rattle.std.specs.Prelude.{◌↔◌, Contains, string_bytes}
 use Rattle.std.specs.Str.{bytes_eq}
 use Rattle.std.specs.declared.string.String.{String}
-use Rattle.std.proofs.lemmas.Bool.{and_parts, cases_Bool, eqb-true, false≢true}
+use Rattle.std.proofs.lemmas.Bool.{and_parts, eqb-true, false≢true}
 use Rattle.std.proofs.lemmas.Option.{slice_get_within}
 use Rattle.wac_shapes.specs.Name.{Name, find_name, option_case, same_name}
 use Rattle.wac_shapes.specs.Named.{NoNameTwice}
@@ -22,7 +22,7 @@ use Rattle.wac_shapes.specs.declared.component.ItemKind.TheVariants as kind
 use Rattle.wac_entries.specs.Binding.{class_binds, first_binds, kind_binds}
 use Rattle.wac_entries.specs.Bindings.{AreBindings, ClassBindings, path_in}
 use Rattle.wac_entries.specs.CalledViews.{path_view}
-use Rattle.wac_entries.specs.Classes.{AreClasses, Entry, by_names, class_names, is_asked, is_instance, members, same_class}
+use Rattle.wac_entries.specs.Classes.{AreClasses, Entry, by_names, is_asked, is_instance, members, same_class}
 use Rattle.wac_entries.proofs.ClassFacts.{class-parts, class-sym, class-trans, one-position}
 use Rattle.wac_entries.proofs.Lists.{any-at, any-found, some-at}
 use Rattle.wac_terms.proofs.Alike.{binds_alike}

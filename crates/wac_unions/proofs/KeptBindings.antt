@@ -1,5 +1,5 @@
 -- Classes bind the same resources in a collection that begins with that of their entries.
-use Rattle.std.proofs.Common.{◌≡◌, ℕ, ◌==◌, ◌&&◌, true, not, cond, is_none, is_some, List, [], ◌∷◌, length, Option, Some, None, slice_get, refl, ap, ◌∙◌}
+use Rattle.std.proofs.Common.{◌≡◌, ◌==◌, ◌&&◌, true, not, cond, is_none, is_some, List, [], ◌∷◌, length, Option, Some, None, refl, ap, ◌∙◌}
 use Rattle.std.specs.List.{AllByRecursion}
 use Rattle.std.proofs.lemmas.Bool.{and_parts}
 use Rattle.wac_shapes.specs.Name.{Name, find_name, first_some, option_case}

@@ -1,4 +1,3 @@
-pub mod ClassFolds
 pub mod WritingItems
 pub mod WritingUnions
 pub mod OneIds
@@ -14,3 +13,4 @@ pub mod AssembledHeld
 pub mod KeptBindings
 pub mod BoundNames
 pub mod AssembledBound
+pub mod BareImports

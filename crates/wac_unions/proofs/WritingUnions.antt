@@ -6,7 +6,7 @@ use Rattle.std.specs.Option.{MatchOption}
 use Rattle.std.proofs.lemmas.List.{get_or-reverse, length-reverse}
 use Rattle.std.proofs.lemmas.Option.{get_or_from_slice_get, slice_get-get_or, slice_get_within}
 use Rattle.wac_shapes.specs.Name.{Name, find_name, first_some, option_case}
-use Rattle.wac_collection.specs.Collection.{Collection, HasInterface, IsWellFormed, holds_all, holds_type, interface_exports, item_at, item_of, kind_types, size, with_interface}
+use Rattle.wac_collection.specs.Collection.{Collection, HasInterface, IsWellFormed, holds_all, holds_type, interface_exports, item_at, item_of, kind_types}
 use Rattle.wac_shapes.specs.Kinds.{kind_type}
 use Rattle.wac_collection.specs.Uses.{interface_fault, is_named_right, unless}
 use Rattle.wac_collection.specs.declared.collection.AddTypeError.TheVariants as fault
@@ -33,7 +33,7 @@ use Rattle.wac_terms.specs.declared.parts.Part.{Part}
 use Rattle.wac_terms.specs.declared.parts.Union.{Union}
 use Rattle.wac_renaming.proofs.Extending.{still_can_all, still_fresh, still_interface, kept_item}
 use Rattle.wac_renaming.proofs.FreshAdding.{some-of}
-use Rattle.wac_entries.proofs.Lists.{at-end, at-push, push-cases, some-at}
+use Rattle.wac_entries.proofs.Lists.{at-push, push-cases, some-at}
 use Rattle.wac_entries.proofs.Places.{exports_held, held_at}
 use Rattle.wac_unions.proofs.WritingItems.{still-all-exported}
 
@@ -172,12 +172,6 @@ still-union m more c x b count written u y id w is = record {
 pub interface-right : (m : Collection) (id : Option Name) (ks : List (Name × ItemKind)) → holds_all m (kind_types ks) ≡ true → list_all (is_named_right m []) ks ≡ true
     → interface_fault m (record { id = id; uses = []; exports = ks }) ≡ None
 interface-right m id ks held named = (λ i. first_some (unless (held i) fault.NotHeld) (unless (named i) fault.ResourceMisnamed))
-
-pub interface-added : (c m : Collection) (it : Interface) (w : InterfaceId) → w.0 ≡ length c.interfaces → m ≡ with_interface c it → item_at m.interfaces w.0 ≡ Some it
-interface-added c m it w at is =
-    ap (λ (d : Collection). item_at d.interfaces w.0) is
-    ∙ ap (λ j. item_at (c.interfaces ++ record { item = it; before = size c } ∷ []) j) at
-    ∙ ap item_of (at-end c.interfaces (record { item = it; before = size c }))
 
 pub union-written : (c m more : Collection) (b : Became) (count : ℕ) (written : List InterfaceId) (u : ℕ) (x : Union) (id name : Option Name) (ks : List (Name × ItemKind)) (w : InterfaceId) → IsExtended m more → id ≡ name
     → AreWrittenItems c m b count written u x.exports ks → item_at more.interfaces w.0 ≡ Some (record { id = id; uses = []; exports = ks }) → IsWrittenUnion c more b count written u x name w

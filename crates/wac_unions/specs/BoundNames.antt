@@ -1,5 +1,5 @@
 -- How a class binds a resource under a name, as it is looked up. Private functions alone cite this.
-use Rattle.std.specs.Prelude.{ℕ, ◌≡◌, List, [], ◌∷◌, Some, Contains}
+use Rattle.std.specs.Prelude.{ℕ, ◌≡◌, [], ◌∷◌, Some, Contains}
 use Rattle.wac_shapes.specs.Name.{Name}
 use Rattle.wac_collection.specs.Tree.{named}
 use Rattle.wac_collection.specs.Collection.{Collection, interface_exports}

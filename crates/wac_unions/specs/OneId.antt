@@ -14,11 +14,11 @@ use Rattle.wac_collection.specs.Collection.{Collection, defined_values, func_val
 use Rattle.wac_entries.specs.Bindings.{ClassBindings}
 use Rattle.wac_entries.specs.Classes.{AreClasses, Entry, by_names}
 use Rattle.wac_terms.specs.Merge.{Merged}
-use Rattle.wac_terms.specs.Values.{definition}
 use Rattle.wac_terms.specs.declared.fresh.Fresh.{Fresh}
 use Rattle.wac_terms.specs.declared.parts.Export.{Export}
 use Rattle.wac_terms.specs.declared.parts.Part.{Part}
 use Rattle.wac_terms.specs.declared.parts.Union.{Union}
+use Rattle.wac_uses.specs.Using.{AreUsing}
 use Rattle.wac_values.specs.NamedTypes.{AreClassed, AreNamedAlike, AreUnited, IsOneType, named_type}
 use Rattle.wac_values.specs.declared.named.NamedTypes.{NamedTypes}
 use Rattle.wac_renaming.specs.Made.{AreMade, other_name}
@@ -60,7 +60,7 @@ pub record AreMadeOnce (c m : Collection) (es : List Entry) (us : List Union) (p
   pub unions : AreUnionsMadeOf c m t made us written.ws
   pub imported : AreImportsMadeOf c m t made es positions order imports
 
--- The unions of what entries list, and the interfaces and imports that they became. What stands under one name of one union is one named type, and so are the entries of one class; no others are.
+-- The unions of what entries list, and the interfaces and imports that they became, before uses were added. What stands under one name of one union is one named type, and so are the entries of one class; no others are.
 -- Two mentions with equal definitions in the merged collection have one id exactly where they are one named type, or stand under no name both.
 pub record HasOneIdEach (c : Collection) (es : List Entry) (m : Merged) : Type 0 where
   pub us : List Union
@@ -74,11 +74,13 @@ pub record HasOneIdEach (c : Collection) (es : List Entry) (m : Merged) : Type 0
   pub t : NamedTypes
   pub classes : AreClasses by_names es numbers positions names
   pub unions : AreClassUnions c es us ps
-  pub written : AreWrittenImports c m.types es us ps bs f order m.imports
+  pub bare : List Entry
+  pub written : AreWrittenImports c m.types es us ps bs f order bare
+  pub using : AreUsing by_names c es m.types bare m.imports
   pub united : AreUnited c us ps t
   pub classed : AreClassed c es numbers positions t
   pub named : (a b : DefinedTypeId) → IsOneType t a b ↔ AreNamedAlike c us ps es numbers positions a b
-  pub one : (d e a b : DefinedTypeId) (x : DefinedType) → Became c m.types es m.imports us written.ws positions order (val.Defined d) (val.Defined a) → Became c m.types es m.imports us written.ws positions order (val.Defined e) (val.Defined b)
+  pub one : (d e a b : DefinedTypeId) (x : DefinedType) → Became c m.types es bare us written.ws positions order (val.Defined d) (val.Defined a) → Became c m.types es bare us written.ws positions order (val.Defined e) (val.Defined b)
       → another c d ≡ None → another c e ≡ None → named_type t d ≡ named_type t e → item_at m.types.defined a.0 ≡ Some x → item_at m.types.defined b.0 ≡ Some x → a ≡ b
-  pub apart : (d e a : DefinedTypeId) → Became c m.types es m.imports us written.ws positions order (val.Defined d) (val.Defined a) → Became c m.types es m.imports us written.ws positions order (val.Defined e) (val.Defined a)
+  pub apart : (d e a : DefinedTypeId) → Became c m.types es bare us written.ws positions order (val.Defined d) (val.Defined a) → Became c m.types es bare us written.ws positions order (val.Defined e) (val.Defined a)
       → another c d ≡ None → another c e ≡ None → named_type t d ≡ named_type t e

@@ -25,6 +25,7 @@ ghost use Rattle.wac_terms.specs.Writing.{IsGiven};
 ghost use Rattle.wac_terms.specs.declared.parts.Part.{Part as APart};
 ghost use Rattle.wac_terms.specs.declared.parts.Union.{Union as AUnion};
 ghost use Rattle.wac_values.specs.NamedTypes.{AreClassed, AreNamedAlike, AreUnited, IsOneType};
+ghost use Rattle.wac_uses.specs.KeptUses.{KeepsUses};
 ghost use Rattle.wac_names.specs.Reading.{read_track};
 ghost use Rattle.wac_names.specs.Views.{track_view};
 
@@ -42,6 +43,8 @@ use wac_renaming::renamer::{Renamed, Renaming};
 use wac_subtyping::laws::trees_are_whole;
 use wac_terms::parts::Part;
 use wac_uniting::unions::Unions;
+use wac_uses::Asked;
+use wac_uses::imports::{imports_with_uses, no_interfaces};
 use wac_values::named::{NamedTypes, named_types};
 
 /// Puts an interface among those of its class that are united: every instance, and the first of a type item.
@@ -56,18 +59,6 @@ fn put_root(roots: &mut Vec<InterfaceId>, kind: ItemKind) -> Result<(), AllocErr
     Ok(())
 }
 
-/// No interface for each class.
-fn no_roots(alloc: Global, count: usize) -> Result<Vec<Vec<InterfaceId>>, AllocError>
-    ensures counted { IfOk result (λ v. length v.items ≡ count) }
-    ensures empty { IfOk result (λ v. (k : ℕ) (is : List AnId) → slice_get (map (λ is. is.items) v.items) k ≡ Some is → is ≡ []) }
-{
-    let mut roots = Vec::new(alloc);
-    for _ in 0..count {
-        roots.push(Vec::new(alloc))?;
-    }
-    Ok(roots)
-}
-
 /// The interfaces of each class that are united.
 fn class_roots(
     alloc: Global,
@@ -78,7 +69,7 @@ fn class_roots(
     ensures { IfOk result (λ v. AreRoots entries.now (map (λ is. is.items) v.items)) }
 {
     let numbers = classes.numbers();
-    let mut roots = no_roots(alloc, classes.positions().len())?;
+    let mut roots = no_interfaces(alloc, classes.positions().len())?;
     for i in 0..entries.len() {
         put_root(&mut roots[numbers[i]], entries[i].kind())?;
     }
@@ -421,6 +412,7 @@ impl Merged {
         ensures merged { IfOk result (λ m. IsMerge by_names types.now entries.now m) }
         ensures bound { IfOk result (λ m. BindsAsClasses by_names types.now entries.now m) }
         ensures once { IfOk result (λ m. HasOneIdEach types.now entries.now m) }
+        ensures uses { IfOk result (λ m. KeepsUses by_names types.now entries.now m) }
         ensures begins { IfOk result (λ m. IsExtended types.now m.types) }
         ensures holds { IfOk result (λ m. AreHeld m.types m.imports) }
         ensures asked { IfOk result (λ m. AreHeld m.types entries.now) }
@@ -449,7 +441,7 @@ impl Merged {
             named: &named,
         };
         merged.law();
-        let imports = write_imports(
+        let bare = write_imports(
             alloc,
             &mut merged,
             types,
@@ -459,6 +451,14 @@ impl Merged {
             &became,
             order,
         )?;
+        merged.law();
+        let asked = Asked {
+            alloc,
+            types,
+            entries,
+            classes,
+        };
+        let imports = imports_with_uses(&asked, &mut merged, &bare)?;
         merged.law();
         trees_are_whole(&merged);
         Ok(Merged {

@@ -9,7 +9,7 @@ use Rattle.wac_shapes.specs.declared.component.InterfaceId.{InterfaceId}
 use Rattle.wac_shapes.specs.declared.component.ItemKind.{ItemKind}
 use Rattle.wac_entries.specs.Classes.{Entry, by_names, class_names}
 use Rattle.wac_unions.specs.MergedClasses.{with_root}
-use Rattle.wac_unions.proofs.ClassFolds.{HaveFolded, folded-more, mapped_at}
+use Rattle.wac_uses.proofs.ClassFolds.{HaveFolded, folded-more, mapped_at}
 use Rattle.wac_entries.proofs.Lists.{some-at}
 use Rattle.wac_terms.proofs.Found.{get_map, mapped_length}
 use Rattle.wac_unions.proofs.merged.class_roots.Goals as goal

@@ -3,7 +3,7 @@ use Rattle.std.specs.Global.{Global}
 use Rattle.wac_shapes.specs.declared.component.InterfaceId.{InterfaceId}
 use Rattle.wac_entries.specs.Classes.{by_names, class_names}
 use Rattle.wac_unions.specs.MergedClasses.{with_root}
-use Rattle.wac_unions.proofs.ClassFolds.{HaveFolded}
+use Rattle.wac_uses.proofs.ClassFolds.{HaveFolded}
 use Rattle.wac_unions.proofs.merged.class_roots.Given as goal
 
 abbrev pub invariant-loop-i : goal.invariant-loop-i

@@ -10,7 +10,7 @@ use Rattle.wac_collection.specs.Collection.{holds_type}
 use Rattle.wac_shapes.specs.Kinds.{kind_type}
 use Rattle.wac_entries.specs.Classes.{Entry, by_names, class_names}
 use Rattle.wac_terms.specs.Merge.{is_on_track}
-use Rattle.wac_unions.proofs.ClassFolds.{HaveFolded, folded-more}
+use Rattle.wac_uses.proofs.ClassFolds.{HaveFolded, folded-more}
 use Rattle.wac_terms.proofs.Found.{no_some, some_same}
 use Rattle.wac_entries.proofs.Lists.{some-at}
 use Rattle.wac_unions.proofs.merged.on_track.Goals as goal

@@ -2,7 +2,7 @@ use Rattle.std.proofs.Common.{◌≡◌, Bool, length, take}
 use Rattle.std.specs.List.{list_any}
 use Rattle.wac_entries.specs.Classes.{by_names, class_names}
 use Rattle.wac_terms.specs.Merge.{is_on_track}
-use Rattle.wac_unions.proofs.ClassFolds.{HaveFolded}
+use Rattle.wac_uses.proofs.ClassFolds.{HaveFolded}
 use Rattle.wac_unions.proofs.merged.on_track.Given as goal
 
 abbrev pub invariant-loop-i : goal.invariant-loop-i

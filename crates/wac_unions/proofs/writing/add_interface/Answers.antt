@@ -4,7 +4,7 @@ use Rattle.wac_shapes.specs.Name.{Name}
 use Rattle.wac_shapes.specs.declared.component.UsedType.{UsedType}
 use Rattle.wac_terms.specs.Renaming.{IsExtended}
 use Rattle.wac_renaming.proofs.Extending.{extended_interface}
-use Rattle.wac_unions.proofs.WritingUnions.{interface-added}
+use Rattle.wac_uses.proofs.Growing.{interface-added}
 use Rattle.wac_unions.proofs.writing.add_interface.Goals as goal
 
 pub returns-in-Ok-clause-extended : goal.returns-in-Ok-clause-extended

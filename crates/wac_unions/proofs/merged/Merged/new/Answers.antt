@@ -4,13 +4,15 @@ use Rattle.wac_terms.specs.Merge.{import_entries}
 use Rattle.wac_terms.specs.Renaming.{IsExtended}
 use Rattle.wac_terms.specs.Unions.{AreUnions}
 use Rattle.wac_terms.specs.declared.parts.Union.{Union}
-use Rattle.wac_unions.proofs.Assembled.{AreAssembled, AreDeep}
+use Rattle.wac_unions.proofs.Assembled.{AreDeep}
 use Rattle.wac_unions.proofs.AssembledBound.{bound-is}
 use Rattle.wac_unions.proofs.AssembledHeld.{imports-held}
+use Rattle.wac_unions.proofs.BareImports.{first-assembled, imports-asked, imports-none, still-assembled, still-once, using-binds}
 use Rattle.wac_unions.proofs.AssembledMerge.{agreed-pairs, can-rename-all, merge-is}
 use Rattle.wac_shapes.specs.Kinds.{kind_type}
-use Rattle.wac_renaming.proofs.Extending.{extended_twice, still_fresh, still_holds}
+use Rattle.wac_renaming.proofs.Extending.{still_holds}
 use Rattle.wac_unions.proofs.OneIds.{apart-named, one-id}
+use Rattle.wac_uses.proofs.AlikeMerges.{using-held-all, using-keeps, using-merge}
 use Rattle.wac_unions.proofs.merged.Merged.new.Goals as goal
 
 pub named_in-requires : goal.named_in-requires
@@ -32,6 +34,63 @@ write_imports-requires-clause-known c =
     subst (λ (xs : List Union). AreFresh t xs c.args.bindings.now c.in_ok-fresh.fresh c.add_fresh.new.merged) c.as_slice-2.ensures.value c.in_ok-fresh.ensures.fresh in
     can-rename-all t c.add_fresh.new.merged c.args.entries.now u.roots us _ c.law.ensures c.uses_law.ensures begins c.requires.bindings u.rooted.counted unions fresh c.requires.held c.requires.agreed bound
 
+pub imports_with_uses-requires-clause-held : goal.imports_with_uses-requires-clause-held
+imports_with_uses-requires-clause-held c =
+    let t = c.args.types.now in
+    let es = c.args.entries.now in
+    let bs = c.args.bindings.now in
+    let us = c.in_ok-unions.unions.unions.items in
+    let ps = c.in_ok-unions.unions.parts.items in
+    let f = c.in_ok-fresh.fresh in
+    let started = c.add_fresh.new.merged in
+    let m = c.write_imports.new.merged in
+    let bare = import_entries c.in_ok-bare.bare in
+    let u = c.in_ok-unions.ensures.unions in
+    let w = c.in_ok-bare.ensures.imports in
+    let begins : IsExtended t started = rw (sym c.in_ok-merged.ensures.cases) c.add_fresh.ensures.extended in
+    let fresh : AreFresh t us bs f started = subst (λ (xs : List Union). AreFresh t xs bs f started) c.as_slice-2.ensures.value c.in_ok-fresh.ensures.fresh in
+    let first = first-assembled t started m es us ps bs f c.args.order.now bare u w c.law.ensures c.law-2.ensures c.law-3.ensures c.uses_law.ensures begins c.write_imports.ensures.extended
+    c.in_ok-unions.ensures.listed c.requires.bindings fresh c.requires.held (agreed-pairs t es c.requires.agreed) c.requires.written c.requires.each c.requires.once in
+    imports-held t m es u.roots us ps bs f w.ids w.ws c.args.order.now bare first
+
+pub imports_with_uses-requires-clause-named : goal.imports_with_uses-requires-clause-named
+imports_with_uses-requires-clause-named c =
+    let t = c.args.types.now in
+    let es = c.args.entries.now in
+    let bs = c.args.bindings.now in
+    let us = c.in_ok-unions.unions.unions.items in
+    let ps = c.in_ok-unions.unions.parts.items in
+    let f = c.in_ok-fresh.fresh in
+    let started = c.add_fresh.new.merged in
+    let m = c.write_imports.new.merged in
+    let bare = import_entries c.in_ok-bare.bare in
+    let u = c.in_ok-unions.ensures.unions in
+    let w = c.in_ok-bare.ensures.imports in
+    let begins : IsExtended t started = rw (sym c.in_ok-merged.ensures.cases) c.add_fresh.ensures.extended in
+    let fresh : AreFresh t us bs f started = subst (λ (xs : List Union). AreFresh t xs bs f started) c.as_slice-2.ensures.value c.in_ok-fresh.ensures.fresh in
+    let first = first-assembled t started m es us ps bs f c.args.order.now bare u w c.law.ensures c.law-2.ensures c.law-3.ensures c.uses_law.ensures begins c.write_imports.ensures.extended
+    c.in_ok-unions.ensures.listed c.requires.bindings fresh c.requires.held (agreed-pairs t es c.requires.agreed) c.requires.written c.requires.each c.requires.once in
+    imports-asked t m es u.roots us ps bs f w.ids w.ws c.args.order.now bare first
+
+pub imports_with_uses-requires-clause-none : goal.imports_with_uses-requires-clause-none
+imports_with_uses-requires-clause-none c =
+    let t = c.args.types.now in
+    let es = c.args.entries.now in
+    let bs = c.args.bindings.now in
+    let us = c.in_ok-unions.unions.unions.items in
+    let ps = c.in_ok-unions.unions.parts.items in
+    let f = c.in_ok-fresh.fresh in
+    let started = c.add_fresh.new.merged in
+    let m = c.write_imports.new.merged in
+    let bare = import_entries c.in_ok-bare.bare in
+    let u = c.in_ok-unions.ensures.unions in
+    let w = c.in_ok-bare.ensures.imports in
+    let begins : IsExtended t started = rw (sym c.in_ok-merged.ensures.cases) c.add_fresh.ensures.extended in
+    let fresh : AreFresh t us bs f started = subst (λ (xs : List Union). AreFresh t xs bs f started) c.as_slice-2.ensures.value c.in_ok-fresh.ensures.fresh in
+    let first = first-assembled t started m es us ps bs f c.args.order.now bare u w c.law.ensures c.law-2.ensures c.law-3.ensures c.uses_law.ensures begins c.write_imports.ensures.extended
+    c.in_ok-unions.ensures.listed c.requires.bindings fresh c.requires.held (agreed-pairs t es c.requires.agreed) c.requires.written c.requires.each c.requires.once in
+    imports-none t m es u.roots us ps bs f w.ids w.ws c.args.order.now bare first
+
 pub returns : goal.returns
 returns c =
     let t = c.args.types.now in
@@ -42,36 +101,22 @@ returns c =
     let f = c.in_ok-fresh.fresh in
     let started = c.add_fresh.new.merged in
     let m = c.write_imports.new.merged in
+    let bare = import_entries c.in_ok-bare.bare in
     let u = c.in_ok-unions.ensures.unions in
-    let w = c.in_ok-imports.ensures.imports in
-    let o = c.in_ok-imports.ensures.once in
+    let w = c.in_ok-bare.ensures.imports in
     let begins : IsExtended t started = rw (sym c.in_ok-merged.ensures.cases) c.add_fresh.ensures.extended in
     let fresh : AreFresh t us bs f started = subst (λ (xs : List Union). AreFresh t xs bs f started) c.as_slice-2.ensures.value c.in_ok-fresh.ensures.fresh in
-    let after = c.write_imports.ensures.extended in
-    let all : AreAssembled t m es u.roots us ps bs f w.ids w.ws c.args.order.now (import_entries c.in_ok-imports.imports) =
-    record {
-      merged = record {
-        source = c.law.ensures;
-        target = c.law-3.ensures;
-        listed = c.in_ok-unions.ensures.listed;
-        bindings = c.requires.bindings;
-        counted = u.rooted.counted;
-        unions = u.unions;
-        fresh = still_fresh started m after c.law-2.ensures t us bs f fresh;
-        written = w.written;
-      };
-      extended = extended_twice t started m begins after;
-      sound = c.uses_law.ensures;
-      held = c.requires.held;
-      agreed = agreed-pairs t es c.requires.agreed;
-      rooted = u.rooted;
-      identified = w.identified;
-      imported = w.imported;
-      ordered = c.requires.written;
-      each = c.requires.each;
-      once = c.requires.once;
-    } in
-    let deep : AreDeep t m = record {
+    let first = first-assembled t started m es us ps bs f c.args.order.now bare u w c.law.ensures c.law-2.ensures c.law-3.ensures c.uses_law.ensures begins c.write_imports.ensures.extended
+    c.in_ok-unions.ensures.listed c.requires.bindings fresh c.requires.held (agreed-pairs t es c.requires.agreed) c.requires.written c.requires.each c.requires.once in
+    let more = c.imports_with_uses.new.merged in
+    let grown = c.imports_with_uses.ensures.extended in
+    let imports = import_entries c.in_ok-imports.imports in
+    let all = still-assembled t m more grown c.law-3.ensures c.law-4.ensures es us ps bs f c.args.order.now bare u.roots w.ids w.ws first in
+    let named = c.in_ok-named.named in
+    let positions = c.args.classes.now.positions.items in
+    let o = still-once t m more grown c.law-3.ensures c.law-4.ensures es us ps bs f c.args.order.now bare named positions c.in_ok-bare.ensures.once in
+    let using = c.in_ok-imports.ensures.using in
+    let deep : AreDeep t more = record {
       placed = c.trees_are_whole.ensures.placed;
       merged_placed = c.trees_are_whole-2.ensures.placed;
       bound = c.trees_are_whole.ensures.bound;
@@ -79,28 +124,31 @@ returns c =
       merged_named = c.trees_are_whole-2.ensures.named;
     } in
     record {
-      merged = merge-is t m es u.roots us ps bs f w.ids w.ws c.args.order.now (import_entries c.in_ok-imports.imports) all deep c.requires.agreed;
-      bound = bound-is t m es u.roots us ps bs f w.ids w.ws c.args.order.now (import_entries c.in_ok-imports.imports) all;
+      merged = using-merge t es more bare imports using (merge-is t more es u.roots us ps bs f w.ids w.ws c.args.order.now bare all deep c.requires.agreed);
+      bound = using-binds t es more bare imports using (bound-is t more es u.roots us ps bs f w.ids w.ws c.args.order.now bare all);
       once = record {
         us = us;
         ps = ps;
         bs = bs;
         f = f;
         numbers = c.args.classes.now.numbers.items;
-        positions = c.args.classes.now.positions.items;
+        positions = positions;
         names = c.args.classes.now.names;
         order = c.args.order.now;
-        t = c.in_ok-named.named;
+        t = named;
         classes = c.requires.classes;
         unions = u;
+        bare = bare;
         written = o.written;
+        using = using;
         united = c.in_ok-named.ensures.united;
         classed = c.in_ok-named.ensures.classed;
         named = c.in_ok-named.ensures.named;
-        one = one-id t m es us ps bs f c.in_ok-named.named c.args.classes.now.positions.items c.args.order.now (import_entries c.in_ok-imports.imports) o;
-        apart = apart-named t m es us ps bs f c.in_ok-named.named c.args.classes.now.positions.items c.args.order.now (import_entries c.in_ok-imports.imports) o;
+        one = one-id t more es us ps bs f named positions c.args.order.now bare o;
+        apart = apart-named t more es us ps bs f named positions c.args.order.now bare o;
       };
+      uses = using-keeps t es more bare imports using;
       begins = all.extended;
-      asked = λ i e at. still_holds t m all.extended (kind_type e.kind) (c.requires.held i e at);
-      holds = imports-held t m es u.roots us ps bs f w.ids w.ws c.args.order.now (import_entries c.in_ok-imports.imports) all;
+      asked = λ i e at. still_holds t more all.extended (kind_type e.kind) (c.requires.held i e at);
+      holds = using-held-all t es more bare imports using (imports-held t more es u.roots us ps bs f w.ids w.ws c.args.order.now bare all);
     }

@@ -1,0 +1,2 @@
+pub mod KeptUses
+pub mod Using
