@@ -1,5 +1,5 @@
 -- Aliases that are noted.
-use Rattle.std.proofs.Common.{◌≡◌, ◌↔◌, ◌⊎◌, ℕ, ◌<◌, Bool, true, false, cond, List, [], ◌∷◌, Option, Some, None, refl, sym, ap, ◌∙◌, subst, inl, inr, arith}
+use Rattle.std.proofs.Common.{◌≡◌, ◌≢◌, eqb, ◌↔◌, ◌⊎◌, ℕ, ◌<◌, Bool, true, false, cond, List, [], ◌∷◌, Option, Some, None, refl, sym, ap, ◌∙◌, subst, inl, inr, arith}
 use Rattle.std.specs.List.{list_any}
 use Rattle.std.specs.BTreeSet.{BTreeSet, contains, IsKeyRangeOf, IsKeyInRange}
 use Rattle.std.specs.BTreeMap.Range.{IsLeBy}
@@ -10,10 +10,10 @@ use Rattle.std.specs.declared.cmp.Ordering.{Ordering}
 use Rattle.std.specs.declared.cmp.Ordering.TheVariants.{Less, Equal, Greater}
 use Rattle.std.specs.Ordering.{nat_cmp, ordering_then, is_gt, is_eq, MatchOrdering}
 use Rattle.std.specs.Cmp.{ranks, tied_itself}
-use Rattle.std.proofs.lemmas.Bool.{false_from_ne_true}
+use Rattle.std.proofs.lemmas.Bool.{false_from_ne_true, cases_Bool, eqb-true}
+use Rattle.std.proofs.lemmas.Bool.Decides.{nat_tests}
 use Rattle.std.proofs.lemmas.Cmp.{nat_cmp_total}
 use Rattle.std.proofs.lemmas.Map.Lookups.{exact_unsigned}
-use Rattle.std.proofs.Common.{option_map, slice_index_or}
 use Rattle.std.specs.FinSet as set
 use Rattle.slab.specs.Slab.{Slab, get}
 use Rattle.wac_edges.specs.declared.records.Record.{Record}
@@ -23,12 +23,15 @@ use Rattle.wac_edges.specs.declared.edges.Label.TheVariants.{Alias}
 use Rattle.wac_edges.specs.declared.edges.Edge.{Edge}
 use Rattle.wac_edges.specs.declared.node.NodeId.{NodeId}
 use Rattle.wac_edges.specs.Edge.{node_number, alias_edge}
-use Rattle.std.proofs.Common.{◌++◌, length, take, drop}
+use Rattle.std.proofs.Common.{◌++◌, length, take, drop, map, Contains}
 use Rattle.std.proofs.Math.Seq.{take-append_seam}
 use Rattle.wac_edges.specs.declared.records.Firsts.{Firsts}
-use Rattle.wac_edges.specs.Records.{Table, HasEdge, AreListed, edge_at}
-use Rattle.wac_edges.specs.Aliases.{triple_cmp, is_noted, AreNoted}
+use Rattle.wac_edges.specs.Records.{Table, HasEdge, AreListed, edge_at, list_at, first_at}
+use Rattle.wac_edges.specs.Aliases.{triple_cmp, is_noted, is_crowded, AreNoted}
+use Rattle.wac_edges.specs.declared.edges.End.TheVariants.{Outgoing}
+use Rattle.slab.proofs.SlabLemmas.{Contains-cons, Contains-cons_cases}
 use Rattle.wac_edges.proofs.EdgeLemmas.{same_node}
+use Rattle.wac_edges.proofs.ListLemmas.{in_list, edge_of_list}
 
 -- ---- triples
 then_equal : (r s : Ordering) → is_eq (ordering_then r s) ≡ true → (r ≡ Equal) × (s ≡ Equal)
@@ -151,46 +154,144 @@ pub if_none : {T : Type 0} (o : Option T) {P : Type 0} → P → IfNone o P
 if_none None p = p
 if_none (Some x) p = tt
 
+-- ---- an edge of a crowded node
+module _ (crowded : List Bool) (old new : BTreeSet (ℕ × ℕ × ℕ)) (edge : Edge) (source target : NodeId) (i : ℕ) where
+  from_crowded : alias_edge source target i ≡ edge → is_crowded crowded source ≡ is_crowded crowded edge.source
+  from_crowded same = ap (λ (e : Edge). is_crowded crowded e.source) same
+
+  pub noted_in : is_crowded crowded edge.source ≡ true → (is_noted new source i target ≡ true) ↔ ((is_noted old source i target ≡ true) ⊎ (alias_edge source target i ≡ edge))
+      → (is_noted new source i target ≡ true) ↔ ((is_noted old source i target ≡ true) ⊎ ((is_crowded crowded source ≡ true) × (alias_edge source target i ≡ edge)))
+  noted_in many now = (
+    λ w. elim (now.0 w) [ inl was ↦ inl was | inr same ↦ inr (from_crowded same ∙ many, same) ],
+    λ h. now.1 (elim h [ inl was ↦ inl was | inr both ↦ inr both.1 ]),
+  )
+
+  pub noted_out : is_crowded crowded edge.source ≡ false → (is_noted old source i target ≡ true) ↔ ((is_noted old source i target ≡ true) ⊎ ((is_crowded crowded source ≡ true) × (alias_edge source target i ≡ edge)))
+  noted_out few = (
+    λ w. inl w,
+    λ h. elim h [ inl was ↦ was | inr both ↦ absurd (let wrong : true ≡ false = sym both.0 ∙ from_crowded both.1 ∙ few in cc) ],
+  )
+
+-- ---- some edges, one after another
+-- of all of these edges those are noted that are not left
+pub record AreNoting (all left : List Edge) (old now : BTreeSet (ℕ × ℕ × ℕ)) : Type 0 where
+  pub within : (e : Edge) → Contains left e → Contains all e
+  pub more : (source target : NodeId) (i : ℕ) → is_noted now source i target ≡ true → (is_noted old source i target ≡ true) ⊎ Contains all (alias_edge source target i)
+  pub kept : (source target : NodeId) (i : ℕ) → is_noted old source i target ≡ true → is_noted now source i target ≡ true
+  pub done : (source target : NodeId) (i : ℕ) → Contains all (alias_edge source target i) → Contains left (alias_edge source target i) ⊎ (is_noted now source i target ≡ true)
+
+pub noting_start : (all left : List Edge) (aliases : BTreeSet (ℕ × ℕ × ℕ)) → left ≡ all → AreNoting all left aliases aliases
+noting_start all left aliases is = record {
+  within = λ e w. subst (λ (l : List Edge). Contains l e) is w;
+  more = λ source target i w. inl w;
+  kept = λ source target i w. w;
+  done = λ source target i w. inl (subst (λ (l : List Edge). Contains l (alias_edge source target i)) (sym is) w);
+}
+
+pub noting_next : (all left rest : List Edge) (edge : Edge) (old now new : BTreeSet (ℕ × ℕ × ℕ)) → left ≡ edge ∷ rest → AreNoting all left old now
+    → ((source target : NodeId) (i : ℕ) → (is_noted new source i target ≡ true) ↔ ((is_noted now source i target ≡ true) ⊎ (alias_edge source target i ≡ edge))) → AreNoting all rest old new
+noting_next all left rest edge old now new is a step = record {
+  within = λ e w. a.within e (subst (λ (l : List Edge). Contains l e) (sym is) (Contains-cons edge e rest w));
+  more = λ source target i w. elim ((step source target i).0 w) [
+    | inl was ↦ a.more source target i was
+    | inr same ↦ inr (subst (λ (e : Edge). Contains all e) (sym same) (a.within edge (subst (λ (l : List Edge). Contains l edge) (sym is) (0, omega arith, refl))))
+  ];
+  kept = λ source target i w. (step source target i).1 (inl (a.kept source target i w));
+  done = λ source target i w. elim (a.done source target i w) [
+    | inl there ↦ elim (Contains-cons_cases edge (alias_edge source target i) rest (subst (λ (l : List Edge). Contains l (alias_edge source target i)) is there)) [
+      | inl same ↦ inr ((step source target i).1 (inr (sym same)))
+      | inr behind ↦ inl behind
+    ]
+    | inr noted ↦ inr ((step source target i).1 (inl noted))
+  ];
+}
+
+pub noting_done : (all left : List Edge) (old now : BTreeSet (ℕ × ℕ × ℕ)) → left ≡ [] → AreNoting all left old now → (source target : NodeId) (i : ℕ) → Contains all (alias_edge source target i) → is_noted now source i target ≡ true
+noting_done all left old now is a source target i w = elim (a.done source target i w) [
+  | inl there ↦ absurd (let (k, within, _) = subst (λ (l : List Edge). Contains l (alias_edge source target i)) is there in omega arith)
+  | inr noted ↦ noted
+]
+
+-- ---- one crowded node more
+pub crowded_more : (crowded then : List Bool) (node : NodeId) → ((n : NodeId) → n.0 ≢ node.0 → is_crowded then n ≡ is_crowded crowded n) → (source : NodeId) → is_crowded then source ≡ true → (is_crowded crowded source ≡ true) ⊎ (source.0 ≡ node.0)
+crowded_more crowded then node others source many = elim (cases_Bool (eqb source.0 node.0)) [
+  | inl same ↦ inr (eqb-true source.0 node.0 same)
+  | inr differ ↦ inl (sym (others source (grind (arith, nat_tests))) ∙ many)
+]
+
 -- ---- the notes of a table
-pub noted_with : (old new : BTreeSet (ℕ × ℕ × ℕ)) (t u : Table) (edge : Edge) → AreNoted old t
-    → ((source target : NodeId) (i : ℕ) → (is_noted new source i target ≡ true) ↔ ((is_noted old source i target ≡ true) ⊎ (alias_edge source target i ≡ edge)))
-    → ((e : Edge) → HasEdge u e ↔ (HasEdge t e ⊎ (e ≡ edge))) → AreNoted new u
-noted_with old new t u edge noted now edges source target i = (
-  λ w. (edges (alias_edge source target i)).1 (elim ((now source target i).0 w) [ inl was ↦ inl ((noted source target i).0 was) | inr same ↦ inr same ]),
-  λ h. (now source target i).1 (elim ((edges (alias_edge source target i)).0 h) [ inl was ↦ inl ((noted source target i).1 was) | inr same ↦ inr same ]),
-)
+pub noted_with : (crowded marks : List Bool) → marks ≡ crowded → (old new : BTreeSet (ℕ × ℕ × ℕ)) (t u : Table) (edge : Edge) → AreNoted crowded old t
+    → ((source target : NodeId) (i : ℕ) → (is_noted new source i target ≡ true) ↔ ((is_noted old source i target ≡ true) ⊎ ((is_crowded marks source ≡ true) × (alias_edge source target i ≡ edge))))
+    → ((e : Edge) → HasEdge u e ↔ (HasEdge t e ⊎ (e ≡ edge))) → AreNoted crowded new u
+noted_with crowded marks read old new t u edge noted now edges = record {
+  sound = λ source target i w. (edges (alias_edge source target i)).1 (elim ((now source target i).0 w) [ inl was ↦ inl (noted.sound source target i was) | inr both ↦ inr both.1 ]);
+  all = λ source target i many h. (now source target i).1 (elim ((edges (alias_edge source target i)).0 h) [ inl was ↦ inl (noted.all source target i many was) | inr same ↦ inr (ap (λ l. is_crowded l source) read ∙ many, same) ]);
+}
 
-pub noted_without : (old new : BTreeSet (ℕ × ℕ × ℕ)) (t u : Table) (edge : Edge) (key : ℕ) → edge_at t key ≡ Some edge → AreNoted old t
+pub noted_without : (crowded : List Bool) (old new : BTreeSet (ℕ × ℕ × ℕ)) (t u : Table) (edge : Edge) (key : ℕ) → edge_at t key ≡ Some edge → AreNoted crowded old t
     → ((source target : NodeId) (i : ℕ) → (is_noted new source i target ≡ true) ↔ ((is_noted old source i target ≡ true) × (alias_edge source target i ≡ edge → ⊥)))
-    → ((e : Edge) → HasEdge u e ↔ (HasEdge t e × (edge_at t key ≡ Some e → ⊥))) → AreNoted new u
-noted_without old new t u edge key at noted now edges source target i = (
-  λ w.
+    → ((e : Edge) → HasEdge u e ↔ (HasEdge t e × (edge_at t key ≡ Some e → ⊥))) → AreNoted crowded new u
+noted_without crowded old new t u edge key at noted now edges = record {
+  sound = λ source target i w.
       let (was, other) = (now source target i).0 w in
-      (edges (alias_edge source target i)).1 ((noted source target i).0 was, λ here. other (let both : Some edge ≡ Some (alias_edge source target i) = sym at ∙ here in let same : edge ≡ alias_edge source target i = cc in sym same)),
-  λ h.
+      (edges (alias_edge source target i)).1 (noted.sound source target i was, λ here. other (let both : Some edge ≡ Some (alias_edge source target i) = sym at ∙ here in let same : edge ≡ alias_edge source target i = cc in sym same));
+  all = λ source target i many h.
       let (was, other) = (edges (alias_edge source target i)).0 h in
-      (now source target i).1 ((noted source target i).1 was, λ same. other (at ∙ ap (λ (e : Edge). Some e) (sym same))),
-)
+      (now source target i).1 (noted.all source target i many was, λ same. other (at ∙ ap (λ (e : Edge). Some e) (sym same)));
+}
 
-pub noted_as : (old new : BTreeSet (ℕ × ℕ × ℕ)) (t : Table) → AreNoted old t → ((source target : NodeId) (i : ℕ) → is_noted new source i target ≡ is_noted old source i target) → AreNoted new t
-noted_as old new t noted same source target i = (λ w. (noted source target i).0 (sym (same source target i) ∙ w), λ h. same source target i ∙ (noted source target i).1 h)
+pub noted_as : (crowded : List Bool) (old new : BTreeSet (ℕ × ℕ × ℕ)) (t : Table) → AreNoted crowded old t → ((source target : NodeId) (i : ℕ) → is_noted new source i target ≡ is_noted old source i target) → AreNoted crowded new t
+noted_as crowded old new t noted same = record {
+  sound = λ source target i w. noted.sound source target i (sym (same source target i) ∙ w);
+  all = λ source target i many h. same source target i ∙ noted.all source target i many h;
+}
 
-pub noted_none : (s : Slab Record) (aliases : BTreeSet (ℕ × ℕ × ℕ)) → s.slots ≡ [] → aliases.keys ≡ [] → AreNoted aliases (get s)
-noted_none s aliases empty none source target i = (
-  λ w. let wrong : false ≡ true = sym (ap (λ ks. list_any (is_at (triple_cmp (source.0, i, target.0))) ks) none) ∙ w in cc,
-  λ h. let (k, at) = h in let wrong : None ≡ Some (alias_edge source target i) = sym (nothing k) ∙ at in cc,
-) where
-  nothing : (k : ℕ) → edge_at (get s) k ≡ None
-  nothing k = ap (λ (slots : List (Option Record)). option_map (λ (r : Record). r.edge) (slice_index_or slots k None)) empty
+pub noted_with_same : (crowded then : List Bool) (old new : BTreeSet (ℕ × ℕ × ℕ)) (t : Table) → ((n : NodeId) → is_crowded then n ≡ is_crowded crowded n) → AreNoted crowded old t → ((source target : NodeId) (i : ℕ) → is_noted new source i target ≡ is_noted old source i target) → AreNoted then new t
+noted_with_same crowded then old new t numbers noted same = record {
+  sound = λ source target i w. noted.sound source target i (sym (same source target i) ∙ w);
+  all = λ source target i many h. same source target i ∙ noted.all source target i (sym (numbers source) ∙ many) h;
+}
+
+pub noted_none : (s : Slab Record) (crowded : List Bool) (aliases : BTreeSet (ℕ × ℕ × ℕ)) → s.slots ≡ [] → crowded ≡ [] → aliases.keys ≡ [] → AreNoted crowded aliases (get s)
+noted_none s crowded aliases empty few none = record {
+  sound = λ source target i w. let wrong : false ≡ true = sym (ap (λ ks. list_any (is_at (triple_cmp (source.0, i, target.0))) ks) none) ∙ w in cc;
+  all = λ source target i many h. let wrong : false ≡ true = sym (ap (λ (l : List Bool). is_crowded l source) few) ∙ many in cc;
+}
+
+-- ---- the aliases of one node more
+module _ (s : Slab Record) (firsts : List Firsts) (listed : AreListed (get s) firsts) (crowded : List Bool) (old new : BTreeSet (ℕ × ℕ × ℕ)) (noted : AreNoted crowded old (get s)) (node : NodeId) (es : List Edge)
+    (at : es ≡ map (λ (x : ℕ × Edge). x.1) (list_at s Outgoing (first_at Outgoing firsts node.0)))
+    (more : (source target : NodeId) (i : ℕ) → is_noted new source i target ≡ true → (is_noted old source i target ≡ true) ⊎ Contains es (alias_edge source target i))
+    (kept : (source target : NodeId) (i : ℕ) → is_noted old source i target ≡ true → is_noted new source i target ≡ true) where
+  more_sound : (source target : NodeId) (i : ℕ) → is_noted new source i target ≡ true → HasEdge (get s) (alias_edge source target i)
+  more_sound source target i w = elim (more source target i w) [
+    | inl was ↦ noted.sound source target i was
+    | inr there ↦ (in_list s firsts listed node.0 Outgoing (alias_edge source target i) (subst (λ (l : List Edge). Contains l (alias_edge source target i)) at there)).0
+  ]
+
+  -- some of them are noted
+  pub noted_some : AreNoted crowded new (get s)
+  noted_some = record { sound = more_sound; all = λ source target i many h. kept source target i (noted.all source target i many h) }
+
+  -- all of them are
+  pub noted_node : ((source target : NodeId) (i : ℕ) → Contains es (alias_edge source target i) → is_noted new source i target ≡ true)
+      → (then : List Bool) → ((source : NodeId) → is_crowded then source ≡ true → (is_crowded crowded source ≡ true) ⊎ (source.0 ≡ node.0)) → AreNoted then new (get s)
+  noted_node every then crowd = record {
+    sound = more_sound;
+    all = λ source target i many h. elim (crowd source many) [
+      | inl was ↦ kept source target i (noted.all source target i was h)
+      | inr here ↦ every source target i (subst (λ (l : List Edge). Contains l (alias_edge source target i)) (sym at) (edge_of_list s firsts listed node.0 Outgoing (alias_edge source target i) h here))
+    ];
+  }
 
 -- ---- the alias that a look-up answers
-module _ (s : Slab Record) (aliases : BTreeSet (ℕ × ℕ × ℕ)) (edges : Edges) (noted : AreNoted aliases (get s)) (shown : the_set s ≡ edges) (source : NodeId) (i : ℕ) where
+module _ (s : Slab Record) (crowded : List Bool) (aliases : BTreeSet (ℕ × ℕ × ℕ)) (edges : Edges) (noted : AreNoted crowded aliases (get s)) (shown : the_set s ≡ edges) (source : NodeId) (i : ℕ) where
   pub alias_found : (target : ℕ) → is_noted aliases source i (node_number target) ≡ true → set.contains edges (alias_edge source (node_number target) i) ≡ true
-  alias_found target there = ap (λ (v : Edges). set.contains v (alias_edge source (node_number target) i)) (sym shown) ∙ of_table s (alias_edge source (node_number target) i) ((noted source (node_number target) i).0 there)
+  alias_found target there = ap (λ (v : Edges). set.contains v (alias_edge source (node_number target) i)) (sym shown) ∙ of_table s (alias_edge source (node_number target) i) (noted.sound source (node_number target) i there)
 
-  pub alias_absent : ((target : NodeId) → is_noted aliases source i target ≡ false) → (target : NodeId) → set.contains edges (alias_edge source target i) ≡ false
-  alias_absent none target = false_from_ne_true (set.contains edges (alias_edge source target i)) (λ h.
-      let there : is_noted aliases source i target ≡ true = (noted source target i).1 (in_table s (alias_edge source target i) (ap (λ (v : Edges). set.contains v (alias_edge source target i)) shown ∙ h)) in
+  pub alias_absent : is_crowded crowded source ≡ true → ((target : NodeId) → is_noted aliases source i target ≡ false) → (target : NodeId) → set.contains edges (alias_edge source target i) ≡ false
+  alias_absent many none target = false_from_ne_true (set.contains edges (alias_edge source target i)) (λ h.
+      let there : is_noted aliases source i target ≡ true = noted.all source target i many (in_table s (alias_edge source target i) (ap (λ (v : Edges). set.contains v (alias_edge source target i)) shown ∙ h)) in
       let wrong : false ≡ true = sym (none target) ∙ there in cc)
 
 -- ---- the first records that were written through a borrow of all of them

@@ -1,10 +1,11 @@
-//! The aliases of each export, noted in an order in which those of one export stand together.
-ghost use Rattle.std.specs.Prelude.{◌≡◌, ◌↔◌, ◌⊎◌, ℕ, true, false, IfSome, IfNone, OnOk, OnErr};
+//! The aliases of each export of a node from which many edges lead, noted in an order in which those of one export stand together.
+ghost use Rattle.std.specs.Prelude.{◌≡◌, ◌≢◌, ◌↔◌, ◌⊎◌, ℕ, true, false, Contains, IfSome, IfNone, OnOk, OnErr};
 ghost use Rattle.wac_edges.specs.declared.node.NodeId.{NodeId as AnId};
 ghost use Rattle.wac_edges.specs.Edge.{node_number, alias_edge};
-ghost use Rattle.wac_edges.specs.Aliases.{is_noted};
+ghost use Rattle.wac_edges.specs.Aliases.{is_noted, is_crowded};
 
 use crate::edges::{Edge, Label};
+use crate::walk::Walk;
 use std::alloc::AllocError;
 use std::collections::BTreeSet;
 
@@ -20,6 +21,62 @@ pub(crate) fn note_alias(
         return Ok(());
     };
     aliases.insert((edge.source.0, position, edge.target.0))?;
+    Ok(())
+}
+
+/// Whether the node of this number is marked as crowded.
+pub(crate) fn is_crowded(crowded: &[bool], number: usize) -> bool
+    ensures { result ≡ is_crowded crowded.now (node_number number) }
+{
+    match crowded.get(number) {
+        Some(marked) => *marked,
+        None => false,
+    }
+}
+
+/// Marks the node of this number as crowded; where memory runs out nothing has changed.
+pub(crate) fn mark(crowded: &mut Vec<bool>, number: usize) -> Result<(), AllocError>
+    ensures marked { OnOk result (is_crowded crowded.new.items (node_number number) ≡ true) }
+    ensures others { (n : AnId) → n.0 ≢ number → is_crowded crowded.new.items n ≡ is_crowded crowded.old.items n }
+    ensures kept { OnErr result ((n : AnId) → is_crowded crowded.new.items n ≡ is_crowded crowded.old.items n) }
+{
+    let Some(count) = number.checked_add(1) else {
+        return Err(AllocError);
+    };
+    if crowded.len() < count {
+        crowded.resize(count, false)?;
+    }
+    crowded[number] = true;
+    Ok(())
+}
+
+/// Notes an edge, where it leads from a crowded node to an alias; where memory runs out nothing has changed.
+pub(crate) fn note(
+    crowded: &[bool],
+    aliases: &mut BTreeSet<(usize, usize, usize)>,
+    edge: Edge,
+) -> Result<(), AllocError>
+    ensures ok { OnOk result ((source target : AnId) (i : ℕ) → (is_noted aliases.new source i target ≡ true) ↔ ((is_noted aliases.old source i target ≡ true) ⊎ ((is_crowded crowded.now source ≡ true) × (alias_edge source target i ≡ edge)))) }
+    ensures err { OnErr result ((source target : AnId) (i : ℕ) → is_noted aliases.new source i target ≡ is_noted aliases.old source i target) }
+{
+    if is_crowded(crowded, edge.source.0) {
+        return note_alias(aliases, edge);
+    }
+    Ok(())
+}
+
+/// Notes those of some edges that lead to aliases; where memory runs out, only some of them.
+pub(crate) fn note_all(
+    aliases: &mut BTreeSet<(usize, usize, usize)>,
+    walk: Walk<'_>,
+) -> Result<(), AllocError>
+    ensures more { (source target : AnId) (i : ℕ) → is_noted aliases.new source i target ≡ true → (is_noted aliases.old source i target ≡ true) ⊎ Contains walk.entry.left (alias_edge source target i) }
+    ensures kept { (source target : AnId) (i : ℕ) → is_noted aliases.old source i target ≡ true → is_noted aliases.new source i target ≡ true }
+    ensures all { OnOk result ((source target : AnId) (i : ℕ) → Contains walk.entry.left (alias_edge source target i) → is_noted aliases.new source i target ≡ true) }
+{
+    for edge in walk {
+        note_alias(aliases, edge)?;
+    }
     Ok(())
 }
 

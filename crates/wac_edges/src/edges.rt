@@ -11,7 +11,7 @@ ghost use Rattle.wac_cycles.specs.Cycles.{IsStep};
 ghost use Rattle.wac_cycles.specs.Numbers.{Has};
 ghost use Rattle.wac_edges.specs.Ready.{IsListed};
 
-use crate::aliases::{first_alias, forget_alias, note_alias};
+use crate::aliases::{first_alias, forget_alias, is_crowded, mark, note, note_all};
 use crate::node::NodeId;
 use crate::records::{Firsts, Record, find, make_firsts, put, take};
 use crate::walk::{Walk, records_at};
@@ -66,15 +66,20 @@ pub enum End {
 
 /// A set of edges. Each has one record in a table; a record whose edge is taken out is used again. The record stands in a
 /// list of the edges from its source and in one of those to its target, so that each look-up reads the records at one node.
-/// The alias of an export is found without that, among those that are noted.
+/// The alias of an export of a node from which many edges lead is found without that, among those that are noted.
 #[derive(Drop)]
 pub struct Edges {
     records: Slab<Record>,
     // For each node up to the greatest of a source or a target that was given.
     firsts: Vec<Firsts>,
-    // The numbers of each alias's source, of the export's position, and of the alias.
+    // Marks the numbers of the nodes from which more edges led, once, than are looked through.
+    crowded: Vec<bool>,
+    // Of each alias of one of these the numbers of its source, of the export's position, and of the alias.
     aliases: BTreeSet<(usize, usize, usize)>,
 }
+
+/// So many edges from a node are looked through for an alias.
+const FEW: usize = 8;
 
 impl Model for Edges {
     ghost use Rattle.std.specs.FinSet as set;
@@ -90,7 +95,7 @@ impl Model for Edges {
 
     ghost view = { λ a. set.from_list (all_edges a.records.slots) };
 
-    ghost invariant = { λ a. AreListed (get a.records) a.firsts.items × AreNoted a.aliases (get a.records) };
+    ghost invariant = { λ a. AreListed (get a.records) a.firsts.items × AreNoted a.crowded.items a.aliases (get a.records) };
 }
 
 /// The clone is the same set, and both change on their own. This takes as many steps as there are edges, and nodes up to the
@@ -101,10 +106,12 @@ impl Clone for Edges {
     fn clone(&self) -> Result<Edges, AllocError> {
         let records = self.records.clone()?;
         let firsts = self.firsts.clone()?;
+        let crowded = self.crowded.clone()?;
         let aliases = self.aliases.clone()?;
         Ok(Edges {
             records,
             firsts,
+            crowded,
             aliases,
         })
     }
@@ -118,6 +125,7 @@ impl Edges {
         Edges {
             records: Slab::new(alloc),
             firsts: Vec::new(alloc),
+            crowded: Vec::new(alloc),
             aliases: BTreeSet::new(alloc),
         }
     }
@@ -130,11 +138,28 @@ impl Edges {
         if self.contains(edge) {
             return Ok(());
         }
+        self.crowd(edge.source)?;
         make_firsts(&mut self.firsts, edge.source.0)?;
         make_firsts(&mut self.firsts, edge.target.0)?;
         self.records.reserve(1)?;
-        note_alias(&mut self.aliases, edge)?;
+        note(&self.crowded, &mut self.aliases, edge)?;
         put(&mut self.records, &mut self.firsts, edge);
+        Ok(())
+    }
+
+    /// Notes the aliases of a node from which more edges lead than are looked through, where they are not noted yet.
+    fn crowd(&mut self, node: NodeId) -> Result<(), AllocError>
+        ensures { self.new ≡ self.old }
+    {
+        if is_crowded(&self.crowded, node.0) {
+            return Ok(());
+        }
+        if self.walk(node, End::Outgoing).nth(FEW).is_none() {
+            return Ok(());
+        }
+        let records = records_at(&self.records, &self.firsts, node.0, End::Outgoing);
+        note_all(&mut self.aliases, Walk::new(records))?;
+        mark(&mut self.crowded, node.0)?;
         Ok(())
     }
 
@@ -177,13 +202,22 @@ impl Edges {
         false
     }
 
-    /// The alias of an instance's export at this position. This takes as many steps as the logarithm of how many there are.
+    /// The alias of an instance's export at this position. This looks through the edges from the instance where they are few, and
+    /// takes as many steps as the logarithm of how many aliases there are where they are many.
     pub fn alias(&self, source: NodeId, position: usize) -> Option<NodeId>
         ensures some { IfSome result (λ target. set.contains self.now (alias_edge source target position) ≡ true) }
         ensures none { IfNone result ((target : AnId) → set.contains self.now (alias_edge source target position) ≡ false) }
     {
-        let target = first_alias(&self.aliases, source.0, position)?;
-        Some(NodeId(target))
+        if is_crowded(&self.crowded, source.0) {
+            let target = first_alias(&self.aliases, source.0, position)?;
+            return Some(NodeId(target));
+        }
+        for edge in self.walk(source, End::Outgoing) {
+            if edge.label == Label::Alias(position) {
+                return Some(edge.target);
+            }
+        }
+        None
     }
 
     /// The instance and the position of the export that an alias stands for.

@@ -27,5 +27,5 @@ take-requires-clause-listed c = subst (λ (f : List Firsts). AreListed (get c.se
 pub invariant_of-self : goal.invariant_of-self
 invariant_of-self c = (
   listed_back (get c.take.new.records) c.take.new.firsts c.self.inside.firsts.items c.self.inside.firsts.len (c.take.auto.firsts ∙ c.deref_mut.ensures.len) c.take.ensures.listed,
-  noted_without c.self.inside.aliases c.forget_alias.new.aliases (get c.self.inside.records) (get c.take.new.records) c.args.edge c.in-Some.key c.in-Some.ensures.some c.self.invariant.1 c.forget_alias.ensures c.take.ensures.edges,
+  noted_without c.self.inside.crowded.items c.self.inside.aliases c.forget_alias.new.aliases (get c.self.inside.records) (get c.take.new.records) c.args.edge c.in-Some.key c.in-Some.ensures.some c.self.invariant.1 c.forget_alias.ensures c.take.ensures.edges,
 )
