@@ -1,4 +1,4 @@
-use Rattle.std.proofs.Common.{◌≡◌, true, inl, ◌∙◌}
+use Rattle.std.proofs.Common.{◌≡◌, inl, ◌∙◌}
 use Rattle.wac_causes.specs.NotYet.{AllImportable, undefined_components, unwritten}
 use Rattle.wac_meaning.specs.Beginning.{Begins}
 use Rattle.wac_meaning.specs.MergedImports.{merged_imports, AreOfSorts}
