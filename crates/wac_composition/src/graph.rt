@@ -277,6 +277,7 @@ impl CompositionGraph {
             item_kind: kind,
             name: None,
             export_name: None,
+            first_name: None,
         });
         Ok(NodeId(number))
     }
@@ -304,6 +305,7 @@ impl CompositionGraph {
             item_kind: ItemKind::Instance(package.instance_type()),
             name: None,
             export_name: None,
+            first_name: None,
         };
         let number = self.nodes.insert(node)?;
         Ok(NodeId(number))
@@ -356,6 +358,7 @@ impl CompositionGraph {
             item_kind,
             name: None,
             export_name: None,
+            first_name: None,
         });
         Ok(NodeId(number))
     }

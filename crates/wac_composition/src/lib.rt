@@ -9,6 +9,7 @@ mod arguments_of;
 mod asked;
 mod clones;
 mod conflicts;
+mod defining;
 mod encode;
 mod graph;
 mod imports;

@@ -30,7 +30,7 @@ Names = HashMap (String Global) NodeId (BuildHasherDefault FoldHasher)
 
 -- the node of a new import
 abbrev pub new_import : String Global → ItemKind → Node
-new_import own kind = record { kind = code.Import own; «package» = None; item_kind = kind; name = None; export_name = None }
+new_import own kind = record { kind = code.Import own; «package» = None; item_kind = kind; name = None; export_name = None; first_name = None }
 
 module _ (a : Fields) (v : Invariant a) (name : Name) where
   -- the name is that of the node that is found

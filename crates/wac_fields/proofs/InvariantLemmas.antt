@@ -1,5 +1,5 @@
 -- What is always true of a graph's fields stays true after each call.
-use Rattle.std.proofs.Common.{◌≡◌, ◌≢◌, ℕ, Bool, true, false, ◌||◌, ◌&&◌, List, [], ◌∷◌, ◌++◌, length, reverse, map as map_list, refl, ap, ◌∙◌, sym, subst, ◌==◌, Option, Some, None, IsSome, is_some, ◌⊎◌, inl, inr, get_or, String, Global, string_bytes, Vec, ◌<◌, ◌≤◌, arith}
+use Rattle.std.proofs.Common.{◌≡◌, ◌≢◌, ℕ, Bool, true, false, ◌||◌, ◌&&◌, List, [], ◌∷◌, ◌++◌, length, reverse, map as map_list, refl, ap, ◌∙◌, sym, subst, ◌==◌, Option, Some, None, IsSome, is_some, ◌⊎◌, inl, inr, get_or, Ok, String, Global, string_bytes, Vec, ◌<◌, ◌≤◌, arith}
 use Rattle.std.specs.Prelude.{slice_get, IsSomeAnd, vec_capacity}
 use Rattle.std.specs.Option.{option_map}
 use Rattle.std.specs.Map.{lookup}
@@ -14,6 +14,7 @@ use Rattle.wac_collection.specs.Collection.{Collection, holds_type, IsWellFormed
 use Rattle.wac_shapes.specs.Kinds.{kind_type}
 use Rattle.wac_collection.specs.Package.{PackageParts, Key, same_key, HoldsPackage}
 use Rattle.wac_shapes.specs.declared.component.ItemKind.{ItemKind}
+use Rattle.wac_shapes.specs.declared.component.«Type».{«Type» as AnyType}
 use Rattle.wac_edges.specs.declared.edges.Edge.{Edge}
 use Rattle.wac_edges.specs.declared.edges.Label.TheVariants as label
 use Rattle.wac_nodes.specs.declared.node.Node.{Node}
@@ -33,8 +34,10 @@ use Rattle.wac_removing.specs.declared.lost.Lost.{Lost}
 use Rattle.wac_removing.proofs.ToldLemmas.{tells_there, keeps_name, tells_more, tells_kept, listed_before}
 use Rattle.wac_removing.specs.Slots.{key_of, AreKeyed, vacant_of}
 use Rattle.wac_removing.proofs.SlotLemmas.{put_takes, sound_takes, room_takes, free_key, keyed_put}
-use Rattle.wac_fields.specs.Fields.{Fields, graph_of, Invariant}
-use Rattle.wac_nodes.specs.Steps.{instance_node, import_node, alias_node, TakesSlot}
+use Rattle.wac_fields.specs.Fields.{Fields, Names, graph_of, Invariant}
+use Rattle.wac_nodes.specs.Steps.{instance_node, import_node, alias_node, TakesSlot, Defines}
+use Rattle.wac_nodes.specs.Definitions.{definition_node, IsDependency, reached, reaching}
+use Rattle.wac_nodes.proofs.DefinitionLemmas.{sound_defines}
 use Rattle.wac_nodes.proofs.Added.{by_eq, insert_same, insert_other, ImportIn, import_before, import_after, added_edge, kept_edge, new_edge}
 use Rattle.wac_nodes.proofs.JoinLemmas.{Extends}
 use Rattle.wac_nodes.proofs.SoundLemmas.{sound_import, sound_types, sound_node, sound_alias, sound_argument, sound_export}
@@ -264,6 +267,37 @@ module _ (a : Fields) (v : Invariant a) where
           importing = still_importing (instance_node id p) shown;
           told = told_before;
         }
+
+    -- a new definition, with the edges that it brings, and its export
+    pub invariant_definition : (edges : set.FinSet edge_cmp) (names : Names) (lost : Lost) (name : Name) (t : AnyType) → node_of node ≡ definition_node name t → holds_type a.types t ≡ true → ((q : ℕ) → is_again a.lost q ≡ true → is_again lost q ≡ true)
+        → Defines (graph_of a) name t (Ok (record { 0 = n })) (graph_of (record a { nodes = nodes; edges = edges; exports = names; lost = lost })) → Invariant (record a { nodes = nodes; edges = edges; exports = names; lost = lost })
+    invariant_definition edges names lost name t shape held more step =
+        let with = step.6 in
+        let is = step.7 in
+        let shown : nodes_of nodes.slots ≡ map.insert (nodes_of a.nodes.slots) n (definition_node name t) = ap (λ (g : graph.Graph). g.nodes) is in
+        record {
+          sound = sound_defines (graph_of a) (graph_of (record a { nodes = nodes; edges = edges; exports = names; lost = lost })) v.sound name t (record { 0 = n }) held step;
+          marked = λ s u i stands. still_marked s u i (was_argument s u i ((with (argument_edge s u i)).0 stands));
+          edged = λ u i h. let (s, stands) = still_edged u i h in (s, (with (argument_edge s u i)).1 (inr stands));
+          keyed = v.keyed;
+          room = v.room;
+          named = still_named (definition_node name t) shown (λ other wrong. cc);
+          importing = still_importing (definition_node name t) shown;
+          told = λ i other m at. told i other m (listed_before (names_of a.exports.entries) (name, number n) i (other, m) (ap (λ es. slice_get es i) (sym (ap (λ (g : graph.Graph). g.exports) is)) ∙ at));
+        } where
+          no_dependency : {i : ℕ} → label.Argument i ≡ label.Dependency → ⊥
+          no_dependency h = cc
+
+          was_argument : (s u : NodeId) (i : ℕ) → IsDependency (graph_of a) t (record { 0 = n }) (argument_edge s u i) ⊎ (set.contains a.edges (argument_edge s u i) ≡ true) → set.contains a.edges (argument_edge s u i) ≡ true
+          was_argument s u i (inl (reached m k _ _ _ is)) = absurd (no_dependency (ap (λ (e : Edge). e.label) is))
+          was_argument s u i (inl (reaching m k _ _ _ is)) = absurd (no_dependency (ap (λ (e : Edge). e.label) is))
+          was_argument s u i (inr was) = was
+
+          told : (i : ℕ) (other : Name) (m : NodeId) → (slice_get (names_of a.exports.entries) i ≡ Some (other, m)) ⊎ (entry name (number n) ≡ entry other m) → tells (is_again lost m.0) (option_map node_of (get nodes m.0)) other ≡ true
+          told i other m (inl was) = tells_more (is_again a.lost m.0) (is_again lost m.0) (option_map node_of (get nodes m.0)) other (more m.0) (told_before i other m was)
+          told i other m (inr new) =
+              ap (λ (e : Name × NodeId). tells (is_again lost e.1.0) (option_map node_of (get nodes e.1.0)) e.0) (sym new) ∙ ap (λ o. tells (is_again lost n) (option_map node_of o) name) u.changed
+              ∙ keeps_name (is_again lost n) (node_of node) name (ap (λ (x : GraphNode). x.export_name) shape)
 
     pub invariant_alias : (edges : set.FinSet edge_cmp) (instance : NodeId) (source : GraphNode) (position : ℕ) (name : Name) (kind : ItemKind) → node_of node ≡ alias_node source kind
         → node_at (graph_of a) instance ≡ Some source → slice_get (exports_of (graph_of a) source) position ≡ Some (name, kind) → holds_type a.types (kind_type kind) ≡ true → ((other : NodeId) → IsAliasOf (graph_of a) instance position other → ⊥) → edges ≡ set.insert a.edges (alias_edge instance (node_number n) position)

@@ -8,3 +8,4 @@ pub mod TakingLemmas
 pub mod CloneLemmas
 pub mod RemovedLemmas
 pub mod UnregisteredLemmas
+pub mod DefinitionLemmas

@@ -38,7 +38,7 @@ use Rattle.wac_removing.specs.Lost.{is_again, AreNoted}
 use Rattle.wac_removing.specs.Slots.{vacant_of}
 use Rattle.wac_removing.specs.Told.{tells}
 use Rattle.wac_removing.proofs.LostLemmas.{told_there, alike_without}
-use Rattle.wac_removing.proofs.WithoutLemmas.{no_first, nodes_left, edges_left, still_there, sound_without}
+use Rattle.wac_removing.proofs.WithoutLemmas.{nodes_left, edges_left, still_there, sound_without}
 
 -- ---- names of imports
 abbrev Names : Type 0
@@ -192,7 +192,7 @@ module _ (a : Fields) (v : Invariant a) where
     pub invariant_removed : Invariant now
     invariant_removed = record {
       sound = sound_without (graph_of a) v.sound gone (nodes_of nodes.slots) nodes.vacant_key edges (names_of exports.entries) a.slots.items (vacant_of a.vacant) without_gone kept none_left goes_behind
-          (λ n node at. no_first nodes.slots n.0 node at) (λ p parts at. at) (λ n node at is p parts owned registered. registered) v.sound.vacant v.sound.vacant_once;
+          (λ p parts at. at) (λ n node at is p parts owned registered. registered) v.sound.vacant v.sound.vacant_once;
       marked = tied.marked;
       edged = tied.edged;
       keyed = v.keyed;

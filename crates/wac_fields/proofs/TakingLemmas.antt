@@ -1,5 +1,5 @@
 -- What is always true of a graph's fields stays true where an argument is taken away, and where a node is named.
-use Rattle.std.proofs.Common.{◌≡◌, ◌≢◌, ℕ, Bool, true, false, not, ◌&&◌, ◌==◌, refl, ap, ◌∙◌, sym, subst, Option, Some, None, IfSome, IsSome, is_some, Ok, Err, String, Global, string_bytes, List}
+use Rattle.std.proofs.Common.{◌≡◌, ◌≢◌, ℕ, Bool, true, false, not, ◌&&◌, ◌==◌, refl, ap, ◌∙◌, sym, subst, Option, Some, None, IfSome, IsSome, is_some, Ok, Err, String, Global, string_bytes, List, arith}
 use Rattle.std.specs.Prelude.{slice_get, IsSomeAnd, swap_remove, if◌then◌else◌}
 use Rattle.std.specs.HashMap.{HashMap}
 use Rattle.std.specs.declared.hash.FoldHasher.{FoldHasher}
@@ -11,6 +11,7 @@ use Rattle.std.specs.Cmp.{tied_itself}
 use Rattle.std.specs.FinMap as map
 use Rattle.std.specs.FinSet as set
 use Rattle.std.proofs.lemmas.Bool.{eqb-true}
+use Rattle.std.proofs.lemmas.Bool.Decides.{nat_tests}
 use Rattle.slab.specs.Slab.{Slab, get, Updates, with_value}
 use Rattle.slab.proofs.SlabLemmas.{Updates-with_value}
 use Rattle.wac_shapes.specs.Name.{Name}
@@ -37,7 +38,7 @@ use Rattle.wac_edges.proofs.WrittenOrder.{eqb_same}
 use Rattle.wac_nodes.proofs.Added.{by_eq, ImportIn}
 use Rattle.wac_nodes.proofs.JoinLemmas.{AreAlike, alike_itself}
 use Rattle.wac_nodes.proofs.NodeLemmas.{get-nodes_of, nodes_of-insert, nodes_of-same}
-use Rattle.wac_nodes.proofs.TakenOut.{Left, left_itself, left_without, none_without}
+use Rattle.wac_nodes.proofs.TakenOut.{found_left, Left, left_itself, left_without, none_without}
 use Rattle.wac_nodes.proofs.PartLemmas.{IsPart, IsClosed, sound_part}
 use Rattle.wac_removing.proofs.LostLemmas.{names_taken}
 use Rattle.wac_fields.specs.Fields.{Fields, graph_of, Invariant}
@@ -191,15 +192,22 @@ module _ (a : Fields) (id : NodeId) (nodes : Slab Node) (before after : Node) (h
     none_some h = cc
   imports_as (Some x) (Some y) other same h = let k : x.kind ≡ y.kind = cc in k ∙ h
 
-  -- no stored node has a first name
-  no_first : (m : NodeId) (x : GraphNode) → map.get (nodes_of nodes.slots) m.0 ≡ Some x → x.first_name ≡ None
-  no_first m x at = by_stored (get nodes m.0) (sym (get-nodes_of nodes.slots m.0) ∙ at) where
-    by_stored : (o : Option Node) → option_map node_of o ≡ Some x → x.first_name ≡ None
-    by_stored None h = cc
-    by_stored (Some y) h = let same : node_of y ≡ x = cc in ap (λ (z : GraphNode). z.first_name) (sym same)
+  -- its first name is what it was
+  was_first : (node_of after).first_name ≡ (node_of before).first_name → (m : NodeId) (x : GraphNode) → map.get (nodes_of nodes.slots) m.0 ≡ Some x → (y : GraphNode) × (map.get (nodes_of a.nodes.slots) m.0 ≡ Some y) × (x.kind ≡ y.kind) × (x.first_name ≡ y.first_name)
+  was_first first m x at = by_eq m.0 id.0
+      (λ same.
+      let now : Some (node_of after) ≡ Some x = sym (ap (option_map node_of) updates.changed) ∙ sym (get-nodes_of nodes.slots id.0) ∙ ap (map.get (nodes_of nodes.slots)) (sym same) ∙ at in
+      let x_is : node_of after ≡ x = cc in (
+        node_of before,
+        ap (map.get (nodes_of a.nodes.slots)) same ∙ get-nodes_of a.nodes.slots id.0 ∙ ap (option_map node_of) had,
+        ap (λ (z : GraphNode). z.kind) (sym x_is) ∙ like.kind,
+        ap (λ (z : GraphNode). z.first_name) (sym x_is) ∙ first,
+      ))
+      (λ differ. (x, get-nodes_of a.nodes.slots m.0 ∙ ap (option_map node_of) (sym (updates.others m.0 differ)) ∙ sym (get-nodes_of nodes.slots m.0) ∙ at, refl, refl))
 
-  pub invariant_rewritten : Invariant a → (names : HashMap (String Global) NodeId (BuildHasherDefault FoldHasher)) (gone : NodeId → Bool) → Left gone (names_of a.exports.entries) (names_of names.entries) → AreTold a.lost nodes names.entries → Invariant (record a { nodes = nodes; exports = names })
-  invariant_rewritten v names gone left told =
+  pub invariant_rewritten : Invariant a → (names : HashMap (String Global) NodeId (BuildHasherDefault FoldHasher)) (gone : NodeId → Bool) → Left gone (names_of a.exports.entries) (names_of names.entries) → AreTold a.lost nodes names.entries
+      → (node_of after).first_name ≡ (node_of before).first_name → ((n : NodeId) (x : GraphNode) → node_at (graph_of a) n ≡ Some x → x.kind ≡ graph.definition → gone n ≡ false) → Invariant (record a { nodes = nodes; exports = names })
+  invariant_rewritten v names gone left told first stays =
       record {
         sound = sound_part (graph_of a) v.sound (nodes_of nodes.slots) nodes.vacant_key a.edges (names_of names.entries) a.slots.items (vacant_of a.vacant) is_part is_closed;
         marked = λ s t i stands. satisfied_same t.0 i ∙ v.marked s t i stands;
@@ -216,16 +224,16 @@ module _ (a : Fields) (id : NodeId) (nodes : Slab Node) (before after : Node) (h
         is_part : IsPart (graph_of a) now
         is_part = record { nodes = was; edges = λ e h. h; place = left.place; exports = left.was; apart = left.apart; packages = λ id p at. at }
 
-        none_some : {x : Name} → None ≡ Some x → ⊥
-        none_some h = cc
-
         is_closed : IsClosed (graph_of a) now
         is_closed = record {
           ends = λ e h. let both = v.sound.ends e h in (still e.source both.0, still e.target both.1);
           exported = λ i other n at. still n (v.sound.exported (left.place i) other n (left.was i (other, n) at));
           aliases = λ n node at is instance i stands. stands;
           instances = λ n node at is id p owned registered. registered;
-          first_names = λ n node other at first. absurd (none_some (sym (no_first n node at) ∙ first));
+          first_names = λ n node other at is.
+              let (y, had_y, same_kind, same_first) = was_first first n node at in
+              let (kind, found) = v.sound.first_names n y other had_y (sym same_first ∙ is) in
+              (same_kind ∙ kind, found_left gone (names_of a.exports.entries) (names_of names.entries) left v.sound.one_export other n found (stays n y had_y kind));
           vacant = v.sound.vacant;
           vacant_once = v.sound.vacant_once;
         }
@@ -259,7 +267,7 @@ module _ (a : Fields) (id : NodeId) (name : Name) (own : String Global) (nodes :
       (λ differ. ap (λ o. tells (is_again a.lost n.0) (option_map node_of o) other) (titled_updates.others n.0 differ) ∙ v.told i other n at)
 
   pub invariant_named : Invariant a → Invariant (record a { nodes = nodes })
-  invariant_named v = invariant_rewritten a id nodes titled_node (record titled_node { name = Some own }) titled_had titled_updates (record { kind = refl; item = refl; owner = refl }) refl v a.exports (λ _. false) (left_itself (λ _. false) (names_of a.exports.entries)) (titled_told v)
+  invariant_named v = invariant_rewritten a id nodes titled_node (record titled_node { name = Some own }) titled_had titled_updates (record { kind = refl; item = refl; owner = refl }) refl v a.exports (λ _. false) (left_itself (λ _. false) (names_of a.exports.entries)) (titled_told v) refl (λ n x at is. refl)
 
 -- the write of `clear_export_name`
 abbrev pub Cleared : Slab Node → Slab Node → ℕ → Type 0
@@ -291,14 +299,20 @@ module _ (a : Fields) (id : NodeId) (nodes : Slab Node) (names : HashMap (String
         kept : Left (is_same id) (names_of a.exports.entries) (names_of names.entries)
         kept = subst (Left (is_same id) (names_of a.exports.entries)) (sym taken) (left_without (is_same id) (names_of a.exports.entries))
 
-  pub invariant_unexported : Invariant a → Invariant (record a { nodes = nodes; exports = names })
-  invariant_unexported v =
+  pub invariant_unexported : Invariant a → (kind_of node.kind ≡ graph.definition → ⊥) → Invariant (record a { nodes = nodes; exports = names })
+  invariant_unexported v other =
       invariant_rewritten a id nodes node (record node { export_name = None }) had cleared_updates (record { kind = refl; item = refl; owner = refl }) refl v names (is_same id)
-      (subst (Left (is_same id) (names_of a.exports.entries)) (sym taken) (left_without (is_same id) (names_of a.exports.entries))) (cleared_told v)
+      (subst (Left (is_same id) (names_of a.exports.entries)) (sym taken) (left_without (is_same id) (names_of a.exports.entries))) (cleared_told v) refl
+      (λ n x at is. by_eq n.0 id.0
+      (λ same. absurd (other (ap (λ (y : GraphNode). y.kind) (same_node (node_at (graph_of a) n) (node_of node) x (ap (map.get (nodes_of a.nodes.slots)) same ∙ get-nodes_of a.nodes.slots id.0 ∙ ap (option_map node_of) had) at) ∙ is)))
+      (λ differ. let e : (n.0 == id.0) ≡ false = grind (arith, nat_tests) in e))
+    where
+      same_node : (o : Option GraphNode) (x y : GraphNode) → o ≡ Some x → o ≡ Some y → x ≡ y
+      same_node o x y p q = cc
 
   -- the node has no further names then
-  pub invariant_forgotten : (v : Invariant a) (lost : Lost) → ((q : ℕ) → q ≢ id.0 → is_again lost q ≡ is_again a.lost q) → Invariant (record a { nodes = nodes; exports = names; lost = lost })
-  invariant_forgotten v lost same = invariant_lost (record a { nodes = nodes; exports = names }) (invariant_unexported v) lost (λ i other n at. by_eq n.0 id.0
+  pub invariant_forgotten : (v : Invariant a) → (kind_of node.kind ≡ graph.definition → ⊥) → (lost : Lost) → ((q : ℕ) → q ≢ id.0 → is_again lost q ≡ is_again a.lost q) → Invariant (record a { nodes = nodes; exports = names; lost = lost })
+  invariant_forgotten v definition lost same = invariant_lost (record a { nodes = nodes; exports = names }) (invariant_unexported v definition) lost (λ i other n at. by_eq n.0 id.0
       (λ here. absurd (clash (is_same id n) (ap (λ k. k == id.0) here ∙ eqb_same id.0) (none_without (is_same id) (names_of a.exports.entries) i (other, n) (ap (λ es. slice_get es i) (sym taken) ∙ at))))
       (λ differ. ap (λ b. tells b (option_map node_of (get nodes n.0)) other) (same n.0 differ) ∙ cleared_told v i other n at))
 

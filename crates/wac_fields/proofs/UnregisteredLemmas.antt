@@ -29,7 +29,7 @@ use Rattle.wac_removing.specs.Told.{tells}
 use Rattle.wac_removing.specs.Lost.{is_again}
 use Rattle.wac_removing.specs.declared.lost.Lost.{Lost}
 use Rattle.wac_removing.proofs.SlotLemmas.{vacant_fewer}
-use Rattle.wac_removing.proofs.WithoutLemmas.{nodes_left, edges_left, no_first}
+use Rattle.wac_removing.proofs.WithoutLemmas.{nodes_left, edges_left}
 use Rattle.wac_removing.proofs.UnregisteringLemmas.{import_of_none, kept_exports, none_exports, sound_unregistered, length_freed}
 use Rattle.wac_fields.specs.Fields.{Fields, graph_of, Invariant}
 
@@ -78,7 +78,7 @@ module _ (a : Fields) (v : Invariant a) (id : PackageId) (held : IsSome (package
 
     pub invariant_unregistered : Invariant now
     invariant_unregistered = record {
-      sound = sound_unregistered (graph_of a) v.sound id held (nodes_of nodes.slots) nodes.vacant_key edges (names_of exports.entries) slots.items (vacant_of vacant) without_owned exports_stay freed (λ n node at. no_first nodes.slots n.0 node at);
+      sound = sound_unregistered (graph_of a) v.sound id held (nodes_of nodes.slots) nodes.vacant_key edges (names_of exports.entries) slots.items (vacant_of vacant) without_owned exports_stay freed;
       marked = tied.marked;
       edged = tied.edged;
       keyed = keyed;
@@ -92,10 +92,10 @@ module _ (a : Fields) (v : Invariant a) (id : PackageId) (held : IsSome (package
       was name n h false is = subst (λ o. IsSomeAnd o (λ x. x.kind ≡ graph.import name)) (still n is) h
 
       kept : Left (λ n. is_of id (node_at (graph_of a) n)) (names_of a.exports.entries) (names_of exports.entries)
-      kept = kept_exports (graph_of a) v.sound id held (nodes_of nodes.slots) nodes.vacant_key edges (names_of exports.entries) slots.items (vacant_of vacant) without_owned exports_stay freed (λ n node at. no_first nodes.slots n.0 node at)
+      kept = kept_exports (graph_of a) v.sound id held (nodes_of nodes.slots) nodes.vacant_key edges (names_of exports.entries) slots.items (vacant_of vacant) without_owned exports_stay freed
 
       told : (i : ℕ) (name : Name) (n : NodeId) → slice_get (names_of exports.entries) i ≡ Some (name, n) → tells (is_again lost n.0) (option_map node_of (get nodes n.0)) name ≡ true
       told i name n at =
-          let other : is_of id (node_at (graph_of a) n) ≡ false = none_exports (graph_of a) v.sound id held (nodes_of nodes.slots) nodes.vacant_key edges (names_of exports.entries) slots.items (vacant_of vacant) without_owned exports_stay freed (λ m node is. no_first nodes.slots m.0 node is) i (name, n) at in
+          let other : is_of id (node_at (graph_of a) n) ≡ false = none_exports (graph_of a) v.sound id held (nodes_of nodes.slots) nodes.vacant_key edges (names_of exports.entries) slots.items (vacant_of vacant) without_owned exports_stay freed i (name, n) at in
           let same : option_map node_of (get nodes n.0) ≡ option_map node_of (get a.nodes n.0) = sym (get-nodes_of nodes.slots n.0) ∙ still n other ∙ get-nodes_of a.nodes.slots n.0 in
           (λ j. tells (marks n.0 (sym (stored n) ∙ other) j) (same j) name) ∙ v.told (kept.place i) name n (kept.was i (name, n) at)

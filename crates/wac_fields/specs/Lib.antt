@@ -1,3 +1,4 @@
 pub mod Fields
 pub mod Arguments
 pub mod Removing
+pub mod Definable

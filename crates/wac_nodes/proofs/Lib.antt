@@ -2,6 +2,7 @@ pub mod Added
 pub mod TakenOut
 pub mod JoinLemmas
 pub mod SoundLemmas
+pub mod DefinitionLemmas
 pub mod PartLemmas
 pub mod NodeLemmas
 pub mod ExtendsLemmas

@@ -16,6 +16,7 @@ use Rattle.wac_shapes.specs.declared.component.DefinedType.{DefinedType}
 use Rattle.wac_shapes.specs.declared.core_types.ModuleType.{ModuleType}
 use Rattle.wac_shapes.specs.declared.component.Interface.{Interface}
 use Rattle.wac_shapes.specs.declared.component.ItemKind.{ItemKind}
+use Rattle.wac_shapes.specs.declared.component.«Type».{«Type» as AnyType}
 use Rattle.wac_shapes.specs.declared.component.World.{World}
 use Rattle.wac_shapes.specs.declared.component.ResourceId.{ResourceId}
 use Rattle.wac_shapes.specs.declared.component.FuncTypeId.{FuncTypeId}
@@ -30,7 +31,8 @@ use Rattle.wac_edges.specs.declared.node.NodeId.{NodeId}
 use Rattle.wac_nodes.specs.declared.packages.PackageId.{PackageId}
 use Rattle.wac_nodes.specs.declared.packages.Slot.{Slot}
 use Rattle.wac_nodes.specs.Graph.{Graph, GraphNode, node_at, package_at, package_in}
-use Rattle.wac_nodes.specs.Steps.{Adds, AddsNode, Registers, Imports, import_node, Instantiates, instance_node, Aliases, AliasesOf, GivesAlias, export_named, alias_node, SetsArgument, SetsOn, GivesArgument, import_named, TakesSlot, freed, added}
+use Rattle.wac_nodes.specs.Definitions.{definition_node}
+use Rattle.wac_nodes.specs.Steps.{Adds, AddsNode, Registers, Defines, Imports, import_node, Instantiates, instance_node, Aliases, AliasesOf, GivesAlias, export_named, alias_node, SetsArgument, SetsOn, GivesArgument, import_named, TakesSlot, freed, added}
 use Rattle.wac_nodes.specs.Stays.{Stays, IsAliasBy, IsArgumentBy}
 use Rattle.wac_nodes.proofs.Added.{by_eq, insert_same, insert_other, new_edge, kept_edge}
 
@@ -251,3 +253,16 @@ argument-stays old new consumer n name a given there given_there step =
 -- the import node is there, and all else stays
 pub import-stays : (old new : Graph) (name : Name) (kind : ItemKind) (n : NodeId) → Imports old name kind (Ok n) new → (node_at new n ≡ Some (import_node name kind)) × Stays old new
 import-stays old new name kind n step = node-stays old new n (import_node name kind) step.2
+
+-- the definition is there, and all else stays
+pub definition-stays : (old new : Graph) (name : Name) (t : AnyType) (n : NodeId) → Defines old name t (Ok n) new → (node_at new n ≡ Some (definition_node name t)) × Stays old new
+definition-stays old new name t n (_, _, _, _, _, vacant, with, is) = (
+  ap (λ (g : Graph). node_at g n) is ∙ insert_same old.nodes n.0 (definition_node name t),
+  record {
+    nodes = λ m x was. ap (λ (g : Graph). node_at g m) is ∙ vacant-keeps old n m (definition_node name t) x vacant was;
+    edges = λ e was. (with e).1 (inr was);
+    packages = λ i q was. ap (λ (g : Graph). package_at g i) is ∙ was;
+    interfaces = λ i x was. ap (λ (g : Graph). item_at g.types.interfaces i) is ∙ was;
+    worlds = λ i x was. ap (λ (g : Graph). item_at g.types.worlds i) is ∙ was;
+  },
+)

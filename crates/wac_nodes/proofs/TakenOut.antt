@@ -1,13 +1,13 @@
 -- What is left of exports of which some are taken out.
-use Rattle.std.proofs.Common.{◌≡◌, ◌≢◌, ℕ, zero, suc, ◌+◌, ◌-◌, ◌<◌, ◌≤◌, ◌==◌, Bool, true, false, cond, List, [], ◌∷◌, length, take, slice_get, slice_set, refl, ap, ◌∙◌, sym, subst, arith, Option, Some, None, get_or}
-use Rattle.std.specs.Prelude.{swap_remove, if◌then◌else◌}
+use Rattle.std.proofs.Common.{◌≡◌, ◌≢◌, ℕ, zero, suc, ◌-◌, ◌<◌, ◌≤◌, ◌==◌, Bool, true, false, cond, List, [], ◌∷◌, length, take, slice_get, slice_set, refl, ap, ◌∙◌, sym, arith, Option, Some, None, get_or}
+use Rattle.std.specs.Prelude.{swap_remove}
 use Rattle.std.proofs.lemmas.Bool.Decides.{nat_tests}
-use Rattle.std.proofs.lemmas.List.{length-set}
 use Rattle.std.proofs.lemmas.Option.{slice_get_within, slice_get-get_or}
-use Rattle.wac_shapes.specs.Name.{Name}
+use Rattle.wac_shapes.specs.Name.{Name, find_name}
+use Rattle.wac_shapes.proofs.Names.{found_at, find_position}
 use Rattle.wac_edges.specs.declared.node.NodeId.{NodeId}
 use Rattle.wac_nodes.specs.TakenOut.{taken_at, taken_below, without}
-use Rattle.wac_nodes.proofs.Added.{by_eq}
+use Rattle.wac_nodes.proofs.Added.{by_eq, StandsOnce}
 
 -- k and l change places
 abbrev pub turn : ℕ → ℕ → ℕ → ℕ
@@ -178,3 +178,16 @@ pub none_without : (gone : NodeId → Bool) (es : List (Name × NodeId)) (i : �
 none_without gone es i e h = none_from gone (length es) es past i e (omega arith) h where
   past : StaysFrom gone (length es) es
   past j x from at = let small = slice_get_within es j x at in absurd (omega (arith, from, small))
+
+-- what is found under a name is found among what is left, where it is none of such nodes and each name stands once
+pub found_left : (gone : NodeId → Bool) (es left : List (Name × NodeId)) → Left gone es left → StandsOnce es → (name : Name) (n : NodeId) → find_name es name ≡ Some n → gone n ≡ false → find_name left name ≡ Some n
+found_left gone es left l once name n found stays =
+    let (j, _, at) = find_position es name n found in
+    let (i, there) = l.still j (name, n) at stays in
+    by_found j at i there (find_name left name) refl where
+      by_found : (j : ℕ) → slice_get es j ≡ Some (name, n) → (i : ℕ) → slice_get left i ≡ Some (name, n) → (o : Option NodeId) → find_name left name ≡ o → o ≡ Some n
+      by_found j at i there None none = absurd (found_at left i name n there none)
+      by_found j at i there (Some m) is =
+          let (k, _, here) = find_position left name m is in
+          let was = l.was k (name, m) here in
+          ap (λ (e : Name × NodeId). Some e.1) (some_same was (ap (slice_get es) (once name (l.place k) j m n was at) ∙ at))

@@ -5,6 +5,7 @@ pub mod Clones
 pub mod PackageKeys
 pub mod Sound
 pub mod ExternName
+pub mod Definitions
 pub mod Steps
 pub mod TakenOut
 pub mod Asked

@@ -27,7 +27,7 @@ node_of n = record {
   owner = n.«package»;
   name = option_map string_bytes n.name;
   export_name = option_map string_bytes n.export_name;
-  first_name = None;
+  first_name = option_map string_bytes n.first_name;
 }
 
 -- the nodes under their numbers

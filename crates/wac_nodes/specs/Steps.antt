@@ -11,7 +11,8 @@ use Rattle.wac_collection.specs.Package.{PackageParts}
 use Rattle.wac_subtyping.specs.Subtype.{IsSubtype}
 use Rattle.wac_shapes.specs.Words.{kind_text}
 use Rattle.wac_shapes.specs.declared.component.ItemKind.{ItemKind}
-use Rattle.wac_shapes.specs.declared.component.ItemKind.TheVariants.{Instance}
+use Rattle.wac_shapes.specs.declared.component.ItemKind.TheVariants.{Instance, TypeItem}
+use Rattle.wac_shapes.specs.declared.component.«Type».{«Type» as AnyType}
 use Rattle.wac_types.specs.declared.checker.TypeFault.TheVariants.{Mismatch}
 use Rattle.wac_collection.specs.declared.collection.AddTypeError.{AddTypeError}
 use Rattle.wac_nodes.specs.declared.errors.RegisterPackageError.{RegisterPackageError}
@@ -22,6 +23,8 @@ use Rattle.wac_nodes.specs.declared.errors.ExportError.{ExportError}
 use Rattle.wac_nodes.specs.declared.errors.ExportError.TheVariants as export_error
 use Rattle.wac_nodes.specs.declared.errors.UnexportError.{UnexportError}
 use Rattle.wac_nodes.specs.declared.errors.UnexportError.TheVariants as unexport
+use Rattle.wac_nodes.specs.declared.errors.DefineTypeError.{DefineTypeError}
+use Rattle.wac_nodes.specs.declared.errors.DefineTypeError.TheVariants as define_error
 use Rattle.wac_nodes.specs.declared.errors.ImportError.{ImportError}
 use Rattle.wac_nodes.specs.declared.errors.ImportError.TheVariants as import_error
 use Rattle.wac_nodes.specs.declared.errors.InstantiationArgumentError.{InstantiationArgumentError}
@@ -31,8 +34,9 @@ use Rattle.wac_nodes.specs.declared.packages.PackageId.{PackageId}
 use Rattle.wac_edges.specs.Edge.{alias_edge, argument_edge}
 use Rattle.wac_nodes.specs.ExternName.{IsImportName, IsExportName, HasExportFault}
 use Rattle.wac_nodes.specs.TakenOut.{without}
+use Rattle.wac_nodes.specs.Definitions.{definition_node, IsUndefined, IsResource, WithDependencies}
 use Rattle.wac_nodes.specs.Graph as graph
-use Rattle.wac_nodes.specs.Graph.{Graph, GraphNode, node_at, package_at, export_at, package_of, interface_of, exports_of, imports_of, IsAliasOf, IsArgumentOf, IsSatisfied, IsUnsatisfied, IsRegistered, IsImportOf}
+use Rattle.wac_nodes.specs.Graph.{Graph, GraphNode, node_at, package_at, export_at, package_of, interface_of, exports_of, imports_of, IsAliasOf, IsArgumentOf, IsDefinitionOf, IsSatisfied, IsUnsatisfied, IsRegistered, IsImportOf}
 
 -- no types, nodes, edges, exports and packages; numbers begin with 0
 abbrev pub IsEmpty : Graph → Type 0
@@ -64,6 +68,26 @@ Imports old name kind (Err (import_error.ImportAlreadyExists text node)) new =
 Imports old name kind (Err (import_error.InvalidImportName text source)) new =
     (new ≡ old) × (string_bytes text ≡ name) × IsFreeImport old name × HasFault name source
 Imports old name kind (Err import_error.OutOfMemory) new = new ≡ old
+
+-- A definition of a type that no node defines, exported by a name that is not exported yet, last in order, and with the edges that it
+-- brings. Memory is not asked for where the type is defined already or is a resource.
+abbrev pub Defines : Graph → Name → AnyType → Result NodeId DefineTypeError → Graph → Type 0
+Defines old name t (Ok n) new =
+    IsUndefined old t × (IsResource t → ⊥) × (export_at old name ≡ None) × IsImportName name
+    × (n.0 ≡ old.next) × (node_at old n ≡ None) × WithDependencies old t n new.edges
+    × (new ≡ record old {
+      nodes = map.insert old.nodes n.0 (definition_node name t);
+      next = new.next;
+      edges = new.edges;
+      exports = old.exports ++ (name, n) ∷ [];
+    })
+Defines old name t (Err define_error.TypeAlreadyDefined) new = (new ≡ old) × ((n : NodeId) × IsDefinitionOf old (TypeItem t) n)
+Defines old name t (Err define_error.CannotDefineResource) new = (new ≡ old) × IsUndefined old t × IsResource t
+Defines old name t (Err (define_error.ExportConflict text)) new =
+    (new ≡ old) × (string_bytes text ≡ name) × IsUndefined old t × (IsResource t → ⊥) × IsSome (export_at old name)
+Defines old name t (Err (define_error.InvalidExternName text source)) new =
+    (new ≡ old) × (string_bytes text ≡ name) × IsUndefined old t × (IsResource t → ⊥) × (export_at old name ≡ None) × HasFault name source
+Defines old name t (Err define_error.OutOfMemory) new = (new ≡ old) × IsUndefined old t × (IsResource t → ⊥)
 
 -- the package takes the slot that was freed last, which is of its generation since; where none is vacant a new one, behind the others
 pub data TakesSlot (old : Graph) (p : PackageParts) (id : PackageId) (new : Graph) : Type 0 where

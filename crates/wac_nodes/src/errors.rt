@@ -72,6 +72,46 @@ impl<T: Drop> From<AllocFailed<T>> for ImportError {
     }
 }
 
+/// Why `define_type` is refused.
+#[derive(Debug, Drop, Error)]
+pub enum DefineTypeError {
+    /// A node of the graph defines the type.
+    #[error("the provided type has already been defined in the graph")]
+    TypeAlreadyDefined,
+    /// The type is a resource.
+    #[error("a resource type cannot be defined in the graph")]
+    CannotDefineResource,
+    /// The graph has an export of this name already.
+    #[error("type name `{name}` conflicts with an existing export of the same name")]
+    ExportConflict { name: String },
+    /// The name is no component name.
+    #[error("type name `{name}` is not valid")]
+    InvalidExternName { name: String, source: NameFault },
+    /// There was no memory.
+    #[error("out of memory")]
+    OutOfMemory,
+}
+
+impl From<AllocError> for DefineTypeError {
+    ghost use Rattle.wac_nodes.specs.declared.errors.DefineTypeError.TheVariants.{OutOfMemory};
+
+    ghost from_gives = { λ _ e. e ≡ OutOfMemory };
+
+    fn from(_e: AllocError) -> DefineTypeError {
+        DefineTypeError::OutOfMemory
+    }
+}
+
+impl<T: Drop> From<AllocFailed<T>> for DefineTypeError {
+    ghost use Rattle.wac_nodes.specs.declared.errors.DefineTypeError.TheVariants.{OutOfMemory};
+
+    ghost from_gives = { λ _ e. e ≡ OutOfMemory };
+
+    fn from(_e: AllocFailed<T>) -> DefineTypeError {
+        DefineTypeError::OutOfMemory
+    }
+}
+
 /// Why `alias_instance_export` is refused.
 #[derive(Debug, Drop, Error)]
 pub enum AliasError {

@@ -17,15 +17,17 @@ ghost use Rattle.wac_shapes.specs.declared.component.InterfaceId.{InterfaceId};
 ghost use Rattle.wac_shapes.specs.declared.component.WorldId.{WorldId};
 ghost use Rattle.wac_shapes.specs.declared.component.ModuleTypeId.{ModuleTypeId};
 ghost use Rattle.wac_shapes.specs.declared.component.ItemKind.{ItemKind};
+ghost use Rattle.wac_shapes.specs.declared.component.«Type».{«Type» as AnyType};
 ghost use Rattle.wac_nodes.specs.declared.errors.RegisterPackageError.{RegisterPackageError};
 ghost use Rattle.wac_edges.specs.declared.node.NodeId.{NodeId};
 ghost use Rattle.wac_nodes.specs.declared.packages.PackageId.{PackageId};
 ghost use Rattle.wac_nodes.specs.Graph.{Graph, GraphNode, node_at, package_at};
-ghost use Rattle.wac_nodes.specs.Steps.{Adds, Registers, Imports, import_node, Instantiates, instance_node, Aliases, SetsArgument};
+ghost use Rattle.wac_nodes.specs.Definitions.{definition_node};
+ghost use Rattle.wac_nodes.specs.Steps.{Adds, Registers, Defines, Imports, import_node, Instantiates, instance_node, Aliases, SetsArgument};
 ghost use Rattle.wac_nodes.specs.Stays.{Stays, IsAliasBy, IsArgumentBy};
 
-/// What was in a graph is in it still after each call that adds types, packages, imports, instances, aliases or arguments, and the
-/// node, the alias or the argument that the call adds is there.
+/// What was in a graph is in it still after each call that adds types, packages, definitions, imports, instances, aliases or arguments,
+/// and the node, the alias or the argument that the call adds is there.
 pub fn stays_law()
     ensures itself { (g : Graph) → Stays g g }
     ensures through { (a b c : Graph) → Stays a b → Stays b c → Stays a c }
@@ -40,6 +42,7 @@ pub fn stays_law()
     // packages and nodes
     ensures registered { (old new : Graph) (p : PackageParts) (r : AResult PackageId RegisterPackageError) → Registers old p r new → Stays old new }
     ensures registered_there { (old new : Graph) (p : PackageParts) (id : PackageId) → Registers old p (Ok id) new → package_at new id ≡ Some p }
+    ensures definition { (old new : Graph) (name : AName) (ty : AnyType) (n : NodeId) → Defines old name ty (Ok n) new → (node_at new n ≡ Some (definition_node name ty)) × Stays old new }
     ensures imported { (old new : Graph) (name : AName) (kind : ItemKind) (n : NodeId) → Imports old name kind (Ok n) new → (node_at new n ≡ Some (import_node name kind)) × Stays old new }
     ensures instantiated { (old new : Graph) (id : PackageId) (p : PackageParts) (n : NodeId) → package_at old id ≡ Some p → Instantiates old id (Ok n) new → (node_at new n ≡ Some (instance_node id p)) × Stays old new }
     ensures aliased { (old new : Graph) (instance : NodeId) (source : GraphNode) (name : AName) (alias : NodeId) → node_at old instance ≡ Some source → Aliases old instance name (Ok alias) new → IsAliasBy new instance name alias × Stays old new }

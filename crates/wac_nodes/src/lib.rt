@@ -13,8 +13,8 @@ mod packages;
 mod positions;
 
 pub use errors::{
-    AliasError, ExportError, ImportError, InstantiationArgumentError, RegisterPackageError,
-    UnexportError,
+    AliasError, DefineTypeError, ExportError, ImportError, InstantiationArgumentError,
+    RegisterPackageError, UnexportError,
 };
 pub use names::{export_fault, import_fault, one_export_answer};
 pub use node::{Node, NodeKind};

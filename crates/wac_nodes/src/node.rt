@@ -51,6 +51,8 @@ pub struct Node {
     pub name: Option<String>,
     /// The name by which it was exported last.
     pub export_name: Option<String>,
+    /// The name by which a definition was exported first; none of another kind of node.
+    pub first_name: Option<String>,
 }
 
 /// The clone says of the node what this one does, in memory of its own. Answers `AllocError` where memory ran out.
@@ -61,12 +63,14 @@ impl Clone for Node {
         let kind = self.kind.clone()?;
         let name = cloned(&self.name)?;
         let export_name = cloned(&self.export_name)?;
+        let first_name = cloned(&self.first_name)?;
         Ok(Node {
             kind,
             package: self.package,
             item_kind: self.item_kind,
             name,
             export_name,
+            first_name,
         })
     }
 }

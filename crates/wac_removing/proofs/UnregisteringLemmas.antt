@@ -120,8 +120,7 @@ module _ (g : Graph) (s : IsSound g) (id : PackageId) where
 
   module _ (held : IsSome (package_at g id)) (nodes : map.FinMap nat_cmp GraphNode) (next : ℕ) (edges : set.FinSet edge_cmp) (exports : List (Name × NodeId)) (slots : List Slot) (vacant : List ℕ)
       (w : IsWithout (λ n. is_of id (node_at g n)) g (record { types = g.types; nodes = nodes; next = next; edges = edges; exports = exports; slots = slots; vacant = vacant }))
-      (left : exports ≡ filter (λ e. not (is_of id (node_at g e.1))) g.exports) (f : FreesSlot g.slots g.vacant id slots vacant)
-      (bare : (n : NodeId) (node : GraphNode) → map.get nodes n.0 ≡ Some node → node.first_name ≡ None) where
+      (left : exports ≡ filter (λ e. not (is_of id (node_at g e.1))) g.exports) (f : FreesSlot g.slots g.vacant id slots vacant) where
     pub kept_exports : Left (λ n. is_of id (node_at g n)) g.exports exports
     kept_exports = subst (Left (λ n. is_of id (node_at g n)) g.exports) (sym left) (left_stay (λ n. is_of id (node_at g n)) g.exports)
 
@@ -131,7 +130,7 @@ module _ (g : Graph) (s : IsSound g) (id : PackageId) where
     pub sound_unregistered : IsSound (record { types = g.types; nodes = nodes; next = next; edges = edges; exports = exports; slots = slots; vacant = vacant })
     sound_unregistered =
         let vacancy = vacancy_freed g.slots g.vacant id slots vacant held f s.vacant s.vacant_once in
-        sound_without g s (λ n. is_of id (node_at g n)) nodes next edges exports slots vacant w kept_exports none_exports behind_of bare
+        sound_without g s (λ n. is_of id (node_at g n)) nodes next edges exports slots vacant w kept_exports none_exports behind_of
         (λ other p at. (freed_was g.slots g.vacant id slots vacant held f other p at).0)
         (λ n node at kind other p owned registered. let (stays, was) = was_there g s (λ m. is_of id (node_at g m)) nodes next edges exports slots vacant w n node at in
         freed_still g.slots g.vacant id slots vacant held f other p (λ same. other_owner n node other stays was kind owned same) registered)

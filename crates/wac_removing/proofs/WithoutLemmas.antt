@@ -22,7 +22,7 @@ use Rattle.wac_nodes.specs.Sound.{IsSound}
 use Rattle.wac_nodes.proofs.JoinLemmas.{alike_itself}
 use Rattle.wac_nodes.proofs.NodeLemmas.{get-nodes_of}
 use Rattle.wac_nodes.proofs.PartLemmas.{IsPart, IsClosed, sound_part}
-use Rattle.wac_nodes.proofs.TakenOut.{Left}
+use Rattle.wac_nodes.proofs.TakenOut.{Left, found_left}
 use Rattle.wac_removing.specs.Removal.{IsWithout}
 use Rattle.wac_removing.specs.Removing.{AreTied, AreTaken}
 use Rattle.wac_removing.specs.Slots.{AreVacant}
@@ -44,13 +44,6 @@ not_true false h = refl
 
 no_some : {A : Type 0} {x : A} → None ≡ Some x → ⊥
 no_some h = cc
-
--- no stored node has a first name
-pub no_first : (slots : List (Option Node)) (n : ℕ) (x : GraphNode) → map.get (nodes_of slots) n ≡ Some x → x.first_name ≡ None
-no_first slots n x at = by_stored _ (sym (get-nodes_of slots n) ∙ at) where
-  by_stored : (o : Option Node) → option_map node_of o ≡ Some x → x.first_name ≡ None
-  by_stored None h = absurd (no_some h)
-  by_stored (Some y) h = let same : node_of y ≡ x = cc in ap (λ (z : GraphNode). z.first_name) (sym same)
 
 -- ---- stored nodes of which some are taken out
 module _ (Goes : NodeId → Type 0) (gone : NodeId → Bool) (old : Slab Node) (were : Edges) (nodes : Slab Node) (edges : Edges) (goes : (n : NodeId) → (Goes n → gone n ≡ true) × (gone n ≡ true → Goes n)) (t : AreTaken Goes old were nodes edges) (tied : AreTied nodes edges) where
@@ -108,7 +101,6 @@ module _ (g : Graph) (s : IsSound g) (gone : NodeId → Bool) (nodes : map.FinMa
 
     module _ (kept : Left gone g.exports exports) (none : (i : ℕ) (e : Name × NodeId) → slice_get exports i ≡ Some e → gone e.1 ≡ false)
         (behind : (instance n : NodeId) (i : ℕ) → IsIn g.edges (alias_edge instance n i) → gone instance ≡ true → gone n ≡ true)
-        (bare : (n : NodeId) (node : GraphNode) → node_at part n ≡ Some node → node.first_name ≡ None)
         (before : (id : PackageId) (p : PackageParts) → package_at part id ≡ Some p → package_at g id ≡ Some p)
         (after : (n : NodeId) (node : GraphNode) → node_at part n ≡ Some node → node.kind ≡ graph.instantiation → (id : PackageId) (p : PackageParts) → node.owner ≡ Some id → package_at g id ≡ Some p → package_at part id ≡ Some p)
         (unused : AreVacant slots vacant) (once : (i j k : ℕ) → slice_get vacant i ≡ Some k → slice_get vacant j ≡ Some k → i ≡ j) where
@@ -139,7 +131,9 @@ module _ (g : Graph) (s : IsSound g) (gone : NodeId → Bool) (nodes : map.FinMa
           exported = exported_there;
           aliases = λ n node at is instance i stands. let stay = (was_there n node at).0 in edge_left (alias_edge instance n i) stands (source_stays instance n i stands stay) stay;
           instances = after;
-          first_names = λ n node name at first. absurd (no_some (sym (bare n node at) ∙ first));
+          first_names = λ n node name at first.
+              let (stays, was) = was_there n node at in
+              let (kind, found) = s.first_names n node name was first in (kind, found_left gone g.exports exports kept s.one_export name n found stays);
           vacant = unused;
           vacant_once = once;
         }

@@ -1,4 +1,4 @@
-use Rattle.wac_nodes.proofs.StaysLemmas.{stays-refl, stays-trans, resource-stays, func-stays, defined-stays, interface-stays, world-stays, module-stays, made-stays, registered-stays, registered-there, import-stays, instance-stays, alias-stays, argument-stays}
+use Rattle.wac_nodes.proofs.StaysLemmas.{stays-refl, stays-trans, resource-stays, func-stays, defined-stays, interface-stays, world-stays, module-stays, made-stays, registered-stays, registered-there, definition-stays, import-stays, instance-stays, alias-stays, argument-stays}
 use Rattle.wac_nodes.proofs.laws.stays_law.Goals as goal
 
 pub returns : goal.returns
@@ -14,6 +14,7 @@ returns c = record {
   made = made-stays;
   registered = registered-stays;
   registered_there = registered-there;
+  definition = definition-stays;
   imported = import-stays;
   instantiated = instance-stays;
   aliased = alias-stays;

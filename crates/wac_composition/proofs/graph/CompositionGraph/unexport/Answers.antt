@@ -12,7 +12,7 @@ pub returns-in-Definition : goal.returns-in-Definition
 returns-in-Definition c = rw (← c.self.view_is) (still_definition (fields_of c.self.inside) c.args.node c.index.result.now c.index.ensures (ap kind_of c.in-Definition.is))
 
 pub invariant_of-self : goal.invariant_of-self
-invariant_of-self c = invariant_forgotten (fields_of c.self.inside) c.args.node c.clear_export_name.new.nodes c.take_exports.new.exports c.index.result.now c.index.ensures c.clear_export_name.ensures c.take_exports.ensures c.self.invariant c.unmark.new.self c.unmark.ensures.others
+invariant_of-self c = invariant_forgotten (fields_of c.self.inside) c.args.node c.clear_export_name.new.nodes c.take_exports.new.exports c.index.result.now c.index.ensures c.clear_export_name.ensures c.take_exports.ensures c.self.invariant (no_definition c.index.result.now.kind c.in_default.not-Definition) c.unmark.new.self c.unmark.ensures.others
 
 pub returns : goal.returns
 returns c =

@@ -1,0 +1,75 @@
+//! Definitions of types.
+ghost use Rattle.std.specs.Prelude.{◌≡◌, true, IfOk, MatchResult, Err};
+ghost use Rattle.wac_collection.specs.Collection.{holds_type};
+ghost use Rattle.wac_fields.specs.Definable.{IsDefinable};
+ghost use Rattle.wac_nodes.specs.Definitions.{definition_node};
+ghost use Rattle.wac_nodes.specs.Nodes.{node_of};
+ghost use Rattle.wac_nodes.specs.Steps.{Defines};
+
+use crate::graph::CompositionGraph;
+use std::alloc::{AllocError, Global};
+use wac_defining::{add_dependencies, is_defined};
+use wac_nodes::{DefineTypeError, Node, NodeId, NodeKind, import_fault};
+use wac_types::{ItemKind, Type};
+
+impl CompositionGraph {
+    /// Defines a held type, exported by a name, last in order. The definition goes behind those of the defined value types that
+    /// the type reaches, and where it is one itself, those of the types that reach it go behind it.
+    ///
+    /// Answers `TypeAlreadyDefined` where a node defines the type, `CannotDefineResource` for a resource, `ExportConflict` where
+    /// the name is taken, `InvalidExternName` where the text is no component name, and `OutOfMemory` where memory ran out; then
+    /// nothing has changed.
+    pub fn define_type(&mut self, name: &str, ty: Type) -> Result<NodeId, DefineTypeError>
+        requires { holds_type self.old.types ty ≡ true }
+        ensures { Defines self.old name.now ty result self.new }
+    {
+        self.check_definition(name, ty)?;
+        let node = definition(self.alloc, name, ty)?;
+        let key = String::from_str(self.alloc, name)?;
+        self.nodes.reserve(1)?;
+        self.exports.reserve(1)?;
+        let id = NodeId(self.nodes.vacant_key());
+        self.lost.prepare(self.exports.len() + 1, id.0, false)?;
+        add_dependencies(&self.nodes, &self.types, &mut self.edges, ty, id)?;
+        self.exports.insert(key, id).unwrap();
+        self.nodes.insert_reserved(node);
+        Ok(id)
+    }
+
+    /// Refuses what may not be defined.
+    fn check_definition(&self, name: &str, ty: Type) -> Result<(), DefineTypeError>
+        ensures { MatchResult result (λ _. IsDefinable self.now name.now ty) (λ e. Defines self.now name.now ty (Err e) self.now) }
+    {
+        if is_defined(&self.nodes, ty) {
+            return Err(DefineTypeError::TypeAlreadyDefined);
+        }
+        if let Type::Resource(_) = ty {
+            return Err(DefineTypeError::CannotDefineResource);
+        }
+        if let Some(_) = self.exports.get(name) {
+            let name = String::from_str(self.alloc, name)?;
+            return Err(DefineTypeError::ExportConflict { name });
+        }
+        if let Some(source) = import_fault(self.alloc, name)? {
+            let name = String::from_str(self.alloc, name)?;
+            return Err(DefineTypeError::InvalidExternName { name, source });
+        }
+        Ok(())
+    }
+}
+
+/// A definition of the type, exported by the name.
+fn definition(alloc: Global, name: &str, ty: Type) -> Result<Node, AllocError>
+    ensures { IfOk result (λ n. node_of n ≡ definition_node name.now ty) }
+{
+    let export_name = String::from_str(alloc, name)?;
+    let first_name = String::from_str(alloc, name)?;
+    Ok(Node {
+        kind: NodeKind::Definition,
+        package: None,
+        item_kind: ItemKind::TypeItem(ty),
+        name: None,
+        export_name: Some(export_name),
+        first_name: Some(first_name),
+    })
+}

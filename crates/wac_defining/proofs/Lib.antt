@@ -1,0 +1,4 @@
+pub mod AddingLemmas
+pub mod StoredLemmas
+pub mod DependencyLemmas
+pub mod GraphLemmas

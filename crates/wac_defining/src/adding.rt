@@ -1,0 +1,34 @@
+//! Edges that are added to a set, all or none of them.
+ghost use Rattle.std.specs.Prelude.{◌≡◌, ◌↔◌, ◌⊎◌, true, OnOk, OnErr, Contains};
+ghost use Rattle.std.specs.FinSet as set;
+ghost use Rattle.wac_edges.specs.declared.edges.Edge.{Edge as AnEdge};
+
+use std::alloc::AllocError;
+use wac_edges::edges::{Edge, Edges};
+
+/// Adds edges none of which is in the set. Answers want of memory; then nothing has changed.
+pub(crate) fn add_all(edges: &mut Edges, new: &[Edge]) -> Result<(), AllocError>
+    requires { (e : AnEdge) → Contains new.now e → set.contains edges.old e ≡ true → ⊥ }
+    ensures ok { OnOk result ((e : AnEdge) → (set.contains edges.new e ≡ true) ↔ (Contains new.now e ⊎ (set.contains edges.old e ≡ true))) }
+    ensures err { OnErr result (edges.new ≡ edges.old) }
+{
+    for (i, edge) in new.iter().enumerate() {
+        match edges.add(*edge) {
+            Ok(()) => {}
+            Err(error) => {
+                take_back(edges, &new[..i]);
+                return Err(error);
+            }
+        }
+    }
+    Ok(())
+}
+
+/// Takes edges out. Takes no memory.
+fn take_back(edges: &mut Edges, taken: &[Edge])
+    ensures { (e : AnEdge) → (set.contains edges.new e ≡ true) ↔ ((set.contains edges.old e ≡ true) × (Contains taken.now e → ⊥)) }
+{
+    for edge in taken {
+        edges.remove(*edge);
+    }
+}
