@@ -1,5 +1,5 @@
 -- A function that is imported, exported and named.
-use Rattle.std.proofs.Common.{◌≡◌, ℕ, zero, suc, true, List, [], ◌∷◌, length, refl, ap, ◌∙◌, sym, subst, nat_lt, Some, Ok, IsSome}
+use Rattle.std.proofs.Common.{◌≡◌, ℕ, zero, suc, ◌<◌, true, List, [], ◌∷◌, length, refl, ap, ◌∙◌, sym, subst, nat_lt, arith, Some, Ok, IsSome}
 use Rattle.std.specs.Prelude.{IfSome, IsSomeAnd, ◌++◌}
 use Rattle.std.specs.FinMap as map
 use Rattle.wac_shapes.specs.Kinds.{kind_type}
@@ -17,14 +17,17 @@ use Rattle.wac_nodes.proofs.StaysLemmas.{import-stays}
 use Rattle.wac_demo.specs.Composed.{IsPlainFunction, PassesFunction}
 use Rattle.wac_demo.proofs.Following.{there-is}
 
-item-below : {A : Type 0} (xs : List (Held A)) (i : ℕ) (x : A) → item_at xs i ≡ Some x → nat_lt i (length xs) ≡ true
-item-below [] i x h = cc
-item-below (y ∷ ys) zero x h = refl
-item-below (y ∷ ys) (suc i) x h = item-below ys i x h
+within : {A : Type 0} (xs : List (Held A)) (i : ℕ) (x : A) → item_at xs i ≡ Some x → i < length xs
+within [] i x h = cc
+within (y ∷ ys) zero x h = omega arith
+within (y ∷ ys) (suc i) x h = let below : i < length ys = within ys i x h in omega (arith, below)
+
+is-less : (i n : ℕ) → i < n → nat_lt i n ≡ true
+is-less i n h = grind (arith, h)
 
 -- a plain function is held
 pub plain-held : (types : Collection) (k : ItemKind) → IsPlainFunction types k → holds_type types (kind_type k) ≡ true
-plain-held types (kind.Func f) h = item-below types.funcs f.0 _ h
+plain-held types (kind.Func f) h = is-less f.0 (length types.funcs) (within types.funcs f.0 _ h)
 plain-held types (kind.TypeItem t) h = absurd h
 plain-held types (kind.Instance i) h = absurd h
 plain-held types (kind.Component w) h = absurd h
@@ -39,7 +42,7 @@ module _ (g1 g2 : Graph) (f : ItemKind) (n : NodeId) (imported : Name) (plain : 
   import-there = there-is (node_at g2 n) _ there
 
   module _ (g3 : Graph) (exported : Name) (passed : Exports g2 n exported (Ok tt) g3) where
-    with_export : GraphNode
+    abbrev with_export : GraphNode
     with_export = record (import_node imported f) { export_name = Some exported }
 
     exported-as : g3 ≡ record g2 { nodes = map.insert g2.nodes n.0 with_export; exports = g2.exports ++ (exported, n) ∷ [] }
@@ -59,7 +62,7 @@ module _ (g1 g2 : Graph) (f : ItemKind) (n : NodeId) (imported : Name) (plain : 
       named-there = ap (λ (g : Graph). node_at g n) named-as ∙ insert_same g3.nodes n.0 (record with_export { name = Some name })
 
       same-types : g1.types ≡ g4.types
-      same-types = sym (ap (λ (g : Graph). g.types) named-as ∙ ap (λ (g : Graph). g.types) exported-as ∙ ap (λ (g : Graph). g.types) step.2.2.2)
+      same-types = sym (ap (λ (g : Graph). g.types) named-as ∙ ap (λ (g : Graph). g.types) exported-as ∙ ap (λ (g : Graph). g.types) step.2.2)
 
       -- the function that is imported is passed on under its other name
       pub passes-it : PassesFunction g4 imported exported name
