@@ -18,6 +18,7 @@ ghost use Rattle.wac_terms.specs.NoDisagreement.{HasNoDisagreement};
 ghost use Rattle.wac_terms.specs.Merge.{IsMerge, bound_resource, import_entries, listed_resource, own_resource};
 ghost use Rattle.wac_unions.specs.MergedScope.{BindsAsClasses, BindsUnder, IsBoundAs};
 ghost use Rattle.wac_unions.specs.OneId.{HasOneIdEach};
+ghost use Rattle.wac_uses.specs.KeptUses.{KeepsUses};
 ghost use Rattle.wac_subtyping.specs.TreeLaws.{IsKeptBy, KeepsTrees};
 ghost use Rattle.wac_shapes.specs.declared.component.ResourceId.{ResourceId as AResource};
 
@@ -111,7 +112,8 @@ impl TypeAggregator {
     /// Answers one import for each class, under its canonical name, in the order in which they are written, with the
     /// collection of their types, which holds each: the items of the entries' collection, which mean what they meant, and behind
     /// them what is merged. Each import is a subtype of each entry of its class, and mentions no resource that an import behind
-    /// it binds. Value types have one id for each named type.
+    /// it binds. Value types have one id for each named type. An instance uses what the members of its class use, of the imports
+    /// before it.
     ///
     /// Answers `Disagree` exactly where two entries of one class do not agree, with the first that does not and the first
     /// that it disagrees with; else `UseEachOther` where classes rest on each other in a circle, with the one that is asked
@@ -122,6 +124,7 @@ impl TypeAggregator {
         ensures merged { IfOk result (λ a. IsMerge by_names types.now self.entries a.merge) }
         ensures bound { IfOk result (λ a. BindsAsClasses by_names types.now self.entries a.merge) }
         ensures once { IfOk result (λ a. HasOneIdEach types.now self.entries a.merge) }
+        ensures uses { IfOk result (λ a. KeepsUses by_names types.now self.entries a.merge) }
         ensures before { IfOk result (λ a. MentionsBefore by_names a.merge) }
         ensures kept { IfOk result (λ a. IsKeptBy types.now a.merge.types) }
         ensures meant { IfOk result (λ a. KeepsTrees types.now a.merge.types) }

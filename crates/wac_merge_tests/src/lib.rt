@@ -8,4 +8,6 @@ mod merging;
 #[cfg(test)]
 mod one_type;
 #[cfg(test)]
+mod uses;
+#[cfg(test)]
 mod values;

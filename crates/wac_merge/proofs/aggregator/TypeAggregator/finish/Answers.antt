@@ -7,6 +7,7 @@ use Rattle.wac_agreement.specs.Faults.{HasFault, HasNoCircle, fault_of}
 use Rattle.wac_terms.specs.NoDisagreement.{HasNoDisagreement}
 use Rattle.wac_agreement.specs.declared.fault.MergeFault.{MergeFault}
 use Rattle.wac_agreement.specs.declared.fault.MergeFault.TheVariants.{OutOfMemory}
+use Rattle.wac_uses.specs.KeptUses.{KeepsUses}
 use Rattle.wac_merge.proofs.BoundLookups.{bindings-kept}
 use Rattle.wac_merge.proofs.FaultLemmas.{exit_cause, exit_refused, names_fault, no_fault, refused_for}
 use Rattle.wac_merge.proofs.MergedMentions.{imports_mention}
@@ -68,6 +69,11 @@ returns-in_err-merged-clause-fault c =
 pub returns-in_err-merged-clause-refused : goal.returns-in_err-merged-clause-refused
 returns-in_err-merged-clause-refused c = λ fault has.
     exit_refused (λ e. (fault_of e ≡ Some fault) ⊎ (e ≡ OutOfMemory)) c.from_residual-in_err-merged.result OutOfMemory c.from_residual-in_err-merged.ensures.1 (inr refl)
+
+pub returns-clause-uses : goal.returns-clause-uses
+returns-clause-uses c =
+    let same : c.as_slice-asked.result.now ≡ c.args.self.entries = c.as_slice-asked.ensures.value ∙ ap (λ (a : Aggregate). a.entries) c.self.view_is in
+    subst (λ (es : List Entry). KeepsUses by_names c.args.types.now es c.in_ok-merged.merged) same c.in_ok-merged.ensures.uses
 
 pub returns-clause-before : goal.returns-clause-before
 returns-clause-before c =
