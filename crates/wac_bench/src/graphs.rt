@@ -1,5 +1,6 @@
 //! How long graphs take to make and to encode: a chain of packages, each given what the one before exports; an instance of
-//! which each of many instances is given eight exports; the aliases of one instance; and a plug with its socket.
+//! which each of many instances is given eight exports; the aliases of one instance; a plug with its socket; and the import of a
+//! function over tuples that each hold the one before twice.
 
 ghost use Rattle.std.specs.Prelude.{◌≡◌, IfOk, IsSome};
 ghost use Rattle.wac_nodes.specs.Graph.{package_at};
@@ -8,7 +9,7 @@ use crate::times::{ROUNDS, Times, print_power_of_ten, print_times};
 use anyhow::{Result, bail};
 use std::alloc::Global;
 use std::time::{Duration, Instant};
-use wac_graph::types::{FuncType, ItemKind, Named, PrimitiveType, ValueType, World};
+use wac_graph::types::{DefinedType, FuncType, ItemKind, Named, PrimitiveType, ValueType, World};
 use wac_graph::{CompositionGraph, EncodeOptions, NodeId, PackageId, plug};
 
 /// A component with nothing in it.
@@ -24,6 +25,7 @@ pub enum Sort {
     Fan,
     Aliases,
     Plug,
+    Shared,
 }
 
 /// How long a graph took to make and to encode.
@@ -140,24 +142,28 @@ pub fn export(graph: &mut CompositionGraph, node: NodeId, name: &str) -> Result<
     Ok(graph.export(node, name)?)
 }
 
-/// Registers so many packages, each with the export `a`, all but the first with the import `b`.
+/// Imports an item.
+fn import(graph: &mut CompositionGraph, name: &str, kind: ItemKind) -> Result<NodeId> {
+    if !graph.types().contains(kind.ty()) {
+        bail!("what is imported is not held");
+    }
+    Ok(graph.import(name, kind)?)
+}
+
+/// Registers so many packages, each with the import `b` and the export `a`.
 fn links(alloc: Global, graph: &mut CompositionGraph, count: u64) -> Result<Vec<PackageId>> {
     let kind = plain(alloc, graph)?;
     let mut packages = Vec::new(alloc);
     for number in 0..count {
         let name = format!(in alloc; "n:p{number}")?;
-        let imports = if number == 0 {
-            Named::new(alloc)
-        } else {
-            one(alloc, "b", kind)?
-        };
+        let imports = one(alloc, "b", kind)?;
         let exports = one(alloc, "a", kind)?;
         packages.push(register(alloc, graph, name.as_str(), imports, exports)?)?;
     }
     Ok(packages)
 }
 
-/// So many packages, each given `a` of the one before as its `b`; `a` of the last is exported.
+/// So many packages, each given `a` of the one before as its `b`; that of the first is imported, and `a` of the last is exported.
 fn chain(alloc: Global, graph: &mut CompositionGraph, count: u64) -> Result<()> {
     let packages = links(alloc, graph, count)?;
     let mut last: Option<NodeId> = None;
@@ -192,6 +198,19 @@ fn fan(alloc: Global, graph: &mut CompositionGraph, count: u64) -> Result<()> {
             pass(graph, instance, name.as_str(), *argument)?;
         }
     }
+    Ok(())
+}
+
+/// A function over a tuple of two of a tuple, and so on so many levels deep, which is imported.
+fn shared(alloc: Global, graph: &mut CompositionGraph, count: u64) -> Result<()> {
+    let mut ty = ValueType::Primitive(PrimitiveType::Bool);
+    for _ in 0..count {
+        let pair = DefinedType::tuple(alloc, &[ty, ty])?;
+        ty = ValueType::Defined(graph.add_defined_type(pair)?);
+    }
+    let function = FuncType::new(alloc, &[("x", ty)], None, false)?;
+    let kind = ItemKind::Func(graph.add_func_type(function)?);
+    let _node = import(graph, "f", kind)?;
     Ok(())
 }
 
@@ -245,7 +264,7 @@ fn prepare(
     names: &[String],
 ) -> Result<()> {
     match sort {
-        Sort::Chain | Sort::Fan => Ok(()),
+        Sort::Chain | Sort::Fan | Sort::Shared => Ok(()),
         Sort::Aliases | Sort::Plug => parts(alloc, graph, names),
     }
 }
@@ -263,6 +282,7 @@ fn make(
         Sort::Fan => fan(alloc, graph, count),
         Sort::Aliases => aliases(graph, names),
         Sort::Plug => plugged(alloc, graph),
+        Sort::Shared => shared(alloc, graph, count),
     }
 }
 
@@ -276,7 +296,7 @@ pub fn unvalidated<'a>() -> EncodeOptions<'a> {
 /// Makes a graph and encodes it.
 fn timed(rt: &HostRuntime, graph: &mut CompositionGraph, sort: Sort, count: u64) -> Result<Round> {
     let names = match sort {
-        Sort::Chain | Sort::Fan => Vec::new(rt.alloc()),
+        Sort::Chain | Sort::Fan | Sort::Shared => Vec::new(rt.alloc()),
         Sort::Aliases | Sort::Plug => function_names(rt.alloc(), count)?,
     };
     prepare(rt.alloc(), graph, sort, &names)?;
@@ -329,6 +349,7 @@ fn word(sort: Sort) -> &'static str {
         Sort::Fan => "fan",
         Sort::Aliases => "aliases",
         Sort::Plug => "plug",
+        Sort::Shared => "shared",
     }
 }
 
@@ -337,8 +358,9 @@ pub fn show(rt: &HostRuntime) -> Result<()> {
     let chain = measured_once(rt, Sort::Chain, 10)?.length;
     let fan = measured_once(rt, Sort::Fan, 10)?.length;
     let plug = measured_once(rt, Sort::Plug, 10)?.length;
+    let shared = measured_once(rt, Sort::Shared, 40)?.length;
     println!(rt;
-        "a chain of 10: {chain} bytes, a fan of 10: {fan} bytes, a plug with 10 functions: {plug} bytes"
+        "a chain of 10: {chain} bytes, a fan of 10: {fan} bytes, a plug with 10 functions: {plug} bytes, tuples 40 deep: {shared} bytes"
     )?;
     Ok(())
 }
@@ -350,7 +372,7 @@ pub fn measure(rt: &HostRuntime, sort: Sort) -> Result<()> {
     let more = measured(rt, what, sort, 10_000)?;
     print_growth(rt, few, more)?;
     match sort {
-        Sort::Chain | Sort::Fan => {
+        Sort::Chain | Sort::Fan | Sort::Shared => {
             let many = measured(rt, what, sort, 100_000)?;
             print_growth(rt, more, many)
         }

@@ -1,5 +1,5 @@
 //! Measures how long calls of the libraries take: `names` reads names, `comparing` adds and compares items, `merging` merges
-//! imports, `writing` writes components; `chain`, `fan`, `aliases` and `plug` make graphs and encode them, and `churn` removes
+//! imports, `writing` writes components; `chain`, `fan`, `aliases`, `plug` and `shared` make graphs and encode them, and `churn` removes
 //! nodes and makes them again. With such a word it takes a workload at some counts and prints its times and by which power of
 //! the count they grow; without one it does a little of each and prints no time. Another word ends it with status 2.
 #![tactic(auto)]
@@ -39,6 +39,7 @@ fn measure(rt: &HostRuntime, word: &str) -> Result<bool> {
         "fan" => graphs::measure(rt, Sort::Fan)?,
         "aliases" => graphs::measure(rt, Sort::Aliases)?,
         "plug" => graphs::measure(rt, Sort::Plug)?,
+        "shared" => graphs::measure(rt, Sort::Shared)?,
         "churn" => churn::measure(rt)?,
         _ => return Ok(false),
     }
@@ -53,6 +54,6 @@ fn main(rt: HostRuntime) -> Result<ExitCode> {
     if measure(&rt, word.as_str())? {
         return Ok(ExitCode::SUCCESS);
     }
-    println!(rt; "names, comparing, merging, writing, chain, fan, aliases, plug or churn")?;
+    println!(rt; "names, comparing, merging, writing, chain, fan, aliases, plug, shared or churn")?;
     Ok(ExitCode::from(2))
 }

@@ -53,7 +53,8 @@ pub enum EncodeError {
     /// There was no memory.
     #[error("out of memory")]
     OutOfMemory,
-    /// An argument is not set, a node is an import, or the options ask for what is not written yet.
+    /// What is asked for has an item that is not imported so far, a node is a definition, or the options ask for imported
+    /// components. Imported so far are functions and value types that are made of no resource, and instances of such.
     #[error("the graph holds something that is not written yet")]
     NotYet,
     /// Validation is asked for, and the outer names may not stand together: their first fault.

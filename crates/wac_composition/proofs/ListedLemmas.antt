@@ -19,17 +19,16 @@ use Rattle.wac_edges.specs.Edge.{edge_cmp, argument_edge, node_number}
 use Rattle.wac_edges.proofs.EdgeLemmas.{edge_cmp_total}
 use Rattle.wac_nodes.specs.declared.node.Node.{Node}
 use Rattle.wac_nodes.specs.Graph as graph
-use Rattle.wac_nodes.specs.Graph.{Graph, GraphNode, Kind, node_at, imports_of, IsArgumentOf, IsUnsatisfied}
+use Rattle.wac_nodes.specs.Graph.{Graph, GraphNode, Kind, imports_of, IsArgumentOf, IsUnsatisfied}
 use Rattle.wac_nodes.specs.Nodes.{node_of, kind_of}
 use Rattle.wac_nodes.specs.Gives.{GivesNode}
 use Rattle.wac_nodes.specs.Asked.{is_argument}
 use Rattle.wac_meaning.proofs.AskedLemmas.{satisfied as set_by_edge}
-use Rattle.wac_composition.specs.declared.graph.CompositionGraph.TheInside.{Inside}
-use Rattle.wac_composition.specs.Inside.{graph_of, Invariant}
+use Rattle.wac_fields.specs.Fields.{Fields, graph_of, Invariant}
 use Rattle.wac_composition.specs.Listed.{AreNodes, node_ids, AreSet, AreArguments, instance_imports, imports_by}
 use Rattle.wac_composition.specs.Left.{with_id, id_of, argument_at, set_row, set_rows, set_from, listed_in, arguments_left}
-use Rattle.wac_composition.proofs.EncodingLemmas.{gives_node, node_is}
-use Rattle.wac_composition.proofs.ImportRows.{at_drop, edge_is, entries_of, entries_are}
+use Rattle.wac_writing.proofs.EncodingLemmas.{gives_node, node_is}
+use Rattle.wac_writing.proofs.ImportRows.{at_drop, edge_is, entries_of, entries_are}
 
 -- the first edge that passes a test
 found_in : (p : Edge → Bool) (es : List Edge) (e : Edge) → find p es ≡ Some e → Contains es e × (p e ≡ true)
@@ -98,7 +97,7 @@ module _ (g : Graph) (id : NodeId) where
   none_from imports i past = ap (set_rows g id i) (drop_all i imports past)
 
 -- what is said of an argument by its edge
-module _ (a : Inside) (v : Invariant a) (id : NodeId) (i : ℕ) where
+module _ (a : Fields) (v : Invariant a) (id : NodeId) (i : ℕ) where
   pub argument_is : (node : NodeId) → IsArgumentOf (graph_of a) id i node → argument_at (graph_of a) id i ≡ Some node
   argument_is node stands = by_answer (argument_at (graph_of a) id i) refl where
     by_answer : (o : Option NodeId) → argument_at (graph_of a) id i ≡ o → o ≡ Some node
@@ -116,7 +115,7 @@ module _ (a : Inside) (v : Invariant a) (id : NodeId) (i : ℕ) where
     by_answer (Some node) is = absurd (clash (set.contains a.edges (argument_edge node id i)) (is_set (graph_of a) id i node is) (absent node))
 
 -- what a node imports
-module _ (a : Inside) (id : NodeId) where
+module _ (a : Fields) (id : NodeId) where
   by_kind : (node : GraphNode) (k : Kind) → node.kind ≡ k → (node.kind ≡ graph.instantiation → ⊥) → imports_by (graph_of a) (Some node) ≡ []
   by_kind node graph.instantiation is other = absurd (other is)
   by_kind node graph.definition is other = rw is refl
@@ -136,7 +135,7 @@ module _ (a : Inside) (id : NodeId) where
       of_instance n e = rw e refl
 
 -- the nodes with their ids
-module _ (a : Inside) where
+module _ (a : Fields) where
   numbers : (slots : List (Option Node)) (j : ℕ) → map (λ (e : ℕ × Node). node_number e.0) (entries_from j slots) ≡ map node_number (map (λ (e : ℕ × GraphNode). e.0) (entries_of j slots))
   numbers [] j = refl
   numbers (None ∷ slots) j = numbers slots (j + 1)

@@ -1,11 +1,11 @@
 //! What `set_instantiation_argument` looks up, tests and changes.
-ghost use Rattle.std.specs.Prelude.{◌≡◌, ◌≢◌, true, false, IsSome, OnOk, OnErr, IfOk, IfErr, Err, ◌||◌, ◌&&◌, ◌==◌, not, ℕ};
+ghost use Rattle.std.specs.Prelude.{◌≡◌, true, false, IsSome, OnOk, OnErr, IfOk, IfErr, Err, ◌||◌, ◌&&◌, ◌==◌, not, ℕ};
 ghost use Rattle.std.specs.FinSet as set;
 ghost use Rattle.std.specs.Option.{option_map};
 ghost use Rattle.slab.specs.Slab.{get};
 ghost use Rattle.wac_collection.specs.Collection.{holds_type};
 ghost use Rattle.wac_shapes.specs.Kinds.{kind_type};
-ghost use Rattle.wac_composition.specs.Arguments.{HasImport, Fits, CanBeGiven, IsInstantiation};
+ghost use Rattle.wac_fields.specs.Arguments.{HasImport, Fits, CanBeGiven, IsInstantiation};
 ghost use Rattle.wac_edges.specs.Edge.{argument_edge as labelled};
 ghost use Rattle.wac_nodes.specs.Graph.{node_at, IsArgumentOf};
 ghost use Rattle.wac_nodes.specs.Nodes.{IsInstantiationAt, satisfied_at, node_of};

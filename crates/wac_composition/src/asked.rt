@@ -1,5 +1,5 @@
 //! All that a graph asks for: with each import the interfaces that it uses, each instance once under a name.
-ghost use Rattle.std.specs.Prelude.{ℕ, ◌≡◌, ◌++◌, [], map, IfOk, OnOk};
+ghost use Rattle.std.specs.Prelude.{◌≡◌, ◌++◌, [], map, IfOk, OnOk};
 ghost use Rattle.wac_nodes.specs.Entries.{asked_entries};
 ghost use Rattle.wac_asking.specs.EntriesLeft.{entry_view, entries_of, IsRight, AreSettled, AsksAlike, asked_at, all_with_used, all_asked_by, all_imported_by};
 

@@ -7,7 +7,6 @@ ghost use Rattle.wac_collection.specs.Package.{Key};
 ghost use Rattle.wac_causes.specs.Cause.{IsConflict, IsFirstConflict, HasNoConflict, cause_of, conflict as conflict_cause};
 ghost use Rattle.wac_causes.specs.Search.{Clashes, IsFirstOf, IsLowest, IsRefused};
 ghost use Rattle.wac_edges.specs.Edge.{node_number};
-ghost use Rattle.wac_nodes.specs.Graph.{node_at};
 ghost use Rattle.wac_nodes.specs.Nodes.{names_of};
 ghost use Rattle.wac_edges.specs.Order.{IsAcyclic};
 ghost use Rattle.wac_nodes.specs.declared.options.EncodeOptions.{EncodeOptions as Asked};

@@ -27,7 +27,7 @@ ghost use Rattle.wac_causes.specs.NotYet.{IsNotYet};
 ghost use Rattle.wac_edges.specs.Order.{Writes, IsOnCycle, IsAcyclic};
 ghost use Rattle.wac_nodes.specs.declared.options.EncodeOptions.{EncodeOptions as Asked};
 ghost use Rattle.wac_validation.specs.Valid.{AreValid};
-ghost use Rattle.wac_composition.specs.EncoderView.{IsPlainNode};
+ghost use Rattle.wac_writing.specs.Plain.{IsPlainNode};
 ghost use Rattle.wac_writing.specs.Refused.{IsRefusedBefore};
 
 use crate::graph::CompositionGraph;

@@ -1,14 +1,13 @@
 //! The composition graph.
-ghost use Rattle.std.specs.Prelude.{◌≡◌, ◌≢◌, ◌==◌, ◌↔◌, ◌⊎◌, ℕ, Bool, true, false, [], IsSome, IsTrue, is_some, OnOk, OnErr, IfOk, IfErr, IfSome, IfNone, Some, None, Ok, Err, ◌++◌, ◌∷◌, length, slice_get};
-ghost use Rattle.std.specs.Option.{option_map, option_and_then, option_copied};
+ghost use Rattle.std.specs.Prelude.{◌≡◌, ◌==◌, ◌↔◌, ℕ, true, false, IsSome, IsTrue, is_some, IfOk, IfSome, IfNone, Some, None, Ok, Err, length, slice_get};
+ghost use Rattle.std.specs.Option.{option_map, option_copied};
 ghost use Rattle.slab.specs.Slab.{ContainsKey, get, with_value};
 ghost use Rattle.semver.specs.Identifiers.{parts_of};
-ghost use Rattle.wac_collection.specs.Collection.{IsWellFormed, holds_type, item_at, resource_mentions, func_mentions, defined_mentions, with_resource, with_func, with_defined, with_interface, with_world, with_module};
+ghost use Rattle.wac_collection.specs.Collection.{IsWellFormed, holds_type, resource_mentions, func_mentions, defined_mentions, with_resource, with_func, with_defined, with_interface, with_world, with_module};
 ghost use Rattle.wac_shapes.specs.Kinds.{kind_type};
 ghost use Rattle.wac_collection.specs.Package.{HoldsPackage, with_instance_of, package_fault};
 ghost use Rattle.wac_collection.specs.Uses.{AnswersBy, mention_fault, interface_fault, world_fault};
 ghost use Rattle.wac_subtyping.specs.TreeLaws.{GrowthKeepsTrees};
-ghost use Rattle.wac_shapes.specs.Named.{named_at};
 ghost use Rattle.wac_shapes.specs.declared.component.«Type».TheVariants.{World as world_type};
 ghost use Rattle.wac_nodes.specs.Graph.{node_at, package_at, export_at, package_in, import_name, IsRegistered, IsAliasOf, IsSourceOf};
 ghost use Rattle.wac_edges.specs.declared.node.NodeId.{NodeId as AnId};
@@ -81,11 +80,12 @@ impl Model for CompositionGraph {
 
     ghost coded = { Prim.hlevel (codes, map.code) };
 
-    ghost use Rattle.wac_composition.specs.Inside.{graph_of, Invariant};
+    ghost use Rattle.wac_fields.specs.Fields.{graph_of, Invariant};
+    ghost use Rattle.wac_composition.specs.Inside.{fields_of};
 
-    ghost view = { graph_of };
+    ghost view = { λ s. graph_of (fields_of s) };
 
-    ghost invariant = { Invariant };
+    ghost invariant = { λ s. Invariant (fields_of s) };
 }
 
 impl CompositionGraph {

@@ -4,7 +4,7 @@ ghost use Rattle.wac_binary.specs.Views.{names_of};
 ghost use Rattle.wac_nodes.specs.Graph.{node_at};
 ghost use Rattle.wac_meaning.specs.Means.{AreNames};
 ghost use Rattle.wac_meaning.specs.Encoding.{HasRoom, index_in};
-ghost use Rattle.wac_composition.specs.Naming.{AreLowest, AreNamesOf, IsNamed, IsNamedAt};
+ghost use Rattle.wac_writing.specs.Naming.{AreLowest, AreNamesOf, IsNamed, IsNamedAt};
 
 use crate::encode::sort_of;
 use crate::graph::CompositionGraph;

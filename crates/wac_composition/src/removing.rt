@@ -3,7 +3,7 @@ ghost use Rattle.std.specs.Prelude.{IsSome};
 ghost use Rattle.wac_nodes.specs.Graph.{node_at, package_at};
 ghost use Rattle.wac_removing.specs.Removal.{Removes};
 ghost use Rattle.wac_removing.specs.Unregistering.{Unregisters};
-ghost use Rattle.wac_composition.specs.Removing.{AreLeft};
+ghost use Rattle.wac_fields.specs.Removing.{AreLeft};
 
 use crate::graph::CompositionGraph;
 use indexmap::IndexMap;

@@ -1,4 +1,5 @@
 mod Cycling
 mod Following
+mod Passing
 mod Plugging
 mod Weakening

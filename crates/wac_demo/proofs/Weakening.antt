@@ -7,7 +7,7 @@ use Rattle.wac_binary.specs.Bytes.{bytes_of}
 use Rattle.wac_nodes.specs.declared.options.EncodeOptions.{EncodeOptions}
 use Rattle.wac_nodes.specs.Graph.{Graph}
 use Rattle.wac_meaning.specs.Means.{Means}
-use Rattle.wac_demo.specs.Composed.{Compose, IsComposed, of_empty, of_processor, of_readme, of_plug, cycle_word}
+use Rattle.wac_demo.specs.Composed.{Compose, IsComposed, of_empty, of_processor, of_function, of_readme, of_plug, cycle_word}
 use Rattle.wac_demo.specs.Printed.{hex_line, Prints}
 
 -- items that mean such a graph with such options compose it
@@ -31,6 +31,7 @@ other_word word other is first e = false≢true (sym first ∙ ap (λ w. nat_eq 
 pub cycle_none : (word bytes : List ℕ) → IsComposed word bytes → word ≡ cycle_word → ⊥
 cycle_none word bytes (of_empty is _) e = other_word word _ is refl e
 cycle_none word bytes (of_processor is _) e = other_word word _ is refl e
+cycle_none word bytes (of_function is _) e = other_word word _ is refl e
 cycle_none word bytes (of_readme is _) e = other_word word _ is refl e
 cycle_none word bytes (of_plug is _) e = other_word word _ is refl e
 

@@ -11,7 +11,7 @@ use Rattle.wac_edges.specs.declared.node.NodeId.{NodeId}
 use Rattle.wac_edges.specs.Order.{IsLowestOnCycle}
 use Rattle.wac_nodes.specs.declared.options.EncodeOptions.{EncodeOptions}
 use Rattle.wac_nodes.specs.declared.packages.PackageId.{PackageId}
-use Rattle.wac_nodes.specs.Graph.{Graph, node_at, package_at, export_at}
+use Rattle.wac_nodes.specs.Graph.{Graph, import, node_at, package_at, export_at}
 use Rattle.wac_nodes.specs.Options.{default_options}
 use Rattle.wac_meaning.specs.Means.{Means}
 use Rattle.wac_nodes.specs.Steps.{IsEmpty, instance_node}
@@ -68,6 +68,15 @@ abbrev pub IsPlainFunction : Collection → ItemKind → Type 0
 IsPlainFunction types (kind.Func f) = item_at types.funcs f.0 ≡ Some (record { params = []; result = None; is_async = false })
 IsPlainFunction types _ = ⊥
 
+-- a function without parameters and result is imported by a name, exported by another, and its node is named
+abbrev pub PassesFunction : Graph → Name → Name → Name → Type 0
+PassesFunction g imported exported name =
+    (n : NodeId) × IsSomeAnd (node_at g n) (λ node. (node.kind ≡ import imported) × IsPlainFunction g.types node.item_kind × (node.name ≡ Some name)) × (export_at g exported ≡ Some n)
+
+-- the composition `function`: the import `x` is exported as `y`, and its node is named `n`
+abbrev pub IsFunction : Graph → Type 0
+IsFunction g = PassesFunction g (codes "x") (codes "y") (codes "n")
+
 -- an instance of a package of this name is its own argument for this import
 abbrev pub IsItsOwnArgument : Graph → Name → Name → Type 0
 IsItsOwnArgument g name imported = (n : NodeId) × IsInstanceOf g name n × IsArgumentBy g n imported n
@@ -96,12 +105,16 @@ processor_word = codes "processor"
 abbrev pub cycle_word : List ℕ
 cycle_word = codes "cycle"
 
+abbrev pub function_word : List ℕ
+function_word = codes "function"
+
 abbrev pub IsWord : List ℕ → Type 0
-IsWord word = (word ≡ empty_word) ⊎ ((word ≡ processor_word) ⊎ ((word ≡ readme_word) ⊎ ((word ≡ cycle_word) ⊎ (word ≡ plug_word))))
+IsWord word = (word ≡ empty_word) ⊎ ((word ≡ processor_word) ⊎ ((word ≡ function_word) ⊎ ((word ≡ readme_word) ⊎ ((word ≡ cycle_word) ⊎ (word ≡ plug_word)))))
 
 -- the bytes are those of the word's composition; that of `cycle` has none
 pub data IsComposed (word bytes : List ℕ) : Type 0 where
   of_empty : word ≡ empty_word → Compose bytes AreDefault IsEmpty → IsComposed word bytes
   of_processor : word ≡ processor_word → Compose bytes (NameProcessor (codes "x") (codes "1")) IsEmpty → IsComposed word bytes
+  of_function : word ≡ function_word → Compose bytes AreDefault IsFunction → IsComposed word bytes
   of_readme : word ≡ readme_word → Compose bytes AreDefault IsReadme → IsComposed word bytes
   of_plug : word ≡ plug_word → Compose bytes AreDefault IsPlugged → IsComposed word bytes

@@ -4,7 +4,7 @@ ghost use Rattle.std.specs.Prelude.{codes, IfOk, IsErr};
 ghost use Rattle.wac_shapes.specs.Named.{named_pairs};
 ghost use Rattle.wac_nodes.specs.Graph.{Graph};
 ghost use Rattle.wac_nodes.specs.Steps.{IsEmpty};
-ghost use Rattle.wac_demo.specs.Composed.{AreDefault, Compose, IsCycle, IsReadme, IsPlugged, IsPlainFunction, IsEmptyPackage, NameProcessor, RefusesCycle};
+ghost use Rattle.wac_demo.specs.Composed.{AreDefault, Compose, IsCycle, IsFunction, IsReadme, IsPlugged, IsPlainFunction, IsEmptyPackage, NameProcessor, RefusesCycle};
 ghost use Rattle.wac_nodes.specs.Stays.{Stays};
 
 use anyhow::Result;
@@ -36,6 +36,18 @@ pub fn processor(alloc: Global) -> Result<Vec<u8>>
         processor,
         ..EncodeOptions::default()
     })?)
+}
+
+/// A function that is imported as `x` and exported as `y`; its node is named `n`.
+pub fn passed(alloc: Global) -> Result<Vec<u8>>
+    ensures { IfOk result (λ bytes. Compose bytes.items AreDefault IsFunction) }
+{
+    let mut graph = CompositionGraph::new(alloc);
+    let function = function(alloc, &mut graph)?;
+    let node = graph.import("x", function)?;
+    graph.export(node, "y")?;
+    graph.set_node_name(node, "n")?;
+    Ok(graph.encode(EncodeOptions::default())?)
 }
 
 /// Two packages: the function `a` of an instance of the first is given to an instance of the second as `b`.

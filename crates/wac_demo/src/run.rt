@@ -5,7 +5,7 @@ ghost use Rattle.anyhow.specs.Error.{error_message};
 ghost use Rattle.wac_demo.specs.Composed.{IsComposed, IsWord, cycle_word};
 ghost use Rattle.wac_demo.specs.Printed.{hex_line, line_of, unknown_line, Prints};
 
-use crate::compositions::{cycle, empty, plugged, processor, readme};
+use crate::compositions::{cycle, empty, passed, plugged, processor, readme};
 use anyhow::{Error, Result};
 use std::alloc::Global;
 use std::io::Write;
@@ -60,6 +60,7 @@ fn compose(alloc: Global, word: &str) -> Option<Result<Vec<u8>>>
     match word {
         "empty" => Some(empty(alloc)),
         "processor" => Some(processor(alloc)),
+        "function" => Some(passed(alloc)),
         "readme" => Some(readme(alloc)),
         "cycle" => Some(cycle(alloc)),
         "plug" => Some(plugged(alloc)),

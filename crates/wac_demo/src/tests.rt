@@ -1,5 +1,6 @@
 mod bench;
 mod graph;
+mod imports;
 mod listed;
 mod names;
 mod packages;

@@ -15,7 +15,7 @@ use Rattle.wac_binary.specs.Bytes.{preamble}
 use Rattle.wac_binary.specs.Customs as custom_section
 use Rattle.wac_binary.specs.Customs.{of_sort, names_bytes, producers_bytes}
 use Rattle.wac_binary.specs.Items.{Item, custom, nested, instantiate}
-use Rattle.wac_binary.specs.Meaning.{meaning, instance_at, stands_for, written}
+use Rattle.wac_binary.specs.Meaning.{meaning, instance_at, stands_for}
 use Rattle.wac_edges.specs.declared.edges.Edge.{Edge}
 use Rattle.wac_edges.specs.Order.{Writes, without}
 use Rattle.wac_edges.specs.declared.node.NodeId.{NodeId}

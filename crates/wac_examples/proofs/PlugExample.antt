@@ -1,5 +1,5 @@
 -- Worked examples: which exports of a plug match which imports of a socket, and what plugging by matches is.
-use Rattle.std.proofs.Common.{◌≡◌, ◌⊎◌, false, true, ℕ, inl, inr, List, [], ◌∷◌, Option, Some, None, Result, Ok, Err, codes, refl, ap, sym, subst}
+use Rattle.std.proofs.Common.{◌≡◌, false, ℕ, inl, inr, List, [], ◌∷◌, Option, Some, None, Ok, Err, codes, refl, ap, sym, subst}
 use Rattle.std.proofs.lemmas.Bool.{false≢true}
 use Rattle.semver.specs.Parse.{digits_from, scan}
 use Rattle.wac_names.specs.Text.{after, before, has}

@@ -38,9 +38,8 @@ use Rattle.wac_encode.specs.Written.{with_types}
 use Rattle.wac_encode.specs.Importing.{ImportsHeld, WritesImport, IsImportedAs}
 use Rattle.wac_meaning.specs.Means.{sort_of_kind}
 use Rattle.wac_meaning.specs.Beginning.{Places, Begins}
-use Rattle.wac_meaning.specs.MergedImports.{merged_item, imports_from, merged_imports}
+use Rattle.wac_meaning.specs.MergedImports.{merged_item, imports_from, merged_imports, AreOfSorts}
 use Rattle.wac_meaning.proofs.WrittenLemmas.{slice_get-push}
-use Rattle.wac_importing.specs.Written.{AreOfSorts}
 use Rattle.wac_meaning.proofs.MeaningLemmas.{Laws}
 use Rattle.wac_meaning.proofs.BeginLemmas.{nothing_begins, begins_behind_types}
 use Rattle.wac_meaning.proofs.MergeLemmas.{imports_next}

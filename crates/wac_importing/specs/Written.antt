@@ -10,8 +10,6 @@ use Rattle.wac_binary.specs.declared.fault.BinaryFault.TheVariants.{TooLarge, Ou
 use Rattle.wac_scopes.specs.declared.scope.Scope.{Scope}
 use Rattle.wac_scopes.specs.Contents.{items_of}
 use Rattle.wac_encode.specs.Importing.{ImportedDoesNotFit}
-use Rattle.wac_binary.specs.declared.sorts.Sort.{Sort}
-use Rattle.wac_meaning.specs.Means.{sort_of_kind}
 use Rattle.wac_meaning.specs.Beginning.{Places, Begins}
 use Rattle.wac_meaning.specs.Importable.{IsImportableKind}
 use Rattle.wac_meaning.specs.MergedImports.{imports_from}
@@ -26,10 +24,6 @@ pub record HasUnimportable (m : Merged) : Type 0 where
   pub entry : Entry
   pub there : slice_get m.imports p ≡ Some entry
   pub not_yet : IsImportableKind m.types entry.kind → ⊥
-
--- each import stands at an index of its sort
-abbrev pub AreOfSorts : Merged → Places → Type 0
-AreOfSorts m places = (p : ℕ) (e : Entry) (place : Sort × ℕ) → slice_get m.imports p ≡ Some e → slice_get places p ≡ Some place → place.0 ≡ sort_of_kind e.kind
 
 -- an import does not fit behind those before it, with some of the types that it is made of
 pub record HasTooLarge (m : Merged) : Type 0 where

@@ -1,6 +1,6 @@
 //! The writer of a merge's imports.
 
-ghost use Rattle.std.specs.Prelude.{◌≡◌, ◌⊎◌, ℕ, true, false, List, None, Some, Ok as Answers, Err as Refused, IfOk, IfErr, IfSome, OnOk, slice_get};
+ghost use Rattle.std.specs.Prelude.{◌≡◌, ◌⊎◌, ℕ, true, List, None, Some, Ok as Answers, Err as Refused, IfOk, IfErr, IfSome, slice_get};
 ghost use Rattle.wac_shapes.specs.Kinds.{kind_type};
 ghost use Rattle.wac_shapes.specs.declared.component.ItemKind.{ItemKind as AnyItem};
 ghost use Rattle.wac_collection.specs.Collection.{IsWellFormed, holds_type};
@@ -11,8 +11,8 @@ ghost use Rattle.wac_scopes.specs.Contents.{IsRoot};
 ghost use Rattle.wac_encode.specs.Importing.{ImportsHeld, WritesImport};
 ghost use Rattle.wac_meaning.specs.Beginning.{Begins};
 ghost use Rattle.wac_meaning.specs.Means.{sort_of_kind};
-ghost use Rattle.wac_meaning.specs.MergedImports.{merged_imports};
-ghost use Rattle.wac_importing.specs.Written.{AllImportable, HasUnimportable, AreOfSorts, AreRefused, merge_of, IsTooLarge, IsNotWritten};
+ghost use Rattle.wac_meaning.specs.MergedImports.{merged_imports, AreOfSorts};
+ghost use Rattle.wac_importing.specs.Written.{AllImportable, HasUnimportable, AreRefused, merge_of, IsTooLarge, IsNotWritten};
 ghost use Rattle.wac_importing.specs.Looked.{ListsPlain, AreImportable};
 
 use crate::importable::are_importable;

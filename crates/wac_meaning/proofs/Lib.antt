@@ -7,7 +7,6 @@ pub mod ThingLemmas
 pub mod AskedLemmas
 pub mod WrittenLemmas
 pub mod EncodeLemmas
-pub mod PlainLemmas
 pub mod OuterOrder
 pub mod BeginLemmas
 pub mod AskedMembers

@@ -26,19 +26,6 @@ IsPlain g = (n : NodeId) (node : GraphNode) → node_at g n ≡ Some node → (n
 abbrev pub DefinesNothing : Graph → Type 0
 DefinesNothing g = (n : NodeId) (node : GraphNode) → node_at g n ≡ Some node → node.kind ≡ graph.definition → ⊥
 
-pub plain_defines : (g : Graph) → IsPlain g → DefinesNothing g
-plain_defines g plain n node there is = two (plain n node there) is where
-  two : {k : Kind} → (k ≡ graph.instantiation) ⊎ (k ≡ graph.alias) → k ≡ graph.definition → ⊥
-  two (inl a) b = cc
-  two (inr a) b = cc
-
--- and so none is an import
-pub plain_imports : (g : Graph) → IsPlain g → (n : NodeId) (node : GraphNode) → node_at g n ≡ Some node → is_import node.kind ≡ false
-plain_imports g plain n node there = none (plain n node there) where
-  none : {k : Kind} → (k ≡ graph.instantiation) ⊎ (k ≡ graph.alias) → is_import k ≡ false
-  none (inl a) = ap is_import a
-  none (inr a) = ap is_import a
-
 the_node : (o : Option GraphNode) → IsSome o → (node : GraphNode) × (o ≡ Some node)
 the_node None h = cc
 the_node (Some node) h = (node, refl)

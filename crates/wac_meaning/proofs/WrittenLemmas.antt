@@ -24,7 +24,7 @@ use Rattle.wac_edges.specs.declared.node.NodeId.{NodeId}
 use Rattle.wac_nodes.specs.declared.packages.PackageId.{PackageId}
 use Rattle.wac_edges.specs.Edge.{alias_edge, argument_edge}
 use Rattle.wac_nodes.specs.Graph as graph
-use Rattle.wac_nodes.specs.Graph.{Graph, GraphNode, Kind, node_at, package_at, imports_of, exports_of, IsAliasOf, IsArgumentOf}
+use Rattle.wac_nodes.specs.Graph.{Graph, GraphNode, Kind, node_at, imports_of, exports_of, IsAliasOf, IsArgumentOf}
 use Rattle.wac_nodes.specs.Sound.{IsSound}
 use Rattle.wac_edges.specs.Order.{Writes, IsLowestReady}
 use Rattle.wac_meaning.specs.Means.{node_is, is_import, is_instantiation, is_written, instantiations, IsThing, as_import, as_instantiation, as_alias, sort_of_kind, same_package, with_package, used_after, used_packages, package_bytes, IsArgument, given, AreArguments, HasItem, is_own_item, as_definition, asked}

@@ -14,6 +14,7 @@ use Rattle.wac_terms.specs.Merge.{Merged, IsMerge}
 use Rattle.wac_binary.specs.declared.sorts.Sort.{Sort}
 use Rattle.wac_nodes.specs.Graph.{Graph}
 use Rattle.wac_nodes.specs.OuterImports.{outer_entries}
+use Rattle.wac_meaning.specs.Means.{sort_of_kind}
 use Rattle.wac_meaning.specs.Beginning.{Places}
 
 -- the item of an import of a merge at its position
@@ -28,6 +29,10 @@ imports_from m p (e ∷ es) = (e.name, merged_item m p e) ∷ imports_from m (su
 -- all of them
 abbrev pub merged_imports : Merged → List (Name × Tree)
 merged_imports m = imports_from m 0 m.imports
+
+-- each import stands at an index of its sort
+abbrev pub AreOfSorts : Merged → Places → Type 0
+AreOfSorts m places = (p : ℕ) (e : Entry) (place : Sort × ℕ) → slice_get m.imports p ≡ Some e → slice_get places p ≡ Some place → place.0 ≡ sort_of_kind e.kind
 
 -- no interface that is held exports a name twice
 abbrev pub ExportsOnce : Collection → Type 0

@@ -1,10 +1,9 @@
 -- What is importable stays so where it offers less.
-use Rattle.std.proofs.Common.{◌≡◌, ◌≢◌, ℕ, Bool, true, false, refl, ap, ◌∙◌, sym, subst, Some}
-use Rattle.std.specs.Prelude.{slice_get}
+use Rattle.std.proofs.Common.{◌≡◌, Bool, true, false, refl, ap, sym, subst}
 use Rattle.wac_shapes.specs.Name.{Name}
-use Rattle.wac_collection.specs.Tree.{TypeTree, absent, resource, primitive, own, borrow, record_of, variant_of, list_of, fixed_list_of, tuple_of, flags_of, enum_of, option_of, result_of, stream_of, future_of, function, instance, component, module_of, fresh, type_equal, function_item, instance_item, component_item, module_item, value_item}
+use Rattle.wac_collection.specs.Tree.{TypeTree, absent, type_equal, instance_item}
 use Rattle.wac_subtyping.specs.Subtype.{Sub}
-use Rattle.wac_meaning.specs.Importable.{HasNoHandle, IsPlainItem, IsPlainWhereThere, IsImportable}
+use Rattle.wac_meaning.specs.Importable.{IsPlainItem, IsPlainWhereThere, IsImportable}
 
 abbrev is_absent : {L : Type 0} → TypeTree L → Bool
 is_absent absent = true

@@ -3,3 +3,15 @@ pub mod PlaceLemmas
 pub mod OuterLemmas
 pub mod ComponentLemmas
 pub mod CauseLemmas
+pub mod EncodingLemmas
+pub mod MeansLemmas
+pub mod SourceLemmas
+pub mod ImportRows
+pub mod AskingWalk
+pub mod AskedHeld
+pub mod MergeLemmas
+pub mod ConflictLemmas
+pub mod WriteAliasLemmas
+pub mod WriteArgumentsLemmas
+pub mod NamingLemmas
+pub mod OuterNameLemmas

@@ -1,10 +1,10 @@
 -- The imports of a graph are one list; where a name fell; and what is not written yet.
-use Rattle.std.proofs.Common.{◌≡◌, ℕ, zero, suc, ◌<◌, Bool, true, false, List, [], ◌∷◌, length, refl, ap, ◌∙◌, sym, subst, arith, Option, Some, None}
+use Rattle.std.proofs.Common.{◌≡◌, ℕ, zero, suc, ◌<◌, Bool, true, false, List, [], ◌∷◌, length, refl, ap, ◌∙◌, sym, subst, arith, Some}
 use Rattle.std.specs.Prelude.{slice_get, Contains}
 use Rattle.std.specs.List.{AllByRecursion, filter}
 use Rattle.std.proofs.lemmas.Option.{slice_get_within, get_or_from_slice_get}
 use Rattle.wac_shapes.specs.Name.{Name}
-use Rattle.wac_collection.specs.Tree.{Tree, TypeTree, absent, fresh, type_equal, function_item, instance_item, component_item, module_item, value_item}
+use Rattle.wac_collection.specs.Tree.{Tree, TypeTree, function_item, instance_item, component_item, module_item, value_item}
 use Rattle.wac_collection.specs.Collection.{Collection}
 use Rattle.wac_shapes.specs.declared.component.ItemKind.{ItemKind}
 use Rattle.wac_shapes.specs.declared.component.ItemKind.TheVariants as kind
@@ -13,19 +13,17 @@ use Rattle.wac_entries.specs.Classes.{Entry, by_names, same_class, canonical, cl
 use Rattle.wac_merge.specs.Aggregate.{Aggregate}
 use Rattle.wac_binary.specs.declared.sorts.Sort.{Sort}
 use Rattle.wac_binary.specs.declared.sorts.Sort.TheVariants as sort
-use Rattle.wac_edges.specs.declared.node.NodeId.{NodeId}
 use Rattle.wac_nodes.specs.declared.options.EncodeOptions.{EncodeOptions}
-use Rattle.wac_nodes.specs.Graph as graph
-use Rattle.wac_nodes.specs.Graph.{Graph, GraphNode, node_at}
+use Rattle.wac_nodes.specs.Graph.{Graph}
 use Rattle.wac_nodes.specs.OuterImports.{outer_entries, AreOuterImports, outer_import}
 use Rattle.wac_causes.specs.NotYet.{AllImportable, IsNotYet, unwritten, defined, undefined_components}
 use Rattle.wac_meaning.specs.Means.{sort_of_kind}
-use Rattle.wac_meaning.specs.Beginning.{Places, IsPlacedAt}
+use Rattle.wac_meaning.specs.Beginning.{Places}
 use Rattle.wac_meaning.specs.Importable.{IsImportableKind}
 use Rattle.wac_writing.proofs.ImportableLemmas.{importable_super}
-use Rattle.wac_meaning.specs.MergedImports.{merged_imports, IsFoundAt}
-use Rattle.wac_meaning.proofs.AskedMembers.{IsIn, in_filter, import_asked}
-use Rattle.wac_meaning.proofs.MergeLemmas.{OrderHasClasses, found_name, imported_canonical, outer_of_merge, place_of_name}
+use Rattle.wac_meaning.specs.MergedImports.{IsFoundAt}
+use Rattle.wac_meaning.proofs.AskedMembers.{IsIn, in_filter}
+use Rattle.wac_meaning.proofs.MergeLemmas.{OrderHasClasses, found_name, imported_canonical, place_of_name}
 use Rattle.wac_meaning.proofs.OuterOrder.{one_order}
 use Rattle.wac_meaning.proofs.ThingLemmas.{DefinesNothing}
 use Rattle.wac_writing.specs.Places.{IsImportedName, IsPlaceOf, IsMergedFor}

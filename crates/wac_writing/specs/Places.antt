@@ -2,7 +2,6 @@
 use Rattle.std.specs.Prelude.{ℕ, ◌≡◌, true, length, map, List, Some, slice_get}
 use Rattle.wac_shapes.specs.Name.{Name}
 use Rattle.wac_entries.specs.Classes.{Entry, by_names, imported_as}
-use Rattle.wac_terms.specs.Merge.{Merged}
 use Rattle.wac_merge.specs.Aggregate.{Aggregate}
 use Rattle.wac_binary.specs.declared.sorts.Sort.{Sort}
 use Rattle.wac_edges.specs.declared.node.NodeId.{NodeId}
@@ -12,7 +11,7 @@ use Rattle.wac_nodes.specs.OuterImports.{outer_entries}
 use Rattle.wac_meaning.specs.Means.{sort_of_kind}
 use Rattle.wac_meaning.specs.Beginning.{Places}
 use Rattle.wac_meaning.specs.Encoding.{index_in}
-use Rattle.wac_meaning.specs.MergedImports.{IsMergeOf, IsFoundAt}
+use Rattle.wac_meaning.specs.MergedImports.{AreOfSorts, IsMergeOf, IsFoundAt}
 use Rattle.wac_writing.specs.declared.places.ImportPlaces.{ImportPlaces}
 
 -- there is an import under what the name is imported as
@@ -29,10 +28,6 @@ pub record IsPlaceOf (a : Aggregate) (places : Places) (name : Name) (place : So
   pub there : slice_get (a.merge).imports p ≡ Some entry
   pub named : entry.name ≡ imported_as by_names a.entries name
   pub placed : slice_get places p ≡ Some place
-
--- each place is of the sort of its import
-abbrev pub AreOfSorts : Merged → Places → Type 0
-AreOfSorts m places = (p : ℕ) (e : Entry) (place : Sort × ℕ) → slice_get m.imports p ≡ Some e → slice_get places p ≡ Some place → place.0 ≡ sort_of_kind e.kind
 
 -- the merge of all that the graph asks for
 pub record IsMergedFor (g : Graph) (a : Aggregate) : Type 0 where

@@ -44,10 +44,7 @@ pub fn exports_law(types: &Types)
 }
 
 /// The names of imports, in order.
-pub fn import_names(
-    alloc: Global,
-    imports: &Named<ItemKind>,
-) -> Result<Vec<&str>, AllocError>
+pub fn import_names(alloc: Global, imports: &Named<ItemKind>) -> Result<Vec<&str>, AllocError>
     ensures { IfOk result (λ v. texts v.items ≡ map (λ e. e.0) imports.now) }
 {
     let mut names = Vec::new(alloc);

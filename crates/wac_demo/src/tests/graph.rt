@@ -427,7 +427,11 @@ fn refused_calls_leave_the_graph(rt: HostRuntime) -> Result<(), Fail> {
 #[test]
 fn an_argument_is_not_set(rt: HostRuntime) -> Result<(), Fail> {
     let calls = UNSET;
-    assert_encoded(&rt, calls, NOT_YET)?;
+    assert_encoded(
+        &rt,
+        calls,
+        "0061736d0d000100070501400001000a0601000162010004080061736d0d00010005080100000101620100",
+    )?;
     assert_refused(&rt, calls, "")
 }
 
@@ -488,12 +492,21 @@ fn imports_use_each_other(rt: HostRuntime) -> Result<(), Fail> {
 
 #[test]
 fn arguments_are_checked(rt: HostRuntime) -> Result<(), Fail> {
-    assert_encoded(&rt, ARGUMENTS, NOT_YET)
+    assert_encoded(
+        &rt,
+        ARGUMENTS,
+        "0061736d0d000100070801400101707f01000a0601000163010004080061736d0d000100050401000000060601010000016104080061736d0d000100050c0100010201620101016301000606010100010164",
+    )
 }
 
+// An instance is imported before a function.
 #[test]
 fn names_are_checked(rt: HostRuntime) -> Result<(), Fail> {
-    assert_encoded(&rt, NAMES, NOT_YET)
+    assert_encoded(
+        &rt,
+        NAMES,
+        "0061736d0d000100070e01420201400001000400016101000a17010012756e6c6f636b65642d6465703d3c613a623e0500070501400001000a060100017801010b0701000178010000",
+    )
 }
 
 #[test]

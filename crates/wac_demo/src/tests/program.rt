@@ -16,6 +16,9 @@ const PLUG: &str =
 const PROCESSOR: &str =
     "0061736d0d000100001d0970726f647563657273010c70726f6365737365642d62790101780131\n";
 
+const FUNCTION: &str =
+    "0061736d0d000100070501400001000a060100017801000b070100017901000000160e636f6d706f6e656e742d6e616d650105010100016e\n";
+
 const CYCLE: &str = "the graph contains a cycle and cannot be encoded\n";
 
 const UNKNOWN: &str = "unknown composition\n";
@@ -26,6 +29,7 @@ fn a_word_is_answered_by_a_line(rt: HostRuntime) -> Result<(), Fail> {
     let rows = [
         ("empty", "0061736d0d000100\n", 0),
         ("processor", PROCESSOR, 0),
+        ("function", FUNCTION, 0),
         ("readme", README, 0),
         ("cycle", CYCLE, 1),
         ("plug", PLUG, 0),

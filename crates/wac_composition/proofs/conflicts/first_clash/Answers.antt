@@ -4,7 +4,7 @@ use Rattle.std.specs.Ordering.{nat_cmp}
 use Rattle.wac_edges.specs.declared.node.NodeId.{NodeId}
 use Rattle.wac_nodes.specs.Nodes.{names_of}
 use Rattle.wac_causes.specs.Search.{Clashes}
-use Rattle.wac_composition.proofs.ConflictLemmas.{none_clashes}
+use Rattle.wac_writing.proofs.ConflictLemmas.{none_clashes}
 use Rattle.wac_composition.proofs.conflicts.first_clash.Goals as goal
 
 pub loop-i-preserved : goal.loop-i-preserved

@@ -1,7 +1,7 @@
 use Rattle.std.proofs.Common.{◌-◌, ◌∙◌, arith}
 use Rattle.std.specs.BTreeSet as positions
 use Rattle.std.specs.Ordering.{nat_cmp}
-use Rattle.wac_composition.proofs.ImportRows.{skipped_to, found, none_left, entry_by}
+use Rattle.wac_writing.proofs.ImportRows.{skipped_to, found, none_left, entry_by}
 use Rattle.wac_composition.proofs.imports.first_unset.Goals as goal
 
 pub returns-in_err-i : goal.returns-in_err-i

@@ -1,8 +1,8 @@
 use Rattle.std.proofs.Common.{ap, ◌∙◌, subst, Ok}
 use Rattle.wac_terms.specs.Merge.{Merged}
 use Rattle.wac_meaning.specs.Beginning.{Begins}
-use Rattle.wac_meaning.specs.MergedImports.{merged_imports}
-use Rattle.wac_importing.specs.Written.{AreOfSorts, AreRefused, IsTooLarge}
+use Rattle.wac_meaning.specs.MergedImports.{merged_imports, AreOfSorts}
+use Rattle.wac_importing.specs.Written.{AreRefused, IsTooLarge}
 use Rattle.wac_importing.proofs.Merging.{err_of, refused_so, merge_is, held_items, unimportable, all_importable}
 use Rattle.wac_importing.proofs.written.write_imports.Goals as goal
 

@@ -1,16 +1,15 @@
-use Rattle.std.proofs.Common.{◌≡◌, ◌<◌, IfSome, IfNone, Some, None, ap, sym, subst, arith, rules, length, slice_index_or, refl}
-use Rattle.wac_edges.specs.Edge.{argument_edge, node_number}
 use Rattle.wac_nodes.specs.Graph.{IsArgumentOf, IsUnsatisfied}
-use Rattle.wac_composition.proofs.MeansLemmas.{when_some, when_none}
-use Rattle.wac_composition.proofs.WriteArgumentsLemmas.{argument_there, source_noted, set_argument, unset_imported, unset_argument}
+use Rattle.wac_writing.proofs.MeansLemmas.{when_some, when_none}
+use Rattle.wac_writing.proofs.WriteArgumentsLemmas.{argument_there, set_argument, unset_imported, unset_argument}
+use Rattle.wac_composition.specs.Inside.{fields_of}
 use Rattle.wac_composition.proofs.graph.CompositionGraph.argument.Goals as goal
 
 pub index-requires : goal.index-requires
-index-requires c = argument_there c.self.inside c.self.invariant c.in-Some.source.0 c.args.n.0 c.args.position
+index-requires c = argument_there (fields_of c.self.inside) c.self.invariant c.in-Some.source.0 c.args.n.0 c.args.position
     (rw (← c.self.view_is) at (when_some c.args.source c.in-Some.source (IsArgumentOf c.args.self.now c.args.n c.args.position) c.in-Some.is c.requires.set))
 
 pub returns-in-Some : goal.returns-in-Some
-returns-in-Some c = set_argument c.self.inside c.args.self.now c.self.view_is c.args.imports.now.places.items c.args.indexes.now c.args.n.0 c.args.position c.in-Some.source.0 c.index.result.now c.args.name.now c.sort_of.result c.index.ensures
+returns-in-Some c = set_argument (fields_of c.self.inside) c.args.self.now c.self.view_is c.args.imports.now.places.items c.args.indexes.now c.args.n.0 c.args.position c.in-Some.source.0 c.index.result.now c.args.name.now c.sort_of.result c.index.ensures
     (when_some c.args.source c.in-Some.source (IsArgumentOf c.args.self.now c.args.n c.args.position) c.in-Some.is c.requires.set) c.sort_of.ensures
 
 pub place_of-requires-clause-imported : goal.place_of-requires-clause-imported

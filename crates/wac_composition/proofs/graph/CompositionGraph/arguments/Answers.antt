@@ -1,8 +1,6 @@
-use Rattle.std.proofs.Common.{◌≡◌, None, Some, slice_get, arith}
-use Rattle.wac_edges.specs.Edge.{node_number}
+use Rattle.std.proofs.Common.{arith}
 use Rattle.wac_meaning.specs.Encoding.{index_in}
-use Rattle.wac_composition.proofs.SourceLemmas.{source_at}
-use Rattle.wac_composition.proofs.WriteArgumentsLemmas.{pushed, all_arguments, asked_now, source_set, source_unset}
+use Rattle.wac_writing.proofs.WriteArgumentsLemmas.{pushed, all_arguments, asked_now, source_set, source_unset}
 use Rattle.wac_composition.proofs.graph.CompositionGraph.arguments.Goals as goal
 
 pub loop-i-init : goal.loop-i-init

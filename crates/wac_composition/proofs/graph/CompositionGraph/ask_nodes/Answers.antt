@@ -7,7 +7,8 @@ use Rattle.wac_nodes.specs.Entries.{with_used}
 use Rattle.wac_nodes.specs.Graph.{Graph}
 use Rattle.wac_asking.specs.EntriesLeft.{entries_of, imported_at, all_imported_by, all_with_used, IsRight, IsHeldKind, AreSettled, AsksAlike}
 use Rattle.wac_nodes.specs.Sound.{IsSound}
-use Rattle.wac_composition.proofs.AskingWalk.{nothing_asked, number_asked, number_passed, one_number, asked_node, no_node, all_imported}
+use Rattle.wac_writing.proofs.AskingWalk.{nothing_asked, number_asked, number_passed, one_number, asked_node, no_node, all_imported}
+use Rattle.wac_composition.specs.Inside.{fields_of}
 use Rattle.wac_composition.proofs.graph.CompositionGraph.ask_nodes.Goals as goal
 use Rattle.wac_composition.proofs.graph.CompositionGraph.ask_nodes.Goals.{in-Some+in_ok-ask, in_default}
 
@@ -50,5 +51,5 @@ pub returns-clause-stands : goal.returns-clause-stands
 returns-clause-stands c =
     let g = c.args.self.now in
     let old = entries_of c.args.asking.now in
-    let all = subst (λ (h : Graph). all_imported_by h ≡ flat_map (imported_at h) (range_with_len 0 c.loop-node.node)) c.self.view_is (all_imported c.self.inside c.loop-node.node (omega (arith, c.loop-node-test.false, c.capacity-node-end.ensures.slots))) in
+    let all = subst (λ (h : Graph). all_imported_by h ≡ flat_map (imported_at h) (range_with_len 0 c.loop-node.node)) c.self.view_is (all_imported (fields_of c.self.inside) c.loop-node.node (omega (arith, c.loop-node-test.false, c.capacity-node-end.ensures.slots))) in
     subst (λ es. AsksAlike g.types (old ++ all_with_used g.types es) (entries_of c.loop-node.asking)) (sym all) c.loop-node.invariant.stands

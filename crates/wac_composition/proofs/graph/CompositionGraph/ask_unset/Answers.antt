@@ -7,7 +7,7 @@ use Rattle.wac_nodes.specs.Asked.{Entry}
 use Rattle.wac_nodes.specs.Entries.{with_used}
 use Rattle.wac_asking.specs.EntriesLeft.{entries_of, row_entry, left_entries, asked_at, all_with_used, IsHeldKind, AsksAlike}
 use Rattle.wac_asking.proofs.EntryLists.{stands_itself}
-use Rattle.wac_composition.proofs.AskingWalk.{first_entries, first_held, one_asked}
+use Rattle.wac_writing.proofs.AskingWalk.{first_entries, first_held, one_asked}
 use Rattle.wac_composition.proofs.graph.CompositionGraph.ask_unset.Goals as goal
 
 pub loop-behind-init : goal.loop-behind-init

@@ -3,8 +3,9 @@ use Rattle.wac_shapes.specs.Name.{Name}
 use Rattle.wac_edges.specs.declared.node.NodeId.{NodeId}
 use Rattle.wac_causes.specs.Cause.{IsConflict, HasNoConflict, conflict}
 use Rattle.wac_edges.specs.Edge.{node_number}
-use Rattle.wac_composition.proofs.ConflictLemmas.{is_lowest, no_conflict}
+use Rattle.wac_writing.proofs.ConflictLemmas.{is_lowest, no_conflict}
 use Rattle.wac_causes.proofs.StandsLemmas.{stands_conflict}
+use Rattle.wac_composition.specs.Inside.{fields_of}
 use Rattle.wac_composition.proofs.graph.CompositionGraph.check_conflicts.Goals as goal
 
 pub conflict-requires-clause-lowest : goal.conflict-requires-clause-lowest
@@ -16,7 +17,7 @@ loop-n-preserved c = below_more (λ m. (import : NodeId) (i : ℕ) (name : Name)
 pub returns-clause-none : goal.returns-clause-none
 returns-clause-none c =
     subst (λ g. HasNoConflict g) c.self.view_is
-    (no_conflict c.self.inside c.loop-n.n (omega (arith, c.loop-n-test.false, c.capacity-n-end.ensures.slots))
+    (no_conflict (fields_of c.self.inside) c.loop-n.n (omega (arith, c.loop-n-test.false, c.capacity-n-end.ensures.slots))
     (subst (λ g. (m : ℕ) → m < c.loop-n.n → (import : NodeId) (i : ℕ) (name : Name) → IsConflict g import (node_number m) i name → ⊥) (sym c.self.view_is) c.loop-n.invariant))
 
 pub returns-in-Some-clause-refused : goal.returns-in-Some-clause-refused

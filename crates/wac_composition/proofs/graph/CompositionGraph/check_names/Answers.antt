@@ -7,10 +7,9 @@ use Rattle.wac_validation.specs.Valid.{AreValid}
 use Rattle.wac_validation.specs.Views.{texts}
 use Rattle.wac_causes.specs.Faults.{validation_failure}
 use Rattle.wac_causes.specs.Search.{NamesFault}
-use Rattle.wac_terms.specs.Merge.{import_entries}
 use Rattle.wac_writing.specs.Places.{names_of}
 use Rattle.wac_writing.proofs.CauseLemmas.{exit_cause}
-use Rattle.wac_composition.proofs.OuterLemmas.{refusal_names, entry_names}
+use Rattle.wac_writing.proofs.OuterNameLemmas.{refusal_names, entry_names}
 use Rattle.wac_composition.proofs.graph.CompositionGraph.check_names.Goals as goal
 
 pub returns-in_err-validate-clause-fault : goal.returns-in_err-validate-clause-fault

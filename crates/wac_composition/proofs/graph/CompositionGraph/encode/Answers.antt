@@ -1,4 +1,4 @@
-use Rattle.std.proofs.Common.{IfSome, length, slice_get, refl, ap, ◌∙◌, sym, subst, IsSomeAnd}
+use Rattle.std.proofs.Common.{IfSome, length, slice_get, refl, ap, ◌∙◌, sym, subst}
 use Rattle.wac_causes.specs.Cause.{AnswersFor, Stands, cause_of}
 use Rattle.wac_causes.specs.Faults.{encode_error}
 use Rattle.wac_meaning.specs.Means.{AreNames}
@@ -6,10 +6,10 @@ use Rattle.wac_meaning.specs.Encoding.{HasRoom, index_in}
 use Rattle.wac_meaning.specs.Writing.{WroteAll}
 use Rattle.wac_meaning.proofs.MergeLemmas.{means_merged}
 use Rattle.wac_composition.specs.EncoderView.{progress}
-use Rattle.wac_composition.proofs.MeansLemmas.{in_order}
-use Rattle.wac_composition.proofs.WriteArgumentsLemmas.{room_kept}
+use Rattle.wac_writing.proofs.MeansLemmas.{in_order}
+use Rattle.wac_writing.proofs.WriteArgumentsLemmas.{room_kept}
 use Rattle.wac_writing.proofs.CauseLemmas.{names_cause, refused_for, binary_nameless, begun_cause, begun_refused, none_stands, nameless_answers, exit_cause, exit_refused}
-use Rattle.wac_composition.proofs.OuterLemmas.{items_valid, names_valid, fault_stands, fault_answers}
+use Rattle.wac_writing.proofs.OuterNameLemmas.{items_valid, names_valid, fault_stands, fault_answers}
 use Rattle.wac_composition.proofs.graph.CompositionGraph.encode.Goals as goal
 
 pub returns-in_err-order-clause-cause : goal.returns-in_err-order-clause-cause

@@ -2,8 +2,9 @@ use Rattle.std.proofs.Common.{sym, refl, subst, ◌∙◌, MatchOption}
 use Rattle.slab.specs.Slab.{get}
 use Rattle.wac_nodes.specs.ExternName.{IsExportName, HasExportFault}
 use Rattle.wac_nodes.proofs.NodeLemmas.{lookup_text, there}
-use Rattle.wac_composition.proofs.InvariantLemmas.{invariant_more, invariant_exports}
-use Rattle.wac_composition.proofs.ExportLemmas.{exported, invariant_exported, read_name}
+use Rattle.wac_fields.proofs.InvariantLemmas.{invariant_more, invariant_exports}
+use Rattle.wac_fields.proofs.ExportLemmas.{exported, invariant_exported, read_name}
+use Rattle.wac_composition.specs.Inside.{fields_of}
 use Rattle.wac_composition.proofs.graph.CompositionGraph.export.Goals as goal
 
 pub returns-in-Some : goal.returns-in-Some
@@ -17,15 +18,15 @@ pub index-requires : goal.index-requires
 index-requires c = there c.self.inside.nodes.slots c.args.node.0 (rw (← c.self.view_is) at c.requires)
 
 pub invariant_of-self : goal.invariant_of-self
-invariant_of-self c = invariant_more c.self.inside c.self.invariant c.prepare.new.self c.prepare.ensures.kept
+invariant_of-self c = invariant_more (fields_of c.self.inside) c.self.invariant c.prepare.new.self c.prepare.ensures.kept
 
 pub invariant_of-self-in_err-insert : goal.invariant_of-self-in_err-insert
 invariant_of-self-in_err-insert c =
-    invariant_exports (record c.self.inside { lost = c.prepare.new.self }) (invariant_more c.self.inside c.self.invariant c.prepare.new.self c.prepare.ensures.kept) c.insert.new.self c.in_err-insert.ensures.err
+    invariant_exports (record (fields_of c.self.inside) { lost = c.prepare.new.self }) (invariant_more (fields_of c.self.inside) c.self.invariant c.prepare.new.self c.prepare.ensures.kept) c.insert.new.self c.in_err-insert.ensures.err
 
 pub invariant_of-self-2 : goal.invariant_of-self-2
 invariant_of-self-2 c =
-    invariant_exported (record c.self.inside { lost = c.prepare.new.self }) (invariant_more c.self.inside c.self.invariant c.prepare.new.self c.prepare.ensures.kept) c.args.node c.args.name.now c.in_ok-key.key c.in_ok-own.own c.set_export_name.new.nodes c.insert.new.self
+    invariant_exported (record (fields_of c.self.inside) { lost = c.prepare.new.self }) (invariant_more (fields_of c.self.inside) c.self.invariant c.prepare.new.self c.prepare.ensures.kept) c.args.node c.args.name.now c.in_ok-key.key c.in_ok-own.own c.set_export_name.new.nodes c.insert.new.self
     c.in_ok-key.ensures.ok c.in_ok-own.ensures.ok (sym c.in_default.ensures.value) c.in_ok-insert.ensures.entries
     (there c.self.inside.nodes.slots c.args.node.0 (rw (← c.self.view_is) at c.requires)) c.set_export_name.ensures
     (λ n had named. c.in_ok-prepare.ensures.marked (c.is_some-is_named.ensures ∙ read_name (get c.self.inside.nodes c.args.node.0) n c.index.result.now c.index.ensures had named))
@@ -33,7 +34,7 @@ invariant_of-self-2 c =
 pub returns : goal.returns
 returns c =
     rw (← c.self.view_is)
-    (exported c.self.inside c.args.node c.args.name.now c.in_ok-key.key c.in_ok-own.own c.set_export_name.new.nodes c.insert.new.self
+    (exported (fields_of c.self.inside) c.args.node c.args.name.now c.in_ok-key.key c.in_ok-own.own c.set_export_name.new.nodes c.insert.new.self
     c.in_ok-key.ensures.ok c.in_ok-own.ensures.ok (sym c.in_default.ensures.value) c.in_ok-insert.ensures.entries
     (there c.self.inside.nodes.slots c.args.node.0 (rw (← c.self.view_is) at c.requires)) c.set_export_name.ensures (subst (λ o. MatchOption o (IsExportName c.args.name.now) (HasExportFault c.args.name.now)) c.in_default-2.is c.in_ok-source.ensures))
 

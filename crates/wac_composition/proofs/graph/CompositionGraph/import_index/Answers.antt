@@ -1,8 +1,6 @@
-use Rattle.std.proofs.Common.{subst, MatchOption, Some, ◌≡◌, ◌∷◌, []}
 use Rattle.wac_edges.specs.Edge.{node_number}
-use Rattle.wac_nodes.specs.Imports.{node_rows}
-use Rattle.wac_composition.proofs.ImportRows.{row_node}
-use Rattle.wac_composition.proofs.WriteArgumentsLemmas.{node_imported, node_found}
+use Rattle.wac_writing.proofs.ImportRows.{row_node}
+use Rattle.wac_writing.proofs.WriteArgumentsLemmas.{node_imported, node_found}
 use Rattle.wac_composition.proofs.graph.CompositionGraph.import_index.Goals as goal
 
 pub place_of-requires-clause-imported : goal.place_of-requires-clause-imported

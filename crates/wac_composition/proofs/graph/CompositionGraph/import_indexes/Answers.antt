@@ -1,7 +1,8 @@
-use Rattle.std.proofs.Common.{◌≡◌, ◌+◌, [], ◌∷◌, length, arith, ap, ◌∙◌, subst, sym}
+use Rattle.std.proofs.Common.{◌+◌, [], ◌∷◌, length, arith, ap, ◌∙◌, subst, sym}
 use Rattle.std.proofs.lemmas.List.{length-append}
-use Rattle.wac_composition.proofs.MeansLemmas.{has_room}
-use Rattle.wac_composition.proofs.WriteArgumentsLemmas.{AreFoundBelow, found_next, found_all}
+use Rattle.wac_writing.proofs.MeansLemmas.{has_room}
+use Rattle.wac_writing.proofs.WriteArgumentsLemmas.{AreFoundBelow, found_next, found_all}
+use Rattle.wac_composition.specs.Inside.{fields_of}
 use Rattle.wac_composition.proofs.graph.CompositionGraph.import_indexes.Goals as goal
 
 pub loop-n-preserved : goal.loop-n-preserved
@@ -12,8 +13,8 @@ loop-n-preserved c = (
 )
 
 pub returns-clause-room : goal.returns-clause-room
-returns-clause-room c = λ n h. let small = has_room c.self.inside c.self.invariant c.args.self.now c.self.view_is c.loop-n.n (omega (arith, c.loop-n-test.false, c.capacity-n-end.ensures.slots)) n h in omega (arith, small, c.loop-n.invariant.0)
+returns-clause-room c = λ n h. let small = has_room (fields_of c.self.inside) c.self.invariant c.args.self.now c.self.view_is c.loop-n.n (omega (arith, c.loop-n-test.false, c.capacity-n-end.ensures.slots)) n h in omega (arith, small, c.loop-n.invariant.0)
 
 pub returns-clause-found : goal.returns-clause-found
 returns-clause-found c = found_all c.args.self.now c.args.imports.now c.loop-n.n c.loop-n.indexes.items c.loop-n.invariant.1
-    (has_room c.self.inside c.self.invariant c.args.self.now c.self.view_is c.loop-n.n (omega (arith, c.loop-n-test.false, c.capacity-n-end.ensures.slots)))
+    (has_room (fields_of c.self.inside) c.self.invariant c.args.self.now c.self.view_is c.loop-n.n (omega (arith, c.loop-n-test.false, c.capacity-n-end.ensures.slots)))

@@ -1,5 +1,5 @@
 use Rattle.std.proofs.Common.{◌≡◌, length}
-use Rattle.wac_composition.proofs.WriteArgumentsLemmas.{AreFoundBelow}
+use Rattle.wac_writing.proofs.WriteArgumentsLemmas.{AreFoundBelow}
 use Rattle.wac_composition.proofs.graph.CompositionGraph.import_indexes.Given as goal
 
 abbrev pub invariant-loop-n : goal.invariant-loop-n

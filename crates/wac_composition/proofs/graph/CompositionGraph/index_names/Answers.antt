@@ -1,6 +1,6 @@
 use Rattle.wac_meaning.specs.Encoding.{index_in}
 use Rattle.wac_binary.specs.Views.{names_of}
-use Rattle.wac_composition.proofs.NamingLemmas.{all_names, chained}
+use Rattle.wac_writing.proofs.NamingLemmas.{all_names, chained}
 use Rattle.wac_composition.proofs.graph.CompositionGraph.index_names.Goals as goal
 
 pub returns : goal.returns

@@ -2,17 +2,18 @@ use Rattle.std.proofs.Common.{sym, ap}
 use Rattle.std.specs.List.{list_any}
 use Rattle.std.specs.BTreeMap.{is_at}
 use Rattle.std.specs.Ordering.{nat_cmp}
-use Rattle.wac_composition.proofs.InvariantLemmas.{invariant_instance}
-use Rattle.wac_composition.proofs.StepLemmas.{instantiated, instance_shape}
+use Rattle.wac_fields.proofs.InvariantLemmas.{invariant_instance}
+use Rattle.wac_fields.proofs.StepLemmas.{instantiated, instance_shape}
+use Rattle.wac_composition.specs.Inside.{fields_of}
 use Rattle.wac_composition.proofs.graph.CompositionGraph.instantiate.Goals as goal
 
 pub invariant_of-self-2 : goal.invariant_of-self-2
 invariant_of-self-2 c =
-    invariant_instance c.self.inside c.self.invariant c.insert.new.self c.in_ok-number.number _ c.in_ok-number.ensures.was_vacant c.in_ok-number.ensures.updates (λ i. ap (λ ks. list_any (is_at (nat_cmp i)) ks) c.new.ensures.empty)
+    invariant_instance (fields_of c.self.inside) c.self.invariant c.insert.new.self c.in_ok-number.number _ c.in_ok-number.ensures.was_vacant c.in_ok-number.ensures.updates (λ i. ap (λ ks. list_any (is_at (nat_cmp i)) ks) c.new.ensures.empty)
     c.args.id c.in-Some.«package».now (instance_shape c.args.id c.instance_type.result c.in-Some.«package».now c.instance_type.ensures) (sym (rw c.deref.ensures.value at c.in-Some.ensures))
 
 pub returns : goal.returns
 returns c =
     rw (← c.self.view_is)
-    (instantiated c.self.inside c.insert.new.self c.in_ok-number.number c.args.id c.in-Some.«package».now _ (instance_shape c.args.id c.instance_type.result c.in-Some.«package».now c.instance_type.ensures) (rw c.deref.ensures.value at c.in-Some.ensures)
+    (instantiated (fields_of c.self.inside) c.insert.new.self c.in_ok-number.number c.args.id c.in-Some.«package».now _ (instance_shape c.args.id c.instance_type.result c.in-Some.«package».now c.instance_type.ensures) (rw c.deref.ensures.value at c.in-Some.ensures)
     c.in_ok-number.ensures.key c.in_ok-number.ensures.was_vacant c.in_ok-number.ensures.updates)

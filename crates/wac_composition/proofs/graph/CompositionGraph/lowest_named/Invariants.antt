@@ -1,5 +1,5 @@
 use Rattle.wac_meaning.specs.Encoding.{index_in}
-use Rattle.wac_composition.specs.Naming.{AreLowest, IsNamedAt}
+use Rattle.wac_writing.specs.Naming.{AreLowest, IsNamedAt}
 use Rattle.wac_composition.proofs.graph.CompositionGraph.lowest_named.Given as goal
 
 abbrev pub invariant-loop-n : goal.invariant-loop-n

@@ -1,4 +1,4 @@
-use Rattle.std.proofs.Common.{◌≡◌, true, List, map, ap, sym, ◌∙◌, subst}
+use Rattle.std.proofs.Common.{◌≡◌, List, map, ap, sym, ◌∙◌, subst}
 use Rattle.std.specs.List.{AllByRecursion}
 use Rattle.wac_collection.specs.Collection.{Collection, IsWellFormed}
 use Rattle.wac_merge.specs.Aggregate.{IsFault}
@@ -13,8 +13,8 @@ use Rattle.wac_nodes.specs.Asked.{Entry}
 use Rattle.wac_nodes.specs.Entries.{asked_entries, to_merge}
 use Rattle.wac_asking.specs.EntriesLeft.{entry_view, IsHeldKind}
 use Rattle.wac_nodes.specs.Graph.{Graph}
-use Rattle.wac_composition.proofs.AskedHeld.{held_entries}
-use Rattle.wac_composition.proofs.MergeLemmas.{is_fault, merge_held}
+use Rattle.wac_writing.proofs.AskedHeld.{held_entries}
+use Rattle.wac_writing.proofs.MergeLemmas.{is_fault, merge_held}
 use Rattle.wac_composition.proofs.graph.CompositionGraph.merged.Goals as goal
 
 pub aggregated-requires : goal.aggregated-requires

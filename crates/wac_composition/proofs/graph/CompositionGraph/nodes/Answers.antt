@@ -3,9 +3,10 @@ use Rattle.slab.specs.Slab.{entries}
 use Rattle.wac_composition.specs.Listed.{AreNodes}
 use Rattle.wac_composition.specs.Left.{with_id}
 use Rattle.wac_composition.proofs.ListedLemmas.{nodes_are}
+use Rattle.wac_composition.specs.Inside.{fields_of}
 use Rattle.wac_composition.proofs.graph.CompositionGraph.nodes.Goals as goal
 
 pub returns : goal.returns
 returns c =
     subst (λ es. AreNodes c.args.self.now (map with_id es)) (sym c.iter.ensures.rest)
-    (subst (λ g. AreNodes g (map with_id (entries c.self.inside.nodes))) c.self.view_is (nodes_are c.self.inside c.self.invariant))
+    (subst (λ g. AreNodes g (map with_id (entries c.self.inside.nodes))) c.self.view_is (nodes_are (fields_of c.self.inside) c.self.invariant))

@@ -4,7 +4,7 @@ use Rattle.std.specs.Map.Iter.{deref_pair}
 use Rattle.std.proofs.lemmas.Map.Iter.{iter_end, btree_map_turn}
 use Rattle.wac_meaning.specs.Encoding.{index_in}
 use Rattle.wac_binary.specs.Views.{names_of}
-use Rattle.wac_composition.proofs.NamingLemmas.{with_names, named_by, named_found, names_more}
+use Rattle.wac_writing.proofs.NamingLemmas.{with_names, named_by, named_found, names_more}
 use Rattle.wac_composition.proofs.graph.CompositionGraph.sort_names.Goals as goal
 
 pub name_of-requires : goal.name_of-requires

@@ -1,7 +1,7 @@
 use Rattle.std.proofs.Common.{◌≡◌, map}
 use Rattle.std.specs.Map.Iter.{deref_pair}
 use Rattle.wac_binary.specs.Views.{names_of}
-use Rattle.wac_composition.proofs.NamingLemmas.{with_names}
+use Rattle.wac_writing.proofs.NamingLemmas.{with_names}
 use Rattle.wac_composition.proofs.graph.CompositionGraph.sort_names.Given as goal
 
 abbrev pub invariant-loop-index : goal.invariant-loop-index

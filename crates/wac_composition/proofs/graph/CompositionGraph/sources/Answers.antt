@@ -4,7 +4,7 @@ use Rattle.wac_edges.specs.declared.edges.End.TheVariants.{Incoming}
 use Rattle.wac_edges.specs.Edge.{node_number}
 use Rattle.wac_edges.specs.Ends.{Walked, AreAt}
 use Rattle.wac_nodes.specs.Graph.{Graph}
-use Rattle.wac_composition.proofs.SourceLemmas.{only_none, noting_start, noting_next}
+use Rattle.wac_writing.proofs.SourceLemmas.{only_none, noting_start, noting_next}
 use Rattle.wac_composition.proofs.graph.CompositionGraph.sources.Goals as goal
 
 pub loop-edge-init : goal.loop-edge-init

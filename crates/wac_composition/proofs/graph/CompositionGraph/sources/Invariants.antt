@@ -1,5 +1,5 @@
 use Rattle.wac_edges.specs.Edge.{node_number}
-use Rattle.wac_composition.proofs.SourceLemmas.{Noting}
+use Rattle.wac_writing.proofs.SourceLemmas.{Noting}
 use Rattle.wac_composition.proofs.graph.CompositionGraph.sources.Given as goal
 
 abbrev pub invariant-loop-edge : goal.invariant-loop-edge

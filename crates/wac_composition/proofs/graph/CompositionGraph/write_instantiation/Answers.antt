@@ -1,4 +1,4 @@
-use Rattle.wac_composition.proofs.WriteArgumentsLemmas.{added_instantiation}
+use Rattle.wac_writing.proofs.WriteArgumentsLemmas.{added_instantiation}
 use Rattle.wac_composition.proofs.graph.CompositionGraph.write_instantiation.Goals as goal
 
 pub returns-clause-written : goal.returns-clause-written

@@ -4,7 +4,7 @@ use Rattle.wac_binary.specs.Views.{names_of}
 use Rattle.wac_binary.specs.Customs as custom_section
 use Rattle.wac_binary.specs.Customs.{names_bytes}
 use Rattle.wac_meaning.specs.Means.{custom_item}
-use Rattle.wac_composition.proofs.NamingLemmas.{some_names, not_empty}
+use Rattle.wac_writing.proofs.NamingLemmas.{some_names, not_empty}
 use Rattle.wac_composition.proofs.graph.CompositionGraph.write_names.Goals as goal
 
 pub returns-clause-written : goal.returns-clause-written

@@ -2,7 +2,7 @@ use Rattle.std.proofs.Common.{◌<◌, ◌∙◌, refl, sym, subst, arith, slice
 use Rattle.wac_edges.specs.Edge.{node_number}
 use Rattle.wac_meaning.specs.Writing.{WroteAll}
 use Rattle.wac_composition.specs.EncoderView.{progress}
-use Rattle.wac_composition.proofs.WriteArgumentsLemmas.{wrote_next, dropped_all, element, room_kept, is_there_of}
+use Rattle.wac_writing.proofs.WriteArgumentsLemmas.{wrote_next, dropped_all, element, room_kept, is_there_of}
 use Rattle.wac_composition.proofs.graph.CompositionGraph.write_nodes.Goals as goal
 
 pub loop-n-init : goal.loop-n-init

@@ -16,8 +16,8 @@ use Rattle.wac_meaning.specs.MergedImports.{IsMergeOf}
 use Rattle.wac_meaning.proofs.MergeLemmas.{OrderHasClasses}
 use Rattle.wac_importing.proofs.Asked.{merge_importable}
 use Rattle.wac_writing.proofs.OuterLemmas.{asked_importable}
-use Rattle.wac_composition.proofs.AskedHeld.{held_entries}
-use Rattle.wac_composition.proofs.MergeLemmas.{merge_held}
+use Rattle.wac_writing.proofs.AskedHeld.{held_entries}
+use Rattle.wac_writing.proofs.MergeLemmas.{merge_held}
 use Rattle.wac_writing.proofs.CauseLemmas.{exit_cause}
 use Rattle.wac_composition.proofs.graph.CompositionGraph.written_imports.Goals as goal
 

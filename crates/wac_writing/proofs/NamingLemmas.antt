@@ -26,12 +26,11 @@ use Rattle.wac_binary.specs.Views.{names_of}
 use Rattle.wac_edges.specs.declared.node.NodeId.{NodeId}
 use Rattle.wac_edges.specs.Edge.{node_number}
 use Rattle.wac_nodes.specs.declared.node.Node.{Node}
-use Rattle.wac_composition.specs.declared.graph.CompositionGraph.TheInside.{Inside}
-use Rattle.wac_composition.specs.Inside.{graph_of}
-use Rattle.wac_composition.proofs.EncodingLemmas.{node_is, some_and, of_node, has_number}
+use Rattle.wac_fields.specs.Fields.{Fields, graph_of}
+use Rattle.wac_writing.proofs.EncodingLemmas.{node_is, some_and, of_node, has_number}
 use Rattle.wac_nodes.specs.Graph.{Graph, GraphNode, node_at}
 use Rattle.wac_meaning.specs.Means.{sort_of_kind, IsNameOf, AreNames, name_customs}
-use Rattle.wac_composition.specs.Naming.{IsNamed, IsNamedAt, AreLowest, AreNamesOf}
+use Rattle.wac_writing.specs.Naming.{IsNamed, IsNamedAt, AreLowest, AreNamesOf}
 
 module _ (P : ℕ → NodeId → Type 0) where
   abbrev IsLowestAt : ℕ → ℕ → Option NodeId → Type 0
@@ -231,7 +230,7 @@ not_empty [] h is = cc
 not_empty (x ∷ names) h is = cc
 
 -- ---- of the nodes that are kept
-module _ (a : Inside) (n : NodeId) (t : Sort) where
+module _ (a : Fields) (n : NodeId) (t : Sort) where
   pub none_there : get a.nodes n.0 ≡ None → IsNamed (graph_of a) t n → ⊥
   none_there had h = nothing (node_at (graph_of a) n) (node_is a n.0 None had) h where
     nothing : (o : Option GraphNode) → o ≡ None → IsSomeAnd o (λ node. IsSome node.name × (sort_of_kind node.item_kind ≡ t)) → ⊥
@@ -251,13 +250,13 @@ module _ (a : Inside) (n : NodeId) (t : Sort) where
     of_name (Some name) h = refl
 
 -- a node that has a name
-pub named_number : (a : Inside) (n : NodeId) → IsSomeAnd (node_at (graph_of a) n) (λ node. IsSome node.name) → ContainsKey a.nodes n.0
+pub named_number : (a : Fields) (n : NodeId) → IsSomeAnd (node_at (graph_of a) n) (λ node. IsSome node.name) → ContainsKey a.nodes n.0
 named_number a n h = has_number a n.0 (some_of (node_at (graph_of a) n) h) where
   some_of : (o : Option GraphNode) → IsSomeAnd o (λ node. IsSome node.name) → IsSome o
   some_of None h = absurd h
   some_of (Some node) h = refl
 
-pub has_name : (a : Inside) (n : NodeId) (node : Node) → get a.nodes n.0 ≡ Some node → IsSomeAnd (node_at (graph_of a) n) (λ x. IsSome x.name) → node.name ≡ None → ⊥
+pub has_name : (a : Fields) (n : NodeId) (node : Node) → get a.nodes n.0 ≡ Some node → IsSomeAnd (node_at (graph_of a) n) (λ x. IsSome x.name) → node.name ≡ None → ⊥
 has_name a n node had h none = nothing (option_map string_bytes node.name) (ap (option_map string_bytes) none) (of_node a n.0 node (λ x. IsSome x.name) h had) where
   nothing : {A : Type 0} (o : Option A) → o ≡ None → IsSome o → ⊥
   nothing None _ h = cc

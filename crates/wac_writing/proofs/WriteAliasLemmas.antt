@@ -19,20 +19,19 @@ use Rattle.wac_binary.specs.Indexes.{space, indexes}
 use Rattle.wac_nodes.specs.declared.node.Node.{Node}
 use Rattle.wac_edges.specs.declared.node.NodeId.{NodeId}
 use Rattle.wac_nodes.specs.declared.packages.PackageId.{PackageId}
-use Rattle.wac_composition.specs.declared.graph.CompositionGraph.TheInside.{Inside}
 use Rattle.wac_edges.specs.Edge.{alias_edge}
 use Rattle.wac_nodes.specs.Graph as graph
 use Rattle.wac_edges.specs.Edge.{node_number}
 use Rattle.wac_nodes.specs.Graph.{Graph, GraphNode, node_at, exports_of, IsSourceOf}
 use Rattle.wac_nodes.specs.Nodes.{node_of, kind_of}
-use Rattle.wac_composition.specs.Inside.{graph_of, Invariant}
+use Rattle.wac_fields.specs.Fields.{Fields, graph_of, Invariant}
 use Rattle.wac_meaning.specs.Means.{sort_of_kind, export_item_of}
 use Rattle.wac_meaning.specs.Beginning.{Places}
 use Rattle.wac_meaning.specs.Encoding.{HasRoom}
 use Rattle.wac_meaning.specs.Writing.{WritesNode, writes_alias}
 use Rattle.wac_nodes.proofs.NodeLemmas.{there, text_pair}
-use Rattle.wac_composition.proofs.EncodingLemmas.{node_is, some_node, if_node}
-use Rattle.wac_composition.proofs.AliasLemmas.{exports_are}
+use Rattle.wac_writing.proofs.EncodingLemmas.{node_is, some_node, if_node}
+use Rattle.wac_fields.proofs.AliasLemmas.{exports_are}
 
 pub take_at : {A : Type 0} (xs : List A) (i : ℕ) (x : A) → slice_get xs i ≡ Some x → take (suc i) xs ≡ take i xs ++ x ∷ []
 take_at [] i x h = cc
@@ -40,19 +39,19 @@ take_at (y ∷ ys) zero x h = let e : y ≡ x = cc in ap (λ z. z ∷ []) e
 take_at (y ∷ ys) (suc i) x h = ap (λ r. y ∷ r) (take_at ys i x h)
 
 -- an entry of the exports is one of the graph's
-pub entry_at : (a : Inside) (i : ℕ) (name : String Global) (id : NodeId) → Some (name, id) ≡ slice_get a.exports.entries i → slice_get (graph_of a).exports i ≡ Some (string_bytes name, id)
+pub entry_at : (a : Fields) (i : ℕ) (name : String Global) (id : NodeId) → Some (name, id) ≡ slice_get a.exports.entries i → slice_get (graph_of a).exports i ≡ Some (string_bytes name, id)
 entry_at a i name id h = slice_get-map (λ e. text_pair e) a.exports.entries i ∙ ap (option_map (λ e. text_pair e)) (sym h)
 
 -- an exported node is there
-pub exported_there : (a : Inside) → Invariant a → (i : ℕ) (name : String Global) (id : NodeId) → Some (name, id) ≡ slice_get a.exports.entries i → ContainsKey a.nodes id.0
+pub exported_there : (a : Fields) → Invariant a → (i : ℕ) (name : String Global) (id : NodeId) → Some (name, id) ≡ slice_get a.exports.entries i → ContainsKey a.nodes id.0
 exported_there a v i name id h = there a.nodes.slots id.0 ((v.sound).exported i (string_bytes name) id (entry_at a i name id h))
 
 -- and has an index
-pub export_noted : (a : Inside) → Invariant a → (g : Graph) → graph_of a ≡ g → (xs : List ℕ) → HasRoom g xs → (i : ℕ) (name : String Global) (id : NodeId) → Some (name, id) ≡ slice_get a.exports.entries i → id.0 < length xs
+pub export_noted : (a : Fields) → Invariant a → (g : Graph) → graph_of a ≡ g → (xs : List ℕ) → HasRoom g xs → (i : ℕ) (name : String Global) (id : NodeId) → Some (name, id) ≡ slice_get a.exports.entries i → id.0 < length xs
 export_noted a v g is xs room i name id h = room id (subst (λ x. IsSome (node_at x id)) is ((v.sound).exported i (string_bytes name) id (entry_at a i name id h)))
 
 -- one more export is written
-one_more : (a : Inside) (f : NodeId → ℕ) (i : ℕ) (name : String Global) (id : NodeId) (node : Node) (old mid : List Item)
+one_more : (a : Fields) (f : NodeId → ℕ) (i : ℕ) (name : String Global) (id : NodeId) (node : Node) (old mid : List Item)
     → Some (name, id) ≡ slice_get a.exports.entries i → get a.nodes id.0 ≡ Some node
     → mid ≡ old ++ flat_map (export_item_of (graph_of a) f) (take i (graph_of a).exports)
     → mid ++ export_item (string_bytes name) (sort_of_kind node.item_kind) (f id) ∷ [] ≡ old ++ flat_map (export_item_of (graph_of a) f) (take (i + 1) (graph_of a).exports)
@@ -69,7 +68,7 @@ one_more a f i name id node old mid h had is =
     ∙ ap (λ xs. old ++ flat_map F xs) (sym (take_at g.exports i e (entry_at a i name id h)))
     ∙ ap (λ k. old ++ flat_map F (take k g.exports)) (sym next)
 
-pub export_more : (a : Inside) (g : Graph) → graph_of a ≡ g → (f : NodeId → ℕ) (i : ℕ) (name : String Global) (id : NodeId) (node : Node) (text : Name) (s : Sort) (index : ℕ) (old mid new : List Item)
+pub export_more : (a : Fields) (g : Graph) → graph_of a ≡ g → (f : NodeId → ℕ) (i : ℕ) (name : String Global) (id : NodeId) (node : Node) (text : Name) (s : Sort) (index : ℕ) (old mid new : List Item)
     → Some (name, id) ≡ slice_get a.exports.entries i → get a.nodes id.0 ≡ Some node → text ≡ string_bytes name → s ≡ sort_of_kind node.item_kind → index ≡ f id
     → mid ≡ old ++ flat_map (export_item_of g f) (take i g.exports) → new ≡ mid ++ export_item text s index ∷ []
     → new ≡ old ++ flat_map (export_item_of g f) (take (i + 1) g.exports)
@@ -78,14 +77,14 @@ export_more a g e f i name id node text s index old mid new h had named sorted p
     (λ is added. added ∙ (λ j. mid ++ export_item (named j) (sorted j) (placed j) ∷ []) ∙ one_more a f i name id node old mid h had is)
 
 -- past the last export all are written
-pub export_all : (a : Inside) (g : Graph) → graph_of a ≡ g → (f : NodeId → ℕ) (i : ℕ) (old new : List Item) → length a.exports.entries ≤ i
+pub export_all : (a : Fields) (g : Graph) → graph_of a ≡ g → (f : NodeId → ℕ) (i : ℕ) (old new : List Item) → length a.exports.entries ≤ i
     → new ≡ old ++ flat_map (export_item_of g f) (take i g.exports) → new ≡ old ++ flat_map (export_item_of g f) g.exports
 export_all a g e f i old new past is =
     let many : length g.exports ≡ length a.exports.entries = ap (λ x. length x.exports) (sym e) ∙ length-map a.exports.entries (λ e. text_pair e) in
     is ∙ ap (λ xs. old ++ flat_map (export_item_of g f) xs) (take_all i g.exports (omega (arith, many, past)))
 
 -- a node that is an alias
-module _ (a : Inside) (v : Invariant a) (n : ℕ) (h : IsSomeAnd (node_at (graph_of a) (node_number n)) (λ x. x.kind ≡ graph.alias)) where
+module _ (a : Fields) (v : Invariant a) (n : ℕ) (h : IsSomeAnd (node_at (graph_of a) (node_number n)) (λ x. x.kind ≡ graph.alias)) where
   -- an alias has a source
   pub alias_sourced : ((source : NodeId) (position : ℕ) → set.contains a.edges (alias_edge source (node_number n) position) ≡ false) → ⊥
   alias_sourced none =
@@ -189,7 +188,7 @@ module _ (a : Inside) (v : Invariant a) (n : ℕ) (h : IsSomeAnd (node_at (graph
             text_is p = cc
 
 -- what an alias's edge leads to is an alias
-pub alias_target : (a : Inside) → Invariant a → (n source position : ℕ) → set.contains a.edges (alias_edge (node_number source) (node_number n) position) ≡ true → IsSomeAnd (node_at (graph_of a) (node_number n)) (λ x. x.kind ≡ graph.alias)
+pub alias_target : (a : Fields) → Invariant a → (n source position : ℕ) → set.contains a.edges (alias_edge (node_number source) (node_number n) position) ≡ true → IsSomeAnd (node_at (graph_of a) (node_number n)) (λ x. x.kind ≡ graph.alias)
 alias_target a v n source position stands = by_nodes (node_at (graph_of a) (node_number source)) (node_at (graph_of a) (node_number n)) refl refl ((v.sound).ends (alias_edge (node_number source) (node_number n) position) stands) where
   by_nodes : (o r : Option GraphNode) → node_at (graph_of a) (node_number source) ≡ o → node_at (graph_of a) (node_number n) ≡ r → IsSome o × IsSome r → IsSomeAnd r (λ x. x.kind ≡ graph.alias)
   by_nodes None r from to h = absurd (none_some h.0)

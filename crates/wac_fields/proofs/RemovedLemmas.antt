@@ -21,17 +21,16 @@ use Rattle.wac_nodes.specs.declared.node.Node.{Node}
 use Rattle.wac_nodes.specs.declared.node.NodeKind.{NodeKind}
 use Rattle.wac_nodes.specs.declared.node.NodeKind.TheVariants as code
 use Rattle.wac_nodes.specs.Graph as graph
-use Rattle.wac_nodes.specs.Graph.{Graph, GraphNode, Kind, node_at, IsImportOf}
+use Rattle.wac_nodes.specs.Graph.{GraphNode, node_at, IsImportOf}
 use Rattle.wac_nodes.specs.Nodes.{node_of, nodes_of, names_of, kind_of, IsInstantiationAt}
 use Rattle.wac_nodes.specs.Sound.{Joins}
 use Rattle.wac_nodes.specs.TakenOut.{without}
 use Rattle.wac_nodes.proofs.NodeLemmas.{get-nodes_of, is_some-node_of, lookup_text}
 use Rattle.wac_nodes.proofs.TakenOut.{Left, left_without, none_without}
-use Rattle.wac_composition.specs.declared.graph.CompositionGraph.TheInside.{Inside}
-use Rattle.wac_composition.specs.Inside.{graph_of, Invariant}
+use Rattle.wac_fields.specs.Fields.{Fields, graph_of, Invariant}
 use Rattle.wac_removing.specs.Removal.{Follows, GoesWith, itself, behind, IsWithout, Removes}
 use Rattle.wac_removing.specs.Removing.{AreTied, AreTaken}
-use Rattle.wac_composition.specs.Removing.{imports, AreLeft}
+use Rattle.wac_fields.specs.Removing.{imports, AreLeft}
 use Rattle.wac_removing.proofs.WayLemmas.{IsIn}
 use Rattle.wac_removing.proofs.TiedLemmas.{clash, none_some}
 use Rattle.wac_removing.specs.declared.lost.Lost.{Lost}
@@ -83,7 +82,7 @@ no_some : {A : Type 0} {x : A} → None ≡ Some x → ⊥
 no_some h = cc
 
 -- ---- a node is taken out of a graph
-module _ (a : Inside) (v : Invariant a) where
+module _ (a : Fields) (v : Invariant a) where
   -- the fields of a graph agree
   pub tied_inside : AreTied a.nodes a.edges
   tied_inside = record {
@@ -140,7 +139,7 @@ module _ (a : Inside) (v : Invariant a) where
           stored : (n : NodeId) → IsSome (map.get (nodes_of a.nodes.slots) n.0) → IsSome (get a.nodes n.0)
           stored n h = sym (is_some-node_of (get a.nodes n.0)) ∙ ap is_some (sym (get-nodes_of a.nodes.slots n.0)) ∙ h
 
-    abbrev now : Inside
+    abbrev now : Fields
     now = record a { nodes = nodes; edges = edges; imports = names; exports = exports; lost = after }
 
     without_gone : IsWithout gone (graph_of a) (graph_of now)

@@ -16,15 +16,14 @@ use Rattle.wac_shapes.specs.declared.component.ItemKind.{ItemKind}
 use Rattle.wac_nodes.specs.declared.node.Node.{Node}
 use Rattle.wac_edges.specs.declared.node.NodeId.{NodeId}
 use Rattle.wac_nodes.specs.declared.node.NodeKind.TheVariants as code
-use Rattle.wac_composition.specs.declared.graph.CompositionGraph.TheInside.{Inside}
 use Rattle.wac_nodes.specs.Graph.{node_at, import_name, IsImportOf}
 use Rattle.wac_nodes.specs.ExternName.{IsImportName}
 use Rattle.wac_nodes.specs.Nodes.{node_of, names_of, kind_of}
-use Rattle.wac_composition.specs.Inside.{graph_of, Invariant}
+use Rattle.wac_fields.specs.Fields.{Fields, graph_of, Invariant}
 use Rattle.wac_nodes.specs.Steps.{Imports, IsFreeImport, AddsNode, import_node}
 use Rattle.wac_nodes.proofs.NodeLemmas.{get-nodes_of, lookup_text, text_last}
-use Rattle.wac_composition.proofs.InvariantLemmas.{invariant_import}
-use Rattle.wac_composition.proofs.StepLemmas.{adds_node}
+use Rattle.wac_fields.proofs.InvariantLemmas.{invariant_import}
+use Rattle.wac_fields.proofs.StepLemmas.{adds_node}
 
 abbrev Names : Type 0
 Names = HashMap (String Global) NodeId (BuildHasherDefault FoldHasher)
@@ -33,7 +32,7 @@ Names = HashMap (String Global) NodeId (BuildHasherDefault FoldHasher)
 abbrev pub new_import : String Global → ItemKind → Node
 new_import own kind = record { kind = code.Import own; «package» = None; item_kind = kind; name = None; export_name = None }
 
-module _ (a : Inside) (v : Invariant a) (name : Name) where
+module _ (a : Fields) (v : Invariant a) (name : Name) where
   -- the name is that of the node that is found
   pub imported_already : (n : NodeId) → Some n ≡ lookup (λ k. bytes_eq name (string_bytes k)) a.imports.entries → IsImportOf (graph_of a) name n
   imported_already n at = v.importing name n (lookup_text a.imports.entries name ∙ sym at)
@@ -67,5 +66,5 @@ module _ (a : Inside) (v : Invariant a) (name : Name) where
     import_is_there = ap is_some (get-nodes_of nodes.slots number ∙ ap (option_map node_of) u.changed)
 
 -- the name of a node
-pub name_there : (a : Inside) (id : NodeId) (n : Node) (name : Option Name) → get a.nodes id.0 ≡ Some n → name ≡ import_name (kind_of n.kind) → IfSome (node_at (graph_of a) id) (λ node. name ≡ import_name node.kind)
+pub name_there : (a : Fields) (id : NodeId) (n : Node) (name : Option Name) → get a.nodes id.0 ≡ Some n → name ≡ import_name (kind_of n.kind) → IfSome (node_at (graph_of a) id) (λ node. name ≡ import_name node.kind)
 name_there a id n name had is = subst (λ o. IfSome o (λ node. name ≡ import_name node.kind)) (sym (get-nodes_of a.nodes.slots id.0 ∙ ap (option_map node_of) had)) is

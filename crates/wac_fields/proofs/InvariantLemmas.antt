@@ -20,12 +20,11 @@ use Rattle.wac_nodes.specs.declared.node.Node.{Node}
 use Rattle.wac_edges.specs.declared.node.NodeId.{NodeId}
 use Rattle.wac_nodes.specs.declared.packages.PackageId.{PackageId}
 use Rattle.wac_nodes.specs.declared.packages.Slot.{Slot}
-use Rattle.wac_composition.specs.declared.graph.CompositionGraph.TheInside.{Inside}
 use Rattle.wac_edges.specs.Edge.{edge_cmp, alias_edge, argument_edge}
 use Rattle.wac_edges.specs.Edge.{node_number}
 use Rattle.wac_nodes.specs.Graph as graph
-use Rattle.wac_nodes.specs.Graph.{GraphNode, node_at, package_at, package_in, exports_of, IsAliasOf, IsRegistered}
-use Rattle.wac_composition.specs.Arguments.{CanBeGiven}
+use Rattle.wac_nodes.specs.Graph.{GraphNode, node_at, package_at, package_in, exports_of, IsAliasOf}
+use Rattle.wac_fields.specs.Arguments.{CanBeGiven}
 use Rattle.wac_nodes.specs.Sound.{IsSound}
 use Rattle.wac_nodes.specs.Nodes.{node_of, nodes_of, names_of, satisfied, satisfied_at}
 use Rattle.wac_removing.specs.Told.{tells}
@@ -34,7 +33,7 @@ use Rattle.wac_removing.specs.declared.lost.Lost.{Lost}
 use Rattle.wac_removing.proofs.ToldLemmas.{tells_there, keeps_name, tells_more, tells_kept, listed_before}
 use Rattle.wac_removing.specs.Slots.{key_of, AreKeyed, vacant_of}
 use Rattle.wac_removing.proofs.SlotLemmas.{put_takes, sound_takes, room_takes, free_key, keyed_put}
-use Rattle.wac_composition.specs.Inside.{graph_of, Invariant}
+use Rattle.wac_fields.specs.Fields.{Fields, graph_of, Invariant}
 use Rattle.wac_nodes.specs.Steps.{instance_node, import_node, alias_node, TakesSlot}
 use Rattle.wac_nodes.proofs.Added.{by_eq, insert_same, insert_other, ImportIn, import_before, import_after, added_edge, kept_edge, new_edge}
 use Rattle.wac_nodes.proofs.JoinLemmas.{Extends}
@@ -62,7 +61,7 @@ no_entry [] i x none at = cc
 no_entry (y ∷ xs) i x none at = cc
 
 -- nothing is in the empty graph
-pub invariant_empty : (a : Inside) → a.nodes.slots ≡ [] → a.edges ≡ set.empty → a.imports.entries ≡ [] → a.exports.entries ≡ [] → a.package_map.entries ≡ [] → a.slots.items ≡ [] → a.vacant.items ≡ [] → Invariant a
+pub invariant_empty : (a : Fields) → a.nodes.slots ≡ [] → a.edges ≡ set.empty → a.imports.entries ≡ [] → a.exports.entries ≡ [] → a.package_map.entries ≡ [] → a.slots.items ≡ [] → a.vacant.items ≡ [] → Invariant a
 invariant_empty a nodes edges imports exports keys slots noted = record {
   sound = record {
     ends = λ e stands. absurd (no_edge e stands);
@@ -126,7 +125,7 @@ invariant_empty a nodes edges imports exports keys slots noted = record {
 abbrev entry : Name → NodeId → Name × NodeId
 entry name n = (name, n)
 
-module _ (a : Inside) (v : Invariant a) where
+module _ (a : Fields) (v : Invariant a) where
   -- types more
   pub invariant_types : (c : Collection) → IsWellFormed a.types → Extends a.types c → Invariant (record a { types = c })
   invariant_types c well more = record { sound = sound_types (graph_of a) v.sound c well more; marked = v.marked; edged = v.edged; keyed = v.keyed; room = v.room; named = v.named; importing = v.importing; told = v.told }

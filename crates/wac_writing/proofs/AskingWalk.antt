@@ -10,7 +10,6 @@ use Rattle.wac_collection.specs.Package.{PackageParts}
 use Rattle.wac_shapes.specs.declared.component.World.{World}
 use Rattle.wac_shapes.specs.declared.component.ItemKind.{ItemKind}
 use Rattle.wac_edges.specs.declared.node.NodeId.{NodeId}
-use Rattle.wac_composition.specs.declared.graph.CompositionGraph.TheInside.{Inside}
 use Rattle.wac_nodes.specs.Graph as graph
 use Rattle.wac_edges.specs.Edge.{node_number}
 use Rattle.wac_nodes.specs.Graph.{Graph, GraphNode, Kind, node_at, imports_of, package_of}
@@ -20,11 +19,11 @@ use Rattle.wac_nodes.specs.Imports.{node_row, node_rows}
 use Rattle.wac_asking.specs.ImportsLeft.{unset, row_of, node_left}
 use Rattle.wac_nodes.specs.Entries.{with_used}
 use Rattle.wac_asking.specs.EntriesLeft.{IsHeldKind, AsksAlike, row_entry, all_with_used, all_asked_by, all_imported_by, asked_at, imported_at}
-use Rattle.wac_composition.specs.Inside.{graph_of}
+use Rattle.wac_fields.specs.Fields.{Fields, graph_of}
 use Rattle.wac_asking.proofs.EntryLists.{stands_itself, stands_through, stands_more}
 use Rattle.wac_nodes.proofs.HeldLemmas.{imports_held}
-use Rattle.wac_composition.proofs.EncodingLemmas.{node_is}
-use Rattle.wac_composition.proofs.ImportRows.{by_numbers}
+use Rattle.wac_writing.proofs.EncodingLemmas.{node_is}
+use Rattle.wac_writing.proofs.ImportRows.{by_numbers}
 
 -- ---- lists
 flat_joined : {A B : Type 0} (f : A → List B) (xs ys : List A) → flat_map f (xs ++ ys) ≡ flat_map f xs ++ flat_map f ys
@@ -156,7 +155,7 @@ module _ (c : Collection) where
   nothing_asked F first = subst (λ es. AsksAlike c es first) (sym (append-nil first)) (stands_itself c first)
 
 -- ---- all numbers
-module _ (a : Inside) (end : ℕ) (slots : length a.nodes.slots ≤ end) where
+module _ (a : Fields) (end : ℕ) (slots : length a.nodes.slots ≤ end) where
   pub all_asked : all_asked_by (graph_of a) ≡ flat_map (asked_at (graph_of a)) (range_with_len 0 end)
   all_asked = by_numbers a end slots (asked_at (graph_of a)) (λ n none. ap (asked_by (graph_of a) n) (node_is a n None none))
 

@@ -12,8 +12,7 @@ use Rattle.wac_edges.specs.Edge.{node_number, argument_edge}
 use Rattle.wac_edges.specs.Ends.{AreAt}
 use Rattle.wac_edges.specs.Order.{Edges}
 use Rattle.wac_nodes.specs.Graph.{Graph, IsArgumentOf}
-use Rattle.wac_composition.specs.declared.graph.CompositionGraph.TheInside.{Inside}
-use Rattle.wac_composition.specs.Inside.{graph_of}
+use Rattle.wac_fields.specs.Fields.{Fields, graph_of}
 
 -- ---- lists
 replicated : {X : Type 0} (n : ℕ) (x y : X) (i : ℕ) → slice_get (replicate n x) i ≡ Some y → y ≡ x
@@ -115,7 +114,7 @@ module _ (edges : Edges) (node : NodeId) (count : ℕ) where
 pub source_at : (sources : List (Option NodeId)) (count i : ℕ) (x y : Option NodeId) → length sources ≡ count → i < count → x ≡ slice_index_or sources i x → x ≡ y → slice_get sources i ≡ Some y
 source_at sources count i x y counted small read is = slice_get_read sources count i x (sym counted) small read ∙ ap Some is
 
-pub source_given : (a : Inside) (g : Graph) → graph_of a ≡ g → (n i count : ℕ) (sources : List (Option NodeId)) (x : Option NodeId) (source : NodeId) → length sources ≡ count → i < count → x ≡ slice_index_or sources i x → x ≡ Some source
+pub source_given : (a : Fields) (g : Graph) → graph_of a ≡ g → (n i count : ℕ) (sources : List (Option NodeId)) (x : Option NodeId) (source : NodeId) → length sources ≡ count → i < count → x ≡ slice_index_or sources i x → x ≡ Some source
     → ((j : ℕ) (s : NodeId) → slice_get sources j ≡ Some (Some s) → IsArgumentOf g (node_number n) j s) → set.contains a.edges (argument_edge (node_number source.0) (node_number n) i) ≡ true
 source_given a g e n i count sources x source counted small read is set_at =
     subst (λ (h : Graph). IsArgumentOf h (node_number n) i source) (sym e) (set_at i source (source_at sources count i x (Some source) counted small read is))

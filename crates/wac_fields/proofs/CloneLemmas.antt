@@ -23,9 +23,8 @@ use Rattle.std.specs.Prelude.{slice_get, vec_capacity}
 use Rattle.wac_nodes.specs.Nodes.{node_of, nodes_of, names_of, satisfied_at}
 use Rattle.wac_nodes.specs.Clones.{IsNodeClone}
 use Rattle.wac_nodes.specs.Sound.{IsSound}
-use Rattle.wac_composition.specs.declared.graph.CompositionGraph.TheInside.{Inside}
 use Rattle.wac_removing.specs.Slots.{AreKeyed}
-use Rattle.wac_composition.specs.Inside.{graph_of, Invariant}
+use Rattle.wac_fields.specs.Fields.{Fields, graph_of, Invariant}
 
 abbrev AreClones : List (Option Node) → List (Option Node) → Type 0
 AreClones xs ys = AllZip (IsSlotClone IsNodeClone) xs ys
@@ -67,7 +66,7 @@ same_names (x ∷ xs) (y ∷ ys) all = λ d. (all.0.0 d, all.0.1 d) ∷ same_nam
 pub same_keys : (xs ys : List (Key × PackageId)) → AllZip (λ p q. (q.0 ≡ p.0) × (q.1 ≡ p.1)) xs ys → ys ≡ xs
 same_keys xs ys all = same_from_all_zip (λ p q. (q.0 ≡ p.0) × (q.1 ≡ p.1)) xs ys all (λ x y r. λ d. (r.0 d, r.1 d))
 
-pub same_graph : (a b : Inside) → b.types ≡ a.types → AreClones a.nodes.slots b.nodes.slots → b.nodes.vacant_key ≡ a.nodes.vacant_key → b.edges ≡ a.edges
+pub same_graph : (a b : Fields) → b.types ≡ a.types → AreClones a.nodes.slots b.nodes.slots → b.nodes.vacant_key ≡ a.nodes.vacant_key → b.edges ≡ a.edges
     → AllZip (λ p q. (string_bytes q.0 ≡ string_bytes p.0) × (q.1 ≡ p.1)) a.exports.entries b.exports.entries → b.slots.items ≡ a.slots.items → b.vacant.items ≡ a.vacant.items → graph_of b ≡ graph_of a
 same_graph a b types nodes next edges exports slots vacant =
     let shown : nodes_of b.nodes.slots ≡ nodes_of a.nodes.slots = ap finite.from_entries (same_entries 0 a.nodes.slots b.nodes.slots nodes) in
@@ -79,7 +78,7 @@ pub room_cloned : (asked counted room : ℕ) (were slots : List Slot) → asked 
 room_cloned asked counted room were slots made is count same = let many : length slots ≡ length were = ap length same in omega (arith, made, is, count, many)
 
 -- so what is always true of a graph's fields is true of those of its clone
-pub invariant_clone : (a b : Inside) → Invariant a → graph_of b ≡ graph_of a → ((q i : ℕ) → satisfied_at (get b.nodes q) i ≡ satisfied_at (get a.nodes q) i)
+pub invariant_clone : (a b : Fields) → Invariant a → graph_of b ≡ graph_of a → ((q i : ℕ) → satisfied_at (get b.nodes q) i ≡ satisfied_at (get a.nodes q) i)
     → b.package_map.entries ≡ a.package_map.entries → names_of b.imports.entries ≡ names_of a.imports.entries → ((q : ℕ) → is_again b.lost q ≡ is_again a.lost q) → length b.slots.items ≤ vec_capacity b.vacant → Invariant b
 invariant_clone a b v same marks keys names again room = record {
   sound = subst IsSound (sym same) v.sound;

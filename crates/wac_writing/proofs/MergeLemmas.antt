@@ -1,7 +1,7 @@
 -- From what merging answers to what `encode` does.
 use Rattle.std.proofs.Common.{lit<, ◌≡◌, ℕ, zero, suc, ◌<◌, true, false, is_some, List, [], ◌∷◌, length, map, get_or, refl, ap, ◌∙◌, sym, subst, arith, Some, None, Option, IfSome, ◌⊎◌, inl, inr}
 use Rattle.std.specs.Global.{Global}
-use Rattle.std.specs.Prelude.{slice_get, string_bytes, ◌==◌}
+use Rattle.std.specs.Prelude.{slice_get, string_bytes}
 use Rattle.std.specs.List.{AllByRecursion}
 use Rattle.std.specs.Option.{MatchOption}
 use Rattle.std.specs.declared.string.String.{String}
@@ -13,8 +13,7 @@ use Rattle.wac_merge.specs.Aggregate.{IsFault}
 use Rattle.wac_entries.specs.Bindings.{AreHeld}
 use Rattle.wac_entries.specs.Classes as merge
 use Rattle.wac_entries.specs.Classes.{by_names}
-use Rattle.wac_terms.specs.NoDisagreement.{HasNoDisagreement}
-use Rattle.wac_agreement.specs.Faults.{Disagrees, HasFault, HasNoCircle, UseEachOther, disagree, fault_of, use_each_other}
+use Rattle.wac_agreement.specs.Faults.{Disagrees, HasFault, UseEachOther, disagree, fault_of, use_each_other}
 use Rattle.wac_agreement.specs.declared.fault.MergeFault.{MergeFault}
 use Rattle.wac_agreement.specs.declared.fault.MergeFault.TheVariants as fault
 use Rattle.wac_nodes.specs.declared.options.EncodeOptions.{EncodeOptions}
@@ -22,15 +21,15 @@ use Rattle.wac_causes.specs.declared.errors.EncodeError.TheVariants as error
 use Rattle.wac_edges.specs.declared.node.NodeId.{NodeId}
 use Rattle.wac_nodes.specs.Graph as graph
 use Rattle.wac_edges.specs.Edge.{node_number}
-use Rattle.wac_nodes.specs.Graph.{Graph, GraphNode, Kind, node_at}
+use Rattle.wac_nodes.specs.Graph.{Graph, GraphNode, Kind}
 use Rattle.wac_nodes.specs.Asked.{Entry, imported_by}
-use Rattle.wac_causes.specs.Cause.{HasMerge, HasNoConflict, IsMergeConflict, AsksImplicitly, AsksExplicitly, implicit_merge, explicit_merge, import_circle}
+use Rattle.wac_causes.specs.Cause.{HasNoConflict, IsMergeConflict, AsksImplicitly, AsksExplicitly, implicit_merge, explicit_merge, import_circle}
 use Rattle.wac_nodes.specs.Entries.{asked_entries, to_merge}
-use Rattle.wac_asking.specs.EntriesLeft.{IsHeldKind, entry_view}
+use Rattle.wac_asking.specs.EntriesLeft.{IsHeldKind}
 use Rattle.wac_nodes.specs.Imports.{node_row, node_rows}
 use Rattle.wac_edges.specs.Order.{IsAcyclic}
 use Rattle.wac_causes.specs.Search.{IsRefused}
-use Rattle.wac_composition.proofs.AskedHeld.{asking_nodes}
+use Rattle.wac_writing.proofs.AskedHeld.{asking_nodes}
 use Rattle.wac_causes.proofs.StandsLemmas.{stands_implicit, stands_explicit, stands_circle}
 
 -- what holds of all holds of the one at a position

@@ -1,5 +1,5 @@
 -- What is always true of a graph's fields stays true where an argument is taken away, and where a node is named.
-use Rattle.std.proofs.Common.{◌≡◌, ◌≢◌, ℕ, Bool, true, false, not, ◌&&◌, ◌==◌, refl, ap, ◌∙◌, sym, subst, Option, Some, None, IfSome, IsSome, is_some, Ok, Err, String, Global, string_bytes, List, suc}
+use Rattle.std.proofs.Common.{◌≡◌, ◌≢◌, ℕ, Bool, true, false, not, ◌&&◌, ◌==◌, refl, ap, ◌∙◌, sym, subst, Option, Some, None, IfSome, IsSome, is_some, Ok, Err, String, Global, string_bytes, List}
 use Rattle.std.specs.Prelude.{slice_get, IsSomeAnd, swap_remove, if◌then◌else◌}
 use Rattle.std.specs.HashMap.{HashMap}
 use Rattle.std.specs.declared.hash.FoldHasher.{FoldHasher}
@@ -28,7 +28,7 @@ use Rattle.wac_removing.specs.Lost.{is_again, AreTold}
 use Rattle.wac_removing.specs.Slots.{vacant_of}
 use Rattle.wac_removing.specs.declared.lost.Lost.{Lost}
 use Rattle.wac_nodes.specs.Steps.{SetsName, Unexports}
-use Rattle.wac_nodes.specs.TakenOut.{taken_at, taken_below, without}
+use Rattle.wac_nodes.specs.TakenOut.{taken_at, without}
 use Rattle.wac_nodes.specs.declared.errors.UnexportError.TheVariants.{MustExportDefinition}
 use Rattle.wac_nodes.specs.declared.node.NodeKind.{NodeKind}
 use Rattle.wac_nodes.specs.declared.node.NodeKind.TheVariants as code
@@ -39,10 +39,9 @@ use Rattle.wac_nodes.proofs.JoinLemmas.{AreAlike, alike_itself}
 use Rattle.wac_nodes.proofs.NodeLemmas.{get-nodes_of, nodes_of-insert, nodes_of-same}
 use Rattle.wac_nodes.proofs.TakenOut.{Left, left_itself, left_without, none_without}
 use Rattle.wac_nodes.proofs.PartLemmas.{IsPart, IsClosed, sound_part}
-use Rattle.wac_composition.specs.declared.graph.CompositionGraph.TheInside.{Inside}
 use Rattle.wac_removing.proofs.LostLemmas.{names_taken}
-use Rattle.wac_composition.specs.Inside.{graph_of, Invariant}
-use Rattle.wac_composition.proofs.InvariantLemmas.{invariant_lost}
+use Rattle.wac_fields.specs.Fields.{Fields, graph_of, Invariant}
+use Rattle.wac_fields.proofs.InvariantLemmas.{invariant_lost}
 
 clash : (b : Bool) → b ≡ true → b ≡ false → ⊥
 clash true _ h = cc
@@ -77,7 +76,7 @@ nothing_removed s e absent = sym (set.same_set edge_cmp_total edge_cmp-IsAntisym
       at q true is = sym (ap (λ x. set.contains s x) (exact_edges q e is) ∙ absent)
       at q false is = refl
 
-module _ (a : Inside) (v : Invariant a) where
+module _ (a : Fields) (v : Invariant a) where
   -- the same nodes but for the satisfied positions, of which one is less, and without its edge
   pub invariant_taken : (nodes : Slab Node) (edges : set.FinSet edge_cmp) (source target : NodeId) (position : ℕ) → nodes.vacant_key ≡ a.nodes.vacant_key
       → ((q : ℕ) → option_map node_of (get nodes q) ≡ option_map node_of (get a.nodes q)) → ((q i : ℕ) → satisfied_at (get nodes q) i ≡ (satisfied_at (get a.nodes q) i && not (q == target.0 && i == position)))
@@ -151,7 +150,7 @@ the_node None h = cc
 the_node (Some n) h = (n, refl)
 
 -- a node is written again, the same but for its names, and some exports are taken out
-module _ (a : Inside) (id : NodeId) (nodes : Slab Node) (before after : Node) (had : get a.nodes id.0 ≡ Some before) (updates : Updates a.nodes nodes id.0 (Some after)) (like : AreAlike (node_of after) (node_of before)) (kind : after.kind ≡ before.kind) where
+module _ (a : Fields) (id : NodeId) (nodes : Slab Node) (before after : Node) (had : get a.nodes id.0 ≡ Some before) (updates : Updates a.nodes nodes id.0 (Some after)) (like : AreAlike (node_of after) (node_of before)) (kind : after.kind ≡ before.kind) where
   -- a node was there, and is the same but for its names
   was : (m : NodeId) (x : GraphNode) → map.get (nodes_of nodes.slots) m.0 ≡ Some x → (y : GraphNode) × (map.get (nodes_of a.nodes.slots) m.0 ≡ Some y) × AreAlike x y
   was m x at = by_eq m.0 id.0
@@ -235,7 +234,7 @@ module _ (a : Inside) (id : NodeId) (nodes : Slab Node) (before after : Node) (h
 abbrev pub Titled : Slab Node → Slab Node → ℕ → String Global → Type 0
 Titled old new number name = IfSome (get old number) (λ n. new ≡ with_value old number (record n { name = Some name }))
 
-module _ (a : Inside) (id : NodeId) (name : Name) (own : String Global) (nodes : Slab Node) (is : string_bytes own ≡ name) (titled_node : Node) (titled_had : get a.nodes id.0 ≡ Some titled_node) (titled : Titled a.nodes nodes id.0 own) where
+module _ (a : Fields) (id : NodeId) (name : Name) (own : String Global) (nodes : Slab Node) (is : string_bytes own ≡ name) (titled_node : Node) (titled_had : get a.nodes id.0 ≡ Some titled_node) (titled : Titled a.nodes nodes id.0 own) where
   titled_is : nodes ≡ with_value a.nodes id.0 (record titled_node { name = Some own })
   titled_is = rw titled_had at titled
 
@@ -269,7 +268,7 @@ Cleared old new number = IfSome (get old number) (λ n. new ≡ with_value old n
 abbrev pub is_same : NodeId → NodeId → Bool
 is_same id m = m.0 == id.0
 
-module _ (a : Inside) (id : NodeId) (nodes : Slab Node) (names : HashMap (String Global) NodeId (BuildHasherDefault FoldHasher)) (node : Node) (had : get a.nodes id.0 ≡ Some node) (cleared : Cleared a.nodes nodes id.0) (taken : names_of names.entries ≡ without (is_same id) (names_of a.exports.entries)) where
+module _ (a : Fields) (id : NodeId) (nodes : Slab Node) (names : HashMap (String Global) NodeId (BuildHasherDefault FoldHasher)) (node : Node) (had : get a.nodes id.0 ≡ Some node) (cleared : Cleared a.nodes nodes id.0) (taken : names_of names.entries ≡ without (is_same id) (names_of a.exports.entries)) where
   cleared_is : nodes ≡ with_value a.nodes id.0 (record node { export_name = None })
   cleared_is = rw had at cleared
 
@@ -303,7 +302,7 @@ module _ (a : Inside) (id : NodeId) (nodes : Slab Node) (names : HashMap (String
       (λ here. absurd (clash (is_same id n) (ap (λ k. k == id.0) here ∙ eqb_same id.0) (none_without (is_same id) (names_of a.exports.entries) i (other, n) (ap (λ es. slice_get es i) (sym taken) ∙ at))))
       (λ differ. ap (λ b. tells b (option_map node_of (get nodes n.0)) other) (same n.0 differ) ∙ cleared_told v i other n at))
 
-pub still_definition : (a : Inside) (id : NodeId) (node : Node) → get a.nodes id.0 ≡ Some node → kind_of node.kind ≡ graph.definition → Unexports (graph_of a) id (Err MustExportDefinition) (graph_of a)
+pub still_definition : (a : Fields) (id : NodeId) (node : Node) → get a.nodes id.0 ≡ Some node → kind_of node.kind ≡ graph.definition → Unexports (graph_of a) id (Err MustExportDefinition) (graph_of a)
 still_definition a id node had is =
     let at : node_at (graph_of a) id ≡ Some (node_of node) = get-nodes_of a.nodes.slots id.0 ∙ ap (option_map node_of) had in
     (refl, subst (λ o. IfSome o (λ n. n.kind ≡ graph.definition)) (sym at) is)
@@ -313,10 +312,6 @@ no_definition code.Definition h e = h refl
 no_definition (code.Import name) h e = cc
 no_definition (code.Instantiation s) h e = cc
 no_definition code.Alias h e = cc
-
--- one step further down
-pub taken_step : (gone : NodeId → Bool) (k : ℕ) (es old new : List (Name × NodeId)) → new ≡ taken_at gone k (slice_get es k) es → taken_below gone (suc k) es ≡ without gone old → taken_below gone k new ≡ without gone old
-taken_step gone k es old new is h = ap (taken_below gone k) is ∙ h
 
 -- one entry of a map, where it is of the node and where it is not
 pub entry_taken : (id : NodeId) (entries now : List (String Global × NodeId)) (k : ℕ) (e : String Global × NodeId) → slice_get entries k ≡ Some e → ((e.1).0 == id.0) ≡ true → now ≡ swap_remove entries k e

@@ -38,11 +38,10 @@ use Rattle.wac_causes.specs.Faults.{validation_failure}
 use Rattle.wac_causes.specs.OuterNames.{first_name_of, AreOuterNames, import_names, export_names, IsOuterFault}
 use Rattle.wac_causes.specs.Search.{NamesFault}
 use Rattle.wac_causes.proofs.StandsLemmas.{stands_invalid, invalid_alone}
-use Rattle.wac_composition.specs.declared.graph.CompositionGraph.TheInside.{Inside}
-use Rattle.wac_composition.specs.Inside.{graph_of}
+use Rattle.wac_fields.specs.Fields.{Fields, graph_of}
 use Rattle.wac_writing.proofs.CauseLemmas.{IsChecked}
-use Rattle.wac_composition.proofs.MeansLemmas.{no_first}
-use Rattle.wac_composition.proofs.WriteAliasLemmas.{take_at, entry_at}
+use Rattle.wac_writing.proofs.MeansLemmas.{no_first}
+use Rattle.wac_writing.proofs.WriteAliasLemmas.{take_at, entry_at}
 
 module _ (g : Graph) (o : EncodeOptions) (define : o.define_components ≡ true) (laws : ClassLaws) (has_classes : OrderHasClasses) (no_first : HasNoFirst g) (classes : List (Name × Tree)) (outer : AreOuterImports g classes) where
   abbrev names : List Name
@@ -113,11 +112,11 @@ module _ (g : Graph) (o : EncodeOptions) (define : o.define_components ≡ true)
       ∙ exported_names m.at g.exports sound.exported
 
 -- ---- the names of the exports, as the fields have them
-text_of_name : (a : Inside) (g : Graph) → graph_of a ≡ g → (i : ℕ) (name : String Global) (id : NodeId) → Some (name, id) ≡ slice_get a.exports.entries i → slice_get g.exports i ≡ Some (string_bytes name, id)
+text_of_name : (a : Fields) (g : Graph) → graph_of a ≡ g → (i : ℕ) (name : String Global) (id : NodeId) → Some (name, id) ≡ slice_get a.exports.entries i → slice_get g.exports i ≡ Some (string_bytes name, id)
 text_of_name a g e i name id h = subst (λ x. slice_get x.exports i ≡ Some (string_bytes name, id)) e (entry_at a i name id h)
 
 -- one more is among them
-pub name_more : (a : Inside) (g : Graph) → graph_of a ≡ g → (i : ℕ) (name : String Global) (id : NodeId) (text : Bor (List ℕ)) (old new : List (Bor (List ℕ)))
+pub name_more : (a : Fields) (g : Graph) → graph_of a ≡ g → (i : ℕ) (name : String Global) (id : NodeId) (text : Bor (List ℕ)) (old new : List (Bor (List ℕ)))
     → Some (name, id) ≡ slice_get a.exports.entries i → text.now ≡ string_bytes name → new ≡ old ++ text ∷ []
     → texts old ≡ map (λ e. e.0) (take i g.exports) → texts new ≡ map (λ e. e.0) (take (i + 1) g.exports)
 name_more a g e i name id text old new h named added before =
@@ -132,7 +131,7 @@ name_more a g e i name id text old new h named added before =
     ∙ ap (λ k. map (λ (e : List ℕ × NodeId). e.0) (take k g.exports)) (sym next)
 
 -- past the last export all are
-pub names_all : (a : Inside) (g : Graph) → graph_of a ≡ g → (i : ℕ) (names : List (Bor (List ℕ))) → length a.exports.entries ≤ i
+pub names_all : (a : Fields) (g : Graph) → graph_of a ≡ g → (i : ℕ) (names : List (Bor (List ℕ))) → length a.exports.entries ≤ i
     → texts names ≡ map (λ e. e.0) (take i g.exports) → texts names ≡ map (λ e. e.0) g.exports
 names_all a g e i names past is =
     let many : length g.exports ≡ length a.exports.entries = ap (λ x. length x.exports) (sym e) ∙ length-map a.exports.entries (λ e. text_pair e) in

@@ -6,18 +6,17 @@ use Rattle.std.specs.Prelude.{slice_get}
 use Rattle.wac_shapes.specs.Name.{Name}
 use Rattle.wac_edges.specs.declared.edges.Edge.{Edge}
 use Rattle.wac_edges.specs.declared.node.NodeId.{NodeId}
-use Rattle.wac_composition.specs.declared.graph.CompositionGraph.TheInside.{Inside}
 use Rattle.wac_edges.specs.Edge.{is_left}
 use Rattle.wac_nodes.specs.Graph as graph
 use Rattle.wac_nodes.specs.Graph.{Graph, GraphNode, Kind, node_at}
-use Rattle.wac_composition.specs.Inside.{graph_of, Invariant}
-use Rattle.wac_composition.specs.EncoderView.{IsPlainNode}
+use Rattle.wac_fields.specs.Fields.{Fields, graph_of, Invariant}
+use Rattle.wac_writing.specs.Plain.{IsPlainNode}
 use Rattle.wac_nodes.specs.Sound.{IsSound}
 use Rattle.wac_edges.specs.Order.{Writes, IsOnCycle, IsAcyclic, IsLowestOnCycle}
 use Rattle.wac_meaning.specs.Means.{is_written, is_import}
 use Rattle.wac_edges.proofs.WrittenOrder.{in_list, written_left}
 use Rattle.wac_meaning.proofs.ThingLemmas.{DefinesNothing, node_of_written}
-use Rattle.wac_composition.proofs.EncodingLemmas.{node_is, none_past, by_lt}
+use Rattle.wac_writing.proofs.EncodingLemmas.{node_is, none_past, by_lt}
 use Rattle.wac_meaning.proofs.DefinedLemmas.{HasNoFirst}
 
 -- a node that is no definition has no first name
@@ -27,7 +26,7 @@ no_first g sound none n node there = split node.first_name refl where
   split None is = refl
   split (Some name) is = absurd (none n node there (sound.first_names n node name there is).0)
 
-module _ (a : Inside) (v : Invariant a) (g : Graph) (view : graph_of a ≡ g) where
+module _ (a : Fields) (v : Invariant a) (g : Graph) (view : graph_of a ≡ g) where
   pub sound_now : IsSound g
   sound_now = subst (λ x. IsSound x) view v.sound
 
@@ -50,7 +49,7 @@ module _ (a : Inside) (v : Invariant a) (g : Graph) (view : graph_of a ≡ g) wh
     nothing (Some x) h _ = cc
 
 -- edges lead to nodes, so to numbers below the capacity
-pub targets_below : (a : Inside) → Invariant a → (k : ℕ) → length a.nodes.slots ≤ k → (e : Edge) → set.contains a.edges e ≡ true → e.target.0 < k
+pub targets_below : (a : Fields) → Invariant a → (k : ℕ) → length a.nodes.slots ≤ k → (e : Edge) → set.contains a.edges e ≡ true → e.target.0 < k
 targets_below a v k slots e stands = has_room a v (graph_of a) refl k slots e.target ((v.sound).ends e stands).1
 
 -- the nodes of an order are written

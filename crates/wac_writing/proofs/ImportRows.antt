@@ -25,19 +25,18 @@ use Rattle.wac_edges.specs.declared.edges.Label.TheVariants.{Alias, Argument, De
 use Rattle.wac_nodes.specs.declared.node.Node.{Node}
 use Rattle.wac_edges.specs.declared.node.NodeId.{NodeId}
 use Rattle.wac_nodes.specs.declared.node.NodeKind.TheVariants as code
-use Rattle.wac_composition.specs.declared.graph.CompositionGraph.TheInside.{Inside}
 use Rattle.wac_edges.specs.Edge.{edge_cmp, argument_edge}
 use Rattle.wac_nodes.specs.Graph as graph
 use Rattle.wac_edges.specs.Edge.{node_number}
 use Rattle.wac_nodes.specs.Graph.{Graph, GraphNode, Kind, node_at, imports_of, import_name, IsUnsatisfied}
 use Rattle.wac_nodes.specs.Nodes.{node_of, nodes_of, kind_of, satisfied, satisfied_at}
-use Rattle.wac_composition.specs.Inside.{graph_of, Invariant}
+use Rattle.wac_fields.specs.Fields.{Fields, graph_of, Invariant}
 use Rattle.wac_nodes.specs.Asked.{is_argument, is_argument_label, is_satisfied, unsatisfied, asked_by, imported_by}
 use Rattle.wac_nodes.specs.Imports.{unset_row, node_row, unset_rows, node_rows, asked_rows}
 use Rattle.wac_asking.specs.ImportsLeft.{unset, unset_from, row_of, node_left, instantiations_left, nodes_left, left}
 use Rattle.wac_edges.proofs.EdgeLemmas.{edge_cmp_total}
 use Rattle.wac_meaning.proofs.AskedLemmas.{satisfied as set_by_edge}
-use Rattle.wac_composition.proofs.EncodingLemmas.{node_is}
+use Rattle.wac_writing.proofs.EncodingLemmas.{node_is}
 
 abbrev Row : Type 0
 Row = Name × ItemKind × Option NodeId
@@ -169,7 +168,7 @@ row_node g n name k rows = by_node (node_at g (node_number n)) refl rows where
   by_node None there rows = let none : ◌≡◌ {A = List Row} [] (row ∷ []) = rows in cc
   by_node (Some node) there rows = by_kind node there node.kind refl rows
 
-module _ (a : Inside) (v : Invariant a) (n : ℕ) (node : Node) (had : get a.nodes n ≡ Some node) where
+module _ (a : Fields) (v : Invariant a) (n : ℕ) (node : Node) (had : get a.nodes n ≡ Some node) where
   module _ (s : BTreeSet ℕ) (is : node.kind ≡ code.Instantiation s) where
     same_set : positions.contains nat_cmp s ≡ is_satisfied (graph_of a) n
     same_set = fun_ext (λ i. same i (positions.contains nat_cmp s i) refl (is_satisfied (graph_of a) n i) refl) where
@@ -207,11 +206,11 @@ module _ (a : Inside) (v : Invariant a) (n : ℕ) (node : Node) (had : get a.nod
   pub other_left : (i : ℕ) → (kind_of node.kind ≡ graph.instantiation → ⊥) → node_left (graph_of a) n i (node_at (graph_of a) (node_number n)) ≡ []
   other_left i other = ap (node_left (graph_of a) n i) (node_is a n (Some node) had) ∙ none_by_kind (graph_of a) n i (node_of node) other (kind_of node.kind) refl
 
-pub nothing_left : (a : Inside) (n i : ℕ) → get a.nodes n ≡ None → node_left (graph_of a) n i (node_at (graph_of a) (node_number n)) ≡ []
+pub nothing_left : (a : Fields) (n i : ℕ) → get a.nodes n ≡ None → node_left (graph_of a) n i (node_at (graph_of a) (node_number n)) ≡ []
 nothing_left a n i none = ap (node_left (graph_of a) n i) (node_is a n None none)
 
 -- the row of an import node
-module _ (a : Inside) (n : ℕ) where
+module _ (a : Fields) (n : ℕ) where
   pub no_node_row : get a.nodes n ≡ None → node_rows (graph_of a) n ≡ []
   no_node_row none = ap (λ o. map node_row (imported_by n o)) (node_is a n None none)
 
@@ -312,7 +311,7 @@ spread f (None ∷ slots) j (suc count) h vacant =
 spread f (Some x ∷ slots) j (suc count) h vacant =
     ap (λ rows. f j ++ rows) (spread f slots (j + 1) count (omega arith) (λ k none. let e : (j + 1) + k ≡ j + suc k = omega arith in ap f e ∙ vacant (suc k) none))
 
-module _ (a : Inside) (end : ℕ) (slots : length a.nodes.slots ≤ end) where
+module _ (a : Fields) (end : ℕ) (slots : length a.nodes.slots ≤ end) where
   pub by_numbers : {X : Type 0} (f : ℕ → List X) → ((n : ℕ) → get a.nodes n ≡ None → f n ≡ []) → flat_map f (finite.keys (nodes_of a.nodes.slots)) ≡ flat_map f (range_with_len 0 end)
   by_numbers f vacant =
       ap (λ es. flat_map f (map (λ e. e.0) es)) (entries_are a.nodes.slots 0)

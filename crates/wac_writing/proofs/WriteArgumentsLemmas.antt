@@ -1,5 +1,5 @@
 -- Steps of writing arguments, instantiations and nodes.
-use Rattle.std.proofs.Common.{◌≡◌, ℕ, zero, suc, ◌+◌, ◌<◌, ◌≤◌, Bool, true, false, List, [], ◌∷◌, ◌++◌, length, take, drop, refl, ap, ◌∙◌, sym, subst, arith, Option, Some, None, IfSome, IfNone, IsSome, IsSomeAnd, is_some, ◌⊎◌, inl, inr, String, Global, string_bytes}
+use Rattle.std.proofs.Common.{◌≡◌, ℕ, zero, suc, ◌+◌, ◌<◌, ◌≤◌, true, List, [], ◌∷◌, ◌++◌, length, take, drop, refl, ap, ◌∙◌, sym, subst, arith, Option, Some, None, IfSome, IfNone, IsSome, IsSomeAnd, is_some, ◌⊎◌, inl, inr, String, Global, string_bytes}
 use Rattle.std.specs.Borrow.{Bor}
 use Rattle.std.specs.Prelude.{slice_get, slice_set, slice_index_or}
 use Rattle.std.proofs.lemmas.Option.{slice_get-get_or}
@@ -20,8 +20,6 @@ use Rattle.wac_nodes.specs.declared.node.Node.{Node}
 use Rattle.wac_nodes.specs.declared.node.NodeKind.{NodeKind}
 use Rattle.wac_nodes.specs.declared.node.NodeKind.TheVariants as code
 use Rattle.wac_nodes.specs.declared.packages.PackageId.{PackageId}
-use Rattle.wac_composition.specs.declared.encode.Encoder.{Encoder}
-use Rattle.wac_composition.specs.declared.graph.CompositionGraph.TheInside.{Inside}
 use Rattle.wac_edges.specs.declared.node.NodeId.{NodeId}
 use Rattle.wac_edges.specs.declared.edges.Edge.{Edge}
 use Rattle.wac_edges.specs.Edge.{argument_edge}
@@ -29,7 +27,7 @@ use Rattle.wac_nodes.specs.Graph as graph
 use Rattle.wac_edges.specs.Edge.{node_number}
 use Rattle.wac_nodes.specs.Graph.{Graph, GraphNode, node_at, imports_of, package_at, IsArgumentOf, IsUnsatisfied}
 use Rattle.wac_nodes.specs.Nodes.{node_of, kind_of}
-use Rattle.wac_composition.specs.Inside.{graph_of, Invariant}
+use Rattle.wac_fields.specs.Fields.{Fields, graph_of, Invariant}
 use Rattle.wac_meaning.specs.Means.{sort_of_kind, package_bytes}
 use Rattle.wac_meaning.specs.Encoding.{index_in, HasComponent, HasRoom, Progress}
 use Rattle.wac_meaning.specs.Beginning.{Places}
@@ -45,12 +43,12 @@ use Rattle.wac_meaning.proofs.MergeLemmas.{OrderHasClasses, placed_argument}
 use Rattle.wac_writing.specs.declared.places.ImportPlaces.{ImportPlaces}
 use Rattle.wac_writing.specs.Places.{IsImportedName, IsPlaceOf, ArePlaced, AreFound}
 use Rattle.wac_writing.proofs.OuterLemmas.{asked_imported, asked_sort, found_at}
-use Rattle.wac_composition.proofs.SourceLemmas.{source_at}
-use Rattle.wac_composition.proofs.ImportRows.{unsatisfied_false, row_node}
-use Rattle.wac_composition.specs.EncoderView.{progress, IsPlainNode}
+use Rattle.wac_writing.proofs.SourceLemmas.{source_at}
+use Rattle.wac_writing.proofs.ImportRows.{unsatisfied_false, row_node}
+use Rattle.wac_writing.specs.Plain.{IsPlainNode}
 use Rattle.wac_nodes.proofs.NodeLemmas.{there}
-use Rattle.wac_composition.proofs.EncodingLemmas as nodes
-use Rattle.wac_composition.proofs.EncodingLemmas.{node_is}
+use Rattle.wac_writing.proofs.EncodingLemmas as nodes
+use Rattle.wac_writing.proofs.EncodingLemmas.{node_is}
 
 -- one argument more
 push_argument : (g : Graph) (places : Places) (index : NodeId → ℕ) (n : NodeId) (k j : ℕ) (xs : List (Name × ItemKind)) (args : List (Name × Sort × ℕ)) (x : Name × ItemKind) (a : Name × Sort × ℕ) → slice_get xs j ≡ Some x → AreArgumentItems g places index n k (take j xs) args
@@ -71,7 +69,7 @@ arguments_last [] a = refl
 arguments_last (b ∷ args) a = ap (λ xs. (b.0.now, b.1, b.2) ∷ xs) (arguments_last args a)
 
 -- the source of an argument is there
-pub argument_there : (a : Inside) → Invariant a → (source n i : ℕ) → set.contains a.edges (argument_edge (node_number source) (node_number n) i) ≡ true → ContainsKey a.nodes source
+pub argument_there : (a : Fields) → Invariant a → (source n i : ℕ) → set.contains a.edges (argument_edge (node_number source) (node_number n) i) ≡ true → ContainsKey a.nodes source
 argument_there a v source n i stands = there a.nodes.slots source ((v.sound).ends (argument_edge (node_number source) (node_number n) i) stands).0
 
 named_entry : (o : Option (Name × ItemKind)) (name : Name) → option_map (λ e. e.0) o ≡ Some name → (x : Name × ItemKind) × (o ≡ Some x) × (name ≡ x.0)
@@ -92,7 +90,7 @@ pushed g places index n i imports args new name s k named grown it before =
     (push_argument g places index (node_number n) 0 i imports (arguments_of args) x (name.now, s, k) at before one))
 
 -- an argument that was set
-pub set_argument : (a : Inside) (g : Graph) → graph_of a ≡ g → (places : Places) (indexes : List ℕ) (n i source : ℕ) (node : Node) (name : Name) (s : Sort)
+pub set_argument : (a : Fields) (g : Graph) → graph_of a ≡ g → (places : Places) (indexes : List ℕ) (n i source : ℕ) (node : Node) (name : Name) (s : Sort)
     → get a.nodes source ≡ Some node → IsArgumentOf g (node_number n) i (node_number source) → s ≡ sort_of_kind node.item_kind → IsArgumentItem g places (index_in indexes) (node_number n) i name (name, s, index_in indexes (node_number source))
 set_argument a g e places indexes n i source node name s had given sorted =
     of_node (node_number source) (node_of node) refl given (subst (λ h. node_at h (node_number source) ≡ Some (node_of node)) e (node_is a source (Some node) had)) sorted refl
@@ -151,16 +149,16 @@ added_instantiation g at n id p bytes places read args given c components compon
   by_node (Some x) k w h = writes_instantiation id c mid (arguments_of args) k w its (subst (λ r. AreArgumentItems g at (index_in r) (node_number n) 0 (imports_of g x) (arguments_of args)) placed h) last counted
 
 -- a node's index is noted
-pub noted : (g : Graph) (at : Places) (n : ℕ) (old new last : Encoder) (i k : ℕ) → last ≡ new → k ≡ i → IfSome (node_at g (node_number n)) (λ x. WritesNode g at (node_number n) x (index_in old.indexes.items) old.components.entries new.components.entries old.builder new.builder i) → new.indexes ≡ old.indexes
-    → Wrote g at (node_number n) (progress old) (record { items = last.builder; components = last.components.entries; indexes = slice_set last.indexes.items n k })
+pub noted : (g : Graph) (at : Places) (n : ℕ) (old new last : Progress) (i k : ℕ) → last ≡ new → k ≡ i → IfSome (node_at g (node_number n)) (λ x. WritesNode g at (node_number n) x (index_in old.indexes) old.components new.components old.items new.items i) → new.indexes ≡ old.indexes
+    → Wrote g at (node_number n) old (record last { indexes = slice_set last.indexes n k })
 noted g at n old new last i k same placed added kept = by_node (node_at g (node_number n)) added where
-  by_node : (o : Option GraphNode) → IfSome o (λ x. WritesNode g at (node_number n) x (index_in old.indexes.items) old.components.entries new.components.entries old.builder new.builder i)
-      → IfSome o (λ x. (j : ℕ) × WritesNode g at (node_number n) x (index_in old.indexes.items) old.components.entries last.components.entries old.builder last.builder j × (slice_set last.indexes.items n k ≡ slice_set old.indexes.items n j))
+  by_node : (o : Option GraphNode) → IfSome o (λ x. WritesNode g at (node_number n) x (index_in old.indexes) old.components new.components old.items new.items i)
+      → IfSome o (λ x. (j : ℕ) × WritesNode g at (node_number n) x (index_in old.indexes) old.components last.components old.items last.items j × (slice_set last.indexes n k ≡ slice_set old.indexes n j))
   by_node None h = tt
   by_node (Some x) h = (
     i,
-    subst (λ (e : Encoder). WritesNode g at (node_number n) x (index_in old.indexes.items) old.components.entries e.components.entries old.builder e.builder i) (sym same) h,
-    ap (λ (e : Encoder). slice_set e.indexes.items n k) same ∙ ap (λ v. slice_set v.items n k) kept ∙ ap (λ j. slice_set old.indexes.items n j) placed,
+    subst (λ (p : Progress). WritesNode g at (node_number n) x (index_in old.indexes) old.components p.components old.items p.items i) (sym same) h,
+    ap (λ (p : Progress). slice_set p.indexes n k) same ∙ ap (λ v. slice_set v n k) kept ∙ ap (λ j. slice_set old.indexes n j) placed,
   )
 
 -- one node more is written
@@ -178,7 +176,7 @@ dropped_all (x ∷ xs) zero h = absurd (omega arith)
 dropped_all (x ∷ xs) (suc i) h = dropped_all xs i (omega arith)
 
 -- a node that is written is no definition and no import
-pub not_plain : (a : Inside) (n : ℕ) (node : Node) → get a.nodes n ≡ Some node → IsSomeAnd (node_at (graph_of a) (node_number n)) IsPlainNode → (node.kind ≡ code.Definition) ⊎ ((name : String Global) × (node.kind ≡ code.Import name)) → ⊥
+pub not_plain : (a : Fields) (n : ℕ) (node : Node) → get a.nodes n ≡ Some node → IsSomeAnd (node_at (graph_of a) (node_number n)) IsPlainNode → (node.kind ≡ code.Definition) ⊎ ((name : String Global) × (node.kind ≡ code.Import name)) → ⊥
 not_plain a n node had plain is = by_kind node.kind (nodes.of_node a n node IsPlainNode plain had) is where
   by_kind : (k : NodeKind) → (kind_of k ≡ graph.instantiation) ⊎ (kind_of k ≡ graph.alias) → (k ≡ code.Definition) ⊎ ((name : String Global) × (k ≡ code.Import name)) → ⊥
   by_kind k (inl h) (inl e) = let f : graph.definition ≡ graph.instantiation = sym (ap kind_of e) ∙ h in cc
@@ -190,7 +188,7 @@ pub element : (xs : List NodeId) (i : ℕ) → i < length xs → slice_get xs i 
 element xs i small = slice_get-get_or xs i (node_number 0) small
 
 -- the source of an edge has an index
-pub source_noted : (a : Inside) → Invariant a → (g : Graph) → graph_of a ≡ g → (xs : List ℕ) → HasRoom g xs → (e : Edge) → set.contains a.edges e ≡ true → e.source.0 < length xs
+pub source_noted : (a : Fields) → Invariant a → (g : Graph) → graph_of a ≡ g → (xs : List ℕ) → HasRoom g xs → (e : Edge) → set.contains a.edges e ≡ true → e.source.0 < length xs
 source_noted a v g is xs room e stands = room e.source (subst (λ h. IsSome (node_at h e.source)) is ((v.sound).ends e stands).0)
 
 -- where the indexes are as many there is as much room

@@ -15,15 +15,14 @@ use Rattle.slab.proofs.SlabLemmas.{Updates-with_value}
 use Rattle.wac_shapes.specs.Name.{Name}
 use Rattle.wac_nodes.specs.declared.node.Node.{Node}
 use Rattle.wac_edges.specs.declared.node.NodeId.{NodeId}
-use Rattle.wac_composition.specs.declared.graph.CompositionGraph.TheInside.{Inside}
 use Rattle.wac_nodes.specs.Graph.{GraphNode, node_at}
 use Rattle.wac_nodes.specs.Nodes.{node_of, nodes_of}
-use Rattle.wac_composition.specs.Inside.{graph_of, Invariant}
+use Rattle.wac_fields.specs.Fields.{Fields, graph_of, Invariant}
 use Rattle.wac_nodes.specs.ExternName.{IsExportName}
 use Rattle.wac_removing.specs.Lost.{is_again}
 use Rattle.wac_nodes.specs.Steps.{Exports}
 use Rattle.wac_nodes.proofs.NodeLemmas.{get-nodes_of, nodes_of-insert, text_pair, text_last, lookup_text}
-use Rattle.wac_composition.proofs.InvariantLemmas.{invariant_export}
+use Rattle.wac_fields.proofs.InvariantLemmas.{invariant_export}
 
 abbrev Names : Type 0
 Names = HashMap (String Global) NodeId (BuildHasherDefault FoldHasher)
@@ -52,7 +51,7 @@ named_vacant old new number name n had h =
     let is : new ≡ with_value old number (record n { export_name = Some name }) = rw had at h in
     ap (λ s. s.vacant_key) is
 
-module _ (a : Inside) where
+module _ (a : Fields) where
   listed : (id : NodeId) (name : Name) (key : String Global) (names : Names) → string_bytes key ≡ name → lookup (λ k. bytes_eq name (string_bytes k)) a.exports.entries ≡ None → names.entries ≡ insert_entry string_eq a.exports.entries key id
       → map_list (λ e. text_pair e) names.entries ≡ map_list (λ e. text_pair e) a.exports.entries ++ (name, id) ∷ []
   listed id name key names is absent last =

@@ -31,13 +31,12 @@ use Rattle.wac_removing.specs.declared.lost.Lost.{Lost}
 use Rattle.wac_removing.proofs.SlotLemmas.{vacant_fewer}
 use Rattle.wac_removing.proofs.WithoutLemmas.{nodes_left, edges_left, no_first}
 use Rattle.wac_removing.proofs.UnregisteringLemmas.{import_of_none, kept_exports, none_exports, sound_unregistered, length_freed}
-use Rattle.wac_composition.specs.declared.graph.CompositionGraph.TheInside.{Inside}
-use Rattle.wac_composition.specs.Inside.{graph_of, Invariant}
+use Rattle.wac_fields.specs.Fields.{Fields, graph_of, Invariant}
 
 abbrev Names : Type 0
 Names = HashMap (String Global) NodeId (BuildHasherDefault FoldHasher)
 
-module _ (a : Inside) (v : Invariant a) (id : PackageId) (held : IsSome (package_at (graph_of a) id)) where
+module _ (a : Fields) (v : Invariant a) (id : PackageId) (held : IsSome (package_at (graph_of a) id)) where
   -- there is room to note the slot as vacant
   pub noted_room : vec_len a.vacant ≡ length a.vacant.items → vec_len a.vacant < vec_capacity a.vacant
   noted_room counted =
@@ -49,7 +48,7 @@ module _ (a : Inside) (v : Invariant a) (id : PackageId) (held : IsSome (package
       (taken : AreTaken (λ n. is_of_at id a.nodes n.0 ≡ true) a.nodes a.edges nodes edges) (tied : AreTied nodes edges) (marks : (q : ℕ) → is_of_at id a.nodes q ≡ false → is_again lost q ≡ is_again a.lost q)
       (left : names_of exports.entries ≡ filter (λ e. not (is_of_at id a.nodes (e.1).0)) (names_of a.exports.entries))
       (freed : FreesSlot a.slots.items (vacant_of a.vacant) id slots.items (vacant_of vacant)) (keyed : AreKeyed slots.items keys.entries) (grown : vec_capacity a.vacant ≤ vec_capacity vacant) where
-    abbrev now : Inside
+    abbrev now : Fields
     now = record a { nodes = nodes; edges = edges; exports = exports; package_map = keys; slots = slots; vacant = vacant; lost = lost }
 
     stored : (n : NodeId) → is_of id (node_at (graph_of a) n) ≡ is_of_at id a.nodes n.0

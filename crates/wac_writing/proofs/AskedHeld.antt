@@ -22,7 +22,7 @@ use Rattle.wac_asking.specs.ImportsLeft.{node_left}
 use Rattle.wac_nodes.specs.Entries.{under_id, used_to, used_by, with_used, asks_again, once, asked_entries}
 use Rattle.wac_asking.specs.EntriesLeft.{IsHeldKind, by_node, row_entry, asked_at, imported_at}
 use Rattle.wac_asking.proofs.EntryLists.{all_joined}
-use Rattle.wac_composition.proofs.AskingWalk.{first_entries, first_held}
+use Rattle.wac_writing.proofs.AskingWalk.{first_entries, first_held}
 
 -- ---- lists
 all_of : {A : Type 0} (P : A → Type 0) → ((x : A) → P x) → (xs : List A) → AllByRecursion P xs

@@ -16,18 +16,17 @@ use Rattle.wac_nodes.specs.declared.options.EncodeOptions.{EncodeOptions}
 use Rattle.wac_nodes.specs.declared.node.Node.{Node}
 use Rattle.wac_edges.specs.declared.node.NodeId.{NodeId}
 use Rattle.wac_nodes.specs.declared.node.NodeKind.TheVariants as code
-use Rattle.wac_composition.specs.declared.graph.CompositionGraph.TheInside.{Inside}
 use Rattle.wac_nodes.specs.Graph as graph
 use Rattle.wac_edges.specs.Edge.{node_number}
-use Rattle.wac_nodes.specs.Graph.{Graph, GraphNode, node_at, package_at, package_of, imports_of}
+use Rattle.wac_nodes.specs.Graph.{Graph, GraphNode, node_at, package_of, imports_of}
 use Rattle.wac_nodes.specs.Nodes.{node_of, kind_of, names_of, satisfied, satisfied_at}
-use Rattle.wac_composition.specs.Inside.{graph_of, Invariant}
+use Rattle.wac_fields.specs.Fields.{Fields, graph_of, Invariant}
 use Rattle.wac_edges.specs.Order.{IsAcyclic}
 use Rattle.wac_causes.specs.Cause.{IsConflict, IsFirstConflict, HasNoConflict, cause_of, conflict}
 use Rattle.wac_causes.specs.Search.{Clashes, IsFirstOf, IsLowest, IsRefused}
 use Rattle.wac_causes.proofs.StandsLemmas.{stands_conflict}
 use Rattle.wac_nodes.proofs.NodeLemmas.{lookup_text}
-use Rattle.wac_composition.proofs.EncodingLemmas.{node_is, none_past, by_lt}
+use Rattle.wac_writing.proofs.EncodingLemmas.{node_is, none_past, by_lt}
 
 entry_at : (o : Option (Name × ItemKind)) (name : Name) → option_map (λ e. e.0) o ≡ Some name → (kind : ItemKind) × (o ≡ Some (name, kind))
 entry_at None name h = cc
@@ -63,7 +62,7 @@ no_clash satisfied_in imports nodes i is node c = clash (satisfied_in i) is c.un
   clash true _ h = cc
   clash false h _ = cc
 
-module _ (a : Inside) (v : Invariant a) (n : ℕ) (node : Node) (had : get a.nodes n ≡ Some node) where
+module _ (a : Fields) (v : Invariant a) (n : ℕ) (node : Node) (had : get a.nodes n ≡ Some node) where
   module _ (s : BTreeSet ℕ) (is : node.kind ≡ code.Instantiation s) where
     abbrev pub ClashesAt : ℕ → NodeId → Type 0
     ClashesAt i import = Clashes (positions.contains nat_cmp s) (imports_of (graph_of a) (node_of node)) (names_of a.imports.entries) i import
@@ -133,13 +132,13 @@ module _ (a : Inside) (v : Invariant a) (n : ℕ) (node : Node) (had : get a.nod
     same = let e : Some c.node ≡ Some (node_of node) = sym c.there ∙ node_is a n (Some node) had in cc
 
 -- nor has a number that is no node's
-pub no_node : (a : Inside) (n : ℕ) → get a.nodes n ≡ None → (import : NodeId) (i : ℕ) (name : Name) → IsConflict (graph_of a) import (node_number n) i name → ⊥
+pub no_node : (a : Fields) (n : ℕ) → get a.nodes n ≡ None → (import : NodeId) (i : ℕ) (name : Name) → IsConflict (graph_of a) import (node_number n) i name → ⊥
 no_node a n none import i name c = nothing (node_at (graph_of a) (node_number n)) (node_is a n None none) c.there where
   nothing : (o : Option GraphNode) → o ≡ None → o ≡ Some c.node → ⊥
   nothing o p q = cc
 
 -- there is no conflict where there is none below the capacity
-pub no_conflict : (a : Inside) (k : ℕ) → length a.nodes.slots ≤ k → ((m : ℕ) → m < k → (import : NodeId) (i : ℕ) (name : Name) → IsConflict (graph_of a) import (node_number m) i name → ⊥) → HasNoConflict (graph_of a)
+pub no_conflict : (a : Fields) (k : ℕ) → length a.nodes.slots ≤ k → ((m : ℕ) → m < k → (import : NodeId) (i : ℕ) (name : Name) → IsConflict (graph_of a) import (node_number m) i name → ⊥) → HasNoConflict (graph_of a)
 no_conflict a k slots below import m i name h = by_lt m.0 k (λ small. below m.0 small import i name h) (λ above. no_node a m.0 (none_past a m.0 (omega arith)) import i name h)
 
 -- no lower node has one

@@ -26,19 +26,18 @@ use Rattle.wac_nodes.specs.declared.packages.PackageId.{PackageId}
 use Rattle.wac_edges.specs.declared.edges.Edge.{Edge}
 use Rattle.wac_nodes.specs.declared.errors.InstantiationArgumentError.{InstantiationArgumentError}
 use Rattle.wac_nodes.specs.declared.errors.InstantiationArgumentError.TheVariants.{NodeIsNotAnInstantiation, InvalidArgumentName, ArgumentAlreadyPassed, ArgumentTypeMismatch, OutOfMemory}
-use Rattle.wac_composition.specs.declared.graph.CompositionGraph.TheInside.{Inside}
 use Rattle.wac_edges.specs.Edge.{edge_cmp, argument_edge}
 use Rattle.wac_nodes.specs.Graph as graph
-use Rattle.wac_composition.specs.Arguments.{IsInstantiation, HasImport, Fits, CanBeGiven}
-use Rattle.wac_nodes.specs.Graph.{Graph, GraphNode, Kind, node_at, package_at, package_in, package_of, imports_of, IsSatisfied, IsUnsatisfied, IsArgumentOf}
+use Rattle.wac_fields.specs.Arguments.{IsInstantiation, HasImport, Fits, CanBeGiven}
+use Rattle.wac_nodes.specs.Graph.{Graph, GraphNode, node_at, package_at, package_in, package_of, imports_of, IsUnsatisfied, IsArgumentOf}
 use Rattle.wac_nodes.specs.Nodes.{node_of, kind_of, satisfied, satisfied_at, IsInstantiationAt}
-use Rattle.wac_composition.specs.Inside.{graph_of, Invariant}
+use Rattle.wac_fields.specs.Fields.{Fields, graph_of, Invariant}
 use Rattle.wac_nodes.specs.Steps.{SetsArgument, SetsOn, UnsetsArgument, UnsetsOn, import_named}
 use Rattle.wac_edges.proofs.EdgeLemmas.{edge_cmp_total, exact_edges, edge_cmp-IsAntisymmetric}
 use Rattle.wac_nodes.proofs.NodeLemmas.{get-nodes_of, nodes_of-same}
 use Rattle.wac_nodes.proofs.HeldLemmas.{imports_held}
 use Rattle.wac_nodes.proofs.JoinLemmas.{imports_of_package}
-use Rattle.wac_composition.proofs.AliasLemmas.{found_entry}
+use Rattle.wac_fields.proofs.AliasLemmas.{found_entry}
 
 clash : (b : Bool) → b ≡ true → b ≡ false → ⊥
 clash true _ h = cc
@@ -48,14 +47,14 @@ IfSome-eq : {X : Type 0} (o : Option X) (P : X → Type 0) → ((x : X) → o �
 IfSome-eq None P h = tt
 IfSome-eq (Some x) P h = h x refl
 
-sets_at : (a : Inside) (id argument : NodeId) (n : Node) (name : Name) (result : Result (Unit {0}) InstantiationArgumentError) (new : Graph) → get a.nodes id.0 ≡ Some n
+sets_at : (a : Fields) (id argument : NodeId) (n : Node) (name : Name) (result : Result (Unit {0}) InstantiationArgumentError) (new : Graph) → get a.nodes id.0 ≡ Some n
     → ((g : GraphNode) → node_at (graph_of a) argument ≡ Some g → SetsOn (graph_of a) id (node_of n) name argument g result new) → SetsArgument (graph_of a) id name argument result new
 sets_at a id argument n name result new had h =
     let at : node_at (graph_of a) id ≡ Some (node_of n) = get-nodes_of a.nodes.slots id.0 ∙ ap (option_map node_of) had in
     subst (λ o. IfSome o (λ m. IfSome (node_at (graph_of a) argument) (λ g. SetsOn (graph_of a) id m name argument g result new))) (sym at)
     (IfSome-eq (node_at (graph_of a) argument) (λ g. SetsOn (graph_of a) id (node_of n) name argument g result new) h)
 
-unsets_at : (a : Inside) (id argument : NodeId) (n : Node) (name : Name) (result : Result (Unit {0}) InstantiationArgumentError) (new : Graph) → get a.nodes id.0 ≡ Some n
+unsets_at : (a : Fields) (id argument : NodeId) (n : Node) (name : Name) (result : Result (Unit {0}) InstantiationArgumentError) (new : Graph) → get a.nodes id.0 ≡ Some n
     → UnsetsOn (graph_of a) id (node_of n) name argument result new → UnsetsArgument (graph_of a) id name argument result new
 unsets_at a id argument n name result new had h =
     let at : node_at (graph_of a) id ≡ Some (node_of n) = get-nodes_of a.nodes.slots id.0 ∙ ap (option_map node_of) had in
@@ -67,10 +66,10 @@ no_instantiation (code.Import name) h e = cc
 no_instantiation (code.Instantiation s) h e = h s refl
 no_instantiation code.Alias h e = cc
 
-pub not_instantiation : (a : Inside) (id argument : NodeId) (n : Node) (name : Name) → get a.nodes id.0 ≡ Some n → ((s : BTreeSet ℕ) → n.kind ≡ code.Instantiation s → ⊥) → SetsArgument (graph_of a) id name argument (Err (NodeIsNotAnInstantiation id)) (graph_of a)
+pub not_instantiation : (a : Fields) (id argument : NodeId) (n : Node) (name : Name) → get a.nodes id.0 ≡ Some n → ((s : BTreeSet ℕ) → n.kind ≡ code.Instantiation s → ⊥) → SetsArgument (graph_of a) id name argument (Err (NodeIsNotAnInstantiation id)) (graph_of a)
 not_instantiation a id argument n name had not_one = sets_at a id argument n name (Err (NodeIsNotAnInstantiation id)) (graph_of a) had (λ g _. (refl, refl, no_instantiation n.kind not_one))
 
-pub not_instantiation_unset : (a : Inside) (id argument : NodeId) (n : Node) (name : Name) → get a.nodes id.0 ≡ Some n → ((s : BTreeSet ℕ) → n.kind ≡ code.Instantiation s → ⊥) → UnsetsArgument (graph_of a) id name argument (Err (NodeIsNotAnInstantiation id)) (graph_of a)
+pub not_instantiation_unset : (a : Fields) (id argument : NodeId) (n : Node) (name : Name) → get a.nodes id.0 ≡ Some n → ((s : BTreeSet ℕ) → n.kind ≡ code.Instantiation s → ⊥) → UnsetsArgument (graph_of a) id name argument (Err (NodeIsNotAnInstantiation id)) (graph_of a)
 not_instantiation_unset a id argument n name had not_one = unsets_at a id argument n name (Err (NodeIsNotAnInstantiation id)) (graph_of a) had (refl, refl, no_instantiation n.kind not_one)
 
 -- adding an edge that isn't there and removing it
@@ -83,14 +82,14 @@ taken_back s e absent = set.same_set edge_cmp_total edge_cmp-IsAntisymmetric (se
       at q true is = sym (ap (λ x. set.contains s x) (exact_edges q e is) ∙ absent)
       at q false is = refl
 
-item_at_node : (a : Inside) (argument : NodeId) (m : Node) → get a.nodes argument.0 ≡ Some m → (g : GraphNode) → node_at (graph_of a) argument ≡ Some g → m.item_kind ≡ g.item_kind
+item_at_node : (a : Fields) (argument : NodeId) (m : Node) → get a.nodes argument.0 ≡ Some m → (g : GraphNode) → node_at (graph_of a) argument ≡ Some g → m.item_kind ≡ g.item_kind
 item_at_node a argument m given g at = let e : Some (node_of m) ≡ Some g = sym (get-nodes_of a.nodes.slots argument.0 ∙ ap (option_map node_of) given) ∙ at in let f : node_of m ≡ g = cc in ap (λ x. x.item_kind) f
 
-pub held_node : (a : Inside) → Invariant a → (id : NodeId) (n : Node) → get a.nodes id.0 ≡ Some n → holds_type a.types (kind_type n.item_kind) ≡ true
+pub held_node : (a : Fields) → Invariant a → (id : NodeId) (n : Node) → get a.nodes id.0 ≡ Some n → holds_type a.types (kind_type n.item_kind) ≡ true
 held_node a v id n had = (v.sound).held id (node_of n) (get-nodes_of a.nodes.slots id.0 ∙ ap (option_map node_of) had)
 
 -- an instantiation node, of which the package is found
-module _ (a : Inside) (v : Invariant a) (id : NodeId) (n : Node) (s : BTreeSet ℕ) (name : Name) (had : get a.nodes id.0 ≡ Some n) (is : n.kind ≡ code.Instantiation s) where
+module _ (a : Fields) (v : Invariant a) (id : NodeId) (n : Node) (s : BTreeSet ℕ) (name : Name) (had : get a.nodes id.0 ≡ Some n) (is : n.kind ≡ code.Instantiation s) where
   owner_there : (o : PackageId) × (p : PackageParts) × (n.«package» ≡ Some o) × (package_at (graph_of a) o ≡ Some p)
   owner_there =
       let i = (v.sound).instances id (node_of n) (get-nodes_of a.nodes.slots id.0 ∙ ap (option_map node_of) had) (ap kind_of is) in
@@ -151,7 +150,7 @@ module _ (a : Inside) (v : Invariant a) (id : NodeId) (n : Node) (s : BTreeSet �
           (ap kind_of is, import_is (Some (position, kind)) found)
 
 -- a node that is no instantiation has no imports
-pub has_no_import : (a : Inside) (id : NodeId) (n : Node) (name : Name) (position : ℕ) (kind : ItemKind) → get a.nodes id.0 ≡ Some n → HasImport (graph_of a) id name position kind → ((s : BTreeSet ℕ) → n.kind ≡ code.Instantiation s → ⊥) → ⊥
+pub has_no_import : (a : Fields) (id : NodeId) (n : Node) (name : Name) (position : ℕ) (kind : ItemKind) → get a.nodes id.0 ≡ Some n → HasImport (graph_of a) id name position kind → ((s : BTreeSet ℕ) → n.kind ≡ code.Instantiation s → ⊥) → ⊥
 has_no_import a id n name position kind had import not_one =
     no_instantiation n.kind not_one (subst (λ x. IsSomeAnd x (λ m. (m.kind ≡ graph.instantiation) × (import_named (graph_of a) m name ≡ Some (position, kind)))) (get-nodes_of a.nodes.slots id.0 ∙ ap (option_map node_of) had) import).0
 
@@ -181,7 +180,7 @@ has_instantiation g id name position kind import = split (node_at g id) import w
   split (Some m) h = h.0
 
 -- an instantiation, with the import of a name
-module _ (a : Inside) (v : Invariant a) (id : NodeId) (n : Node) (s : BTreeSet ℕ) (name : Name) (position : ℕ) (kind : ItemKind) (had : get a.nodes id.0 ≡ Some n) (is : n.kind ≡ code.Instantiation s) (import : HasImport (graph_of a) id name position kind) where
+module _ (a : Fields) (v : Invariant a) (id : NodeId) (n : Node) (s : BTreeSet ℕ) (name : Name) (position : ℕ) (kind : ItemKind) (had : get a.nodes id.0 ≡ Some n) (is : n.kind ≡ code.Instantiation s) (import : HasImport (graph_of a) id name position kind) where
   named : import_named (graph_of a) (node_of n) name ≡ Some (position, kind)
   named = (subst (λ x. IsSomeAnd x (λ m. (m.kind ≡ graph.instantiation) × (import_named (graph_of a) m name ≡ Some (position, kind)))) (get-nodes_of a.nodes.slots id.0 ∙ ap (option_map node_of) had) import).1
 
@@ -220,21 +219,15 @@ module _ (a : Inside) (v : Invariant a) (id : NodeId) (n : Node) (s : BTreeSet �
   )
 
 -- what the fields mean where only the edges have changed
-pub same_graph : (a : Inside) (nodes : Slab Node) (edges others : set.FinSet edge_cmp) → ((q : ℕ) → option_map node_of (get nodes q) ≡ option_map node_of (get a.nodes q)) → nodes.vacant_key ≡ a.nodes.vacant_key → edges ≡ others
+pub same_graph : (a : Fields) (nodes : Slab Node) (edges others : set.FinSet edge_cmp) → ((q : ℕ) → option_map node_of (get nodes q) ≡ option_map node_of (get a.nodes q)) → nodes.vacant_key ≡ a.nodes.vacant_key → edges ≡ others
     → graph_of (record a { nodes = nodes; edges = edges }) ≡ record (graph_of a) { edges = others }
 same_graph a nodes edges others same next e = λ j. record (graph_of a) { nodes = nodes_of-same a.nodes.slots nodes.slots same j; next = next j; edges = e j }
 
-pub is_instantiation : (a : Inside) (id : NodeId) → IsInstantiation (graph_of a) id → IsInstantiationAt (get a.nodes id.0)
+pub is_instantiation : (a : Fields) (id : NodeId) → IsInstantiation (graph_of a) id → IsInstantiationAt (get a.nodes id.0)
 is_instantiation a id h = split (get a.nodes id.0) (subst (λ x. IsSomeAnd x (λ m. m.kind ≡ graph.instantiation)) (get-nodes_of a.nodes.slots id.0) h) where
   split : (o : Option Node) → IsSomeAnd (option_map node_of o) (λ m. m.kind ≡ graph.instantiation) → IsInstantiationAt o
   split None wrong = absurd wrong
   split (Some x) is = is
-
-pub instantiation_there : (a : Inside) (id : NodeId) → IsInstantiation (graph_of a) id → IsSome (get a.nodes id.0)
-instantiation_there a id h = split (get a.nodes id.0) (is_instantiation a id h) where
-  split : (o : Option Node) → IsInstantiationAt o → IsSome o
-  split None wrong = absurd wrong
-  split (Some x) is = refl
 
 pub absent_edge : (b : Bool) → (b ≡ true → ⊥) → b ≡ false
 absent_edge true h = absurd (h refl)
@@ -263,5 +256,5 @@ pub given_instantiation : (g : Graph) (id argument : NodeId) (position : ℕ) �
 given_instantiation g id argument position can = subst (λ o. IsSomeAnd o (λ n. n.kind ≡ graph.instantiation)) (sym can.here) can.joins.0
 
 -- its edge does not stand
-pub unset_edge : (a : Inside) (id argument : NodeId) (position : ℕ) → CanBeGiven (graph_of a) id position argument → set.contains a.edges (argument_edge argument id position) ≡ false
+pub unset_edge : (a : Fields) (id argument : NodeId) (position : ℕ) → CanBeGiven (graph_of a) id position argument → set.contains a.edges (argument_edge argument id position) ≡ false
 unset_edge a id argument position can = absent_edge (set.contains a.edges (argument_edge argument id position)) (can.unset argument)

@@ -11,7 +11,7 @@ use Rattle.wac_shapes.specs.Named.{named_at}
 use Rattle.wac_collection.specs.Collection.{item_at, holds_type, IsWellFormed}
 use Rattle.wac_shapes.specs.Kinds.{kind_type}
 use Rattle.wac_nodes.proofs.HeldLemmas.{exports_held}
-use Rattle.wac_composition.proofs.InvariantLemmas.{invariant_alias}
+use Rattle.wac_fields.proofs.InvariantLemmas.{invariant_alias}
 use Rattle.wac_shapes.specs.Words.{kind_text}
 use Rattle.wac_shapes.specs.declared.component.Interface.{Interface}
 use Rattle.wac_shapes.specs.declared.component.InterfaceId.{InterfaceId}
@@ -21,16 +21,15 @@ use Rattle.wac_nodes.specs.declared.node.Node.{Node}
 use Rattle.wac_edges.specs.declared.node.NodeId.{NodeId}
 use Rattle.wac_nodes.specs.declared.errors.AliasError.{AliasError}
 use Rattle.wac_nodes.specs.declared.errors.AliasError.TheVariants.{NodeIsNotAnInstance, InstanceMissingExport}
-use Rattle.wac_composition.specs.declared.graph.CompositionGraph.TheInside.{Inside}
 use Rattle.wac_edges.specs.Edge.{edge_cmp, alias_edge}
 use Rattle.wac_edges.specs.Edge.{node_number}
 use Rattle.wac_nodes.specs.Graph.{Graph, node_at, interface_of, exports_of}
 use Rattle.wac_nodes.specs.Nodes.{node_of, nodes_of, satisfied}
-use Rattle.wac_composition.specs.Inside.{graph_of, Invariant}
+use Rattle.wac_fields.specs.Fields.{Fields, graph_of, Invariant}
 use Rattle.wac_nodes.specs.Steps.{Aliases, AliasesOf, GivesAlias, alias_node, export_named}
 use Rattle.wac_nodes.proofs.NodeLemmas.{get-nodes_of, nodes_of-insert}
 
-aliases_at : (a : Inside) (id : NodeId) (n : Node) (name : Name) (result : Result NodeId AliasError) (new : Graph) → get a.nodes id.0 ≡ Some n → AliasesOf (graph_of a) id (node_of n) name result new → Aliases (graph_of a) id name result new
+aliases_at : (a : Fields) (id : NodeId) (n : Node) (name : Name) (result : Result NodeId AliasError) (new : Graph) → get a.nodes id.0 ≡ Some n → AliasesOf (graph_of a) id (node_of n) name result new → Aliases (graph_of a) id name result new
 aliases_at a id n name result new had h =
     let at : node_at (graph_of a) id ≡ Some (node_of n) = get-nodes_of a.nodes.slots id.0 ∙ ap (option_map node_of) had in
     subst (λ o. IfSome o (λ m. AliasesOf (graph_of a) id m name result new)) (sym at) h
@@ -43,54 +42,54 @@ no_interface (item.Module m) h = refl
 no_interface (item.Value v) h = refl
 no_interface (item.Instance i) h = absurd (h i refl)
 
-pub not_instance : (a : Inside) (id : NodeId) (n : Node) (name : Name) (text : Bor (List ℕ)) → get a.nodes id.0 ≡ Some n → ((i : InterfaceId) → n.item_kind ≡ item.Instance i → ⊥) → text.now ≡ kind_text n.item_kind → Aliases (graph_of a) id name (Err (NodeIsNotAnInstance id text)) (graph_of a)
+pub not_instance : (a : Fields) (id : NodeId) (n : Node) (name : Name) (text : Bor (List ℕ)) → get a.nodes id.0 ≡ Some n → ((i : InterfaceId) → n.item_kind ≡ item.Instance i → ⊥) → text.now ≡ kind_text n.item_kind → Aliases (graph_of a) id name (Err (NodeIsNotAnInstance id text)) (graph_of a)
 not_instance a id n name text had other said = aliases_at a id n name (Err (NodeIsNotAnInstance id text)) (graph_of a) had (refl, refl, said, no_interface n.item_kind other)
 
 -- the exports of an instance are those of its interface
-pub exports_are : (a : Inside) (n : Node) (i : InterfaceId) (it : Interface) → n.item_kind ≡ item.Instance i → item_at (a.types).interfaces i.0 ≡ Some it → exports_of (graph_of a) (node_of n) ≡ it.exports
+pub exports_are : (a : Fields) (n : Node) (i : InterfaceId) (it : Interface) → n.item_kind ≡ item.Instance i → item_at (a.types).interfaces i.0 ≡ Some it → exports_of (graph_of a) (node_of n) ≡ it.exports
 exports_are a n i it is at = by_kind n.item_kind is where
   by_kind : (k : ItemKind) → k ≡ item.Instance i → exports_of (graph_of a) (record (node_of n) { item_kind = k }) ≡ it.exports
   by_kind k same = rw (same, at) refl
 
-export_is : (a : Inside) (n : Node) (i : InterfaceId) (it : Interface) (name : Name) (o : Option (ℕ × ItemKind)) → n.item_kind ≡ item.Instance i → item_at (a.types).interfaces i.0 ≡ Some it → o ≡ named_at 0 name it.exports → export_named (graph_of a) (node_of n) name ≡ o
+export_is : (a : Fields) (n : Node) (i : InterfaceId) (it : Interface) (name : Name) (o : Option (ℕ × ItemKind)) → n.item_kind ≡ item.Instance i → item_at (a.types).interfaces i.0 ≡ Some it → o ≡ named_at 0 name it.exports → export_named (graph_of a) (node_of n) name ≡ o
 export_is a n i it name o is at found = ap (named_at 0 name) (exports_are a n i it is at) ∙ sym found
 
 is_instance : (n : Node) (i : InterfaceId) → n.item_kind ≡ item.Instance i → IsSome (interface_of n.item_kind)
 is_instance n i is = ap (λ k. is_some (interface_of k)) is
 
-pub missing : (a : Inside) (id : NodeId) (n : Node) (i : InterfaceId) (it : Interface) (name : Name) (text : String Global) → get a.nodes id.0 ≡ Some n → n.item_kind ≡ item.Instance i → item_at (a.types).interfaces i.0 ≡ Some it → None ≡ named_at 0 name it.exports → string_bytes text ≡ name
+pub missing : (a : Fields) (id : NodeId) (n : Node) (i : InterfaceId) (it : Interface) (name : Name) (text : String Global) → get a.nodes id.0 ≡ Some n → n.item_kind ≡ item.Instance i → item_at (a.types).interfaces i.0 ≡ Some it → None ≡ named_at 0 name it.exports → string_bytes text ≡ name
     → Aliases (graph_of a) id name (Err (InstanceMissingExport id text)) (graph_of a)
 missing a id n i it name text had is at none written =
     aliases_at a id n name (Err (InstanceMissingExport id text)) (graph_of a) had (refl, refl, written, is_instance n i is, export_is a n i it name None is at none)
 
-pub already : (a : Inside) (id : NodeId) (n : Node) (i : InterfaceId) (it : Interface) (position alias : ℕ) (kind : ItemKind) (name : Name) → get a.nodes id.0 ≡ Some n → n.item_kind ≡ item.Instance i → item_at (a.types).interfaces i.0 ≡ Some it → Some (position, kind) ≡ named_at 0 name it.exports
+pub already : (a : Fields) (id : NodeId) (n : Node) (i : InterfaceId) (it : Interface) (position alias : ℕ) (kind : ItemKind) (name : Name) → get a.nodes id.0 ≡ Some n → n.item_kind ≡ item.Instance i → item_at (a.types).interfaces i.0 ≡ Some it → Some (position, kind) ≡ named_at 0 name it.exports
     → set.contains a.edges (alias_edge id (node_number alias) position) ≡ true → Aliases (graph_of a) id name (Ok (record { 0 = alias })) (graph_of a)
 already a id n i it position alias kind name had is at found stands =
     let there : AliasesOf (graph_of a) id (node_of n) name (Ok (record { 0 = alias })) (graph_of a) = rw (export_is a n i it name (Some (position, kind)) is at found) (is_instance n i is, inl (stands, refl)) in
     aliases_at a id n name (Ok (record { 0 = alias })) (graph_of a) had there
 
 -- the alias that stands is a node
-pub alias_stands : (a : Inside) → Invariant a → (instance alias position : ℕ) → set.contains a.edges (alias_edge (node_number instance) (node_number alias) position) ≡ true → IsSome (node_at (graph_of a) (record { 0 = alias }))
+pub alias_stands : (a : Fields) → Invariant a → (instance alias position : ℕ) → set.contains a.edges (alias_edge (node_number instance) (node_number alias) position) ≡ true → IsSome (node_at (graph_of a) (record { 0 = alias }))
 alias_stands a v instance alias position stands = ((v.sound).ends (alias_edge (node_number instance) (node_number alias) position) stands).1
 
 -- and so is a new one
-pub alias_made : (a : Inside) (nodes : Slab Node) (edges : set.FinSet edge_cmp) (number : ℕ) (node : Node) → Updates a.nodes nodes number (Some node) → IsSome (node_at (graph_of (record a { nodes = nodes; edges = edges })) (record { 0 = number }))
+pub alias_made : (a : Fields) (nodes : Slab Node) (edges : set.FinSet edge_cmp) (number : ℕ) (node : Node) → Updates a.nodes nodes number (Some node) → IsSome (node_at (graph_of (record a { nodes = nodes; edges = edges })) (record { 0 = number }))
 alias_made a nodes edges number node u = ap is_some (get-nodes_of nodes.slots number ∙ ap (option_map node_of) u.changed)
 
 pub placed_updates : (reserved nodes : Slab Node) (number placed : ℕ) (node : Node) → number ≡ reserved.vacant_key → placed ≡ reserved.vacant_key → Updates reserved nodes placed (Some node) → Updates reserved nodes number (Some node)
 placed_updates reserved nodes number placed node next here u = subst (λ k. Updates reserved nodes k (Some node)) (here ∙ sym next) u
 
 -- a slab that has grown has what it had
-pub before_reserve : (a : Inside) (reserved nodes : Slab Node) (number placed : ℕ) (node : Node) → reserved ≡ record a.nodes { capacity = reserved.capacity } → number ≡ reserved.vacant_key → placed ≡ reserved.vacant_key → Updates reserved nodes placed (Some node) → Updates a.nodes nodes number (Some node)
+pub before_reserve : (a : Fields) (reserved nodes : Slab Node) (number placed : ℕ) (node : Node) → reserved ≡ record a.nodes { capacity = reserved.capacity } → number ≡ reserved.vacant_key → placed ≡ reserved.vacant_key → Updates reserved nodes placed (Some node) → Updates a.nodes nodes number (Some node)
 before_reserve a reserved nodes number placed node same next here u =
     let slots : reserved.slots ≡ a.nodes.slots = ap (λ s. s.slots) same in
     let v = placed_updates reserved nodes number placed node next here u in
     record { changed = v.changed; others = λ q other. v.others q other ∙ ap (λ ss. get_or ss q None) slots }
 
-pub vacant_before : (a : Inside) (reserved : Slab Node) (number : ℕ) → reserved ≡ record a.nodes { capacity = reserved.capacity } → get reserved number ≡ None → get a.nodes number ≡ None
+pub vacant_before : (a : Fields) (reserved : Slab Node) (number : ℕ) → reserved ≡ record a.nodes { capacity = reserved.capacity } → get reserved number ≡ None → get a.nodes number ≡ None
 vacant_before a reserved number same vacant = ap (λ ss. get_or ss number None) (sym (ap (λ s. s.slots) same)) ∙ vacant
 
-pub aliased : (a : Inside) (id : NodeId) (n : Node) (i : InterfaceId) (it : Interface) (position number : ℕ) (kind : ItemKind) (name : Name) (nodes : Slab Node) (edges : set.FinSet edge_cmp) (node : Node)
+pub aliased : (a : Fields) (id : NodeId) (n : Node) (i : InterfaceId) (it : Interface) (position number : ℕ) (kind : ItemKind) (name : Name) (nodes : Slab Node) (edges : set.FinSet edge_cmp) (node : Node)
     → get a.nodes id.0 ≡ Some n → n.item_kind ≡ item.Instance i → item_at (a.types).interfaces i.0 ≡ Some it → Some (position, kind) ≡ named_at 0 name it.exports
     → ((t : NodeId) → set.contains a.edges (alias_edge id t position) ≡ false)
     → number ≡ a.nodes.vacant_key → get a.nodes number ≡ None → Updates a.nodes nodes number (Some node) → edges ≡ set.insert a.edges (alias_edge id (node_number number) position) → node_of node ≡ alias_node (node_of n) kind
@@ -121,7 +120,7 @@ found_entry name k position kind (e ∷ es) h = split (same_name name e.0) h (fo
   split false is more = let (x, j, at, there, same) = more is in (x, suc j, omega (arith, at), there, same)
 
 -- what the fields keep when an alias is made
-pub invariant_aliased : (a : Inside) → Invariant a → IsWellFormed a.types → (id : NodeId) (n : Node) (i : InterfaceId) (it : Interface) (position number : ℕ) (kind : ItemKind) (name : Name) (nodes : Slab Node) (edges : set.FinSet edge_cmp) (node : Node)
+pub invariant_aliased : (a : Fields) → Invariant a → IsWellFormed a.types → (id : NodeId) (n : Node) (i : InterfaceId) (it : Interface) (position number : ℕ) (kind : ItemKind) (name : Name) (nodes : Slab Node) (edges : set.FinSet edge_cmp) (node : Node)
     → get a.nodes id.0 ≡ Some n → n.item_kind ≡ item.Instance i → item_at (a.types).interfaces i.0 ≡ Some it → Some (position, kind) ≡ named_at 0 name it.exports
     → ((t : NodeId) → set.contains a.edges (alias_edge id t position) ≡ false)
     → get a.nodes number ≡ None → Updates a.nodes nodes number (Some node) → ((j : ℕ) → satisfied node.kind j ≡ false) → edges ≡ set.insert a.edges (alias_edge id (node_number number) position) → node_of node ≡ alias_node (node_of n) kind
@@ -136,7 +135,7 @@ invariant_aliased a v w id n i it position number kind name nodes edges node had
       false_is_not_true h = cc
 
 -- the interface of an instance is held
-pub interface_there : (a : Inside) → Invariant a → (id : NodeId) (n : Node) (i : InterfaceId) → get a.nodes id.0 ≡ Some n → n.item_kind ≡ item.Instance i → i.0 < length (a.types).interfaces
+pub interface_there : (a : Fields) → Invariant a → (id : NodeId) (n : Node) (i : InterfaceId) → get a.nodes id.0 ≡ Some n → n.item_kind ≡ item.Instance i → i.0 < length (a.types).interfaces
 interface_there a v id n i had is =
     let h : holds_type a.types (kind_type (item.Instance i)) ≡ true = ap (λ k. holds_type a.types (kind_type k)) (sym is) ∙ (v.sound).held id (node_of n) (get-nodes_of a.nodes.slots id.0 ∙ ap (option_map node_of) had) in
     lt_of i.0 (length (a.types).interfaces) h where

@@ -13,17 +13,16 @@ use Rattle.wac_shapes.specs.declared.component.InterfaceId.{InterfaceId}
 use Rattle.wac_nodes.specs.declared.node.Node.{Node}
 use Rattle.wac_nodes.specs.declared.packages.PackageId.{PackageId}
 use Rattle.wac_nodes.specs.declared.packages.Slot.{Slot}
-use Rattle.wac_composition.specs.declared.graph.CompositionGraph.TheInside.{Inside}
 use Rattle.wac_nodes.specs.Graph as graph
-use Rattle.wac_nodes.specs.Graph.{Graph, GraphNode, node_at, package_at, package_in, exports_of, IsRegistered}
+use Rattle.wac_nodes.specs.Graph.{GraphNode, package_at, IsRegistered}
 use Rattle.wac_nodes.specs.Nodes.{node_of}
-use Rattle.wac_composition.specs.Inside.{graph_of, Invariant}
+use Rattle.wac_fields.specs.Fields.{Fields, graph_of, Invariant}
 use Rattle.wac_removing.specs.Slots.{key_of, vacant_of}
 use Rattle.wac_nodes.specs.Steps.{AddsNode, Instantiates, instance_node, Registers, TakesSlot}
 use Rattle.wac_nodes.proofs.NodeLemmas.{get-nodes_of, nodes_of-insert}
 
 -- a slab with one node more is a graph with one node more
-pub adds_node : (a : Inside) (nodes : Slab Node) (n : ℕ) (node : Node) → n ≡ a.nodes.vacant_key → get a.nodes n ≡ None → Updates a.nodes nodes n (Some node)
+pub adds_node : (a : Fields) (nodes : Slab Node) (n : ℕ) (node : Node) → n ≡ a.nodes.vacant_key → get a.nodes n ≡ None → Updates a.nodes nodes n (Some node)
     → AddsNode (graph_of a) (record { 0 = n }) (node_of node) (graph_of (record a { nodes = nodes }))
 adds_node a nodes n node next vacant u = (
   next,
@@ -37,7 +36,7 @@ instance_with id i = record { kind = graph.instantiation; item_kind = Instance i
 pub instance_shape : (id : PackageId) (i : InterfaceId) (p : PackageParts) → i ≡ p.instance_type → instance_with id i ≡ instance_node id p
 instance_shape id i p is = ap (instance_with id) is
 
-pub instantiated : (a : Inside) (nodes : Slab Node) (n : ℕ) (id : PackageId) (p : PackageParts) (node : Node) → node_of node ≡ instance_node id p → Some p ≡ package_at (graph_of a) id
+pub instantiated : (a : Fields) (nodes : Slab Node) (n : ℕ) (id : PackageId) (p : PackageParts) (node : Node) → node_of node ≡ instance_node id p → Some p ≡ package_at (graph_of a) id
     → n ≡ a.nodes.vacant_key → get a.nodes n ≡ None → Updates a.nodes nodes n (Some node)
     → Instantiates (graph_of a) id (Ok (record { 0 = n })) (graph_of (record a { nodes = nodes }))
 instantiated a nodes n id p node shape at next vacant u =
@@ -45,7 +44,7 @@ instantiated a nodes n id p node shape at next vacant u =
     (subst (λ x. AddsNode (graph_of a) (record { 0 = n }) x (graph_of (record a { nodes = nodes }))) shape (adds_node a nodes n node next vacant u))
 
 -- a package of a key that was not there has a slot
-pub registered : (a : Inside) (v : Invariant a) (p : PackageParts) (names : HashMap Key PackageId (BuildHasherDefault FoldHasher)) (slots : Vec Slot Global) (vacant : Vec ℕ Global) (id : PackageId) → lookup (same_key (key_of p)) a.package_map.entries ≡ None
+pub registered : (a : Fields) (v : Invariant a) (p : PackageParts) (names : HashMap Key PackageId (BuildHasherDefault FoldHasher)) (slots : Vec Slot Global) (vacant : Vec ℕ Global) (id : PackageId) → lookup (same_key (key_of p)) a.package_map.entries ≡ None
     → TakesSlot (graph_of a) p id (record (graph_of a) { slots = slots.items; vacant = vacant_of vacant }) → Registers (graph_of a) p (Ok id) (graph_of (record a { package_map = names; slots = slots; vacant = vacant }))
 registered a v p names slots vacant id absent taken = (
   λ other (q, at, same). none_some (lookup (same_key (key_of p)) a.package_map.entries) other absent (ap (λ (k : Key). lookup (same_key k) a.package_map.entries) (sym same) ∙ v.keyed.keyed other q at),
@@ -54,16 +53,16 @@ registered a v p names slots vacant id absent taken = (
   none_some : (o : Option PackageId) (x : PackageId) → o ≡ None → o ≡ Some x → ⊥
   none_some o x p q = cc
 
-pub there_already : (a : Inside) (v : Invariant a) (key : Key) (id : PackageId) → Some id ≡ lookup (same_key key) a.package_map.entries → (other : PackageId) × IsRegistered (graph_of a) key other
+pub there_already : (a : Fields) (v : Invariant a) (key : Key) (id : PackageId) → Some id ≡ lookup (same_key key) a.package_map.entries → (other : PackageId) × IsRegistered (graph_of a) key other
 there_already a v key id at = let (p, there, same) = v.keyed.found key id (sym at) in (id, (p, there, sym (same_key-true key (key_of p) same)))
 
 -- what is found under a key is what is registered under it
-pub found_registered : (a : Inside) (v : Invariant a) (key : Key) (o : Option PackageId) → o ≡ lookup (same_key key) a.package_map.entries → (id : PackageId) → (o ≡ Some id) ↔ IsRegistered (graph_of a) key id
+pub found_registered : (a : Fields) (v : Invariant a) (key : Key) (o : Option PackageId) → o ≡ lookup (same_key key) a.package_map.entries → (id : PackageId) → (o ≡ Some id) ↔ IsRegistered (graph_of a) key id
 found_registered a v key o at id = (
   λ e. let (p, there, same) = v.keyed.found key id (sym at ∙ e) in (p, there, sym (same_key-true key (key_of p) same)),
   λ (p, there, same). at ∙ ap (λ (k : Key). lookup (same_key k) a.package_map.entries) (sym same) ∙ v.keyed.keyed id p there,
 )
 
 -- and is there
-pub found_package : (a : Inside) (v : Invariant a) (key : Key) (id : PackageId) → Some id ≡ lookup (same_key key) a.package_map.entries → IsSome (package_at (graph_of a) id)
+pub found_package : (a : Fields) (v : Invariant a) (key : Key) (id : PackageId) → Some id ≡ lookup (same_key key) a.package_map.entries → IsSome (package_at (graph_of a) id)
 found_package a v key id at = let (p, there, same) = v.keyed.found key id (sym at) in subst (λ o. IsSome o) (sym there) refl

@@ -1,0 +1,355 @@
+// What a composition imports: import nodes, and arguments that are not set.
+use super::bench::Call::{Export, Import, Instantiate, Name, Register, Set, Unset};
+use super::bench::Item::{Empty, Exporting, Plain, Using};
+use super::bench::{Bench, Call};
+use crate::compositions::{empty_instance, function};
+use std::alloc::Global;
+use std::process::Abort;
+use std::test::Fail;
+use wac_graph::types::{
+    DefinedType, Enum, FuncType, Interface, ItemKind, PrimitiveType, Resource, Type, ValueType,
+};
+use wac_graph::{CompositionGraph, EncodeError, EncodeOptions};
+
+const PREAMBLE: &str = "0061736d0d000100";
+
+// A package's component, which has no items.
+const COMPONENT: &str = "04080061736d0d000100";
+
+// A function that is imported, exported and named.
+const PASSED: &[(Call<'static>, &str)] = &[
+    (Import("x", Plain), "0"),
+    (Export(0, "y"), ""),
+    (Name(0, "n"), ""),
+];
+
+// An instantiation that is given an import node, and an argument that is not set; what is not set is imported first.
+const GIVEN: &[(Call<'static>, &str)] = &[
+    (Import("x", Plain), "0"),
+    (
+        Register("my:package", &[("b", Plain), ("c", Plain)], &[]),
+        "",
+    ),
+    (Instantiate(0), "1"),
+    (Set(1, "b", 0), ""),
+];
+
+// Two instances of one package ask for one import; an argument of the second was taken away.
+const TWICE: &[(Call<'static>, &str)] = &[
+    (Register("my:package", &[("b", Plain)], &[]), ""),
+    (Register("my:giver", &[], &[]), ""),
+    (Import("x", Plain), "0"),
+    (Instantiate(0), "1"),
+    (Instantiate(0), "2"),
+    (Set(2, "b", 0), ""),
+    (Unset(2, "b", 0), ""),
+];
+
+// Two versions of one interface, and a third of another track.
+const VERSIONS: &[(Call<'static>, &str)] = &[
+    (
+        Register("my:first", &[("a:b/c@0.2.0", Exporting("f"))], &[]),
+        "",
+    ),
+    (
+        Register("my:second", &[("a:b/c@0.2.3", Exporting("g"))], &[]),
+        "",
+    ),
+    (Instantiate(0), "0"),
+    (Instantiate(1), "1"),
+];
+
+const TRACK: &[(Call<'static>, &str)] = &[
+    (
+        Register("my:third", &[("a:b/c@0.3.0", Exporting("h"))], &[]),
+        "",
+    ),
+    (Instantiate(2), "2"),
+];
+
+// Import nodes that are two versions of one interface have one index, which the lower node names.
+const NAMED: &[(Call<'static>, &str)] = &[
+    (Import("a:b/c@0.2.0", Empty), "0"),
+    (Import("a:b/c@0.2.3", Empty), "1"),
+    (Name(1, "q"), ""),
+    (Name(0, "p"), ""),
+];
+
+// An interface that lists a type that it uses.
+const USING: &[(Call<'static>, &str)] = &[(Import("n:p/i", Using("n:p/i", "t", "n:p/j")), "0")];
+
+// After the calls `encode` answers the preamble and these sections.
+fn assert_sections(
+    rt: &(impl Abort + AllocGlobal),
+    calls: &[(Call<'_>, &str)],
+    want: &[&str],
+) -> Result<(), Fail> {
+    let mut bench = Bench::new(rt.alloc());
+    bench.calls(rt, calls)?;
+    let answer = bench.encoded(EncodeOptions::default())?;
+    assert_eq!(rt; answer.as_str(), joined(rt.alloc(), want)?.as_str());
+    Ok(())
+}
+
+// The preamble and these sections.
+fn joined(alloc: Global, sections: &[&str]) -> Result<String, Fail> {
+    let mut text = String::from_str(alloc, PREAMBLE)?;
+    for section in sections {
+        text.push_str(section)?;
+    }
+    Ok(text)
+}
+
+// What `encode` answers for a graph, in hexadecimal or as the error's text; asked once more where memory was refused.
+fn encoded(alloc: Global, graph: &CompositionGraph) -> Result<String, Fail> {
+    let answer = match graph.encode(EncodeOptions::default()) {
+        Err(EncodeError::OutOfMemory) => graph.encode(EncodeOptions::default()),
+        answer => answer,
+    };
+    match answer {
+        Ok(bytes) => Ok(hex::encode(alloc, &bytes)?),
+        Err(error) => Ok(format!(in alloc; "{error}")?),
+    }
+}
+
+// The graph asks for an item by a name.
+fn import(
+    rt: &impl Abort,
+    graph: &mut CompositionGraph,
+    name: &str,
+    kind: ItemKind,
+) -> Result<(), Fail> {
+    let held = graph.types().contains(kind.ty());
+    assert!(rt; held);
+    graph.import(name, kind)?;
+    Ok(())
+}
+
+// An enum of one case.
+fn cases(alloc: Global, graph: &mut CompositionGraph, case: &str) -> Result<ValueType, Fail> {
+    let cases = Enum::new(alloc, &[case])?;
+    Ok(ValueType::Defined(graph.add_defined_type(DefinedType::Enum(cases))?))
+}
+
+// A function with a parameter `x` of this type.
+fn taking(alloc: Global, graph: &mut CompositionGraph, ty: ValueType) -> Result<ItemKind, Fail> {
+    let function = FuncType::new(alloc, &[("x", ty)], None, false)?;
+    Ok(ItemKind::Func(graph.add_func_type(function)?))
+}
+
+#[test]
+fn a_function_is_passed_on(rt: HostRuntime) -> Result<(), Fail> {
+    assert_sections(
+        &rt,
+        PASSED,
+        &[
+            "07050140000100",
+            "0a06010001780100",
+            "0b0701000179010000",
+            "00160e636f6d706f6e656e742d6e616d650105010100016e",
+        ],
+    )
+}
+
+#[test]
+fn an_argument_that_is_not_set_is_imported(rt: HostRuntime) -> Result<(), Fail> {
+    assert_sections(
+        &rt,
+        GIVEN,
+        &[
+            "07050140000100",
+            "0a06010001630100",
+            "07050140000100",
+            "0a06010001780101",
+            COMPONENT,
+            "050c010000020162010101630100",
+        ],
+    )
+}
+
+#[test]
+fn two_instances_share_an_import(rt: HostRuntime) -> Result<(), Fail> {
+    assert_sections(
+        &rt,
+        TWICE,
+        &[
+            "07050140000100",
+            "0a06010001620100",
+            "07050140000100",
+            "0a06010001780101",
+            COMPONENT,
+            "050f020000010162010000000101620100",
+        ],
+    )
+}
+
+#[test]
+fn versions_of_an_interface_are_one_import(rt: HostRuntime) -> Result<(), Fail> {
+    let mut bench = Bench::new(rt.alloc());
+    bench.calls(&rt, VERSIONS)?;
+    let both =
+        "0719014204014000010004000166010001400001000400016701010a1001000b613a622f6340302e322e330500";
+    let instances = [
+        COMPONENT,
+        "0512010000010b613a622f6340302e322e300500",
+        COMPONENT,
+        "0512010001010b613a622f6340302e322e330500",
+    ];
+    let answer = bench.encoded(EncodeOptions::default())?;
+    let want = joined(
+        rt.alloc(),
+        &[both, instances[0], instances[1], instances[2], instances[3]],
+    )?;
+    assert_eq!(rt; answer.as_str(), want.as_str());
+    bench.calls(&rt, TRACK)?;
+    let other = "070e01420201400001000400016801000a1001000b613a622f6340302e332e300501";
+    let answer = bench.encoded(EncodeOptions::default())?;
+    let want = joined(
+        rt.alloc(),
+        &[
+            both,
+            other,
+            instances[0],
+            instances[1],
+            instances[2],
+            instances[3],
+            COMPONENT,
+            "0512010002010b613a622f6340302e332e300501",
+        ],
+    )?;
+    assert_eq!(rt; answer.as_str(), want.as_str());
+    Ok(())
+}
+
+#[test]
+fn the_lower_node_names_an_import(rt: HostRuntime) -> Result<(), Fail> {
+    assert_sections(
+        &rt,
+        NAMED,
+        &[
+            "0703014200",
+            "0a1001000b613a622f6340302e322e330500",
+            "00160e636f6d706f6e656e742d6e616d6501050501000170",
+        ],
+    )
+}
+
+// The interface that is used is imported before; the enum is written in each of both, which list it.
+#[test]
+fn an_interface_lists_what_it_uses(rt: HostRuntime) -> Result<(), Fail> {
+    assert_sections(
+        &rt,
+        USING,
+        &[
+            "070f014202016d01016104000174030000",
+            "0a0a0100056e3a702f6a0500",
+            "070f014202016d01016104000174030000",
+            "0a0a0100056e3a702f690501",
+        ],
+    )
+}
+
+#[test]
+fn an_interface_is_imported(rt: HostRuntime) -> Result<(), Fail> {
+    let alloc = rt.alloc();
+    let mut graph = CompositionGraph::new(alloc);
+    let cases = cases(alloc, &mut graph, "a")?;
+    let item = ItemKind::TypeItem(Type::Value(cases));
+    let function = taking(alloc, &mut graph, cases)?;
+    let interface = Interface::new(alloc, Some("n:p/i"), &[("t", item), ("f", function)])?;
+    let interface = ItemKind::Instance(graph.add_interface(interface)?);
+    import(&rt, &mut graph, "n:p/i", interface)?;
+    let want = joined(
+        alloc,
+        &[
+            "071d014204016d010161040001740300000140010178010100040001660102",
+            "0a0a0100056e3a702f690500",
+        ],
+    )?;
+    assert_eq!(rt; encoded(alloc, &graph)?.as_str(), want.as_str());
+    Ok(())
+}
+
+// The function has the type by the index under which it is imported.
+#[test]
+fn a_type_is_imported_before_a_function_over_it(rt: HostRuntime) -> Result<(), Fail> {
+    let alloc = rt.alloc();
+    let mut graph = CompositionGraph::new(alloc);
+    let cases = cases(alloc, &mut graph, "a")?;
+    import(&rt, &mut graph, "t", ItemKind::TypeItem(Type::Value(cases)))?;
+    let function = taking(alloc, &mut graph, cases)?;
+    import(&rt, &mut graph, "f", function)?;
+    let want = joined(
+        alloc,
+        &[
+            "0705016d010161",
+            "0a0701000174030000",
+            "07080140010178010100",
+            "0a06010001660102",
+        ],
+    )?;
+    assert_eq!(rt; encoded(alloc, &graph)?.as_str(), want.as_str());
+    Ok(())
+}
+
+// Tuples of which each holds the one before twice, forty deep: each is written once.
+#[test]
+fn a_shared_type_is_written_once(rt: HostRuntime) -> Result<(), Fail> {
+    let alloc = rt.alloc();
+    let mut graph = CompositionGraph::new(alloc);
+    let mut ty = ValueType::Primitive(PrimitiveType::Bool);
+    for _ in 0..40 {
+        let pair = DefinedType::tuple(alloc, &[ty, ty])?;
+        ty = ValueType::Defined(graph.add_defined_type(pair)?);
+    }
+    let function = taking(alloc, &mut graph, ty)?;
+    import(&rt, &mut graph, "f", function)?;
+    assert_eq!(rt; encoded(alloc, &graph)?.len(), 2 * 187);
+    Ok(())
+}
+
+// Names of imports clash where their labels differ in case alone.
+#[test]
+fn names_of_imports_that_clash(rt: HostRuntime) -> Result<(), Fail> {
+    let alloc = rt.alloc();
+    let rows = [("a", "A", "Clash `a`, `A`"), ("a", "[constructor]a", "")];
+    for (first, second, want) in rows {
+        let mut bench = Bench::new(alloc);
+        bench.calls(&rt, &[(Import(first, Plain), "0")])?;
+        bench.calls(&rt, &[(Import(second, Plain), "1")])?;
+        assert_eq!(rt; bench.refused()?.as_str(), want, "{second}");
+        let unchecked = EncodeOptions {
+            validate: false,
+            ..EncodeOptions::default()
+        };
+        assert!(rt;
+            bench.encoded(unchecked)?.as_str().starts_with(PREAMBLE),
+            "{second}"
+        );
+    }
+    Ok(())
+}
+
+// Resources, and instances in instances, are not imported yet.
+#[test]
+fn items_that_are_not_imported_yet(rt: HostRuntime) -> Result<(), Fail> {
+    let alloc = rt.alloc();
+    let want = "the graph holds something that is not written yet";
+    let mut graph = CompositionGraph::new(alloc);
+    let resource = graph.add_resource(Resource::new(alloc, "r")?)?;
+    import(
+        &rt,
+        &mut graph,
+        "r",
+        ItemKind::TypeItem(Type::Resource(resource)),
+    )?;
+    assert_eq!(rt; encoded(alloc, &graph)?.as_str(), want);
+    let mut graph = CompositionGraph::new(alloc);
+    let inner = empty_instance(alloc, &mut graph)?;
+    let other = function(alloc, &mut graph)?;
+    let outer = Interface::new(alloc, None, &[("i", inner), ("f", other)])?;
+    let outer = ItemKind::Instance(graph.add_interface(outer)?);
+    import(&rt, &mut graph, "o", outer)?;
+    assert_eq!(rt; encoded(alloc, &graph)?.as_str(), want);
+    Ok(())
+}

@@ -1,0 +1,10 @@
+pub mod InvariantLemmas
+pub mod StepLemmas
+pub mod AliasLemmas
+pub mod ImportLemmas
+pub mod ExportLemmas
+pub mod ArgumentLemmas
+pub mod TakingLemmas
+pub mod CloneLemmas
+pub mod RemovedLemmas
+pub mod UnregisteredLemmas

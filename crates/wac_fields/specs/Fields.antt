@@ -1,0 +1,64 @@
+-- What a graph keeps in its fields, what they mean, and what is always true of them.
+use Rattle.std.specs.Prelude.{◌≡◌, ◌≤◌, ℕ, true, length, Some, String, Vec, vec_capacity}
+use Rattle.std.specs.Global.{Global}
+use Rattle.std.specs.FinSet as set
+use Rattle.std.specs.HashMap.{HashMap}
+use Rattle.std.specs.declared.hash.FoldHasher.{FoldHasher}
+use Rattle.std.specs.declared.hash.BuildHasherDefault.{BuildHasherDefault}
+use Rattle.slab.specs.Slab.{Slab, get}
+use Rattle.wac_shapes.specs.Name.{Name, find_name}
+use Rattle.wac_collection.specs.Collection.{Collection}
+use Rattle.wac_collection.specs.Package.{Key}
+use Rattle.wac_edges.specs.declared.node.NodeId.{NodeId}
+use Rattle.wac_edges.specs.Edge.{argument_edge}
+use Rattle.wac_edges.specs.Order.{Edges}
+use Rattle.wac_nodes.specs.declared.node.Node.{Node}
+use Rattle.wac_nodes.specs.declared.packages.PackageId.{PackageId}
+use Rattle.wac_nodes.specs.declared.packages.Slot.{Slot}
+use Rattle.wac_nodes.specs.Graph.{Graph, IsImportOf}
+use Rattle.wac_nodes.specs.Nodes.{nodes_of, names_of, satisfied_at}
+use Rattle.wac_nodes.specs.Sound.{IsSound}
+use Rattle.wac_removing.specs.declared.lost.Lost.{Lost}
+use Rattle.wac_removing.specs.Lost.{AreTold}
+use Rattle.wac_removing.specs.Slots.{AreKeyed, vacant_of}
+
+-- nodes under names
+abbrev pub Names : Type 0
+Names = HashMap (String Global) NodeId (BuildHasherDefault FoldHasher)
+
+pub record Fields : Type 0 where
+  pub types : Collection
+  pub nodes : Slab Node
+  pub edges : Edges
+  pub imports : Names
+  pub exports : Names
+  pub package_map : HashMap Key PackageId (BuildHasherDefault FoldHasher)
+  pub slots : Vec Slot Global
+  pub vacant : Vec ℕ Global
+  pub lost : Lost
+
+abbrev pub graph_of : Fields → Graph
+graph_of a = record {
+  types = a.types;
+  nodes = nodes_of a.nodes.slots;
+  next = a.nodes.vacant_key;
+  edges = a.edges;
+  exports = names_of a.exports.entries;
+  slots = a.slots.items;
+  vacant = vacant_of a.vacant;
+}
+
+-- what is always true
+pub record Invariant (a : Fields) : Type 0 where
+  pub sound : IsSound (graph_of a)
+  -- a position with an argument edge is satisfied, and no other
+  pub marked : (source target : NodeId) (position : ℕ) → set.contains a.edges (argument_edge source target position) ≡ true → satisfied_at (get a.nodes target.0) position ≡ true
+  pub edged : (target : NodeId) (position : ℕ) → satisfied_at (get a.nodes target.0) position ≡ true → (source : NodeId) × (set.contains a.edges (argument_edge source target position) ≡ true)
+  -- packages are found under their keys, and each slot has room to be noted as vacant
+  pub keyed : AreKeyed a.slots.items a.package_map.entries
+  pub room : length a.slots.items ≤ vec_capacity a.vacant
+  -- imports are found under their names, and nothing else is
+  pub named : (name : Name) (n : NodeId) → IsImportOf (graph_of a) name n → find_name (names_of a.imports.entries) name ≡ Some n
+  pub importing : (name : Name) (n : NodeId) → find_name (names_of a.imports.entries) name ≡ Some n → IsImportOf (graph_of a) name n
+  -- each export is one of which its node tells
+  pub told : AreTold a.lost a.nodes a.exports.entries
