@@ -3,7 +3,7 @@ use Rattle.std.proofs.Common.{◌≡◌, ℕ, suc, ◌+◌, ◌≤◌, ◌||◌,
 use Rattle.std.specs.Option.{option_map}
 use Rattle.std.proofs.lemmas.Bool.{false≢true}
 use Rattle.std.proofs.lemmas.List.{drop_all}
-use Rattle.wac_shapes.specs.Name.{Name}
+use Rattle.wac_shapes.specs.Name.{Name, option_case}
 use Rattle.wac_shapes.specs.Named.{names_of}
 use Rattle.wac_shapes.proofs.Loops.{drop_at}
 use Rattle.wac_shapes.specs.declared.component.ItemKind.{ItemKind}
@@ -13,7 +13,7 @@ use Rattle.wac_collection.specs.Collection.{Collection, item_at, world_imports, 
 use Rattle.wac_collection.specs.Package.{PackageParts}
 use Rattle.wac_edges.specs.declared.node.NodeId.{NodeId}
 use Rattle.wac_nodes.specs.declared.packages.PackageId.{PackageId}
-use Rattle.wac_nodes.specs.Graph.{Graph, package_at}
+use Rattle.wac_nodes.specs.Graph.{Graph, package_at, package_in}
 use Rattle.wac_plug.specs.declared.errors.PlugError.TheVariants.{NoPlugHappened}
 use Rattle.wac_plug.specs.Matching.{Match, AreMatchesOf, AreAllMatches, imports_of_package, exports_of_package}
 use Rattle.wac_plug.specs.Plugging.{Answer, InOrder, PassesOn, Ends, Keeps, has_any}
@@ -100,3 +100,7 @@ ends-none node exports g (m ∷ ms) h = absurd (false≢true (sym h))
 pub ends-some : (node : NodeId) (exports : List Name) (g new : Graph) (ms : List Match) (r : Answer) → has_any ms ≡ true → InOrder (PassesOn node) g exports r new → Ends node exports g ms r new
 ends-some node exports g new [] r h w = absurd (false≢true h)
 ends-some node exports g new (m ∷ ms) r h w = w
+
+-- what a package imports, where the types and the packages are as they were
+pub imports-kept : (old new : Graph) (id : PackageId) → Keeps old new → imports_of_package new id ≡ imports_of_package old id
+imports-kept old new id kept = λ i. option_case (package_in (slice_get (kept.slots i) id.slot) id) [] (λ p. world_imports (kept.types i) p.world)

@@ -20,7 +20,6 @@ use Rattle.wac_nodes.specs.ExternName.{IsExportName, IsExportDecided}
 use Rattle.wac_nodes.specs.Graph.{Graph, GraphNode, node_at, package_at, export_at}
 use Rattle.wac_nodes.specs.Sound.{IsSound}
 use Rattle.wac_nodes.specs.Steps.{Instantiates, instance_node, Aliases, AliasesOf, GivesAlias, export_named, Exports}
-use Rattle.wac_plug.specs.declared.errors.PlugError.{PlugError}
 use Rattle.wac_plug.specs.declared.errors.PlugError.TheVariants.{GraphError, NoPlugHappened, OutOfMemory}
 use Rattle.wac_plug.specs.declared.errors.PlugFault.TheVariants.{Alias, Argument, Export}
 use Rattle.wac_plug.specs.Matching.{Match, AreAllMatches, imports_of_package, exports_of_package}

@@ -1,5 +1,5 @@
 -- Where an export goes to: one import at most.
-use Rattle.std.proofs.Common.{◌≡◌, ℕ, suc, ◌+◌, cond, List, [], ◌∷◌, slice_get, refl, ap, ◌∙◌, sym, subst, Option, Some, None, inl, inr, arith}
+use Rattle.std.proofs.Common.{◌≡◌, ℕ, suc, ◌+◌, cond, List, [], ◌∷◌, slice_get, refl, ap, ◌∙◌, sym, subst, Option, Some, None, Result, Ok, Err, IfOk, inl, inr, arith}
 use Rattle.std.specs.Prelude.{MatchOption, IsSomeAnd}
 use Rattle.std.proofs.lemmas.Bool.{cases_Bool}
 use Rattle.wac_shapes.specs.Name.{Name, find_name, same_name}
@@ -10,7 +10,7 @@ use Rattle.wac_shapes.specs.declared.component.ItemKind.{ItemKind}
 use Rattle.wac_collection.specs.Collection.{Collection}
 use Rattle.wac_subtyping.specs.Subtype.{IsSubtype}
 use Rattle.wac_plug.specs.Matching.{IsFirstOnTrack, IsTarget, HasNoMatch}
-use Rattle.wac_plug.specs.Tracks.{track_key, first_at, AreFirsts}
+use Rattle.wac_plug.specs.Tracks.{track_key, first_at}
 use Rattle.wac_plug.proofs.Firsts.{none-on-track, some-on-track}
 
 one-first : (imports : List (Name × ItemKind)) (name : Name) (s t : Name × ItemKind) → IsFirstOnTrack imports name s → IsFirstOnTrack imports name t → s ≡ t
@@ -61,10 +61,10 @@ found-target imports name x h =
     let at : slice_get imports x.0 ≡ Some (name, x.1) = ap (slice_get imports) (sym place) ∙ r.1.2 in
     subst (λ o. IsSomeAnd o (IsTarget imports name)) (sym at) (by-name imports name x.1 r.0)
 
--- where no import has the name, what is found under the key of its track
-pub track-target : (imports : List (Name × ItemKind)) (firsts : List (Name × ℕ)) (name : Name) (o : Option ℕ) → None ≡ named_at 0 name imports → AreFirsts imports firsts → o ≡ find_name firsts (track_key name)
+-- where no import has the name, the first of its track
+pub track-target : (imports : List (Name × ItemKind)) (name : Name) → None ≡ named_at 0 name imports → (o : Option ℕ) → o ≡ first_at 0 (track_key name) imports
     → MatchOption o ((t : Name × ItemKind) → IsTarget imports name t → ⊥) (λ i. IsSomeAnd (slice_get imports i) (IsTarget imports name))
-track-target imports firsts name o none are is = by o (sym (are (track_key name)) ∙ sym is) where
+track-target imports name none o is = by o (sym is) where
   unnamed : find_name imports name ≡ None
   unnamed = nothing_under imports 0 name (sym none)
 
@@ -75,6 +75,11 @@ track-target imports firsts name o none are is = by o (sym (are (track_key name)
       let place : r.0 ≡ p = omega (arith, r.2) in
       let at : slice_get imports p ≡ Some r.1 = ap (slice_get imports) (sym place) ∙ r.3 in
       subst (λ o. IsSomeAnd o (IsTarget imports name)) (sym at) (by-track imports name r.1 unnamed r.4)
+
+-- what follows from what an answer says
+pub then-ok : {A E : Type 0} (r : Result A E) {P Q : A → Type 0} → ((a : A) → P a → Q a) → IfOk r P → IfOk r Q
+then-ok (Ok a) h p = h a p
+then-ok (Err e) h p = tt
 
 -- an export whose kind is no subtype of its target's matches nothing
 pub no-match : (types : Collection) (imports : List (Name × ItemKind)) (name : Name) (kind : ItemKind) (t : Name × ItemKind) → IsTarget imports name t → (IsSubtype types kind types t.1 → ⊥) → HasNoMatch types imports (name, kind)

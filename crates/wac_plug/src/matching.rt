@@ -1,5 +1,5 @@
 //! Which exports of a plug match which imports of a socket.
-ghost use Rattle.std.specs.Prelude.{◌≡◌, ◌<◌, ℕ, true, length, slice_get, string_bytes, IfOk, OnOk, IsSomeAnd, MatchOption};
+ghost use Rattle.std.specs.Prelude.{◌≡◌, ◌<◌, ℕ, true, length, slice_get, string_bytes, IfOk, OnOk, IfSome, IsSomeAnd, MatchOption};
 ghost use Rattle.wac_collection.specs.Collection.{holds_type, holds_all, kind_types, world_imports, world_exports};
 ghost use Rattle.wac_shapes.specs.Kinds.{kind_type};
 ghost use Rattle.wac_shapes.specs.Name.{Name};
@@ -7,7 +7,7 @@ ghost use Rattle.wac_shapes.specs.Named.{NoNameTwice};
 ghost use Rattle.wac_shapes.specs.declared.component.ItemKind.{ItemKind as AnItem};
 ghost use Rattle.wac_shapes.specs.declared.component.«Type».TheVariants.{World as world_type};
 ghost use Rattle.wac_plug.specs.Matching.{IsTarget, IsMatch, HasNoMatch, AreMatches};
-ghost use Rattle.wac_plug.specs.Tracks.{track_key, PutsFirst, AreFirsts};
+ghost use Rattle.wac_plug.specs.Tracks.{track_key, first_at, PutsFirst, AreFirsts};
 
 use std::alloc::{AllocError, Global};
 use std::marker::Model;
@@ -79,7 +79,7 @@ fn put_first(
 }
 
 /// The position of the first import on each track, under the track's key.
-pub fn first_on_tracks(alloc: Global, imports: &Named<ItemKind>) -> Result<Named<usize>, AllocError>
+fn first_on_tracks(alloc: Global, imports: &Named<ItemKind>) -> Result<Named<usize>, AllocError>
     ensures { IfOk result (λ firsts. AreFirsts imports.now firsts) }
 {
     let mut firsts = Named::new(alloc);
@@ -90,36 +90,58 @@ pub fn first_on_tracks(alloc: Global, imports: &Named<ItemKind>) -> Result<Named
     Ok(firsts)
 }
 
+/// The position of the first import on one track with this name. The firsts of all tracks are found when one is asked for.
+fn first_on_track(
+    alloc: Global,
+    imports: &Named<ItemKind>,
+    firsts: &mut Option<Named<usize>>,
+    name: &str,
+) -> Result<Option<usize>, AllocError>
+    requires { IfSome firsts.old (AreFirsts imports.now) }
+    ensures firsts { IfSome firsts.new (AreFirsts imports.now) }
+    ensures first { IfOk result (λ o. o ≡ first_at 0 (track_key name.now) imports.now) }
+{
+    let key = track_key(alloc, name)?;
+    if let Some(firsts) = firsts {
+        return Ok(firsts.get(key.as_str()).copied());
+    }
+    let found = first_on_tracks(alloc, imports)?;
+    let position = found.get(key.as_str()).copied();
+    *firsts = Some(found);
+    Ok(position)
+}
+
 /// The position of the import that an export of this name goes to: the one of its name, else the first on one track with
 /// it.
 fn target(
     alloc: Global,
     imports: &Named<ItemKind>,
-    firsts: &Named<usize>,
+    firsts: &mut Option<Named<usize>>,
     name: &str,
 ) -> Result<Option<usize>, AllocError>
-    requires { AreFirsts imports.now firsts.now }
-    ensures { IfOk result (λ o. MatchOption o ((t : Name × AnItem) → IsTarget imports.now name.now t → ⊥) (λ i. IsSomeAnd (slice_get imports.now i) (IsTarget imports.now name.now))) }
+    requires { IfSome firsts.old (AreFirsts imports.now) }
+    ensures firsts { IfSome firsts.new (AreFirsts imports.now) }
+    ensures target { IfOk result (λ o. MatchOption o ((t : Name × AnItem) → IsTarget imports.now name.now t → ⊥) (λ i. IsSomeAnd (slice_get imports.now i) (IsTarget imports.now name.now))) }
 {
     if let Some((position, _)) = imports.get_full(name) {
         return Ok(Some(position));
     }
-    let key = track_key(alloc, name)?;
-    Ok(firsts.get(key.as_str()).copied())
+    first_on_track(alloc, imports, firsts, name)
 }
 
 /// The match of an export of this name and kind, where it has one.
 fn find_match(
     types: &Types,
     imports: &Named<ItemKind>,
-    firsts: &Named<usize>,
+    firsts: &mut Option<Named<usize>>,
     name: &str,
     kind: ItemKind,
 ) -> Result<Option<Match>, AllocError>
-    requires firsts { AreFirsts imports.now firsts.now }
+    requires firsts { IfSome firsts.old (AreFirsts imports.now) }
     requires imports { holds_all types.now (kind_types imports.now) ≡ true }
     requires kind { holds_type types.now (kind_type kind) ≡ true }
-    ensures { IfOk result (λ o. MatchOption o (HasNoMatch types.now imports.now (name.now, kind)) (IsMatch types.now imports.now (name.now, kind))) }
+    ensures firsts { IfSome firsts.new (AreFirsts imports.now) }
+    ensures found { IfOk result (λ o. MatchOption o (HasNoMatch types.now imports.now (name.now, kind)) (IsMatch types.now imports.now (name.now, kind))) }
 {
     let alloc = types.allocator();
     let Some(position) = target(alloc, imports, firsts, name)? else {
@@ -133,16 +155,17 @@ fn find_match(
     }
 }
 
-/// The matches of the exports of a plug's world, in order.
+/// The matches of the exports of a plug's world, in order. The first import on each track is found when an export asks for one.
 pub fn find_matches(
     types: &Types,
     plug: WorldId,
     socket: WorldId,
-    firsts: &Named<usize>,
+    firsts: &mut Option<Named<usize>>,
 ) -> Result<Vec<Match>, AllocError>
     requires plug { holds_type types.now (world_type plug) ≡ true }
     requires socket { holds_type types.now (world_type socket) ≡ true }
-    requires firsts { AreFirsts (world_imports types.now socket) firsts.now }
+    requires firsts { IfSome firsts.old (AreFirsts (world_imports types.now socket)) }
+    ensures firsts { IfSome firsts.new (AreFirsts (world_imports types.now socket)) }
     ensures matches { IfOk result (λ ms. AreMatches types.now (world_imports types.now socket) (world_exports types.now plug) ms.items) }
     ensures named { OnOk result (NoNameTwice (world_exports types.now plug)) }
 {

@@ -1,5 +1,5 @@
 //! The call that plugs components together.
-ghost use Rattle.std.specs.Prelude.{◌≡◌, ◌⊎◌, ℕ, List, [], Some, IsSome, IfOk, IfErr, OnOk, slice_get, Ok, Err};
+ghost use Rattle.std.specs.Prelude.{◌≡◌, ◌⊎◌, ℕ, List, [], Some, IsSome, IfOk, IfErr, IfSome, slice_get, Ok, Err};
 ghost use Rattle.wac_nodes.specs.Graph.{node_at, package_at};
 ghost use Rattle.wac_nodes.specs.declared.errors.AliasError.{AliasError as AnAliasFault};
 ghost use Rattle.wac_nodes.specs.declared.errors.ExportError.{ExportError as AnExportFault};
@@ -13,9 +13,8 @@ ghost use Rattle.wac_plug.specs.Plugging.{InOrder, PlugsAll, PlugsIn, Keeps, has
 ghost use Rattle.wac_plug.specs.Tracks.{AreFirsts};
 
 use crate::errors::{PlugError, PlugFault};
-use crate::matching::{find_matches, first_on_tracks};
+use crate::matching::find_matches;
 use crate::wiring::{pass_on_all, plug_in};
-use std::alloc::AllocError;
 use wac_composition::CompositionGraph;
 use wac_nodes::{NodeId, PackageId, one_export_answer};
 use wac_types::Named;
@@ -26,12 +25,13 @@ fn plug_one(
     plug: PackageId,
     socket: PackageId,
     node: NodeId,
-    firsts: &Named<usize>,
+    firsts: &mut Option<Named<usize>>,
 ) -> Result<bool, PlugError>
     requires plug { IsSome (package_at graph.old plug) }
     requires socket { IsSome (package_at graph.old socket) }
     requires node { IsSome (node_at graph.old node) }
-    requires firsts { AreFirsts (imports_of_package graph.old socket) firsts.now }
+    requires firsts { IfSome firsts.old (AreFirsts (imports_of_package graph.old socket)) }
+    ensures firsts { IfSome firsts.new (AreFirsts (imports_of_package graph.old socket)) }
     ensures plugged { IfOk result (λ has_match. Keeps graph.old graph.new × NoNameTwice (exports_of_package graph.old plug) × ((ms : List Match) × AreMatchesOf graph.old socket plug ms × PlugsIn plug node graph.old ms (Ok tt) graph.new × (has_match ≡ has_any ms))) }
     ensures refused { IfErr result (λ e. PlugsNamed socket node graph.old plug (Err e) graph.new) }
 {
@@ -47,12 +47,12 @@ fn plug_each(
     plugs: &[PackageId],
     socket: PackageId,
     node: NodeId,
-    firsts: &Named<usize>,
+    firsts: &mut Option<Named<usize>>,
 ) -> Result<bool, PlugError>
     requires plugs { (i : ℕ) (id : AnId) → slice_get plugs.now i ≡ Some id → IsSome (package_at graph.old id) }
     requires socket { IsSome (package_at graph.old socket) }
     requires node { IsSome (node_at graph.old node) }
-    requires firsts { AreFirsts (imports_of_package graph.old socket) firsts.now }
+    requires firsts { IfSome firsts.old (AreFirsts (imports_of_package graph.old socket)) }
     ensures plugged { IfOk result (λ has_match. InOrder (PlugsNamed socket node) graph.old plugs.now (Ok tt) graph.new × Keeps graph.old graph.new × ((ms : List Match) × AreAllMatches graph.old socket plugs.now ms × (has_match ≡ has_any ms))) }
     ensures refused { IfErr result (λ e. InOrder (PlugsNamed socket node) graph.old plugs.now (Err e) graph.new) }
 {
@@ -64,17 +64,14 @@ fn plug_each(
     Ok(has_match)
 }
 
-/// The position of the first import of a socket on each track, under the track's key.
-fn import_tracks(graph: &CompositionGraph, socket: PackageId) -> Result<Named<usize>, AllocError>
-    requires { IsSome (package_at graph.now socket) }
-    ensures firsts { IfOk result (λ firsts. AreFirsts (imports_of_package graph.now socket) firsts) }
-    ensures named { OnOk result (NoNameTwice (imports_of_package graph.now socket)) }
+/// A package's world imports nothing under a name twice.
+fn imports_law(graph: &CompositionGraph, id: PackageId)
+    requires { IsSome (package_at graph.now id) }
+    ensures { NoNameTwice (imports_of_package graph.now id) }
 {
     graph.law();
-    let world = graph[socket].ty();
-    let imports = &graph.types()[world].imports;
-    imports.law();
-    first_on_tracks(graph.types().allocator(), imports)
+    let world = graph[id].ty();
+    graph.types()[world].imports.law();
 }
 
 /// A package's world exports nothing under a name twice.
@@ -98,10 +95,11 @@ fn plug_all(
     ensures { PlugsAllNamed graph.old plugs.now socket result graph.new }
 {
     graph.law();
-    let firsts = import_tracks(graph, socket)?;
+    imports_law(graph, socket);
+    let mut firsts = None;
     let world = graph[socket].ty();
     let node = graph.instantiate(socket)?;
-    let has_match = plug_each(graph, plugs, socket, node, &firsts)?;
+    let has_match = plug_each(graph, plugs, socket, node, &mut firsts)?;
     if !has_match {
         return Err(PlugError::NoPlugHappened);
     }

@@ -6,8 +6,8 @@ use Rattle.wac_plug.proofs.matching.find_match.Goals as goal
 pub is_subtype-requires-clause-second : goal.is_subtype-requires-clause-second
 is_subtype-requires-clause-second c = one-held c.args.types.now c.args.imports.now c.in-Some.position (c.entry_at.result.0.now, c.entry_at.result.1.now) c.requires.imports c.entry_at.ensures
 
-pub returns-in-Err-Mismatch : goal.returns-in-Err-Mismatch
-returns-in-Err-Mismatch c =
+pub returns-in-Err-Mismatch-clause-found : goal.returns-in-Err-Mismatch-clause-found
+returns-in-Err-Mismatch-clause-found c =
     no-match c.args.types.now c.args.imports.now c.args.name.now c.args.kind (c.entry_at.result.0.now, c.entry_at.result.1.now)
-    (target-of c.args.imports.now c.args.name.now c.in_ok-position.field-0 c.in-Some.position (c.entry_at.result.0.now, c.entry_at.result.1.now) c.in_ok-position.ensures c.in-Some.is c.entry_at.ensures)
+    (target-of c.args.imports.now c.args.name.now c.in_ok-position.field-0 c.in-Some.position (c.entry_at.result.0.now, c.entry_at.result.1.now) c.in_ok-position.ensures.target c.in-Some.is c.entry_at.ensures)
     (c.is_subtype.ensures.mismatch (c.in-Err-Mismatch.is ∙ ap Err c.in-Err-Mismatch.field-0-is))

@@ -1,6 +1,10 @@
-use Rattle.std.proofs.Common.{List, drop, ◌++◌}
+use Rattle.std.proofs.Common.{List, drop, ◌++◌, IfSome}
+use Rattle.wac_plug.specs.Tracks.{AreFirsts}
 use Rattle.wac_plug.specs.Matching.{Match, AreMatches}
 use Rattle.wac_plug.proofs.matching.find_matches.Given as goal
 
 abbrev pub invariant-loop-i : goal.invariant-loop-i
-invariant-loop-i l = (ms : List Match) → AreMatches l.types l.imports (drop l.i l.exports) ms → AreMatches l.types l.imports l.exports (l.matches.items ++ ms)
+invariant-loop-i l = record {
+  firsts : IfSome l.firsts (AreFirsts l.imports);
+  matched : (ms : List Match) → AreMatches l.types l.imports (drop l.i l.exports) ms → AreMatches l.types l.imports l.exports (l.matches.items ++ ms);
+}

@@ -16,7 +16,7 @@ pub returns-in_err-has_match : goal.returns-in_err-has_match
 returns-in_err-has_match c =
     let e = (c.in_err-has_match.field-0).0 in
     subst (λ (r : Answer). PlugsAllNamed c.args.graph.now c.args.plugs.now c.args.socket r c.plug_each.new.graph) (sym (exit-is c.from_residual-in_err-has_match.result e c.from_residual-in_err-has_match.ensures.1))
-    (inr (c.in_ok-firsts.ensures.named, (c.in_ok-node.node, c.instantiate.new.self, c.in_ok-node.ensures, inl (refl, c.in_err-has_match.ensures.refused))))
+    (inr (c.imports_law.ensures, (c.in_ok-node.node, c.instantiate.new.self, c.in_ok-node.ensures, inl (refl, c.in_err-has_match.ensures.refused))))
 
 pub returns-then-not-has_match : goal.returns-then-not-has_match
 returns-then-not-has_match c =
@@ -24,7 +24,7 @@ returns-then-not-has_match c =
     let plugged = c.in_ok-has_match.ensures.plugged in
     let names : List Name = names_of (exports_of_package c.args.graph.now c.args.socket) in
     inr (
-      c.in_ok-firsts.ensures.named,
+      c.imports_law.ensures,
       (
         c.in_ok-node.node,
         c.instantiate.new.self,
@@ -50,7 +50,7 @@ returns c =
     let names : List Name = names_of (exports_of_package c.args.graph.now c.args.socket) in
     let kept = keeps-trans c.args.graph.now c.instantiate.new.self c.plug_each.new.graph made.0 plugged.1 in
     inr (
-      c.in_ok-firsts.ensures.named,
+      c.imports_law.ensures,
       (
         c.in_ok-node.node,
         c.instantiate.new.self,
