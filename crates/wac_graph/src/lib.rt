@@ -9,8 +9,9 @@ pub use wac_composition::{Arguments, CompositionGraph, Imports, NodeIds, Nodes, 
 pub use wac_merge::MergeFault;
 pub use wac_names::NameFault;
 pub use wac_nodes::{
-    AliasError, EncodeOptions, ExportError, ImportError, InstantiationArgumentError, Node, NodeId,
-    NodeKind, PackageId, Processor, RegisterPackageError, laws, one_export_answer,
+    AliasError, DefineTypeError, EncodeOptions, ExportError, ImportError,
+    InstantiationArgumentError, Node, NodeId, NodeKind, PackageId, Processor, RegisterPackageError,
+    UnexportError, laws, one_export_answer,
 };
 pub use wac_plug::{PlugError, PlugFault, plug};
 pub use wac_types as types;
