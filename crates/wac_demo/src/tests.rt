@@ -1,4 +1,5 @@
 mod bench;
+mod defining;
 mod graph;
 mod imports;
 mod listed;

@@ -1,0 +1,159 @@
+// Definitions of types.
+use crate::compositions::function;
+use std::alloc::Global;
+use std::process::Abort;
+use std::test::Fail;
+use wac_graph::types::{DefinedType, Enum, PrimitiveType, Resource, Type, ValueType};
+use wac_graph::{CompositionGraph, DefineTypeError, NodeId};
+
+const BOOL: Type = Type::Value(ValueType::Primitive(PrimitiveType::Bool));
+
+// Defines a type. Where memory was refused nothing changed: made again the call answers as if it had not been refused.
+fn define(
+    rt: &impl Abort,
+    graph: &mut CompositionGraph,
+    name: &str,
+    ty: Type,
+) -> Result<NodeId, DefineTypeError> {
+    let held = graph.types().contains(ty);
+    assert!(rt; held);
+    let nodes = graph.node_ids().count();
+    match graph.define_type(name, ty) {
+        Err(DefineTypeError::OutOfMemory) => {
+            assert!(rt; graph.node_ids().count() == nodes && graph.get_export(name).is_none());
+            let held = graph.types().contains(ty);
+            assert!(rt; held);
+            graph.define_type(name, ty)
+        }
+        answer => answer,
+    }
+}
+
+// Why a type is not defined.
+fn refusal(
+    rt: &(impl Abort + AllocGlobal),
+    graph: &mut CompositionGraph,
+    name: &str,
+    ty: Type,
+) -> Result<String, Fail> {
+    match define(rt, graph, name, ty) {
+        Ok(_) => Err(Fail::new("the type is defined")),
+        Err(error) => Ok(format!(in rt.alloc(); "{error}")?),
+    }
+}
+
+fn defined(graph: &mut CompositionGraph, ty: DefinedType) -> Result<ValueType, Fail> {
+    Ok(ValueType::Defined(graph.add_defined_type(ty)?))
+}
+
+const NAMES: [&str; 4] = ["a", "b", "c", "d"];
+
+// An enum, a list and an option of it, and a tuple of these two.
+fn diamond(alloc: Global, graph: &mut CompositionGraph) -> Result<[Type; 4], Fail> {
+    let a = defined(graph, DefinedType::Enum(Enum::new(alloc, &["x"])?))?;
+    let b = defined(graph, DefinedType::List(a))?;
+    let c = defined(graph, DefinedType::Option(a))?;
+    let d = defined(graph, DefinedType::tuple(alloc, &[b, c])?)?;
+    Ok([
+        Type::Value(a),
+        Type::Value(b),
+        Type::Value(c),
+        Type::Value(d),
+    ])
+}
+
+fn remove(rt: &impl Abort, graph: &mut CompositionGraph, name: &str) -> Result<(), Fail> {
+    let Some(node) = graph.get_export(name) else {
+        return Err(Fail::new("nothing is exported by the name"));
+    };
+    let held = graph.has_node(node);
+    assert!(rt; held);
+    graph.remove_node(node);
+    Ok(())
+}
+
+#[test]
+fn a_type_is_defined_once(rt: HostRuntime) -> Result<(), Fail> {
+    let mut graph = CompositionGraph::new(rt.alloc());
+    let node = define(&rt, &mut graph, "foo", BOOL)?;
+    assert!(rt; graph.get_export("foo") == Some(node));
+    let text = refusal(&rt, &mut graph, "bar", BOOL)?;
+    assert_eq!(rt;
+        text.as_str(),
+        "the provided type has already been defined in the graph"
+    );
+    assert!(rt; graph.get_export("bar").is_none());
+    remove(&rt, &mut graph, "foo")?;
+    assert!(rt; graph.get_export("foo").is_none());
+    define(&rt, &mut graph, "bar", BOOL)?;
+    Ok(())
+}
+
+#[test]
+fn a_resource_is_not_defined(rt: HostRuntime) -> Result<(), Fail> {
+    let alloc = rt.alloc();
+    let mut graph = CompositionGraph::new(alloc);
+    let resource = Type::Resource(graph.add_resource(Resource::new(alloc, "r")?)?);
+    let text = refusal(&rt, &mut graph, "r", resource)?;
+    assert_eq!(rt;
+        text.as_str(),
+        "a resource type cannot be defined in the graph"
+    );
+    Ok(())
+}
+
+#[test]
+fn names_of_definitions_are_checked(rt: HostRuntime) -> Result<(), Fail> {
+    let alloc = rt.alloc();
+    let mut graph = CompositionGraph::new(alloc);
+    let kind = function(alloc, &mut graph)?;
+    let held = graph.types().contains(kind.ty());
+    assert!(rt; held);
+    let node = graph.import("x", kind)?;
+    let held = graph.has_node(node);
+    assert!(rt; held);
+    graph.export(node, "taken")?;
+    let taken = refusal(&rt, &mut graph, "taken", BOOL)?;
+    assert_eq!(rt;
+        taken.as_str(),
+        "type name `taken` conflicts with an existing export of the same name"
+    );
+    let invalid = refusal(&rt, &mut graph, "1a", BOOL)?;
+    assert_eq!(rt; invalid.as_str(), "type name `1a` is not valid");
+    define(&rt, &mut graph, "url=<u>", BOOL)?;
+    Ok(())
+}
+
+#[test]
+fn a_definition_stays_exported(rt: HostRuntime) -> Result<(), Fail> {
+    let mut graph = CompositionGraph::new(rt.alloc());
+    let node = define(&rt, &mut graph, "foo", BOOL)?;
+    let held = graph.has_node(node);
+    assert!(rt; held);
+    assert!(rt; graph.unexport(node).is_err());
+    assert!(rt; graph.get_export("foo") == Some(node));
+    Ok(())
+}
+
+// Whatever order they are defined in, all go with the one that the others are made of, and may be defined again.
+#[test]
+fn definitions_go_with_what_they_are_made_of(rt: HostRuntime) -> Result<(), Fail> {
+    let alloc = rt.alloc();
+    let mut graph = CompositionGraph::new(alloc);
+    let types = diamond(alloc, &mut graph)?;
+    for (i, ty) in types.iter().enumerate() {
+        define(&rt, &mut graph, NAMES[i], *ty)?;
+    }
+    remove(&rt, &mut graph, "a")?;
+    assert!(rt; graph.node_ids().next().is_none());
+    for (i, ty) in types.iter().enumerate().rev() {
+        assert!(rt; graph.get_export(NAMES[i]).is_none());
+        define(&rt, &mut graph, NAMES[i], *ty)?;
+    }
+    remove(&rt, &mut graph, "b")?;
+    assert!(rt; graph.get_export("a").is_some() && graph.get_export("c").is_some());
+    assert!(rt; graph.get_export("b").is_none() && graph.get_export("d").is_none());
+    remove(&rt, &mut graph, "a")?;
+    assert!(rt; graph.node_ids().next().is_none());
+    Ok(())
+}
