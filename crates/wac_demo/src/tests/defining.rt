@@ -18,9 +18,10 @@ fn define(
     let held = graph.types().contains(ty);
     assert!(rt; held);
     let nodes = graph.node_ids().count();
+    let exported = graph.get_export(name);
     match graph.define_type(name, ty) {
         Err(DefineTypeError::OutOfMemory) => {
-            assert!(rt; graph.node_ids().count() == nodes && graph.get_export(name).is_none());
+            assert!(rt; graph.node_ids().count() == nodes && graph.get_export(name) == exported);
             let held = graph.types().contains(ty);
             assert!(rt; held);
             graph.define_type(name, ty)
