@@ -1,7 +1,8 @@
 //! Measures how long calls of the libraries take: `names` reads names, `comparing` adds and compares items, `merging` merges
-//! imports, `writing` writes components; `chain`, `fan`, `aliases`, `plug` and `shared` make graphs and encode them, and `churn` removes
-//! nodes and makes them again. With such a word it takes a workload at some counts and prints its times and by which power of
-//! the count they grow; without one it does a little of each and prints no time. Another word ends it with status 2.
+//! imports, `writing` writes components; `chain`, `fan`, `aliases`, `plug` and `shared` make graphs and encode them, `churn`
+//! removes nodes and makes them again, and `wide` adds types. With such a word it takes a workload at some counts and prints its
+//! times and by which power of the count they grow; without one it does a little of each and prints no time. Another word ends it
+//! with status 2.
 #![tactic(auto)]
 
 mod churn;
@@ -11,6 +12,7 @@ mod merging;
 mod names;
 mod times;
 mod types;
+mod wide;
 mod writing;
 
 use anyhow::Result;
@@ -25,7 +27,8 @@ fn show(rt: &HostRuntime) -> Result<()> {
     merging::show(rt)?;
     writing::show(rt)?;
     graphs::show(rt)?;
-    churn::show(rt)
+    churn::show(rt)?;
+    wide::show(rt)
 }
 
 /// Measures what the word names. Answers whether it names a workload.
@@ -41,6 +44,7 @@ fn measure(rt: &HostRuntime, word: &str) -> Result<bool> {
         "plug" => graphs::measure(rt, Sort::Plug)?,
         "shared" => graphs::measure(rt, Sort::Shared)?,
         "churn" => churn::measure(rt)?,
+        "wide" => wide::measure(rt)?,
         _ => return Ok(false),
     }
     Ok(true)
@@ -54,6 +58,6 @@ fn main(rt: HostRuntime) -> Result<ExitCode> {
     if measure(&rt, word.as_str())? {
         return Ok(ExitCode::SUCCESS);
     }
-    println!(rt; "names, comparing, merging, writing, chain, fan, aliases, plug, shared or churn")?;
+    println!(rt; "names, comparing, merging, writing, chain, fan, aliases, plug, shared, churn or wide")?;
     Ok(ExitCode::from(2))
 }

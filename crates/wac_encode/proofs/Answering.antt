@@ -16,7 +16,7 @@ use Rattle.wac_scopes.specs.declared.fault.EncodeFault.TheVariants as fault
 use Rattle.wac_scopes.specs.Scoped.{IsAsBefore}
 use Rattle.wac_scopes.specs.Laws.{StaysOnward}
 use Rattle.wac_encode.specs.declared.task.Task.{Task}
-use Rattle.wac_encode.specs.Made.{MadeOf, itself, part}
+use Rattle.wac_listing.specs.Made.{MadeOf, itself, part}
 use Rattle.wac_encode.specs.Written.{IsHandle, IsRefused}
 use Rattle.wac_encode.specs.Tasks.{IsReady, IsNext, IsMissing, IsStepRefused, Did, passed, put_off, IsUnderWay}
 use Rattle.wac_encode.proofs.Saying.{zip-more}

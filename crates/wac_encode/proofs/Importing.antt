@@ -35,7 +35,7 @@ use Rattle.wac_scopes.specs.Good.{At, Onward}
 use Rattle.wac_scopes.specs.Laws.{Follows, IsItsEnd, IsItsTree, IsRecorded, StaysOnward}
 use Rattle.wac_scopes.specs.Scoped.{value_index, at_index, opened, imported_at, root_of, IsNewInRoot, HasToo, IsAsBefore, AddsPrimitive, AddsInstance, RootImports, RootImportsType, RootImportsValue, RootImportsFunction, RootImportsInstance, WritesUnlessTooLarge, FitsUnlessTooLarge}
 use Rattle.wac_scopes.proofs.Values.{primitive-held}
-use Rattle.wac_encode.specs.Made.{MadeOf}
+use Rattle.wac_listing.specs.Made.{MadeOf}
 use Rattle.wac_encode.specs.Written.{GoesOn, WritesFor, with_types, IsOfFunc, AddsHeldFunc, EndsWithFunc, IsRefused, IsFuncRefused}
 use Rattle.wac_encode.specs.Listing.{SaysInterface, WritesInterface, NeededBy, SameRecords, PrimitiveDoesNotFit, IsInterfaceRefused}
 use Rattle.wac_encode.specs.Importing.{next_place, ImportsHeld, EndsWithInterface, IsImportedAs, IsImportedOnce, NamesImportedValue, WritesImport, WritesTypesOf, IsItemNotImported, held_imports, ImportsOneMore}

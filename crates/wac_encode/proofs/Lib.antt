@@ -10,6 +10,5 @@ pub mod Ordered
 pub mod Listed
 pub mod Naming
 pub mod Importing
-pub mod Behind
 pub mod Plain
 pub mod Together

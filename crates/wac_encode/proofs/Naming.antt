@@ -24,7 +24,7 @@ use Rattle.wac_scopes.specs.declared.scope.Scope.{Scope}
 use Rattle.wac_scopes.specs.Contents.{and_type, and_export, ContentFits}
 use Rattle.wac_scopes.specs.Laws.{StaysOnward}
 use Rattle.wac_scopes.specs.Scoped.{value_index, by_index, in_use, HasToo, AddsPrimitive, ListsValue, WritesUnlessTooLarge, FitsUnlessTooLarge}
-use Rattle.wac_encode.specs.Made.{MadeOf, itself}
+use Rattle.wac_listing.specs.Made.{MadeOf, itself}
 use Rattle.wac_encode.specs.Written.{WritesFor, HasHandle, IsHandle, IsByRecord, IsRefused, IsOfFunc, AddsHeldFunc, EndsWithFunc, IsFuncRefused}
 use Rattle.wac_encode.specs.Listing.{NeededBy, own_types, one_if_primitive, IsListedAt, IsDescribed, SameRecords, IsNamedOnce, NamesValue, WritesItem, PrimitiveDoesNotFit, IsItemRefused}
 use Rattle.wac_encode.proofs.Answering.{as-it-was}

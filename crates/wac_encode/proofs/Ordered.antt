@@ -1,19 +1,21 @@
 -- The order in which the items of an interface are written.
-use Rattle.std.specs.Prelude.{ℕ, ◌+◌, ◌<◌, ◌≤◌, ◌≡◌, Bool, true, false, cond, if◌then◌else◌, List, [], ◌∷◌, ◌++◌, length, map, filter, sum_by, Option, Some, None, slice_get, Contains, IsPermutation}
-use Rattle.std.specs.List.Sorted.{IsNonDecreasingBy, IsStableByKey}
-use Rattle.std.specs.Ordering.{nat_cmp}
+use Rattle.std.specs.Prelude.{ℕ, ◌+◌, ◌<◌, ◌≤◌, ◌≡◌, Bool, true, false, cond, if◌then◌else◌, List, [], ◌∷◌, ◌++◌, length, filter, sum_by, Option, Some, None, slice_get, Contains, IsPermutation}
+use Rattle.std.specs.List.{AllZip}
 use Rattle.std.specs.Borrow.{Bor}
-use Rattle.std.proofs.Common.{refl, ap, ◌∙◌, sym, subst, get_or, take, add-one, arith}
-use Rattle.std.proofs.lemmas.List.{length-map, get_or-map, map-append}
+use Rattle.std.proofs.Common.{zero, suc, not, ◌&&◌, ◌==◌, refl, ap, ◌∙◌, sym, subst, take, add-one, append_assoc, arith}
+use Rattle.std.proofs.lemmas.List.{append-nil, length-map, map-append}
 use Rattle.std.proofs.lemmas.List.Sums.{sum_by-cons}
-use Rattle.std.proofs.lemmas.List.Sorted.{IsPermutation-map, IsPermutation-sym, Contains-permutation, sum_by-IsPermutation}
+use Rattle.std.proofs.lemmas.List.Sorted.{IsPermutation-refl, IsPermutation-sym, IsPermutation-trans, IsPermutation-cons, IsPermutation-middle, IsPermutation-append_left, IsPermutation-filter_both, Contains-permutation, sum_by-IsPermutation}
 use Rattle.std.proofs.lemmas.Option.{slice_get-get_or, get_or_from_slice_get, slice_get_within}
 use Rattle.wac_shapes.specs.Name.{Name, same_name, find_name}
 use Rattle.wac_shapes.specs.Named.{NoNameTwice, named_pairs}
 use Rattle.wac_shapes.proofs.Names.{same_name-true, same_name-refl, find_position, find_name-at, take_at}
+use Rattle.wac_shapes.specs.declared.component.Interface.{Interface}
+use Rattle.wac_shapes.specs.declared.component.InterfaceId.{InterfaceId}
 use Rattle.wac_shapes.specs.declared.component.ItemKind.{ItemKind}
-use Rattle.wac_collection.specs.Collection.{Collection}
-use Rattle.wac_encode.specs.Listing.{rank, IsOrder}
+use Rattle.wac_collection.specs.Collection.{Collection, item_at}
+use Rattle.wac_listing.specs.Order.{Takes, is_type, is_type_at, AreOrdered}
+use Rattle.wac_encode.specs.Listing.{IsOrder}
 
 -- how many entries have a name
 abbrev one_if : Bool → ℕ
@@ -87,46 +89,166 @@ same-under {V} es fs p once n = by_found (find_name es n) (find_name fs n) refl 
     by_found None None is also = refl
     by_found None (Some v) is also = sym (sym is ∙ found-there fs es (IsPermutation-sym es fs p) once n v also)
 
--- ranks of entries with borrowed names
-abbrev pub rank_of : {A : Type 0} → Collection → A × ItemKind → ℕ
-rank_of c e = rank c e.1
-
-abbrev by_now : Bor (List ℕ) × ItemKind → Name × ItemKind
+abbrev pub by_now : Bor (List ℕ) × ItemKind → Name × ItemKind
 by_now e = (e.0.now, e.1)
 
 pub pairs-length : (ps : List (Bor (List ℕ) × ItemKind)) → length (named_pairs ps) ≡ length ps
 pairs-length ps = length-map ps by_now
 
--- one more pair
-pub pairs-more : (es : List (Name × ItemKind)) (ps qs : List (Bor (List ℕ) × ItemKind)) (i : ℕ) (n : Bor (List ℕ)) (k : ItemKind) → slice_get es i ≡ Some (n.now, k) → qs ≡ ps ++ (n, k) ∷ [] → named_pairs ps ≡ take i es → named_pairs qs ≡ take (i + 1) es
-pairs-more es ps qs i n k at is before =
-    ap named_pairs is ∙ map-append by_now ps ((n, k) ∷ []) ∙ ap (λ (fs : List (Name × ItemKind)). fs ++ (n.now, k) ∷ []) before ∙ sym (take_at es i (n.now, k) at) ∙ sym (ap (λ (j : ℕ). take j es) (add-one i))
+abbrev pub Stand : List (Name × ItemKind) → ℕ → Name × ItemKind → Type 0
+Stand es p e = slice_get es p ≡ Some e
 
-rising-map : {A B : Type 0} (f : A → B) (n : B → ℕ) (xs : List A) → IsNonDecreasingBy (λ (a : A). n (f a)) xs → IsNonDecreasingBy n (map f xs)
-rising-map {A} {B} f n [] up i j d le less = absurd (omega (arith, less))
-rising-map {A} {B} f n (x ∷ xs) up i j d le less =
-    let below : j < length (x ∷ xs) = omega (arith, less, length-map (x ∷ xs) f) in
-    let before : i < length (x ∷ xs) = omega (arith, below, le) in
-    subst (λ (y : B). n y ≤ n (get_or (map f (x ∷ xs)) j d)) (sym (get_or-map f (x ∷ xs) i x d before))
-    (subst (λ (y : B). n (f (get_or (x ∷ xs) i x)) ≤ n y) (sym (get_or-map f (x ∷ xs) j x d below)) (up i j x le below))
+abbrev pub no_type : Name × ItemKind → Bool
+no_type e = not (is_type e.1)
 
-filter-map : {A B : Type 0} (f : A → B) (p : B → Bool) (xs : List A) → filter p (map f xs) ≡ map f (filter (λ (a : A). p (f a)) xs)
-filter-map {A} {B} f p [] = refl
-filter-map {A} {B} f p (x ∷ xs) = by_test (p (f x)) (filter-map f p xs)
+abbrev pub one_type : Name × ItemKind → Bool
+one_type e = is_type e.1
+
+zip-push : {A B : Type 0} (R : A → B → Type 0) (xs : List A) (ys : List B) (x : A) (y : B) → AllZip R xs ys → R x y → AllZip R (xs ++ x ∷ []) (ys ++ y ∷ [])
+zip-push R [] [] x y zip r = (r, tt)
+zip-push R (a ∷ xs) (b ∷ ys) x y zip r = (zip.0, zip-push R xs ys x y zip.1 r)
+zip-push R [] (b ∷ ys) x y zip r = absurd zip
+zip-push R (a ∷ xs) [] x y zip r = absurd zip
+
+-- one more type item
+pub types-more : (es : List (Name × ItemKind)) (ps : List ℕ) (i p : ℕ) (n : Bor (List ℕ)) (k : ItemKind) (old new : List (Bor (List ℕ) × ItemKind)) → slice_get ps i ≡ Some p → slice_get es p ≡ Some (n.now, k)
+    → AllZip (Stand es) (take i ps) (named_pairs old) → new ≡ old ++ (n, k) ∷ [] → AllZip (Stand es) (take (i + 1) ps) (named_pairs new)
+types-more es ps i p n k old new at there before is =
+    subst (λ (xs : List (Name × ItemKind)). AllZip (Stand es) (take (i + 1) ps) xs) (sym (map-append by_now old ((n, k) ∷ [])) ∙ sym (ap named_pairs is))
+    (subst (λ (qs : List ℕ). AllZip (Stand es) qs (named_pairs old ++ (n.now, k) ∷ [])) (sym (take_at ps i p at) ∙ ap (λ (j : ℕ). take j ps) (sym (add-one i)))
+    (zip-push (Stand es) (take i ps) (named_pairs old) p (n.now, k) before there))
+
+filter-push : (p : Name × ItemKind → Bool) (xs : List (Name × ItemKind)) (x : Name × ItemKind) → filter p (xs ++ x ∷ []) ≡ filter p xs ++ filter p (x ∷ [])
+filter-push p [] x = refl
+filter-push p (y ∷ xs) x = by_test (p y) (filter-push p xs x)
   where
-    by_test : (b : Bool) → filter p (map f xs) ≡ map f (filter (λ (a : A). p (f a)) xs) → cond b (f x ∷ filter p (map f xs)) (filter p (map f xs)) ≡ map f (cond b (x ∷ filter (λ (a : A). p (f a)) xs) (filter (λ (a : A). p (f a)) xs))
-    by_test true rest = ap (λ (ys : List B). f x ∷ ys) rest
+    by_test : (b : Bool) → filter p (xs ++ x ∷ []) ≡ filter p xs ++ filter p (x ∷ []) → cond b (y ∷ filter p (xs ++ x ∷ [])) (filter p (xs ++ x ∷ [])) ≡ cond b (y ∷ filter p xs) (filter p xs) ++ filter p (x ∷ [])
+    by_test true rest = ap (λ (zs : List (Name × ItemKind)). y ∷ zs) rest
     by_test false rest = rest
 
-abbrev borrowed : Name → Bor (List ℕ)
-borrowed n = record { ref_ptr = (0, 0); now = n }
+rest-taken : (es : List (Name × ItemKind)) (i : ℕ) (e : Name × ItemKind) → slice_get es i ≡ Some e → filter no_type (take (i + 1) es) ≡ filter no_type (take i es) ++ filter no_type (e ∷ [])
+rest-taken es i e at = ap (λ (j : ℕ). filter no_type (take j es)) (add-one i) ∙ ap (filter no_type) (take_at es i e at) ∙ filter-push no_type (take i es) e
 
-stable-map : (c : Collection) (xs ys : List (Bor (List ℕ) × ItemKind)) → IsStableByKey (rank_of {A = Bor (List ℕ)} c) nat_cmp xs ys → IsStableByKey (rank_of {A = Name} c) nat_cmp (named_pairs xs) (named_pairs ys)
-stable-map c xs ys stable x = filter-map by_now _ ys ∙ ap (map by_now) (stable (borrowed x.0, x.1)) ∙ sym (filter-map by_now _ xs)
+-- one more of the others, or a type item that is passed over
+pub rest-more : (es fs : List (Name × ItemKind)) (i : ℕ) (n : Bor (List ℕ)) (k : ItemKind) (old new : List (Bor (List ℕ) × ItemKind)) → slice_get es i ≡ Some (n.now, k) → is_type k ≡ false
+    → named_pairs old ≡ fs ++ filter no_type (take i es) → new ≡ old ++ (n, k) ∷ [] → named_pairs new ≡ fs ++ filter no_type (take (i + 1) es)
+rest-more es fs i n k old new at other before is =
+    ap named_pairs is ∙ map-append by_now old ((n, k) ∷ []) ∙ ap (λ (xs : List (Name × ItemKind)). xs ++ (n.now, k) ∷ []) before ∙ append_assoc fs (filter no_type (take i es)) ((n.now, k) ∷ [])
+    ∙ ap (λ (xs : List (Name × ItemKind)). fs ++ (filter no_type (take i es) ++ xs)) (sym (kept (is_type k) other)) ∙ ap (λ (xs : List (Name × ItemKind)). fs ++ xs) (sym (rest-taken es i (n.now, k) at))
+  where
+    kept : (b : Bool) → b ≡ false → cond {A = List (Name × ItemKind)} (not b) ((n.now, k) ∷ []) [] ≡ (n.now, k) ∷ []
+    kept false e = refl
+    kept true e = cc
 
-pub is-order : (c : Collection) (es : List (Name × ItemKind)) (xs ys : List (Bor (List ℕ) × ItemKind)) → named_pairs xs ≡ es → IsPermutation xs ys → IsNonDecreasingBy (rank_of {A = Bor (List ℕ)} c) ys → IsStableByKey (rank_of {A = Bor (List ℕ)} c) nat_cmp xs ys → IsOrder c es (named_pairs ys)
-is-order c es xs ys is p up stable = subst (λ (fs : List (Name × ItemKind)). IsOrder c fs (named_pairs ys)) is (record {
-  permutation = IsPermutation-map by_now xs ys p;
-  rising = rising-map by_now (rank_of {A = Name} c) ys up;
-  stable = stable-map c xs ys stable;
-})
+pub rest-passed : (es fs : List (Name × ItemKind)) (i : ℕ) (n : Bor (List ℕ)) (k : ItemKind) (old : List (Bor (List ℕ) × ItemKind)) → slice_get es i ≡ Some (n.now, k) → is_type k ≡ true
+    → named_pairs old ≡ fs ++ filter no_type (take i es) → named_pairs old ≡ fs ++ filter no_type (take (i + 1) es)
+rest-passed es fs i n k old at one before =
+    before ∙ sym (ap (λ (xs : List (Name × ItemKind)). fs ++ xs) (rest-taken es i (n.now, k) at ∙ ap (λ (xs : List (Name × ItemKind)). filter no_type (take i es) ++ xs) (passed (is_type k) one) ∙ append-nil (filter no_type (take i es))))
+  where
+    passed : (b : Bool) → b ≡ true → cond {A = List (Name × ItemKind)} (not b) ((n.now, k) ∷ []) [] ≡ (let none : List (Name × ItemKind) = [] in none)
+    passed true e = refl
+    passed false e = cc
+
+-- the items at the positions that are left
+selected : (ℕ → Bool) → List (Name × ItemKind) → List (Name × ItemKind)
+selected left [] = []
+selected left (e ∷ es) = cond (left 0) (e ∷ selected (λ q. left (suc q)) es) (selected (λ q. left (suc q)) es)
+
+same-selected : (f g : ℕ → Bool) (es : List (Name × ItemKind)) → ((q : ℕ) → f q ≡ g q) → selected f es ≡ selected g es
+unfolding selected
+same-selected f g [] same = refl
+same-selected f g (e ∷ es) same = ap (λ (b : Bool). cond b (e ∷ selected (λ q. f (suc q)) es) (selected (λ q. f (suc q)) es)) (same 0) ∙ ap (λ (xs : List (Name × ItemKind)). cond (g 0) (e ∷ xs) xs) (same-selected (λ q. f (suc q)) (λ q. g (suc q)) es (λ q. same (suc q)))
+
+none-selected : (f : ℕ → Bool) (es : List (Name × ItemKind)) → ((q : ℕ) → f q ≡ false) → selected f es ≡ []
+unfolding selected
+none-selected f [] none = refl
+none-selected f (e ∷ es) none = ap (λ (b : Bool). cond b (e ∷ selected (λ q. f (suc q)) es) (selected (λ q. f (suc q)) es)) (none 0) ∙ none-selected (λ q. f (suc q)) es (λ q. none (suc q))
+
+types-selected : (es : List (Name × ItemKind)) → selected (is_type_at es) es ≡ filter one_type es
+unfolding selected
+types-selected [] = refl
+types-selected (e ∷ es) = ap (λ (xs : List (Name × ItemKind)). cond (is_type e.1) (e ∷ xs) xs) (types-selected es)
+
+and-not-false : (b : Bool) → (b && not false) ≡ b
+and-not-false true = refl
+and-not-false false = refl
+
+not-first : (b : Bool) (q : ℕ) → (b && not (suc q == 0)) ≡ b
+not-first b q = let other : (suc q == 0) ≡ false = grind arith in ap (λ (t : Bool). b && not t) other ∙ and-not-false b
+
+take-out : (f : ℕ → Bool) (p : ℕ) → f p ≡ true → (es : List (Name × ItemKind)) (e : Name × ItemKind) → slice_get es p ≡ Some e → IsPermutation (selected f es) (e ∷ selected (λ q. f q && not (q == p)) es)
+unfolding selected
+take-out f p here [] e at = let none_some : None ≡ Some e = at in cc
+take-out f zero here (x ∷ es) e at =
+    let both : Some x ≡ Some e = at in
+    let same : x ≡ e = cc in
+    let first : selected f (x ∷ es) ≡ x ∷ selected (λ q. f (suc q)) es = ap (λ (b : Bool). cond b (x ∷ selected (λ q. f (suc q)) es) (selected (λ q. f (suc q)) es)) here in
+    let gone : (f 0 && not (0 == 0)) ≡ false = ap (λ (b : Bool). b && false) here in
+    let second : selected (λ q. f q && not (q == 0)) (x ∷ es) ≡ selected (λ q. f (suc q)) es =
+    ap (λ (b : Bool). cond b (x ∷ selected (λ q. f (suc q) && not (suc q == 0)) es) (selected (λ q. f (suc q) && not (suc q == 0)) es)) gone ∙ same-selected (λ q. f (suc q) && not (suc q == 0)) (λ q. f (suc q)) es (λ q. not-first (f (suc q)) q) in
+    subst (λ (ys : List (Name × ItemKind)). IsPermutation (selected f (x ∷ es)) ys) (first ∙ ap (λ (y : Name × ItemKind). y ∷ selected (λ q. f (suc q)) es) same ∙ ap (λ (ys : List (Name × ItemKind)). e ∷ ys) (sym second)) (IsPermutation-refl (selected f (x ∷ es)))
+take-out f (suc p) here (x ∷ es) e at = by_first (f 0) refl (take-out (λ q. f (suc q)) p here es e at)
+  where
+    left : List (Name × ItemKind)
+    left = selected (λ q. f (suc q) && not (suc q == suc p)) es
+
+    further : selected (λ q. f (suc q) && not (q == p)) es ≡ selected (λ q. f (suc q) && not (suc q == suc p)) es
+    further = same-selected (λ q. f (suc q) && not (q == p)) (λ q. f (suc q) && not (suc q == suc p)) es (λ q. ap (λ (b : Bool). f (suc q) && not b) (let same : (q == p) ≡ (suc q == suc p) = grind arith in same))
+
+    by_first : (b : Bool) → f 0 ≡ b → IsPermutation (selected (λ q. f (suc q)) es) (e ∷ selected (λ q. f (suc q) && not (q == p)) es)
+        → IsPermutation (cond (f 0) (x ∷ selected (λ q. f (suc q)) es) (selected (λ q. f (suc q)) es)) (e ∷ cond (f 0 && not (0 == suc p)) (x ∷ selected (λ q. f (suc q) && not (suc q == suc p)) es) (selected (λ q. f (suc q) && not (suc q == suc p)) es))
+    by_first b is before = subst (λ (a : Bool). IsPermutation (cond a (x ∷ selected (λ q. f (suc q)) es) (selected (λ q. f (suc q)) es)) (e ∷ cond (a && not (0 == suc p)) (x ∷ selected (λ q. f (suc q) && not (suc q == suc p)) es) (selected (λ q. f (suc q) && not (suc q == suc p)) es))) (sym is)
+        (both b (subst (λ (ys : List (Name × ItemKind)). IsPermutation (selected (λ q. f (suc q)) es) (e ∷ ys)) further before))
+      where
+        both : (a : Bool) → IsPermutation (selected (λ q. f (suc q)) es) (e ∷ selected (λ q. f (suc q) && not (suc q == suc p)) es)
+            → IsPermutation (cond a (x ∷ selected (λ q. f (suc q)) es) (selected (λ q. f (suc q)) es)) (e ∷ cond (a && not (0 == suc p)) (x ∷ selected (λ q. f (suc q) && not (suc q == suc p)) es) (selected (λ q. f (suc q) && not (suc q == suc p)) es))
+        both false moved = moved
+        both true moved =
+            let apart : (0 == suc p) ≡ false = grind arith in
+            subst (λ (t : Bool). IsPermutation (x ∷ selected (λ q. f (suc q)) es) (e ∷ cond {A = List (Name × ItemKind)} (true && not t) (x ∷ selected (λ q. f (suc q) && not (suc q == suc p)) es) (selected (λ q. f (suc q) && not (suc q == suc p)) es))) (sym apart)
+            (IsPermutation-trans (x ∷ selected (λ q. f (suc q)) es) (x ∷ e ∷ selected (λ q. f (suc q) && not (suc q == suc p)) es) (e ∷ x ∷ selected (λ q. f (suc q) && not (suc q == suc p)) es)
+            (IsPermutation-cons x (selected (λ q. f (suc q)) es) (e ∷ selected (λ q. f (suc q) && not (suc q == suc p)) es) moved) (IsPermutation-middle (x ∷ []) e (selected (λ q. f (suc q) && not (suc q == suc p)) es)))
+
+-- what is taken is what was left
+taken-all : (c : Collection) (es all : List (Name × ItemKind)) (left : ℕ → Bool) (ps : List ℕ) (xs : List (Name × ItemKind)) → Takes c all left ps → AllZip (Stand es) ps xs → IsPermutation (selected left es) xs
+taken-all c es all left [] [] none zip = subst (λ (ys : List (Name × ItemKind)). IsPermutation ys []) (sym (none-selected left es none)) (IsPermutation-refl [])
+taken-all c es all left [] (x ∷ xs) none zip = absurd zip
+taken-all c es all left (p ∷ ps) [] takes zip = absurd zip
+taken-all c es all left (p ∷ ps) (x ∷ xs) takes zip =
+    IsPermutation-trans (selected left es) (x ∷ selected (λ q. left q && not (q == p)) es) (x ∷ xs) (take-out left p takes.0.here es x zip.0)
+    (IsPermutation-cons x (selected (λ q. left q && not (q == p)) es) xs (taken-all c es all (λ q. left q && not (q == p)) ps xs takes.1 zip.1))
+
+pub is-order : (c : Collection) (es : List (Name × ItemKind)) (ps : List ℕ) (xs order : List (Name × ItemKind)) → AreOrdered c es ps → AllZip (Stand es) ps xs → order ≡ xs ++ filter no_type es → IsOrder c es order
+is-order c es ps xs order ordered at is = record {
+  positions = ps;
+  ordered = ordered;
+  types = xs;
+  at = at;
+  is = is;
+  permutation = subst (λ (ys : List (Name × ItemKind)). IsPermutation es ys) (sym is) (IsPermutation-trans es (filter one_type es ++ filter no_type es) (xs ++ filter no_type es)
+      (IsPermutation-filter_both one_type no_type (λ e. refl) es)
+      (IsPermutation-append_left (filter no_type es) (filter one_type es) xs (subst (λ (ys : List (Name × ItemKind)). IsPermutation ys xs) (types-selected es) (taken-all c es es (is_type_at es) ps xs ordered at))));
+}
+
+-- each position that is taken is one of the list
+pub taken-within : (c : Collection) (es : List (Name × ItemKind)) (left : ℕ → Bool) (ps : List ℕ) → Takes c es left ps → ((p : ℕ) → left p ≡ true → p < length es) → (i p : ℕ) → slice_get ps i ≡ Some p → p < length es
+taken-within c es left [] takes few i p at = let none_some : None ≡ Some p = at in cc
+taken-within c es left (q ∷ ps) takes few zero p at = let both : Some q ≡ Some p = at in let same : q ≡ p = cc in subst (λ (r : ℕ). r < length es) same (few q takes.0.here)
+taken-within c es left (q ∷ ps) takes few (suc i) p at = taken-within c es (λ r. left r && not (r == q)) ps takes.1 (λ r h. few r (first (left r) (not (r == q)) h)) i p at
+  where
+    first : (a b : Bool) → (a && b) ≡ true → a ≡ true
+    first true b h = refl
+    first false b h = cc
+
+-- the items of the interface, ordered
+pub order-of : (c : Collection) (i : InterfaceId) (it : Interface) (ps : List ℕ) (xs order : List (Name × ItemKind)) → item_at c.interfaces i.0 ≡ Some it → ((x : Interface) → item_at c.interfaces i.0 ≡ Some x → AreOrdered c x.exports ps)
+    → AllZip (Stand it.exports) ps xs → order ≡ xs ++ filter no_type it.exports → (x : Interface) → item_at c.interfaces i.0 ≡ Some x → IsOrder c x.exports order
+order-of c i it ps xs order found ordered at is x also =
+    let both : Some it ≡ Some x = sym found ∙ also in
+    let same : it ≡ x = cc in
+    subst (λ (y : Interface). IsOrder c y.exports order) same (is-order c it.exports ps xs order (ordered it found) at is)
+
+pub type-within : (es : List (Name × ItemKind)) (p : ℕ) → is_type_at es p ≡ true → p < length es
+type-within [] p h = cc
+type-within (e ∷ es) zero h = omega arith
+type-within (e ∷ es) (suc p) h = let less : p < length es = type-within es p h in omega (arith, less)

@@ -26,7 +26,7 @@ use Rattle.wac_scopes.specs.declared.fault.EncodeFault.{EncodeFault}
 use Rattle.wac_scopes.specs.declared.fault.EncodeFault.TheVariants as fault
 use Rattle.wac_scopes.specs.Scoped.{value_index, opened, AddsFunc, WritesUnlessTooLarge}
 use Rattle.wac_scopes.specs.Laws.{Follows, StaysOnward}
-use Rattle.wac_encode.specs.Made.{MadeOf, OneIsMadeOf}
+use Rattle.wac_listing.specs.Made.{MadeOf, OneIsMadeOf}
 use Rattle.wac_encode.specs.Written.{Says, MaybeSays, IsByRecord, MaybeByRecord, GoesOn, IsKnown, unwritten, WritesFor, IsRefused, values_of, IsOfFunc, AddsHeldFunc, IsFuncByRecord, EndsWithFunc, FuncDoesNotFit, IsFuncRefused}
 use Rattle.wac_encode.specs.Tasks.{FieldSays}
 use Rattle.wac_encode.proofs.Saying.{maybe-is, zip-map}

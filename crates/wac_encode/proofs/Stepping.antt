@@ -12,7 +12,7 @@ use Rattle.wac_scopes.specs.declared.scope.Scope.{Scope}
 use Rattle.wac_scopes.specs.Scoped.{value_index, by_index, in_use}
 use Rattle.wac_scopes.specs.Laws.{Follows}
 use Rattle.wac_encode.specs.declared.task.Task.{Task}
-use Rattle.wac_encode.specs.Made.{MadeOf, parts, part}
+use Rattle.wac_listing.specs.Made.{MadeOf, parts, part}
 use Rattle.wac_encode.specs.Written.{IsKnown, unwritten}
 use Rattle.wac_encode.specs.Tasks.{IsReady, IsNext, IsKnownPart, WritesOne, Did, wrote, passed, put_off, Falls, Covers, IsUnderWay}
 use Rattle.wac_encode.proofs.Stacks.{recorded-now, writes-more}

@@ -17,7 +17,6 @@ use Rattle.wac_scopes.specs.declared.scope.Scope.{Scope}
 use Rattle.wac_encode.specs.Listing.{are_plain, lists_plain, IsOrder, IsEmpty, WritesItems, WritesInterface, AreRefused, IsInterfaceRefused}
 use Rattle.wac_encode.specs.Items.{CanList}
 use Rattle.wac_encode.proofs.Ordered.{stands-there}
-use Rattle.wac_encode.proofs.Behind.{stand-behind}
 use Rattle.wac_encode.proofs.Plain.{plain-each, plain-of, held-items}
 
 pub can-list : (c : Collection) → IsWellFormed c → (i : InterfaceId) (it : Interface) (order : List (Name × ItemKind)) → item_at c.interfaces i.0 ≡ Some it → are_plain it.exports ≡ true → IsOrder c it.exports order → (k : ℕ) (e : Name × ItemKind) → slice_get order k ≡ Some e → CanList c e.1
@@ -40,13 +39,12 @@ refused-whole A B c i it order start (fault.Write f) at ordered empty h = record
 refused-whole A B c i it order start fault.TooLarge at ordered empty h = record { interface = it; found = at; order = order; ordered = ordered; start = start; empty = empty; stopped = h }
 refused-whole A B c i it order start fault.OutOfMemory at ordered empty h = tt
 
-pub written-whole : (c : Collection) → IsWellFormed c → (i : InterfaceId) (it : Interface) (order : List (Name × ItemKind)) (start now : Scope) (ds : List Decl) → item_at c.interfaces i.0 ≡ Some it → IsOrder c it.exports order → IsEmpty start → WritesItems c start order now → now.content ≡ Instance ds → WritesInterface c i ds
-written-whole c wf i it order start now ds at ordered empty written is = record {
+pub written-whole : (c : Collection) (i : InterfaceId) (it : Interface) (order : List (Name × ItemKind)) (start now : Scope) (ds : List Decl) → item_at c.interfaces i.0 ≡ Some it → IsOrder c it.exports order → IsEmpty start → WritesItems c start order now → now.content ≡ Instance ds → WritesInterface c i ds
+written-whole c i it order start now ds at ordered empty written is = record {
   interface = it;
   found = at;
   order = order;
   ordered = ordered;
-  behind = stand-behind c wf order ordered.rising;
   start = start;
   empty = empty;
   scope = now;

@@ -27,7 +27,7 @@ use Rattle.wac_scopes.specs.Contents.{and_type, and_import, count, ContentFits}
 use Rattle.wac_scopes.specs.Scopes.{Open, Stack}
 use Rattle.wac_scopes.specs.Good.{At, Good}
 use Rattle.wac_scopes.specs.Scoped.{value_index, HasToo, opened, root_of, IsNewInRoot, RootImports}
-use Rattle.wac_encode.specs.Made.{MadeOf}
+use Rattle.wac_listing.specs.Made.{MadeOf}
 use Rattle.wac_encode.specs.Written.{WritesFor, HasHandle, IsOfFunc}
 use Rattle.wac_encode.specs.Listing.{lists_plain, WritesInterface, NeededBy, own_types, IsDescribed, SameRecords, TypeDoesNotFit, IsInterfaceRefused}
 

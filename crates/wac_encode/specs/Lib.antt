@@ -1,4 +1,3 @@
-pub mod Made
 pub mod Written
 pub mod Tasks
 pub mod Listing

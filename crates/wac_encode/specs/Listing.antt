@@ -1,8 +1,6 @@
 -- What the writer of interfaces writes.
-use Rattle.std.specs.Prelude.{ℕ, ◌-◌, ◌^◌, ◌<◌, ◌≡◌, ◌⊎◌, Bool, true, false, List, [], ◌∷◌, ◌++◌, Option, Some, None, slice_get, Result, Ok, Err, IsPermutation}
-use Rattle.std.specs.List.{list_all}
-use Rattle.std.specs.List.Sorted.{IsNonDecreasingBy, IsStableByKey}
-use Rattle.std.specs.Ordering.{nat_cmp}
+use Rattle.std.specs.Prelude.{ℕ, ◌≡◌, ◌⊎◌, not, Bool, true, false, List, [], ◌∷◌, ◌++◌, Option, Some, None, slice_get, Result, Ok, Err, IsPermutation}
+use Rattle.std.specs.List.{AllZip, filter, list_all}
 use Rattle.wac_shapes.specs.Name.{Name, option_case}
 use Rattle.wac_shapes.specs.declared.component.DefinedTypeId.{DefinedTypeId}
 use Rattle.wac_shapes.specs.declared.component.Interface.{Interface}
@@ -31,7 +29,8 @@ use Rattle.wac_scopes.specs.Scopes.{Open, Stack, next_type, with_def}
 use Rattle.wac_scopes.specs.Good.{IsHeld, Good}
 use Rattle.wac_scopes.specs.Laws.{Adds}
 use Rattle.wac_scopes.specs.Scoped.{value_index, HasToo, AddsPrimitive, ListsValue}
-use Rattle.wac_encode.specs.Made.{MadeOf}
+use Rattle.wac_listing.specs.Made.{MadeOf}
+use Rattle.wac_listing.specs.Order.{is_type, AreOrdered}
 use Rattle.wac_encode.specs.Written.{WritesFor, HasHandle, DoesNotFit, IsOfFunc, AddsHeldFunc, EndsWithFunc, FuncDoesNotFit}
 
 -- closed, these declarations are the held interface, in each good stack, and that stack goes onward
@@ -54,38 +53,15 @@ are_plain es = list_all (λ e. is_plain e.1) es
 abbrev pub lists_plain : Collection → InterfaceId → Bool
 lists_plain c i = option_case (item_at c.interfaces i.0) true (λ it. are_plain it.exports)
 
--- Where an item stands in the order of writing: type items first, by the positions of the definitions at the ends of their aliases,
--- a primitive as the first definition; so each stands behind those that it mentions. All other items stand behind them.
-abbrev pub value_rank : ValueType → ℕ
-value_rank (val.Defined d) = d.0
-value_rank v = 0
-
-abbrev pub last_rank : ℕ
-last_rank = 2 ^ 64 - 1
-
-abbrev pub rank : Collection → ItemKind → ℕ
-rank c (kind.TypeItem (ty.Value v)) = value_rank (value_resolved c v)
-rank c k = last_rank
-
--- the same items by rising ranks, those of one rank as they are listed
+-- the type items, each the first listed one of those left that mentions none of those left; then the others, as they are listed
 pub record IsOrder (c : Collection) (es order : List (Name × ItemKind)) : Type 0 where
+  pub positions : List ℕ
+  pub ordered : AreOrdered c es positions
+  pub types : List (Name × ItemKind)
+  pub at : AllZip (λ p e. slice_get es p ≡ Some e) positions types
+  pub is : order ≡ types ++ filter (λ e. not (is_type e.1)) es
+  -- so they are the same items
   pub permutation : IsPermutation es order
-  pub rising : IsNonDecreasingBy (λ (e : Name × ItemKind). rank c e.1) order
-  pub stable : IsStableByKey (λ (e : Name × ItemKind). rank c e.1) nat_cmp es order
-
--- a definition that another one is made of
-abbrev pub IsMadeOfOther : Collection → ValueType → ValueType → Type 0
-IsMadeOfOther c (val.Defined d) (val.Defined e) = MadeOf c (val.Defined d) (val.Defined e) × (e ≡ d → ⊥)
-IsMadeOfOther c v w = ⊥
-
--- the first is a type item whose definition is made of that of the second
-abbrev pub Mentions : Collection → ItemKind → ItemKind → Type 0
-Mentions c (kind.TypeItem (ty.Value v)) (kind.TypeItem (ty.Value w)) = IsMadeOfOther c (value_resolved c v) (value_resolved c w)
-Mentions c k l = ⊥
-
--- each type item stands behind those that it mentions
-abbrev pub StandBehind : Collection → List (Name × ItemKind) → Type 0
-StandBehind c order = (i j : ℕ) (e f : Name × ItemKind) → slice_get order i ≡ Some e → slice_get order j ≡ Some f → Mentions c e.1 f.1 → j < i
 
 -- what an item is made of
 abbrev pub NeededBy : Collection → ItemKind → ValueType → Type 0
@@ -157,7 +133,6 @@ pub record WritesInterface (c : Collection) (i : InterfaceId) (ds : List Decl) :
   pub found : item_at c.interfaces i.0 ≡ Some interface
   pub order : List (Name × ItemKind)
   pub ordered : IsOrder c interface.exports order
-  pub behind : StandBehind c order
   pub start : Scope
   pub empty : IsEmpty start
   pub scope : Scope

@@ -19,7 +19,7 @@ use Rattle.wac_scopes.specs.declared.fault.WriteFault.TheVariants as write
 use Rattle.wac_scopes.specs.Contents.{and_type, ContentFits}
 use Rattle.wac_scopes.specs.Scoped.{value_index, HasToo}
 use Rattle.wac_encode.specs.declared.task.Task.{Task}
-use Rattle.wac_encode.specs.Made.{MadeOf, parts}
+use Rattle.wac_listing.specs.Made.{MadeOf, parts}
 use Rattle.wac_encode.specs.Written.{Says, MaybeSays, SaysDefinition, GoesOn, IsByRecord, IsKnown, IsHandle, WritesFor}
 
 -- a field and a case as they are written

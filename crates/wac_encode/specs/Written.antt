@@ -30,7 +30,7 @@ use Rattle.wac_scopes.specs.Good.{IsHeld, Good, Onward}
 use Rattle.wac_scopes.specs.Laws.{Adds}
 use Rattle.wac_scopes.specs.Parts.{Is, IsWritten, IsWrittenFunc}
 use Rattle.wac_scopes.specs.Scoped.{value_index, in_use, opened, IsNewInRoot, RootImports}
-use Rattle.wac_encode.specs.Made.{OneIsMadeOf}
+use Rattle.wac_listing.specs.Made.{OneIsMadeOf}
 
 -- the value type in use is the held one, in each good stack in which the scope is the innermost
 abbrev pub Says : Collection → Scope → ValueType → ComponentValType → Type 0

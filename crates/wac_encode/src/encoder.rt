@@ -3,7 +3,7 @@
 //! A definition whose parts are not written yet waits in a list of tasks, below its parts, so that no chain of definitions is
 //! too long. Each definition is written once in a scope, behind its parts, the first mentioned first.
 
-ghost use Rattle.std.specs.Prelude.{◌≡◌, true, ℕ, List, Option, None, Some, IsSome, IfOk, OnOk, OnErr, slice_get};
+ghost use Rattle.std.specs.Prelude.{◌≡◌, ◌<◌, true, ℕ, List, Option, None, Some, IsSome, IfOk, OnOk, OnErr, length, slice_get};
 ghost use Rattle.std.specs.List.{AllZip};
 ghost use Rattle.wac_shapes.specs.declared.component.ValueType.TheVariants as val;
 ghost use Rattle.wac_shapes.specs.declared.component.ValueType.{ValueType as AnyValue};
@@ -11,18 +11,18 @@ ghost use Rattle.wac_collection.specs.Collection.{HasDefined, holds_value, item_
 ghost use Rattle.wac_collection.specs.Aliases.{target_of, value_resolved};
 ghost use Rattle.wac_binary.specs.Views.{defined_of};
 ghost use Rattle.wac_scopes.specs.Scoped.{IsAsBefore, value_index};
-ghost use Rattle.wac_encode.specs.Made.{MadeOf};
+ghost use Rattle.wac_listing.specs.Made.{MadeOf};
 ghost use Rattle.wac_encode.specs.Written.{Says, MaybeSays, SaysDefinition, IsByRecord, IsKnown, WritesFor, IsRefused};
 ghost use Rattle.wac_encode.specs.Tasks.{IsReady, Did, WritesOne, AllKnown, FieldSays, CaseSays, IsText, IsPlain, IsOneRefused, IsMissing, IsStepRefused};
 ghost use Rattle.wac_shapes.specs.declared.component.DefinedType.{DefinedType as AnyDefined};
 
-use crate::parts::{part_at, value_of};
 use crate::task::Task;
 use std::alloc::{AllocError, Global};
 use wac_binary::{ComponentValType, DefinedType};
 use wac_collection::{
     DefinedType as HeldType, DefinedTypeId, Labels, Named, Sequence, Types, ValueType,
 };
+use wac_listing::part_at;
 use wac_scopes::{EncodeFault, Scope, WriteFault, alias_law, step_law, still_law};
 
 /// Writes types of a collection into open scopes.
@@ -302,4 +302,12 @@ impl<'a> TypeEncoder<'a> {
             }
         }
     }
+}
+
+/// The value type at a position, which is one of the list.
+fn value_of(values: &[ValueType], index: usize) -> ValueType
+    requires { index < length values.now }
+    ensures { slice_get values.now index ≡ Some result }
+{
+    values[index]
 }

@@ -3,7 +3,7 @@
 ghost use Rattle.std.specs.Prelude.{◌≡◌, true, ℕ, List, [], Option, Some, IfOk, OnOk, slice_get};
 ghost use Rattle.wac_shapes.specs.declared.component.ValueType.{ValueType as AnyValue};
 ghost use Rattle.wac_collection.specs.Collection.{HasFunc, and_maybe, holds_value, item_at, seconds};
-ghost use Rattle.wac_encode.specs.Made.{OneIsMadeOf};
+ghost use Rattle.wac_listing.specs.Made.{OneIsMadeOf};
 ghost use Rattle.wac_encode.specs.Written.{MaybeSays, MaybeByRecord, IsKnown, WritesFor, IsRefused, IsOfFunc, AddsHeldFunc, EndsWithFunc, IsFuncRefused, one_if_ok};
 
 use crate::encoder::TypeEncoder;

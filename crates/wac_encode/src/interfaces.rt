@@ -1,26 +1,30 @@
 //! The writer of interfaces.
 
-ghost use Rattle.std.specs.Prelude.{◌≡◌, ◌<◌, ◌↔◌, ℕ, List, true, false, None, Some, IfOk, OnOk, length, slice_get};
+ghost use Rattle.std.specs.Prelude.{◌≡◌, ◌<◌, ◌↔◌, ◌++◌, not, ℕ, List, true, false, None, Some, IfOk, OnOk, length, slice_get};
+ghost use Rattle.std.specs.List.{AllZip, filter};
 ghost use Rattle.wac_shapes.specs.Named.{NoNameTwice, named_pairs};
 ghost use Rattle.wac_shapes.specs.declared.component.ItemKind.{ItemKind as AnyItem};
 ghost use Rattle.wac_shapes.specs.declared.component.ItemKind.TheVariants as kind;
 ghost use Rattle.wac_shapes.specs.declared.component.ValueType.TheVariants as val;
 ghost use Rattle.wac_shapes.specs.declared.component.«Type».TheVariants as ty;
-ghost use Rattle.wac_collection.specs.Collection.{HasFunc, HasInterface, holds_value};
+ghost use Rattle.wac_shapes.specs.declared.component.Interface.{Interface as AnInterface};
+ghost use Rattle.wac_collection.specs.Collection.{HasFunc, HasInterface, holds_value, item_at};
 ghost use Rattle.wac_collection.specs.Aliases.{value_resolved};
 ghost use Rattle.wac_scopes.specs.declared.encodable.Encodable.TheVariants.{Instance};
 ghost use Rattle.wac_scopes.specs.Contents.{IsOpenType};
 ghost use Rattle.wac_scopes.specs.Scoped.{value_index};
-ghost use Rattle.wac_encode.specs.Listing.{SaysIfThere, WritesIfThere, is_plain as plain_item, are_plain as plain_items, lists_plain, rank as item_rank, IsOrder, WritesItem, WritesItems, IsEmpty, IsItemRefused, AreRefused, IsInterfaceRefused};
+ghost use Rattle.wac_listing.specs.Order.{is_type};
+ghost use Rattle.wac_encode.specs.Listing.{SaysIfThere, WritesIfThere, is_plain as plain_item, are_plain as plain_items, lists_plain, IsOrder, WritesItem, WritesItems, IsEmpty, IsItemRefused, AreRefused, IsInterfaceRefused};
 ghost use Rattle.wac_encode.specs.Items.{ListsHeld, CanClose, CanList, HasListed};
 
 use crate::encoder::TypeEncoder;
-use std::alloc::AllocError;
+use std::alloc::{AllocError, Global};
 use wac_binary::{ComponentValType, InstanceType};
 use wac_collection::{
     DefinedTypeId, FuncTypeId, Interface, InterfaceId, ItemKind, Named, PrimitiveType, Type,
     ValueType,
 };
+use wac_listing::type_order;
 use wac_scopes::{
     Encodable, EncodeFault, Scope, WriteFault, alias_law, closing_law, listing_law, step_law,
     still_law,
@@ -180,29 +184,15 @@ impl<'a> TypeEncoder<'a> {
         Ok(())
     }
 
-    /// How far back an item is written.
-    fn rank(&self, item: ItemKind) -> usize
-        ensures { result ≡ item_rank self.now.types.now item }
+    /// The items of an interface in the order in which they are written.
+    fn order(&self, interface: InterfaceId) -> Result<Vec<(&'a str, ItemKind)>, AllocError>
+        requires { HasInterface self.now.types.now interface }
+        ensures { IfOk result (λ order. (it : AnInterface) → item_at self.now.types.now.interfaces interface.0 ≡ Some it → IsOrder self.now.types.now it.exports (named_pairs order.items)) }
     {
-        match item {
-            ItemKind::TypeItem(Type::Value(value)) => match self.types.resolve_value_type(value) {
-                ValueType::Defined(id) => id.0,
-                _ => 0,
-            },
-            _ => usize::MAX,
-        }
-    }
-
-    /// Items in the order in which they are written.
-    fn order<'b>(&self, items: &'b Named<ItemKind>) -> Result<Vec<(&'b str, ItemKind)>, AllocError>
-        ensures { IfOk result (λ order. IsOrder self.now.types.now items.now (named_pairs order.items)) }
-    {
-        let mut order = Vec::new(self.types.allocator());
-        for i in 0..items.len() {
-            let (name, item) = items.entry_at(i);
-            order.push((name, *item))?;
-        }
-        order.sort_by_key(|entry| self.rank(entry.1))?;
+        let items = &self.types[interface].exports;
+        let positions = type_order(self.types, interface)?;
+        let mut order = items_at(self.types.allocator(), items, positions.as_slice())?;
+        add_others(items, &mut order)?;
         Ok(order)
     }
 
@@ -214,8 +204,8 @@ impl<'a> TypeEncoder<'a> {
         are_plain(&self.types[interface].exports)
     }
 
-    /// Writes a held interface as an instance type: type items by the positions of the definitions that they mean, aliases followed
-    /// to their ends, so each behind those that it mentions; then functions, as they are listed. A definition that a type item lists
+    /// Writes a held interface as an instance type: type items first, the next always the first listed one of those left that mentions
+    /// none of those left; then functions, as they are listed. A definition that a type item lists
     /// is written by the first such item's index; all else is written once, just before what mentions it. Nothing around the interface
     /// is looked at: what it uses of another is written in place.
     ///
@@ -241,7 +231,7 @@ impl<'a> TypeEncoder<'a> {
             return Ok(None);
         }
         held.exports.law();
-        let order = self.order(&held.exports)?;
+        let order = self.order(interface)?;
         let alloc = self.types.allocator();
         let mut scope = Scope::new(alloc, Encodable::Instance(InstanceType::new(alloc)));
         self.items(&mut scope, held, order.as_slice())?;
@@ -259,6 +249,46 @@ fn instance_type(content: Encodable) -> InstanceType
         Encodable::Instance(declarations) => declarations,
         Encodable::Builder(_) | Encodable::Component(_) => unreachable!(),
     }
+}
+
+/// The items at these positions.
+fn items_at<'b>(
+    alloc: Global,
+    items: &'b Named<ItemKind>,
+    positions: &[usize],
+) -> Result<Vec<(&'b str, ItemKind)>, AllocError>
+    requires { (i p : ℕ) → slice_get positions.now i ≡ Some p → p < length items.now }
+    ensures { IfOk result (λ order. AllZip (λ p e. slice_get items.now p ≡ Some e) positions.now (named_pairs order.items)) }
+{
+    let mut order = Vec::new(alloc);
+    for i in 0..positions.len() {
+        let (name, item) = items.entry_at(positions[i]);
+        order.push((name, *item))?;
+    }
+    Ok(order)
+}
+
+/// Puts the items that are no types behind these.
+fn add_others<'b>(
+    items: &'b Named<ItemKind>,
+    order: &mut Vec<(&'b str, ItemKind)>,
+) -> Result<(), AllocError>
+    ensures { OnOk result (named_pairs order.new.items ≡ named_pairs order.old.items ++ filter (λ e. not (is_type e.1)) items.now) }
+{
+    for i in 0..items.len() {
+        let (name, item) = items.entry_at(i);
+        if !is_type_item(*item) {
+            order.push((name, *item))?;
+        }
+    }
+    Ok(())
+}
+
+/// Whether an item is a type.
+fn is_type_item(item: ItemKind) -> bool
+    ensures { result ≡ is_type item }
+{
+    matches!(item, ItemKind::TypeItem(_))
 }
 
 /// The item at a position, which is one of the list.

@@ -5,7 +5,6 @@ mod encoder;
 mod functions;
 mod imports;
 mod interfaces;
-mod parts;
 mod task;
 
 pub use encoder::TypeEncoder;

@@ -43,6 +43,20 @@ const TWICE: [u8; 58] = [
     0x0a, 0x0a, 0x01, 0x00, 0x05, 0x6e, 0x3a, 0x70, 0x2f, 0x69, 0x05, 0x00, // the import
 ];
 
+const ORDERED: [u8; 69] = [
+    0x00, 0x61, 0x73, 0x6d, 0x0d, 0x00, 0x01, 0x00, // the preamble
+    0x07, 0x2f, 0x01, 0x42, 0x08, // an instance type of eight declarations
+    0x01, 0x6d, 0x01, 0x01, 0x78, // the enum
+    0x04, 0x00, 0x01, 0x61, 0x03, 0x00, 0x00, // `a`
+    0x01, 0x6b, 0x01, // an option of `a`
+    0x04, 0x00, 0x01, 0x63, 0x03, 0x00, 0x02, // `c`
+    0x01, 0x70, 0x01, // a list of `a`
+    0x04, 0x00, 0x01, 0x62, 0x03, 0x00, 0x04, // `b`
+    0x01, 0x6f, 0x02, 0x05, 0x03, // a tuple of `b` and `c`
+    0x04, 0x00, 0x01, 0x64, 0x03, 0x00, 0x06, // `d`
+    0x0a, 0x0a, 0x01, 0x00, 0x05, 0x6e, 0x3a, 0x70, 0x2f, 0x69, 0x05, 0x00, // the import
+];
+
 // The bytes of a component that imports an interface of these items.
 fn imported(types: &Types, interface: InterfaceId) -> Result<Vec<u8>, Fail>
     requires { HasInterface types.now interface }
@@ -93,6 +107,31 @@ fn writes_what_is_mentioned_first(rt: HostRuntime) -> Result<(), Fail> {
     let interface = types.add_interface(Interface::new(alloc, Some("n:p/i"), &items)?)?;
     if types.contains(Type::Interface(interface)) {
         assert!(rt; imported(&types, interface)?.as_slice() == HOISTED.as_slice());
+    }
+    Ok(())
+}
+
+// Of the type items that are left, the first listed one that mentions none of them is next: `c` comes before `b`.
+#[test]
+fn writes_the_first_that_mentions_none_left(rt: HostRuntime) -> Result<(), Fail> {
+    let alloc = rt.alloc();
+    let mut types = Types::new(alloc);
+    let a = ValueType::Defined(types.add_defined_type(DefinedType::Enum(Enum::new(
+        alloc,
+        &["x"],
+    )?))?);
+    let b = ValueType::Defined(types.add_defined_type(DefinedType::List(a))?);
+    let c = ValueType::Defined(types.add_defined_type(DefinedType::Option(a))?);
+    let d = ValueType::Defined(types.add_defined_type(DefinedType::tuple(alloc, &[b, c])?)?);
+    let items = [
+        ("d", ItemKind::TypeItem(Type::Value(d))),
+        ("c", ItemKind::TypeItem(Type::Value(c))),
+        ("b", ItemKind::TypeItem(Type::Value(b))),
+        ("a", ItemKind::TypeItem(Type::Value(a))),
+    ];
+    let interface = types.add_interface(Interface::new(alloc, Some("n:p/i"), &items)?)?;
+    if types.contains(Type::Interface(interface)) {
+        assert!(rt; imported(&types, interface)?.as_slice() == ORDERED.as_slice());
     }
     Ok(())
 }

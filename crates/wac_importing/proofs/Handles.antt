@@ -25,7 +25,7 @@ use Rattle.wac_subtyping.proofs.Resolved.{resolved_held}
 use Rattle.wac_subtyping.proofs.Trees.{aliases_agree}
 use Rattle.wac_reach.specs.Reach.{IsIn, mentions, Reaches, at_once, further}
 use Rattle.wac_reach.proofs.Reaching.{mentioned_held}
-use Rattle.wac_encode.specs.Made.{parts, MadeOf, itself, part, some_of, second_of, some_second_of}
+use Rattle.wac_listing.specs.Made.{parts, MadeOf, itself, part, some_of, second_of, some_second_of}
 use Rattle.wac_encode.specs.Written.{IsHandle, HasHandle, IsOfFunc}
 use Rattle.wac_meaning.specs.Importable.{HasNoHandle, IsPlainItem}
 use Rattle.wac_importing.specs.Looked.{IsOfValues}

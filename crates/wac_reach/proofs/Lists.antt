@@ -1,9 +1,11 @@
 -- What is in a list of types, and in one with more.
-use Rattle.std.proofs.Common.{ℕ, zero, suc, ◌<◌, Bool, true, false, ◌||◌, if◌then◌else◌, List, [], ◌∷◌, ◌++◌, Option, Some, None, length, drop, get_or, ◌+◌, ◌≡◌, ◌⊎◌, inl, inr, refl, ap, sym, ◌∙◌, subst, arith, append_assoc}
+use Rattle.std.proofs.Common.{ℕ, zero, suc, ◌<◌, Bool, true, false, ◌||◌, if◌then◌else◌, List, [], ◌∷◌, ◌++◌, Option, Some, None, IfSome, IfNone, is_some, length, drop, get_or, ◌+◌, ◌≡◌, ◌⊎◌, inl, inr, refl, ap, sym, ◌∙◌, subst, arith, append_assoc}
 use Rattle.std.specs.Prelude.{slice_get}
 use Rattle.std.specs.Option.{option_map}
-use Rattle.std.specs.List.{list_any}
+use Rattle.std.specs.List.{AllByRecursion, list_any, position}
+use Rattle.std.proofs.lemmas.List.Quantifiers.{position-Some}
 use Rattle.std.proofs.lemmas.List.{append-nil}
+use Rattle.std.proofs.lemmas.Map.Keys.{IsDistinct-head, IsDistinct-tail}
 use Rattle.std.proofs.lemmas.Option.{slice_get-get_or}
 use Rattle.indexmap.specs.IndexSet.{insert_key}
 use Rattle.wac_shapes.specs.contracts.component.TypePartialEq.TheImpl as TypeEq
@@ -11,7 +13,7 @@ use Rattle.wac_shapes.specs.declared.component.«Type».{«Type» as AnyType}
 use Rattle.wac_shapes.specs.declared.component.ValueType.{ValueType}
 use Rattle.wac_collection.specs.Collection.{value_types, and_maybe}
 use Rattle.wac_reach.specs.Reach.{IsIn}
-use Rattle.wac_reach.specs.Found.{with_all}
+use Rattle.wac_reach.specs.Found.{with_all, NoneTwice}
 use Rattle.wac_reach.proofs.TypeKeys.{same_type, type_itself}
 
 pub in_left : (t : AnyType) (ts us : List AnyType) → IsIn t ts → IsIn t (ts ++ us)
@@ -135,3 +137,46 @@ pub read_at : (ts keys found : List AnyType) (i n : ℕ) (d : AnyType) → i < n
 read_at ts keys found i n d low count same seen =
     let long : n ≡ length ts = count ∙ ap length (sym same) in
     subst (λ xs. slice_get xs i ≡ Some (get_or ts i d)) (same ∙ seen) (slice_get-get_or ts i d (omega (arith, low, long)))
+
+-- a type from which all of the list differ is not in it
+not_behind : (t : AnyType) (ts : List AnyType) → AllByRecursion (λ z. (TypeEq.ghosts).eq t z ≡ false) ts → IsIn t ts → ⊥
+not_behind t [] all h = h
+not_behind t (x ∷ ts) all (inl e) = let is : true ≡ false = sym (subst (λ z. (TypeEq.ghosts).eq t z ≡ true) e (type_itself t)) ∙ all.0 in cc
+not_behind t (x ∷ ts) all (inr h) = not_behind t ts all.1 h
+
+-- a type that is found at a position stands there
+pub found_at : (t : AnyType) (ts : List AnyType) (k : ℕ) → position ((TypeEq.ghosts).eq t) ts ≡ Some k → slice_get ts k ≡ Some t
+found_at t ts k is =
+    let found = position-Some ((TypeEq.ghosts).eq t) ts k t is in
+    slice_get-get_or ts k t found.0 ∙ ap Some (sym (same_type t (get_or ts k t) found.1))
+
+-- no type stands at two positions
+pub stands_once : (t : AnyType) (ts : List AnyType) → NoneTwice ts → (i j : ℕ) → slice_get ts i ≡ Some t → slice_get ts j ≡ Some t → i ≡ j
+stands_once t [] once i j at also = let none_some : None ≡ Some t = at in cc
+stands_once t (x ∷ ts) once i j at also = by i j at also (stands_once t ts (IsDistinct-tail (TypeEq.ghosts).eq x ts once))
+  where
+    apart : x ≡ t → (k : ℕ) → slice_get ts k ≡ Some t → ⊥
+    apart same k is = not_behind t ts (subst (λ y. AllByRecursion (λ z. (TypeEq.ghosts).eq y z ≡ false) ts) same (IsDistinct-head (TypeEq.ghosts).eq x ts once)) (in_at t ts k is)
+
+    by : (i j : ℕ) → slice_get (x ∷ ts) i ≡ Some t → slice_get (x ∷ ts) j ≡ Some t → ((k l : ℕ) → slice_get ts k ≡ Some t → slice_get ts l ≡ Some t → k ≡ l) → i ≡ j
+    by zero zero at also further = refl
+    by zero (suc j) at also further = let both : Some x ≡ Some t = at in let same : x ≡ t = cc in absurd (apart same j also)
+    by (suc i) zero at also further = let both : Some x ≡ Some t = also in let same : x ≡ t = cc in absurd (apart same i at)
+    by (suc i) (suc j) at also further = ap suc (further i j at also)
+
+-- what a look-up answers
+module _ (t : AnyType) (keys ts : List AnyType) (same : keys ≡ ts) where
+  at_result : (o : Option ℕ) → o ≡ position ((TypeEq.ghosts).eq t) keys → IfSome o (λ k. slice_get keys k ≡ Some t)
+  at_result (Some k) is = found_at t keys k (sym is)
+  at_result None is = tt
+
+  pub look_up_there : (o : Option ℕ) → o ≡ position ((TypeEq.ghosts).eq t) keys → IfSome o (λ k. slice_get ts k ≡ Some t)
+  look_up_there o is = subst (λ xs. IfSome o (λ k. slice_get xs k ≡ Some t)) same (at_result o is)
+
+  pub look_up_alone : (o : Option ℕ) → o ≡ position ((TypeEq.ghosts).eq t) keys → NoneTwice keys → IfSome o (λ k. (j : ℕ) → slice_get ts j ≡ Some t → j ≡ k)
+  look_up_alone (Some k) is once = λ j at. stands_once t keys once j k (subst (λ xs. slice_get xs j ≡ Some t) (sym same) at) (found_at t keys k (sym is))
+  look_up_alone None is once = tt
+
+  pub look_up_none : (o : Option ℕ) → is_some o ≡ list_any ((TypeEq.ghosts).eq t) keys → IfNone o (IsIn t ts → ⊥)
+  look_up_none (Some k) found = tt
+  look_up_none None found = λ h. let is : false ≡ true = found ∙ test_in t keys (subst (λ xs. IsIn t xs) (sym same) h) in cc

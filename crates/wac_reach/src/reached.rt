@@ -1,5 +1,5 @@
 //! The types that a type reaches.
-ghost use Rattle.std.specs.Prelude.{◌≡◌, ◌↔◌, [], IsTrue, IfOk, true};
+ghost use Rattle.std.specs.Prelude.{◌≡◌, ◌↔◌, ℕ, [], Some, IsTrue, IfOk, IfSome, IfNone, true, slice_get};
 ghost use Rattle.wac_collection.specs.Collection.{holds_type};
 ghost use Rattle.wac_shapes.specs.declared.component.«Type».{«Type» as AnyType};
 ghost use Rattle.wac_reach.specs.Reach.{IsIn, Reaches};
@@ -46,6 +46,17 @@ impl Reached {
         ensures { IsTrue result ↔ IsIn ty self.now }
     {
         self.types.contains(&ty)
+    }
+
+    /// The position of the type, which stands at no other.
+    pub fn position(&self, ty: Type) -> Option<usize>
+        ensures there { IfSome result (λ k. slice_get self.now k ≡ Some ty) }
+        ensures alone { IfSome result (λ k. (j : ℕ) → slice_get self.now j ≡ Some ty → j ≡ k) }
+        ensures none { IfNone result (IsIn ty self.now → ⊥) }
+    {
+        // No type stands twice.
+        let _types = self.types.as_slice();
+        self.types.get_index_of(&ty)
     }
 
     /// The types, in the order in which they were found.

@@ -1,4 +1,4 @@
-use crate::reached::reach;
+use crate::reached::{Reached, reach};
 use std::alloc::Global;
 use std::process::Abort;
 use std::test::Fail;
@@ -6,12 +6,23 @@ use wac_collection::*;
 
 const BOOL: ValueType = ValueType::Primitive(PrimitiveType::Bool);
 
+// Whether each type is found at its own position.
+fn stand_at_their_positions(found: &Reached) -> bool {
+    for (i, it) in found.as_slice().iter().enumerate() {
+        if found.position(*it) != Some(i) {
+            return false;
+        }
+    }
+    true
+}
+
 // Whether a type reaches exactly these, in the order in which they are found.
 fn reaches(types: &Types, rt: &impl Abort, ty: Type, wanted: &[Type]) -> Result<bool, Fail> {
     let held = types.contains(ty);
     assert!(rt; held);
     let found = reach(types, ty)?;
-    Ok(found.as_slice() == wanted && found.as_slice().iter().all(|it| found.contains(*it)))
+    let stand = stand_at_their_positions(&found);
+    Ok(stand && found.as_slice() == wanted && found.as_slice().iter().all(|it| found.contains(*it)))
 }
 
 #[test]

@@ -5,3 +5,4 @@ pub mod AsGiven
 pub mod Under
 pub mod Pairs
 pub mod Clones
+pub mod Parts

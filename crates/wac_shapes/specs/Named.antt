@@ -1,5 +1,5 @@
 -- Entries under names, in order.
-use Rattle.std.specs.Prelude.{ℕ, suc, ◌≡◌, if◌then◌else◌, List, [], ◌∷◌, ◌++◌, map, string_bytes, Option, Some, None}
+use Rattle.std.specs.Prelude.{ℕ, suc, ◌≡◌, if◌then◌else◌, List, [], ◌∷◌, ◌++◌, map, string_bytes, Option, Some, None, Box}
 use Rattle.std.specs.List.{AllZip}
 use Rattle.std.specs.Borrow.{Bor}
 use Rattle.std.specs.declared.string.String.{String}
@@ -53,3 +53,8 @@ find_under es m n = option_case (find_name es m) None (λ inner. find_name inner
 abbrev pub inserted_under : {V : Type 0} → List (Name × List (Name × V)) → Name → Name → V → List (Name × List (Name × V))
 inserted_under [] m n v = (m, (n, v) ∷ []) ∷ []
 inserted_under (e ∷ rest) m n v = if same_name m e.0 then (e.0, e.1 ++ (n, v) ∷ []) ∷ rest else e ∷ inserted_under rest m n v
+
+-- what stands in a box, where there is one
+abbrev pub unboxed : {X A : Type 0} → Option (Box (List X) A) → List X
+unboxed None = []
+unboxed (Some b) = b.value

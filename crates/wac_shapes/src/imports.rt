@@ -3,7 +3,8 @@ ghost use Rattle.std.specs.Prelude.{◌≡◌, ◌<◌, ◌++◌, ◌∷◌, ◌
 ghost use Rattle.std.specs.Option.{option_copied};
 ghost use Rattle.wac_shapes.specs.Imports.{find_import, position_under, NoImportTwice};
 
-use crate::named::{Named, ShapeError, Text};
+use crate::mapped::Mapped;
+use crate::named::{ShapeError, Text};
 use std::alloc::{AllocError, Global};
 use std::marker::Model;
 use std::{fmt, slice};
@@ -79,7 +80,7 @@ pub struct CoreImports<V> {
     // In the order given.
     entries: Vec<CoreImport<V>>,
     // The positions there, by module and then by name.
-    positions: Named<Named<usize>>,
+    positions: Mapped<Mapped<usize>>,
 }
 
 impl<V: Drop> Drop for CoreImports<V> {
@@ -200,7 +201,7 @@ impl<V> CoreImports<V> {
     {
         CoreImports {
             entries: Vec::new(alloc),
-            positions: Named::new(alloc),
+            positions: Mapped::new(alloc),
         }
     }
 

@@ -4,6 +4,7 @@
 mod component;
 mod core_types;
 mod imports;
+mod mapped;
 mod named;
 
 pub use component::{

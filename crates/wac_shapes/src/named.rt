@@ -2,12 +2,12 @@
 ghost use Rattle.std.specs.Prelude.{◌≡◌, ◌<◌, ◌++◌, ◌∷◌, ◌↔◌, ℕ, List, [], length, slice_get, Some, None, Err, IfOk, OnOk, OnErr, IsOk, IsSome, string_bytes};
 ghost use Rattle.std.specs.Option.{option_map, option_copied};
 ghost use Rattle.wac_shapes.specs.Name.{find_name};
-ghost use Rattle.wac_shapes.specs.Named.{named_at, named_pairs, labelled, given_names, find_under, inserted_under, NoNameTwice};
+ghost use Rattle.wac_shapes.specs.Named.{named_at, named_pairs, labelled, given_names, NoNameTwice};
 
-use indexmap::{IndexMap, map};
+use crate::mapped::{MappedEntries, Rest};
 use std::alloc::{AllocError, Global};
-use std::fmt;
 use std::marker::Model;
+use std::{fmt, slice};
 use thiserror::Error;
 
 /// Why a shape is not built.
@@ -254,7 +254,9 @@ impl Labels {
         ensures names { OnOk result (NoNameTwice (labelled (given_names names.now))) }
         ensures name_twice { result ≡ Err ShapeError.NameTwice → NoNameTwice (labelled (given_names names.now)) → ⊥ }
     {
-        let mut labels = Named::new(alloc);
+        let Ok(mut labels) = Named::with_capacity(alloc, names.len()) else {
+            return Err(ShapeError::OutOfMemory);
+        };
         for i in 0..names.len() {
             match labels.insert(alloc, names[i], ()) {
                 Ok(()) => {}
@@ -328,26 +330,79 @@ impl<'a> Iterator for LabelNames<'a> {
     }
 }
 
+/// How many values stand in a list that is searched through, where it is not known how many there will be.
+const FEW: usize = 8;
+
+// A value, and the name that it stands under.
+#[derive(Drop)]
+struct Entry<V> {
+    name: String,
+    value: V,
+}
+
+impl<V> Model for Entry<V> {
+    ghost use Rattle.std.specs.Prelude.{List, ℕ, string_bytes};
+
+    ghost Value = { List ℕ × V };
+
+    ghost view = { λ e. (string_bytes e.name, e.value) };
+}
+
+impl<V: Clone> Clone for Entry<V> {
+    ghost is_clone = { λ a b. (b.0 ≡ a.0) × V.is_clone a.1 b.1 };
+
+    fn clone(&self) -> Result<Entry<V>, AllocError> {
+        let name = self.name.clone()?;
+        let value = self.value.clone()?;
+        Ok(Entry { name, value })
+    }
+}
+
+impl<V> Entry<V> {
+    // The name and the value.
+    fn pair(&self) -> (&str, &V)
+        ensures { (result.0.now, result.1.now) ≡ self.now }
+    {
+        (self.name.as_str(), &self.value)
+    }
+}
+
+// The position of a name in a list.
+fn position_among<V>(entries: &[Entry<V>], name: &str) -> Option<usize>
+    ensures { result ≡ option_map (λ p. p.0) (named_at 0 name.now entries.now) }
+{
+    for i in 0..entries.len() {
+        let entry = &entries[i];
+        if name == entry.name.as_str() {
+            return Some(i);
+        }
+    }
+    None
+}
+
 /// Values under names, in order. No name stands twice. It shows as a map.
 pub struct Named<V> {
-    entries: IndexMap<String, V>,
+    // The first ones, searched through.
+    few: Vec<Entry<V>>,
+    // Those behind them, in a map.
+    rest: Rest<V>,
 }
 
 impl<V: Drop> Drop for Named<V> {
     fn drop(self) {
-        let Named { entries: _ } = self;
+        let Named { few: _, rest: _ } = self;
     }
 }
 
 impl<V> Model for Named<V> {
-    ghost use Rattle.std.specs.Prelude.{List, ℕ};
-    ghost use Rattle.wac_shapes.specs.Named.{by_bytes, NoNameTwice};
+    ghost use Rattle.std.specs.Prelude.{List, ℕ, ◌++◌};
+    ghost use Rattle.wac_shapes.specs.Named.{NoNameTwice};
 
     ghost Value = { List (List ℕ × V) };
 
-    ghost view = { λ n. by_bytes n.entries.entries };
+    ghost view = { λ n. n.few.items ++ n.rest };
 
-    ghost invariant = { λ n. NoNameTwice (by_bytes n.entries.entries) };
+    ghost invariant = { λ n. NoNameTwice (n.few.items ++ n.rest) };
 }
 
 /// The clone has the same names in the same order, and under them clones of the values. Answers `AllocError` where memory ran out.
@@ -357,8 +412,9 @@ impl<V: Clone> Clone for Named<V> {
     ghost is_clone = { λ a b. AreNamedClones V.is_clone a b };
 
     fn clone(&self) -> Result<Named<V>, AllocError> {
-        let entries = self.entries.clone()?;
-        Ok(Named { entries })
+        let few = self.few.clone()?;
+        let rest = self.rest.clone()?;
+        Ok(Named { few, rest })
     }
 }
 
@@ -371,7 +427,20 @@ impl<V: PartialEq> PartialEq for Named<V> {
     ghost laws = { named_per V.laws };
 
     fn eq(&self, other: &Named<V>) -> bool {
-        self.entries.as_slice() == other.entries.as_slice()
+        if self.len() != other.len() {
+            return false;
+        }
+        for i in 0..self.len() {
+            let (name, value) = self.entry_at(i);
+            let (other_name, other_value) = other.entry_at(i);
+            if name != other_name {
+                return false;
+            }
+            if value != other_value {
+                return false;
+            }
+        }
+        true
     }
 }
 
@@ -383,24 +452,29 @@ impl<V: Eq> Eq for Named<V> {
 
 impl<V: fmt::Debug> fmt::Debug for Named<V> {
     fn fmt<W: fmt::Write>(&self, f: &mut fmt::Formatter<W>) -> fmt::Result {
-        fmt::Debug::fmt(&self.entries, f)
+        let mut out = f.debug_map();
+        for (name, value) in self {
+            out.entry(&name, value);
+        }
+        out.finish()
     }
 }
 
 /// Values under names that are still to come, in order.
 #[derive(Drop)]
 pub struct Entries<'a, V> {
-    entries: map::Iter<'a, String, V>,
+    few: slice::Iter<'a, Entry<V>>,
+    rest: MappedEntries<'a, V>,
 }
 
 impl<'a, V> Model for Entries<'a, V> {
-    ghost use Rattle.std.specs.Prelude.{List};
+    ghost use Rattle.std.specs.Prelude.{List, ◌++◌};
+    ghost use Rattle.std.specs.Slice.Iter.{iter_rest};
     ghost use Rattle.wac_shapes.specs.Name.{Name};
-    ghost use Rattle.wac_shapes.specs.Named.{by_bytes};
 
     ghost Value = { List (Name × V) };
 
-    ghost view = { λ e. by_bytes e.entries };
+    ghost view = { λ e. iter_rest e.few ++ e.rest };
 }
 
 impl<'a, V> Iterator for Entries<'a, V> {
@@ -413,8 +487,10 @@ impl<'a, V> Iterator for Entries<'a, V> {
     ghost remaining = { item_count (λ s. s) };
 
     fn next(&mut self) -> Option<(&'a str, &'a V)> {
-        let (name, value) = self.entries.next()?;
-        Some((name.as_str(), value))
+        match self.few.next() {
+            Some(entry) => Some((entry.name.as_str(), &entry.value)),
+            None => self.rest.next(),
+        }
     }
 }
 
@@ -436,7 +512,8 @@ impl<V> Named<V> {
         ensures { result ≡ [] }
     {
         Named {
-            entries: IndexMap::new(alloc),
+            few: Vec::new(alloc),
+            rest: Rest::new(),
         }
     }
 
@@ -445,15 +522,25 @@ impl<V> Named<V> {
         ensures empty { IfOk result (λ n. n ≡ []) }
         ensures none { count ≡ 0 → IsOk result }
     {
-        let entries = IndexMap::with_capacity(alloc, count)?;
-        Ok(Named { entries })
+        if count <= FEW {
+            let few = Vec::with_capacity(alloc, count)?;
+            return Ok(Named {
+                few,
+                rest: Rest::new(),
+            });
+        }
+        let rest = Rest::with_capacity(alloc, count)?;
+        Ok(Named {
+            few: Vec::new(alloc),
+            rest,
+        })
     }
 
     /// The law of all values under names: no name stands twice.
     pub fn law(&self)
         ensures { NoNameTwice self.now }
     {
-        let _ = &self.entries;
+        let _ = &self.few;
     }
 
     /// The values under their names, in order.
@@ -461,7 +548,8 @@ impl<V> Named<V> {
         ensures { result ≡ self.now }
     {
         Entries {
-            entries: self.entries.iter(),
+            few: self.few.iter(),
+            rest: self.rest.iter(),
         }
     }
 
@@ -469,22 +557,31 @@ impl<V> Named<V> {
     pub fn get(&self, name: &str) -> Option<&V>
         ensures { option_copied result ≡ find_name self.now name.now }
     {
-        self.entries.get(name)
+        let (_, value) = self.get_full(name)?;
+        Some(value)
     }
 
     /// The position of a name, and the value under it.
     pub fn get_full(&self, name: &str) -> Option<(usize, &V)>
         ensures { option_map (λ p. (p.0, p.1.now)) result ≡ named_at 0 name.now self.now }
     {
-        let (index, _, value) = self.entries.get_full(name)?;
-        Some((index, value))
+        match position_among(self.few.as_slice(), name) {
+            Some(index) => {
+                let (_, value) = self.few[index].pair();
+                Some((index, value))
+            }
+            None => {
+                let (index, value) = self.rest.get_full(name)?;
+                Some((self.few.len() + index, value))
+            }
+        }
     }
 
     /// How many there are.
     pub fn len(&self) -> usize
         ensures { result ≡ length self.now }
     {
-        self.entries.len()
+        self.few.len() + self.rest.len()
     }
 
     /// The name at a position, which is one of the list.
@@ -492,8 +589,8 @@ impl<V> Named<V> {
         requires { index < length self.now }
         ensures { option_map (λ e. e.0) (slice_get self.now index) ≡ Some result.now }
     {
-        let entry = self.entries.get_index(index).unwrap();
-        entry.0.as_str()
+        let (name, _) = self.entry_at(index);
+        name
     }
 
     /// The name and the value at a position, which is one of the list.
@@ -501,8 +598,11 @@ impl<V> Named<V> {
         requires { index < length self.now }
         ensures { slice_get self.now index ≡ Some (result.0.now, result.1.now) }
     {
-        let (name, value) = self.entries.get_index(index).unwrap();
-        (name.as_str(), value)
+        if index < self.few.len() {
+            self.few[index].pair()
+        } else {
+            self.rest.entry_at(index - self.few.len())
+        }
     }
 
     /// The value at a position, which is one of the list.
@@ -510,8 +610,8 @@ impl<V> Named<V> {
         requires { index < length self.now }
         ensures { option_map (λ e. e.1) (slice_get self.now index) ≡ Some result.now }
     {
-        let entry = self.entries.get_index(index).unwrap();
-        entry.1
+        let (_, value) = self.entry_at(index);
+        value
     }
 }
 
@@ -525,38 +625,19 @@ impl<V: Drop> Named<V> {
         if let Some(_) = self.get(name) {
             return Err(ShapeError::NameTwice);
         }
-        let Ok(key) = String::from_str(alloc, name) else {
+        let Ok(name) = String::from_str(alloc, name) else {
             return Err(ShapeError::OutOfMemory);
         };
-        match self.entries.insert(key, value) {
-            Ok(_) => Ok(()),
-            Err(_) => Err(ShapeError::OutOfMemory),
+        if self.rest.is_unmapped() && self.few.len() < FEW {
+            if let Err(_) = self.few.push(Entry { name, value }) {
+                return Err(ShapeError::OutOfMemory);
+            }
+            return Ok(());
         }
-    }
-}
-
-impl<V: Drop> Named<Named<V>> {
-    /// Puts a value under two names, behind the others under the first. Answers `NameTwice` where there is one under both, and `OutOfMemory` where memory ran out; then nothing has changed.
-    pub(crate) fn insert_under(
-        &mut self,
-        alloc: Global,
-        outer: &str,
-        name: &str,
-        value: V,
-    ) -> Result<(), ShapeError>
-        ensures inserted { OnOk result (self.new ≡ inserted_under self.old outer.now name.now value) }
-        ensures refused { OnErr result (self.new ≡ self.old) }
-        ensures name_twice { (result ≡ Err ShapeError.NameTwice) ↔ IsSome (find_under self.old outer.now name.now) }
-    {
-        if let Some((index, _)) = self.get_full(outer) {
-            let inner = self.entries.get_index_mut(index).unwrap();
-            return inner.insert(alloc, name, value);
+        if let Err(_) = self.rest.put(alloc, name, value) {
+            return Err(ShapeError::OutOfMemory);
         }
-        let mut inner = Named::new(alloc);
-        match inner.insert(alloc, name, value) {
-            Ok(()) => self.insert(alloc, outer, inner),
-            Err(fault) => Err(fault),
-        }
+        Ok(())
     }
 }
 
@@ -567,7 +648,9 @@ impl<V: Copy> Named<V> {
         ensures names { OnOk result (NoNameTwice (named_pairs pairs.now)) }
         ensures name_twice { result ≡ Err ShapeError.NameTwice → NoNameTwice (named_pairs pairs.now) → ⊥ }
     {
-        let mut named = Named::new(alloc);
+        let Ok(mut named) = Named::with_capacity(alloc, pairs.len()) else {
+            return Err(ShapeError::OutOfMemory);
+        };
         for i in 0..pairs.len() {
             let (name, value) = pairs[i];
             match named.insert(alloc, name, value) {
@@ -583,9 +666,10 @@ impl<V: Copy> Named<V> {
     pub fn copied(&self, alloc: Global) -> Result<Named<V>, AllocError>
         ensures { IfOk result (λ n. n ≡ self.now) }
     {
-        let mut copy = Named::new(alloc);
+        let mut copy = Named::with_capacity(alloc, self.len())?;
         for i in 0..self.len() {
-            match copy.insert(alloc, self.name_at(i), *self.value_at(i)) {
+            let (name, value) = self.entry_at(i);
+            match copy.insert(alloc, name, *value) {
                 Ok(()) => {}
                 Err(_) => return Err(AllocError),
             }

@@ -3,7 +3,7 @@ use Rattle.std.specs.Option.{option_map}
 use Rattle.std.proofs.Common.{ap, ◌∙◌}
 use Rattle.std.proofs.lemmas.Option.{slice_get-map}
 use Rattle.wac_shapes.specs.declared.component.DefinedType.{DefinedType}
-use Rattle.wac_encode.specs.Made.{parts, some_of, second_of, some_second_of}
+use Rattle.wac_listing.specs.Made.{parts, some_of, second_of, some_second_of}
 use Rattle.wac_encode.specs.Written.{Says}
 use Rattle.wac_encode.specs.Tasks.{FieldSays, CaseSays, IsText}
 use Rattle.wac_encode.proofs.Answering.{some-part, zip-same}

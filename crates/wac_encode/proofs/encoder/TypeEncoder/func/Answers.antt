@@ -2,7 +2,7 @@ use Rattle.std.specs.Prelude.{ℕ, Option, []}
 use Rattle.std.proofs.lemmas.Result.{err_from_is_err_and}
 use Rattle.wac_collection.specs.Collection.{and_maybe, seconds}
 use Rattle.wac_binary.specs.declared.types.ComponentValType.{ComponentValType}
-use Rattle.wac_encode.specs.Made.{OneIsMadeOf}
+use Rattle.wac_listing.specs.Made.{OneIsMadeOf}
 use Rattle.wac_encode.specs.Written.{IsOfFunc, one_if_ok}
 use Rattle.wac_encode.proofs.Rows.{held-params, held-result, params-of-func, result-of-func, func-refused-as, adds-when}
 use Rattle.wac_encode.proofs.Stacks.{writes-as, writes-behind, goes-on-twice}

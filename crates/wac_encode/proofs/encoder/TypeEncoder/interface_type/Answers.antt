@@ -20,34 +20,34 @@ pub items-requires-clause-plain : goal.items-requires-clause-plain
 items-requires-clause-plain c k e at =
     let t = c.args.self.now.types.now in
     let plain : are_plain c.index-held.result.now.exports ≡ true = cc in
-    let ordered = taken-as t c.index-held.result.now.exports c.in_ok-order.order.items c.as_slice.result.now c.as_slice.ensures.value c.in_ok-order.ensures in
+    let ordered = taken-as t c.index-held.result.now.exports c.in_ok-order.order.items c.as_slice.result.now c.as_slice.ensures.value (c.in_ok-order.ensures c.index-held.result.now c.index-held.ensures) in
     can-list t c.law.ensures c.args.interface c.index-held.result.now (named_pairs c.as_slice.result.now) c.index-held.ensures plain ordered k e at
 
 pub items-requires-clause-once : goal.items-requires-clause-once
 items-requires-clause-once c =
-    let ordered = taken-as c.args.self.now.types.now c.index-held.result.now.exports c.in_ok-order.order.items c.as_slice.result.now c.as_slice.ensures.value c.in_ok-order.ensures in
+    let ordered = taken-as c.args.self.now.types.now c.index-held.result.now.exports c.in_ok-order.order.items c.as_slice.result.now c.as_slice.ensures.value (c.in_ok-order.ensures c.index-held.result.now c.index-held.ensures) in
     once-ordered c.index-held.result.now.exports (named_pairs c.as_slice.result.now) ordered.permutation c.law-2.ensures
 
 pub returns-in_err-items-clause-fault : goal.returns-in_err-items-clause-fault
 returns-in_err-items-clause-fault c =
     let t = c.args.self.now.types.now in
     let p = err_from_is_err_and c.from_residual-in_err-items.result c.from_residual-in_err-items.ensures.1 in
-    let ordered = taken-as t c.index-held.result.now.exports c.in_ok-order.order.items c.as_slice.result.now c.as_slice.ensures.value c.in_ok-order.ensures in
+    let ordered = taken-as t c.index-held.result.now.exports c.in_ok-order.order.items c.as_slice.result.now c.as_slice.ensures.value (c.in_ok-order.ensures c.index-held.result.now c.index-held.ensures) in
     rw (p.1, p.2) (refused-whole (Unit {0}) (Option (List Decl)) t c.args.interface c.index-held.result.now (named_pairs c.as_slice.result.now) c.new-scope.result c.in_err-items.field-0.0 c.index-held.ensures ordered (record { content = c.new-scope.ensures.content ∙ ap Instance c.new.ensures; values = c.new-scope.ensures.values }) c.in_err-items.ensures.fault)
 
 pub returns-clause-says : goal.returns-clause-says
 returns-clause-says c =
     let t = c.args.self.now.types.now in
     let exports = c.index-held.result.now.exports in
-    let ordered = taken-as t exports c.in_ok-order.order.items c.as_slice.result.now c.as_slice.ensures.value c.in_ok-order.ensures in
+    let ordered = taken-as t exports c.in_ok-order.order.items c.as_slice.result.now c.as_slice.ensures.value (c.in_ok-order.ensures c.index-held.result.now c.index-held.ensures) in
     says-interface t c.law.ensures c.closing_law.ensures.holds_interface c.closing_law.ensures.closes_instance c.listing_law.ensures.lists_in_any_order c.args.interface c.index-held.result.now c.items.new.scope c.instance_type-declarations.result (named_pairs c.as_slice.result.now) c.index-held.ensures
     (same-under exports (named_pairs c.as_slice.result.now) ordered.permutation c.law-2.ensures) c.in_ok-items.ensures.listed (written-content c.items.new.scope.content c.into_content.result c.instance_type-declarations.result c.into_content.ensures c.instance_type-declarations.ensures) c.in_ok-items.ensures.closes
 
 pub returns-clause-written : goal.returns-clause-written
 returns-clause-written c =
     let t = c.args.self.now.types.now in
-    let ordered = taken-as t c.index-held.result.now.exports c.in_ok-order.order.items c.as_slice.result.now c.as_slice.ensures.value c.in_ok-order.ensures in
-    written-whole t c.law.ensures c.args.interface c.index-held.result.now (named_pairs c.as_slice.result.now) c.new-scope.result c.items.new.scope c.instance_type-declarations.result c.index-held.ensures ordered (record { content = c.new-scope.ensures.content ∙ ap Instance c.new.ensures; values = c.new-scope.ensures.values }) c.in_ok-items.ensures.wrote (written-content c.items.new.scope.content c.into_content.result c.instance_type-declarations.result c.into_content.ensures c.instance_type-declarations.ensures)
+    let ordered = taken-as t c.index-held.result.now.exports c.in_ok-order.order.items c.as_slice.result.now c.as_slice.ensures.value (c.in_ok-order.ensures c.index-held.result.now c.index-held.ensures) in
+    written-whole t c.args.interface c.index-held.result.now (named_pairs c.as_slice.result.now) c.new-scope.result c.items.new.scope c.instance_type-declarations.result c.index-held.ensures ordered (record { content = c.new-scope.ensures.content ∙ ap Instance c.new.ensures; values = c.new-scope.ensures.values }) c.in_ok-items.ensures.wrote (written-content c.items.new.scope.content c.into_content.result c.instance_type-declarations.result c.into_content.ensures c.instance_type-declarations.ensures)
 
 pub returns-in_err-order-clause-none : goal.returns-in_err-order-clause-none
 returns-in_err-order-clause-none c =

@@ -1,7 +1,7 @@
 use Rattle.std.specs.Prelude.{slice_get}
 use Rattle.std.proofs.Common.{ap, ◌∙◌}
 use Rattle.wac_shapes.specs.declared.component.DefinedType.{DefinedType}
-use Rattle.wac_encode.specs.Made.{parts}
+use Rattle.wac_listing.specs.Made.{parts}
 use Rattle.wac_encode.proofs.Answering.{some-part}
 use Rattle.wac_encode.proofs.Saying.{says-list, says-fixed-list, says-option, says-result, says-stream, says-future}
 use Rattle.wac_encode.proofs.encoder.TypeEncoder.plain.Goals as goal

@@ -1,7 +1,7 @@
 use Rattle.std.proofs.lemmas.Result.{err_from_is_err_and}
 use Rattle.wac_collection.specs.Aliases.{value_resolved}
 use Rattle.wac_binary.specs.declared.types.ComponentValType.{ComponentValType}
-use Rattle.wac_encode.specs.Made.{MadeOf}
+use Rattle.wac_listing.specs.Made.{MadeOf}
 use Rattle.wac_encode.proofs.Answering.{as-it-was, value-refused}
 use Rattle.wac_encode.proofs.Stacks.{writes-none}
 use Rattle.wac_encode.proofs.encoder.TypeEncoder.value_type.Goals as goal

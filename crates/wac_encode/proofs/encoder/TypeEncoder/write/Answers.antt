@@ -4,7 +4,7 @@ use Rattle.std.proofs.Common.{ap, sym, ◌∙◌, subst, take}
 use Rattle.std.proofs.lemmas.Result.{err_from_is_err_and}
 use Rattle.wac_shapes.specs.declared.component.ValueType.TheVariants as val
 use Rattle.wac_encode.specs.declared.task.Task.{Task}
-use Rattle.wac_encode.specs.Made.{MadeOf}
+use Rattle.wac_listing.specs.Made.{MadeOf}
 use Rattle.wac_encode.specs.Tasks.{IsReady, IsUnderWay}
 use Rattle.wac_encode.proofs.Answering.{as-it-was, begins, refused-so}
 use Rattle.wac_encode.proofs.Stacks.{writes-none, writes-no-more}

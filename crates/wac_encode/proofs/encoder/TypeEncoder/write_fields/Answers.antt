@@ -4,7 +4,7 @@ use Rattle.std.proofs.lemmas.Result.{err_from_is_err_and}
 use Rattle.wac_collection.specs.Collection.{seconds}
 use Rattle.wac_collection.specs.Aliases.{value_resolved}
 use Rattle.wac_binary.specs.declared.types.ComponentValType.{ComponentValType}
-use Rattle.wac_encode.specs.Made.{MadeOf, OneIsMadeOf}
+use Rattle.wac_listing.specs.Made.{MadeOf, OneIsMadeOf}
 use Rattle.wac_encode.proofs.Rows.{known-now, of-one, refused-as, row-further, row-starts, row-written, second-at, within-list}
 use Rattle.wac_encode.proofs.encoder.TypeEncoder.write_fields.Goals as goal
 

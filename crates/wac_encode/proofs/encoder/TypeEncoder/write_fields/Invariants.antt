@@ -1,7 +1,7 @@
 use Rattle.std.specs.Prelude.{ℕ, ◌<◌, ◌≡◌, List, Some, slice_get}
 use Rattle.wac_shapes.specs.declared.component.ValueType.{ValueType}
 use Rattle.wac_collection.specs.Collection.{seconds}
-use Rattle.wac_encode.specs.Made.{OneIsMadeOf}
+use Rattle.wac_listing.specs.Made.{OneIsMadeOf}
 use Rattle.wac_encode.specs.Written.{IsKnown, WritesFor}
 use Rattle.wac_encode.proofs.encoder.TypeEncoder.write_fields.Given as goal
 

@@ -3,7 +3,7 @@ use Rattle.std.proofs.lemmas.Result.{err_from_is_err_and}
 use Rattle.wac_collection.specs.Collection.{and_maybe}
 use Rattle.wac_collection.specs.Aliases.{value_resolved}
 use Rattle.wac_binary.specs.declared.types.ComponentValType.{ComponentValType}
-use Rattle.wac_encode.specs.Made.{MadeOf, OneIsMadeOf}
+use Rattle.wac_listing.specs.Made.{MadeOf, OneIsMadeOf}
 use Rattle.wac_encode.proofs.Rows.{one-of, refused-as}
 use Rattle.wac_encode.proofs.Stacks.{writes-as}
 use Rattle.wac_encode.proofs.encoder.TypeEncoder.write_optional.Goals as goal

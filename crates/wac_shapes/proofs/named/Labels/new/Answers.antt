@@ -11,7 +11,7 @@ returns-in-Err-clause-name_twice c e once =
     label_twice c.args.names.now c.loop-i.labels c.loop-i.i _ c.loop-i-test.true c.loop-i.invariant (c.in-Err.ensures.name_twice.0 (ap Err fault)) once
 
 pub loop-i-preserved : goal.loop-i-preserved
-loop-i-preserved c = label_more c.args.names.now c.loop-i.labels c.insert.new.self c.loop-i.i _ c.loop-i-test.true c.loop-i.invariant c.in-Ok.ensures.inserted
+loop-i-preserved c = label_more c.args.names.now c.loop-i.labels c.insert.new.self c.loop-i.i _ c.loop-i-test.true c.loop-i.invariant c.in-Ok-insert.ensures.inserted
 
 pub returns-clause-built : goal.returns-clause-built
 returns-clause-built c = ap names_of (all_labels c.args.names.now c.loop-i.labels c.loop-i.i c.loop-i-test.false c.loop-i.invariant) ∙ names_of-labelled (given_names c.args.names.now)

@@ -1,7 +1,12 @@
-use Rattle.std.proofs.Common.{◌∙◌, ap}
-use Rattle.wac_shapes.specs.Name.{find_name}
-use Rattle.wac_shapes.proofs.Names.{found-by_bytes}
+use Rattle.std.proofs.Common.{◌∙◌, ap, sym}
+use Rattle.std.specs.Option.{option_map, option_copied}
+use Rattle.wac_shapes.proofs.Parts.{found_named}
 use Rattle.wac_shapes.proofs.named.Named.get.Goals as goal
 
+pub returns-in_err-value : goal.returns-in_err-value
+returns-in_err-value g c =
+    ap option_copied c.from_residual.ensures
+    ∙ sym (found_named c.args.self.now 0 c.args.name.now ∙ ap (option_map (λ p. p.1)) (sym c.in_err-value.ensures))
+
 pub returns : goal.returns
-returns g c = c.get.ensures.value ∙ found-by_bytes c.args.name.now c.self.inside.entries.entries ∙ ap (λ es. find_name es c.args.name.now) c.self.view_is
+returns g c = sym (found_named c.args.self.now 0 c.args.name.now ∙ ap (option_map (λ p. p.1)) (sym c.in_ok-value.ensures))

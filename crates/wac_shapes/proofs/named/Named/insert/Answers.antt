@@ -1,17 +1,32 @@
-use Rattle.std.proofs.Common.{◌∙◌, ap, refl, ◌++◌, ◌∷◌, [], None, ◌≡◌}
-use Rattle.std.specs.String.{string_eq}
+use Rattle.std.proofs.Common.{◌∙◌, ap, ◌++◌, ◌∷◌, [], None, ◌≡◌, string_bytes}
 use Rattle.wac_shapes.specs.Name.{find_name}
-use Rattle.wac_shapes.specs.Named.{by_bytes}
-use Rattle.wac_shapes.proofs.Names.{inserts, nothing_there}
+use Rattle.wac_shapes.proofs.Names.{nothing_there}
+use Rattle.wac_shapes.proofs.Parts.{none_in_second, goes_first, goes_second}
 use Rattle.wac_shapes.proofs.named.Named.insert.Goals as goal
 
-pub invariant_of-self : goal.invariant_of-self
-invariant_of-self g c =
-    let none : find_name (by_bytes c.self.inside.entries.entries) c.args.name.now ≡ None = ap (λ es. find_name es c.args.name.now) c.self.view_is ∙ nothing_there c.get.result _ c.in_default.not-Some c.get.ensures in
-    (inserts string_eq (λ a b. refl) c.in-Ok.key c.args.name.now c.args.value c.self.inside.entries.entries c.insert.new.self.entries c.in-Ok.ensures.ok none c.self.invariant c.in-Ok-insert.ensures.entries).once
+pub put-requires : goal.put-requires
+put-requires g c =
+    let none : find_name (c.self.inside.few.items ++ c.self.inside.rest) c.args.name.now ≡ None = ap (λ es. find_name es c.args.name.now) c.self.view_is ∙ nothing_there c.get.result _ c.in_default.not-Some c.get.ensures in
+    ap (find_name c.self.inside.rest) c.in-Ok.ensures.ok ∙ none_in_second c.self.inside.few.items c.self.inside.rest c.args.name.now none
 
-pub returns-in-Ok-insert-clause-inserted : goal.returns-in-Ok-insert-clause-inserted
-returns-in-Ok-insert-clause-inserted g c =
-    let none : find_name (by_bytes c.self.inside.entries.entries) c.args.name.now ≡ None = ap (λ es. find_name es c.args.name.now) c.self.view_is ∙ nothing_there c.get.result _ c.in_default.not-Some c.get.ensures in
-    (inserts string_eq (λ a b. refl) c.in-Ok.key c.args.name.now c.args.value c.self.inside.entries.entries c.insert.new.self.entries c.in-Ok.ensures.ok none c.self.invariant c.in-Ok-insert.ensures.entries).is
+pub invariant_of-self-then-len-lt-FEW : goal.invariant_of-self-then-len-lt-FEW
+invariant_of-self-then-len-lt-FEW g c =
+    let none : find_name (c.self.inside.few.items ++ c.self.inside.rest) c.args.name.now ≡ None = ap (λ es. find_name es c.args.name.now) c.self.view_is ∙ nothing_there c.get.result _ c.in_default.not-Some c.get.ensures in
+    (goes_first c.self.inside.few.items c.self.inside.rest c.push.new.self.items c.args.name.now (string_bytes c.in-Ok.name) c.args.value c.self.invariant none c.in-Ok.ensures.ok (c.is_unmapped.ensures c.if-is_unmapped.true) c.in_default-push.ensures.items).once
+
+pub returns-then-len-lt-FEW-clause-inserted : goal.returns-then-len-lt-FEW-clause-inserted
+returns-then-len-lt-FEW-clause-inserted g c =
+    let none : find_name (c.self.inside.few.items ++ c.self.inside.rest) c.args.name.now ≡ None = ap (λ es. find_name es c.args.name.now) c.self.view_is ∙ nothing_there c.get.result _ c.in_default.not-Some c.get.ensures in
+    (goes_first c.self.inside.few.items c.self.inside.rest c.push.new.self.items c.args.name.now (string_bytes c.in-Ok.name) c.args.value c.self.invariant none c.in-Ok.ensures.ok (c.is_unmapped.ensures c.if-is_unmapped.true) c.in_default-push.ensures.items).is
+    ∙ ap (λ es. es ++ (c.args.name.now, c.args.value) ∷ []) c.self.view_is
+
+pub invariant_of-self-2 : goal.invariant_of-self-2
+invariant_of-self-2 g c =
+    let none : find_name (c.self.inside.few.items ++ c.self.inside.rest) c.args.name.now ≡ None = ap (λ es. find_name es c.args.name.now) c.self.view_is ∙ nothing_there c.get.result _ c.in_default.not-Some c.get.ensures in
+    (goes_second c.self.inside.few.items c.self.inside.rest c.put.new.self c.args.name.now (string_bytes c.in-Ok.name) c.args.value c.self.invariant none c.in-Ok.ensures.ok c.in_default-put.ensures.put).once
+
+pub returns-clause-inserted : goal.returns-clause-inserted
+returns-clause-inserted g c =
+    let none : find_name (c.self.inside.few.items ++ c.self.inside.rest) c.args.name.now ≡ None = ap (λ es. find_name es c.args.name.now) c.self.view_is ∙ nothing_there c.get.result _ c.in_default.not-Some c.get.ensures in
+    (goes_second c.self.inside.few.items c.self.inside.rest c.put.new.self c.args.name.now (string_bytes c.in-Ok.name) c.args.value c.self.invariant none c.in-Ok.ensures.ok c.in_default-put.ensures.put).is
     ∙ ap (λ es. es ++ (c.args.name.now, c.args.value) ∷ []) c.self.view_is

@@ -1,13 +1,22 @@
-use Rattle.std.proofs.Common.{ap, ◌∙◌}
-use Rattle.wac_shapes.specs.Named.{by_bytes}
-use Rattle.wac_shapes.specs.Equal.{same_named}
-use Rattle.wac_shapes.proofs.EqualLemmas.{seen_by_bytes}
+use Rattle.std.proofs.Common.{add-one, arith}
+use Rattle.wac_shapes.proofs.EqualLemmas.{not_true, not_false, first_fails, second_fails, both_hold, rest_differ, rest_same, none_left}
 use Rattle.wac_shapes.proofs.named.NamedPartialEq.eq.Goals as goal
+
+pub returns-then-ne : goal.returns-then-ne
+returns-then-ne g c =
+    rest_differ _ c.args.self.now c.args.other.now c.loop-i.i (c.entry_at.result.0.now, c.entry_at.result.1.now) (c.entry_at-in-loop-i.result.0.now, c.entry_at-in-loop-i.result.1.now)
+    c.entry_at.ensures c.entry_at-in-loop-i.ensures c.loop-i.invariant (first_fails _ _ (not_true _ c.if-ne.ensures))
+
+pub returns-then-ne-2 : goal.returns-then-ne-2
+returns-then-ne-2 g c =
+    rest_differ _ c.args.self.now c.args.other.now c.loop-i.i (c.entry_at.result.0.now, c.entry_at.result.1.now) (c.entry_at-in-loop-i.result.0.now, c.entry_at-in-loop-i.result.1.now)
+    c.entry_at.ensures c.entry_at-in-loop-i.ensures c.loop-i.invariant (second_fails _ _ (not_true _ c.if-ne-2.ensures))
+
+pub loop-i-preserved : goal.loop-i-preserved
+loop-i-preserved g c = rw add-one (rest_same _ c.args.self.now c.args.other.now c.loop-i.i (c.entry_at.result.0.now, c.entry_at.result.1.now) (c.entry_at-in-loop-i.result.0.now, c.entry_at-in-loop-i.result.1.now)
+    c.entry_at.ensures c.entry_at-in-loop-i.ensures c.loop-i.invariant (both_hold _ _ (not_false _ c.if-ne.ensures) (not_false _ c.if-ne-2.ensures)))
 
 pub returns : goal.returns
 returns g c =
-    c.eq.ensures ∙ seen_by_bytes g.V.PartialEq.eq c.as_slice.result c.as_slice-2.result
-    ∙ ap (λ xs. same_named g.V.PartialEq.eq (by_bytes xs) (by_bytes c.as_slice-2.result)) c.as_slice.ensures.entries
-    ∙ ap (λ ys. same_named g.V.PartialEq.eq (by_bytes c.self.inside.entries.entries) (by_bytes ys)) c.as_slice-2.ensures.entries
-    ∙ ap (λ xs. same_named g.V.PartialEq.eq xs (by_bytes c.other.inside.entries.entries)) c.self.view_is
-    ∙ ap (λ ys. same_named g.V.PartialEq.eq c.args.self.now ys) c.other.view_is
+    none_left _ c.args.self.now c.args.other.now c.loop-i.i (omega (arith, c.loop-i-test.false, c.len-i-end.ensures))
+    (omega (arith, c.loop-i-test.false, c.len-i-end.ensures, c.len.ensures, c.len-2.ensures, c.if-len.false)) c.loop-i.invariant

@@ -2,12 +2,12 @@
 
 ghost use Rattle.std.specs.Prelude.{◌≡◌, ◌+◌, ◌<◌, ◌^◌, ◌∷◌, [], Some, length, map, slice_get};
 ghost use Rattle.std.specs.Option.{OnSome};
-ghost use Rattle.wac_encode.specs.Made.{parts, some_of, second_of, some_second_of};
+ghost use Rattle.wac_listing.specs.Made.{parts, some_of, second_of, some_second_of};
 
 use wac_collection::{DefinedType, Named, Sequence, ValueType};
 
 /// The part of a definition at a position, where there is one. A part that may be missing holds nothing where it is.
-pub(crate) fn part_at(definition: &DefinedType, index: usize) -> Option<Option<ValueType>>
+pub fn part_at(definition: &DefinedType, index: usize) -> Option<Option<ValueType>>
     ensures is { result ≡ slice_get (parts definition.now) index }
     ensures small { OnSome result (index + 1 < 2 ^ 64) }
 {
@@ -56,14 +56,6 @@ fn value_at(values: &Sequence<ValueType>, index: usize) -> Option<Option<ValueTy
     } else {
         None
     }
-}
-
-/// The value type at a position, which is one of the list.
-pub(crate) fn value_of(values: &[ValueType], index: usize) -> ValueType
-    requires { index < length values.now }
-    ensures { slice_get values.now index ≡ Some result }
-{
-    values[index]
 }
 
 /// The value type of a field.

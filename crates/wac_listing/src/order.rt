@@ -1,0 +1,72 @@
+//! Type items, each behind those that it mentions.
+
+ghost use Rattle.std.specs.Prelude.{◌≡◌, ◌+◌, ◌<◌, ◌^◌, Some, IfOk, length};
+ghost use Rattle.wac_shapes.specs.declared.component.Interface.{Interface as AnInterface};
+ghost use Rattle.wac_collection.specs.Collection.{HasInterface, item_at};
+ghost use Rattle.wac_listing.specs.Order.{AreOrdered};
+ghost use Rattle.wac_listing.specs.Before.{AreReached, items_of};
+
+use crate::places::Places;
+use std::alloc::{AllocError, Global};
+use wac_collection::{InterfaceId, Type, Types};
+use wac_edges::edges::Edges;
+use wac_edges::node::NodeId;
+use wac_edges::order::order;
+use wac_reach::reach;
+
+/// The positions of an interface's type items in the order in which they are written: the next is always the first listed one of
+/// those left that mentions none of those left. An item mentions another where its definition is made of that which the other names,
+/// being the first that lists it. This takes as many steps as the definitions that the interface reaches have parts, but for a logarithm.
+///
+/// Answers `AllocError` where memory ran out.
+#[tactic(none)]
+pub fn type_order(types: &Types, interface: InterfaceId) -> Result<Vec<usize>, AllocError>
+    requires { HasInterface types.now interface }
+    ensures { IfOk result (λ order. (it : AnInterface) → item_at types.now.interfaces interface.0 ≡ Some it → AreOrdered types.now it.exports order.items) }
+{
+    types.law();
+    let items = &types[interface].exports;
+    let reached = reach(types, Type::Interface(interface))?;
+    let places = Places {
+        types,
+        items,
+        reached: &reached,
+    };
+    // No memory holds so many.
+    let Some(_) = places.count().checked_add(items.len()) else {
+        return Err(AllocError);
+    };
+    ordered(&places)
+}
+
+/// The positions of the type items in order.
+#[tactic(none)]
+fn ordered(places: &Places<'_>) -> Result<Vec<usize>, AllocError>
+    requires room { length places.now.reached.now + length places.now.items.now < 2 ^ 64 }
+    requires reached { AreReached places.now.types.now places.now.items.now places.now.reached.now }
+    ensures { IfOk result (λ order. AreOrdered places.now.types.now places.now.items.now order.items) }
+{
+    places.types.law();
+    let alloc = places.types.allocator();
+    let mut edges = Edges::new(alloc);
+    let named = places.put_items(&mut edges)?;
+    places.put_definitions(named.as_slice(), &mut edges)?;
+    let left = places.left()?;
+    let Some(nodes) = order(alloc, &edges, left)? else {
+        unreachable!()
+    };
+    items_behind(alloc, places.count(), nodes.as_slice())
+}
+
+/// The positions of the items among nodes.
+fn items_behind(alloc: Global, count: usize, nodes: &[NodeId]) -> Result<Vec<usize>, AllocError>
+    ensures { IfOk result (λ items. items.items ≡ items_of count nodes.now) }
+{
+    let mut items = Vec::new(alloc);
+    for node in nodes {
+        if node.0 >= count {
+            items.push(node.0 - count)?;
+        }
+    }
+    Ok(items)
+}
