@@ -5,9 +5,11 @@ ghost use Rattle.std.specs.Option.{option_map};
 ghost use Rattle.slab.specs.Slab.{get};
 ghost use Rattle.wac_collection.specs.Collection.{holds_type};
 ghost use Rattle.wac_shapes.specs.Kinds.{kind_type};
+ghost use Rattle.wac_shapes.specs.declared.component.ItemKind.{ItemKind as AnItem};
 ghost use Rattle.wac_fields.specs.Arguments.{HasImport, Fits, CanBeGiven, IsInstantiation};
+ghost use Rattle.wac_composition.specs.Fitting.{FitsImport};
 ghost use Rattle.wac_edges.specs.Edge.{argument_edge as labelled};
-ghost use Rattle.wac_nodes.specs.Graph.{node_at, IsArgumentOf};
+ghost use Rattle.wac_nodes.specs.Graph.{node_at, IsArgumentOf, IsUnsatisfied};
 ghost use Rattle.wac_nodes.specs.Nodes.{IsInstantiationAt, satisfied_at, node_of};
 ghost use Rattle.wac_nodes.specs.Steps.{SetsArgument, UnsetsArgument};
 ghost use Rattle.wac_edges.specs.declared.node.NodeId.{NodeId as AnId};
@@ -68,6 +70,32 @@ impl CompositionGraph {
         Ok((position, *kind))
     }
 
+    /// Tests that no node is given for an import.
+    ///
+    /// Answers `ArgumentAlreadyPassed` where one is, and `OutOfMemory` where memory ran out.
+    fn check_unset(
+        &self,
+        instantiation: NodeId,
+        name: &str,
+        position: usize,
+    ) -> Result<(), InstantiationArgumentError>
+        requires { (kind : AnItem) × HasImport self.now instantiation name.now position kind }
+        ensures unset { OnOk result (IsUnsatisfied self.now instantiation position) }
+        ensures refused { IfErr result (λ e. (argument : AnId) → (IsArgumentOf self.now instantiation position argument → ⊥) → SetsArgument self.now instantiation name.now argument (Err e) self.now) }
+    {
+        let NodeKind::Instantiation(satisfied) = &self.nodes[instantiation.0].kind else {
+            unreachable!()
+        };
+        if satisfied.contains(&position) {
+            let name = String::from_str(self.alloc, name)?;
+            return Err(InstantiationArgumentError::ArgumentAlreadyPassed {
+                node: instantiation,
+                name,
+            });
+        }
+        Ok(())
+    }
+
     /// Tests whether a node fits an import for which it is not given yet.
     ///
     /// Answers `ArgumentAlreadyPassed` where another node is given, `ArgumentTypeMismatch` where the node's item is no
@@ -87,16 +115,7 @@ impl CompositionGraph {
         ensures fits { OnOk result (Fits self.now instantiation position kind argument) }
         ensures refused { IfErr result (λ e. SetsArgument self.now instantiation name.now argument (Err e) self.now) }
     {
-        let NodeKind::Instantiation(satisfied) = &self.nodes[instantiation.0].kind else {
-            unreachable!()
-        };
-        if satisfied.contains(&position) {
-            let name = String::from_str(self.alloc, name)?;
-            return Err(InstantiationArgumentError::ArgumentAlreadyPassed {
-                node: instantiation,
-                name,
-            });
-        }
+        self.check_unset(instantiation, name, position)?;
         let given = self.nodes[argument.0].item_kind;
         match SubtypeChecker::new().is_subtype(given, &self.types, kind, &self.types) {
             Ok(()) => Ok(()),
@@ -157,6 +176,28 @@ impl CompositionGraph {
             unsatisfy(&mut self.nodes, instantiation.0, position);
         }
     }
+}
+
+/// Gives a node as the argument of this name to an instantiation, as `set_instantiation_argument` does, where the node's item is
+/// known to be a subtype of the import: no types are compared.
+pub fn set_fitting_argument(
+    graph: &mut CompositionGraph,
+    instantiation: NodeId,
+    argument_name: &str,
+    argument: NodeId,
+) -> Result<(), InstantiationArgumentError>
+    requires instantiation { IsSome (node_at graph.old instantiation) }
+    requires argument { IsSome (node_at graph.old argument) }
+    requires fits { FitsImport graph.old instantiation argument_name.now argument }
+    ensures { SetsArgument graph.old instantiation argument_name.now argument result graph.new }
+{
+    let (position, _) = graph.import_of(instantiation, argument_name)?;
+    if graph.is_given(instantiation, position, argument) {
+        return Ok(());
+    }
+    graph.check_unset(instantiation, argument_name, position)?;
+    graph.give_argument(instantiation, position, argument)?;
+    Ok(())
 }
 
 /// Marks the import of an instantiation at this position as satisfied.

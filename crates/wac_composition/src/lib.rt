@@ -22,6 +22,7 @@ mod sources;
 mod validating;
 mod writing;
 
+pub use arguments::set_fitting_argument;
 pub use arguments_of::Arguments;
 pub use graph::CompositionGraph;
 pub use imports::Imports;

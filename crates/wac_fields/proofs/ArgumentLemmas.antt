@@ -198,23 +198,27 @@ module _ (a : Fields) (v : Invariant a) (id : NodeId) (n : Node) (s : BTreeSet �
         rw named (other, v.edged id position (marked_at true marked)),
       ))
 
-  unsatisfied : positions.contains nat_cmp s position ≡ false → IsUnsatisfied (graph_of a) id position
+  pub unsatisfied : positions.contains nat_cmp s position ≡ false → IsUnsatisfied (graph_of a) id position
   unsatisfied unmarked source stands = clash (satisfied_at (get a.nodes id.0) position) (v.marked source id position stands) (marked_at false unmarked)
 
-  pub mismatch : (argument : NodeId) (m : Node) (text : String Global) → string_bytes text ≡ name → positions.contains nat_cmp s position ≡ false → get a.nodes argument.0 ≡ Some m → (IsSubtype a.types m.item_kind a.types kind → ⊥) → SetsArgument (graph_of a) id name argument (Err (ArgumentTypeMismatch text Mismatch)) (graph_of a)
-  mismatch argument m text written unmarked given differ =
-      sets_at a id argument n name (Err (ArgumentTypeMismatch text Mismatch)) (graph_of a) had
-      (λ g at. (
-        refl,
-        written,
-        ap kind_of is,
-        refl,
-        rw named (unsatisfied unmarked, λ fits. differ (subst (λ k. IsSubtype a.types k a.types kind) (sym (item_at_node a argument m given g at)) fits)),
-      ))
+-- a node with an import, for which nothing is given
+module _ (a : Fields) (id : NodeId) (name : Name) (position : ℕ) (kind : ItemKind) (import : HasImport (graph_of a) id name position kind) (unset : IsUnsatisfied (graph_of a) id position) where
+  pub mismatch : (argument : NodeId) (m : Node) (text : String Global) → string_bytes text ≡ name → get a.nodes argument.0 ≡ Some m → (IsSubtype a.types m.item_kind a.types kind → ⊥) → SetsArgument (graph_of a) id name argument (Err (ArgumentTypeMismatch text Mismatch)) (graph_of a)
+  mismatch argument m text written given differ = split (node_at (graph_of a) id) import where
+    split : (o : Option GraphNode) → IsSomeAnd o (λ m. (m.kind ≡ graph.instantiation) × (import_named (graph_of a) m name ≡ Some (position, kind)))
+        → IfSome o (λ n. IfSome (node_at (graph_of a) argument) (λ g. SetsOn (graph_of a) id n name argument g (Err (ArgumentTypeMismatch text Mismatch)) (graph_of a)))
+    split None h = absurd h
+    split (Some n) h = IfSome-eq (node_at (graph_of a) argument) (λ g. SetsOn (graph_of a) id n name argument g (Err (ArgumentTypeMismatch text Mismatch)) (graph_of a)) (λ g at. (
+      refl,
+      written,
+      h.0,
+      refl,
+      rw h.1 (unset, λ fits. differ (subst (λ k. IsSubtype a.types k a.types kind) (sym (item_at_node a argument m given g at)) fits)),
+    ))
 
-  pub fits : (argument : NodeId) (m : Node) → positions.contains nat_cmp s position ≡ false → get a.nodes argument.0 ≡ Some m → IsSubtype a.types m.item_kind a.types kind → Fits (graph_of a) id position kind argument
-  fits argument m unmarked given subtype = (
-    unsatisfied unmarked,
+  pub fits : (argument : NodeId) (m : Node) → get a.nodes argument.0 ≡ Some m → IsSubtype a.types m.item_kind a.types kind → Fits (graph_of a) id position kind argument
+  fits argument m given subtype = (
+    unset,
     IfSome-eq (node_at (graph_of a) argument) (λ g. IsSubtype a.types g.item_kind a.types kind) (λ g at. subst (λ k. IsSubtype a.types k a.types kind) (item_at_node a argument m given g at) subtype),
   )
 

@@ -26,7 +26,7 @@ pair-is : {A : Type 0} (i : ℕ) (a : A) (x : ℕ × A) → Some (i, a) ≡ Some
 pair-is i a x h = cc
 
 -- what stands under a name stands at its position
-named-entry : {A : Type 0} (es : List (Name × A)) (i : ℕ) (n : Name) (x : ℕ × A) → named_at i n es ≡ Some x → (j : ℕ) × (x.0 ≡ i + j) × (slice_get es j ≡ Some (n, x.1))
+pub named-entry : {A : Type 0} (es : List (Name × A)) (i : ℕ) (n : Name) (x : ℕ × A) → named_at i n es ≡ Some x → (j : ℕ) × (x.0 ≡ i + j) × (slice_get es j ≡ Some (n, x.1))
 named-entry [] i n x h = cc
 named-entry (e ∷ es) i n x h = elim (cases_Bool (same_name n e.0)) [
   | inl t ↦

@@ -10,6 +10,7 @@ mod Nothing
 mod Wired
 mod Deciding
 mod Wirable
+mod Fitting
 mod Weaker
 mod Twice
 mod Passing

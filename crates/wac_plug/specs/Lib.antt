@@ -1,6 +1,7 @@
 pub mod Refusals
 pub mod Matching
 pub mod Tracks
+pub mod Fitting
 pub mod Plugging
 pub mod Outcome
 pub mod Naming

@@ -1,5 +1,5 @@
 -- What `plug` answers and what it adds to a graph, by the steps of the graph.
-use Rattle.std.specs.Prelude.{◌≡◌, ◌⊎◌, Bool, true, false, List, [], ◌∷◌, Result, Ok, Err, IsErr, IsSome}
+use Rattle.std.specs.Prelude.{◌≡◌, ◌⊎◌, Bool, true, false, List, [], ◌∷◌, Result, Ok, Err, IsErr, IsSome, Some}
 use Rattle.wac_shapes.specs.Name.{Name}
 use Rattle.wac_shapes.specs.Named.{names_of}
 use Rattle.wac_nodes.specs.declared.errors.AliasError.{AliasError}
@@ -7,7 +7,7 @@ use Rattle.wac_nodes.specs.declared.errors.ExportError.{ExportError}
 use Rattle.wac_nodes.specs.declared.errors.InstantiationArgumentError.{InstantiationArgumentError}
 use Rattle.wac_edges.specs.declared.node.NodeId.{NodeId}
 use Rattle.wac_nodes.specs.declared.packages.PackageId.{PackageId}
-use Rattle.wac_nodes.specs.Graph.{Graph, node_at}
+use Rattle.wac_nodes.specs.Graph.{Graph, GraphNode, node_at}
 use Rattle.wac_nodes.specs.Steps.{Instantiates, Aliases, SetsArgument, Exports}
 use Rattle.wac_plug.specs.declared.errors.PlugError.{PlugError}
 use Rattle.wac_plug.specs.declared.errors.PlugError.TheVariants.{NoPlugHappened, OutOfMemory}
@@ -80,11 +80,12 @@ PlugsAll old plugs socket answer new =
         ⊎ ((mid : Graph) × (ms : List Match) × InOrder (Plugs socket node) made plugs (Ok tt) mid × AreAllMatches old socket plugs ms
         × Ends node (names_of (exports_of_package old socket)) mid ms answer new)
 
--- the types and the packages are as they were, and each node is still there
+-- the types and the packages are as they were, and each node is still there, with its item and its package
 pub record Keeps (old new : Graph) : Type 0 where
   pub types : new.types ≡ old.types
   pub slots : new.slots ≡ old.slots
   pub nodes : (n : NodeId) → IsSome (node_at old n) → IsSome (node_at new n)
+  pub same : (n : NodeId) (x y : GraphNode) → node_at old n ≡ Some x → node_at new n ≡ Some y → (y.item_kind ≡ x.item_kind) × (y.owner ≡ x.owner)
 
 -- whether there is a match
 abbrev pub has_any : List Match → Bool

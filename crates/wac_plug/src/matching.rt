@@ -168,11 +168,13 @@ pub fn find_matches(
     ensures firsts { IfSome firsts.new (AreFirsts (world_imports types.now socket)) }
     ensures matches { IfOk result (λ ms. AreMatches types.now (world_imports types.now socket) (world_exports types.now plug) ms.items) }
     ensures named { OnOk result (NoNameTwice (world_exports types.now plug)) }
+    ensures asked { OnOk result (NoNameTwice (world_imports types.now socket)) }
 {
     types.law();
     let exports = &types[plug].exports;
     exports.law();
     let imports = &types[socket].imports;
+    imports.law();
     let mut matches = Vec::new(types.allocator());
     for i in 0..exports.len() {
         let (name, kind) = exports.entry_at(i);

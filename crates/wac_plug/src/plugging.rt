@@ -1,11 +1,12 @@
 //! The call that plugs components together.
 ghost use Rattle.std.specs.Prelude.{◌≡◌, ◌⊎◌, ℕ, List, [], Some, IsSome, IfOk, IfErr, IfSome, slice_get, Ok, Err};
-ghost use Rattle.wac_nodes.specs.Graph.{node_at, package_at};
+ghost use Rattle.wac_nodes.specs.Graph.{package_at};
 ghost use Rattle.wac_nodes.specs.declared.errors.AliasError.{AliasError as AnAliasFault};
 ghost use Rattle.wac_nodes.specs.declared.errors.ExportError.{ExportError as AnExportFault};
 ghost use Rattle.wac_nodes.specs.declared.errors.InstantiationArgumentError.{InstantiationArgumentError as AFault};
 ghost use Rattle.wac_nodes.specs.declared.packages.PackageId.{PackageId as AnId};
 ghost use Rattle.wac_shapes.specs.Named.{NoNameTwice, names_of};
+ghost use Rattle.wac_plug.specs.Fitting.{IsNodeOf};
 ghost use Rattle.wac_plug.specs.Matching.{Match, AreMatchesOf, AreAllMatches, imports_of_package, exports_of_package};
 ghost use Rattle.wac_plug.specs.Naming.{PlugsNamed, PlugsAllNamed};
 ghost use Rattle.wac_plug.specs.Outcome.{IsMatchedTwice, IsAlreadyPassed, IsFirstRefused, IsExportRefused};
@@ -29,7 +30,7 @@ fn plug_one(
 ) -> Result<bool, PlugError>
     requires plug { IsSome (package_at graph.old plug) }
     requires socket { IsSome (package_at graph.old socket) }
-    requires node { IsSome (node_at graph.old node) }
+    requires node { IsNodeOf graph.old node socket }
     requires firsts { IfSome firsts.old (AreFirsts (imports_of_package graph.old socket)) }
     ensures firsts { IfSome firsts.new (AreFirsts (imports_of_package graph.old socket)) }
     ensures plugged { IfOk result (λ has_match. Keeps graph.old graph.new × NoNameTwice (exports_of_package graph.old plug) × ((ms : List Match) × AreMatchesOf graph.old socket plug ms × PlugsIn plug node graph.old ms (Ok tt) graph.new × (has_match ≡ has_any ms))) }
@@ -51,7 +52,7 @@ fn plug_each(
 ) -> Result<bool, PlugError>
     requires plugs { (i : ℕ) (id : AnId) → slice_get plugs.now i ≡ Some id → IsSome (package_at graph.old id) }
     requires socket { IsSome (package_at graph.old socket) }
-    requires node { IsSome (node_at graph.old node) }
+    requires node { IsNodeOf graph.old node socket }
     requires firsts { IfSome firsts.old (AreFirsts (imports_of_package graph.old socket)) }
     ensures plugged { IfOk result (λ has_match. InOrder (PlugsNamed socket node) graph.old plugs.now (Ok tt) graph.new × Keeps graph.old graph.new × ((ms : List Match) × AreAllMatches graph.old socket plugs.now ms × (has_match ≡ has_any ms))) }
     ensures refused { IfErr result (λ e. InOrder (PlugsNamed socket node) graph.old plugs.now (Err e) graph.new) }

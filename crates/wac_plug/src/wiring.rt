@@ -4,15 +4,16 @@ ghost use Rattle.wac_collection.specs.Collection.{holds_type, world_exports};
 ghost use Rattle.wac_shapes.specs.Named.{names_of};
 ghost use Rattle.wac_shapes.specs.declared.component.«Type».TheVariants.{World as world_type};
 ghost use Rattle.wac_nodes.specs.Graph.{node_at, package_at};
+ghost use Rattle.wac_plug.specs.Fitting.{FitsNodes, AllFit};
 ghost use Rattle.wac_plug.specs.Plugging.{InOrder, Wires, PlugsIn, PassesOn, Keeps};
 
 use crate::errors::PlugError;
 use crate::matching::Match;
-use wac_composition::CompositionGraph;
+use wac_composition::{CompositionGraph, set_fitting_argument};
 use wac_nodes::{NodeId, PackageId};
 use wac_types::WorldId;
 
-/// Gives the export of a plug's node to the socket's node: its alias becomes the argument for the import.
+/// Gives the export of a plug's node to the socket's node, whose import it is known to fit: its alias becomes the argument.
 fn wire(
     graph: &mut CompositionGraph,
     plug: NodeId,
@@ -21,11 +22,13 @@ fn wire(
 ) -> Result<(), PlugError>
     requires plug { IsSome (node_at graph.old plug) }
     requires socket { IsSome (node_at graph.old socket) }
+    requires fits { FitsNodes graph.old plug socket found.now }
     ensures step { Wires plug socket graph.old found.now result graph.new }
     ensures kept { OnOk result (Keeps graph.old graph.new) }
 {
     let alias = graph.alias_instance_export(plug, found.export())?;
-    graph.set_instantiation_argument(socket, found.import(), alias)?;
+    graph.law();
+    set_fitting_argument(graph, socket, found.import(), alias)?;
     Ok(())
 }
 
@@ -38,12 +41,14 @@ pub fn plug_in(
 ) -> Result<(), PlugError>
     requires plug { IsSome (package_at graph.old plug) }
     requires socket { IsSome (node_at graph.old socket) }
+    requires fit { AllFit graph.old plug socket matches.now }
     ensures step { PlugsIn plug socket graph.old matches.now result graph.new }
     ensures kept { OnOk result (Keeps graph.old graph.new) }
 {
     if matches.is_empty() {
         return Ok(());
     }
+    graph.law();
     let node = graph.instantiate(plug)?;
     for i in 0..matches.len() {
         wire(graph, node, socket, &matches[i])?;

@@ -1,6 +1,6 @@
 use Rattle.std.proofs.Common.{◌≤◌, Vec, Global, length, ap, ◌∙◌, sym, subst, arith}
 use Rattle.wac_shapes.specs.Named.{NoNameTwice}
-use Rattle.wac_plug.proofs.Each.{world-exports}
+use Rattle.wac_plug.proofs.Each.{world-exports, world-imports}
 use Rattle.wac_plug.specs.Matching.{Match}
 use Rattle.wac_plug.proofs.Listing.{match-more, match-none, all-matched}
 use Rattle.wac_plug.proofs.Worlds.{listed-held, one-held}
@@ -29,6 +29,9 @@ loop-i-preserved c = record {
 
 pub returns-clause-named : goal.returns-clause-named
 returns-clause-named c = subst NoNameTwice (sym (world-exports c.args.types.now c.args.plug c.index.result.now c.index.ensures)) c.law-2.ensures
+
+pub returns-clause-asked : goal.returns-clause-asked
+returns-clause-asked c = subst NoNameTwice (sym (world-imports c.args.types.now c.args.socket c.index-2.result.now c.index-2.ensures)) c.law-3.ensures
 
 pub returns-clause-matches : goal.returns-clause-matches
 returns-clause-matches c =

@@ -7,10 +7,11 @@ use Rattle.wac_plug.specs.Naming.{PlugsAllNamed}
 use Rattle.wac_plug.proofs.Order.{exit-is}
 use Rattle.wac_plug.proofs.Steps.{instance-keeps, keeps-trans}
 use Rattle.wac_plug.proofs.Each.{all-same, ends-none, ends-some, listed-names}
+use Rattle.wac_plug.proofs.Fitting.{node-made}
 use Rattle.wac_plug.proofs.plugging.plug_all.Goals as goal
 
 pub plug_each-requires-clause-node : goal.plug_each-requires-clause-node
-plug_each-requires-clause-node c = (instance-keeps c.args.graph.now c.instantiate.new.self c.args.socket c.in_ok-node.node c.requires.socket c.in_ok-node.ensures).1
+plug_each-requires-clause-node c = node-made c.args.graph.now c.instantiate.new.self c.args.socket c.in_ok-node.node c.requires.socket c.in_ok-node.ensures
 
 pub returns-in_err-has_match : goal.returns-in_err-has_match
 returns-in_err-has_match c =

@@ -5,11 +5,15 @@ use Rattle.wac_plug.specs.Naming.{PlugsNamed}
 use Rattle.wac_plug.proofs.Order.{one-more, all-made}
 use Rattle.wac_plug.proofs.Steps.{keeps-trans}
 use Rattle.wac_plug.proofs.Each.{matched-more, matched-all, imports-kept}
+use Rattle.wac_plug.proofs.Fitting.{node-kept}
 use Rattle.wac_plug.proofs.plugging.plug_each.Goals as goal
 use Rattle.wac_plug.proofs.plugging.plug_each.Goals.{then-has_match, else-has_match}
 
 pub plug_one-requires-clause-firsts : goal.plug_one-requires-clause-firsts
 plug_one-requires-clause-firsts c = subst (λ l. IfSome c.loop-i.firsts (AreFirsts l)) (sym (imports-kept c.args.graph.now c.loop-i.graph c.args.socket c.loop-i.invariant.kept)) c.loop-i.invariant.firsts
+
+pub plug_one-requires-clause-node : goal.plug_one-requires-clause-node
+plug_one-requires-clause-node c = node-kept c.args.graph.now c.loop-i.graph c.args.node c.args.socket c.loop-i.invariant.kept c.requires.node
 
 pub loop-i-preserved : goal.loop-i-preserved
 loop-i-preserved c =

@@ -3,6 +3,7 @@ use Rattle.std.proofs.lemmas.Option.{slice_get_read}
 use Rattle.wac_plug.specs.Plugging.{Answer, Wires, PlugsIn}
 use Rattle.wac_plug.proofs.Order.{one-more, refused-at, all-made, exit-is, plugs-in-some}
 use Rattle.wac_plug.proofs.Steps.{instance-keeps, keeps-trans}
+use Rattle.wac_plug.proofs.Fitting.{fits-nodes}
 use Rattle.wac_plug.proofs.wiring.plug_in.Goals as goal
 
 pub wire-requires-clause-plug : goal.wire-requires-clause-plug
@@ -12,6 +13,13 @@ wire-requires-clause-plug c =
 pub wire-requires-clause-socket : goal.wire-requires-clause-socket
 wire-requires-clause-socket c =
     c.loop-i.invariant.kept.nodes c.args.socket ((instance-keeps c.args.graph.now c.instantiate.new.self c.args.plug c.in_ok-node.node c.requires.plug c.in_ok-node.ensures).0.nodes c.args.socket c.requires.socket)
+
+pub wire-requires-clause-fits : goal.wire-requires-clause-fits
+wire-requires-clause-fits c =
+    let ms = c.args.matches.now in
+    let i = c.loop-i.i in
+    let at : slice_get ms i ≡ Some c.index-matches-i.result = slice_get_read ms (length ms) i c.index-matches-i.result refl c.loop-i-test.true c.index-matches-i.is in
+    fits-nodes c.args.graph.now c.instantiate.new.self c.args.plug c.in_ok-node.node c.law.ensures c.requires.plug c.in_ok-node.ensures c.loop-i.graph c.args.socket ms i c.index-matches-i.result c.requires.socket c.loop-i.invariant.kept c.requires.fit at
 
 pub returns-in_err-wire-clause-step : goal.returns-in_err-wire-clause-step
 returns-in_err-wire-clause-step c =

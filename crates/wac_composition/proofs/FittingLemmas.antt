@@ -1,0 +1,18 @@
+-- What fits the import of a name fits it where it is.
+use Rattle.std.proofs.Common.{◌≡◌, ℕ, subst, Option, Some, None, IfSome, IsSomeAnd}
+use Rattle.wac_shapes.specs.Name.{Name}
+use Rattle.wac_shapes.specs.declared.component.ItemKind.{ItemKind}
+use Rattle.wac_subtyping.specs.Subtype.{IsSubtype}
+use Rattle.wac_edges.specs.declared.node.NodeId.{NodeId}
+use Rattle.wac_nodes.specs.Graph as graph
+use Rattle.wac_nodes.specs.Graph.{Graph, GraphNode, node_at, IsUnsatisfied}
+use Rattle.wac_nodes.specs.Steps.{import_named}
+use Rattle.wac_fields.specs.Arguments.{HasImport, Fits}
+use Rattle.wac_composition.specs.Fitting.{FitsImport}
+
+pub fits_named : (g : Graph) (id argument : NodeId) (name : Name) (position : ℕ) (kind : ItemKind) → HasImport g id name position kind → IsUnsatisfied g id position → FitsImport g id name argument → Fits g id position kind argument
+fits_named g id argument name position kind import unset fits = split (node_at g id) import fits where
+  split : (o : Option GraphNode) → IsSomeAnd o (λ m. (m.kind ≡ graph.instantiation) × (import_named g m name ≡ Some (position, kind)))
+      → IfSome o (λ n. IfSome (node_at g argument) (λ given. IfSome (import_named g n name) (λ e. IsSubtype g.types given.item_kind g.types e.1))) → Fits g id position kind argument
+  split None h f = absurd h
+  split (Some n) h f = (unset, subst (λ o. IfSome (node_at g argument) (λ given. IfSome o (λ e. IsSubtype g.types given.item_kind g.types e.1))) h.1 f)
