@@ -19,3 +19,4 @@ pub mod ImportLaws
 pub mod Besides
 pub mod HeldValues
 pub mod Aliases
+pub mod Rooted

@@ -11,3 +11,4 @@ pub mod Faults
 pub mod Contents
 pub mod Scoped
 pub mod Beside
+pub mod Rooted

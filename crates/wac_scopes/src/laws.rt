@@ -6,6 +6,7 @@ ghost use Rattle.wac_scopes.specs.Instances.{BindsOwn, HasExported, HeldFurtherI
 ghost use Rattle.wac_scopes.specs.Inside.{ByStep, ByItem, ByBoth, KeepsIs, SettlesThere, HasIndexHere, HasIndexAround, StartsRoot, RootGoesOn, RootBindsMore};
 ghost use Rattle.wac_scopes.specs.Beside.{GoesOnBeside};
 ghost use Rattle.wac_scopes.specs.Reads.{Reads};
+ghost use Rattle.wac_scopes.specs.Rooted.{BeginsRight, StaysRight, MeansBefore, IsWrittenThere};
 ghost use Rattle.wac_scopes.specs.Modules.{DefinesModule, HoldsModule, HeldUnderMore};
 
 use wac_binary::{has_meaning_law, listed_law, scope_law};
@@ -94,6 +95,17 @@ pub fn root_law()
     ensures root_binds_more { RootBindsMore }
 {
     binary_laws();
+}
+
+/// The root into which definitions are written beside other items.
+pub fn rooted_law()
+    ensures begins { BeginsRight }
+    ensures stays { StaysRight }
+    ensures before { MeansBefore }
+    ensures written_there { IsWrittenThere }
+{
+    wac_binary::law();
+    root_law();
 }
 
 /// Work inside an open scope, and resources through all of them.

@@ -10,6 +10,6 @@ pub use encodable::Encodable;
 pub use fault::{EncodeFault, WriteFault};
 pub use laws::{
     alias_law, beside_law, closing_law, inside_law, instance_law, listing_law, module_law,
-    root_law, step_law, still_law,
+    root_law, rooted_law, step_law, still_law,
 };
 pub use scope::Scope;

@@ -1,21 +1,27 @@
 //! An open scope: what is written there, and the value types among it.
 
-ghost use Rattle.std.specs.Prelude.{◌≡◌, ◌<◌, IfOk, OnOk, OnErr, None};
+ghost use Rattle.std.specs.Prelude.{◌≡◌, ◌<◌, ◌++◌, ◌∷◌, [], IfOk, OnOk, OnErr, None};
 ghost use Rattle.std.specs.HashMap.{spare};
-ghost use Rattle.wac_binary.specs.Items.{value_def, primitive_def, instance_def, decls};
+ghost use Rattle.wac_binary.specs.Fits.{Fits, TooLargeUnless};
+ghost use Rattle.wac_binary.specs.Items.{value_def, primitive_def, instance_def, decls, nested, custom, instantiate as instantiated, alias_item, export_alias, export_item};
 ghost use Rattle.wac_binary.specs.declared.sorts.Description.TheVariants as e;
 ghost use Rattle.wac_binary.specs.declared.sorts.Sort.TheVariants as s;
 ghost use Rattle.wac_binary.specs.Indexes.{space};
-ghost use Rattle.wac_binary.specs.Views.{defined_of, func_of};
-ghost use Rattle.wac_scopes.specs.Contents.{IsRoot, IsOpenType, and_type, and_core_module, and_export, and_import, count, ContentFits};
+ghost use Rattle.wac_binary.specs.Views.{arguments_of, defined_of, func_of};
+ghost use Rattle.wac_scopes.specs.declared.encodable.Encodable.TheVariants.{Builder};
+ghost use Rattle.wac_scopes.specs.Contents.{IsRoot, IsOpenType, and_type, and_core_module, and_export, and_import, count, items_of, ContentFits};
 ghost use Rattle.wac_scopes.specs.Scoped.{IfThere, IsThere, AddsValue, AddsFunc, AddsPrimitive, AddsInstance, AddsModule, ListsType, ListsValue, ListsFunction, RootImportsType, RootImportsValue, RootImportsFunction, RootImportsInstance, RootImportsModule, HasToo, IsAsBefore, value_index, in_use, WritesUnlessTooLarge, FitsUnlessTooLarge, RecordsUnlessTooLarge};
+ghost use Rattle.wac_scopes.specs.Rooted.{ExportsRight};
 
 use crate::encodable::Encodable;
 use crate::fault::EncodeFault;
-use crate::laws::{listing_law, module_law, root_law, step_law};
+use crate::laws::{listing_law, module_law, root_law, rooted_law, step_law};
 use std::alloc::{AllocError, Global};
 use std::collections::HashMap;
-use wac_binary::{ComponentValType, DefinedType, Description, FuncType, InstanceType, ModuleType};
+use wac_binary::{
+    BinaryFault, ComponentValType, DefinedType, Description, FuncType, InstanceType, ModuleType,
+    Sort,
+};
 use wac_collection::{DefinedTypeId, PrimitiveType, ValueType};
 
 /// An open scope: the root of a component, or a type that is being written; with the value types that are written there.
@@ -75,6 +81,7 @@ impl Scope {
         id: DefinedTypeId,
         definition: &DefinedType<'_>,
     ) -> Result<u32, EncodeFault>
+        ensures index { IfOk result (λ k. k ≡ count (space s.Type) self.old.content) }
         ensures stands { IfOk result (λ k. AddsValue self.old self.new id (defined_of definition.now) k) }
         ensures recorded { IfOk result (λ k. HasToo self.old id k self.new) }
         ensures appended { OnOk result (self.new.content ≡ and_type self.old.content (value_def (defined_of definition.now))) }
@@ -115,6 +122,7 @@ impl Scope {
     /// Answers `TooLarge` exactly where what is written would not fit, and `OutOfMemory` where memory was refused; then it has
     /// written nothing.
     pub fn define_func(&mut self, f: &FuncType<'_>) -> Result<u32, EncodeFault>
+        ensures index { IfOk result (λ k. k ≡ count (space s.Type) self.old.content) }
         ensures stands { IfOk result (λ k. AddsFunc self.old self.new (func_of f.now) k) }
         ensures appended { OnOk result (self.new ≡ record self.old { content = and_type self.old.content (func_of f.now) }) }
         ensures refused { OnErr result (self.new ≡ self.old) }
@@ -130,6 +138,7 @@ impl Scope {
     /// Answers `TooLarge` exactly where what is written would not fit, and `OutOfMemory` where memory was refused; then it has
     /// written nothing.
     pub fn define_primitive(&mut self, p: PrimitiveType) -> Result<u32, EncodeFault>
+        ensures index { IfOk result (λ k. k ≡ count (space s.Type) self.old.content) }
         ensures stands { IfOk result (λ k. AddsPrimitive self.old self.new p k) }
         ensures appended { OnOk result (self.new ≡ record self.old { content = and_type self.old.content (value_def (primitive_def p)) }) }
         ensures refused { OnErr result (self.new ≡ self.old) }
@@ -324,6 +333,113 @@ impl Scope {
         root_law();
         let module = self.content.import(name, Description::CoreModule(index))?;
         Ok(module)
+    }
+
+    /// Adds a whole component to the root, as it is, and answers its component index.
+    pub fn component(&mut self, bytes: &[u8]) -> Result<u32, BinaryFault>
+        requires { IsRoot self.old.content }
+        ensures index { IfOk result (λ k. k ≡ count (space s.Component) self.old.content) }
+        ensures appended { OnOk result (self.new ≡ record self.old { content = Builder (items_of self.old.content ++ nested bytes.now ∷ []) }) }
+        ensures refused { OnErr result (self.new ≡ self.old) }
+        ensures too_large { TooLargeUnless result (Fits (items_of self.old.content ++ nested bytes.now ∷ [])) }
+    {
+        match &mut self.content {
+            Encodable::Builder(content) => content.component(bytes),
+            Encodable::Instance(_) | Encodable::Component(_) => unreachable!(),
+        }
+    }
+
+    /// Adds a custom section with this name to the root.
+    pub fn custom(&mut self, name: &str, bytes: &[u8]) -> Result<(), BinaryFault>
+        requires { IsRoot self.old.content }
+        ensures appended { OnOk result (self.new ≡ record self.old { content = Builder (items_of self.old.content ++ custom name.now bytes.now ∷ []) }) }
+        ensures refused { OnErr result (self.new ≡ self.old) }
+        ensures too_large { TooLargeUnless result (Fits (items_of self.old.content ++ custom name.now bytes.now ∷ [])) }
+    {
+        match &mut self.content {
+            Encodable::Builder(content) => content.custom(name, bytes),
+            Encodable::Instance(_) | Encodable::Component(_) => unreachable!(),
+        }
+    }
+
+    /// Adds an instance of the component with this index to the root, with arguments by name, sort and index, and answers its
+    /// instance index.
+    pub fn instantiate(
+        &mut self,
+        component: u32,
+        arguments: &[(&str, Sort, u32)],
+    ) -> Result<u32, BinaryFault>
+        requires { IsRoot self.old.content }
+        ensures index { IfOk result (λ k. k ≡ count (space s.Instance) self.old.content) }
+        ensures appended { OnOk result (self.new ≡ record self.old { content = Builder (items_of self.old.content ++ instantiated component (arguments_of arguments.now) ∷ []) }) }
+        ensures refused { OnErr result (self.new ≡ self.old) }
+        ensures too_large { TooLargeUnless result (Fits (items_of self.old.content ++ instantiated component (arguments_of arguments.now) ∷ [])) }
+    {
+        match &mut self.content {
+            Encodable::Builder(content) => content.instantiate(component, arguments),
+            Encodable::Instance(_) | Encodable::Component(_) => unreachable!(),
+        }
+    }
+
+    /// Adds an alias of the export of this sort and name of the instance with this index to the root, and answers its index of that
+    /// sort.
+    pub fn alias_export(
+        &mut self,
+        sort: Sort,
+        instance: u32,
+        name: &str,
+    ) -> Result<u32, BinaryFault>
+        requires { IsRoot self.old.content }
+        ensures index { IfOk result (λ k. k ≡ count (space sort) self.old.content) }
+        ensures appended { OnOk result (self.new ≡ record self.old { content = Builder (items_of self.old.content ++ alias_item (export_alias sort instance name.now) ∷ []) }) }
+        ensures refused { OnErr result (self.new ≡ self.old) }
+        ensures too_large { TooLargeUnless result (Fits (items_of self.old.content ++ alias_item (export_alias sort instance name.now) ∷ [])) }
+    {
+        match &mut self.content {
+            Encodable::Builder(content) => content.alias_export(sort, instance, name),
+            Encodable::Instance(_) | Encodable::Component(_) => unreachable!(),
+        }
+    }
+
+    /// Adds an export from the root, under this name, of what has this index of this sort, and answers the new index of that sort.
+    pub fn export(&mut self, name: &str, sort: Sort, index: u32) -> Result<u32, BinaryFault>
+        requires { IsRoot self.old.content }
+        ensures index { IfOk result (λ k. k ≡ count (space sort) self.old.content) }
+        ensures appended { OnOk result (self.new ≡ record self.old { content = Builder (items_of self.old.content ++ export_item name.now sort index ∷ []) }) }
+        ensures refused { OnErr result (self.new ≡ self.old) }
+        ensures too_large { TooLargeUnless result (Fits (items_of self.old.content ++ export_item name.now sort index ∷ [])) }
+    {
+        match &mut self.content {
+            Encodable::Builder(content) => content.export(name, sort, index),
+            Encodable::Instance(_) | Encodable::Component(_) => unreachable!(),
+        }
+    }
+
+    /// Exports the definition at a type index from the root, and records the definition at the export's own type index, which it
+    /// answers: from then on the definition is written by its name.
+    ///
+    /// Answers `TooLarge` where what is written would not fit, and `OutOfMemory` where memory was refused, be it before it is known
+    /// whether it fits. Then nothing is written or recorded.
+    pub fn export_definition(
+        &mut self,
+        name: &str,
+        id: DefinedTypeId,
+        index: u32,
+    ) -> Result<u32, EncodeFault>
+        requires { IsRoot self.old.content }
+        ensures index { IfOk result (λ k. k ≡ count (space s.Type) self.old.content) }
+        ensures right { OnOk result (ExportsRight self.old self.new id index) }
+        ensures recorded { IfOk result (λ k. HasToo self.old id k self.new) }
+        ensures appended { OnOk result (self.new.content ≡ Builder (items_of self.old.content ++ export_item name.now s.Type index ∷ [])) }
+        ensures refused { OnErr result (IsAsBefore self.old self.new) }
+        ensures too_large { FitsUnlessTooLarge result (Fits (items_of self.old.content ++ export_item name.now s.Type index ∷ [])) }
+    {
+        wac_binary::law();
+        rooted_law();
+        self.make_room()?;
+        let own = self.export(name, Sort::Type, index)?;
+        self.record_value(id, own);
+        Ok(own)
     }
 
     /// What is written, handed over.
