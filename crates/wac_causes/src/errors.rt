@@ -54,7 +54,7 @@ pub enum EncodeError {
     #[error("out of memory")]
     OutOfMemory,
     /// What is asked for has an item that is not imported so far, a node is a definition, or the options ask for imported
-    /// components. Imported so far are functions and value types that are made of no resource, and instances of such.
+    /// components. Imported so far are functions and value types that are made of no resource, instances of such, and core modules.
     #[error("the graph holds something that is not written yet")]
     NotYet,
     /// Validation is asked for, and the outer names may not stand together: their first fault.

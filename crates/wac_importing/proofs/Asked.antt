@@ -98,6 +98,17 @@ module _ {L : Type 0} where
   sub_below a b (Sub.component_items x y s) = tt
   sub_below a b (Sub.module_items x y s) = tt
 
+  -- a core module
+  module_below : (a b : TypeTree L) → Sub a b → IsImportable (module_item b) → IsImportable (module_item a)
+  module_below a b (Sub.same _ q) h = h
+  module_below a b (Sub.modules xi yi xe ye f g) h = tt
+  module_below a b (Sub.type_items x y s t) h = absurd h
+  module_below a b (Sub.instances xs ys f) h = absurd h
+  module_below a b (Sub.components xi xe yi ye f g) h = absurd h
+  module_below a b (Sub.instance_items x y s) h = absurd h
+  module_below a b (Sub.component_items x y s) h = absurd h
+  module_below a b (Sub.module_items x y s) h = absurd h
+
   -- what is no instance
   other_below : (a b : TypeTree L) → Sub a b → ((x : TypeTree L) → a ≡ instance_item x → ⊥) → IsImportable b → IsImportable a
   other_below a b (Sub.same _ q) n h = h
@@ -107,7 +118,7 @@ module _ {L : Type 0} where
   other_below a b (Sub.components xi xe yi ye f g) n h = absurd h
   other_below a b (Sub.modules xi yi xe ye f g) n h = absurd h
   other_below a b (Sub.component_items x y s) n h = absurd h
-  other_below a b (Sub.module_items x y s) n h = absurd h
+  other_below a b (Sub.module_items x y s) n h = module_below x y s h
 
 -- ---- names
 kind_there : (c : Collection) (k : ItemKind) → kind_tree c k ≢ absent

@@ -9,13 +9,15 @@ use Rattle.wac_shapes.specs.declared.component.Interface.{Interface}
 use Rattle.wac_shapes.specs.declared.component.InterfaceId.{InterfaceId}
 use Rattle.wac_shapes.specs.declared.component.ItemKind.{ItemKind}
 use Rattle.wac_shapes.specs.declared.component.ItemKind.TheVariants as kind
+use Rattle.wac_shapes.specs.declared.component.ModuleTypeId.{ModuleTypeId}
+use Rattle.wac_shapes.specs.declared.core_types.ModuleType.{ModuleType}
 use Rattle.wac_shapes.specs.declared.component.ValueType.{ValueType}
 use Rattle.wac_shapes.specs.declared.component.«Type».{«Type» as AnyType}
 use Rattle.wac_shapes.specs.declared.component.«Type».TheVariants as ty
 use Rattle.wac_collection.specs.declared.collection.Held.{Held}
-use Rattle.wac_collection.specs.Tree.{TypeTree, absent, resource, instance, type_equal, instance_item}
+use Rattle.wac_collection.specs.Tree.{TypeTree, absent, resource, instance, type_equal, instance_item, module_item}
 use Rattle.wac_collection.specs.Collection.{Collection, IsWellFormed, AddedBefore, size, holds_type, item_at, item_of, interface_exports}
-use Rattle.wac_collection.specs.Held.{resolved, interface_tree, of_held, unfolded}
+use Rattle.wac_collection.specs.Held.{resolved, interface_tree, module_tree, of_held, unfolded}
 use Rattle.wac_subtyping.specs.Subtype.{by_name, resource_names, type_tree, kind_tree, listed_in}
 use Rattle.wac_subtyping.proofs.Unfolding.{type_before, unfolded_step, type_step, held_item}
 use Rattle.wac_meaning.specs.Importable.{HasNoHandle, IsPlainItem, IsPlainWhereThere, IsImportable, IsImportableKind}
@@ -79,6 +81,13 @@ interface_there c wf i held = by (slice_get c.interfaces i.0) refl (type_before 
   by None is b = absurd b
   by (Some h) is b = (h.item, ap item_of is)
 
+-- a core module
+module_importable : (c : Collection) → IsWellFormed c → (m : ModuleTypeId) → holds_type c (ty.Module m) ≡ true → IsImportableKind c (kind.Module m)
+module_importable c wf m held = subst (λ (t : TypeTree Name). IsImportable (module_item t)) (sym (type_step c wf (ty.Module m) held)) (by (slice_get c.modules m.0) (type_before c wf (ty.Module m) held)) where
+  by : (o : Option (Held ModuleType)) → AddedBefore (size c) o → IsImportable {L = Name} (module_item (of_held module_tree o))
+  by None b = absurd b
+  by (Some h) b = tt
+
 -- what lists plain items is imported so far
 pub lists_importable : (c : Collection) → IsWellFormed c → (k : ItemKind) → holds_type c (kind_type k) ≡ true → ListsPlain c k → IsImportableKind c k
 lists_importable c wf (kind.Instance i) held all =
@@ -87,7 +96,7 @@ lists_importable c wf (kind.Instance i) held all =
 lists_importable c wf (kind.TypeItem a) held h = h
 lists_importable c wf (kind.Func f) held h = h
 lists_importable c wf (kind.Component w) held h = h
-lists_importable c wf (kind.Module m) held h = h
+lists_importable c wf (kind.Module m) held h = module_importable c wf m held
 lists_importable c wf (kind.Value v) held h = h
 
 -- a type item of another sort is not

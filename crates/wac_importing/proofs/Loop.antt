@@ -1,6 +1,7 @@
 -- The root after some of the imports.
 use Rattle.std.proofs.Common.{◌≡◌, ℕ, zero, suc, ◌+◌, ◌<◌, ◌≤◌, Bool, true, false, List, [], ◌∷◌, ◌++◌, length, map, take, refl, ap, ◌∙◌, sym, subst, arith, add-one, Some, None, ◌⊎◌, inl, inr}
 use Rattle.std.specs.Prelude.{slice_get}
+use Rattle.std.specs.List.{AllByRecursion}
 use Rattle.std.proofs.Math.Path.{fun_ext}
 use Rattle.std.proofs.lemmas.List.{take_all, length-take-le, length-map}
 use Rattle.std.proofs.lemmas.Option.{slice_get_within}
@@ -10,6 +11,7 @@ use Rattle.wac_shapes.proofs.Names.{same_name-true, found_at}
 use Rattle.wac_shapes.specs.declared.component.DefinedTypeId.{DefinedTypeId}
 use Rattle.wac_shapes.specs.declared.component.ItemKind.{ItemKind}
 use Rattle.wac_shapes.specs.declared.component.ItemKind.TheVariants as kind
+use Rattle.wac_shapes.specs.declared.core_types.ModuleType.{ModuleType}
 use Rattle.wac_shapes.specs.declared.component.ValueType.{ValueType}
 use Rattle.wac_shapes.specs.declared.component.ValueType.TheVariants as val
 use Rattle.wac_shapes.specs.declared.component.«Type».TheVariants as ty
@@ -20,9 +22,11 @@ use Rattle.wac_entries.specs.Binding.{root_bindings}
 use Rattle.wac_entries.specs.Classes.{Entry, by_names}
 use Rattle.wac_terms.specs.Merge.{Merged, import_entries}
 use Rattle.wac_binary.specs.declared.sorts.Sort.{Sort}
+use Rattle.wac_binary.specs.declared.sorts.Sort.TheVariants as sort
+use Rattle.wac_modules.specs.Declarations.{declarations_of}
 use Rattle.wac_binary.specs.declared.sorts.Description.{Description}
 use Rattle.wac_binary.specs.declared.sorts.Description.TheVariants as e
-use Rattle.wac_binary.specs.Items.{Item, TypeDef, type_item, import_item}
+use Rattle.wac_binary.specs.Items.{Item, TypeDef, core_type, type_item, import_item}
 use Rattle.wac_binary.specs.Indexes.{space, described_sort, indexes}
 use Rattle.wac_binary.specs.Meaning.{meaning}
 use Rattle.wac_binary.specs.HasMeaning.{HasMeaning, IsNew}
@@ -40,8 +44,10 @@ use Rattle.wac_meaning.specs.Means.{sort_of_kind}
 use Rattle.wac_meaning.specs.Beginning.{Places, Begins}
 use Rattle.wac_meaning.specs.MergedImports.{merged_item, imports_from, merged_imports, AreOfSorts}
 use Rattle.wac_meaning.proofs.WrittenLemmas.{slice_get-push}
-use Rattle.wac_meaning.proofs.MeaningLemmas.{Laws}
-use Rattle.wac_meaning.proofs.BeginLemmas.{nothing_begins, begins_behind_types}
+use Rattle.wac_meaning.proofs.MeaningLemmas.{Laws, indexes-push}
+use Rattle.wac_meaning.proofs.QuietLemmas.{IsQuiet}
+use Rattle.wac_meaning.proofs.BeginLemmas.{nothing_begins, begins_next}
+use Rattle.wac_importing.specs.Modules.{WritesOne, and_module_import}
 use Rattle.wac_meaning.proofs.MergeLemmas.{imports_next}
 
 abbrev pub bindings : Merged → Bindings
@@ -127,15 +133,61 @@ sort_is c old now (kind.TypeItem (ty.Value v)) (e.Equal i) h = refl
 sort_is c old now (kind.Func f) (e.Func i) h = refl
 sort_is c old now item d h = absurd h
 
--- what is written of one
+-- what is written of one: types, and the import behind them
+record Brings (old new : Scope) (n : Name) (item : ItemKind) (k : ℕ) : Type 0 where
+  more : List Item
+  quiet : AllByRecursion IsQuiet more
+  description : Description
+  content : new.content ≡ Builder ((items_of old.content ++ more) ++ import_item n description ∷ [])
+  place : ◌≡◌ {A = Sort × ℕ} (described_sort description, indexes (space (described_sort description)) (items_of old.content ++ more)) (sort_of_kind item, k)
+
+all_types : (types : List TypeDef) → AllByRecursion IsQuiet (map type_item types)
+all_types [] = tt
+all_types (x ∷ types) = (tt, all_types types)
+
 written_items : (old mid new : Encodable) (types : List TypeDef) (n : Name) (d : Description) → IsRoot old → mid ≡ with_types old types → new ≡ and_import mid n d
     → (new ≡ Builder ((items_of old ++ map type_item types) ++ import_item n d ∷ [])) × (count (space (described_sort d)) mid ≡ indexes (space (described_sort d)) (items_of old ++ map type_item types))
 written_items (Builder items) mid new types n d is a b = (b ∙ ap (λ x. and_import x n d) a, ap (count (space (described_sort d))) a)
 written_items (Instance ds) mid new types n d is a b = absurd is
 written_items (Component ds) mid new types n d is a b = absurd is
 
+by_types : (c : Collection) (old new : Scope) (n : Name) (item : ItemKind) (k : ℕ) → IsRoot old.content → WritesImport c old new n item k → Brings old new n item k
+by_types c old new n item k is_root w =
+    let (content, index) = written_items old.content w.now.content new.content w.behind.types n w.description is_root w.behind.appended w.appended in
+    record {
+      more = map type_item w.behind.types;
+      quiet = all_types w.behind.types;
+      description = w.description;
+      content = content;
+      place = (λ j. (sort_is c old w.now item w.description w.described j, (sym index ∙ sym w.index) j));
+    }
+
+module_items : (old new : Encodable) (x : ModuleType) (n : Name) (i : ℕ) → IsRoot old → new ≡ and_module_import old x n i → new ≡ Builder ((items_of old ++ core_type (declarations_of x) ∷ []) ++ import_item n (e.CoreModule i) ∷ [])
+module_items (Builder items) new x n i is a = a
+module_items (Instance ds) new x n i is a = absurd is
+module_items (Component ds) new x n i is a = absurd is
+
+module_index : (old : Encodable) (x : ModuleType) → IsRoot old → indexes (space sort.CoreModule) (items_of old ++ core_type (declarations_of x) ∷ []) ≡ count (space sort.CoreModule) old
+module_index (Builder items) x is = let more = indexes-push (space sort.CoreModule) items (core_type (declarations_of x)) in omega (arith, more)
+module_index (Instance ds) x is = absurd is
+module_index (Component ds) x is = absurd is
+
+brings : (c : Collection) (old new : Scope) (n : Name) (item : ItemKind) (k : ℕ) → IsRoot old.content → WritesOne c old new n item k → Brings old new n item k
+brings c old new n (kind.Module id) k is_root w = record {
+  more = core_type (declarations_of w.held) ∷ [];
+  quiet = (tt, tt);
+  description = e.CoreModule w.type;
+  content = module_items old.content new.content w.held n w.type is_root w.appended;
+  place = (λ j. (sort.CoreModule, (module_index old.content w.held is_root ∙ sym w.index) j));
+}
+brings c old new n (kind.TypeItem t) k is_root w = by_types c old new n (kind.TypeItem t) k is_root w
+brings c old new n (kind.Func f) k is_root w = by_types c old new n (kind.Func f) k is_root w
+brings c old new n (kind.Instance i) k is_root w = by_types c old new n (kind.Instance i) k is_root w
+brings c old new n (kind.Component v) k is_root w = by_types c old new n (kind.Component v) k is_root w
+brings c old new n (kind.Value v) k is_root w = by_types c old new n (kind.Value v) k is_root w
+
 pub one_more : Laws → (m : Merged) (es : List (Name × ItemKind)) → m.imports ≡ import_entries es → NoNameTwice es → (i : ℕ) (x : Name × ItemKind) → slice_get es i ≡ Some x
-    → (old new : Scope) (places : Places) (k : ℕ) → IsBegun m i old places → ImportsHeld m.types old new x.0 x.1 k → WritesImport m.types old new x.0 x.1 k → IsRoot new.content
+    → (old new : Scope) (places : Places) (k : ℕ) → IsBegun m i old places → ImportsHeld m.types old new x.0 x.1 k → WritesOne m.types old new x.0 x.1 k → IsRoot new.content
     → IsBegun m (i + 1) new (places ++ (sort_of_kind x.1, k) ∷ [])
 one_more laws m es are once i x at old new places k b imports w is_root =
     let entry : Entry = record { name = x.0; kind = x.1 } in
@@ -149,21 +201,19 @@ one_more laws m es are once i x at old new places k b imports w is_root =
     let listed : (root_of new).imports ≡ before ++ (x.0, merged_item m i entry) ∷ [] =
     r.listed ∙ ap (λ (is : List (Name × Tree)). is ++ (x.0, held_item m.types (bindings m) imported (position (length (root_of old).imports) ∷ []) x.1) ∷ []) b.begins.imports_are
     ∙ ap (λ p. before ++ (x.0, held_item m.types (bindings m) imported (position p ∷ []) x.1) ∷ []) counted in
-    let types : List TypeDef = w.behind.types in
-    let d : Description = w.description in
-    let (content, index) = written_items old.content w.now.content new.content types x.0 d b.is_root w.behind.appended w.appended in
+    let one = brings m.types old new x.0 x.1 k b.is_root w in
+    let d : Description = one.description in
+    let content = one.content in
     let items : List Item = items_of old.content in
-    let meant : HasMeaning ((items ++ map type_item types) ++ import_item x.0 d ∷ []) = subst (λ (c : Encodable). ContentHasMeaning (content_of c) []) content good.0.meaning in
-    let next = begins_behind_types laws before places items types x.0 d (merged_item m i entry) b.begins meant
+    let meant : HasMeaning ((items ++ one.more) ++ import_item x.0 d ∷ []) = subst (λ (c : Encodable). ContentHasMeaning (content_of c) []) content good.0.meaning in
+    let next = begins_next laws before places items one.more x.0 d (merged_item m i entry) b.begins one.quiet meant
     (sym (ap (λ (c : Encodable). (meaning (items_of c)).imports) content) ∙ listed) in
-    let place : ◌≡◌ {A = Sort × ℕ} (described_sort d, indexes (space (described_sort d)) (items ++ map type_item types)) (sort_of_kind x.1, k) =
-    (λ j. (sort_is m.types old w.now x.1 d w.described j, (sym index ∙ sym w.index) j)) in
     record {
       is_root = is_root;
       begins = subst (λ n. Begins (imports_from m 0 (take n m.imports)) (places ++ (sort_of_kind x.1, k) ∷ []) (items_of new.content)) (sym (add-one i))
           (subst (λ (is : List (Name × Tree)). Begins is (places ++ (sort_of_kind x.1, k) ∷ []) (items_of new.content)) (sym (imports_next m i entry there))
-          (subst (λ (p : Sort × ℕ). Begins (before ++ (x.0, merged_item m i entry) ∷ []) (places ++ p ∷ []) (items_of new.content)) place
-          (subst (λ (c : Encodable). Begins (before ++ (x.0, merged_item m i entry) ∷ []) (places ++ (described_sort d, indexes (space (described_sort d)) (items ++ map type_item types)) ∷ []) (items_of c)) (sym content) next)));
+          (subst (λ (p : Sort × ℕ). Begins (before ++ (x.0, merged_item m i entry) ∷ []) (places ++ p ∷ []) (items_of new.content)) one.place
+          (subst (λ (c : Encodable). Begins (before ++ (x.0, merged_item m i entry) ∷ []) (places ++ (described_sort d, indexes (space (described_sort d)) (items ++ one.more)) ∷ []) (items_of c)) (sym content) next)));
       good = good;
       sorts = λ p e place here stands. sorted p e place here (slice_get-push places (sort_of_kind x.1, k) p place stands);
     } where

@@ -8,6 +8,7 @@ use Rattle.wac_shapes.specs.declared.component.Interface.{Interface}
 use Rattle.wac_shapes.specs.declared.component.InterfaceId.{InterfaceId}
 use Rattle.wac_shapes.specs.declared.component.ItemKind.{ItemKind}
 use Rattle.wac_shapes.specs.declared.component.ItemKind.TheVariants as kind
+use Rattle.wac_shapes.specs.declared.component.ModuleTypeId.{ModuleTypeId}
 use Rattle.wac_shapes.specs.declared.component.ValueType.{ValueType}
 use Rattle.wac_shapes.specs.declared.component.«Type».{«Type» as AnyType}
 use Rattle.wac_shapes.specs.declared.component.«Type».TheVariants as ty
@@ -79,18 +80,18 @@ module _ (c : Collection) (wf : IsWellFormed c) where
     by None is all = refl
     by (Some it) is all = all_plain it.exports (λ j e at. plain_is e.1 (exports_held i it is j e at) (all j e at))
 
-  pub is_written : (k : ItemKind) → holds_type c (kind_type k) ≡ true → ListsPlain c k → is_importable c k ≡ true
-  is_written (kind.Instance i) held plain = lists i plain
-  is_written (kind.TypeItem (ty.Value v)) held plain = refl
-  is_written (kind.TypeItem (ty.Resource r)) held plain = of_value (ty.Resource r) _ held plain (λ v e. cc)
-  is_written (kind.TypeItem (ty.Func f)) held plain = of_value (ty.Func f) _ held plain (λ v e. cc)
-  is_written (kind.TypeItem (ty.Interface i)) held plain = of_value (ty.Interface i) _ held plain (λ v e. cc)
-  is_written (kind.TypeItem (ty.World w)) held plain = of_value (ty.World w) _ held plain (λ v e. cc)
-  is_written (kind.TypeItem (ty.Module m)) held plain = refl
-  is_written (kind.Func f) held plain = refl
-  is_written (kind.Component w) held plain = absurd plain
-  is_written (kind.Module m) held plain = absurd plain
-  is_written (kind.Value v) held plain = refl
+  pub is_written : (k : ItemKind) → holds_type c (kind_type k) ≡ true → ListsPlain c k → ((m : ModuleTypeId) → k ≡ kind.Module m → ⊥) → is_importable c k ≡ true
+  is_written (kind.Instance i) held plain other = lists i plain
+  is_written (kind.TypeItem (ty.Value v)) held plain other = refl
+  is_written (kind.TypeItem (ty.Resource r)) held plain other = of_value (ty.Resource r) _ held plain (λ v e. cc)
+  is_written (kind.TypeItem (ty.Func f)) held plain other = of_value (ty.Func f) _ held plain (λ v e. cc)
+  is_written (kind.TypeItem (ty.Interface i)) held plain other = of_value (ty.Interface i) _ held plain (λ v e. cc)
+  is_written (kind.TypeItem (ty.World w)) held plain other = of_value (ty.World w) _ held plain (λ v e. cc)
+  is_written (kind.TypeItem (ty.Module m)) held plain other = refl
+  is_written (kind.Func f) held plain other = refl
+  is_written (kind.Component w) held plain other = absurd plain
+  is_written (kind.Module m) held plain other = absurd (other m refl)
+  is_written (kind.Value v) held plain other = refl
 
   in_split : {A : Type 0} (xs : List A) (x : A) (ys : List A) → (k : ℕ) × (slice_get (xs ++ x ∷ ys) k ≡ Some x)
   in_split [] x ys = (0, refl)
@@ -112,4 +113,4 @@ module _ (c : Collection) (wf : IsWellFormed c) where
   no_fault (kind.Value v) held plain f h = absurd plain
   no_fault (kind.TypeItem a) held plain f h = absurd h
   no_fault (kind.Component w) held plain f h = absurd plain
-  no_fault (kind.Module m) held plain f h = absurd plain
+  no_fault (kind.Module m) held plain f h = absurd h

@@ -25,9 +25,10 @@ HasNoResource ts = (r : ResourceId) → IsIn (ty.Resource r) ts → ⊥
 abbrev pub ArePlain : Collection → List (Name × ItemKind) → Type 0
 ArePlain c es = (i : ℕ) (e : Name × ItemKind) → slice_get es i ≡ Some e → IsPlainItem (kind_tree c e.1)
 
--- an item is plain, or an instance that lists plain ones
+-- an item is plain, an instance that lists plain ones, or a core module
 abbrev pub ListsPlain : Collection → ItemKind → Type 0
 ListsPlain c (kind.Instance i) = ArePlain c (interface_exports c i)
+ListsPlain c (kind.Module m) = Unit {0}
 ListsPlain c k = IsPlainItem (kind_tree c k)
 
 -- and so are all

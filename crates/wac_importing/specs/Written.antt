@@ -9,10 +9,10 @@ use Rattle.wac_binary.specs.declared.fault.BinaryFault.{BinaryFault}
 use Rattle.wac_binary.specs.declared.fault.BinaryFault.TheVariants.{TooLarge, OutOfMemory}
 use Rattle.wac_scopes.specs.declared.scope.Scope.{Scope}
 use Rattle.wac_scopes.specs.Contents.{items_of}
-use Rattle.wac_encode.specs.Importing.{ImportedDoesNotFit}
 use Rattle.wac_meaning.specs.Beginning.{Places, Begins}
 use Rattle.wac_meaning.specs.Importable.{IsImportableKind}
 use Rattle.wac_meaning.specs.MergedImports.{imports_from}
+use Rattle.wac_importing.specs.Modules.{OneDoesNotFit}
 
 -- every import of a merge is imported so far
 abbrev pub AllImportable : Merged → Type 0
@@ -33,7 +33,7 @@ pub record HasTooLarge (m : Merged) : Type 0 where
   pub scope : Scope
   pub places : Places
   pub begins : Begins (imports_from m 0 (take p m.imports)) places (items_of scope.content)
-  pub large : ImportedDoesNotFit m.types entry.name entry.kind scope
+  pub large : OneDoesNotFit m.types entry.name entry.kind scope
 
 -- and so where the answer is that something is too large
 abbrev pub IsTooLarge : Merged → BinaryFault → Type 0
@@ -51,5 +51,5 @@ merge_of c es = record { types = c; imports = import_entries es }
 
 -- what stands where one import is refused
 abbrev pub IsNotWritten : Collection → Scope → Name → ItemKind → BinaryFault → Type 0
-IsNotWritten c s n item TooLarge = ImportedDoesNotFit c n item s
+IsNotWritten c s n item TooLarge = OneDoesNotFit c n item s
 IsNotWritten c s n item OutOfMemory = Unit {0}

@@ -87,7 +87,7 @@ fn are_plain(types: &Types, items: &Named<ItemKind>) -> Result<bool, AllocError>
     Ok(true)
 }
 
-/// Whether a held item is plain, or an instance that lists plain ones.
+/// Whether a held item is plain, an instance that lists plain ones, or a core module.
 fn lists_plain(types: &Types, item: ItemKind) -> Result<bool, AllocError>
     requires { holds_type types.now (kind_type item) ≡ true }
     ensures plain { result ≡ Answers true → ListsPlain types.now item }
@@ -100,12 +100,13 @@ fn lists_plain(types: &Types, item: ItemKind) -> Result<bool, AllocError>
             exports.law();
             are_plain(types, exports)
         }
+        ItemKind::Module(_) => Ok(true),
         _ => is_plain(types, item),
     }
 }
 
-/// Whether a held item is imported so far: it is a function, a type item of a value type or an instance of such items, and made of no
-/// handle. Answers `AllocError` where memory ran out. Linear in what each of its items reaches.
+/// Whether a held item is imported so far: it is a core module, or it is a function, a type item of a value type or an instance of such
+/// items, and made of no handle. Answers `AllocError` where memory ran out. Linear in what each of its items reaches.
 pub fn is_importable(types: &Types, item: ItemKind) -> Result<bool, AllocError>
     requires { holds_type types.now (kind_type item) ≡ true }
     ensures importable { result ≡ Answers true → IsImportableKind types.now item }

@@ -4,6 +4,7 @@
 #![tactic(auto)]
 
 mod importable;
+mod modules;
 #[cfg(test)]
 mod tests;
 mod written;

@@ -7,8 +7,8 @@ use std::process::Abort;
 use std::test::Fail;
 use wac_binary::Sort;
 use wac_collection::{
-    DefinedType, Enum, FuncType, Interface, ItemKind, PrimitiveType, Resource, Type, Types,
-    ValueType,
+    CoreExtern, CoreFuncType, CoreType, DefinedType, Enum, FuncType, Interface, ItemKind,
+    ModuleType, PrimitiveType, Resource, Type, Types, ValueType,
 };
 use wac_merge::TypeAggregator;
 
@@ -65,6 +65,35 @@ fn each_import_stands_at_an_index_of_its_sort(rt: HostRuntime) -> Result<(), Fai
         (Sort::Func, 1),
     ];
     assert!(rt; written.places.as_slice() == places.as_slice());
+    Ok(())
+}
+
+#[test]
+fn a_core_module_stands_behind_its_type(rt: HostRuntime) -> Result<(), Fail> {
+    let alloc = rt.alloc();
+    let mut types = Types::new(alloc);
+    let mut held = ModuleType::new(alloc);
+    let function = CoreFuncType::new(alloc, &[CoreType::I32], &[])?;
+    held.export(alloc, "g", CoreExtern::Func(function))?;
+    let module = ItemKind::Module(types.add_module_type(held)?);
+    let f = func_over(&mut types, alloc, BOOL)?;
+    let merge = finished(alloc, &rt, &types, &[("k", module), ("f", f)])?;
+    let Some(written) = write_imports(alloc, &merge)? else {
+        return Err(Fail::new("not written"));
+    };
+    let places = [(Sort::CoreModule, 0), (Sort::Func, 0)];
+    assert!(rt; written.places.as_slice() == places.as_slice());
+    let bytes = written.root.finish()?;
+    assert!(rt; bytes.len() > 8);
+    let want = [
+        0x03, 0x0d, 0x01, 0x50, 0x02, // one core module type of two declarations
+        0x01, 0x60, 0x01, 0x7f, 0x00, // a function type
+        0x03, 0x01, 0x67, 0x00, 0x00, // the function `g`, of that type
+        0x0a, 0x07, 0x01, 0x00, 0x01, 0x6b, 0x00, 0x11, 0x00, // the module `k`
+        0x07, 0x08, 0x01, 0x40, 0x01, 0x01, 0x70, 0x7f, 0x01, 0x00, // a function type
+        0x0a, 0x06, 0x01, 0x00, 0x01, 0x66, 0x01, 0x00, // the function `f`
+    ];
+    assert!(rt; &bytes[8..] == want.as_slice());
     Ok(())
 }
 

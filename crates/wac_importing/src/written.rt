@@ -3,19 +3,23 @@
 ghost use Rattle.std.specs.Prelude.{◌≡◌, ◌⊎◌, ℕ, true, List, None, Some, Ok as Answers, Err as Refused, IfOk, IfErr, IfSome, slice_get};
 ghost use Rattle.wac_shapes.specs.Kinds.{kind_type};
 ghost use Rattle.wac_shapes.specs.declared.component.ItemKind.{ItemKind as AnyItem};
+ghost use Rattle.wac_shapes.specs.declared.component.ItemKind.TheVariants as kind;
+ghost use Rattle.wac_shapes.specs.declared.component.ModuleTypeId.{ModuleTypeId as AnyModule};
 ghost use Rattle.wac_collection.specs.Collection.{IsWellFormed, holds_type};
 ghost use Rattle.wac_entries.specs.Bindings.{AreHeld};
 ghost use Rattle.wac_binary.specs.declared.fault.BinaryFault.TheVariants.{OutOfMemory};
 ghost use Rattle.wac_scopes.specs.declared.encodable.Encodable.TheVariants.{Builder};
 ghost use Rattle.wac_scopes.specs.Contents.{IsRoot};
-ghost use Rattle.wac_encode.specs.Importing.{ImportsHeld, WritesImport};
+ghost use Rattle.wac_encode.specs.Importing.{ImportsHeld};
 ghost use Rattle.wac_meaning.specs.Beginning.{Begins};
 ghost use Rattle.wac_meaning.specs.Means.{sort_of_kind};
 ghost use Rattle.wac_meaning.specs.MergedImports.{merged_imports, AreOfSorts};
 ghost use Rattle.wac_importing.specs.Written.{AllImportable, HasUnimportable, AreRefused, merge_of, IsTooLarge, IsNotWritten};
 ghost use Rattle.wac_importing.specs.Looked.{ListsPlain, AreImportable};
+ghost use Rattle.wac_importing.specs.Modules.{WritesOne};
 
 use crate::importable::are_importable;
+use crate::modules::import_module;
 use std::alloc::Global;
 use wac_binary::{BinaryFault, ComponentBuilder, Sort};
 use wac_collection::{ItemKind, Named, Types};
@@ -36,8 +40,8 @@ pub struct WrittenImports {
 /// Writes the imports of a finished merge, in order, each under its name, behind the types that it is made of, each of which is
 /// written once.
 ///
-/// Answers none exactly where an import is not importable so far: it is no function, no type item of a value type and no instance
-/// of such items, or it is made of a handle; memory may be refused before that is known. Answers `TooLarge` where an import does not
+/// Answers none exactly where an import is not importable so far: it is no core module, no function, no type item of a value type and
+/// no instance of such items, or it is made of a handle; memory may be refused before that is known. Answers `TooLarge` where an import does not
 /// fit behind those before it; `OutOfMemory` where memory was refused.
 pub fn write_imports(
     alloc: Global,
@@ -77,12 +81,11 @@ fn write_all(
     imports.law();
     wac_binary::law();
     root_law();
-    let encoder = TypeEncoder::new(types);
     let mut root = Scope::new(alloc, Encodable::Builder(ComponentBuilder::new(alloc)));
     let mut places = Vec::new(alloc);
     for i in 0..imports.len() {
         let (name, item) = imports.entry_at(i);
-        let index = write_one(&encoder, &mut root, name, *item)?;
+        let index = write_one(alloc, types, &mut root, name, *item)?;
         places.push((sort_of(*item), index))?;
     }
     Ok(WrittenImports {
@@ -93,20 +96,50 @@ fn write_all(
 
 /// Writes an import that is imported so far, and answers its index.
 fn write_one(
-    encoder: &TypeEncoder<'_>,
+    alloc: Global,
+    types: &Types,
     root: &mut Scope,
     name: &str,
     item: ItemKind,
 ) -> Result<u32, BinaryFault>
-    requires held { holds_type encoder.now.types.now (kind_type item) ≡ true }
-    requires ordered { IsWellFormed encoder.now.types.now }
-    requires importable { ListsPlain encoder.now.types.now item }
+    requires held { holds_type types.now (kind_type item) ≡ true }
+    requires ordered { IsWellFormed types.now }
+    requires importable { ListsPlain types.now item }
     requires root { IsRoot root.old.content }
-    ensures imports { IfOk result (ImportsHeld encoder.now.types.now root.old root.new name.now item) }
-    ensures written { IfOk result (WritesImport encoder.now.types.now root.old root.new name.now item) }
-    ensures fault { IfErr result (IsNotWritten encoder.now.types.now root.old name.now item) }
+    ensures imports { IfOk result (ImportsHeld types.now root.old root.new name.now item) }
+    ensures written { IfOk result (WritesOne types.now root.old root.new name.now item) }
+    ensures fault { IfErr result (IsNotWritten types.now root.old name.now item) }
     ensures root { IsRoot root.new.content }
 {
+    match item {
+        ItemKind::Module(id) => match import_module(alloc, types, root, name, id) {
+            Ok(index) => Ok(index),
+            Err(EncodeFault::Write(_)) => unreachable!(),
+            Err(EncodeFault::TooLarge) => Err(BinaryFault::TooLarge),
+            Err(EncodeFault::OutOfMemory) => Err(BinaryFault::OutOfMemory),
+        },
+        _ => write_item(types, root, name, item),
+    }
+}
+
+/// Writes an import that is imported so far and no core module, and answers its index.
+fn write_item(
+    types: &Types,
+    root: &mut Scope,
+    name: &str,
+    item: ItemKind,
+) -> Result<u32, BinaryFault>
+    requires held { holds_type types.now (kind_type item) ≡ true }
+    requires ordered { IsWellFormed types.now }
+    requires importable { ListsPlain types.now item }
+    requires other { (id : AnyModule) → item ≡ kind.Module id → ⊥ }
+    requires root { IsRoot root.old.content }
+    ensures imports { IfOk result (ImportsHeld types.now root.old root.new name.now item) }
+    ensures written { IfOk result (WritesOne types.now root.old root.new name.now item) }
+    ensures fault { IfErr result (IsNotWritten types.now root.old name.now item) }
+    ensures root { IsRoot root.new.content }
+{
+    let encoder = TypeEncoder::new(types);
     match encoder.import(root, name, item) {
         Ok(Some(index)) => Ok(index),
         Ok(None) => unreachable!(),

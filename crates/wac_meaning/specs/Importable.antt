@@ -2,7 +2,7 @@
 use Rattle.std.specs.Prelude.{ℕ}
 use Rattle.wac_shapes.specs.Name.{Name}
 use Rattle.wac_shapes.specs.declared.component.ItemKind.{ItemKind}
-use Rattle.wac_collection.specs.Tree.{TypeTree, absent, resource, primitive, record_of, variant_of, list_of, fixed_list_of, tuple_of, flags_of, enum_of, option_of, result_of, stream_of, future_of, function, instance, type_equal, function_item, instance_item}
+use Rattle.wac_collection.specs.Tree.{TypeTree, absent, resource, primitive, record_of, variant_of, list_of, fixed_list_of, tuple_of, flags_of, enum_of, option_of, result_of, stream_of, future_of, function, instance, module_of, type_equal, function_item, instance_item, module_item}
 use Rattle.wac_collection.specs.Collection.{Collection}
 use Rattle.wac_subtyping.specs.Subtype.{kind_tree}
 
@@ -37,9 +37,10 @@ abbrev pub IsPlainWhereThere : {L : Type 0} → TypeTree L → Type 0
 IsPlainWhereThere absent = Unit {0}
 IsPlainWhereThere t = IsPlainItem t
 
--- an item that is imported so far: a plain one, or an instance of such
+-- an item that is imported so far: a plain one, an instance of such, or a core module
 abbrev pub IsImportable : {L : Type 0} → TypeTree L → Type 0
 IsImportable (instance_item (instance items)) = (n : Name) → IsPlainWhereThere (items n)
+IsImportable (module_item (module_of imports exports)) = Unit {0}
 IsImportable t = IsPlainItem t
 
 -- and so of a kind of item; a resource goes by its name, so that it is seen also where nothing binds it

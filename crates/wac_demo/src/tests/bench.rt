@@ -5,7 +5,8 @@ use std::fmt::Display;
 use std::process::Abort;
 use std::test::Fail;
 use wac_graph::types::{
-    DefinedType, Enum, FuncType, Interface, ItemKind, PrimitiveType, Type, ValueType,
+    CoreExtern, CoreFuncType, DefinedType, Enum, FuncType, Interface, ItemKind, ModuleType,
+    PrimitiveType, Type, ValueType,
 };
 use wac_graph::{
     CompositionGraph, EncodeError, EncodeOptions, MergeFault, NodeId, NodeKind, PackageId,
@@ -29,6 +30,8 @@ pub enum Item {
     ExportingTelling(&'static str),
     // An instance without exports.
     Empty,
+    // A core module that imports the function `f` of `m` and exports the memory `e`.
+    Module,
     // An instance of an interface of this name, which uses the type of this name of the interface of that name.
     Using(&'static str, &'static str, &'static str),
 }
@@ -119,6 +122,21 @@ fn exporting_telling(
     Ok(ItemKind::Instance(graph.add_interface(interface)?))
 }
 
+fn core_module(alloc: Global, graph: &mut CompositionGraph) -> Result<ItemKind, Fail> {
+    let mut module = ModuleType::new(alloc);
+    let function = CoreFuncType::new(alloc, &[], &[])?;
+    module.import(alloc, "m", "f", CoreExtern::Func(function))?;
+    let memory = CoreExtern::Memory {
+        memory64: false,
+        shared: false,
+        initial: 1,
+        maximum: None,
+        page_size_log2: None,
+    };
+    module.export(alloc, "e", memory)?;
+    Ok(ItemKind::Module(graph.add_module_type(module)?))
+}
+
 fn using_instance(
     alloc: Global,
     graph: &mut CompositionGraph,
@@ -152,6 +170,7 @@ impl Bench {
             Item::Exporting(name) => exporting(self.alloc, &mut self.graph, name),
             Item::ExportingTelling(name) => exporting_telling(self.alloc, &mut self.graph, name),
             Item::Empty => Ok(empty_instance(self.alloc, &mut self.graph)?),
+            Item::Module => core_module(self.alloc, &mut self.graph),
             Item::Using(id, name, used) => {
                 using_instance(self.alloc, &mut self.graph, id, name, used)
             }

@@ -1,6 +1,6 @@
 // What a composition imports: import nodes, and arguments that are not set.
 use super::bench::Call::{Export, Import, Instantiate, Name, Register, Set, Unset};
-use super::bench::Item::{Empty, Exporting, Plain, Using};
+use super::bench::Item::{Empty, Exporting, Module, Plain, Using};
 use super::bench::{Bench, Call};
 use crate::compositions::{empty_instance, function};
 use std::alloc::Global;
@@ -77,6 +77,26 @@ const NAMED: &[(Call<'static>, &str)] = &[
 
 // An interface that lists a type that it uses.
 const USING: &[(Call<'static>, &str)] = &[(Import("n:p/i", Using("n:p/i", "t", "n:p/j")), "0")];
+
+// A core module that is imported.
+const MODULE: &[(Call<'static>, &str)] = &[(Import("k", Module), "0")];
+
+// A core module that is an argument which is not set.
+const ASKED_MODULE: &[(Call<'static>, &str)] = &[
+    (Register("my:package", &[("k", Module)], &[]), ""),
+    (Instantiate(0), "0"),
+];
+
+// An instantiation that takes an imported core module.
+const GIVEN_MODULE: &[(Call<'static>, &str)] = &[
+    (Import("x", Module), "0"),
+    (Register("my:package", &[("k", Module)], &[]), ""),
+    (Instantiate(0), "1"),
+    (Set(1, "k", 0), ""),
+];
+
+// The type of that core module.
+const MODULE_TYPE: &str = "03140150030160000000016d01660000030165020001";
 
 // After the calls `encode` answers the preamble and these sections.
 fn assert_sections(
@@ -230,6 +250,39 @@ fn the_lower_node_names_an_import(rt: HostRuntime) -> Result<(), Fail> {
             "0703014200",
             "0a1001000b613a622f6340302e322e330500",
             "00160e636f6d706f6e656e742d6e616d6501050501000170",
+        ],
+    )
+}
+
+#[test]
+fn a_core_module_is_imported(rt: HostRuntime) -> Result<(), Fail> {
+    assert_sections(&rt, MODULE, &[MODULE_TYPE, "0a070100016b001100"])
+}
+
+#[test]
+fn a_core_module_that_is_not_set_is_imported(rt: HostRuntime) -> Result<(), Fail> {
+    assert_sections(
+        &rt,
+        ASKED_MODULE,
+        &[
+            MODULE_TYPE,
+            "0a070100016b001100",
+            COMPONENT,
+            "050901000001016b001100",
+        ],
+    )
+}
+
+#[test]
+fn an_instance_takes_a_core_module(rt: HostRuntime) -> Result<(), Fail> {
+    assert_sections(
+        &rt,
+        GIVEN_MODULE,
+        &[
+            MODULE_TYPE,
+            "0a0701000178001100",
+            COMPONENT,
+            "050901000001016b001100",
         ],
     )
 }

@@ -1,24 +1,21 @@
-use Rattle.std.proofs.Common.{◌≡◌, ◌+◌, ◌≤◌, true, length, [], ◌∷◌, ◌++◌, refl, ap, ◌∙◌, sym, subst, arith}
+use Rattle.std.proofs.Common.{◌+◌, ◌≤◌, length, [], ◌∷◌, ◌++◌, refl, ap, ◌∙◌, sym, subst, arith}
 use Rattle.wac_shapes.specs.Name.{Name}
-use Rattle.wac_shapes.specs.Kinds.{kind_type}
 use Rattle.wac_shapes.specs.declared.component.ItemKind.{ItemKind}
-use Rattle.wac_collection.specs.Collection.{Collection, holds_type}
 use Rattle.wac_binary.specs.declared.sorts.Sort.{Sort}
-use Rattle.wac_encode.specs.Importing.{ImportsHeld, WritesImport}
 use Rattle.wac_meaning.specs.Beginning.{Places}
-use Rattle.wac_importing.specs.Written.{merge_of, IsTooLarge, IsNotWritten}
+use Rattle.wac_importing.specs.Written.{merge_of, IsTooLarge}
 use Rattle.wac_importing.proofs.Loop.{IsBegun, one_more, all_begun}
 use Rattle.wac_importing.proofs.Merging.{err_of, too_large}
 use Rattle.wac_importing.proofs.written.write_all.Goals as goal
 
 pub write_one-requires-clause-held : goal.write_one-requires-clause-held
-write_one-requires-clause-held c = subst (λ (t : Collection). holds_type t (kind_type c.entry_at.result.1.now) ≡ true) (sym c.new-encoder.ensures) (c.requires.held c.loop-i.i _ c.entry_at.ensures)
+write_one-requires-clause-held c = c.requires.held c.loop-i.i _ c.entry_at.ensures
 
 pub returns-in_err-index-clause-fault : goal.returns-in_err-index-clause-fault
 returns-in_err-index-clause-fault c =
     err_of (IsTooLarge (merge_of c.args.types.now c.args.imports.now)) c.from_residual.result (c.in_err-index.field-0).0 c.from_residual.ensures.1
     (too_large (merge_of c.args.types.now c.args.imports.now) c.args.imports.now refl c.loop-i.i (c.entry_at.result.0.now, c.entry_at.result.1.now) c.entry_at.ensures c.loop-i.root c.loop-i.places.items c.loop-i.invariant (c.in_err-index.field-0).0
-    (subst (λ (t : Collection). IsNotWritten t c.loop-i.root c.entry_at.result.0.now c.entry_at.result.1.now (c.in_err-index.field-0).0) c.new-encoder.ensures c.in_err-index.ensures.fault))
+    c.in_err-index.ensures.fault)
 
 pub loop-i-preserved : goal.loop-i-preserved
 loop-i-preserved c =
@@ -27,9 +24,7 @@ loop-i-preserved c =
     subst (λ (ps : Places). IsBegun (merge_of c.args.types.now c.args.imports.now) (c.loop-i.i + 1) c.write_one.new.root ps) (sym (c.in_ok-push.ensures.items ∙ ap (λ (s : Sort). c.loop-i.places.items ++ (s, c.in_ok-index.index) ∷ []) c.sort_of.ensures))
     (one_more (record { counted = c.law-3.ensures.counted; earlier = c.law-3.ensures.earlier; bounds_counted = c.law-3.ensures.instances_counted; bounds_earlier = c.law-3.ensures.instances_earlier })
     (merge_of c.args.types.now c.args.imports.now) c.args.imports.now refl c.law-2.ensures c.loop-i.i (name, item) c.entry_at.ensures c.loop-i.root c.write_one.new.root c.loop-i.places.items c.in_ok-index.index c.loop-i.invariant
-    (subst (λ (t : Collection). ImportsHeld t c.loop-i.root c.write_one.new.root c.entry_at.result.0.now c.entry_at.result.1.now c.in_ok-index.index) c.new-encoder.ensures c.in_ok-index.ensures.imports)
-    (subst (λ (t : Collection). WritesImport t c.loop-i.root c.write_one.new.root c.entry_at.result.0.now c.entry_at.result.1.now c.in_ok-index.index) c.new-encoder.ensures c.in_ok-index.ensures.written)
-    c.in_ok-index.ensures.root)
+    c.in_ok-index.ensures.imports c.in_ok-index.ensures.written c.in_ok-index.ensures.root)
 
 pub returns-clause-begins : goal.returns-clause-begins
 returns-clause-begins c =
