@@ -12,3 +12,4 @@ pub mod Naming
 pub mod Importing
 pub mod Plain
 pub mod Together
+pub mod Defining

@@ -171,6 +171,7 @@ writes-type c P old new y is on = record {
   appended = ap (λ (s : Scope). s.content) is ∙ one-type old.content y;
   kept = λ d i h. ap (λ (s : Scope). value_index s d) is ∙ h;
   needed = λ d i none some. let both : None ≡ Some i = sym none ∙ sym (ap (λ (s : Scope). value_index s d) is) ∙ some in cc;
+  later = λ d i none some. let both : None ≡ Some i = sym none ∙ sym (ap (λ (s : Scope). value_index s d) is) ∙ some in cc;
   once =
       let same : unwritten new (length c.defined) ≡ unwritten old (length c.defined) = unwritten-same old new (length c.defined) (λ k l. ap (λ (s : Scope). value_index s (record { 0 = k })) is) in
       omega (arith, same);

@@ -1,5 +1,5 @@
 -- Good stacks go on as definitions are written.
-use Rattle.std.specs.Prelude.{ℕ, suc, ◌+◌, ◌<◌, ◌≡◌, cond, nat_eq, Bool, true, false, List, [], ◌∷◌, ◌++◌, length, map, Option, Some, None, Err}
+use Rattle.std.specs.Prelude.{ℕ, suc, ◌+◌, ◌<◌, ◌≤◌, ◌≡◌, cond, nat_eq, Bool, true, false, List, [], ◌∷◌, ◌++◌, length, map, Option, Some, None, Result, Ok, Err, IfOk}
 use Rattle.std.proofs.Common.{refl, ap, ◌∙◌, sym, subst, arith, length-append, zero-add}
 use Rattle.std.proofs.Math.Path.{fun_ext}
 use Rattle.std.proofs.lemmas.List.{append-nil, append_assoc}
@@ -8,13 +8,15 @@ use Rattle.wac_shapes.specs.declared.component.DefinedTypeId.{DefinedTypeId}
 use Rattle.wac_shapes.specs.declared.component.ValueType.{ValueType}
 use Rattle.wac_shapes.specs.declared.component.ValueType.TheVariants as val
 use Rattle.wac_collection.specs.Collection.{Collection, IsWellFormed, item_at}
-use Rattle.wac_binary.specs.Items.{ValueDef, TypeDef, type_decl, type_item, value_def}
+use Rattle.wac_binary.specs.declared.sorts.Sort.TheVariants as sort
+use Rattle.wac_binary.specs.Indexes.{space, indexes, declared}
+use Rattle.wac_binary.specs.Items.{ValueDef, TypeDef, Decl, type_decl, Item, type_item, value_def}
 use Rattle.wac_scopes.specs.declared.encodable.Encodable.{Encodable}
 use Rattle.wac_scopes.specs.declared.encodable.Encodable.TheVariants.{Builder, Instance, Component}
 use Rattle.wac_scopes.specs.declared.fault.EncodeFault.{EncodeFault}
 use Rattle.wac_scopes.specs.declared.fault.EncodeFault.TheVariants as fault
 use Rattle.wac_scopes.specs.declared.scope.Scope.{Scope}
-use Rattle.wac_scopes.specs.Contents.{content_of, and_type, ContentFits}
+use Rattle.wac_scopes.specs.Contents.{content_of, and_type, count, ContentFits}
 use Rattle.wac_scopes.specs.Scopes.{Open, env, envs}
 use Rattle.wac_scopes.specs.Good.{Good, Onward}
 use Rattle.wac_scopes.specs.Parts.{IsWritten}
@@ -42,11 +44,12 @@ goes-on-same c stays old new h m ms o os g = subst (λ (p : Open). Onward c (m �
 pub goes-on-twice : (c : Collection) → Follows → (a b d : Scope) → GoesOn c a b → GoesOn c b d → GoesOn c a d
 goes-on-twice c follows a b d p q m ms o os g = let first = p m ms o os g in follows c (m ∷ ms) (opened a o ∷ os) (opened b o ∷ os) (opened d o ∷ os) first (q m ms o os first.0)
 
-pub writes-one : (c : Collection) → IsWellFormed c → (old new : Scope) (d : DefinedTypeId) (x : DefinedType) (y : ValueDef) (k : ℕ) → item_at c.defined d.0 ≡ Some x → SaysDefinition c old x y → AddsValue old new d y k → HasToo old d k new → new.content ≡ and_type old.content (value_def y) → WritesOne c old new d
-writes-one c wf old new d x y k at says adds too appended = record {
+pub writes-one : (c : Collection) → IsWellFormed c → (old new : Scope) (d : DefinedTypeId) (x : DefinedType) (y : ValueDef) (k : ℕ) → item_at c.defined d.0 ≡ Some x → SaysDefinition c old x y → AddsValue old new d y k → HasToo old d k new → new.content ≡ and_type old.content (value_def y) → k ≡ count (space sort.«Type») old.content → WritesOne c old new d
+writes-one c wf old new d x y k at says adds too appended index = record {
   onward = λ m ms o os g. (adds c wf m ms o os x g at (says m ms o os g)).3.0;
   index = k;
   recorded = too;
+  next = index;
   definition = value_def y;
   appended = appended;
 }
@@ -78,10 +81,39 @@ one-type (Builder items) y = refl
 one-type (Instance ds) y = refl
 one-type (Component ds) y = refl
 
-all-behind : (x : Encodable) (ys zs : List TypeDef) → with_types (with_types x ys) zs ≡ with_types x (ys ++ zs)
+pub all-behind : (x : Encodable) (ys zs : List TypeDef) → with_types (with_types x ys) zs ≡ with_types x (ys ++ zs)
 all-behind (Builder items) ys zs = ap Builder (mapped-more type_item items ys zs)
 all-behind (Instance ds) ys zs = ap Instance (mapped-more type_decl ds ys zs)
 all-behind (Component ds) ys zs = ap Component (mapped-more type_decl ds ys zs)
+
+-- no type index is lost
+
+indexes-more : (k : ℕ) (xs ys : List Item) → indexes k xs ≤ indexes k (xs ++ ys)
+indexes-more k [] ys = omega arith
+indexes-more k (x ∷ xs) ys = let rest : indexes k xs ≤ indexes k (xs ++ ys) = indexes-more k xs ys in omega (arith, rest)
+
+declared-more : (k : ℕ) (ds es : List Decl) → declared k ds ≤ declared k (ds ++ es)
+declared-more k [] es = omega arith
+declared-more k (d ∷ ds) es = let rest : declared k ds ≤ declared k (ds ++ es) = declared-more k ds es in omega (arith, rest)
+
+pub types-more : (x : Encodable) (ys : List TypeDef) → count (space sort.«Type») x ≤ count (space sort.«Type») (with_types x ys)
+types-more (Builder items) ys = indexes-more (space sort.«Type») items (map type_item ys)
+types-more (Instance ds) ys = declared-more (space sort.«Type») ds (map type_decl ys)
+types-more (Component ds) ys = declared-more (space sort.«Type») ds (map type_decl ys)
+
+-- an index that is not below what was written since was not below what was written before
+pub still-later : (x y : Encodable) (ys : List TypeDef) (i : ℕ) → y ≡ with_types x ys → count (space sort.«Type») y ≤ i → count (space sort.«Type») x ≤ i
+still-later x y ys i is behind =
+    let more : count (space sort.«Type») x ≤ count (space sort.«Type») (with_types x ys) = types-more x ys in
+    let same : count (space sort.«Type») y ≡ count (space sort.«Type») (with_types x ys) = ap (count (space sort.«Type»)) is in
+    omega (arith, more, same, behind)
+
+pub later-when : (x y : Encodable) (ys : List TypeDef) (r : Result ℕ EncodeFault) → y ≡ with_types x ys → IfOk r (λ k. count (space sort.«Type») y ≤ k) → IfOk r (λ k. count (space sort.«Type») x ≤ k)
+later-when x y ys (Ok k) is behind = still-later x y ys k is behind
+later-when x y ys (Err e) is behind = tt
+
+pub same-index : (s : Scope) (d : DefinedTypeId) (i j : ℕ) → value_index s d ≡ Some i → value_index s d ≡ Some j → i ≡ j
+same-index s d i j one two = let both : Some i ≡ Some j = sym one ∙ two in cc
 
 -- nothing is written
 pub writes-none : (c : Collection) → StaysOnward → (P : ValueType → Type 0) (old new : Scope) → IsAsBefore old new → WritesFor c 0 P old new
@@ -91,6 +123,7 @@ writes-none c stays P old new h = record {
   appended = h.content ∙ none-behind old.content;
   kept = λ d i e. h.values d ∙ e;
   needed = λ d i none some. let both : None ≡ Some i = sym none ∙ sym (h.values d) ∙ some in cc;
+  later = λ d i none some. let both : None ≡ Some i = sym none ∙ sym (h.values d) ∙ some in cc;
   once = let n : unwritten new (length c.defined) ≡ unwritten old (length c.defined) = unwritten-same old new (length c.defined) (λ k l. h.values (record { 0 = k })) in omega (arith, n);
 }
 
@@ -117,12 +150,20 @@ writes-more c follows n P old now new d w made held none one = record {
   appended = one.appended ∙ ap (λ (x : Encodable). and_type x one.definition) w.appended ∙ one-behind old.content w.types one.definition;
   kept = λ e i h. recorded-now d one.index now new one.recorded e i none (w.kept e i h);
   needed = λ e i h k. by_now e i h k (value_index now e) refl;
+  later = λ e i h k. later_now e i h k (value_index now e) refl;
   once = let less : suc (unwritten new (length c.defined)) ≡ unwritten now (length c.defined) = unwritten-less now new d.0 one.index (length c.defined) held none one.recorded.values in let before : length w.types + unwritten now (length c.defined) ≡ n + unwritten old (length c.defined) = w.once in omega (arith, less, one-longer w.types one.definition, before);
 }
   where
     by_now : (e : DefinedTypeId) (i : ℕ) → value_index old e ≡ None → value_index new e ≡ Some i → (o : Option ℕ) → value_index now e ≡ o → P (val.Defined e)
     by_now e i h k None is = subst (λ (u : DefinedTypeId). P (val.Defined u)) (new-is d one.index now new one.recorded e i is k) made
     by_now e i h k (Some j) is = w.needed e j h is
+
+    later_now : (e : DefinedTypeId) (i : ℕ) → value_index old e ≡ None → value_index new e ≡ Some i → (o : Option ℕ) → value_index now e ≡ o → count (space sort.«Type») old.content ≤ i
+    later_now e i h k None is =
+        let same : d ≡ e = new-is d one.index now new one.recorded e i is k in
+        let index : i ≡ one.index = same-index new e i one.index k (subst (λ (u : DefinedTypeId). value_index new u ≡ Some one.index) same (one.recorded.values d ∙ ap (λ (b : Bool). cond b (Some one.index) (value_index now d)) (let equal : nat_eq d.0 d.0 ≡ true = grind arith in equal))) in
+        subst (λ (n : ℕ). count (space sort.«Type») old.content ≤ n) (sym (index ∙ one.next)) (still-later old.content now.content w.types (count (space sort.«Type») now.content) w.appended (omega arith))
+    later_now e i h k (Some j) is = subst (λ (n : ℕ). count (space sort.«Type») old.content ≤ n) (same-index new e j i (recorded-now d one.index now new one.recorded e j none is) k) (w.later e j h is)
 
 -- one after the other, for what both need
 pub writes-then : (c : Collection) → Follows → (k n : ℕ) (P Q : ValueType → Type 0) (old now new : Scope) → WritesFor c k P old now → WritesFor c n Q now new → (R : ValueType → Type 0) → ((v : ValueType) → P v → R v) → ((v : ValueType) → Q v → R v) → WritesFor c (k + n) R old new
@@ -132,12 +173,17 @@ writes-then c follows k n P Q old now new w u R p q = record {
   appended = u.appended ∙ ap (λ (x : Encodable). with_types x u.types) w.appended ∙ all-behind old.content w.types u.types;
   kept = λ d i e. u.kept d i (w.kept d i e);
   needed = λ d i none some. by_now d i none some (value_index now d) refl;
+  later = λ d i none some. later_now d i none some (value_index now d) refl;
   once = let one : length w.types + unwritten now (length c.defined) ≡ k + unwritten old (length c.defined) = w.once in let two : length u.types + unwritten new (length c.defined) ≡ n + unwritten now (length c.defined) = u.once in omega (arith, one, two, length-append w.types u.types);
 }
   where
     by_now : (d : DefinedTypeId) (i : ℕ) → value_index old d ≡ None → value_index new d ≡ Some i → (o : Option ℕ) → value_index now d ≡ o → R (val.Defined d)
     by_now d i none some None is = q (val.Defined d) (u.needed d i is some)
     by_now d i none some (Some j) is = p (val.Defined d) (w.needed d j none is)
+
+    later_now : (d : DefinedTypeId) (i : ℕ) → value_index old d ≡ None → value_index new d ≡ Some i → (o : Option ℕ) → value_index now d ≡ o → count (space sort.«Type») old.content ≤ i
+    later_now d i none some None is = still-later old.content now.content w.types i w.appended (u.later d i is some)
+    later_now d i none some (Some j) is = subst (λ (n : ℕ). count (space sort.«Type») old.content ≤ n) (same-index new d j i (u.kept d j is) some) (w.later d j none is)
 
 pub writes-behind : (c : Collection) → Follows → (n : ℕ) (P : ValueType → Type 0) (old now new : Scope) → WritesFor c 0 P old now → WritesFor c n P now new → WritesFor c n P old new
 writes-behind c follows n P old now new w u = subst (λ (k : ℕ). WritesFor c k P old new) (zero-add n) (writes-then c follows 0 n P P old now new w u P (λ v m. m) (λ v m. m))
@@ -149,6 +195,7 @@ writes-as c n P Q old new ok w = record {
   appended = w.appended;
   kept = w.kept;
   needed = λ d i none some. ok (val.Defined d) (w.needed d i none some);
+  later = w.later;
   once = w.once;
 }
 

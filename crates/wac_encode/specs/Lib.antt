@@ -3,3 +3,4 @@ pub mod Tasks
 pub mod Listing
 pub mod Items
 pub mod Importing
+pub mod Defining

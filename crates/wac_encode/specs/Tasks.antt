@@ -11,12 +11,14 @@ use Rattle.wac_shapes.specs.declared.component.ValueType.TheVariants as val
 use Rattle.wac_collection.specs.Collection.{Collection, HasDefined, item_at, holds_value}
 use Rattle.wac_collection.specs.Aliases.{target_of, value_resolved}
 use Rattle.wac_binary.specs.declared.types.ComponentValType.{ComponentValType}
+use Rattle.wac_binary.specs.declared.sorts.Sort.TheVariants as sort
+use Rattle.wac_binary.specs.Indexes.{space}
 use Rattle.wac_binary.specs.Items.{ValueDef, TypeDef, value_def}
 use Rattle.wac_scopes.specs.declared.scope.Scope.{Scope}
 use Rattle.wac_scopes.specs.declared.fault.EncodeFault.{EncodeFault}
 use Rattle.wac_scopes.specs.declared.fault.EncodeFault.TheVariants as fault
 use Rattle.wac_scopes.specs.declared.fault.WriteFault.TheVariants as write
-use Rattle.wac_scopes.specs.Contents.{and_type, ContentFits}
+use Rattle.wac_scopes.specs.Contents.{and_type, count, ContentFits}
 use Rattle.wac_scopes.specs.Scoped.{value_index, HasToo}
 use Rattle.wac_encode.specs.declared.task.Task.{Task}
 use Rattle.wac_listing.specs.Made.{MadeOf, parts}
@@ -72,6 +74,7 @@ pub record WritesOne (c : Collection) (old new : Scope) (d : DefinedTypeId) : Ty
   pub onward : GoesOn c old new
   pub index : ℕ
   pub recorded : HasToo old d index new
+  pub next : index ≡ count (space sort.«Type») old.content
   pub definition : TypeDef
   pub appended : new.content ≡ and_type old.content definition
 

@@ -1,5 +1,5 @@
 -- What the writers of value types and function types do to an open scope.
-use Rattle.std.specs.Prelude.{ℕ, zero, suc, ◌+◌, ◌≡◌, ◌⊎◌, List, [], ◌∷◌, ◌++◌, length, map, Option, Some, None, IsSome, Result, Ok, Err}
+use Rattle.std.specs.Prelude.{ℕ, zero, suc, ◌+◌, ◌≤◌, ◌≡◌, ◌⊎◌, List, [], ◌∷◌, ◌++◌, length, map, Option, Some, None, IsSome, Result, Ok, Err}
 use Rattle.std.specs.List.{AllZip}
 use Rattle.wac_shapes.specs.Name.{Name, option_case}
 use Rattle.wac_shapes.specs.declared.component.DefinedType.{DefinedType}
@@ -17,6 +17,7 @@ use Rattle.wac_binary.specs.declared.types.ComponentValType.{ComponentValType}
 use Rattle.wac_binary.specs.declared.sorts.Description.TheVariants as e
 use Rattle.wac_binary.specs.declared.sorts.Sort.TheVariants as sort
 use Rattle.wac_binary.specs.HasMeaning.{IsFunction}
+use Rattle.wac_binary.specs.Indexes.{space}
 use Rattle.wac_binary.specs.Items.{ValueDef, TypeDef, func_def, type_decl, type_item, value_def}
 use Rattle.wac_scopes.specs.declared.encodable.Encodable.{Encodable}
 use Rattle.wac_scopes.specs.declared.encodable.Encodable.TheVariants.{Builder, Instance, Component}
@@ -24,7 +25,7 @@ use Rattle.wac_scopes.specs.declared.scope.Scope.{Scope}
 use Rattle.wac_scopes.specs.declared.fault.EncodeFault.{EncodeFault}
 use Rattle.wac_scopes.specs.declared.fault.EncodeFault.TheVariants as fault
 use Rattle.wac_scopes.specs.declared.fault.WriteFault.TheVariants as write
-use Rattle.wac_scopes.specs.Contents.{and_type, and_import, ContentFits}
+use Rattle.wac_scopes.specs.Contents.{and_type, and_import, count, ContentFits}
 use Rattle.wac_scopes.specs.Scopes.{Open, Stack, env, envs}
 use Rattle.wac_scopes.specs.Good.{IsHeld, Good, Onward}
 use Rattle.wac_scopes.specs.Laws.{Adds}
@@ -89,6 +90,8 @@ pub record WritesFor (c : Collection) (n : ℕ) (Needed : ValueType → Type 0) 
   pub kept : (d : DefinedTypeId) (i : ℕ) → value_index old d ≡ Some i → value_index new d ≡ Some i
   -- what is written since is needed
   pub needed : (d : DefinedTypeId) (i : ℕ) → value_index old d ≡ None → value_index new d ≡ Some i → Needed (val.Defined d)
+  -- and stands behind what was written
+  pub later : (d : DefinedTypeId) (i : ℕ) → value_index old d ≡ None → value_index new d ≡ Some i → count (space sort.«Type») old.content ≤ i
   -- and is written once
   pub once : length types + unwritten new (length c.defined) ≡ n + unwritten old (length c.defined)
 

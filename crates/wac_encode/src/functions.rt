@@ -1,8 +1,11 @@
 //! The writer of function types.
 
-ghost use Rattle.std.specs.Prelude.{◌≡◌, true, ℕ, List, [], Option, Some, IfOk, OnOk, slice_get};
+ghost use Rattle.std.specs.Prelude.{◌≡◌, ◌≤◌, true, ℕ, List, [], Option, Some, IfOk, OnOk, slice_get};
 ghost use Rattle.wac_shapes.specs.declared.component.ValueType.{ValueType as AnyValue};
 ghost use Rattle.wac_collection.specs.Collection.{HasFunc, and_maybe, holds_value, item_at, seconds};
+ghost use Rattle.wac_binary.specs.declared.sorts.Sort.TheVariants as sort;
+ghost use Rattle.wac_binary.specs.Indexes.{space};
+ghost use Rattle.wac_scopes.specs.Contents.{count};
 ghost use Rattle.wac_listing.specs.Made.{OneIsMadeOf};
 ghost use Rattle.wac_encode.specs.Written.{MaybeSays, MaybeByRecord, IsKnown, WritesFor, IsRefused, IsOfFunc, AddsHeldFunc, EndsWithFunc, IsFuncRefused, one_if_ok};
 
@@ -60,6 +63,7 @@ impl<'a> TypeEncoder<'a> {
         requires says { MaybeSays self.now.types.now scope.old held.now.result output }
         requires recorded { MaybeByRecord self.now.types.now scope.old held.now.result output }
         ensures written { WritesFor self.now.types.now (one_if_ok result) (IsOfFunc self.now.types.now func) scope.old scope.new }
+        ensures later { IfOk result (λ k. count (space sort.Type) scope.old.content ≤ k) }
         ensures adds { IfOk result (AddsHeldFunc self.now.types.now scope.old scope.new func) }
         ensures recorded { OnOk result (EndsWithFunc self.now.types.now func scope.new) }
         ensures fault { IsFuncRefused self.now.types.now func scope.new result }
@@ -84,6 +88,7 @@ impl<'a> TypeEncoder<'a> {
     pub fn func(&self, scope: &mut Scope, func: FuncTypeId) -> Result<u32, EncodeFault>
         requires { HasFunc self.now.types.now func }
         ensures written { WritesFor self.now.types.now (one_if_ok result) (IsOfFunc self.now.types.now func) scope.old scope.new }
+        ensures later { IfOk result (λ k. count (space sort.Type) scope.old.content ≤ k) }
         ensures adds { IfOk result (AddsHeldFunc self.now.types.now scope.old scope.new func) }
         ensures recorded { OnOk result (EndsWithFunc self.now.types.now func scope.new) }
         ensures fault { IsFuncRefused self.now.types.now func scope.new result }

@@ -1,11 +1,13 @@
-use Rattle.std.specs.Prelude.{ℕ, Option, []}
+use Rattle.std.specs.Prelude.{ℕ, Option, [], ◌++◌}
+use Rattle.std.proofs.Common.{ap, ◌∙◌}
 use Rattle.std.proofs.lemmas.Result.{err_from_is_err_and}
 use Rattle.wac_collection.specs.Collection.{and_maybe, seconds}
 use Rattle.wac_binary.specs.declared.types.ComponentValType.{ComponentValType}
 use Rattle.wac_listing.specs.Made.{OneIsMadeOf}
-use Rattle.wac_encode.specs.Written.{IsOfFunc, one_if_ok}
+use Rattle.wac_scopes.specs.declared.encodable.Encodable.{Encodable}
+use Rattle.wac_encode.specs.Written.{IsOfFunc, one_if_ok, with_types}
 use Rattle.wac_encode.proofs.Rows.{held-params, held-result, params-of-func, result-of-func, func-refused-as, adds-when}
-use Rattle.wac_encode.proofs.Stacks.{writes-as, writes-behind, goes-on-twice}
+use Rattle.wac_encode.proofs.Stacks.{writes-as, writes-behind, goes-on-twice, all-behind, later-when}
 use Rattle.wac_encode.proofs.Stepping.{known-more}
 use Rattle.wac_encode.proofs.encoder.TypeEncoder.func.Goals as goal
 
@@ -52,6 +54,11 @@ returns-clause-written c =
     (writes-as t 0 (OneIsMadeOf t (seconds c.index-held.result.now.params)) (IsOfFunc t c.args.func) c.args.scope.now c.write_fields.new.scope (params-of-func t c.args.func c.index-held.result.now c.index-held.ensures) c.in_ok-write_fields.ensures.written)
     (writes-as t 0 (OneIsMadeOf t (and_maybe c.index-held.result.now.result [])) (IsOfFunc t c.args.func) c.write_fields.new.scope c.write_optional.new.scope (result-of-func t c.args.func c.index-held.result.now c.index-held.ensures) c.in_ok-output.ensures.written))
     c.put_func.ensures.written
+
+pub returns-clause-later : goal.returns-clause-later
+returns-clause-later c = later-when c.args.scope.now.content c.write_optional.new.scope.content (c.in_ok-write_fields.ensures.written.types ++ c.in_ok-output.ensures.written.types) c.put_func.result
+    (c.in_ok-output.ensures.written.appended ∙ ap (λ (x : Encodable). with_types x c.in_ok-output.ensures.written.types) c.in_ok-write_fields.ensures.written.appended ∙ all-behind c.args.scope.now.content c.in_ok-write_fields.ensures.written.types c.in_ok-output.ensures.written.types)
+    c.put_func.ensures.later
 
 pub returns-clause-adds : goal.returns-clause-adds
 returns-clause-adds c = adds-when c.args.self.now.types.now c.step_law.ensures.follows c.args.scope.now c.write_optional.new.scope c.put_func.new.scope c.args.func c.put_func.result

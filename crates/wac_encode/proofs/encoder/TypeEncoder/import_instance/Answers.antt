@@ -1,3 +1,4 @@
+use Rattle.std.proofs.Common.{refl}
 use Rattle.std.specs.Prelude.{ℕ, List, Option}
 use Rattle.std.proofs.Common.{subst}
 use Rattle.std.proofs.lemmas.Result.{err_from_is_err_and}
@@ -59,3 +60,8 @@ returns-clause-wrote c =
     let w = instance-behind t c.args.root.now c.define_instance.new.self c.args.interface c.in-Some.declarations c.in_ok-index.index (subst (SaysIfThere t c.args.interface) c.in-Some.is c.in_ok-declarations.ensures.says) c.in_ok-index.ensures.stands c.in_ok-index.ensures.appended in
     let ends = ends-with-interface t c.args.root.now c.define_instance.new.self c.args.interface c.in-Some.declarations c.in_ok-index.index (subst (WritesIfThere t c.args.interface) c.in-Some.is c.in_ok-declarations.ensures.written) c.in_ok-index.ensures.appended c.in_ok-index.ensures.index in
     instance-written t c.args.root.now c.define_instance.new.self c.import_instance.new.self c.args.name.now c.args.interface c.in_ok-index.index c.in_ok-import.import w ends c.in_ok-import.ensures.appended c.in_ok-import.ensures.index
+
+pub returns-in_err-declarations-clause-refused : goal.returns-in_err-declarations-clause-refused
+returns-in_err-declarations-clause-refused c =
+    let p = err_from_is_err_and c.from_residual.result c.from_residual.ensures.1 in
+    rw p.1 (nothing-of c.args.self.now.types.now c.still_law.ensures (kind.Instance c.args.interface) c.args.root.now c.args.root.now refl)

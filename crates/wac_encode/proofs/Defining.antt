@@ -1,0 +1,253 @@
+-- Definitions are written into the root.
+use Rattle.std.specs.Prelude.{ℕ, ◌≡◌, ◌≤◌, List, [], ◌∷◌, ◌++◌, map, Option, Some, None, Err}
+use Rattle.std.proofs.Common.{refl, ap, ◌∙◌, sym, subst, arith, inl, inr}
+use Rattle.std.proofs.lemmas.List.{append-nil}
+use Rattle.wac_shapes.specs.Name.{Name}
+use Rattle.wac_shapes.specs.declared.component.DefinedTypeId.{DefinedTypeId}
+use Rattle.wac_shapes.specs.declared.component.FuncTypeId.{FuncTypeId}
+use Rattle.wac_shapes.specs.declared.component.PrimitiveType.{PrimitiveType}
+use Rattle.wac_shapes.specs.declared.component.ValueType.{ValueType}
+use Rattle.wac_shapes.specs.declared.component.ValueType.TheVariants as val
+use Rattle.wac_shapes.specs.declared.component.«Type».{«Type» as AnyType}
+use Rattle.wac_shapes.specs.declared.component.«Type».TheVariants as ty
+use Rattle.wac_collection.specs.Tree.{Tree, primitive}
+use Rattle.wac_collection.specs.Collection.{Collection, IsWellFormed}
+use Rattle.wac_collection.specs.Aliases.{value_resolved}
+use Rattle.wac_collection.specs.Bound.{held_tree}
+use Rattle.wac_binary.specs.declared.fault.BinaryFault.{BinaryFault}
+use Rattle.wac_binary.specs.declared.fault.BinaryFault.TheVariants as binary
+use Rattle.wac_binary.specs.declared.sorts.Sort.TheVariants as sort
+use Rattle.wac_binary.specs.Fits.{Fits, TooLargeUnless}
+use Rattle.wac_binary.specs.Indexes.{space, indexes}
+use Rattle.wac_binary.specs.Items.{TypeDef, value_def, primitive_def, Item, type_item, export_item}
+use Rattle.wac_binary.specs.HasMeaning.{HasMeaning}
+use Rattle.wac_binary.specs.Meaning.{written, meaning, stands_for}
+use Rattle.wac_scopes.specs.declared.encodable.Encodable.{Encodable}
+use Rattle.wac_scopes.specs.declared.encodable.Encodable.TheVariants.{Builder, Instance, Component}
+use Rattle.wac_scopes.specs.declared.fault.EncodeFault.{EncodeFault}
+use Rattle.wac_scopes.specs.declared.fault.EncodeFault.TheVariants as fault
+use Rattle.wac_scopes.specs.declared.scope.Scope.{Scope}
+use Rattle.wac_scopes.specs.Contents.{IsRoot, items_of, and_type, count, ContentFits}
+use Rattle.wac_scopes.specs.Faults.{encode_fault}
+use Rattle.wac_scopes.specs.Scopes.{Content, ContentHasMeaning, at_type, scope_of, env}
+use Rattle.wac_scopes.specs.Good.{At, IsHeld, Good, nothing_bound}
+use Rattle.wac_scopes.specs.Laws.{IsItsEnd, IsItsTree, StaysOnward}
+use Rattle.wac_scopes.specs.Rooted.{unbound, IsRightRoot, StaysRight, MeansBefore, IsWrittenThere}
+use Rattle.wac_scopes.specs.Scoped.{value_index, at_index, opened, root_of, HasToo, IsAsBefore, AddsPrimitive, WritesUnlessTooLarge, FitsUnlessTooLarge}
+use Rattle.wac_scopes.proofs.Rooted.{content-of-root}
+use Rattle.wac_scopes.proofs.Values.{primitive-held}
+use Rattle.wac_listing.specs.Made.{MadeOf}
+use Rattle.wac_encode.specs.Written.{WritesFor, with_types, IsOfFunc, AddsHeldFunc, EndsWithFunc, IsRefused, IsFuncRefused}
+use Rattle.wac_encode.specs.Listing.{NeededBy, own_types, SameRecords, PrimitiveDoesNotFit}
+use Rattle.wac_encode.specs.Importing.{IsImportedOnce, NamesImportedValue}
+use Rattle.wac_encode.specs.Defining.{WritesDefinition, item_of_type, IsDefinedAt, WritesOnce, IsDefinitionRefused}
+use Rattle.wac_encode.proofs.Answering.{as-it-was}
+use Rattle.wac_encode.proofs.Imported.{still-root}
+use Rattle.wac_encode.proofs.Listed.{held-at-end}
+use Rattle.wac_encode.proofs.Naming.{primitive-behind, primitive-described, definition-behind, definition-described}
+use Rattle.wac_encode.proofs.Stacks.{writes-none, same-index}
+
+-- the root behind which types are written
+
+items-with : (x : Encodable) (ys : List TypeDef) → IsRoot x → items_of (with_types x ys) ≡ items_of x ++ map type_item ys
+items-with (Builder items) ys h = refl
+items-with (Instance ds) ys h = absurd h
+items-with (Component ds) ys h = absurd h
+
+counted-root : (x : Encodable) → IsRoot x → count (space sort.«Type») x ≡ indexes (space sort.«Type») (items_of x)
+counted-root (Builder items) h = refl
+counted-root (Instance ds) h = absurd h
+counted-root (Component ds) h = absurd h
+
+items-added : (old now : Scope) (ys : List TypeDef) → IsRoot old.content → now.content ≡ with_types old.content ys → items_of now.content ≡ items_of old.content ++ map type_item ys
+items-added old now ys is_root appended = ap items_of appended ∙ items-with old.content ys is_root
+
+at-root : (s : Scope) (i : ℕ) (t : Tree) → IsRoot s.content → At ((env (opened s unbound) []).types) i t → At ((root_of s).scope.types) i t
+at-root s i t is_root at = subst (λ (x : Content). At ((scope_of x []).types) i t) (content-of-root s.content is_root) at
+
+means-now : (c : Collection) (s : Scope) → IsRoot s.content → Good c (nothing_bound ∷ []) (opened s unbound ∷ []) → HasMeaning (items_of s.content)
+means-now c s is_root g = subst (λ (x : Content). ContentHasMeaning x []) (content-of-root s.content is_root) g.0.meaning
+
+-- a type index that was added stands for its type
+stands-new : IsWrittenThere → IsItsTree → (c : Collection) (old now : Scope) (ys : List TypeDef) (a : AnyType) (i : ℕ) (t : Tree) → IsRoot old.content → now.content ≡ with_types old.content ys → count (space sort.«Type») old.content ≤ i → IsHeld c nothing_bound a t → At ((root_of now).scope.types) i t
+    → stands_for (root_of now) sort.«Type» i ≡ written (held_tree c nothing_bound a)
+stands-new there tree c old now ys a i t is_root appended behind held at =
+    let is : items_of now.content ≡ items_of old.content ++ map type_item ys = items-added old now ys is_root appended in
+    ap (λ (items : List Item). stands_for (meaning items) sort.«Type» i) is
+    ∙ there (items_of old.content) ys i t (subst (λ (n : ℕ). n ≤ i) (counted-root old.content is_root) behind) (subst (λ (items : List Item). At ((meaning items).scope.types) i t) is at)
+    ∙ ap written (sym (tree c nothing_bound a t held))
+
+-- one that is recorded, too
+stands-recorded : IsItsEnd → IsItsTree → (c : Collection) → IsWellFormed c → (s : Scope) (v : ValueType) (d : DefinedTypeId) (i : ℕ) → value_resolved c v ≡ val.Defined d → IsRightRoot c s → value_index s d ≡ Some i → HasMeaning (items_of s.content)
+    → stands_for (root_of s) sort.«Type» i ≡ written (held_tree c nothing_bound (ty.Value v))
+stands-recorded end tree c wf s v d i is r at means =
+    let m = (r.right means).0.memo (val.Defined d) (at_type i) (ap at_index at) in
+    r.written means d i at ∙ ap written (tree c nothing_bound (ty.Value (val.Defined d)) m.0 m.1 ∙ sym (tree c nothing_bound (ty.Value v) m.0 (held-at-end c wf end nothing_bound v (val.Defined d) m.0 is m.1)))
+
+-- the root stays right
+
+pub right-after : StaysRight → MeansBefore → IsWrittenThere → IsItsTree → (c : Collection) (n : ℕ) (P : ValueType → Type 0) (old new : Scope) → WritesFor c n P old new → IsRightRoot c old → IsRightRoot c new
+right-after stays before there tree c n P old new w r = record {
+  is_root = is_root;
+  right = good;
+  written = λ means d i h. by_old means d i h (value_index old d) refl;
+}
+  where
+    is_root : IsRoot new.content
+    is_root = still-root old.content new.content w.types w.appended r.is_root
+
+    is : items_of new.content ≡ items_of old.content ++ map type_item w.types
+    is = items-added old new w.types r.is_root w.appended
+
+    good : HasMeaning (items_of new.content) → Good c (nothing_bound ∷ []) (opened new unbound ∷ [])
+    good means = (w.onward nothing_bound [] unbound [] (r.right (before (items_of old.content) (map type_item w.types) (subst HasMeaning is means)))).0
+
+    mid : IsRightRoot c (record old { content = new.content })
+    mid = stays c old (record old { content = new.content }) (map type_item w.types) r is_root is (λ d. refl)
+
+    by_old : HasMeaning (items_of new.content) → (d : DefinedTypeId) (i : ℕ) → value_index new d ≡ Some i → (o : Option ℕ) → value_index old d ≡ o → stands_for (root_of new) sort.«Type» i ≡ written (held_tree c nothing_bound (ty.Value (val.Defined d)))
+    by_old means d i h (Some j) e = subst (λ (k : ℕ). stands_for (root_of new) sort.«Type» k ≡ written (held_tree c nothing_bound (ty.Value (val.Defined d)))) (same-index new d j i (w.kept d j e) h) (mid.written means d j e)
+    by_old means d i h None e =
+        let m = (good means).0.memo (val.Defined d) (at_type i) (ap at_index h) in
+        stands-new there tree c old new w.types (ty.Value (val.Defined d)) i m.0 r.is_root w.appended (w.later d i e h) m.1 (at-root new i m.0 is_root m.3)
+
+pub right-exported : StaysRight → (c : Collection) (now new : Scope) (n : Name) (i : ℕ) → new ≡ record now { content = Builder (items_of now.content ++ export_item n sort.«Type» i ∷ []) } → IsRightRoot c now → IsRightRoot c new
+right-exported stays c now new n i is r = subst (IsRightRoot c) (sym is) (stays c now (record now { content = Builder (items_of now.content ++ export_item n sort.«Type» i ∷ []) }) (export_item n sort.«Type» i ∷ []) r tt refl (λ d. refl))
+
+pub right-same : (c : Collection) (old new : Scope) → new ≡ old → IsRightRoot c old → IsRightRoot c new
+right-same c old new is r = subst (IsRightRoot c) (sym is) r
+
+pub right-still : StaysRight → (c : Collection) (old new : Scope) → IsAsBefore old new → IsRightRoot c old → IsRightRoot c new
+right-still stays c old new h r = stays c old new [] r (subst IsRoot (sym h.content) r.is_root) (ap items_of h.content ∙ sym (append-nil (items_of old.content))) h.values
+
+-- what is written is the definition
+
+defined-so : (c : Collection) (t : AnyType) (n : Name) (m : ℕ) (P : ValueType → Type 0) (old now new : Scope) (i k : ℕ) → IsRightRoot c old → WritesFor c m P old now → (Good c (nothing_bound ∷ []) (opened old unbound ∷ []) → HasMeaning (items_of now.content) → stands_for (root_of now) sort.«Type» i ≡ written (held_tree c nothing_bound t)) → new.content ≡ Builder (items_of now.content ++ export_item n sort.«Type» i ∷ []) → k ≡ count (space sort.«Type») now.content
+    → WritesDefinition c t n old new k
+defined-so c t n m P old now new i k r w stands appended answer =
+    let is_root : IsRoot now.content = still-root old.content now.content w.types w.appended r.is_root in record {
+      types = w.types;
+      mid = items_of now.content;
+      added = items-added old now w.types r.is_root w.appended;
+      index = i;
+      meant = λ means.
+          let good : Good c (nothing_bound ∷ []) (opened old unbound ∷ []) = r.right means in
+          let now_means : HasMeaning (items_of now.content) = means-now c now is_root (w.onward nothing_bound [] unbound [] good).0 in
+          (now_means, stands good now_means);
+      content = appended;
+      answer = answer ∙ counted-root now.content is_root;
+    }
+
+content-is : (now new : Scope) (x : Encodable) → new ≡ record now { content = x } → new.content ≡ x
+content-is now new x is = ap (λ (s : Scope). s.content) is
+
+records-same : (now new : Scope) (x : Encodable) → new ≡ record now { content = x } → SameRecords now new
+records-same now new x is d = ap (λ (s : Scope). value_index s d) is
+
+-- a primitive
+
+pub primitive-defined : IsWrittenThere → IsItsEnd → IsItsTree → (c : Collection) → IsWellFormed c → (old now new : Scope) (n : Name) (v : ValueType) (p : PrimitiveType) (i k : ℕ) → IsRightRoot c old → value_resolved c v ≡ val.Primitive p → i ≡ count (space sort.«Type») old.content → AddsPrimitive old now p i → now ≡ record old { content = and_type old.content (value_def (primitive_def p)) }
+    → new ≡ record now { content = Builder (items_of now.content ++ export_item n sort.«Type» i ∷ []) } → k ≡ count (space sort.«Type») now.content → WritesDefinition c (ty.Value v) n old new k
+primitive-defined there end tree c wf old now new n v p i k r is index adds same exports answer =
+    let w = primitive-behind c old now v p i is adds same in
+    let is_root : IsRoot now.content = still-root old.content now.content w.types w.appended r.is_root in
+    defined-so c (ty.Value v) n (own_types c (item_of_type (ty.Value v))) (NeededBy c (item_of_type (ty.Value v))) old now new i k r w
+    (λ good means. stands-new there tree c old now w.types (ty.Value v) i (primitive p) r.is_root w.appended (omega (arith, index)) (held-at-end c wf end nothing_bound v (val.Primitive p) (primitive p) is (primitive-held c nothing_bound p)) (at-root now i (primitive p) is_root (adds c nothing_bound [] unbound [] good).1))
+    (content-is now new (Builder (items_of now.content ++ export_item n sort.«Type» i ∷ [])) exports) answer
+
+pub primitive-once : (c : Collection) (old now new : Scope) (n : Name) (v : ValueType) (p : PrimitiveType) (i k : ℕ) → value_resolved c v ≡ val.Primitive p → AddsPrimitive old now p i → now ≡ record old { content = and_type old.content (value_def (primitive_def p)) } → new ≡ record now { content = Builder (items_of now.content ++ export_item n sort.«Type» i ∷ []) } → WritesOnce c (ty.Value v) n old new k
+primitive-once c old now new n v p i k is adds same exports = record {
+  now = now;
+  behind = primitive-behind c old now v p i is adds same;
+  index = i;
+  defined = primitive-described c old now v p i is adds same;
+  appended = content-is now new (Builder (items_of now.content ++ export_item n sort.«Type» i ∷ [])) exports;
+  named = subst (λ (w : ValueType). NamesImportedValue old now new w k) (sym is) (records-same now new (Builder (items_of now.content ++ export_item n sort.«Type» i ∷ [])) exports);
+}
+
+-- a definition that is written already
+
+pub second-defined : StaysOnward → IsItsEnd → IsItsTree → (c : Collection) → IsWellFormed c → (old new : Scope) (n : Name) (v : ValueType) (d : DefinedTypeId) (i k : ℕ) → IsRightRoot c old → value_resolved c v ≡ val.Defined d → value_index old d ≡ Some i → new ≡ record old { content = Builder (items_of old.content ++ export_item n sort.«Type» i ∷ []) } → k ≡ count (space sort.«Type») old.content → WritesDefinition c (ty.Value v) n old new k
+second-defined stays end tree c wf old new n v d i k r is at exports answer =
+    defined-so c (ty.Value v) n 0 (NeededBy c (item_of_type (ty.Value v))) old old new i k r (writes-none c stays (NeededBy c (item_of_type (ty.Value v))) old old (as-it-was old))
+    (λ good means. stands-recorded end tree c wf old v d i is r at means)
+    (content-is old new (Builder (items_of old.content ++ export_item n sort.«Type» i ∷ [])) exports) answer
+
+pub second-once : (c : Collection) → StaysOnward → (old new : Scope) (n : Name) (v : ValueType) (d : DefinedTypeId) (i k : ℕ) → value_resolved c v ≡ val.Defined d → value_index old d ≡ Some i → new ≡ record old { content = Builder (items_of old.content ++ export_item n sort.«Type» i ∷ []) } → WritesOnce c (ty.Value v) n old new k
+second-once c stays old new n v d i k is at exports = record {
+  now = old;
+  behind = definition-behind c old old v d is (writes-none c stays (MadeOf c (value_resolved c v)) old old (as-it-was old));
+  index = i;
+  defined = definition-described c old old v d i is at;
+  appended = content-is old new (Builder (items_of old.content ++ export_item n sort.«Type» i ∷ [])) exports;
+  named = subst (λ (w : ValueType). NamesImportedValue old old new w k) (sym is) (subst (λ (o : Option ℕ). IsImportedOnce o old new d k) (sym at) (records-same old new (Builder (items_of old.content ++ export_item n sort.«Type» i ∷ [])) exports));
+}
+
+-- one that is written for it
+
+pub first-defined : StaysRight → MeansBefore → IsWrittenThere → IsItsEnd → IsItsTree → (c : Collection) → IsWellFormed c → (old now new : Scope) (n : Name) (v : ValueType) (d : DefinedTypeId) (i k : ℕ) → IsRightRoot c old → value_resolved c v ≡ val.Defined d → WritesFor c 0 (MadeOf c (value_resolved c v)) old now → value_index now d ≡ Some i
+    → new.content ≡ Builder (items_of now.content ++ export_item n sort.«Type» i ∷ []) → k ≡ count (space sort.«Type») now.content → WritesDefinition c (ty.Value v) n old new k
+first-defined stays before there end tree c wf old now new n v d i k r is w at appended answer =
+    defined-so c (ty.Value v) n 0 (MadeOf c (value_resolved c v)) old now new i k r w
+    (λ good means. stands-recorded end tree c wf now v d i is (right-after stays before there tree c 0 (MadeOf c (value_resolved c v)) old now w r) at means) appended answer
+
+pub first-once : (c : Collection) (old now new : Scope) (n : Name) (v : ValueType) (d : DefinedTypeId) (i k : ℕ) → value_resolved c v ≡ val.Defined d → value_index old d ≡ None → WritesFor c 0 (MadeOf c (value_resolved c v)) old now → value_index now d ≡ Some i → new.content ≡ Builder (items_of now.content ++ export_item n sort.«Type» i ∷ []) → HasToo now d k new → WritesOnce c (ty.Value v) n old new k
+first-once c old now new n v d i k is none w at appended too = record {
+  now = now;
+  behind = definition-behind c old now v d is w;
+  index = i;
+  defined = definition-described c old now v d i is at;
+  appended = appended;
+  named = subst (λ (u : ValueType). NamesImportedValue old now new u k) (sym is) (subst (λ (o : Option ℕ). IsImportedOnce o now new d k) (sym none) too);
+}
+
+-- a function type
+
+pub function-defined : IsWrittenThere → IsItsTree → (c : Collection) (old now new : Scope) (n : Name) (f : FuncTypeId) (i k : ℕ) → IsRightRoot c old → WritesFor c 1 (IsOfFunc c f) old now → count (space sort.«Type») old.content ≤ i → AddsHeldFunc c old now f i → new ≡ record now { content = Builder (items_of now.content ++ export_item n sort.«Type» i ∷ []) } → k ≡ count (space sort.«Type») now.content → WritesDefinition c (ty.Func f) n old new k
+function-defined there tree c old now new n f i k r w later adds exports answer =
+    let is_root : IsRoot now.content = still-root old.content now.content w.types w.appended r.is_root in
+    defined-so c (ty.Func f) n 1 (IsOfFunc c f) old now new i k r w
+    (λ good means. let a = adds nothing_bound [] unbound [] good in stands-new there tree c old now w.types (ty.Func f) i a.0 r.is_root w.appended later a.1 (at-root now i a.0 is_root a.3.1))
+    (content-is now new (Builder (items_of now.content ++ export_item n sort.«Type» i ∷ [])) exports) answer
+
+pub function-once : (c : Collection) (old now new : Scope) (n : Name) (f : FuncTypeId) (i k : ℕ) → WritesFor c 1 (IsOfFunc c f) old now → AddsHeldFunc c old now f i → EndsWithFunc c f now → new ≡ record now { content = Builder (items_of now.content ++ export_item n sort.«Type» i ∷ []) } → WritesOnce c (ty.Func f) n old new k
+function-once c old now new n f i k w adds ends exports = record {
+  now = now;
+  behind = w;
+  index = i;
+  defined = (adds, ends);
+  appended = content-is now new (Builder (items_of now.content ++ export_item n sort.«Type» i ∷ [])) exports;
+  named = records-same now new (Builder (items_of now.content ++ export_item n sort.«Type» i ∷ [])) exports;
+}
+
+-- refusals
+
+pub primitive-not-defined : (A B : Type 0) (c : Collection) → StaysOnward → (old : Scope) (n : Name) (v : ValueType) (p : PrimitiveType) (f : EncodeFault) → value_resolved c v ≡ val.Primitive p → WritesUnlessTooLarge {A = A} (Err f) (ContentFits (and_type old.content (value_def (primitive_def p)))) → IsDefinitionRefused {A = B} c (ty.Value v) n old (Err f)
+primitive-not-defined A B c stays old n v p (fault.Write g) is h = absurd h
+primitive-not-defined A B c stays old n v p fault.TooLarge is h = record {
+  scope = old;
+  types = 0;
+  behind = writes-none c stays (NeededBy c (item_of_type (ty.Value v))) old old (as-it-was old);
+  large = inl (inr (subst (λ (w : ValueType). PrimitiveDoesNotFit w old) (sym is) h));
+}
+primitive-not-defined A B c stays old n v p fault.OutOfMemory is h = tt
+
+pub value-not-defined : (A B : Type 0) (c : Collection) (old now : Scope) (n : Name) (v : ValueType) (f : EncodeFault) → WritesFor c 0 (MadeOf c (value_resolved c v)) old now → IsRefused {A = A} c (MadeOf c (value_resolved c v)) now (Err f) → IsDefinitionRefused {A = B} c (ty.Value v) n old (Err f)
+value-not-defined A B c old now n v (fault.Write g) w h = h
+value-not-defined A B c old now n v fault.TooLarge w h = record { scope = now; types = 0; behind = w; large = inl (inl h) }
+value-not-defined A B c old now n v fault.OutOfMemory w h = tt
+
+pub function-not-defined : (A B : Type 0) (c : Collection) (old now : Scope) (n : Name) (g : FuncTypeId) (f : EncodeFault) → WritesFor c 0 (IsOfFunc c g) old now → IsFuncRefused {A = A} c g now (Err f) → IsDefinitionRefused {A = B} c (ty.Func g) n old (Err f)
+function-not-defined A B c old now n g (fault.Write h) w refused = refused
+function-not-defined A B c old now n g fault.TooLarge w refused = record { scope = now; types = 0; behind = w; large = inl refused }
+function-not-defined A B c old now n g fault.OutOfMemory w refused = tt
+
+-- where the export does not fit
+pub name-too-large : (A B : Type 0) (c : Collection) (t : AnyType) (old now : Scope) (n : Name) (types i : ℕ) (f : EncodeFault) → WritesFor c types (NeededBy c (item_of_type t)) old now → IsDefinedAt c old now t i → FitsUnlessTooLarge {A = A} (Err f) (Fits (items_of now.content ++ export_item n sort.«Type» i ∷ [])) → IsDefinitionRefused {A = B} c t n old (Err f)
+name-too-large A B c t old now n types i (fault.Write g) w defined h = absurd h
+name-too-large A B c t old now n types i fault.TooLarge w defined h = record { scope = now; types = types; behind = w; large = inr (i, defined, h) }
+name-too-large A B c t old now n types i fault.OutOfMemory w defined h = tt
+
+pub as-fault : (A : Type 0) (f : BinaryFault) (fits : Type 0) → TooLargeUnless {T = A} (Err f) fits → FitsUnlessTooLarge {A = A} (Err (encode_fault f)) fits
+as-fault A binary.TooLarge fits h = h
+as-fault A binary.OutOfMemory fits h = tt
