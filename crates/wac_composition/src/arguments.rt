@@ -192,12 +192,18 @@ pub fn set_fitting_argument(
     ensures { SetsArgument graph.old instantiation argument_name.now argument result graph.new }
 {
     let (position, _) = graph.import_of(instantiation, argument_name)?;
-    if graph.is_given(instantiation, position, argument) {
-        return Ok(());
+    match graph.check_unset(instantiation, argument_name, position) {
+        Ok(()) => {
+            graph.give_argument(instantiation, position, argument)?;
+            Ok(())
+        }
+        Err(e) => {
+            if graph.is_given(instantiation, position, argument) {
+                return Ok(());
+            }
+            Err(e)
+        }
     }
-    graph.check_unset(instantiation, argument_name, position)?;
-    graph.give_argument(instantiation, position, argument)?;
-    Ok(())
 }
 
 /// Marks the import of an instantiation at this position as satisfied.

@@ -8,4 +8,4 @@ is_given-requires c = has_instantiation c.args.graph.now c.args.instantiation c.
 pub give_argument-requires : goal.give_argument-requires
 give_argument-requires c =
     can_be_given c.args.graph.now c.args.instantiation c.args.argument c.args.argument_name.now c.in_ok-position.position c.in_ok-position.field-0-1 c.in_ok-position.ensures.found
-    (fits_named c.args.graph.now c.args.instantiation c.args.argument c.args.argument_name.now c.in_ok-position.position c.in_ok-position.field-0-1 c.in_ok-position.ensures.found c.in_ok-check_unset.ensures.unset c.requires.fits) c.requires.argument
+    (fits_named c.args.graph.now c.args.instantiation c.args.argument c.args.argument_name.now c.in_ok-position.position c.in_ok-position.field-0-1 c.in_ok-position.ensures.found c.in-Ok.ensures.unset c.requires.fits) c.requires.argument
