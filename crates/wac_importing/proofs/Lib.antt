@@ -5,3 +5,4 @@ pub mod Refusing
 pub mod Loop
 pub mod Merging
 pub mod Asked
+pub mod Defining
