@@ -17,6 +17,10 @@ use Rattle.wac_validation.specs.FirstFault.{Fault, IsFirstFault}
 abbrev pub first_name_of : Graph → NodeId → List Name
 first_name_of g n = option_case (node_at g n) [] (λ node. option_case node.first_name [] (λ name. name ∷ []))
 
+-- the names of the exports where nodes are written in this order: the first names of definitions, then the others in the graph's order
+abbrev pub written_exports : Graph → List NodeId → List Name
+written_exports g order = flat_map (first_name_of g) order ++ map (λ e. e.0) (further_exports g)
+
 -- These are the names of the imports and of the exports of what the graph composes, in written order.
 pub record AreOuterNames (g : Graph) (o : EncodeOptions) (imports exports : List Name) : Type 0 where
   -- the nodes that are no imports, in the order in which they are written
@@ -26,8 +30,7 @@ pub record AreOuterNames (g : Graph) (o : EncodeOptions) (imports exports : List
   pub classes : List (Name × Tree)
   pub outer : AreOuterImports g classes
   pub imported : imports ≡ map (λ e. e.0) (classes ++ package_imports g o order)
-  -- the first names of definitions in written order, then the other exports in the graph's order
-  pub exported : exports ≡ flat_map (first_name_of g) order ++ map (λ e. e.0) (further_exports g)
+  pub exported : exports ≡ written_exports g order
 
 -- the names that items import and export, in order
 abbrev pub import_names : List Item → List Name

@@ -1,3 +1,4 @@
 pub mod ListedLemmas
 pub mod DefiningLemmas
 mod FittingLemmas
+pub mod RootLemmas

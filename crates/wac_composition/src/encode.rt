@@ -1,6 +1,5 @@
 //! From a graph to the bytes of one component.
-ghost use Rattle.std.specs.Prelude.{◌≡◌, ◌↔◌, ◌++◌, [], ℕ, ◌<◌, IsSomeAnd, true, IsTrue, OnOk, IfOk, IfErr, IfSome, IfNone, Some, None, List, length, map, slice_get};
-ghost use Rattle.std.specs.Bool.{OnTrue, OnFalse};
+ghost use Rattle.std.specs.Prelude.{◌≡◌, ◌↔◌, ◌++◌, [], ℕ, ◌<◌, IsSomeAnd, true, false, IsTrue, OnOk, IfOk, IfErr, IfSome, IfNone, Some, None, List, length, map, slice_get};
 ghost use Rattle.wac_binary.specs.Bytes.{bytes_of};
 ghost use Rattle.wac_binary.specs.Items.{Item as AnItem};
 ghost use Rattle.std.specs.List.{flat_map};
@@ -10,25 +9,26 @@ ghost use Rattle.wac_shapes.specs.Name.{Name as AName};
 ghost use Rattle.wac_edges.specs.declared.node.NodeId.{NodeId as AnId};
 ghost use Rattle.wac_edges.specs.Edge.{is_left};
 ghost use Rattle.wac_edges.specs.Edge.{node_number};
-ghost use Rattle.wac_nodes.specs.Graph.{node_at, imports_of, definition, instantiation, alias, import, IsArgumentOf, IsUnsatisfied};
+ghost use Rattle.wac_nodes.specs.Graph.{node_at, imports_of, instantiation, alias, import, IsArgumentOf, IsUnsatisfied};
 ghost use Rattle.wac_nodes.specs.Nodes.{kind_of};
-ghost use Rattle.wac_meaning.specs.Means.{Means, is_written, is_import, sort_of_kind, export_item_of, custom_item, name_customs, AreNames, processor_customs};
+ghost use Rattle.wac_meaning.specs.Means.{Means, is_written, is_import, sort_of_kind, export_item_of, further_exports, custom_item, name_customs, AreNames, processor_customs};
 ghost use Rattle.wac_meaning.specs.Beginning.{Begins};
 ghost use Rattle.wac_meaning.specs.MergedImports.{merged_imports, IsFoundAt};
 ghost use Rattle.wac_meaning.specs.Encoding.{HasRoom, index_in};
 ghost use Rattle.wac_meaning.specs.Writing.{WritesNode, IsArgumentItem, AreArgumentItems, Wrote, WroteAll};
-ghost use Rattle.wac_meaning.proofs.ThingLemmas.{DefinesNothing};
 ghost use Rattle.wac_writing.specs.Places.{IsMergedFor, ArePlaced, AreFound};
 ghost use Rattle.std.specs.Result.{IsErrAnd};
 ghost use Rattle.wac_causes.specs.Cause.{AnswersFor, Cause, cause_of, HasMerge, HasNoConflict, Stands};
 ghost use Rattle.wac_causes.specs.OuterNames.{export_names, import_names};
 ghost use Rattle.wac_causes.specs.Search.{IsRefused};
-ghost use Rattle.wac_causes.specs.NotYet.{IsNotYet};
+ghost use Rattle.wac_causes.specs.NotYet.{AllDefinable, IsNotYet};
 ghost use Rattle.wac_edges.specs.Order.{Writes, IsOnCycle, IsAcyclic};
 ghost use Rattle.wac_nodes.specs.declared.options.EncodeOptions.{EncodeOptions as Asked};
 ghost use Rattle.wac_validation.specs.Valid.{AreValid};
-ghost use Rattle.wac_writing.specs.Plain.{IsPlainNode};
+ghost use Rattle.wac_writing.specs.Further.{further_at};
 ghost use Rattle.wac_writing.specs.Refused.{IsRefusedBefore};
+ghost use Rattle.wac_scopes.specs.Rooted.{IsRightRoot};
+ghost use Rattle.wac_scopes.specs.Contents.{IsRoot, items_of};
 
 use crate::graph::CompositionGraph;
 use indexmap::IndexMap;
@@ -40,31 +40,34 @@ use wac_importing::WrittenImports;
 use wac_merge::TypeAggregator;
 use wac_merge::laws::{class_laws, fault_law, order_law};
 use wac_nodes::{EncodeOptions, NodeId, NodeKind, PackageId, Processor};
+use wac_scopes::{Encodable, Scope, rooted_law};
 use wac_types::ItemKind;
 use wac_writing::ImportPlaces;
 
-/// A component that is being written: its items, the component index of each package, and the index of each node.
+/// A component that is being written: the root with its items and the definitions that are recorded there, the component index of
+/// each package, and the index of each node.
 #[derive(Drop)]
-struct Encoder {
+pub(crate) struct Encoder {
     alloc: Global,
-    builder: ComponentBuilder,
+    pub(crate) root: Scope,
     components: IndexMap<PackageId, u32>,
-    indexes: Vec<u32>,
+    pub(crate) indexes: Vec<u32>,
 }
 
 impl CompositionGraph {
     ghost use Rattle.wac_composition.specs.EncoderView.{progress};
 
-    /// The bytes of one component that is what the graph composes: its imports, packages, instances, aliases and exports.
+    /// The bytes of one component that is what the graph composes: its imports, packages, instances, aliases, definitions and
+    /// exports.
     ///
     /// Answers `GraphContainsCycle` exactly where edges form a cycle, with the lowest node on one; else
     /// `ImplicitImportConflict` where an import of an instantiation is not satisfied and has exactly the name of an import
     /// node, with the lowest such instantiation and its first such import; else, where two imports of one class do not
     /// agree, with the first that does not agree with an earlier one and the first that it does not agree with,
     /// `ImportTypeMergeConflict` where an instantiation asks for it and `ExplicitImportMergeConflict` where it is an import
-    /// node; else `ImportsUseEachOther` where imports rest on each other in a circle; else `NotYet` where a node is a
-    /// definition, an import has an item that is not imported so far, or the options ask for imported components; else
-    /// `TooLarge` where a size does not fit 32 bits; else, where the options ask for it, `ValidationFailure` where the outer
+    /// node; else `ImportsUseEachOther` where imports rest on each other in a circle; else `NotYet` where a definition is of a
+    /// type that is not defined so far, an import has an item that is not imported so far, or the options ask for imported
+    /// components; else `TooLarge` where a size does not fit 32 bits; else, where the options ask for it, `ValidationFailure` where the outer
     /// names may not stand together, with their first fault. Where memory ran out it answers `OutOfMemory`.
     pub fn encode(&self, options: EncodeOptions<'_>) -> Result<Vec<u8>, EncodeError>
         ensures means { IfOk result (λ bytes. (items : List AnItem) × (bytes.items ≡ bytes_of items) × Means items self.now options.entry) }
@@ -84,11 +87,12 @@ impl CompositionGraph {
         let indexes = self.import_indexes(&imports)?;
         let mut encoder = Encoder::new(self.alloc, root, indexes);
         self.write_nodes(&mut encoder, &imports, &order)?;
-        self.write_exports(&mut encoder)?;
-        self.write_names(&mut encoder)?;
-        encoder.write_processor(options.processor)?;
-        let bytes = encoder.builder.into_bytes()?;
-        self.check_names(&imports.merge, options.validate)?;
+        let (mut component, indexes) = encoder.finish();
+        self.write_exports(&mut component, &indexes)?;
+        self.write_names(&mut component, &indexes)?;
+        write_processor(self.alloc, &mut component, options.processor)?;
+        let bytes = component.into_bytes()?;
+        self.check_names(&imports.merge, &order, options.validate)?;
         Ok(bytes)
     }
 
@@ -104,14 +108,14 @@ impl CompositionGraph {
         requires merged { IsMergedFor self.now merge }
         ensures begins { IfOk result (λ b. Begins (merged_imports b.1.merge.merge) b.1.places.items b.0) }
         ensures placed { IfOk result (λ b. ArePlaced self.now b.1) }
-        ensures defines { OnOk result (DefinesNothing self.now) }
+        ensures definable { OnOk result (AllDefinable self.now) }
         ensures written { OnOk result ((o : Asked) → o.define_components ≡ define_components → IsNotYet self.now o → ⊥) }
         ensures defined { OnOk result (define_components ≡ true) }
         ensures refused { IfErr result (λ e. (o : Asked) → o.define_components ≡ define_components → IsRefusedBefore self.now o e) }
     {
         class_laws();
         order_law();
-        if !define_components || self.holds_definition() {
+        if !define_components || !self.are_definable()? {
             return Err(EncodeError::NotYet);
         }
         match self.written_imports(&merge)? {
@@ -144,30 +148,6 @@ impl CompositionGraph {
             unreachable!()
         };
         Ok(EncodeError::GraphContainsCycle { node: n })
-    }
-
-    /// Whether a node is a definition.
-    fn holds_definition(&self) -> bool
-        ensures holds { OnTrue result ((o : Asked) → IsNotYet self.now o) }
-        ensures none { OnFalse result (DefinesNothing self.now) }
-    {
-        for n in 0..self.nodes.capacity() {
-            if self.is_definition(n) {
-                return true;
-            }
-        }
-        false
-    }
-
-    /// Whether the node of this number is a definition.
-    fn is_definition(&self, n: usize) -> bool
-        ensures holds { OnTrue result ((o : Asked) → IsNotYet self.now o) }
-        ensures none { OnFalse result (IfSome (node_at self.now (node_number n)) (λ node. node.kind ≡ definition → ⊥)) }
-    {
-        match self.nodes.get(n) {
-            Some(node) => is_definition(&node.kind),
-            None => false,
-        }
     }
 
     /// Which numbers are those of nodes that are no imports.
@@ -225,9 +205,12 @@ impl CompositionGraph {
         order: &[NodeId],
     ) -> Result<(), EncodeError>
         requires placed { ArePlaced self.now imports.now }
-        requires nodes { (i : ℕ) (n : AnId) → slice_get order.now i ≡ Some n → IsSomeAnd (node_at self.now n) IsPlainNode }
+        requires nodes { (i : ℕ) (n : AnId) → slice_get order.now i ≡ Some n → IsSomeAnd (node_at self.now n) (λ node. is_import node.kind ≡ false) }
+        requires definable { AllDefinable self.now }
+        requires right { IsRightRoot self.now.types encoder.old.root }
         requires room { HasRoom self.now encoder.old.indexes.items }
         ensures written { OnOk result (WroteAll self.now imports.now.places.items order.now (progress encoder.old) (progress encoder.new)) }
+        ensures right { OnOk result (IsRightRoot self.now.types encoder.new.root) }
         ensures kept { length encoder.new.indexes.items ≡ length encoder.old.indexes.items }
         ensures fault { IfErr result (λ e. cause_of e ≡ None) }
     {
@@ -245,17 +228,21 @@ impl CompositionGraph {
         n: NodeId,
     ) -> Result<(), EncodeError>
         requires placed { ArePlaced self.now imports.now }
-        requires plain { IsSomeAnd (node_at self.now n) IsPlainNode }
+        requires node { IsSomeAnd (node_at self.now n) (λ node. is_import node.kind ≡ false) }
+        requires definable { AllDefinable self.now }
+        requires right { IsRightRoot self.now.types encoder.old.root }
         requires room { HasRoom self.now encoder.old.indexes.items }
         requires noted { n.0 < length encoder.old.indexes.items }
         ensures written { OnOk result (Wrote self.now imports.now.places.items n (progress encoder.old) (progress encoder.new)) }
+        ensures right { OnOk result (IsRightRoot self.now.types encoder.new.root) }
         ensures kept { length encoder.new.indexes.items ≡ length encoder.old.indexes.items }
         ensures fault { IfErr result (λ e. cause_of e ≡ None) }
     {
         let index = match &self.nodes[n.0].kind {
             NodeKind::Instantiation(_) => self.write_instantiation(encoder, imports, n)?,
             NodeKind::Alias => self.write_alias(encoder, imports, n)?,
-            NodeKind::Definition | NodeKind::Import(_) => unreachable!(),
+            NodeKind::Definition => self.write_definition(encoder, imports, n)?,
+            NodeKind::Import(_) => unreachable!(),
         };
         encoder.indexes[n.0] = index;
         Ok(())
@@ -270,15 +257,18 @@ impl CompositionGraph {
     ) -> Result<u32, EncodeError>
         requires placed { ArePlaced self.now imports.now }
         requires instantiation { IsSomeAnd (node_at self.now n) (λ node. node.kind ≡ instantiation) }
+        requires right { IsRightRoot self.now.types encoder.old.root }
         requires room { HasRoom self.now encoder.old.indexes.items }
-        ensures written { IfOk result (λ i. IfSome (node_at self.now n) (λ node. WritesNode self.now imports.now.places.items n node (index_in encoder.old.indexes.items) encoder.old.components.entries encoder.new.components.entries encoder.old.builder encoder.new.builder i)) }
+        ensures written { IfOk result (λ i. IfSome (node_at self.now n) (λ node. WritesNode self.now imports.now.places.items n node (index_in encoder.old.indexes.items) encoder.old.components.entries encoder.new.components.entries (items_of encoder.old.root.content) (items_of encoder.new.root.content) i)) }
+        ensures right { OnOk result (IsRightRoot self.now.types encoder.new.root) }
         ensures kept { encoder.new.indexes ≡ encoder.old.indexes }
         ensures fault { IfErr result (λ e. cause_of e ≡ None) }
     {
+        rooted_law();
         let (id, package) = self.package_of(n.0);
         let arguments = self.arguments(imports, &encoder.indexes, n)?;
         let component = encoder.component(id, package.bytes())?;
-        Ok(encoder.builder.instantiate(component, &arguments)?)
+        Ok(encoder.root.instantiate(component, &arguments)?)
     }
 
     /// An instantiation's arguments in world order: the import's name, with the sort and the index of the node that
@@ -340,11 +330,14 @@ impl CompositionGraph {
         n: NodeId,
     ) -> Result<u32, EncodeError>
         requires alias { IsSomeAnd (node_at self.now n) (λ node. node.kind ≡ alias) }
+        requires right { IsRightRoot self.now.types encoder.old.root }
         requires room { HasRoom self.now encoder.old.indexes.items }
-        ensures written { IfOk result (λ i. IfSome (node_at self.now n) (λ node. WritesNode self.now imports.now.places.items n node (index_in encoder.old.indexes.items) encoder.old.components.entries encoder.new.components.entries encoder.old.builder encoder.new.builder i)) }
+        ensures written { IfOk result (λ i. IfSome (node_at self.now n) (λ node. WritesNode self.now imports.now.places.items n node (index_in encoder.old.indexes.items) encoder.old.components.entries encoder.new.components.entries (items_of encoder.old.root.content) (items_of encoder.new.root.content) i)) }
+        ensures right { OnOk result (IsRightRoot self.now.types encoder.new.root) }
         ensures kept { encoder.new.indexes ≡ encoder.old.indexes }
         ensures fault { IfErr result (λ e. cause_of e ≡ None) }
     {
+        rooted_law();
         let Some((source, position)) = self.edges.alias_source(n) else {
             unreachable!()
         };
@@ -354,96 +347,130 @@ impl CompositionGraph {
         let name = self.types[interface].exports.name_at(position);
         let sort = sort_of(self.nodes[n.0].item_kind);
         let instance = encoder.indexes[source.0];
-        Ok(encoder.builder.alias_export(sort, instance, name)?)
+        Ok(encoder.root.alias_export(sort, instance, name)?)
     }
 
-    /// Writes the graph's exports, in its order.
-    fn write_exports(&self, encoder: &mut Encoder) -> Result<(), EncodeError>
-        requires { HasRoom self.now encoder.old.indexes.items }
-        ensures written { OnOk result (encoder.new.builder ≡ encoder.old.builder ++ flat_map (export_item_of self.now (index_in encoder.old.indexes.items)) self.now.exports) }
-        ensures kept { OnOk result (encoder.new.indexes ≡ encoder.old.indexes) }
+    /// Writes the graph's exports by other names than definitions' first ones, in its order.
+    fn write_exports(
+        &self,
+        component: &mut ComponentBuilder,
+        indexes: &[u32],
+    ) -> Result<(), EncodeError>
+        requires { HasRoom self.now indexes.now }
+        ensures written { OnOk result (component.new ≡ component.old ++ flat_map (export_item_of self.now (index_in indexes.now)) (further_exports self.now)) }
         ensures fault { IfErr result (λ e. cause_of e ≡ None) }
     {
         for i in 0..self.exports.len() {
-            let Some((name, id)) = self.exports.get_index(i) else {
-                unreachable!()
-            };
-            let sort = sort_of(self.nodes[id.0].item_kind);
-            let index = encoder.indexes[id.0];
-            encoder.builder.export(name.as_str(), sort, index)?;
+            self.write_export(component, indexes, i)?;
         }
         Ok(())
     }
 
-    /// Writes the custom section with the names of nodes, where any has one.
-    fn write_names(&self, encoder: &mut Encoder) -> Result<(), EncodeError>
-        requires { HasRoom self.now encoder.old.indexes.items }
-        ensures written { OnOk result ((names : List (ASort × ℕ × AName)) × AreNames self.now (index_in encoder.old.indexes.items) names × (encoder.new.builder ≡ encoder.old.builder ++ map custom_item (name_customs names))) }
+    /// Writes the export at a position, where its name is no definition's first one.
+    fn write_export(
+        &self,
+        component: &mut ComponentBuilder,
+        indexes: &[u32],
+        i: usize,
+    ) -> Result<(), EncodeError>
+        requires { HasRoom self.now indexes.now }
+        ensures written { OnOk result (component.new ≡ component.old ++ flat_map (export_item_of self.now (index_in indexes.now)) (further_at self.now i)) }
         ensures fault { IfErr result (λ e. cause_of e ≡ None) }
     {
-        let names = self.index_names(&encoder.indexes)?;
+        let Some((name, id)) = self.further_export(i) else {
+            return Ok(());
+        };
+        let sort = sort_of(self.nodes[id.0].item_kind);
+        let index = indexes[id.0];
+        component.export(name, sort, index)?;
+        Ok(())
+    }
+
+    /// Writes the custom section with the names of nodes, where any has one.
+    fn write_names(
+        &self,
+        component: &mut ComponentBuilder,
+        indexes: &[u32],
+    ) -> Result<(), EncodeError>
+        requires { HasRoom self.now indexes.now }
+        ensures written { OnOk result ((names : List (ASort × ℕ × AName)) × AreNames self.now (index_in indexes.now) names × (component.new ≡ component.old ++ map custom_item (name_customs names))) }
+        ensures fault { IfErr result (λ e. cause_of e ≡ None) }
+    {
+        let names = self.index_names(indexes)?;
         if names.is_empty() {
             return Ok(());
         }
         let content = component_names(self.alloc, &names)?;
-        encoder.builder.custom("component-name", &content)?;
+        component.custom("component-name", &content)?;
         Ok(())
     }
 }
 
 impl Encoder {
     ghost use Rattle.wac_meaning.specs.Encoding.{HasComponent};
+    ghost use Rattle.wac_collection.specs.Collection.{Collection as AnyTypes};
 
     /// What is written is this, with no component yet, and these are the indexes of nodes.
-    fn new(alloc: Global, builder: ComponentBuilder, indexes: Vec<u32>) -> Encoder
-        ensures items { result.builder ≡ builder }
+    fn new(alloc: Global, component: ComponentBuilder, indexes: Vec<u32>) -> Encoder
+        ensures items { items_of result.root.content ≡ component }
+        ensures right { (c : AnyTypes) → IsRightRoot c result.root }
         ensures components { result.components.entries ≡ [] }
         ensures indexes { result.indexes ≡ indexes }
     {
+        rooted_law();
         Encoder {
             alloc,
-            builder,
+            root: Scope::new(alloc, Encodable::Builder(component)),
             components: IndexMap::new(alloc),
             indexes,
         }
     }
 
-    /// Writes the custom section that names the processor, where one is given.
-    fn write_processor(&mut self, processor: Option<Processor<'_>>) -> Result<(), EncodeError>
-        ensures written { OnOk result (self.new.builder ≡ self.old.builder ++ map custom_item (processor_customs processor.entry)) }
-        ensures fault { IfErr result (λ e. cause_of e ≡ None) }
+    /// What is written, and the indexes of nodes.
+    fn finish(self) -> (ComponentBuilder, Vec<u32>)
+        requires { IsRoot self.root.content }
+        ensures items { result.0 ≡ items_of self.root.content }
+        ensures indexes { result.1 ≡ self.indexes }
     {
-        let Some(processor) = processor else {
-            return Ok(());
-        };
-        let content = producers(self.alloc, processor.name, processor.version)?;
-        self.builder.custom("producers", &content)?;
-        Ok(())
+        match self.root.into_content() {
+            Encodable::Builder(component) => (component, self.indexes),
+            Encodable::Instance(_) | Encodable::Component(_) => unreachable!(),
+        }
     }
 
     /// The component index of a package, whose bytes are written where they were not.
     fn component(&mut self, id: PackageId, bytes: &[u8]) -> Result<u32, EncodeError>
-        ensures there { IfOk result (λ c. HasComponent bytes.now id c self.old.components.entries self.new.components.entries self.old.builder self.new.builder) }
+        requires { IsRoot self.old.root.content }
+        ensures there { IfOk result (λ c. HasComponent bytes.now id c self.old.components.entries self.new.components.entries (items_of self.old.root.content) (items_of self.new.root.content)) }
+        ensures right { (c : AnyTypes) → IsRightRoot c self.old.root → IsRightRoot c self.new.root }
         ensures kept { self.new.indexes ≡ self.old.indexes }
         ensures fault { IfErr result (λ e. cause_of e ≡ None) }
     {
+        rooted_law();
         if let Some(index) = self.components.get(&id) {
             return Ok(*index);
         }
-        let index = self.builder.component(bytes)?;
+        let index = self.root.component(bytes)?;
         self.components.insert(id, index)?;
         Ok(index)
     }
 }
 
-/// Whether a node of this kind is a definition.
-fn is_definition(kind: &NodeKind) -> bool
-    ensures { (result ≡ true) ↔ (kind_of kind.now ≡ definition) }
+/// Writes the custom section that names the processor, where one is given.
+fn write_processor(
+    alloc: Global,
+    component: &mut ComponentBuilder,
+    processor: Option<Processor<'_>>,
+) -> Result<(), EncodeError>
+    ensures written { OnOk result (component.new ≡ component.old ++ map custom_item (processor_customs processor.entry)) }
+    ensures fault { IfErr result (λ e. cause_of e ≡ None) }
 {
-    match kind {
-        NodeKind::Definition => true,
-        NodeKind::Import(_) | NodeKind::Instantiation(_) | NodeKind::Alias => false,
-    }
+    let Some(processor) = processor else {
+        return Ok(());
+    };
+    let content = producers(alloc, processor.name, processor.version)?;
+    component.custom("producers", &content)?;
+    Ok(())
 }
 
 /// Whether a node of this kind is an import.

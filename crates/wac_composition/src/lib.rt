@@ -10,6 +10,7 @@ mod asked;
 mod clones;
 mod conflicts;
 mod defining;
+mod definitions;
 mod encode;
 mod graph;
 mod imports;

@@ -1,5 +1,7 @@
 //! Whether the outer names of what a graph composes may stand together.
-ghost use Rattle.std.specs.Prelude.{◌≡◌, true, map, IfErr, IfOk, IsTrue, OnOk};
+ghost use Rattle.std.specs.Prelude.{◌≡◌, true, IfErr, IfOk, IsTrue, OnOk};
+ghost use Rattle.std.specs.List.{flat_map};
+ghost use Rattle.wac_causes.specs.OuterNames.{first_name_of, written_exports};
 ghost use Rattle.wac_causes.specs.Search.{NamesFault};
 ghost use Rattle.wac_validation.specs.FirstFault.{Fault, IsFirstFault};
 ghost use Rattle.wac_validation.specs.Valid.{AreValid};
@@ -10,37 +12,55 @@ use crate::graph::CompositionGraph;
 use std::alloc::AllocError;
 use wac_causes::EncodeError;
 use wac_merge::TypeAggregator;
+use wac_nodes::NodeId;
 use wac_validation::{one_answer, validate};
 use wac_writing::import_names;
 
 impl CompositionGraph {
     /// Refuses, where it is asked for, imports and exports whose names may not stand together, with the first fault.
-    pub(crate) fn check_names(&self, merge: &TypeAggregator, asked: bool) -> Result<(), EncodeError>
+    pub(crate) fn check_names(
+        &self,
+        merge: &TypeAggregator,
+        order: &[NodeId],
+        asked: bool,
+    ) -> Result<(), EncodeError>
         requires { merge.now.is_finished ≡ true }
-        ensures valid { OnOk result (IsTrue asked → AreValid (names_of merge.now.merge.imports) (map (λ e. e.0) self.now.exports)) }
-        ensures none { OnOk result (IsTrue asked → (f : Fault) → ¬ IsFirstFault (names_of merge.now.merge.imports) (map (λ e. e.0) self.now.exports) f) }
-        ensures fault { IfErr result (λ e. IsTrue asked × NamesFault (IsFirstFault (names_of merge.now.merge.imports) (map (λ e. e.0) self.now.exports)) e) }
+        ensures valid { OnOk result (IsTrue asked → AreValid (names_of merge.now.merge.imports) (written_exports self.now order.now)) }
+        ensures none { OnOk result (IsTrue asked → (f : Fault) → ¬ IsFirstFault (names_of merge.now.merge.imports) (written_exports self.now order.now) f) }
+        ensures fault { IfErr result (λ e. IsTrue asked × NamesFault (IsFirstFault (names_of merge.now.merge.imports) (written_exports self.now order.now)) e) }
     {
         if !asked {
             return Ok(());
         }
         one_answer();
         let imports = import_names(self.alloc, merge.imports())?;
-        let exports = self.export_names()?;
+        let exports = self.export_names(order)?;
         validate(self.alloc, &imports, &exports)?;
         Ok(())
     }
 
-    /// The names of the exports, in order.
-    fn export_names(&self) -> Result<Vec<&str>, AllocError>
-        ensures { IfOk result (λ names. texts names.items ≡ map (λ e. e.0) self.now.exports) }
+    /// The names of the exports, where the nodes are written in this order: the first names of definitions, then the others.
+    fn export_names(&self, order: &[NodeId]) -> Result<Vec<&str>, AllocError>
+        ensures { IfOk result (λ names. texts names.items ≡ written_exports self.now order.now) }
+    {
+        let mut names = self.first_names(order)?;
+        for i in 0..self.exports.len() {
+            if let Some((name, _)) = self.further_export(i) {
+                names.push(name)?;
+            }
+        }
+        Ok(names)
+    }
+
+    /// The first names of the definitions among these nodes, in order.
+    fn first_names(&self, order: &[NodeId]) -> Result<Vec<&str>, AllocError>
+        ensures { IfOk result (λ names. texts names.items ≡ flat_map (first_name_of self.now) order.now) }
     {
         let mut names = Vec::new(self.alloc);
-        for i in 0..self.exports.len() {
-            let Some((name, _)) = self.exports.get_index(i) else {
-                unreachable!()
-            };
-            names.push(name.as_str())?;
+        for n in order {
+            if let Some(name) = self.first_name(*n) {
+                names.push(name)?;
+            }
         }
         Ok(names)
     }

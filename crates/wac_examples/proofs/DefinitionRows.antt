@@ -29,7 +29,7 @@ use Rattle.wac_meaning.specs.Writing.{WritesNode, writes_definition, Wrote}
 use Rattle.wac_meaning.proofs.DefinedLemmas.{no_names}
 use Rattle.wac_meaning.proofs.AskedLemmas.{no_imports}
 use Rattle.wac_examples.proofs.OptionRows.{with_one, node_0, by_one, one_in_order, in_one}
-use Rattle.wac_examples.proofs.Ordered.{one_order}
+use Rattle.wac_meaning.proofs.OrderLemmas.{one_order}
 use Rattle.wac_examples.proofs.Rows.{defining, readme_graph}
 
 -- ---- a definition `foo` of an alias of bool, exported as `bar` too

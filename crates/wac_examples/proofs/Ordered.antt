@@ -1,4 +1,4 @@
--- The order in which nodes are written: there is one, and it is by number where edges lead to higher numbers.
+-- The order in which nodes are written is by number where edges lead to higher numbers.
 use Rattle.std.proofs.Common.{◌≡◌, ℕ, zero, suc, ◌+◌, ◌<◌, ◌≤◌, Bool, true, false, not, ◌&&◌, ◌||◌, eqb, List, [], ◌∷◌, refl, ap, sym, ◌∙◌, subst, arith}
 use Rattle.std.specs.FinSet as set
 use Rattle.std.specs.FinSet.{IsAntisymmetric, slice_cmp-IsAntisymmetric, nat_cmp-IsAntisymmetric}
@@ -35,32 +35,10 @@ by_edge P es all e stands = among es all (sym (set.contains-from_list edge_cmp_t
     split true is _ _ = subst P (sym (exact_edges e x is)) all.0
     split false _ h later = later h
 
--- ---- one order
+-- ---- by number
 not_both : {b : Bool} → b ≡ true → b ≡ false → ⊥
 not_both h k = cc
 
--- an edge leads to a lower node that is left, so that it is not ready
-lower_is_blocked : (edges : Edges) (left : NodeId → Bool) (n m : NodeId) → IsLowestReady edges left n → IsLowestReady edges left m → m.0 < n.0 → ⊥
-lower_is_blocked edges left n m a b small = let (e, stands, to, from) = a.lower m small b.here in not_both from (b.free e stands to)
-
--- of two nodes that are the lowest that are ready neither is lower
-one_next : (edges : Edges) (left : NodeId → Bool) (n m : NodeId) → IsLowestReady edges left n → IsLowestReady edges left m → n ≡ m
-one_next edges left n m a b =
-    let not_lower : m.0 < n.0 → ⊥ = lower_is_blocked edges left n m a b in
-    let not_higher : n.0 < m.0 → ⊥ = lower_is_blocked edges left m n b a in
-    let same : n.0 ≡ m.0 = omega (arith, not_lower, not_higher) in
-    ap node_number same
-
-pub one_order : (edges : Edges) (left : NodeId → Bool) (ns ms : List NodeId) → Writes edges left ns → Writes edges left ms → ns ≡ ms
-one_order edges left [] [] a b = refl
-one_order edges left [] (m ∷ ms) a b = absurd (not_both (b.0).here (a m))
-one_order edges left (n ∷ ns) [] a b = absurd (not_both (a.0).here (b n))
-one_order edges left (n ∷ ns) (m ∷ ms) a b =
-    let same : n ≡ m = one_next edges left n m a.0 b.0 in
-    let more : ns ≡ ms = one_order edges (without left n) ns ms a.1 (subst (λ k. Writes edges (without left k) ms) (sym same) b.1) in
-    cc
-
--- ---- by number
 -- so many nodes, from the one of this number on
 abbrev pub counting : ℕ → ℕ → List NodeId
 counting k zero = []

@@ -16,7 +16,8 @@ use Rattle.wac_edges.specs.Edge.{alias_edge, argument_edge, node_number}
 use Rattle.wac_nodes.specs.Graph as graph
 use Rattle.wac_nodes.specs.Graph.{GraphNode, node_at, imports_of, exports_of}
 use Rattle.wac_meaning.specs.Means.{Means, is_written, instantiations, used_packages, package_bytes, IsArgument, given, asked, AreArguments, IsInstantiationOf, AreInstantiations, IsThing, as_import, as_instantiation, as_alias, shown, as_definition, export_of, first_export, further_exports}
-use Rattle.wac_examples.proofs.Ordered.{by_edge, one_order}
+use Rattle.wac_examples.proofs.Ordered.{by_edge}
+use Rattle.wac_meaning.proofs.OrderLemmas.{one_order}
 use Rattle.wac_examples.proofs.Rows.{defining, of_function, first, second, instance_of_first, alias_of_first, instance_of_second}
 use Rattle.wac_examples.proofs.TwinRows.{twins, edge_list, by_their_numbers, first_bytes, second_bytes, node_0, node_1, node_2, node_3, node_4, stands, twins_at, twins_in_order, twins_instantiations, twins_packages, twins_further, twins_first}
 

@@ -81,6 +81,7 @@ invariant_empty a nodes edges imports exports keys slots noted = record {
     one_export = λ name i j n m p _. absurd (no_export i name n p);
     one_package = λ key id other (p, at, _) _. absurd (no_package a.slots.items id p slots at);
     first_names = λ n node name there _. absurd (no_node n node there);
+    definitions = λ n node there _. absurd (no_node n node there);
     vacant = λ i k at. absurd (no_number i k at);
     vacant_once = λ i j k at _. absurd (no_number i k at);
     packages = λ id p at. absurd (no_package a.slots.items id p slots at);

@@ -122,6 +122,7 @@ module _ (a : Fields) (v : Invariant a) where
           aliases = λ n node at is instance i stands. left_edge a.edges gone (alias_edge instance n i) stands (no_alias instance n i);
           instances = λ n node at is id p owned registered. registered;
           first_names = v.sound.first_names;
+          definitions = v.sound.definitions;
           vacant = v.sound.vacant;
           vacant_once = v.sound.vacant_once;
         }
@@ -193,7 +194,7 @@ module _ (a : Fields) (id : NodeId) (nodes : Slab Node) (before after : Node) (h
   imports_as (Some x) (Some y) other same h = let k : x.kind ≡ y.kind = cc in k ∙ h
 
   -- its first name is what it was
-  was_first : (node_of after).first_name ≡ (node_of before).first_name → (m : NodeId) (x : GraphNode) → map.get (nodes_of nodes.slots) m.0 ≡ Some x → (y : GraphNode) × (map.get (nodes_of a.nodes.slots) m.0 ≡ Some y) × (x.kind ≡ y.kind) × (x.first_name ≡ y.first_name)
+  was_first : (node_of after).first_name ≡ (node_of before).first_name → (m : NodeId) (x : GraphNode) → map.get (nodes_of nodes.slots) m.0 ≡ Some x → (y : GraphNode) × (map.get (nodes_of a.nodes.slots) m.0 ≡ Some y) × (x.kind ≡ y.kind) × (x.first_name ≡ y.first_name) × (x.item_kind ≡ y.item_kind)
   was_first first m x at = by_eq m.0 id.0
       (λ same.
       let now : Some (node_of after) ≡ Some x = sym (ap (option_map node_of) updates.changed) ∙ sym (get-nodes_of nodes.slots id.0) ∙ ap (map.get (nodes_of nodes.slots)) (sym same) ∙ at in
@@ -202,8 +203,9 @@ module _ (a : Fields) (id : NodeId) (nodes : Slab Node) (before after : Node) (h
         ap (map.get (nodes_of a.nodes.slots)) same ∙ get-nodes_of a.nodes.slots id.0 ∙ ap (option_map node_of) had,
         ap (λ (z : GraphNode). z.kind) (sym x_is) ∙ like.kind,
         ap (λ (z : GraphNode). z.first_name) (sym x_is) ∙ first,
+        ap (λ (z : GraphNode). z.item_kind) (sym x_is) ∙ like.item,
       ))
-      (λ differ. (x, get-nodes_of a.nodes.slots m.0 ∙ ap (option_map node_of) (sym (updates.others m.0 differ)) ∙ sym (get-nodes_of nodes.slots m.0) ∙ at, refl, refl))
+      (λ differ. (x, get-nodes_of a.nodes.slots m.0 ∙ ap (option_map node_of) (sym (updates.others m.0 differ)) ∙ sym (get-nodes_of nodes.slots m.0) ∙ at, refl, refl, refl))
 
   pub invariant_rewritten : Invariant a → (names : HashMap (String Global) NodeId (BuildHasherDefault FoldHasher)) (gone : NodeId → Bool) → Left gone (names_of a.exports.entries) (names_of names.entries) → AreTold a.lost nodes names.entries
       → (node_of after).first_name ≡ (node_of before).first_name → ((n : NodeId) (x : GraphNode) → node_at (graph_of a) n ≡ Some x → x.kind ≡ graph.definition → gone n ≡ false) → Invariant (record a { nodes = nodes; exports = names })
@@ -231,9 +233,13 @@ module _ (a : Fields) (id : NodeId) (nodes : Slab Node) (before after : Node) (h
           aliases = λ n node at is instance i stands. stands;
           instances = λ n node at is id p owned registered. registered;
           first_names = λ n node other at is.
-              let (y, had_y, same_kind, same_first) = was_first first n node at in
+              let (y, had_y, same_kind, same_first, _) = was_first first n node at in
               let (kind, found) = v.sound.first_names n y other had_y (sym same_first ∙ is) in
               (same_kind ∙ kind, found_left gone (names_of a.exports.entries) (names_of names.entries) left v.sound.one_export other n found (stays n y had_y kind));
+          definitions = λ n node at is.
+              let (y, had_y, same_kind, same_first, same_item) = was_first first n node at in
+              let d = v.sound.definitions n y had_y (sym same_kind ∙ is) in
+              record { defined = d.defined; name = d.name; typed = same_item ∙ d.typed; named = same_first ∙ d.named };
           vacant = v.sound.vacant;
           vacant_once = v.sound.vacant_once;
         }

@@ -6,3 +6,4 @@ pub mod Loop
 pub mod Merging
 pub mod Asked
 pub mod ModuleImports
+pub mod Defining

@@ -1,3 +1,4 @@
 pub mod Written
 pub mod Modules
 pub mod Looked
+pub mod Defined

@@ -1,4 +1,4 @@
-//! Which imports can be written so far.
+//! Which imports and definitions can be written so far.
 
 ghost use Rattle.std.specs.Prelude.{◌≡◌, ◌<◌, ℕ, true, false, List, Some, Ok as Answers, length, slice_get};
 ghost use Rattle.wac_shapes.specs.Kinds.{kind_type};
@@ -6,7 +6,7 @@ ghost use Rattle.wac_shapes.specs.declared.component.ItemKind.{ItemKind as AnyIt
 ghost use Rattle.wac_shapes.specs.declared.component.ItemKind.TheVariants as kind;
 ghost use Rattle.wac_collection.specs.Collection.{holds_type};
 ghost use Rattle.wac_subtyping.specs.Subtype.{type_tree, kind_tree};
-ghost use Rattle.wac_meaning.specs.Importable.{HasNoHandle, IsPlainItem, IsImportableKind};
+ghost use Rattle.wac_meaning.specs.Importable.{HasNoHandle, IsPlainItem, IsImportableKind, IsDefinableKind};
 ghost use Rattle.wac_importing.specs.Looked.{IsOfValues, HasNoResource, ArePlain, ListsPlain, AreImportable, HasNotYet};
 
 use std::alloc::AllocError;
@@ -116,7 +116,20 @@ pub fn is_importable(types: &Types, item: ItemKind) -> Result<bool, AllocError>
     lists_plain(types, item)
 }
 
-/// Whether all held items are.
+/// Whether a held item is a type that is defined so far: a type item of a value type that is made of no handle. Answers `AllocError`
+/// where memory ran out. Linear in what the type reaches.
+pub fn is_definable(types: &Types, item: ItemKind) -> Result<bool, AllocError>
+    requires { holds_type types.now (kind_type item) ≡ true }
+    ensures definable { result ≡ Answers true → IsDefinableKind types.now item }
+    ensures not { result ≡ Answers false → IsDefinableKind types.now item → ⊥ }
+{
+    match item {
+        ItemKind::TypeItem(ty) => is_plain_type(types, ty),
+        _ => Ok(false),
+    }
+}
+
+/// Whether all held items are imported so far.
 pub(crate) fn are_importable(types: &Types, items: &Named<ItemKind>) -> Result<bool, AllocError>
     requires { (i : ℕ) (e : List ℕ × AnyItem) → slice_get items.now i ≡ Some e → holds_type types.now (kind_type e.1) ≡ true }
     ensures importable { result ≡ Answers true → AreImportable types.now items.now }

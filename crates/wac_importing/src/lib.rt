@@ -1,13 +1,16 @@
-//! The imports of a merge, written into the root of a component: which can be written so far, and where each stands.
+//! The imports of a merge, written into the root of a component, and definitions behind them: which can be written so far, and where
+//! each stands.
 //!
 //! A layer of `wac_graph`, whose crate is the door.
 #![tactic(auto)]
 
+mod defined;
 mod importable;
 mod modules;
 #[cfg(test)]
 mod tests;
 mod written;
 
-pub use importable::is_importable;
+pub use defined::write_definition;
+pub use importable::{is_definable, is_importable};
 pub use written::{WrittenImports, write_imports};

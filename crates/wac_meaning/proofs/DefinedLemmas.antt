@@ -1,14 +1,13 @@
--- Where components are defined, no node has a name and no type is defined, what is written is what the options ask for.
-use Rattle.std.proofs.Common.{◌≡◌, ℕ, true, false, not, List, [], ◌∷◌, map, refl, ap, ◌∙◌, sym, Option, Some, None}
-use Rattle.std.specs.List.{filter, flat_map}
+-- Where components are defined and no node has a name, what is written is what the options ask for.
+use Rattle.std.proofs.Common.{◌≡◌, ℕ, true, List, [], ◌∷◌, map, refl, ◌∙◌, sym, Some, None}
 use Rattle.std.specs.Prelude.{slice_get}
-use Rattle.wac_shapes.specs.Name.{Name, option_case}
+use Rattle.wac_shapes.specs.Name.{Name}
 use Rattle.wac_binary.specs.Meaning.{Thing, component_at, Instantiation}
 use Rattle.wac_edges.specs.declared.node.NodeId.{NodeId}
 use Rattle.wac_nodes.specs.declared.options.EncodeOptions.{EncodeOptions}
 use Rattle.wac_nodes.specs.declared.packages.PackageId.{PackageId}
 use Rattle.wac_nodes.specs.Graph.{Graph, GraphNode, node_at, imports_of}
-use Rattle.wac_meaning.specs.Means.{used_packages, package_bytes, package_components, package_imports, package_thing, AreArguments, AreInstantiations, is_first, first_export, further_exports, AreNames}
+use Rattle.wac_meaning.specs.Means.{used_packages, package_bytes, package_components, package_imports, package_thing, AreArguments, AreInstantiations, AreNames}
 
 -- the instantiation is that of node n: of its package's component among those that are defined
 pub record IsMadeOf (g : Graph) (at : NodeId → Thing) (order : List NodeId) (n : NodeId) (it : Instantiation) : Type 0 where
@@ -44,30 +43,6 @@ module _ (g : Graph) (o : EncodeOptions) (define : o.define_components ≡ true)
     record { node = m.node; there = m.there; owner = m.owner; owned = m.owned; place = m.place; used = m.used; component = m.component ∙ defined_thing imports m.place; arguments = m.arguments },
     made_instantiations imports at order ns its rest,
   )
-
--- no node was exported by a first name
-abbrev pub HasNoFirst : Graph → Type 0
-HasNoFirst g = (n : NodeId) (node : GraphNode) → node_at g n ≡ Some node → node.first_name ≡ None
-
-module _ (g : Graph) (none : HasNoFirst g) where
-  no_first : (n : NodeId) (name : Name) (o : Option GraphNode) → node_at g n ≡ o → option_case o false (λ node. is_first node name) ≡ false
-  no_first n name None at = refl
-  no_first n name (Some node) at = rw (none n node at) refl
-
-  all_further : (es : List (Name × NodeId)) → filter (λ e. not (option_case (node_at g e.1) false (λ node. is_first node e.0))) es ≡ es
-  all_further [] = refl
-  all_further (e ∷ es) = rw (no_first e.1 e.0 (node_at g e.1) refl) (ap (λ xs. e ∷ xs) (all_further es))
-
-  pub further_all : further_exports g ≡ g.exports
-  further_all = all_further g.exports
-
-  no_export : (at : NodeId → Thing) (n : NodeId) (o : Option GraphNode) → node_at g n ≡ o → first_export g at n ≡ []
-  no_export at n None is = rw is refl
-  no_export at n (Some node) is = rw is (rw (none n node is) refl)
-
-  pub no_first_exports : (at : NodeId → Thing) (order : List NodeId) → flat_map (first_export g at) order ≡ []
-  no_first_exports at [] = refl
-  no_first_exports at (n ∷ ns) = rw (no_export at n (node_at g n) refl) (no_first_exports at ns)
 
 -- where no node has a name no index has one
 pub no_names : (g : Graph) (index : NodeId → ℕ) → ((n : NodeId) (node : GraphNode) → node_at g n ≡ Some node → node.name ≡ None) → AreNames g index []

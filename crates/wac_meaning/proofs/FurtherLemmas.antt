@@ -10,7 +10,7 @@ use Rattle.wac_edges.specs.declared.node.NodeId.{NodeId}
 use Rattle.wac_edges.proofs.WrittenOrder.{slice_get-middle}
 use Rattle.wac_nodes.specs.Graph.{Graph, GraphNode, node_at}
 use Rattle.wac_nodes.specs.Sound.{IsSound}
-use Rattle.wac_meaning.specs.Means.{is_first, further_exports}
+use Rattle.wac_meaning.specs.Means.{is_first, is_further, further_exports}
 use Rattle.wac_meaning.proofs.MeantLemmas.{IsAmong}
 use Rattle.wac_meaning.proofs.WrittenLemmas.{slice_get-prefix}
 
@@ -33,7 +33,7 @@ once_filter test (e ∷ es) once = split (test e) (once_filter test es (λ i j n
 
 module _ (g : Graph) (sound : IsSound g) where
   abbrev further : Name × NodeId → Bool
-  further e = not (option_case (node_at g e.1) false (λ node. is_first node e.0))
+  further = is_further g
 
   -- it is exported
   pub further_there : (k : ℕ) (x : Name × NodeId) → slice_get (further_exports g) k ≡ Some x → IsSome (node_at g x.1)

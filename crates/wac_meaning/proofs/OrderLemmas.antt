@@ -1,12 +1,12 @@
--- No edge leads into an import, so the nodes that are written are in order where edges form no cycle.
-use Rattle.std.proofs.Common.{◌≡◌, true, false, refl, ap, Option, Some, None, IsSome}
-use Rattle.std.specs.Prelude.{List}
+-- There is one order in which nodes are written; no edge leads into an import, so they are in order where edges form no cycle.
+use Rattle.std.proofs.Common.{◌≡◌, ◌<◌, Bool, true, false, List, [], ◌∷◌, refl, ap, sym, subst, arith, Option, Some, None, IsSome}
 use Rattle.std.specs.FinSet as set
 use Rattle.wac_edges.specs.declared.edges.Edge.{Edge}
 use Rattle.wac_edges.specs.declared.edges.Label.{Label}
 use Rattle.wac_edges.specs.declared.edges.Label.TheVariants.{Alias, Argument, Dependency}
 use Rattle.wac_edges.specs.declared.node.NodeId.{NodeId}
-use Rattle.wac_edges.specs.Order.{Writes, IsAcyclic}
+use Rattle.wac_edges.specs.Edge.{node_number}
+use Rattle.wac_edges.specs.Order.{Edges, Writes, IsLowestReady, IsAcyclic, without}
 use Rattle.wac_edges.proofs.ReachLemmas.{ordered_acyclic}
 use Rattle.wac_nodes.specs.Graph.{Graph, GraphNode, node_at}
 use Rattle.wac_nodes.specs.Sound.{IsSound, Joins}
@@ -33,3 +33,28 @@ target_written g sound e stands =
 -- so an order of these leaves no cycle
 pub written_acyclic : (g : Graph) → IsSound g → (order : List NodeId) → Writes g.edges (is_written g) order → IsAcyclic g.edges
 written_acyclic g sound order writes = ordered_acyclic g.edges (is_written g) order (target_written g sound) writes
+
+-- ---- one order
+not_both : {b : Bool} → b ≡ true → b ≡ false → ⊥
+not_both h k = cc
+
+-- an edge leads to a lower node that is left, so that it is not ready
+lower_is_blocked : (edges : Edges) (left : NodeId → Bool) (n m : NodeId) → IsLowestReady edges left n → IsLowestReady edges left m → m.0 < n.0 → ⊥
+lower_is_blocked edges left n m a b small = let (e, stands, to, from) = a.lower m small b.here in not_both from (b.free e stands to)
+
+-- of two nodes that are the lowest that are ready neither is lower
+one_next : (edges : Edges) (left : NodeId → Bool) (n m : NodeId) → IsLowestReady edges left n → IsLowestReady edges left m → n ≡ m
+one_next edges left n m a b =
+    let not_lower : m.0 < n.0 → ⊥ = lower_is_blocked edges left n m a b in
+    let not_higher : n.0 < m.0 → ⊥ = lower_is_blocked edges left m n b a in
+    let same : n.0 ≡ m.0 = omega (arith, not_lower, not_higher) in
+    ap node_number same
+
+pub one_order : (edges : Edges) (left : NodeId → Bool) (ns ms : List NodeId) → Writes edges left ns → Writes edges left ms → ns ≡ ms
+one_order edges left [] [] a b = refl
+one_order edges left [] (m ∷ ms) a b = absurd (not_both (b.0).here (a m))
+one_order edges left (n ∷ ns) [] a b = absurd (not_both (a.0).here (b n))
+one_order edges left (n ∷ ns) (m ∷ ms) a b =
+    let same : n ≡ m = one_next edges left n m a.0 b.0 in
+    let more : ns ≡ ms = one_order edges (without left n) ns ms a.1 (subst (λ k. Writes edges (without left k) ms) (sym same) b.1) in
+    cc

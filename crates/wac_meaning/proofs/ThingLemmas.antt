@@ -25,10 +25,6 @@ use Rattle.wac_edges.proofs.WrittenOrder.{has, minus, minus-push, minus-false, m
 abbrev pub IsPlain : Graph → Type 0
 IsPlain g = (n : NodeId) (node : GraphNode) → node_at g n ≡ Some node → (node.kind ≡ graph.instantiation) ⊎ (node.kind ≡ graph.alias)
 
--- no node is a definition
-abbrev pub DefinesNothing : Graph → Type 0
-DefinesNothing g = (n : NodeId) (node : GraphNode) → node_at g n ≡ Some node → node.kind ≡ graph.definition → ⊥
-
 the_node : (o : Option GraphNode) → IsSome o → (node : GraphNode) × (o ≡ Some node)
 the_node None h = cc
 the_node (Some node) h = (node, refl)

@@ -1,4 +1,4 @@
--- Which items are imported so far.
+-- Which items are imported so far, and which types are defined.
 use Rattle.std.specs.Prelude.{ℕ}
 use Rattle.wac_shapes.specs.Name.{Name}
 use Rattle.wac_shapes.specs.declared.component.ItemKind.{ItemKind}
@@ -46,3 +46,12 @@ IsImportable t = IsPlainItem t
 -- and so of a kind of item; a resource goes by its name, so that it is seen also where nothing binds it
 abbrev pub IsImportableKind : Collection → ItemKind → Type 0
 IsImportableKind c k = IsImportable (kind_tree c k)
+
+-- a type that is defined so far: a value type without a resource in it
+abbrev pub IsDefinable : {L : Type 0} → TypeTree L → Type 0
+IsDefinable (type_equal t) = IsPlainItem (type_equal t)
+IsDefinable _ = ⊥
+
+-- and so of a kind of item
+abbrev pub IsDefinableKind : Collection → ItemKind → Type 0
+IsDefinableKind c k = IsDefinable (kind_tree c k)

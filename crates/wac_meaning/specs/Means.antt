@@ -172,9 +172,13 @@ export_item_of g index e = option_case (node_at g e.1) [] (λ node. export_item 
 abbrev pub first_export : Graph → (NodeId → Thing) → NodeId → List (Name × Sort × Thing)
 first_export g at n = option_case (node_at g n) [] (λ node. option_case node.first_name [] (λ name. (name, sort_of_kind node.item_kind, at n) ∷ []))
 
+-- is the export one by another name than a definition's first
+abbrev pub is_further : Graph → Name × NodeId → Bool
+is_further g e = not (option_case (node_at g e.1) false (λ node. is_first node e.0))
+
 -- the other exports, in the graph's order
 abbrev pub further_exports : Graph → List (Name × NodeId)
-further_exports g = filter (λ e. not (option_case (node_at g e.1) false (λ node. is_first node e.0))) g.exports
+further_exports g = filter (is_further g) g.exports
 
 -- the name of an index: that of the lowest of the named nodes that stand there
 pub record IsNameOf (g : Graph) (index : NodeId → ℕ) (t : Sort) (i : ℕ) (name : Name) : Type 0 where

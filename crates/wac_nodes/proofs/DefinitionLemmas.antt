@@ -17,7 +17,7 @@ use Rattle.wac_edges.specs.declared.node.NodeId.{NodeId}
 use Rattle.wac_edges.specs.Edge.{edge_cmp, alias_edge, argument_edge}
 use Rattle.wac_nodes.specs.Graph as graph
 use Rattle.wac_nodes.specs.Graph.{Graph, GraphNode, node_at, export_at, IsDefinitionOf}
-use Rattle.wac_nodes.specs.Sound.{IsSound, IsInstance, IsAlias, Joins}
+use Rattle.wac_nodes.specs.Sound.{IsSound, IsInstance, IsAlias, IsTypeUnderName, Joins}
 use Rattle.wac_nodes.specs.Steps.{Defines}
 use Rattle.wac_nodes.specs.Definitions.{definition_node, IsUndefined, IsDependency, reached, reaching, WithDependencies}
 use Rattle.wac_nodes.proofs.Added.{by_eq, same_id, insert_same, insert_other, some_either, ImportIn, import_before, one_more, one_name}
@@ -189,6 +189,7 @@ module _ (g : Graph) (s : IsSound g) (name : Name) (t : AnyType) (n : NodeId) (n
         (λ first. (refl, ap (find_name (g.exports ++ (name, n) ∷ [])) (sym (name_is name text first)) ∙ find_new g.exports name n absent))
         (λ k x was first. let (kind, exported) = s.first_names k x text was first in (kind, find_kept g.exports (name, n) text k exported))
         m other at is;
+    definitions = each_node (λ _ x. x.kind ≡ graph.definition → IsTypeUnderName x) (λ _. record { defined = t; name = name; typed = refl; named = refl }) s.definitions;
     vacant = s.vacant;
     vacant_once = s.vacant_once;
   }

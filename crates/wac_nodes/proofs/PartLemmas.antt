@@ -18,7 +18,7 @@ use Rattle.wac_nodes.specs.declared.packages.PackageId.{PackageId}
 use Rattle.wac_nodes.specs.declared.packages.Slot.{Slot}
 use Rattle.wac_nodes.specs.Graph as graph
 use Rattle.wac_nodes.specs.Graph.{Graph, GraphNode, node_at, package_at, exports_of, imports_of, IsAliasOf, IsRegistered, export_at}
-use Rattle.wac_nodes.specs.Sound.{IsSound, IsInstance, IsAlias, Joins}
+use Rattle.wac_nodes.specs.Sound.{IsSound, IsInstance, IsAlias, IsTypeUnderName, Joins}
 use Rattle.wac_nodes.proofs.JoinLemmas.{AreAlike, alike_exports, joins_kept, imports_of_instance}
 
 -- of the same types, and with nothing that is not in the graph: nodes may lose their names, and exports stand elsewhere
@@ -37,6 +37,7 @@ pub record IsClosed (g h : Graph) : Type 0 where
   pub aliases : (n : NodeId) (node : GraphNode) → node_at h n ≡ Some node → node.kind ≡ graph.alias → (instance : NodeId) (i : ℕ) → IsAliasOf g instance i n → IsAliasOf h instance i n
   pub instances : (n : NodeId) (node : GraphNode) → node_at h n ≡ Some node → node.kind ≡ graph.instantiation → (id : PackageId) (p : PackageParts) → node.owner ≡ Some id → package_at g id ≡ Some p → package_at h id ≡ Some p
   pub first_names : (n : NodeId) (node : GraphNode) (name : Name) → node_at h n ≡ Some node → node.first_name ≡ Some name → (node.kind ≡ graph.definition) × (export_at h name ≡ Some n)
+  pub definitions : (n : NodeId) (node : GraphNode) → node_at h n ≡ Some node → node.kind ≡ graph.definition → IsTypeUnderName node
   pub vacant : (i s : ℕ) → slice_get h.vacant i ≡ Some s → IsSomeAnd (slice_get h.slots s) (λ slot. slot.«package» ≡ None)
   pub vacant_once : (i j s : ℕ) → slice_get h.vacant i ≡ Some s → slice_get h.vacant j ≡ Some s → i ≡ j
 
@@ -124,6 +125,7 @@ module _ (g : Graph) (s : IsSound g) (nodes : map.FinMap nat_cmp GraphNode) (nex
       one_export = λ name i j n m a b. p.apart i j (s.one_export name (p.place i) (p.place j) n m (p.exports i (name, n) a) (p.exports j (name, m) b));
       one_package = λ key id other (x, a, is) (y, b, same). s.one_package key id other (x, p.packages id x a, is) (y, p.packages other y b, same);
       first_names = c.first_names;
+      definitions = c.definitions;
       vacant = c.vacant;
       vacant_once = c.vacant_once;
     } where

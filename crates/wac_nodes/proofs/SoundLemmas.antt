@@ -21,7 +21,7 @@ use Rattle.wac_nodes.specs.declared.packages.Slot.{Slot}
 use Rattle.wac_edges.specs.Edge.{edge_cmp, alias_edge, argument_edge}
 use Rattle.wac_nodes.specs.Graph as graph
 use Rattle.wac_nodes.specs.Graph.{Graph, GraphNode, node_at, package_at, package_in, package_of, export_at, exports_of, imports_of, IsAliasOf, IsArgumentOf, IsRegistered}
-use Rattle.wac_nodes.specs.Sound.{IsSound, IsInstance, IsAlias, Joins}
+use Rattle.wac_nodes.specs.Sound.{IsSound, IsInstance, IsAlias, IsTypeUnderName, Joins}
 use Rattle.wac_nodes.proofs.Added.{by_eq, same_id, insert_same, insert_other, some_before, some_either, ImportIn, import_before, added_edge, new_edge, kept_edge, one_more, one_edge, one_name}
 use Rattle.wac_nodes.proofs.JoinLemmas.{Extends, AreAlike, alike_itself, alike_exports, joins_kept, joins_alike, exports_same, joins_types, imports_of_instance}
 
@@ -132,6 +132,7 @@ module _ (g : Graph) (s : IsSound g) where
     one_export = s.one_export;
     one_package = s.one_package;
     first_names = s.first_names;
+    definitions = s.definitions;
     vacant = s.vacant;
     vacant_once = s.vacant_once;
   }
@@ -172,6 +173,7 @@ module _ (g : Graph) (s : IsSound g) where
     one_export = s.one_export;
     one_package = λ key id other p q. one_more (IsRegistered g key) (IsRegistered more key) (record { slot = length g.slots; generation = slot.generation }) (cases key) (s.one_package key) id other p q;
     first_names = s.first_names;
+    definitions = s.definitions;
     vacant = λ i k at. some_grown k (slice_get g.slots k) refl (s.vacant i k at);
     vacant_once = s.vacant_once;
   } where
@@ -233,6 +235,7 @@ module _ (g : Graph) (s : IsSound g) where
     one_export = s.one_export;
     one_package = s.one_package;
     first_names = s.first_names;
+    definitions = s.definitions;
     vacant = s.vacant;
     vacant_once = s.vacant_once;
   } where
@@ -285,6 +288,9 @@ module _ (g : Graph) (s : IsSound g) where
     old_first_names m other name there = each_node (λ k x. x.first_name ≡ Some name → (x.kind ≡ graph.definition) × (export_at g name ≡ Some k)) (λ is. absurd (no_name (sym first ∙ is))) (λ k x _ at is. s.first_names k x name at is) m other there where
       no_name : None ≡ Some name → ⊥
       no_name h = cc
+
+    old_definitions : (node.kind ≡ graph.definition → ⊥) → (m : NodeId) (other : GraphNode) → map.get (map.insert g.nodes n.0 node) m.0 ≡ Some other → other.kind ≡ graph.definition → IsTypeUnderName other
+    old_definitions no_definition = each_node (λ _ x. x.kind ≡ graph.definition → IsTypeUnderName x) (λ is. absurd (no_definition is)) (λ k x _ at is. s.definitions k x at is)
 
     old_instance : (edges : set.FinSet edge_cmp) (other : GraphNode) → IsInstance g other → IsInstance (with_node edges) other
     old_instance edges other i = record { id = i.id; parts = i.parts; owned = i.owned; registered = i.registered; typed = i.typed }
@@ -343,6 +349,7 @@ module _ (g : Graph) (s : IsSound g) where
       one_export = s.one_export;
       one_package = s.one_package;
       first_names = old_first_names;
+      definitions = old_definitions (λ wrong. no_definition kind wrong);
       vacant = s.vacant;
       vacant_once = s.vacant_once;
     } where
@@ -373,6 +380,7 @@ module _ (g : Graph) (s : IsSound g) where
       one_export = s.one_export;
       one_package = s.one_package;
       first_names = old_first_names;
+      definitions = old_definitions (λ wrong. no_definition wrong kind);
       vacant = s.vacant;
       vacant_once = s.vacant_once;
     } where
@@ -427,6 +435,7 @@ module _ (g : Graph) (s : IsSound g) where
           one_export = s.one_export;
           one_package = s.one_package;
           first_names = old_first_names;
+          definitions = old_definitions (λ wrong. no_definition wrong kind);
           vacant = s.vacant;
           vacant_once = s.vacant_once;
         } where
@@ -497,9 +506,13 @@ module _ (g : Graph) (s : IsSound g) where
     one_export = one_name g.exports name n absent s.one_export;
     one_package = s.one_package;
     first_names = λ m other text at is.
-        let (was, had, same_kind, same_first) = first_before m other at in
+        let (was, had, same_kind, same_first, _) = first_before m other at in
         let (kind, exported) = s.first_names m was text had (sym same_first ∙ is) in
         (same_kind ∙ kind, find_name-prefix g.exports ((name, n) ∷ []) text m exported);
+    definitions = λ m other at is.
+        let (was, had, same_kind, same_first, same_item) = first_before m other at in
+        let d = s.definitions m was had (sym same_kind ∙ is) in
+        record { defined = d.defined; name = d.name; typed = same_item ∙ d.typed; named = same_first ∙ d.named };
     vacant = s.vacant;
     vacant_once = s.vacant_once;
   } where
@@ -520,12 +533,12 @@ module _ (g : Graph) (s : IsSound g) where
     still m at = by_eq m.0 n.0 (λ same. ap is_some (ap (map.get (map.insert g.nodes n.0 named)) same ∙ insert_same g.nodes n.0 named)) (λ differ. ap is_some (insert_other g.nodes n.0 m.0 named differ) ∙ at)
 
     -- its kind and its first name are what they were
-    first_before : (m : NodeId) (other : GraphNode) → map.get (map.insert g.nodes n.0 (record node { export_name = Some name })) m.0 ≡ Some other → (was : GraphNode) × (node_at g m ≡ Some was) × (other.kind ≡ was.kind) × (other.first_name ≡ was.first_name)
+    first_before : (m : NodeId) (other : GraphNode) → map.get (map.insert g.nodes n.0 (record node { export_name = Some name })) m.0 ≡ Some other → (was : GraphNode) × (node_at g m ≡ Some was) × (other.kind ≡ was.kind) × (other.first_name ≡ was.first_name) × (other.item_kind ≡ was.item_kind)
     first_before m other at = by_eq m.0 n.0
         (λ same.
         let is : other ≡ named = some_same (map.get (map.insert g.nodes n.0 named) n.0) other named (ap (map.get (map.insert g.nodes n.0 named)) (sym same) ∙ at) (insert_same g.nodes n.0 named) in
-        (node, ap (map.get g.nodes) same ∙ there, ap (λ (x : GraphNode). x.kind) is, ap (λ (x : GraphNode). x.first_name) is))
-        (λ differ. (other, sym (insert_other g.nodes n.0 m.0 named differ) ∙ at, refl, refl))
+        (node, ap (map.get g.nodes) same ∙ there, ap (λ (x : GraphNode). x.kind) is, ap (λ (x : GraphNode). x.first_name) is, ap (λ (x : GraphNode). x.item_kind) is))
+        (λ differ. (other, sym (insert_other g.nodes n.0 m.0 named differ) ∙ at, refl, refl, refl))
 
     like_named : AreAlike (record node { export_name = Some name }) node
     like_named = record { kind = refl; item = refl; owner = refl }

@@ -7,7 +7,8 @@ use Rattle.wac_collection.specs.Collection.{holds_type}
 use Rattle.wac_subtyping.specs.Subtype.{IsSubtype}
 use Rattle.wac_shapes.specs.Kinds.{kind_type}
 use Rattle.wac_shapes.specs.declared.component.ItemKind.{ItemKind}
-use Rattle.wac_shapes.specs.declared.component.ItemKind.TheVariants.{Instance}
+use Rattle.wac_shapes.specs.declared.component.ItemKind.TheVariants.{Instance, TypeItem}
+use Rattle.wac_shapes.specs.declared.component.«Type».{«Type» as AnyType}
 use Rattle.wac_edges.specs.declared.edges.Edge.{Edge}
 use Rattle.wac_edges.specs.declared.edges.Label.{Label}
 use Rattle.wac_edges.specs.declared.edges.Label.TheVariants.{Alias, Argument, Dependency}
@@ -33,6 +34,13 @@ pub record IsAlias (g : Graph) (n : NodeId) (node : GraphNode) : Type 0 where
   pub there : node_at g instance ≡ Some source
   pub exported : slice_get (exports_of g source) position ≡ Some (name, node.item_kind)
   pub owned : node.owner ≡ source.owner
+
+-- the node is of a type, and has a first name
+pub record IsTypeUnderName (node : GraphNode) : Type 0 where
+  pub defined : AnyType
+  pub name : Name
+  pub typed : node.item_kind ≡ TypeItem defined
+  pub named : node.first_name ≡ Some name
 
 -- the nodes that an edge may join: an instance and an alias of its export at this position, an item and an instantiation whose
 -- import at this position it is a subtype of, a definition and another. So no edge leads into an import
@@ -64,6 +72,8 @@ pub record IsSound (g : Graph) : Type 0 where
   pub one_export : (name : Name) (i j : ℕ) (n other : NodeId) → slice_get g.exports i ≡ Some (name, n) → slice_get g.exports j ≡ Some (name, other) → i ≡ j
   -- only a definition has a first name, and it is exported by it
   pub first_names : (n : NodeId) (node : GraphNode) (name : Name) → node_at g n ≡ Some node → node.first_name ≡ Some name → (node.kind ≡ definition) × (export_at g name ≡ Some n)
+  -- each definition is of a type and has one
+  pub definitions : (n : NodeId) (node : GraphNode) → node_at g n ≡ Some node → node.kind ≡ definition → IsTypeUnderName node
   -- a key is that of one registered package at most
   pub one_package : (key : Key) (id other : PackageId) → IsRegistered g key id → IsRegistered g key other → id ≡ other
   -- a vacant slot is there and holds no package, and is vacant once

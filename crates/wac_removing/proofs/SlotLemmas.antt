@@ -413,6 +413,7 @@ module _ (g : Graph) (s : IsSound g) (id : PackageId) (p : PackageParts) (holds 
       one_export = s.one_export;
       one_package = λ key a b x y. one_more (IsRegistered g key) (IsRegistered (with_slots now vacant) key) id (cases key) (s.one_package key) a b x y;
       first_names = s.first_names;
+      definitions = s.definitions;
       vacant = unused;
       vacant_once = once;
     }

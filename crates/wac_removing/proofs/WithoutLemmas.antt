@@ -134,6 +134,7 @@ module _ (g : Graph) (s : IsSound g) (gone : NodeId → Bool) (nodes : map.FinMa
           first_names = λ n node name at first.
               let (stays, was) = was_there n node at in
               let (kind, found) = s.first_names n node name was first in (kind, found_left gone g.exports exports kept s.one_export name n found stays);
+          definitions = λ n node at is. s.definitions n node (was_there n node at).1 is;
           vacant = unused;
           vacant_once = once;
         }

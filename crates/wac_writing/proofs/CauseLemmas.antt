@@ -16,7 +16,7 @@ use Rattle.wac_nodes.specs.Graph as graph
 use Rattle.wac_nodes.specs.Graph.{Graph, GraphNode, node_at, imports_of, package_of, IsImportOf}
 use Rattle.wac_nodes.specs.Sound.{IsSound}
 use Rattle.wac_edges.specs.Order.{IsAcyclic, IsLowestOnCycle}
-use Rattle.wac_causes.specs.NotYet.{AllImportable, IsNotYet}
+use Rattle.wac_causes.specs.NotYet.{AllImportable, AllDefinable, IsNotYet}
 use Rattle.wac_agreement.specs.Faults.{OneFault, Fault, disagree, use_each_other}
 use Rattle.wac_entries.specs.Classes.{by_names}
 use Rattle.wac_terms.specs.NoDisagreement.{HasNoDisagreement}
@@ -25,7 +25,6 @@ use Rattle.wac_nodes.specs.Entries.{asked_entries, to_merge}
 use Rattle.wac_causes.specs.Cause.{IsFirstConflict, HasNoConflict, HasMerge, IsMergeConflict, IsImplicitMerge, IsExplicitMerge, IsImportCircle, Cause, cycle, conflict, implicit_merge, explicit_merge, import_circle, not_yet, invalid, a_disagreement, an_invalid_name, rank, kind_of_cause, Stands, cause_of, AnswersFor}
 use Rattle.wac_causes.specs.Search.{IsRefused}
 use Rattle.wac_writing.specs.Refused.{IsRefusedBefore}
-use Rattle.wac_meaning.proofs.ThingLemmas.{DefinesNothing}
 use Rattle.wac_writing.proofs.OuterLemmas.{nothing_left}
 use Rattle.wac_causes.proofs.StandsLemmas.{stands_cycle, stands_not_yet, same_kind, none_there, invalid_alone}
 use Rattle.wac_causes.specs.OuterNames.{IsOuterFault}
@@ -245,9 +244,9 @@ binary_nameless binary.TooLarge = refl
 binary_nameless binary.OutOfMemory = refl
 
 -- a refusal of the imports' writer is for want of memory, or of room where all can be written
-pub begin_refused : (g : Graph) → DefinesNothing g → (o : EncodeOptions) → o.define_components ≡ true → (e : EncodeError) → (e ≡ error.OutOfMemory) ⊎ ((e ≡ error.TooLarge) × AllImportable g) → IsRefusedBefore g o e
-begin_refused g none o define e (inl is) = inl (inl is)
-begin_refused g none o define e (inr (is, all)) = inr (ap cause_of is, nothing_left g all none o define)
+pub begin_refused : (g : Graph) → AllDefinable g → (o : EncodeOptions) → o.define_components ≡ true → (e : EncodeError) → (e ≡ error.OutOfMemory) ⊎ ((e ≡ error.TooLarge) × AllImportable g) → IsRefusedBefore g o e
+begin_refused g types o define e (inl is) = inl (inl is)
+begin_refused g types o define e (inr (is, all)) = inr (ap cause_of is, nothing_left g all types o define)
 
 -- what a `?` hands on
 pub exit_cause : {A E : Type 0} (P : E → Type 0) (r : Result A E) (e : E) → IsErrAnd r (λ y. y ≡ e) → P e → IfErr r P

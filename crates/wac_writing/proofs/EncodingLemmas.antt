@@ -16,7 +16,6 @@ use Rattle.wac_edges.specs.declared.node.NodeId.{NodeId}
 use Rattle.wac_nodes.specs.declared.node.NodeKind.{NodeKind}
 use Rattle.wac_nodes.specs.declared.node.NodeKind.TheVariants as code
 use Rattle.wac_nodes.specs.declared.packages.PackageId.{PackageId}
-use Rattle.wac_nodes.specs.declared.options.EncodeOptions.{EncodeOptions}
 use Rattle.wac_edges.specs.Edge.{is_left}
 use Rattle.wac_nodes.specs.Graph as graph
 use Rattle.wac_edges.specs.Edge.{node_number}
@@ -24,9 +23,9 @@ use Rattle.wac_nodes.specs.Graph.{Graph, GraphNode, node_at, package_at, package
 use Rattle.wac_nodes.specs.Nodes.{node_of, kind_of, satisfied_at}
 use Rattle.wac_fields.specs.Fields.{Fields, graph_of, Invariant}
 use Rattle.wac_meaning.specs.Means.{is_import, is_written}
-use Rattle.wac_meaning.proofs.ThingLemmas.{DefinesNothing}
+use Rattle.wac_meaning.specs.Importable.{IsDefinableKind}
 use Rattle.wac_nodes.specs.Gives.{GivesNode}
-use Rattle.wac_causes.specs.NotYet.{IsNotYet, defined}
+use Rattle.wac_causes.specs.NotYet.{AllDefinable}
 use Rattle.wac_nodes.proofs.NodeLemmas.{get-nodes_of}
 use Rattle.wac_fields.proofs.ArgumentLemmas.{owned, registered}
 use Rattle.wac_nodes.proofs.JoinLemmas.{imports_of_package}
@@ -118,10 +117,10 @@ next_flag g flags k b many below now m small = by_lt m.0 k
     (λ under. get_or_append_left flags (b ∷ []) false m.0 (omega (arith, many, under)) ∙ below m under)
     (λ over. let same : m.0 ≡ length flags = omega (arith, many, over, small) in let last : k ≡ m.0 = omega (arith, over, small) in ap (λ q. is_left (flags ++ b ∷ []) (node_number q)) same ∙ get_or-append_seam flags b [] false ∙ now ∙ ap (λ q. is_written g (node_number q)) last)
 
--- no node is a definition where none below the capacity is
-pub defines_nothing : (a : Fields) (k : ℕ) → length a.nodes.slots ≤ k → ((m : NodeId) → m.0 < k → IfSome (node_at (graph_of a) m) (λ node. node.kind ≡ graph.definition → ⊥)) → DefinesNothing (graph_of a)
-defines_nothing a k slots below m node there = by_lt m.0 k
-    (λ small. subst (λ o. IfSome o (λ x. x.kind ≡ graph.definition → ⊥)) there (below m small))
+-- what is so of the nodes below the capacity is so of all
+pub all_nodes : (a : Fields) (P : GraphNode → Type 0) (k : ℕ) → length a.nodes.slots ≤ k → ((m : NodeId) → m.0 < k → IfSome (node_at (graph_of a) m) P) → (m : NodeId) (node : GraphNode) → node_at (graph_of a) m ≡ Some node → P node
+all_nodes a P k slots below m node there = by_lt m.0 k
+    (λ small. subst (λ o. IfSome o P) there (below m small))
     (λ above. absurd (nothing (node_at (graph_of a) m) (node_is a m.0 None (none_past a m.0 (omega (arith, slots, above)))) there)) where
       nothing : (o : Option GraphNode) → o ≡ None → o ≡ Some node → ⊥
       nothing o p q = cc
@@ -132,8 +131,12 @@ some_and a n node P had p = subst (λ o. IsSomeAnd o P) (sym (node_is a n (Some 
 pub if_none : (a : Fields) (n : ℕ) (P : GraphNode → Type 0) → get a.nodes n ≡ None → IfSome (node_at (graph_of a) (node_number n)) P
 if_none a n P had = subst (λ o. IfSome o P) (sym (node_is a n None had)) tt
 
-pub a_definition : (a : Fields) (n : ℕ) (node : Node) (o : EncodeOptions) → get a.nodes n ≡ Some node → kind_of node.kind ≡ graph.definition → IsNotYet (graph_of a) o
-a_definition a n node o had is = defined (node_number n) (node_of node) (node_is a n (Some node) had) is
+-- where a definition is of a type that is not defined so far, not all are of such
+pub one_undefined : (g : Graph) (n : NodeId) → IsSomeAnd (node_at g n) (λ node. (node.kind ≡ graph.definition) × (IsDefinableKind g.types node.item_kind → ⊥)) → AllDefinable g → ⊥
+one_undefined g n h all = by_node (node_at g n) refl h where
+  by_node : (o : Option GraphNode) → node_at g n ≡ o → IsSomeAnd o (λ node. (node.kind ≡ graph.definition) × (IsDefinableKind g.types node.item_kind → ⊥)) → ⊥
+  by_node None there h = absurd h
+  by_node (Some node) there h = h.1 (all n node there h.0)
 
 pub of_if : (a : Fields) (n : ℕ) (node : Node) (P : GraphNode → Type 0) → IfSome (node_at (graph_of a) (node_number n)) P → get a.nodes n ≡ Some node → P (node_of node)
 of_if a n node P h had = subst (λ o. IfSome o P) (node_is a n (Some node) had) h

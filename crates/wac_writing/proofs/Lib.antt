@@ -15,3 +15,5 @@ pub mod WriteAliasLemmas
 pub mod WriteArgumentsLemmas
 pub mod NamingLemmas
 pub mod OuterNameLemmas
+pub mod FurtherRows
+pub mod WriteDefinitionLemmas

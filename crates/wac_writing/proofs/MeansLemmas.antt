@@ -1,30 +1,19 @@
 -- What holds of the nodes that are written, and of their order.
-use Rattle.std.proofs.Common.{◌≡◌, ℕ, ◌<◌, Bool, true, false, List, length, refl, subst, sym, arith, Option, Some, None, IfSome, IfNone, IsSome, IsSomeAnd, ◌≤◌, ◌⊎◌, inl, inr}
+use Rattle.std.proofs.Common.{◌≡◌, ℕ, ◌<◌, Bool, true, false, List, length, refl, subst, sym, arith, Option, Some, None, IfSome, IfNone, IsSome, IsSomeAnd, ◌≤◌}
 use Rattle.std.proofs.Math.Path.{fun_ext}
 use Rattle.std.specs.FinSet as set
 use Rattle.std.specs.Prelude.{slice_get}
-use Rattle.wac_shapes.specs.Name.{Name}
 use Rattle.wac_edges.specs.declared.edges.Edge.{Edge}
 use Rattle.wac_edges.specs.declared.node.NodeId.{NodeId}
 use Rattle.wac_edges.specs.Edge.{is_left}
-use Rattle.wac_nodes.specs.Graph as graph
-use Rattle.wac_nodes.specs.Graph.{Graph, GraphNode, Kind, node_at}
+use Rattle.wac_nodes.specs.Graph.{Graph, GraphNode, node_at}
 use Rattle.wac_fields.specs.Fields.{Fields, graph_of, Invariant}
-use Rattle.wac_writing.specs.Plain.{IsPlainNode}
 use Rattle.wac_nodes.specs.Sound.{IsSound}
 use Rattle.wac_edges.specs.Order.{Writes, IsOnCycle, IsAcyclic, IsLowestOnCycle}
 use Rattle.wac_meaning.specs.Means.{is_written, is_import}
 use Rattle.wac_edges.proofs.WrittenOrder.{in_list, written_left}
-use Rattle.wac_meaning.proofs.ThingLemmas.{DefinesNothing, node_of_written}
+use Rattle.wac_meaning.proofs.ThingLemmas.{node_of_written}
 use Rattle.wac_writing.proofs.EncodingLemmas.{node_is, none_past, by_lt}
-use Rattle.wac_meaning.proofs.DefinedLemmas.{HasNoFirst}
-
--- a node that is no definition has no first name
-pub no_first : (g : Graph) → IsSound g → DefinesNothing g → HasNoFirst g
-no_first g sound none n node there = split node.first_name refl where
-  split : (o : Option Name) → node.first_name ≡ o → o ≡ None
-  split None is = refl
-  split (Some name) is = absurd (none n node there (sound.first_names n node name there is).0)
 
 module _ (a : Fields) (v : Invariant a) (g : Graph) (view : graph_of a ≡ g) where
   pub sound_now : IsSound g
@@ -52,17 +41,11 @@ module _ (a : Fields) (v : Invariant a) (g : Graph) (view : graph_of a ≡ g) wh
 pub targets_below : (a : Fields) → Invariant a → (k : ℕ) → length a.nodes.slots ≤ k → (e : Edge) → set.contains a.edges e ≡ true → e.target.0 < k
 targets_below a v k slots e stands = has_room a v (graph_of a) refl k slots e.target ((v.sound).ends e stands).1
 
--- the nodes of an order are written
-pub in_order : (g : Graph) → DefinesNothing g → (order : List NodeId) → Writes g.edges (is_written g) order → (i : ℕ) (n : NodeId) → slice_get order i ≡ Some n → IsSomeAnd (node_at g n) IsPlainNode
-in_order g none order writes i n h = of (node_of_written g n (written_left g.edges (is_written g) order writes n (in_list order i n h))) where
-  plain : (k : Kind) → is_import k ≡ false → (k ≡ graph.definition → ⊥) → (k ≡ graph.instantiation) ⊎ (k ≡ graph.alias)
-  plain graph.definition p q = absurd (q refl)
-  plain (graph.import name) p q = cc
-  plain graph.instantiation p q = inl refl
-  plain graph.alias p q = inr refl
-
-  of : ((node : GraphNode) × (node_at g n ≡ Some node) × (is_import node.kind ≡ false)) → IsSomeAnd (node_at g n) IsPlainNode
-  of (node, there, no_import) = subst (λ o. IsSomeAnd o IsPlainNode) (sym there) (plain node.kind no_import (none n node there))
+-- the nodes of an order are no imports
+pub in_order : (g : Graph) (order : List NodeId) → Writes g.edges (is_written g) order → (i : ℕ) (n : NodeId) → slice_get order i ≡ Some n → IsSomeAnd (node_at g n) (λ node. is_import node.kind ≡ false)
+in_order g order writes i n h =
+    let (node, there, no_import) = node_of_written g n (written_left g.edges (is_written g) order writes n (in_list order i n h)) in
+    subst (λ o. IsSomeAnd o (λ (x : GraphNode). is_import x.kind ≡ false)) (sym there) no_import
 
 pub when_none : {A : Type 0} (x : Option A) (P : Type 0) → x ≡ None → IfNone x P → P
 when_none x P is h = subst (λ o. IfNone o P) is h

@@ -16,7 +16,7 @@ use Rattle.wac_binary.specs.declared.sorts.Sort.TheVariants as sort
 use Rattle.wac_nodes.specs.declared.options.EncodeOptions.{EncodeOptions}
 use Rattle.wac_nodes.specs.Graph.{Graph}
 use Rattle.wac_nodes.specs.OuterImports.{outer_entries, AreOuterImports, outer_import}
-use Rattle.wac_causes.specs.NotYet.{AllImportable, IsNotYet, unwritten, defined, undefined_components}
+use Rattle.wac_causes.specs.NotYet.{AllImportable, AllDefinable, IsNotYet, unwritten, undefined_type, undefined_components}
 use Rattle.wac_meaning.specs.Means.{sort_of_kind}
 use Rattle.wac_meaning.specs.Beginning.{Places}
 use Rattle.wac_meaning.specs.Importable.{IsImportableKind}
@@ -25,7 +25,6 @@ use Rattle.wac_meaning.specs.MergedImports.{IsFoundAt}
 use Rattle.wac_meaning.proofs.AskedMembers.{IsIn, in_filter}
 use Rattle.wac_meaning.proofs.MergeLemmas.{OrderHasClasses, found_name, imported_canonical, place_of_name}
 use Rattle.wac_meaning.proofs.OuterOrder.{one_order}
-use Rattle.wac_meaning.proofs.ThingLemmas.{DefinesNothing}
 use Rattle.wac_writing.specs.Places.{IsImportedName, IsPlaceOf, IsMergedFor}
 
 the_entry : {A : Type 0} (xs : List A) (p : ℕ) → p < length xs → (x : A) × (slice_get xs p ≡ Some x)
@@ -67,11 +66,11 @@ module _ (laws : ClassLaws) (has_classes : OrderHasClasses) (g : Graph) where
       placed = at.placed;
     }
 
--- where all is importable, no node is a definition, and components are defined, nothing is left for later
-pub nothing_left : (g : Graph) → AllImportable g → DefinesNothing g → (o : EncodeOptions) → o.define_components ≡ true → IsNotYet g o → ⊥
-nothing_left g all none o define (unwritten not) = not all
-nothing_left g all none o define (defined n node there is) = none n node there is
-nothing_left g all none o define (undefined_components is) = clash o.define_components define is where
+-- where all is importable, all definitions are definable, and components are defined, nothing is left for later
+pub nothing_left : (g : Graph) → AllImportable g → AllDefinable g → (o : EncodeOptions) → o.define_components ≡ true → IsNotYet g o → ⊥
+nothing_left g all types o define (unwritten not) = not all
+nothing_left g all types o define (undefined_type not) = not types
+nothing_left g all types o define (undefined_components is) = clash o.define_components define is where
   clash : (b : Bool) → b ≡ true → b ≡ false → ⊥
   clash true _ h = cc
   clash false h _ = cc

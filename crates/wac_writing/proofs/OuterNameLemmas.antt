@@ -1,10 +1,9 @@
 -- The outer names of a graph that is written: those of its imports, and the names of its exports in order.
-use Rattle.std.proofs.Common.{◌≡◌, ℕ, suc, ◌+◌, ◌≤◌, true, IsTrue, List, [], ◌∷◌, ◌++◌, length, map, take, Option, Some, None, IfSome, IsSome, refl, ap, ◌∙◌, sym, subst, arith, inl, inr, String, Global, string_bytes}
-use Rattle.std.specs.Borrow.{Bor}
+use Rattle.std.proofs.Common.{◌≡◌, ℕ, suc, true, IsTrue, List, [], ◌∷◌, ◌++◌, length, map, Option, Some, None, IfSome, IsSome, refl, ap, ◌∙◌, sym, subst, inl, inr}
 use Rattle.std.specs.List.{flat_map}
 use Rattle.std.specs.Prelude.{slice_get}
-use Rattle.std.proofs.lemmas.List.{append-nil, map-append, take_all, length-map}
-use Rattle.wac_shapes.specs.Name.{Name}
+use Rattle.std.proofs.lemmas.List.{append-nil, map-append}
+use Rattle.wac_shapes.specs.Name.{Name, option_case}
 use Rattle.wac_collection.specs.Tree.{Tree}
 use Rattle.wac_binary.specs.declared.sorts.Sort.{Sort}
 use Rattle.wac_binary.specs.Items.{Item}
@@ -15,12 +14,12 @@ use Rattle.wac_nodes.specs.declared.options.EncodeOptions.{EncodeOptions}
 use Rattle.wac_nodes.specs.Graph.{Graph, GraphNode, node_at}
 use Rattle.wac_nodes.specs.OuterImports.{AreOuterImports}
 use Rattle.wac_nodes.specs.Sound.{IsSound}
-use Rattle.wac_nodes.proofs.NodeLemmas.{text_pair}
-use Rattle.wac_meaning.specs.Means.{is_written, package_imports, further_exports, shown, export_of, Means}
-use Rattle.wac_meaning.proofs.DefinedLemmas.{HasNoFirst, further_all, no_package_imports, no_first_exports}
+use Rattle.wac_meaning.specs.Means.{is_written, package_imports, further_exports, first_export, sort_of_kind, shown, export_of, Means}
+use Rattle.wac_meaning.proofs.DefinedLemmas.{no_package_imports}
+use Rattle.wac_meaning.proofs.FurtherLemmas.{further_there}
+use Rattle.wac_meaning.proofs.OrderLemmas.{one_order}
 use Rattle.wac_meaning.specs.MergedImports.{imports_from, merged_imports}
 use Rattle.wac_meaning.proofs.MergeLemmas.{OrderHasClasses, outer_of_merge}
-use Rattle.wac_meaning.proofs.ThingLemmas.{DefinesNothing}
 use Rattle.wac_entries.specs.Classes.{Entry, ClassLaws}
 use Rattle.wac_terms.specs.Merge.{Merged, import_entries}
 use Rattle.wac_shapes.specs.declared.component.ItemKind.{ItemKind}
@@ -29,63 +28,54 @@ use Rattle.wac_writing.specs.Places.{IsMergedFor, names_of}
 use Rattle.wac_writing.proofs.OuterLemmas.{one_outer}
 use Rattle.wac_validation.specs.FirstFault.{Fault, IsFirstFault, IsRefusal, fault_view}
 use Rattle.wac_validation.specs.Valid.{AreValid}
-use Rattle.wac_validation.specs.Views.{texts}
 use Rattle.wac_validation.specs.declared.fault.ValidationError.{ValidationError}
 use Rattle.wac_validation.specs.declared.fault.ValidationError.TheVariants as validation
 use Rattle.wac_causes.specs.declared.errors.EncodeError.{EncodeError}
 use Rattle.wac_causes.specs.Cause.{Cause, cycle, conflict, implicit_merge, explicit_merge, import_circle, not_yet, invalid, an_invalid_name, kind_of_cause, IsNamed, Stands, cause_of, AnswersFor}
 use Rattle.wac_causes.specs.Faults.{validation_failure}
-use Rattle.wac_causes.specs.OuterNames.{first_name_of, AreOuterNames, import_names, export_names, IsOuterFault}
+use Rattle.wac_causes.specs.OuterNames.{first_name_of, written_exports, AreOuterNames, import_names, export_names, IsOuterFault}
 use Rattle.wac_causes.specs.Search.{NamesFault}
 use Rattle.wac_causes.proofs.StandsLemmas.{stands_invalid, invalid_alone}
-use Rattle.wac_fields.specs.Fields.{Fields, graph_of}
 use Rattle.wac_writing.proofs.CauseLemmas.{IsChecked}
-use Rattle.wac_writing.proofs.MeansLemmas.{no_first}
-use Rattle.wac_writing.proofs.WriteAliasLemmas.{take_at, entry_at}
 
-module _ (g : Graph) (o : EncodeOptions) (define : o.define_components ≡ true) (laws : ClassLaws) (has_classes : OrderHasClasses) (no_first : HasNoFirst g) (classes : List (Name × Tree)) (outer : AreOuterImports g classes) where
+module _ (g : Graph) (o : EncodeOptions) (define : o.define_components ≡ true) (laws : ClassLaws) (has_classes : OrderHasClasses) (classes : List (Name × Tree)) (outer : AreOuterImports g classes) (order : List NodeId) (writes : Writes g.edges (is_written g) order) where
   abbrev names : List Name
   names = map (λ e. e.0) classes
-
-  no_first_names : (order : List NodeId) → flat_map (first_name_of g) order ≡ []
-  no_first_names [] = refl
-  no_first_names (n ∷ ns) = rw (here (node_at g n) refl) (no_first_names ns) where
-    here : (x : Option GraphNode) → node_at g n ≡ x → first_name_of g n ≡ []
-    here None is = rw is refl
-    here (Some node) is = rw is (rw (no_first n node is) refl)
 
   nothing_behind : {A : Type 0} (xs ys : List A) → ys ≡ [] → xs ++ ys ≡ xs
   nothing_behind xs ys none = ap (λ zs. xs ++ zs) none ∙ append-nil xs
 
-  all_imports : (others : List (Name × Tree)) → AreOuterImports g others → (order : List NodeId) → map (λ (e : Name × Tree). e.0) (others ++ package_imports g o order) ≡ names
-  all_imports others are order = ap (λ (xs : List (Name × Tree)). map (λ e. e.0) xs) (nothing_behind others (package_imports g o order) (no_package_imports g o define order) ∙ one_outer laws has_classes g others classes are outer)
+  all_imports : (others : List (Name × Tree)) → AreOuterImports g others → (ns : List NodeId) → map (λ (e : Name × Tree). e.0) (others ++ package_imports g o ns) ≡ names
+  all_imports others are ns = ap (λ (xs : List (Name × Tree)). map (λ e. e.0) xs) (nothing_behind others (package_imports g o ns) (no_package_imports g o define ns) ∙ one_outer laws has_classes g others classes are outer)
+
+  same_order : (ns : List NodeId) → Writes g.edges (is_written g) ns → ns ≡ order
+  same_order ns w = one_order g.edges (is_written g) ns order w writes
 
   -- these are its outer names
-  names_now : (order : List NodeId) → Writes g.edges (is_written g) order → AreOuterNames g o names (map (λ e. e.0) g.exports)
-  names_now order writes = record {
+  names_now : AreOuterNames g o names (written_exports g order)
+  names_now = record {
     order = order;
     in_order = writes;
     classes = classes;
     outer = outer;
     imported = sym (all_imports classes outer order);
-    exported = ap (λ (es : List (Name × NodeId)). map (λ e. e.0) es) (sym (further_all g no_first)) ∙ ap (λ xs. xs ++ map (λ e. e.0) (further_exports g)) (sym (no_first_names order));
+    exported = refl;
   }
 
   -- and no others are
   outer_imports : (imports exports : List Name) → AreOuterNames g o imports exports → imports ≡ names
   outer_imports imports exports named = named.imported ∙ all_imports named.classes named.outer named.order
 
-  outer_exports : (imports exports : List Name) → AreOuterNames g o imports exports → exports ≡ map (λ e. e.0) g.exports
-  outer_exports imports exports named =
-      named.exported ∙ (λ i. no_first_names named.order i ++ map (λ e. e.0) (further_all g no_first i))
+  outer_exports : (imports exports : List Name) → AreOuterNames g o imports exports → exports ≡ written_exports g order
+  outer_exports imports exports named = named.exported ∙ ap (written_exports g) (same_order named.order named.in_order)
 
   -- a fault of these is one of the graph
-  pub fault_now : (order : List NodeId) → Writes g.edges (is_written g) order → (f : Fault) → IsFirstFault names (map (λ e. e.0) g.exports) f → IsOuterFault g o f
-  fault_now order writes f first = record { imports = names; exports = map (λ e. e.0) g.exports; named = names_now order writes; first = first }
+  pub fault_now : (f : Fault) → IsFirstFault names (written_exports g order) f → IsOuterFault g o f
+  fault_now f first = record { imports = names; exports = written_exports g order; named = names_now; first = first }
 
   -- and the other way
-  pub now_fault : (f : Fault) → IsOuterFault g o f → IsFirstFault names (map (λ e. e.0) g.exports) f
-  now_fault f is = subst (λ xs. IsFirstFault xs (map (λ e. e.0) g.exports) f) (outer_imports is.imports is.exports is.named)
+  pub now_fault : (f : Fault) → IsOuterFault g o f → IsFirstFault names (written_exports g order) f
+  now_fault f is = subst (λ xs. IsFirstFault xs (written_exports g order) f) (outer_imports is.imports is.exports is.named)
       (subst (λ ys. IsFirstFault is.imports ys f) (outer_exports is.imports is.exports is.named) is.first)
 
   -- ---- the names of items that mean it
@@ -93,10 +83,25 @@ module _ (g : Graph) (o : EncodeOptions) (define : o.define_components ≡ true)
   shown_names [] = refl
   shown_names (e ∷ es) = ap (λ r. e.name ∷ r) (shown_names es)
 
-  exported_names : (at : NodeId → Thing) (es : List (Name × NodeId)) → ((i : ℕ) (name : Name) (n : NodeId) → slice_get es i ≡ Some (name, n) → IsSome (node_at g n))
+  -- the first name of a definition
+  first_shown : (at : NodeId → Thing) (n : NodeId) (x : Option GraphNode) → node_at g n ≡ x → map (λ (x : Name × Sort × Thing). x.0) (first_export g at n) ≡ first_name_of g n
+  first_shown at n None is = rw is refl
+  first_shown at n (Some node) is = rw is (named node.first_name) where
+    named : (o : Option Name) → map (λ (x : Name × Sort × Thing). x.0) (option_case o [] (λ name. (name, sort_of_kind node.item_kind, at n) ∷ [])) ≡ option_case o [] (λ name. name ∷ [])
+    named None = refl
+    named (Some name) = refl
+
+  first_names : (at : NodeId → Thing) (ns : List NodeId) → map (λ (x : Name × Sort × Thing). x.0) (flat_map (first_export g at) ns) ≡ flat_map (first_name_of g) ns
+  first_names at [] = refl
+  first_names at (n ∷ ns) =
+      map-append (λ (x : Name × Sort × Thing). x.0) (first_export g at n) (flat_map (first_export g at) ns)
+      ∙ ap (λ xs. xs ++ map (λ (x : Name × Sort × Thing). x.0) (flat_map (first_export g at) ns)) (first_shown at n (node_at g n) refl)
+      ∙ ap (λ ys. first_name_of g n ++ ys) (first_names at ns)
+
+  exported_names : (at : NodeId → Thing) (es : List (Name × NodeId)) → ((i : ℕ) (x : Name × NodeId) → slice_get es i ≡ Some x → IsSome (node_at g x.1))
       → map (λ (x : Name × Sort × Thing). x.0) (flat_map (export_of g at) es) ≡ map (λ (e : Name × NodeId). e.0) es
   exported_names at [] there = refl
-  exported_names at (e ∷ es) there = one (node_at g e.1) refl (there 0 e.0 e.1 refl) (exported_names at es (λ i name n h. there (suc i) name n h)) where
+  exported_names at (e ∷ es) there = one (node_at g e.1) refl (there 0 e refl) (exported_names at es (λ i x h. there (suc i) x h)) where
     one : (x : Option GraphNode) → node_at g e.1 ≡ x → IsSome x → map (λ (x : Name × Sort × Thing). x.0) (flat_map (export_of g at) es) ≡ map (λ (x : Name × NodeId). x.0) es
         → map (λ (x : Name × Sort × Thing). x.0) (flat_map (export_of g at) (e ∷ es)) ≡ map (λ (x : Name × NodeId). x.0) (e ∷ es)
     one None is h rest = cc
@@ -105,37 +110,14 @@ module _ (g : Graph) (o : EncodeOptions) (define : o.define_components ≡ true)
   pub items_import : (items : List Item) → Means items g o → import_names items ≡ names
   items_import items m = ap (λ (xs : List (Name × Tree)). map (λ e. e.0) xs) m.imports ∙ all_imports m.classes m.outer m.order
 
-  pub items_export : IsSound g → (items : List Item) → Means items g o → export_names items ≡ map (λ e. e.0) g.exports
+  pub items_export : IsSound g → (items : List Item) → Means items g o → export_names items ≡ written_exports g order
   items_export sound items m =
       shown_names (meaning items).exports
-      ∙ ap (λ (xs : List (Name × Sort × Thing)). map (λ e. e.0) xs) (m.exports ∙ (λ i. no_first_exports g no_first m.at m.order i ++ flat_map (export_of g m.at) (further_all g no_first i)))
-      ∙ exported_names m.at g.exports sound.exported
-
--- ---- the names of the exports, as the fields have them
-text_of_name : (a : Fields) (g : Graph) → graph_of a ≡ g → (i : ℕ) (name : String Global) (id : NodeId) → Some (name, id) ≡ slice_get a.exports.entries i → slice_get g.exports i ≡ Some (string_bytes name, id)
-text_of_name a g e i name id h = subst (λ x. slice_get x.exports i ≡ Some (string_bytes name, id)) e (entry_at a i name id h)
-
--- one more is among them
-pub name_more : (a : Fields) (g : Graph) → graph_of a ≡ g → (i : ℕ) (name : String Global) (id : NodeId) (text : Bor (List ℕ)) (old new : List (Bor (List ℕ)))
-    → Some (name, id) ≡ slice_get a.exports.entries i → text.now ≡ string_bytes name → new ≡ old ++ text ∷ []
-    → texts old ≡ map (λ e. e.0) (take i g.exports) → texts new ≡ map (λ e. e.0) (take (i + 1) g.exports)
-name_more a g e i name id text old new h named added before =
-    let x : List ℕ × NodeId = (string_bytes name, id) in
-    let next : i + 1 ≡ suc i = omega arith in
-    ap texts added
-    ∙ map-append (λ (t : Bor (List ℕ)). t.now) old (text ∷ [])
-    ∙ ap (λ xs. xs ++ text.now ∷ []) before
-    ∙ ap (λ y. map (λ (e : List ℕ × NodeId). e.0) (take i g.exports) ++ y ∷ []) named
-    ∙ sym (map-append (λ (e : List ℕ × NodeId). e.0) (take i g.exports) (x ∷ []))
-    ∙ ap (λ xs. map (λ (e : List ℕ × NodeId). e.0) xs) (sym (take_at g.exports i x (text_of_name a g e i name id h)))
-    ∙ ap (λ k. map (λ (e : List ℕ × NodeId). e.0) (take k g.exports)) (sym next)
-
--- past the last export all are
-pub names_all : (a : Fields) (g : Graph) → graph_of a ≡ g → (i : ℕ) (names : List (Bor (List ℕ))) → length a.exports.entries ≤ i
-    → texts names ≡ map (λ e. e.0) (take i g.exports) → texts names ≡ map (λ e. e.0) g.exports
-names_all a g e i names past is =
-    let many : length g.exports ≡ length a.exports.entries = ap (λ x. length x.exports) (sym e) ∙ length-map a.exports.entries (λ e. text_pair e) in
-    is ∙ ap (λ xs. map (λ (e : List ℕ × NodeId). e.0) xs) (take_all i g.exports (omega (arith, many, past)))
+      ∙ ap (λ (xs : List (Name × Sort × Thing)). map (λ e. e.0) xs) m.exports
+      ∙ map-append (λ (x : Name × Sort × Thing). x.0) (flat_map (first_export g m.at) m.order) (flat_map (export_of g m.at) (further_exports g))
+      ∙ ap (λ xs. xs ++ map (λ (x : Name × Sort × Thing). x.0) (flat_map (export_of g m.at) (further_exports g))) (first_names m.at m.order)
+      ∙ ap (λ ys. flat_map (first_name_of g) m.order ++ ys) (exported_names m.at (further_exports g) (further_there g sound))
+      ∙ ap (written_exports g) (same_order m.order m.in_order)
 
 -- ---- what is answered of names
 
@@ -159,12 +141,12 @@ named_from : (m : Merged) (p : ℕ) (es : List Entry) → map (λ (e : Name × T
 named_from m p [] = refl
 named_from m p (e ∷ es) = ap (λ ns. e.name ∷ ns) (named_from m (suc p) es)
 
-module _ (g : Graph) (sound : IsSound g) (none : DefinesNothing g) (o : EncodeOptions) (define : o.define_components ≡ true) (laws : ClassLaws) (has_classes : OrderHasClasses) (a : Aggregate) (merged : IsMergedFor g a) (order : List NodeId) (writes : Writes g.edges (is_written g) order) where
+module _ (g : Graph) (sound : IsSound g) (o : EncodeOptions) (define : o.define_components ≡ true) (laws : ClassLaws) (has_classes : OrderHasClasses) (a : Aggregate) (merged : IsMergedFor g a) (order : List NodeId) (writes : Writes g.edges (is_written g) order) where
   abbrev imports : List Name
   imports = names_of (a.merge).imports
 
   abbrev AreWrong : Fault → Type 0
-  AreWrong = IsFirstFault imports (map (λ e. e.0) g.exports)
+  AreWrong = IsFirstFault imports (written_exports g order)
 
   outer : AreOuterImports g (merged_imports a.merge)
   outer = outer_of_merge g a.merge (merged.whole).merge
@@ -173,16 +155,16 @@ module _ (g : Graph) (sound : IsSound g) (none : DefinesNothing g) (o : EncodeOp
   named = named_from a.merge 0 (a.merge).imports
 
   from_graph : (f : Fault) → IsOuterFault g o f → AreWrong f
-  from_graph f is = subst (λ ns. IsFirstFault ns (map (λ e. e.0) g.exports) f) named (now_fault g o define laws has_classes (no_first g sound none) (merged_imports a.merge) outer f is)
+  from_graph f is = subst (λ ns. IsFirstFault ns (written_exports g order) f) named (now_fault g o define laws has_classes (merged_imports a.merge) outer order writes f is)
 
   of_graph : (f : Fault) → AreWrong f → IsOuterFault g o f
-  of_graph f is = fault_now g o define laws has_classes (no_first g sound none) (merged_imports a.merge) outer order writes f (subst (λ ns. IsFirstFault ns (map (λ e. e.0) g.exports) f) (sym named) is)
+  of_graph f is = fault_now g o define laws has_classes (merged_imports a.merge) outer order writes f (subst (λ ns. IsFirstFault ns (written_exports g order) f) (sym named) is)
 
   -- items that mean the graph have these names
-  pub items_valid : IsTrue o.validate → (IsTrue o.validate → AreValid imports (map (λ e. e.0) g.exports)) → (items : List Item) → Means items g o → AreValid (import_names items) (export_names items)
+  pub items_valid : IsTrue o.validate → (IsTrue o.validate → AreValid imports (written_exports g order)) → (items : List Item) → Means items g o → AreValid (import_names items) (export_names items)
   items_valid asked valid items m =
-      subst (λ xs. AreValid xs (export_names items)) (sym (items_import g o define laws has_classes (no_first g sound none) (merged_imports a.merge) outer items m ∙ named))
-      (subst (λ ys. AreValid imports ys) (sym (items_export g o define laws has_classes (no_first g sound none) (merged_imports a.merge) outer sound items m)) (valid asked))
+      subst (λ xs. AreValid xs (export_names items)) (sym (items_import g o define laws has_classes (merged_imports a.merge) outer order writes items m ∙ named))
+      (subst (λ ys. AreValid imports ys) (sym (items_export g o define laws has_classes (merged_imports a.merge) outer order writes sound items m)) (valid asked))
 
   -- names that were looked at are not at fault
   pub names_valid : (IsTrue o.validate → (f : Fault) → AreWrong f → ⊥) → IsTrue o.validate → (f : Fault) → IsOuterFault g o f → ⊥

@@ -42,47 +42,6 @@ take_at (y ∷ ys) (suc i) x h = ap (λ r. y ∷ r) (take_at ys i x h)
 pub entry_at : (a : Fields) (i : ℕ) (name : String Global) (id : NodeId) → Some (name, id) ≡ slice_get a.exports.entries i → slice_get (graph_of a).exports i ≡ Some (string_bytes name, id)
 entry_at a i name id h = slice_get-map (λ e. text_pair e) a.exports.entries i ∙ ap (option_map (λ e. text_pair e)) (sym h)
 
--- an exported node is there
-pub exported_there : (a : Fields) → Invariant a → (i : ℕ) (name : String Global) (id : NodeId) → Some (name, id) ≡ slice_get a.exports.entries i → ContainsKey a.nodes id.0
-exported_there a v i name id h = there a.nodes.slots id.0 ((v.sound).exported i (string_bytes name) id (entry_at a i name id h))
-
--- and has an index
-pub export_noted : (a : Fields) → Invariant a → (g : Graph) → graph_of a ≡ g → (xs : List ℕ) → HasRoom g xs → (i : ℕ) (name : String Global) (id : NodeId) → Some (name, id) ≡ slice_get a.exports.entries i → id.0 < length xs
-export_noted a v g is xs room i name id h = room id (subst (λ x. IsSome (node_at x id)) is ((v.sound).exported i (string_bytes name) id (entry_at a i name id h)))
-
--- one more export is written
-one_more : (a : Fields) (f : NodeId → ℕ) (i : ℕ) (name : String Global) (id : NodeId) (node : Node) (old mid : List Item)
-    → Some (name, id) ≡ slice_get a.exports.entries i → get a.nodes id.0 ≡ Some node
-    → mid ≡ old ++ flat_map (export_item_of (graph_of a) f) (take i (graph_of a).exports)
-    → mid ++ export_item (string_bytes name) (sort_of_kind node.item_kind) (f id) ∷ [] ≡ old ++ flat_map (export_item_of (graph_of a) f) (take (i + 1) (graph_of a).exports)
-one_more a f i name id node old mid h had is =
-    let g : Graph = graph_of a in
-    let F : _ = export_item_of g f in
-    let e : List ℕ × NodeId = (string_bytes name, id) in
-    let one : F e ≡ export_item (string_bytes name) (sort_of_kind node.item_kind) (f id) ∷ [] =
-    ap (λ o. option_case o [] (λ (x : GraphNode). export_item (string_bytes name) (sort_of_kind x.item_kind) (f id) ∷ [])) (node_is a id.0 (Some node) had) in
-    let next : i + 1 ≡ suc i = omega arith in
-    ap (λ xs. mid ++ xs) (sym one)
-    ∙ ap (λ xs. xs ++ F e) is
-    ∙ flat_map_more F old (take i g.exports) e
-    ∙ ap (λ xs. old ++ flat_map F xs) (sym (take_at g.exports i e (entry_at a i name id h)))
-    ∙ ap (λ k. old ++ flat_map F (take k g.exports)) (sym next)
-
-pub export_more : (a : Fields) (g : Graph) → graph_of a ≡ g → (f : NodeId → ℕ) (i : ℕ) (name : String Global) (id : NodeId) (node : Node) (text : Name) (s : Sort) (index : ℕ) (old mid new : List Item)
-    → Some (name, id) ≡ slice_get a.exports.entries i → get a.nodes id.0 ≡ Some node → text ≡ string_bytes name → s ≡ sort_of_kind node.item_kind → index ≡ f id
-    → mid ≡ old ++ flat_map (export_item_of g f) (take i g.exports) → new ≡ mid ++ export_item text s index ∷ []
-    → new ≡ old ++ flat_map (export_item_of g f) (take (i + 1) g.exports)
-export_more a g e f i name id node text s index old mid new h had named sorted placed =
-    subst (λ x. mid ≡ old ++ flat_map (export_item_of x f) (take i x.exports) → new ≡ mid ++ export_item text s index ∷ [] → new ≡ old ++ flat_map (export_item_of x f) (take (i + 1) x.exports)) e
-    (λ is added. added ∙ (λ j. mid ++ export_item (named j) (sorted j) (placed j) ∷ []) ∙ one_more a f i name id node old mid h had is)
-
--- past the last export all are written
-pub export_all : (a : Fields) (g : Graph) → graph_of a ≡ g → (f : NodeId → ℕ) (i : ℕ) (old new : List Item) → length a.exports.entries ≤ i
-    → new ≡ old ++ flat_map (export_item_of g f) (take i g.exports) → new ≡ old ++ flat_map (export_item_of g f) g.exports
-export_all a g e f i old new past is =
-    let many : length g.exports ≡ length a.exports.entries = ap (λ x. length x.exports) (sym e) ∙ length-map a.exports.entries (λ e. text_pair e) in
-    is ∙ ap (λ xs. old ++ flat_map (export_item_of g f) xs) (take_all i g.exports (omega (arith, many, past)))
-
 -- a node that is an alias
 module _ (a : Fields) (v : Invariant a) (n : ℕ) (h : IsSomeAnd (node_at (graph_of a) (node_number n)) (λ x. x.kind ≡ graph.alias)) where
   -- an alias has a source

@@ -1,5 +1,5 @@
 -- Steps of writing arguments, instantiations and nodes.
-use Rattle.std.proofs.Common.{◌≡◌, ℕ, zero, suc, ◌+◌, ◌<◌, ◌≤◌, true, List, [], ◌∷◌, ◌++◌, length, take, drop, refl, ap, ◌∙◌, sym, subst, arith, Option, Some, None, IfSome, IfNone, IsSome, IsSomeAnd, is_some, ◌⊎◌, inl, inr, String, Global, string_bytes}
+use Rattle.std.proofs.Common.{◌≡◌, ℕ, zero, suc, ◌+◌, ◌<◌, ◌≤◌, true, false, List, [], ◌∷◌, ◌++◌, length, take, drop, refl, ap, ◌∙◌, sym, subst, arith, Option, Some, None, IfSome, IfNone, IsSome, IsSomeAnd, is_some, ◌⊎◌, inl, inr, String, Global, string_bytes}
 use Rattle.std.specs.Borrow.{Bor}
 use Rattle.std.specs.Prelude.{slice_get, slice_set, slice_index_or}
 use Rattle.std.proofs.lemmas.Option.{slice_get-get_or}
@@ -28,7 +28,7 @@ use Rattle.wac_edges.specs.Edge.{node_number}
 use Rattle.wac_nodes.specs.Graph.{Graph, GraphNode, node_at, imports_of, package_at, IsArgumentOf, IsUnsatisfied}
 use Rattle.wac_nodes.specs.Nodes.{node_of, kind_of}
 use Rattle.wac_fields.specs.Fields.{Fields, graph_of, Invariant}
-use Rattle.wac_meaning.specs.Means.{sort_of_kind, package_bytes}
+use Rattle.wac_meaning.specs.Means.{is_import, sort_of_kind, package_bytes}
 use Rattle.wac_meaning.specs.Encoding.{index_in, HasComponent, HasRoom, Progress}
 use Rattle.wac_meaning.specs.Beginning.{Places}
 use Rattle.wac_meaning.specs.Writing.{IsArgumentItem, of_node, of_import, AreArgumentItems, WritesNode, writes_instantiation, Wrote, WroteAll}
@@ -45,7 +45,6 @@ use Rattle.wac_writing.specs.Places.{IsImportedName, IsPlaceOf, ArePlaced, AreFo
 use Rattle.wac_writing.proofs.OuterLemmas.{asked_imported, asked_sort, found_at}
 use Rattle.wac_writing.proofs.SourceLemmas.{source_at}
 use Rattle.wac_writing.proofs.ImportRows.{unsatisfied_false, row_node}
-use Rattle.wac_writing.specs.Plain.{IsPlainNode}
 use Rattle.wac_nodes.proofs.NodeLemmas.{there}
 use Rattle.wac_writing.proofs.EncodingLemmas as nodes
 use Rattle.wac_writing.proofs.EncodingLemmas.{node_is}
@@ -175,14 +174,11 @@ dropped_all [] (suc i) h = refl
 dropped_all (x ∷ xs) zero h = absurd (omega arith)
 dropped_all (x ∷ xs) (suc i) h = dropped_all xs i (omega arith)
 
--- a node that is written is no definition and no import
-pub not_plain : (a : Fields) (n : ℕ) (node : Node) → get a.nodes n ≡ Some node → IsSomeAnd (node_at (graph_of a) (node_number n)) IsPlainNode → (node.kind ≡ code.Definition) ⊎ ((name : String Global) × (node.kind ≡ code.Import name)) → ⊥
-not_plain a n node had plain is = by_kind node.kind (nodes.of_node a n node IsPlainNode plain had) is where
-  by_kind : (k : NodeKind) → (kind_of k ≡ graph.instantiation) ⊎ (kind_of k ≡ graph.alias) → (k ≡ code.Definition) ⊎ ((name : String Global) × (k ≡ code.Import name)) → ⊥
-  by_kind k (inl h) (inl e) = let f : graph.definition ≡ graph.instantiation = sym (ap kind_of e) ∙ h in cc
-  by_kind k (inl h) (inr e) = let f : graph.import (string_bytes e.0) ≡ graph.instantiation = sym (ap kind_of e.1) ∙ h in cc
-  by_kind k (inr h) (inl e) = let f : graph.definition ≡ graph.alias = sym (ap kind_of e) ∙ h in cc
-  by_kind k (inr h) (inr e) = let f : graph.import (string_bytes e.0) ≡ graph.alias = sym (ap kind_of e.1) ∙ h in cc
+-- a node that is written is no import
+pub not_import : (a : Fields) (n : ℕ) (node : Node) → get a.nodes n ≡ Some node → IsSomeAnd (node_at (graph_of a) (node_number n)) (λ x. is_import x.kind ≡ false) → (name : String Global) → node.kind ≡ code.Import name → ⊥
+not_import a n node had written name is = by_kind (nodes.of_node a n node (λ x. is_import x.kind ≡ false) written had) where
+  by_kind : is_import (kind_of node.kind) ≡ false → ⊥
+  by_kind h = let f : true ≡ false = sym (ap (λ k. is_import (kind_of k)) is) ∙ h in cc
 
 pub element : (xs : List NodeId) (i : ℕ) → i < length xs → slice_get xs i ≡ Some (slice_index_or xs i (node_number 0))
 element xs i small = slice_get-get_or xs i (node_number 0) small
@@ -199,9 +195,9 @@ room_kept g xs ys same room n there = subst (λ k. n.0 < k) (sym same) (room n t
 pub index_is : (xs : List ℕ) (n x : ℕ) → n < length xs → x ≡ slice_index_or xs n x → x ≡ index_in xs (node_number n)
 index_is xs n x small e = e ∙ get_or_default_zero xs n x small
 
-pub is_there_of : (g : Graph) (n : NodeId) → IsSomeAnd (node_at g n) IsPlainNode → IsSome (node_at g n)
-is_there_of g n h = some (node_at g n) h where
-  some : (o : Option GraphNode) → IsSomeAnd o IsPlainNode → IsSome o
+pub is_there_of : (g : Graph) (n : NodeId) (P : GraphNode → Type 0) → IsSomeAnd (node_at g n) P → IsSome (node_at g n)
+is_there_of g n P h = some (node_at g n) h where
+  some : (o : Option GraphNode) → IsSomeAnd o P → IsSome o
   some None h = absurd h
   some (Some x) h = refl
 

@@ -1,4 +1,4 @@
 pub mod Places
 pub mod Refused
 pub mod Naming
-pub mod Plain
+pub mod Further

@@ -1,10 +1,12 @@
 // Definitions of types.
-use crate::compositions::function;
+use crate::compositions::{function, register};
 use std::alloc::Global;
 use std::process::Abort;
 use std::test::Fail;
-use wac_graph::types::{DefinedType, Enum, PrimitiveType, Resource, Type, ValueType};
-use wac_graph::{CompositionGraph, DefineTypeError, NodeId};
+use wac_graph::types::{DefinedType, Enum, Interface, PrimitiveType, Resource, Type, ValueType};
+use wac_graph::{
+    CompositionGraph, DefineTypeError, EncodeError, EncodeOptions, NodeId, ValidationFault,
+};
 
 const BOOL: Type = Type::Value(ValueType::Primitive(PrimitiveType::Bool));
 
@@ -156,5 +158,142 @@ fn definitions_go_with_what_they_are_made_of(rt: HostRuntime) -> Result<(), Fail
     assert!(rt; graph.get_export("b").is_none() && graph.get_export("d").is_none());
     remove(&rt, &mut graph, "a")?;
     assert!(rt; graph.node_ids().next().is_none());
+    Ok(())
+}
+
+const PREAMBLE: &str = "0061736d0d000100";
+
+const NOT_YET: &str = "the graph holds something that is not written yet";
+
+fn encode(graph: &CompositionGraph, validate: bool) -> Result<Vec<u8>, EncodeError> {
+    let options = EncodeOptions {
+        validate,
+        ..EncodeOptions::default()
+    };
+    match graph.encode(options) {
+        Err(EncodeError::OutOfMemory) => graph.encode(options),
+        answer => answer,
+    }
+}
+
+// What `encode` answers, in hexadecimal behind the preamble, or as the error's text.
+fn encoded(alloc: Global, graph: &CompositionGraph) -> Result<String, Fail> {
+    match encode(graph, false) {
+        Ok(bytes) => {
+            let text = hex::encode(alloc, &bytes)?;
+            match text.as_str().strip_prefix(PREAMBLE) {
+                Some(items) => Ok(String::from_str(alloc, items)?),
+                None => Err(Fail::new("another preamble")),
+            }
+        }
+        Err(error) => Ok(format!(in alloc; "{error}")?),
+    }
+}
+
+// Each definition stands behind those that it is made of, and a later one goes by the export's index.
+#[test]
+fn definitions_are_written_behind_what_they_are_made_of(rt: HostRuntime) -> Result<(), Fail> {
+    let alloc = rt.alloc();
+    let mut graph = CompositionGraph::new(alloc);
+    let types = diamond(alloc, &mut graph)?;
+    for (i, ty) in types.iter().enumerate().rev() {
+        define(&rt, &mut graph, NAMES[i], *ty)?;
+    }
+    let text = encoded(alloc, &graph)?;
+    assert_eq!(rt;
+        text.as_str(),
+        "0705016d0101780b07010001610300000703016b010b070100016303020007030170010b07010001620304000705016f0205030b0701000164030600"
+    );
+    Ok(())
+}
+
+// A second name of a definition is exported behind all that is written, of the definition's own index.
+#[test]
+fn a_definition_is_exported_by_further_names(rt: HostRuntime) -> Result<(), Fail> {
+    let alloc = rt.alloc();
+    let mut graph = CompositionGraph::new(alloc);
+    let alias = Type::Value(defined(
+        &mut graph,
+        DefinedType::Alias(ValueType::Primitive(PrimitiveType::Bool)),
+    )?);
+    let node = define(&rt, &mut graph, "foo", alias)?;
+    let held = graph.has_node(node);
+    assert!(rt; held);
+    graph.export(node, "bar")?;
+    let text = encoded(alloc, &graph)?;
+    assert_eq!(rt;
+        text.as_str(),
+        "0702017f0b11020003666f6f0300000003626172030100"
+    );
+    Ok(())
+}
+
+// A definition beside an import: the import stands first.
+#[test]
+fn definitions_stand_behind_imports(rt: HostRuntime) -> Result<(), Fail> {
+    let alloc = rt.alloc();
+    let mut graph = CompositionGraph::new(alloc);
+    let kind = function(alloc, &mut graph)?;
+    let held = graph.types().contains(kind.ty());
+    assert!(rt; held);
+    graph.import("x", kind)?;
+    define(&rt, &mut graph, "foo", BOOL)?;
+    let text = encoded(alloc, &graph)?;
+    assert_eq!(rt;
+        text.as_str(),
+        "070501400001000a060100017801000702017f0b09010003666f6f030100"
+    );
+    Ok(())
+}
+
+// Nodes are written by number where none waits for another, so a definition may stand between two instances.
+#[test]
+fn definitions_stand_among_instances(rt: HostRuntime) -> Result<(), Fail> {
+    let alloc = rt.alloc();
+    let mut graph = CompositionGraph::new(alloc);
+    let package = register(alloc, &mut graph, "my:package", &[], &[])?;
+    let held = graph.has_package(package);
+    assert!(rt; held);
+    graph.instantiate(package)?;
+    define(&rt, &mut graph, "foo", BOOL)?;
+    let held = graph.has_package(package);
+    assert!(rt; held);
+    graph.instantiate(package)?;
+    let text = encoded(alloc, &graph)?;
+    assert_eq!(rt;
+        text.as_str(),
+        "04080061736d0d0001000504010000000702017f0b09010003666f6f030000050401000000"
+    );
+    Ok(())
+}
+
+// A name that may not be exported is refused where validation is asked for.
+#[test]
+fn names_of_definitions_are_validated(rt: HostRuntime) -> Result<(), Fail> {
+    let alloc = rt.alloc();
+    let mut graph = CompositionGraph::new(alloc);
+    define(&rt, &mut graph, "url=<u>", BOOL)?;
+    assert!(rt; encode(&graph, false).is_ok());
+    match encode(&graph, true) {
+        Err(
+            EncodeError::ValidationFailure {
+                source: ValidationFault::NotExportable { name },
+            },
+        ) => {
+            assert_eq!(rt; name.as_str(), "url=<u>");
+            Ok(())
+        }
+        _ => Err(Fail::new("the name is not refused")),
+    }
+}
+
+#[test]
+fn definitions_of_interfaces_are_not_written(rt: HostRuntime) -> Result<(), Fail> {
+    let alloc = rt.alloc();
+    let mut graph = CompositionGraph::new(alloc);
+    let interface = Type::Interface(graph.add_interface(Interface::new(alloc, None, &[])?)?);
+    define(&rt, &mut graph, "i", interface)?;
+    let text = encoded(alloc, &graph)?;
+    assert_eq!(rt; text.as_str(), NOT_YET);
     Ok(())
 }

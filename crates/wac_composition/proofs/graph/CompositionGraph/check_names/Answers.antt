@@ -1,11 +1,11 @@
 -- A refusal names the one fault of the names of the imports and exports.
-use Rattle.std.proofs.Common.{◌≡◌, List, IsTrue, map, ap, ◌∙◌, subst}
+use Rattle.std.proofs.Common.{◌≡◌, List, IsTrue, ap, ◌∙◌, subst}
 use Rattle.wac_shapes.specs.Name.{Name}
-use Rattle.wac_edges.specs.declared.node.NodeId.{NodeId}
 use Rattle.wac_validation.specs.FirstFault.{IsFirstFault, IsRefusal}
 use Rattle.wac_validation.specs.Valid.{AreValid}
 use Rattle.wac_validation.specs.Views.{texts}
 use Rattle.wac_causes.specs.Faults.{validation_failure}
+use Rattle.wac_causes.specs.OuterNames.{written_exports}
 use Rattle.wac_causes.specs.Search.{NamesFault}
 use Rattle.wac_writing.specs.Places.{names_of}
 use Rattle.wac_writing.proofs.CauseLemmas.{exit_cause}
@@ -15,7 +15,7 @@ use Rattle.wac_composition.proofs.graph.CompositionGraph.check_names.Goals as go
 pub returns-in_err-validate-clause-fault : goal.returns-in_err-validate-clause-fault
 returns-in_err-validate-clause-fault c =
     let imports : List Name = names_of c.args.merge.now.merge.imports in
-    let names : List Name = map (λ (e : Name × NodeId). e.0) c.args.self.now.exports in
+    let names : List Name = written_exports c.args.self.now c.args.order.now in
     let first : texts c.deref.result.now ≡ imports = ap texts c.deref.ensures.value ∙ c.in_ok-imports.ensures ∙ entry_names c.imports.result.now ∙ ap names_of c.imports.ensures in
     let same : texts c.deref-2.result.now ≡ names = ap texts c.deref-2.ensures.value ∙ c.in_ok-exports.ensures in
     exit_cause (λ e. IsTrue c.args.asked × NamesFault (IsFirstFault imports names) e) c.from_residual-in_err-validate.result (validation_failure (c.in_err-validate.field-0).0) c.from_residual-in_err-validate.ensures.1 (
@@ -26,7 +26,7 @@ returns-in_err-validate-clause-fault c =
 
 pub returns-clause-valid : goal.returns-clause-valid
 returns-clause-valid c = λ asked.
-    let names : List Name = map (λ (e : Name × NodeId). e.0) c.args.self.now.exports in
+    let names : List Name = written_exports c.args.self.now c.args.order.now in
     let first : texts c.deref.result.now ≡ names_of c.args.merge.now.merge.imports = ap texts c.deref.ensures.value ∙ c.in_ok-imports.ensures ∙ entry_names c.imports.result.now ∙ ap names_of c.imports.ensures in
     let same : texts c.deref-2.result.now ≡ names = ap texts c.deref-2.ensures.value ∙ c.in_ok-exports.ensures in
     subst (λ ys. AreValid ys names) first (subst (λ xs. AreValid (texts c.deref.result.now) xs) same c.in_ok-validate.ensures)
@@ -34,5 +34,5 @@ returns-clause-valid c = λ asked.
 pub returns-clause-none : goal.returns-clause-none
 returns-clause-none c = λ asked f first.
     let imports : List Name = names_of c.args.merge.now.merge.imports in
-    let names : List Name = map (λ (e : Name × NodeId). e.0) c.args.self.now.exports in
+    let names : List Name = written_exports c.args.self.now c.args.order.now in
     (c.one_answer.ensures imports names).apart f (returns-clause-valid c asked) first

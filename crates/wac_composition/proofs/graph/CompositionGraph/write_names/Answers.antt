@@ -10,9 +10,9 @@ use Rattle.wac_composition.proofs.graph.CompositionGraph.write_names.Goals as go
 pub returns-clause-written : goal.returns-clause-written
 returns-clause-written c = (
   names_of c.in_ok-names.names.items,
-  rw c.deref.ensures.value at c.in_ok-names.ensures,
+  c.in_ok-names.ensures,
   c.in_ok-custom.ensures.appended
-      ∙ ap (λ bytes. c.args.encoder.now.builder ++ custom custom_section.component_name bytes ∷ []) (c.deref-3.ensures.value ∙ c.in_ok-content.ensures.content ∙ ap (λ names. names_bytes (names_of names)) c.deref-2.ensures.value)
-      ∙ ap (λ cs. c.args.encoder.now.builder ++ map custom_item cs)
+      ∙ ap (λ bytes. c.args.component.now ++ custom custom_section.component_name bytes ∷ []) (c.deref-2.ensures.value ∙ c.in_ok-content.ensures.content ∙ ap (λ names. names_bytes (names_of names)) c.deref.ensures.value)
+      ∙ ap (λ cs. c.args.component.now ++ map custom_item cs)
       (sym (some_names (names_of c.in_ok-names.names.items) (not_empty c.in_ok-names.names.items (subst (λ k. (k == 0) ≡ false) c.in_ok-names.names.ok.0 (sym c.is_empty.ensures ∙ c.if-is_empty.false))))),
 )

@@ -1,0 +1,40 @@
+//! The writer of definitions.
+
+ghost use Rattle.std.specs.Prelude.{◌≡◌, true, IfOk, OnOk};
+ghost use Rattle.wac_shapes.specs.declared.component.ItemKind.TheVariants as kind;
+ghost use Rattle.wac_collection.specs.Collection.{holds_type};
+ghost use Rattle.wac_meaning.specs.Definition.{definition_tree};
+ghost use Rattle.wac_meaning.specs.Importable.{IsDefinableKind};
+ghost use Rattle.wac_scopes.specs.Contents.{items_of};
+ghost use Rattle.wac_scopes.specs.Rooted.{IsRightRoot};
+ghost use Rattle.wac_importing.specs.Defined.{DefinesType};
+
+use wac_binary::BinaryFault;
+use wac_collection::{Type, Types};
+use wac_encode::TypeEncoder;
+use wac_scopes::{EncodeFault, Scope};
+
+/// Writes a definition of a held type behind what stands in the root: the types that it is made of, as far as none of them is recorded
+/// there, and the export by this name, whose type index it answers.
+///
+/// Answers `TooLarge` where it does not fit behind what stands; `OutOfMemory` where memory was refused.
+pub fn write_definition(
+    types: &Types,
+    root: &mut Scope,
+    name: &str,
+    ty: Type,
+) -> Result<u32, BinaryFault>
+    requires held { holds_type types.now ty ≡ true }
+    requires definable { IsDefinableKind types.now (kind.TypeItem ty) }
+    requires right { IsRightRoot types.now root.old }
+    ensures written { IfOk result (DefinesType (definition_tree types.now ty) name.now (items_of root.old.content) (items_of root.new.content)) }
+    ensures right { OnOk result (IsRightRoot types.now root.new) }
+{
+    types.law();
+    match TypeEncoder::new(types).definition(root, name, ty) {
+        Ok(index) => Ok(index),
+        Err(EncodeFault::Write(_)) => unreachable!(),
+        Err(EncodeFault::TooLarge) => Err(BinaryFault::TooLarge),
+        Err(EncodeFault::OutOfMemory) => Err(BinaryFault::OutOfMemory),
+    }
+}

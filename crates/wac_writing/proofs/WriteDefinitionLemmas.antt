@@ -1,0 +1,69 @@
+-- What the fields say of a definition that is written.
+use Rattle.std.proofs.Common.{◌≡◌, ℕ, true, List, [], ◌∷◌, ◌++◌, ap, ◌∙◌, sym, subst, Option, Some, None, IfSome, IsSomeAnd, String, Global, string_bytes}
+use Rattle.std.specs.Option.{option_map}
+use Rattle.slab.specs.Slab.{get}
+use Rattle.wac_shapes.specs.Name.{Name}
+use Rattle.wac_shapes.specs.Kinds.{kind_type}
+use Rattle.wac_shapes.specs.declared.component.ItemKind.{ItemKind}
+use Rattle.wac_shapes.specs.declared.component.ItemKind.TheVariants.{TypeItem}
+use Rattle.wac_shapes.specs.declared.component.«Type».{«Type» as AnyType}
+use Rattle.wac_collection.specs.Collection.{holds_type}
+use Rattle.wac_binary.specs.declared.sorts.Sort.TheVariants as sort
+use Rattle.wac_binary.specs.Items.{Item, export_item}
+use Rattle.wac_binary.specs.Indexes.{space, indexes}
+use Rattle.wac_edges.specs.declared.node.NodeId.{NodeId}
+use Rattle.wac_edges.specs.Edge.{node_number}
+use Rattle.wac_nodes.specs.declared.node.Node.{Node}
+use Rattle.wac_nodes.specs.declared.node.NodeKind.{NodeKind}
+use Rattle.wac_nodes.specs.declared.node.NodeKind.TheVariants as code
+use Rattle.wac_nodes.specs.declared.packages.PackageId.{PackageId}
+use Rattle.wac_nodes.specs.Graph as graph
+use Rattle.wac_nodes.specs.Graph.{Graph, GraphNode, node_at}
+use Rattle.wac_nodes.specs.Nodes.{node_of, kind_of}
+use Rattle.wac_nodes.specs.Sound.{IsTypeUnderName}
+use Rattle.wac_fields.specs.Fields.{Fields, graph_of, Invariant}
+use Rattle.wac_meaning.specs.Beginning.{Places}
+use Rattle.wac_meaning.specs.Definition.{definition_tree}
+use Rattle.wac_meaning.specs.Importable.{IsDefinableKind}
+use Rattle.wac_meaning.specs.Writing.{WritesType, WritesNode, writes_definition}
+use Rattle.wac_causes.specs.NotYet.{AllDefinable}
+use Rattle.wac_writing.proofs.EncodingLemmas.{node_is, of_node, if_node}
+
+pub the_definition : (k : NodeKind) → kind_of k ≡ graph.definition → k ≡ code.Definition
+the_definition code.Definition h = λ i. code.Definition
+the_definition (code.Import name) h = cc
+the_definition (code.Instantiation s) h = cc
+the_definition code.Alias h = cc
+
+-- each node's item is of a held type
+pub item_held : (a : Fields) → Invariant a → (n : ℕ) (node : Node) → get a.nodes n ≡ Some node → holds_type a.types (kind_type node.item_kind) ≡ true
+item_held a v n node had = (v.sound).held (node_number n) (node_of node) (node_is a n (Some node) had)
+
+module _ (a : Fields) (v : Invariant a) (n : ℕ) (node : Node) (had : get a.nodes n ≡ Some node) (h : IsSomeAnd (node_at (graph_of a) (node_number n)) (λ x. x.kind ≡ graph.definition)) where
+  defined : kind_of node.kind ≡ graph.definition
+  defined = of_node a n node (λ x. x.kind ≡ graph.definition) h had
+
+  it : IsTypeUnderName (node_of node)
+  it = (v.sound).definitions (node_number n) (node_of node) (node_is a n (Some node) had) defined
+
+  pub is_type : ((t : AnyType) → node.item_kind ≡ TypeItem t → ⊥) → ⊥
+  is_type other = other it.defined it.typed
+
+  pub is_named : node.first_name ≡ None → ⊥
+  is_named none = clash (ap (option_map string_bytes) (sym none) ∙ it.named) where
+    clash : None ≡ Some it.name → ⊥
+    clash e = cc
+
+  module _ (t : AnyType) (typed : node.item_kind ≡ TypeItem t) where
+    pub type_held : holds_type a.types t ≡ true
+    type_held = subst (λ k. holds_type a.types (kind_type k) ≡ true) typed (item_held a v n node had)
+
+    pub type_definable : (g : Graph) → graph_of a ≡ g → AllDefinable g → IsDefinableKind a.types (TypeItem t)
+    type_definable g view all = subst (IsDefinableKind a.types) typed (subst AllDefinable (sym view) all (node_number n) (node_of node) (node_is a n (Some node) had) defined)
+
+    pub definition_added : (places : Places) (name : String Global) (text : Name) → node.first_name ≡ Some name → text ≡ string_bytes name → (f : NodeId → ℕ) (components : List (PackageId × ℕ)) (items mid items' : List Item) (k i : ℕ)
+        → WritesType (definition_tree a.types t) items mid k → items' ≡ mid ++ export_item text sort.«Type» k ∷ [] → i ≡ indexes (space sort.«Type») mid
+        → IfSome (node_at (graph_of a) (node_number n)) (λ x. WritesNode (graph_of a) places (node_number n) x f components components items items' i)
+    definition_added places name text first is f components items mid items' k i writes exported counted =
+        if_node a n node (λ x. WritesNode (graph_of a) places (node_number n) x f components components items items' i) had
+        (writes_definition t text k mid defined typed (ap (option_map string_bytes) first ∙ ap Some (sym is)) (λ j. components) writes exported counted)
