@@ -58,6 +58,8 @@ fn main(rt: HostRuntime) -> Result<ExitCode> {
     if measure(&rt, word.as_str())? {
         return Ok(ExitCode::SUCCESS);
     }
-    println!(rt; "names, comparing, merging, writing, chain, fan, aliases, plug, shared, churn or wide")?;
+    println!(rt;
+        "names, comparing, merging, writing, chain, fan, aliases, plug, shared, churn or wide"
+    )?;
     Ok(ExitCode::from(2))
 }
