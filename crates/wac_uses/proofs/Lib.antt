@@ -6,3 +6,4 @@ pub mod UsingRight
 pub mod ImportsUsing
 pub mod Alike
 pub mod AlikeMerges
+pub mod UsesExample
