@@ -1,5 +1,5 @@
 //! The merged imports of entries that have a merge, and the collection of their types.
-ghost use Rattle.std.specs.Prelude.{Contains, List, Some, length, map, slice_get, string_bytes, true, ℕ, ◌<◌, ◌≡◌, ◌↔◌, [], IfOk, OnOk};
+ghost use Rattle.std.specs.Prelude.{Contains, List, Some, length, map, slice_get, string_bytes, true, ℕ, ◌<◌, ◌≡◌, ◌↔◌, IfOk, OnOk};
 ghost use Rattle.std.specs.Option.{option_map};
 ghost use Rattle.wac_collection.specs.Collection.{HasInterface, holds_type};
 ghost use Rattle.wac_shapes.specs.Kinds.{kind_type};
@@ -10,7 +10,7 @@ ghost use Rattle.wac_entries.specs.Agreement.{AllMembersAgree};
 ghost use Rattle.wac_terms.specs.Became.{AreFresh};
 ghost use Rattle.wac_entries.specs.Bindings.{AreBindings, AreHeld};
 ghost use Rattle.wac_terms.specs.ClassOrder.{IsWrittenOrder};
-ghost use Rattle.wac_entries.specs.Classes.{AreClasses, Entry as AnEntry, by_names, class_names, same_class};
+ghost use Rattle.wac_entries.specs.Classes.{AreClasses, Entry as AnEntry, by_names, class_names, is_asked, same_class};
 ghost use Rattle.wac_terms.specs.Merge.{IsMerge, import_entries, is_on_track};
 ghost use Rattle.wac_unions.specs.MergedScope.{BindsAsClasses};
 ghost use Rattle.wac_unions.specs.OneId.{AreMadeOnce, HasOneIdEach};
@@ -26,6 +26,7 @@ ghost use Rattle.wac_terms.specs.declared.parts.Part.{Part as APart};
 ghost use Rattle.wac_terms.specs.declared.parts.Union.{Union as AUnion};
 ghost use Rattle.wac_values.specs.NamedTypes.{AreClassed, AreNamedAlike, AreUnited, IsOneType};
 ghost use Rattle.wac_uses.specs.KeptUses.{KeepsUses};
+ghost use Rattle.wac_uses.specs.Using.{AreUsing, UsesNone};
 ghost use Rattle.wac_names.specs.Reading.{read_track};
 ghost use Rattle.wac_names.specs.Views.{track_view};
 
@@ -452,15 +453,36 @@ impl Merged {
             order,
         )?;
         merged.law();
+        let merge = Merged::using(alloc, types, entries, classes, merged, &bare)?;
+        merge.types.law();
+        trees_are_whole(&merge.types);
+        Ok(merge)
+    }
+
+    /// Imports that use none of each other, with what they use.
+    fn using(
+        alloc: Global,
+        types: &Types,
+        entries: &[Entry],
+        classes: &Classes,
+        mut merged: Types,
+        bare: &Named<ItemKind>,
+    ) -> Result<Merged, AllocError>
+        requires classes { AreClasses by_names entries.now classes.now.numbers.items classes.now.positions.items classes.now.names }
+        requires asked { AreHeld types.now entries.now }
+        requires held { AreHeld merged (import_entries bare.now) }
+        requires named { (p : ℕ) (e : AnEntry) → slice_get (import_entries bare.now) p ≡ Some e → is_asked entries.now e.name ≡ true }
+        requires none { (p : ℕ) (e : AnEntry) → slice_get (import_entries bare.now) p ≡ Some e → UsesNone merged e.kind }
+        ensures extended { IfOk result (λ m. IsExtended merged m.types) }
+        ensures using { IfOk result (λ m. AreUsing by_names types.now entries.now m.types (import_entries bare.now) m.imports) }
+    {
         let asked = Asked {
             alloc,
             types,
             entries,
             classes,
         };
-        let imports = imports_with_uses(&asked, &mut merged, &bare)?;
-        merged.law();
-        trees_are_whole(&merged);
+        let imports = imports_with_uses(&asked, &mut merged, bare)?;
         Ok(Merged {
             types: merged,
             imports,

@@ -21,9 +21,10 @@ use Rattle.wac_entries.specs.Classes.{Entry, by_names, class_names, is_instance,
 use Rattle.wac_entries.proofs.Lists.{some-at}
 use Rattle.wac_terms.specs.Merge.{IsListed, IsMerge, bound_resource, import_under, own_resource}
 use Rattle.wac_terms.proofs.Found.{one_some}
-use Rattle.wac_uses.specs.KeptUses.{KeepsUses}
+use Rattle.wac_uses.specs.KeptUses.{AreKept, KeepsUses, instances, uses_of}
 use Rattle.wac_uses.specs.Using.{AreUsing, IsKindUsing, IsWithUses, uses_among}
 use Rattle.wac_uses.proofs.Alike.{alike-binds, alike-cases, alike-instance, alike-named, alike-placed, alike-resource}
+use Rattle.wac_uses.proofs.FirstKept.{kept-first}
 use Rattle.wac_uses.proofs.ImportsUsing.{using-held}
 
 -- entries of the same names, each an item and the same with uses
@@ -154,7 +155,9 @@ module _ (c : Collection) (es : List Entry) (m : Collection) (bare imports : Lis
       let a = bare-at p e at in
       let name = are.names p a.0 e a.1 at in
       let f = uses-at p a.0 in
-      by f (a.0).kind e.kind (are.kinds p a.0 e a.1 at) is ∙ ap (λ (n : Name). uses_among by_names c es m (take p imports) n it.exports) (sym name) where
+      let us = uses_of c (instances (members by_names es e.name)) in
+      let uses = by f (a.0).kind e.kind (are.kinds p a.0 e a.1 at) is ∙ ap (λ (n : Name). uses_among by_names c es m (take p imports) n it.exports) (sym name) in
+      subst (AreKept by_names c es m (take p imports) it.exports us) (sym uses) (kept-first by_names c es m (take p imports) it.exports us) where
         by : (f : List (Name × ItemKind) → List (Name × UsedType)) (k l : ItemKind) → IsKindUsing m f k l → l ≡ kind.Instance i → it.uses ≡ f it.exports
         by f = alike-cases m f (λ k l. l ≡ kind.Instance i → it.uses ≡ f it.exports) one (λ k other same. absurd (false≢true (sym other ∙ ap is_instance same))) where
           interface-of : InterfaceId → ItemKind → InterfaceId

@@ -28,8 +28,8 @@ use Rattle.wac_entries.proofs.Places.{exports_held, held_at}
 use Rattle.wac_terms.specs.Merge.{import_under, listed_resource}
 use Rattle.wac_terms.specs.Renaming.{IsExtended}
 use Rattle.wac_terms.proofs.Found.{find_at, no_some, some_same}
-use Rattle.wac_uses.specs.KeptUses.{imported_interface, instance_of, kept_use, kept_uses, lists_resource, may_use, with_use}
-use Rattle.wac_uses.specs.Using.{IsWithUses, MayHave}
+use Rattle.wac_uses.specs.KeptUses.{imported_interface, instance_of, lists_resource}
+use Rattle.wac_uses.specs.Using.{IsWithUses, MayHave, kept_use, kept_uses, may_use, with_use}
 
 length-kept : {A : Type 0} (xs ys : List A) → ((i : ℕ) (x : A) → slice_get xs i ≡ Some x → slice_get ys i ≡ Some x) → length xs ≤ length ys
 length-kept xs ys kept = by (length xs) refl where

@@ -19,8 +19,8 @@ use Rattle.wac_entries.proofs.Opening.{below}
 use Rattle.wac_terms.specs.Merge.{import_entries, import_under}
 use Rattle.wac_terms.proofs.OwnResources.{import-found}
 use Rattle.wac_terms.proofs.Found.{at-filter, no_some, some_same}
-use Rattle.wac_uses.specs.KeptUses.{imported_interface, instance_of, instances, kept_use, kept_uses, may_use, uses_of, with_instance, with_use}
-use Rattle.wac_uses.specs.Using.{AreInterfaces}
+use Rattle.wac_uses.specs.KeptUses.{imported_interface, instance_of, instances, uses_of, with_instance}
+use Rattle.wac_uses.specs.Using.{AreInterfaces, kept_use, kept_uses, may_use, with_use}
 
 all-push : {A : Type 0} (P : A → Type 0) (xs : List A) (x : A) → AllByRecursion P xs → P x → AllByRecursion P (xs ++ x ∷ [])
 all-push P [] x all h = (h, tt)

@@ -1,7 +1,9 @@
 pub mod ClassFolds
 pub mod Growing
 pub mod KeptUses
+pub mod FirstKept
 pub mod UsingRight
 pub mod ImportsUsing
 pub mod Alike
 pub mod AlikeMerges
+pub mod UsesExample

@@ -24,8 +24,8 @@ use Rattle.wac_terms.specs.Merge.{listed_resource}
 use Rattle.wac_entries.specs.Classes.{Entry, NameRules}
 use Rattle.wac_entries.proofs.Places.{exports_held}
 use Rattle.wac_terms.proofs.Found.{find_at, no_some, one_some}
-use Rattle.wac_uses.specs.KeptUses.{kept_uses, lists_resource, may_use}
-use Rattle.wac_uses.specs.Using.{MayHave}
+use Rattle.wac_uses.specs.KeptUses.{lists_resource}
+use Rattle.wac_uses.specs.Using.{MayHave, kept_uses, may_use}
 use Rattle.wac_uses.proofs.KeptUses.{kept-may}
 
 -- ---- nothing stands against it

@@ -1,5 +1,5 @@
 -- What the imports of a finished merge use of those before them.
-use Rattle.std.specs.Prelude.{ℕ, ◌≡◌, ◌&&◌, Bool, false, not, is_some, if◌then◌else◌, List, [], ◌∷◌, ◌++◌, take, fold, Option, Some, None, slice_get}
+use Rattle.std.specs.Prelude.{ℕ, ◌≡◌, ◌<◌, ◌↔◌, Bool, true, false, is_some, List, [], ◌∷◌, ◌++◌, take, Option, Some, None, slice_get}
 use Rattle.wac_shapes.specs.Name.{Name, find_name, option_case}
 use Rattle.wac_shapes.specs.declared.component.Interface.{Interface}
 use Rattle.wac_shapes.specs.declared.component.InterfaceId.{InterfaceId}
@@ -38,25 +38,41 @@ imported_interface rules c es imports i = option_case (item_at c.interfaces i.0)
 abbrev pub lists_resource : Collection → List (Name × ItemKind) → Name → Bool
 lists_resource m listed n = option_case (find_name listed n) false (λ k. is_some (listed_resource m k))
 
--- an interface that lists these items may use a type: none of its own resources has the name, and nothing stands against it
-abbrev pub may_use : Collection → List (Name × ItemKind) → Name × UsedType → Bool
-may_use m listed e = not (lists_resource m listed e.0) && (is_used_by_id m e.1 && (is_there m e && is_listed_as_used m listed e))
+-- the same use, of another interface
+abbrev pub of_interface : InterfaceId → UsedType → UsedType
+of_interface i u = record { interface = i; name = u.name }
 
--- a use as it is kept: of what the class of the used interface is imported as, under the name there; none where that is not among these imports, or may not be used
-abbrev pub kept_use : NameRules → Collection → List Entry → Collection → List Entry → List (Name × ItemKind) → Name × UsedType → Option UsedType
-kept_use rules c es m imports listed e = option_case (imported_interface rules c es imports e.1.interface) None (λ i.
-    if may_use m listed (e.0, record { interface = i; name = e.1.name }) then Some (record { interface = i; name = e.1.name }) else None)
+-- Why an import that lists these items does not keep a use under a name: the class of the used interface is not imported before it; a resource of its own has the name; that class has no id, or lists no type there; or what is listed under the name is another type.
+pub data IsLeftOut (rules : NameRules) (c : Collection) (es : List Entry) (m : Collection) (imports : List Entry) (listed : List (Name × ItemKind)) (n : Name) (u : UsedType) : Type 0 where
+  not_before : imported_interface rules c es imports u.interface ≡ None → IsLeftOut rules c es m imports listed n u
+  hides : lists_resource m listed n ≡ true → IsLeftOut rules c es m imports listed n u
+  has_no_id : (i : InterfaceId) → imported_interface rules c es imports u.interface ≡ Some i → is_used_by_id m (of_interface i u) ≡ false → IsLeftOut rules c es m imports listed n u
+  lists_none : (i : InterfaceId) → imported_interface rules c es imports u.interface ≡ Some i → is_there m (n, of_interface i u) ≡ false → IsLeftOut rules c es m imports listed n u
+  differs : (i : InterfaceId) → imported_interface rules c es imports u.interface ≡ Some i → is_there m (n, of_interface i u) ≡ true → is_listed_as_used m listed (n, of_interface i u) ≡ false → IsLeftOut rules c es m imports listed n u
 
--- uses, and one more where there is one and none of its name
-abbrev pub with_use : List (Name × UsedType) → Name → Option UsedType → List (Name × UsedType)
-with_use us n None = us
-with_use us n (Some u) = if is_some (find_name us n) then us else us ++ (n, u) ∷ []
+-- A use is kept as one of what the class of the used interface is imported as, under the name there: an interface with an id, which lists a type there, and what is listed under the name, where something is, is that type, and no resource of its own.
+pub record IsKept (rules : NameRules) (c : Collection) (es : List Entry) (m : Collection) (imports : List Entry) (listed : List (Name × ItemKind)) (n : Name) (u v : UsedType) : Type 0 where
+  pub before : imported_interface rules c es imports u.interface ≡ Some v.interface
+  pub named : v.name ≡ u.name
+  pub own : lists_resource m listed n ≡ false
+  pub identified : is_used_by_id m v ≡ true
+  pub there : is_there m (n, v) ≡ true
+  pub alike : is_listed_as_used m listed (n, v) ≡ true
 
--- of uses those that are kept, each name once, in order of first appearance
-abbrev pub kept_uses : NameRules → Collection → List Entry → Collection → List Entry → List (Name × ItemKind) → List (Name × UsedType) → List (Name × UsedType)
-kept_uses rules c es m imports listed us = fold (λ kept e. with_use kept e.0 (kept_use rules c es m imports listed e)) [] us
+-- the use at a position is kept as this under its name, and those of the name before it are left out
+pub record IsFirstKept (rules : NameRules) (c : Collection) (es : List Entry) (m : Collection) (imports : List Entry) (listed : List (Name × ItemKind)) (us : List (Name × UsedType)) (k : ℕ) (n : Name) (v : UsedType) : Type 0 where
+  pub use_there : UsedType
+  pub at : slice_get us k ≡ Some (n, use_there)
+  pub kept : IsKept rules c es m imports listed n use_there v
+  pub first : (j : ℕ) (u : UsedType) → j < k → slice_get us j ≡ Some (n, u) → IsLeftOut rules c es m imports listed n u
+
+-- Of uses these are kept: under each name the first that can be, in order of these.
+pub record AreKept (rules : NameRules) (c : Collection) (es : List Entry) (m : Collection) (imports : List Entry) (listed : List (Name × ItemKind)) (us kept : List (Name × UsedType)) : Type 0 where
+  pub each : (n : Name) (v : UsedType) → ((p : ℕ) × (slice_get kept p ≡ Some (n, v))) ↔ ((k : ℕ) × IsFirstKept rules c es m imports listed us k n v)
+  pub ordered : (p q k l : ℕ) (n o : Name) (v w : UsedType) → slice_get kept p ≡ Some (n, v) → slice_get kept q ≡ Some (o, w)
+      → IsFirstKept rules c es m imports listed us k n v → IsFirstKept rules c es m imports listed us l o w → p < q → k < l
 
 -- An import that is an instance uses what the members of its class use, of the imports before it.
 abbrev pub KeepsUses : NameRules → Collection → List Entry → Merged → Type 0
 KeepsUses rules c es m = (p : ℕ) (e : Entry) (i : InterfaceId) (it : Interface) → slice_get m.imports p ≡ Some e → e.kind ≡ kind.Instance i → item_at m.types.interfaces i.0 ≡ Some it
-    → it.uses ≡ kept_uses rules c es m.types (take p m.imports) it.exports (uses_of c (instances (members rules es e.name)))
+    → AreKept rules c es m.types (take p m.imports) it.exports (uses_of c (instances (members rules es e.name))) it.uses

@@ -1,6 +1,6 @@
 -- Imports whose interfaces use no other, and the same with what they use. Private functions alone cite this.
-use Rattle.std.specs.Prelude.{ℕ, ◌≡◌, List, [], fold, length, take, Option, Some, None, slice_get}
-use Rattle.wac_shapes.specs.Name.{Name}
+use Rattle.std.specs.Prelude.{ℕ, ◌≡◌, ◌&&◌, Bool, not, is_some, if◌then◌else◌, List, [], ◌∷◌, ◌++◌, fold, length, take, Option, Some, None, slice_get}
+use Rattle.wac_shapes.specs.Name.{Name, find_name, option_case}
 use Rattle.wac_shapes.specs.declared.component.Interface.{Interface}
 use Rattle.wac_shapes.specs.declared.component.InterfaceId.{InterfaceId}
 use Rattle.wac_shapes.specs.declared.component.ResourceId.{ResourceId}
@@ -9,10 +9,10 @@ use Rattle.wac_shapes.specs.declared.component.ItemKind.{ItemKind}
 use Rattle.wac_shapes.specs.declared.component.ItemKind.TheVariants as kind
 use Rattle.wac_collection.specs.Collection.{Collection, HasInterface, item_at}
 use Rattle.wac_collection.specs.Bound.{own_name}
-use Rattle.wac_collection.specs.Uses.{interface_fault}
+use Rattle.wac_collection.specs.Uses.{interface_fault, is_listed_as_used, is_there, is_used_by_id}
 use Rattle.wac_entries.specs.Classes.{AreClasses, Entry, NameRules, by_names, class_names, members}
 use Rattle.wac_terms.specs.Merge.{import_entries}
-use Rattle.wac_uses.specs.KeptUses.{instances, kept_use, kept_uses, uses_of, with_use}
+use Rattle.wac_uses.specs.KeptUses.{imported_interface, instances, lists_resource, of_interface, uses_of}
 use Rattle.wac_uses.specs.declared.uses.Asked.{Asked}
 use Rattle.wac_uses.specs.declared.uses.Place.{Place}
 
@@ -23,6 +23,24 @@ HasClasses a = AreClasses by_names a.entries.now a.classes.now.numbers.items a.c
 -- interfaces of a collection
 abbrev pub AreInterfaces : Collection → List InterfaceId → Type 0
 AreInterfaces c is = (j : ℕ) (i : InterfaceId) → slice_get is j ≡ Some i → HasInterface c i
+
+-- an interface that lists these items may use a type: none of its own resources has the name, and nothing stands against it
+abbrev pub may_use : Collection → List (Name × ItemKind) → Name × UsedType → Bool
+may_use m listed e = not (lists_resource m listed e.0) && (is_used_by_id m e.1 && (is_there m e && is_listed_as_used m listed e))
+
+-- a use as it is kept: of what the class of the used interface is imported as, under the name there; none where that is not among these imports, or may not be used
+abbrev pub kept_use : NameRules → Collection → List Entry → Collection → List Entry → List (Name × ItemKind) → Name × UsedType → Option UsedType
+kept_use rules c es m imports listed e = option_case (imported_interface rules c es imports e.1.interface) None (λ i.
+    if may_use m listed (e.0, of_interface i e.1) then Some (of_interface i e.1) else None)
+
+-- uses, and one more where there is one and none of its name
+abbrev pub with_use : List (Name × UsedType) → Name → Option UsedType → List (Name × UsedType)
+with_use us n None = us
+with_use us n (Some u) = if is_some (find_name us n) then us else us ++ (n, u) ∷ []
+
+-- of uses those that are kept, each name once, in order of first appearance
+abbrev pub kept_uses : NameRules → Collection → List Entry → Collection → List Entry → List (Name × ItemKind) → List (Name × UsedType) → List (Name × UsedType)
+kept_uses rules c es m imports listed us = fold (λ kept e. with_use kept e.0 (kept_use rules c es m imports listed e)) [] us
 
 -- a use as it is kept at a place
 abbrev pub use_in : Asked → Place → Name × UsedType → Option UsedType

@@ -9,8 +9,8 @@ ghost use Rattle.wac_entries.specs.Bindings.{AreHeld};
 ghost use Rattle.wac_entries.specs.Classes.{AreClasses, Entry as AnEntry, by_names, is_asked};
 ghost use Rattle.wac_terms.specs.Merge.{import_entries};
 ghost use Rattle.wac_terms.specs.Renaming.{IsExtended};
-ghost use Rattle.wac_uses.specs.KeptUses.{kept_uses, uses_of, with_instance};
-ghost use Rattle.wac_uses.specs.Using.{AreInterfaces, AreUsers, AreUsing, HasClasses, IsKindUsing, IsWithUses, MayHave, UsesNone};
+ghost use Rattle.wac_uses.specs.KeptUses.{uses_of, with_instance};
+ghost use Rattle.wac_uses.specs.Using.{AreInterfaces, AreUsers, AreUsing, HasClasses, IsKindUsing, IsWithUses, MayHave, UsesNone, kept_uses};
 
 use crate::uses::{Asked, Place, copied, kept_uses};
 use std::alloc::{AllocError, Global};

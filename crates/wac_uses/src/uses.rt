@@ -6,8 +6,8 @@ ghost use Rattle.wac_collection.specs.Uses.{same_type_item};
 ghost use Rattle.wac_shapes.specs.declared.component.ItemKind.TheVariants as kind_of;
 ghost use Rattle.wac_entries.specs.Classes.{AreClasses, by_names, imported_as};
 ghost use Rattle.wac_terms.specs.Merge.{import_entries, listed_resource};
-ghost use Rattle.wac_uses.specs.KeptUses.{imported_interface, lists_resource, may_use, uses_of, with_use};
-ghost use Rattle.wac_uses.specs.Using.{AreInterfaces, HasClasses, keep_from, use_in};
+ghost use Rattle.wac_uses.specs.KeptUses.{imported_interface, lists_resource, uses_of};
+ghost use Rattle.wac_uses.specs.Using.{AreInterfaces, HasClasses, keep_from, may_use, use_in, with_use};
 
 use std::alloc::{AllocError, Global};
 use wac_collection::{

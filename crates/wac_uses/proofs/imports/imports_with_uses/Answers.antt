@@ -11,8 +11,8 @@ use Rattle.wac_collection.specs.Collection.{holds_type}
 use Rattle.wac_entries.specs.Bindings.{AreHeld}
 use Rattle.wac_entries.specs.Classes.{by_names, members}
 use Rattle.wac_terms.specs.Merge.{import_entries}
-use Rattle.wac_uses.specs.KeptUses.{instances, kept_uses, uses_of}
-use Rattle.wac_uses.specs.Using.{AreUsing, IsKindUsing, uses_among}
+use Rattle.wac_uses.specs.KeptUses.{instances, uses_of}
+use Rattle.wac_uses.specs.Using.{AreUsing, IsKindUsing, kept_uses, uses_among}
 use Rattle.wac_uses.proofs.Growing.{extended-twice, holds-kept}
 use Rattle.wac_uses.proofs.KeptUses.{members-held}
 use Rattle.wac_uses.proofs.ImportsUsing.{entries-push, entry-at, held-push, none-still, still-held, unnamed, users-at, using-held, using-next}

@@ -5,7 +5,8 @@ use Rattle.wac_entries.specs.Classes.{by_names}
 use Rattle.wac_entries.proofs.Walking.{if-ok}
 use Rattle.wac_terms.specs.Merge.{import_entries}
 use Rattle.wac_terms.proofs.Found.{one_some}
-use Rattle.wac_uses.specs.KeptUses.{kept_uses, uses_of}
+use Rattle.wac_uses.specs.KeptUses.{uses_of}
+use Rattle.wac_uses.specs.Using.{kept_uses}
 use Rattle.wac_uses.proofs.UsingRight.{may-have}
 use Rattle.wac_uses.proofs.imports.uses_at.Goals as goal
 

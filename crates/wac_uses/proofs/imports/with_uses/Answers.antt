@@ -9,8 +9,8 @@ use Rattle.wac_entries.specs.Classes.{by_names}
 use Rattle.wac_entries.proofs.Opening.{below}
 use Rattle.wac_entries.proofs.Places.{exports_held}
 use Rattle.wac_terms.specs.Merge.{import_entries}
-use Rattle.wac_uses.specs.KeptUses.{kept_uses, uses_of}
-use Rattle.wac_uses.specs.Using.{IsKindUsing, UsesNone}
+use Rattle.wac_uses.specs.KeptUses.{uses_of}
+use Rattle.wac_uses.specs.Using.{IsKindUsing, UsesNone, kept_uses}
 use Rattle.wac_uses.proofs.Growing.{interface-there, item-kept, uses-still}
 use Rattle.wac_uses.proofs.ImportsUsing.{empty-list, other-kind, with-none, with-those}
 use Rattle.wac_uses.proofs.imports.with_uses.Goals as goal

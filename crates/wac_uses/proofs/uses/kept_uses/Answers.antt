@@ -7,8 +7,8 @@ use Rattle.wac_shapes.specs.declared.component.Interface.{Interface}
 use Rattle.wac_shapes.specs.declared.component.InterfaceId.{InterfaceId}
 use Rattle.wac_shapes.specs.declared.component.UsedType.{UsedType}
 use Rattle.wac_entries.proofs.Places.{uses_held}
-use Rattle.wac_uses.specs.KeptUses.{uses_of, with_use}
-use Rattle.wac_uses.specs.Using.{keep_from, use_in}
+use Rattle.wac_uses.specs.KeptUses.{uses_of}
+use Rattle.wac_uses.specs.Using.{keep_from, use_in, with_use}
 use Rattle.wac_uses.proofs.KeptUses.{uses-next}
 use Rattle.wac_uses.proofs.uses.kept_uses.Goals as goal
 

@@ -1,4 +1,5 @@
-use Rattle.std.proofs.Common.{List, subst, sym, ◌∙◌}
+use Rattle.std.proofs.Common.{◌≡◌, List, ap, subst, sym, ◌∙◌}
+use Rattle.wac_collection.specs.Collection.{IsWellFormed}
 use Rattle.wac_terms.specs.Became.{AreBoundParts, AreFresh}
 use Rattle.wac_terms.specs.Merge.{import_entries}
 use Rattle.wac_terms.specs.Renaming.{IsExtended}
@@ -34,8 +35,8 @@ write_imports-requires-clause-known c =
     subst (λ (xs : List Union). AreFresh t xs c.args.bindings.now c.in_ok-fresh.fresh c.add_fresh.new.merged) c.as_slice-2.ensures.value c.in_ok-fresh.ensures.fresh in
     can-rename-all t c.add_fresh.new.merged c.args.entries.now u.roots us _ c.law.ensures c.uses_law.ensures begins c.requires.bindings u.rooted.counted unions fresh c.requires.held c.requires.agreed bound
 
-pub imports_with_uses-requires-clause-held : goal.imports_with_uses-requires-clause-held
-imports_with_uses-requires-clause-held c =
+pub using-requires-clause-held : goal.using-requires-clause-held
+using-requires-clause-held c =
     let t = c.args.types.now in
     let es = c.args.entries.now in
     let bs = c.args.bindings.now in
@@ -53,8 +54,8 @@ imports_with_uses-requires-clause-held c =
     c.in_ok-unions.ensures.listed c.requires.bindings fresh c.requires.held (agreed-pairs t es c.requires.agreed) c.requires.written c.requires.each c.requires.once in
     imports-held t m es u.roots us ps bs f w.ids w.ws c.args.order.now bare first
 
-pub imports_with_uses-requires-clause-named : goal.imports_with_uses-requires-clause-named
-imports_with_uses-requires-clause-named c =
+pub using-requires-clause-named : goal.using-requires-clause-named
+using-requires-clause-named c =
     let t = c.args.types.now in
     let es = c.args.entries.now in
     let bs = c.args.bindings.now in
@@ -72,8 +73,8 @@ imports_with_uses-requires-clause-named c =
     c.in_ok-unions.ensures.listed c.requires.bindings fresh c.requires.held (agreed-pairs t es c.requires.agreed) c.requires.written c.requires.each c.requires.once in
     imports-asked t m es u.roots us ps bs f w.ids w.ws c.args.order.now bare first
 
-pub imports_with_uses-requires-clause-none : goal.imports_with_uses-requires-clause-none
-imports_with_uses-requires-clause-none c =
+pub using-requires-clause-none : goal.using-requires-clause-none
+using-requires-clause-none c =
     let t = c.args.types.now in
     let es = c.args.entries.now in
     let bs = c.args.bindings.now in
@@ -108,21 +109,24 @@ returns c =
     let fresh : AreFresh t us bs f started = subst (λ (xs : List Union). AreFresh t xs bs f started) c.as_slice-2.ensures.value c.in_ok-fresh.ensures.fresh in
     let first = first-assembled t started m es us ps bs f c.args.order.now bare u w c.law.ensures c.law-2.ensures c.law-3.ensures c.uses_law.ensures begins c.write_imports.ensures.extended
     c.in_ok-unions.ensures.listed c.requires.bindings fresh c.requires.held (agreed-pairs t es c.requires.agreed) c.requires.written c.requires.each c.requires.once in
-    let more = c.imports_with_uses.new.merged in
-    let grown = c.imports_with_uses.ensures.extended in
-    let imports = import_entries c.in_ok-imports.imports in
-    let all = still-assembled t m more grown c.law-3.ensures c.law-4.ensures es us ps bs f c.args.order.now bare u.roots w.ids w.ws first in
+    let more = c.in_ok-merge.merge.types in
+    let same : c.merge.inside.types ≡ more = ap (λ x. x.types) c.merge.view_is in
+    let well = subst IsWellFormed same c.law-4.ensures in
+    let grown = c.in_ok-merge.ensures.extended in
+    let imports = c.in_ok-merge.merge.imports in
+    let all = still-assembled t m more grown c.law-3.ensures well es us ps bs f c.args.order.now bare u.roots w.ids w.ws first in
     let named = c.in_ok-named.named in
     let positions = c.args.classes.now.positions.items in
-    let o = still-once t m more grown c.law-3.ensures c.law-4.ensures es us ps bs f c.args.order.now bare named positions c.in_ok-bare.ensures.once in
-    let using = c.in_ok-imports.ensures.using in
-    let deep : AreDeep t more = record {
+    let o = still-once t m more grown c.law-3.ensures well es us ps bs f c.args.order.now bare named positions c.in_ok-bare.ensures.once in
+    let using = c.in_ok-merge.ensures.using in
+    let whole : AreDeep t c.merge.inside.types = record {
       placed = c.trees_are_whole.ensures.placed;
       merged_placed = c.trees_are_whole-2.ensures.placed;
       bound = c.trees_are_whole.ensures.bound;
       named = c.trees_are_whole.ensures.named;
       merged_named = c.trees_are_whole-2.ensures.named;
     } in
+    let deep = subst (AreDeep t) same whole in
     record {
       merged = using-merge t es more bare imports using (merge-is t more es u.roots us ps bs f w.ids w.ws c.args.order.now bare all deep c.requires.agreed);
       bound = using-binds t es more bare imports using (bound-is t more es u.roots us ps bs f w.ids w.ws c.args.order.now bare all);
