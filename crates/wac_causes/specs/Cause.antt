@@ -10,6 +10,7 @@ use Rattle.wac_agreement.specs.Faults.{Disagrees, HasNoCircle, UseEachOther}
 use Rattle.wac_terms.specs.NoDisagreement.{HasNoDisagreement}
 use Rattle.wac_agreement.specs.declared.fault.MergeFault.{MergeFault}
 use Rattle.wac_agreement.specs.declared.fault.MergeFault.TheVariants as merge
+use Rattle.wac_scopes.specs.declared.fault.WriteFault.{WriteFault}
 use Rattle.wac_nodes.specs.declared.options.EncodeOptions.{EncodeOptions}
 use Rattle.wac_causes.specs.declared.errors.EncodeError.{EncodeError}
 use Rattle.wac_causes.specs.declared.errors.EncodeError.TheVariants as error
@@ -20,6 +21,7 @@ use Rattle.wac_edges.specs.Order.{IsOnCycle, IsLowestOnCycle}
 use Rattle.wac_nodes.specs.Asked.{Entry}
 use Rattle.wac_nodes.specs.Entries.{asked_entries, to_merge}
 use Rattle.wac_causes.specs.NotYet.{IsNotYet}
+use Rattle.wac_causes.specs.TypeFaults.{IsTypeFault, IsEntryFault, wanted_entries}
 use Rattle.wac_causes.specs.OuterNames.{IsOuterFault}
 use Rattle.wac_validation.specs.FirstFault.{Fault, fault_view}
 
@@ -99,6 +101,7 @@ pub data Cause : Type 0 where
   implicit_merge : Name → NodeId → NodeId → ℕ → ℕ → Name → Cause
   explicit_merge : Name → NodeId → NodeId → Cause
   import_circle : Name → Cause
+  unwritable : NodeId → WriteFault → Cause
   not_yet : Cause
   invalid : Fault → Cause
 
@@ -108,6 +111,7 @@ pub data CauseKind : Type 0 where
   a_conflict : CauseKind
   a_disagreement : CauseKind
   a_circle : CauseKind
+  a_type_fault : CauseKind
   unwritten : CauseKind
   an_invalid_name : CauseKind
 
@@ -117,6 +121,7 @@ kind_of_cause (conflict import instantiation key name) = a_conflict
 kind_of_cause (implicit_merge import first second p q export) = a_disagreement
 kind_of_cause (explicit_merge import node other) = a_disagreement
 kind_of_cause (import_circle import) = a_circle
+kind_of_cause (unwritable node fault) = a_type_fault
 kind_of_cause not_yet = unwritten
 kind_of_cause (invalid fault) = an_invalid_name
 
@@ -126,8 +131,9 @@ rank a_cycle = 0
 rank a_conflict = 1
 rank a_disagreement = 2
 rank a_circle = 3
-rank unwritten = 4
-rank an_invalid_name = 5
+rank a_type_fault = 4
+rank unwritten = 5
+rank an_invalid_name = 6
 
 -- a cause of this kind is there
 abbrev pub Occurs : Graph → EncodeOptions → CauseKind → Type 0
@@ -135,6 +141,7 @@ Occurs g o a_cycle = (n : NodeId) × IsOnCycle g.edges n
 Occurs g o a_conflict = (import : NodeId) × (instantiation : NodeId) × (position : ℕ) × (name : Name) × IsConflict g import instantiation position name
 Occurs g o a_disagreement = (first : ℕ) × (second : ℕ) × IsDisagreement by_names g.types (to_merge (asked_entries g)) first second
 Occurs g o a_circle = (class : ℕ) × IsOnCircle by_names g.types (to_merge (asked_entries g)) class
+Occurs g o a_type_fault = (position : ℕ) × (entry : Entry) × (fault : WriteFault) × (slice_get (wanted_entries g) position ≡ Some entry) × IsEntryFault g entry fault
 Occurs g o unwritten = IsNotYet g o
 Occurs g o an_invalid_name = IsTrue o.validate × ((fault : Fault) × IsOuterFault g o fault)
 
@@ -149,6 +156,7 @@ IsNamed g o (conflict import instantiation key name) = IsFirstConflict g import 
 IsNamed g o (implicit_merge import first second p q export) = IsImplicitMerge g import first second p q export
 IsNamed g o (explicit_merge import node other) = IsExplicitMerge g import node other
 IsNamed g o (import_circle import) = IsImportCircle g import
+IsNamed g o (unwritable node fault) = IsTypeFault g node fault
 IsNamed g o not_yet = Unit {0}
 IsNamed g o (invalid fault) = IsOuterFault g o fault
 
@@ -168,6 +176,7 @@ cause_of (error.ImplicitImportConflict import instantiation key name) = Some (co
 cause_of (error.ImportTypeMergeConflict import first second fault) = implicit_cause (string_bytes import) first second fault
 cause_of (error.ExplicitImportMergeConflict import node other) = Some (explicit_merge (string_bytes import) node other)
 cause_of (error.ImportsUseEachOther import) = Some (import_circle (string_bytes import))
+cause_of (error.TypeNotWritable node fault) = Some (unwritable node fault)
 cause_of error.TooLarge = None
 cause_of error.OutOfMemory = None
 cause_of error.NotYet = Some not_yet

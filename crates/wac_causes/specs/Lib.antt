@@ -1,4 +1,5 @@
 pub mod NotYet
+pub mod TypeFaults
 pub mod OuterNames
 pub mod Cause
 pub mod Search

@@ -6,6 +6,7 @@ use thiserror::Error;
 use wac_agreement::fault::MergeFault;
 use wac_binary::BinaryFault;
 use wac_nodes::NodeId;
+use wac_scopes::WriteFault;
 use wac_types::PackageKey;
 use wac_validation::{ValidationError, ValidationFault};
 
@@ -47,14 +48,24 @@ pub enum EncodeError {
     ImportsUseEachOther {
         import: String,
     },
+    /// A type that a node asks for cannot be written, whatever stands around it: the lowest such node, and the lowest fault of the
+    /// first such item that it asks for.
+    #[error("the type of node {node} cannot be written")]
+    TypeNotWritable {
+        node: NodeId,
+        #[source]
+        fault: WriteFault,
+    },
     /// An index, a count or a size does not fit 32 bits.
     #[error("an index or a size does not fit 32 bits")]
     TooLarge,
     /// There was no memory.
     #[error("out of memory")]
     OutOfMemory,
-    /// What is asked for has an item that is not imported so far, a node is a definition, or the options ask for imported
-    /// components. Imported so far are functions and value types that are made of no resource, instances of such, and core modules.
+    /// What is asked for has an item that is not imported so far, a definition is of a type that is not defined so far, or the options ask
+    /// for imported components. Imported so far are functions and value types that are made of no resource, instances of such, and core
+    /// modules; defined so far are value types and function types that are made of no resource, and interfaces of such items that
+    /// have an id and use no other.
     #[error("the graph holds something that is not written yet")]
     NotYet,
     /// Validation is asked for, and the outer names may not stand together: their first fault.

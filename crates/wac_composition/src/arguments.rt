@@ -1,5 +1,5 @@
 //! What `set_instantiation_argument` looks up, tests and changes.
-ghost use Rattle.std.specs.Prelude.{◌≡◌, true, false, IsSome, OnOk, OnErr, IfOk, IfErr, Err, ◌||◌, ◌&&◌, ◌==◌, not, ℕ};
+ghost use Rattle.std.specs.Prelude.{◌≡◌, true, false, IsSome, IsTrue, OnOk, OnErr, IfOk, IfErr, Err, ◌||◌, ◌&&◌, ◌==◌, not, ℕ};
 ghost use Rattle.std.specs.FinSet as set;
 ghost use Rattle.std.specs.Option.{option_map};
 ghost use Rattle.slab.specs.Slab.{get};
@@ -20,6 +20,7 @@ use std::alloc::AllocError;
 use wac_edges::edges::{Edge, Label};
 use wac_nodes::{InstantiationArgumentError, Node, NodeId, NodeKind};
 use wac_removing::unsatisfy;
+use wac_types::laws::subtyping_is_reflexive;
 use wac_types::{ItemKind, SubtypeChecker, TypeFault};
 
 /// The edge of a node that is the argument for an instantiation's import at this position.
@@ -117,6 +118,10 @@ impl CompositionGraph {
     {
         self.check_unset(instantiation, name, position)?;
         let given = self.nodes[argument.0].item_kind;
+        if is_same(given, kind) {
+            subtyping_is_reflexive(&self.types, kind);
+            return Ok(());
+        }
         match SubtypeChecker::new().is_subtype(given, &self.types, kind, &self.types) {
             Ok(()) => Ok(()),
             Err(TypeFault::OutOfMemory) => Err(InstantiationArgumentError::OutOfMemory),
@@ -175,6 +180,17 @@ impl CompositionGraph {
             self.edges.remove(edge);
             unsatisfy(&mut self.nodes, instantiation.0, position);
         }
+    }
+}
+
+/// Whether both are the same function type or the same interface, by their ids.
+fn is_same(a: ItemKind, b: ItemKind) -> bool
+    ensures { IsTrue result → a ≡ b }
+{
+    match (a, b) {
+        (ItemKind::Func(a), ItemKind::Func(b)) => a == b,
+        (ItemKind::Instance(a), ItemKind::Instance(b)) => a == b,
+        _ => false,
     }
 }
 

@@ -33,7 +33,11 @@ impl CompositionGraph {
     }
 
     /// Asks for the imports of a node that no argument satisfies, where it is an instantiation.
-    fn ask_unset<'a>(&'a self, asking: &mut Asking<'a>, n: usize) -> Result<(), AllocError>
+    pub(crate) fn ask_unset<'a>(
+        &'a self,
+        asking: &mut Asking<'a>,
+        n: usize,
+    ) -> Result<(), AllocError>
         requires right { IsRight asking.old }
         requires settled { AreSettled self.now.types [] (entries_of asking.old) }
         ensures right { OnOk result (IsRight asking.new) }

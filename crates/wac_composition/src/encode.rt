@@ -22,6 +22,7 @@ ghost use Rattle.wac_causes.specs.Cause.{AnswersFor, Cause, cause_of, HasMerge, 
 ghost use Rattle.wac_causes.specs.OuterNames.{export_names, import_names};
 ghost use Rattle.wac_causes.specs.Search.{IsRefused};
 ghost use Rattle.wac_causes.specs.NotYet.{AllDefinable, IsNotYet};
+ghost use Rattle.wac_causes.specs.TypeFaults.{HasNoTypeFault};
 ghost use Rattle.wac_edges.specs.Order.{Writes, IsOnCycle, IsAcyclic};
 ghost use Rattle.wac_nodes.specs.declared.options.EncodeOptions.{EncodeOptions as Asked};
 ghost use Rattle.wac_validation.specs.Valid.{AreValid};
@@ -65,7 +66,9 @@ impl CompositionGraph {
     /// node, with the lowest such instantiation and its first such import; else, where two imports of one class do not
     /// agree, with the first that does not agree with an earlier one and the first that it does not agree with,
     /// `ImportTypeMergeConflict` where an instantiation asks for it and `ExplicitImportMergeConflict` where it is an import
-    /// node; else `ImportsUseEachOther` where imports rest on each other in a circle; else `NotYet` where a definition is of a
+    /// node; else `ImportsUseEachOther` where imports rest on each other in a circle; else `TypeNotWritable` where a type that a
+    /// node asks for cannot be written, whatever stands around it, with the lowest such node and the lowest fault of the first
+    /// such item that it asks for; else `NotYet` where a definition is of a
     /// type that is not defined so far, an import has an item that is not imported so far, or the options ask for imported
     /// components; else `TooLarge` where a size does not fit 32 bits; else, where the options ask for it, `ValidationFailure` where the outer
     /// names may not stand together, with their first fault. Where memory ran out it answers `OutOfMemory`.
@@ -83,6 +86,7 @@ impl CompositionGraph {
         let order = self.ordered()?;
         self.check_conflicts()?;
         let merge = self.merged()?;
+        self.check_types()?;
         let (root, imports) = self.begin(options.define_components, merge)?;
         let indexes = self.import_indexes(&imports)?;
         let mut encoder = Encoder::new(self.alloc, root, indexes);
@@ -105,6 +109,7 @@ impl CompositionGraph {
         requires acyclic { IsAcyclic self.now.edges }
         requires apart { HasNoConflict self.now }
         requires merges { HasMerge self.now }
+        requires writable { HasNoTypeFault self.now }
         requires merged { IsMergedFor self.now merge }
         ensures begins { IfOk result (λ b. Begins (merged_imports b.1.merge.merge) b.1.places.items b.0) }
         ensures placed { IfOk result (λ b. ArePlaced self.now b.1) }

@@ -21,6 +21,7 @@ mod naming;
 mod removing;
 mod sources;
 mod validating;
+mod wanted;
 mod writing;
 
 pub use arguments::set_fitting_argument;

@@ -15,7 +15,7 @@ use Rattle.wac_nodes.proofs.StaysLemmas.{argument-stays}
 use Rattle.wac_agreement.specs.declared.fault.MergeFault.TheVariants as merge
 use Rattle.wac_causes.specs.declared.errors.EncodeError.{EncodeError}
 use Rattle.wac_causes.specs.declared.errors.EncodeError.TheVariants as error
-use Rattle.wac_causes.specs.Cause.{Cause, cycle, CauseKind, a_cycle, a_conflict, a_disagreement, a_circle, unwritten, an_invalid_name, rank, IsFirstKind, Stands, cause_of, AnswersFor}
+use Rattle.wac_causes.specs.Cause.{Cause, cycle, CauseKind, a_cycle, a_conflict, a_disagreement, a_circle, a_type_fault, unwritten, an_invalid_name, rank, IsFirstKind, Stands, cause_of, AnswersFor}
 use Rattle.wac_causes.proofs.StandsLemmas.{stands_cycle}
 use Rattle.wac_demo.specs.Composed.{IsInstanceOf, IsEmptyPackage, IsItsOwnArgument, RefusesCycle}
 use Rattle.wac_demo.proofs.Following.{instance-later, instance-there, there-is}
@@ -46,6 +46,7 @@ module _ (g : Graph) (o : EncodeOptions) (n : NodeId) (on : IsOnCycle g.edges n)
   cycle_answer (error.ImportTypeMergeConflict import first second merge.OutOfMemory) stands answers = absurd (no_other a_disagreement (omega arith) stands.0)
   cycle_answer (error.ExplicitImportMergeConflict import node other) stands answers = absurd (no_other a_disagreement (omega arith) stands.0)
   cycle_answer (error.ImportsUseEachOther import) stands answers = absurd (no_other a_circle (omega arith) stands.0)
+  cycle_answer (error.TypeNotWritable node fault) stands answers = absurd (no_other a_type_fault (omega arith) stands.0)
   cycle_answer error.TooLarge stands answers = absurd (some_cause (λ cause s. named cause s (answers cause s))) where
     named : (cause : Cause) → Stands g o cause → AnswersFor cause error.TooLarge → ⊥
     named cause s (inl is) = cc

@@ -9,3 +9,4 @@ mod program;
 mod removal;
 mod unregistering;
 mod validation;
+mod writable;

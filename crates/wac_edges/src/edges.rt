@@ -13,7 +13,7 @@ ghost use Rattle.wac_edges.specs.Ready.{IsListed};
 
 use crate::aliases::{first_alias, forget_alias, is_crowded, mark, note, note_all};
 use crate::node::NodeId;
-use crate::records::{Firsts, Record, find, make_firsts, put, take};
+use crate::records::{Firsts, MOST, Record, find, make_firsts, put, take};
 use crate::walk::{Walk, records_at};
 use slab::Slab;
 use std::alloc::{AllocError, Global};
@@ -45,6 +45,7 @@ pub struct Edge {
 
 impl Edge {
     /// The node that has the edge at this end.
+    #[inline(always)]
     pub fn node(&self, end: End) -> NodeId
         ensures { result ≡ at_end end self.now }
     {
@@ -130,7 +131,7 @@ impl Edges {
         }
     }
 
-    /// Adds an edge; where memory runs out nothing has changed.
+    /// Adds an edge; where memory runs out nothing has changed. No memory is there for more than 2 ^ 32 edges.
     pub fn add(&mut self, edge: Edge) -> Result<(), AllocError>
         ensures ok { OnOk result (self.new ≡ set.insert self.old edge) }
         ensures err { OnErr result (self.new ≡ self.old) }
@@ -142,6 +143,9 @@ impl Edges {
         make_firsts(&mut self.firsts, edge.source.0)?;
         make_firsts(&mut self.firsts, edge.target.0)?;
         self.records.reserve(1)?;
+        if self.records.vacant_key() >= MOST {
+            return Err(AllocError);
+        }
         note(&self.crowded, &mut self.aliases, edge)?;
         put(&mut self.records, &mut self.firsts, edge);
         Ok(())
@@ -175,13 +179,24 @@ impl Edges {
     pub fn remove(&mut self, edge: Edge)
         ensures { self.new ≡ set.remove self.old edge }
     {
-        if let Some(key) = find(&self.records, &self.firsts, edge) {
-            take(&mut self.records, &mut self.firsts, key);
-            forget_alias(&mut self.aliases, edge);
-        }
+        let _ = self.take(edge);
+    }
+
+    /// Takes the edge out, and answers whether it was in the set. Takes no memory.
+    pub fn take(&mut self, edge: Edge) -> bool
+        ensures taken { self.new ≡ set.remove self.old edge }
+        ensures was { result ≡ set.contains self.old edge }
+    {
+        let Some(key) = find(&self.records, &self.firsts, edge) else {
+            return false;
+        };
+        take(&mut self.records, &mut self.firsts, key);
+        forget_alias(&mut self.aliases, edge);
+        true
     }
 
     /// A walk over the edges at this end of a node, the one added last first. Takes no memory.
+    #[inline(always)]
     pub fn walk(&self, node: NodeId, end: End) -> Walk<'_>
         ensures edges { AreAt self.now node end result.left }
         ensures steps { result.steps ≡ 0 }

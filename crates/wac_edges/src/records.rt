@@ -1,5 +1,5 @@
 //! Edges as records of one table, each in a list of those at its source and in one of those at its target.
-ghost use Rattle.std.specs.Prelude.{◌≡◌, ◌↔◌, ◌⊎◌, ℕ, ◌<◌, ◌≤◌, Some, None, IfSome, IfNone, OnOk, length, vec_len};
+ghost use Rattle.std.specs.Prelude.{◌≡◌, ◌↔◌, ◌⊎◌, ℕ, ◌<◌, ◌≤◌, ◌^◌, Some, None, IfSome, IfNone, OnOk, length, vec_len};
 ghost use Rattle.std.specs.Option.{option_map, ForNone, ForSome};
 ghost use Rattle.slab.specs.Slab.{get, ContainsKey, HasRoomFor};
 ghost use Rattle.wac_edges.specs.declared.edges.Edge.{Edge as AnEdge};
@@ -11,11 +11,14 @@ use crate::walk::records_at;
 use slab::Slab;
 use std::alloc::AllocError;
 
+/// How many records there may be, so that a key takes half the room of a number.
+pub(crate) const MOST: usize = 1 << 32;
+
 /// The keys of the records before and after one in a list.
 #[derive(Clone, Copy, Debug)]
 pub(crate) struct Links {
-    pub(crate) previous: Option<usize>,
-    pub(crate) next: Option<usize>,
+    pub(crate) previous: Option<u32>,
+    pub(crate) next: Option<u32>,
 }
 
 /// An edge with its place among the edges out of its source and among those into its target.
@@ -28,6 +31,7 @@ pub(crate) struct Record {
 
 impl Record {
     /// A record that is in no list yet.
+    #[inline(always)]
     pub(crate) fn new(edge: Edge) -> Record
         ensures { result.edge ≡ edge }
     {
@@ -43,6 +47,7 @@ impl Record {
     }
 
     /// Its place in the list at this end.
+    #[inline(always)]
     pub(crate) fn links(&self, end: End) -> Links
         ensures { result ≡ links_at end self.now }
     {
@@ -53,35 +58,24 @@ impl Record {
     }
 
     /// The number of the node that has its edge at this end.
+    #[inline(always)]
     fn number(&self, end: End) -> usize
         ensures { result ≡ number_at end self.now.edge }
     {
         self.edge.node(end).0
-    }
-
-    /// The record at another place in the list at this end.
-    fn with_links(self, end: End, links: Links) -> Record
-        ensures { result ≡ with_links end links self }
-    {
-        match end {
-            End::Outgoing => Record { out: links, ..self },
-            End::Incoming => Record {
-                into: links,
-                ..self
-            },
-        }
     }
 }
 
 /// The keys of the first of the edges out of a node and of the first of those into it.
 #[derive(Clone, Copy, Debug)]
 pub(crate) struct Firsts {
-    pub(crate) out: Option<usize>,
-    pub(crate) into: Option<usize>,
+    pub(crate) out: Option<u32>,
+    pub(crate) into: Option<u32>,
 }
 
 /// The first record of the list at this end of a node.
-pub(crate) fn first(firsts: &[Firsts], node: usize, end: End) -> Option<usize>
+#[inline(always)]
+pub(crate) fn first(firsts: &[Firsts], node: usize, end: End) -> Option<u32>
     ensures { result ≡ first_at end firsts.now node }
 {
     let firsts = firsts.get(node)?;
@@ -92,7 +86,8 @@ pub(crate) fn first(firsts: &[Firsts], node: usize, end: End) -> Option<usize>
 }
 
 /// Changes which record is the first of the list at this end of a node.
-fn set_first(firsts: &mut [Firsts], node: usize, end: End, key: Option<usize>)
+#[inline(always)]
+fn set_first(firsts: &mut [Firsts], node: usize, end: End, key: Option<u32>)
     requires { node < length firsts.old }
     ensures here { (n : ℕ) → first_at end firsts.new n ≡ updated (first_at end firsts.old) node key n }
     ensures opposite { (n : ℕ) → first_at (opposite end) firsts.new n ≡ first_at (opposite end) firsts.old n }
@@ -104,22 +99,27 @@ fn set_first(firsts: &mut [Firsts], node: usize, end: End, key: Option<usize>)
 }
 
 /// Moves a record to another place in the list at this end.
+#[inline(always)]
 fn set_links(records: &mut Slab<Record>, key: usize, end: End, links: Links)
     requires { ContainsKey records.old key }
     ensures { (q : ℕ) → get records.new q ≡ updated (get records.old) key (option_map (with_links end links) (get records.old key)) q }
 {
-    let moved = records[key].with_links(end, links);
-    records[key] = moved;
+    let record = &mut records[key];
+    match end {
+        End::Outgoing => record.out = links,
+        End::Incoming => record.into = links,
+    }
 }
 
 /// Changes which record comes after one, where there is one, or is the first in the list at this end of a node.
+#[inline(always)]
 fn set_next(
     records: &mut Slab<Record>,
     firsts: &mut [Firsts],
     node: usize,
     end: End,
-    key: Option<usize>,
-    next: Option<usize>,
+    key: Option<u32>,
+    next: Option<u32>,
 )
     requires there { ForSome key (λ k. ContainsKey records.old k) }
     requires node { ForNone key (node < length firsts.old) }
@@ -129,6 +129,7 @@ fn set_next(
 {
     match key {
         Some(key) => {
+            let key = key as usize;
             let previous = records[key].links(end).previous;
             set_links(records, key, end, Links { previous, next });
         }
@@ -137,19 +138,23 @@ fn set_next(
 }
 
 /// Changes which record comes before one, where there is one, in the list at this end.
-fn set_previous(records: &mut Slab<Record>, end: End, key: Option<usize>, previous: Option<usize>)
+#[inline(always)]
+fn set_previous(records: &mut Slab<Record>, end: End, key: Option<u32>, previous: Option<u32>)
     requires { ForSome key (λ k. ContainsKey records.old k) }
     ensures { (q : ℕ) → get records.new q ≡ changed (with_previous end previous) key (get records.old) q }
 {
     if let Some(key) = key {
+        let key = key as usize;
         let next = records[key].links(end).next;
         set_links(records, key, end, Links { previous, next });
     }
 }
 
 /// Puts a record that is not in the list at this end of its node before all others there.
+#[inline(always)]
 fn link(records: &mut Slab<Record>, firsts: &mut [Firsts], key: usize, end: End)
     requires there { ContainsKey records.old key }
+    requires short { key < 2 ^ 32 }
     requires node { (e : AnEdge) → edge_at (get records.old) key ≡ Some e → number_at end e < length firsts.old }
     requires others { AreLinked (updated (places end (get records.old)) key None) (first_at end firsts.old) }
     ensures linked { AreLinked (places end (get records.new)) (first_at end firsts.new) }
@@ -164,11 +169,13 @@ fn link(records: &mut Slab<Record>, firsts: &mut [Firsts], key: usize, end: End)
         next,
     };
     set_links(records, key, end, links);
-    set_previous(records, end, next, Some(key));
-    set_first(firsts, node, end, Some(key));
+    let here = Some(key as u32);
+    set_previous(records, end, next, here);
+    set_first(firsts, node, end, here);
 }
 
 /// Takes a record out of the list at this end of its node: the records before and after it become neighbours.
+#[inline(always)]
 fn unlink(records: &mut Slab<Record>, firsts: &mut [Firsts], key: usize, end: End)
     requires there { ContainsKey records.old key }
     requires linked { AreLinked (places end (get records.old)) (first_at end firsts.old) }
@@ -226,6 +233,7 @@ pub(crate) fn find(records: &Slab<Record>, firsts: &[Firsts], edge: Edge) -> Opt
 /// Puts an edge that has no record yet into the table, which has room for one more, and into the lists at both its ends.
 pub(crate) fn put(records: &mut Slab<Record>, firsts: &mut [Firsts], edge: Edge)
     requires room { HasRoomFor records.old 1 }
+    requires short { records.old.vacant_key < 2 ^ 32 }
     requires source { edge.source.0 < length firsts.old }
     requires target { edge.target.0 < length firsts.old }
     requires listed { AreListed (get records.old) firsts.old }

@@ -13,7 +13,7 @@ use std::marker::Model;
 pub(crate) struct Records<'a> {
     table: &'a Slab<Record>,
     end: End,
-    here: Option<usize>,
+    here: Option<u32>,
 }
 
 impl<'a> Model for Records<'a> {
@@ -39,8 +39,10 @@ impl<'a> Iterator for Records<'a> {
 
     ghost remaining = { item_count (λ s. s) };
 
+    #[inline(always)]
     fn next(&mut self) -> Option<(usize, Edge)> {
-        let key = self.here?;
+        let here = self.here?;
+        let key = here as usize;
         let record = &self.table[key];
         self.here = record.links(self.end).next;
         Some((key, record.edge))
@@ -48,6 +50,7 @@ impl<'a> Iterator for Records<'a> {
 }
 
 /// The records of the list at this end of a node.
+#[inline(always)]
 pub(crate) fn records_at<'a>(
     table: &'a Slab<Record>,
     firsts: &[Firsts],
@@ -88,6 +91,7 @@ impl<'a> Model for Walk<'a> {
 
 impl<'a> Walk<'a> {
     /// A walk over the edges of these records, none of which was read yet.
+    #[inline(always)]
     pub(crate) fn new(records: Records<'a>) -> Walk<'a>
         requires { length records < 2 ^ 64 }
         ensures left { result.left ≡ map (λ x. x.1) records.entry }
@@ -114,6 +118,7 @@ impl<'a> Iterator for Walk<'a> {
 
     ghost remaining = { item_count (λ w. w.left) };
 
+    #[inline(always)]
     fn next(&mut self) -> Option<Edge> {
         let (_, edge) = self.records.next()?;
         self.steps += 1;

@@ -40,7 +40,7 @@ use Rattle.wac_listing.specs.Made.{MadeOf}
 use Rattle.wac_encode.specs.Written.{WritesFor, with_types, IsOfFunc, AddsHeldFunc, EndsWithFunc, IsRefused, IsFuncRefused}
 use Rattle.wac_encode.specs.Listing.{NeededBy, own_types, SameRecords, PrimitiveDoesNotFit}
 use Rattle.wac_encode.specs.Importing.{IsImportedOnce, NamesImportedValue}
-use Rattle.wac_encode.specs.Defining.{WritesDefinition, item_of_type, IsDefinedAt, WritesOnce, IsDefinitionRefused}
+use Rattle.wac_encode.specs.Defining.{defined_tree, WritesDefinition, item_of_type, IsDefinedAt, WritesOnce, IsDefinitionRefused}
 use Rattle.wac_encode.proofs.Answering.{as-it-was}
 use Rattle.wac_encode.proofs.Imported.{still-root}
 use Rattle.wac_encode.proofs.Listed.{held-at-end}
@@ -62,20 +62,23 @@ counted-root (Component ds) h = absurd h
 items-added : (old now : Scope) (ys : List TypeDef) → IsRoot old.content → now.content ≡ with_types old.content ys → items_of now.content ≡ items_of old.content ++ map type_item ys
 items-added old now ys is_root appended = ap items_of appended ∙ items-with old.content ys is_root
 
-at-root : (s : Scope) (i : ℕ) (t : Tree) → IsRoot s.content → At ((env (opened s unbound) []).types) i t → At ((root_of s).scope.types) i t
+pub at-root : (s : Scope) (i : ℕ) (t : Tree) → IsRoot s.content → At ((env (opened s unbound) []).types) i t → At ((root_of s).scope.types) i t
 at-root s i t is_root at = subst (λ (x : Content). At ((scope_of x []).types) i t) (content-of-root s.content is_root) at
 
 means-now : (c : Collection) (s : Scope) → IsRoot s.content → Good c (nothing_bound ∷ []) (opened s unbound ∷ []) → HasMeaning (items_of s.content)
 means-now c s is_root g = subst (λ (x : Content). ContentHasMeaning x []) (content-of-root s.content is_root) g.0.meaning
 
--- a type index that was added stands for its type
-stands-new : IsWrittenThere → IsItsTree → (c : Collection) (old now : Scope) (ys : List TypeDef) (a : AnyType) (i : ℕ) (t : Tree) → IsRoot old.content → now.content ≡ with_types old.content ys → count (space sort.«Type») old.content ≤ i → IsHeld c nothing_bound a t → At ((root_of now).scope.types) i t
-    → stands_for (root_of now) sort.«Type» i ≡ written (held_tree c nothing_bound a)
-stands-new there tree c old now ys a i t is_root appended behind held at =
+-- a type index that was added stands for the tree that it has
+pub stands-there : IsWrittenThere → (old now : Scope) (ys : List TypeDef) (i : ℕ) (t : Tree) → IsRoot old.content → now.content ≡ with_types old.content ys → count (space sort.«Type») old.content ≤ i → At ((root_of now).scope.types) i t → stands_for (root_of now) sort.«Type» i ≡ written t
+stands-there there old now ys i t is_root appended behind at =
     let is : items_of now.content ≡ items_of old.content ++ map type_item ys = items-added old now ys is_root appended in
     ap (λ (items : List Item). stands_for (meaning items) sort.«Type» i) is
     ∙ there (items_of old.content) ys i t (subst (λ (n : ℕ). n ≤ i) (counted-root old.content is_root) behind) (subst (λ (items : List Item). At ((meaning items).scope.types) i t) is at)
-    ∙ ap written (sym (tree c nothing_bound a t held))
+
+-- and so for its type
+stands-new : IsWrittenThere → IsItsTree → (c : Collection) (old now : Scope) (ys : List TypeDef) (a : AnyType) (i : ℕ) (t : Tree) → IsRoot old.content → now.content ≡ with_types old.content ys → count (space sort.«Type») old.content ≤ i → IsHeld c nothing_bound a t → At ((root_of now).scope.types) i t
+    → stands_for (root_of now) sort.«Type» i ≡ written (held_tree c nothing_bound a)
+stands-new there tree c old now ys a i t is_root appended behind held at = stands-there there old now ys i t is_root appended behind at ∙ ap written (sym (tree c nothing_bound a t held))
 
 -- one that is recorded, too
 stands-recorded : IsItsEnd → IsItsTree → (c : Collection) → IsWellFormed c → (s : Scope) (v : ValueType) (d : DefinedTypeId) (i : ℕ) → value_resolved c v ≡ val.Defined d → IsRightRoot c s → value_index s d ≡ Some i → HasMeaning (items_of s.content)
@@ -122,7 +125,7 @@ right-still stays c old new h r = stays c old new [] r (subst IsRoot (sym h.cont
 
 -- what is written is the definition
 
-defined-so : (c : Collection) (t : AnyType) (n : Name) (m : ℕ) (P : ValueType → Type 0) (old now new : Scope) (i k : ℕ) → IsRightRoot c old → WritesFor c m P old now → (Good c (nothing_bound ∷ []) (opened old unbound ∷ []) → HasMeaning (items_of now.content) → stands_for (root_of now) sort.«Type» i ≡ written (held_tree c nothing_bound t)) → new.content ≡ Builder (items_of now.content ++ export_item n sort.«Type» i ∷ []) → k ≡ count (space sort.«Type») now.content
+pub defined-so : (c : Collection) (t : AnyType) (n : Name) (m : ℕ) (P : ValueType → Type 0) (old now new : Scope) (i k : ℕ) → IsRightRoot c old → WritesFor c m P old now → (Good c (nothing_bound ∷ []) (opened old unbound ∷ []) → HasMeaning (items_of now.content) → stands_for (root_of now) sort.«Type» i ≡ written (defined_tree c t)) → new.content ≡ Builder (items_of now.content ++ export_item n sort.«Type» i ∷ []) → k ≡ count (space sort.«Type») now.content
     → WritesDefinition c t n old new k
 defined-so c t n m P old now new i k r w stands appended answer =
     let is_root : IsRoot now.content = still-root old.content now.content w.types w.appended r.is_root in record {
@@ -138,10 +141,10 @@ defined-so c t n m P old now new i k r w stands appended answer =
       answer = answer ∙ counted-root now.content is_root;
     }
 
-content-is : (now new : Scope) (x : Encodable) → new ≡ record now { content = x } → new.content ≡ x
+pub content-is : (now new : Scope) (x : Encodable) → new ≡ record now { content = x } → new.content ≡ x
 content-is now new x is = ap (λ (s : Scope). s.content) is
 
-records-same : (now new : Scope) (x : Encodable) → new ≡ record now { content = x } → SameRecords now new
+pub records-same : (now new : Scope) (x : Encodable) → new ≡ record now { content = x } → SameRecords now new
 records-same now new x is d = ap (λ (s : Scope). value_index s d) is
 
 -- a primitive

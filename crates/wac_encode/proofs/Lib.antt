@@ -13,3 +13,4 @@ pub mod Importing
 pub mod Plain
 pub mod Together
 pub mod Defining
+pub mod ComponentTypes

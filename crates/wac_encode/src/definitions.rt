@@ -1,9 +1,9 @@
 //! The writer of definitions.
 
-ghost use Rattle.std.specs.Prelude.{◌≡◌, true, None, Some, IfOk, OnErr};
+ghost use Rattle.std.specs.Prelude.{◌≡◌, true, false, None, Some, IfOk, OnErr};
 ghost use Rattle.wac_shapes.specs.declared.component.ValueType.TheVariants as val;
 ghost use Rattle.wac_shapes.specs.declared.component.«Type».TheVariants as ty;
-ghost use Rattle.wac_collection.specs.Collection.{HasFunc, holds_type, holds_value};
+ghost use Rattle.wac_collection.specs.Collection.{HasFunc, HasInterface, holds_type, holds_value};
 ghost use Rattle.wac_collection.specs.Aliases.{value_resolved};
 ghost use Rattle.wac_scopes.specs.Scoped.{value_index};
 ghost use Rattle.wac_scopes.specs.Rooted.{IsRightRoot};
@@ -12,7 +12,7 @@ ghost use Rattle.wac_encode.specs.Defining.{IsDefinable, WritesDefinition, item_
 
 use crate::encoder::TypeEncoder;
 use wac_binary::{ComponentValType, Sort};
-use wac_collection::{DefinedTypeId, FuncTypeId, PrimitiveType, Type, ValueType};
+use wac_collection::{DefinedTypeId, FuncTypeId, InterfaceId, PrimitiveType, Type, ValueType};
 use wac_scopes::{EncodeFault, Scope, WriteFault, alias_law, rooted_law, step_law, still_law};
 
 impl<'a> TypeEncoder<'a> {
@@ -153,15 +153,61 @@ impl<'a> TypeEncoder<'a> {
         Ok(own)
     }
 
-    /// Defines a held value type or function type in the root: writes it behind what stands there, exports it under a name, and answers the
-    /// export's own type index. What it is made of is written before, once, where it is not written yet; a definition that is defined goes
-    /// by its first name's index from then on.
+    /// Writes an interface as a component type, and exports it under a name.
+    fn export_interface(
+        &self,
+        root: &mut Scope,
+        name: &str,
+        interface: InterfaceId,
+    ) -> Result<u32, EncodeFault>
+        requires held { HasInterface self.now.types.now interface }
+        requires definable { IsDefinable self.now.types.now (ty.Interface interface) }
+        requires right { IsRightRoot self.now.types.now root.old }
+        ensures definition { IfOk result (WritesDefinition self.now.types.now (ty.Interface interface) name.now root.old root.new) }
+        ensures written { IfOk result (WritesOnce self.now.types.now (ty.Interface interface) name.now root.old root.new) }
+        ensures right { IsRightRoot self.now.types.now root.new }
+        ensures refused { OnErr result (WritesTypesOf self.now.types.now (item_of_type (ty.Interface interface)) root.old root.new) }
+        ensures fault { IsDefinitionRefused self.now.types.now (ty.Interface interface) name.now root.old result }
+    {
+        rooted_law();
+        step_law();
+        still_law();
+        let Some(id) = &self.types[interface].id else {
+            unreachable!()
+        };
+        let component = self.interface_component(interface, id.as_str())?;
+        let index = root.define_component(&component)?;
+        let own = root.export(name, Sort::Type, index)?;
+        Ok(own)
+    }
+
+    /// Whether a held type is one that is defined so far: a value type, a function type, or an interface that has an id and lists items
+    /// of sorts that are written.
+    pub fn is_definable(&self, ty: Type) -> bool
+        requires { holds_type self.now.types.now ty ≡ true }
+        ensures definable { result ≡ true → IsDefinable self.now.types.now ty }
+        ensures not { result ≡ false → IsDefinable self.now.types.now ty → ⊥ }
+    {
+        match ty {
+            Type::Value(_) | Type::Func(_) => true,
+            Type::Interface(interface) => {
+                self.types[interface].id.is_some() && self.lists_plain(interface)
+            }
+            Type::Resource(_) | Type::World(_) | Type::Module(_) => false,
+        }
+    }
+
+    /// Defines a held value type, function type or interface in the root: writes it behind what stands there, exports it under a name, and answers
+    /// the export's own type index. What it is made of is written before, once, where it is not written yet; a definition that is defined
+    /// goes by its first name's index from then on. An interface, which has an id, is written as a component type that exports an instance
+    /// of it under its id, with all that it is made of inside.
     ///
-    /// Answers `UnboundResource` for a type that is made of a handle, and `TooLarge` where what is written next does not fit;
-    /// `OutOfMemory` where memory was refused. Then some of its types may stand, each whole.
+    /// Answers `UnboundResource` for a type that is made of a handle, for an interface what `interface_type` answers where it refuses it,
+    /// and `TooLarge` where what is written next does not fit; `OutOfMemory` where memory was refused. Then some of its types may stand,
+    /// each whole.
     pub fn definition(&self, root: &mut Scope, name: &str, ty: Type) -> Result<u32, EncodeFault>
         requires held { holds_type self.now.types.now ty ≡ true }
-        requires definable { IsDefinable ty }
+        requires definable { IsDefinable self.now.types.now ty }
         requires right { IsRightRoot self.now.types.now root.old }
         ensures definition { IfOk result (WritesDefinition self.now.types.now ty name.now root.old root.new) }
         ensures written { IfOk result (WritesOnce self.now.types.now ty name.now root.old root.new) }
@@ -172,6 +218,7 @@ impl<'a> TypeEncoder<'a> {
         match ty {
             Type::Value(value) => self.export_value(root, name, value),
             Type::Func(func) => self.export_function(root, name, func),
+            Type::Interface(interface) => self.export_interface(root, name, interface),
             _ => unreachable!(),
         }
     }

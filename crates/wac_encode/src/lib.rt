@@ -1,6 +1,7 @@
 //! Types of a collection, written into open scopes.
 #![tactic(auto)]
 
+mod components;
 mod definitions;
 mod encoder;
 mod functions;

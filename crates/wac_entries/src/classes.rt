@@ -29,7 +29,7 @@ fn put(alloc: Global, names: &mut Named<()>, name: &str) -> Result<(), AllocErro
 fn instance_names(alloc: Global, entries: &[Entry]) -> Result<Named<()>, AllocError>
     ensures { IfOk result (λ names. AreInstances entries.now names) }
 {
-    let mut names = Named::new(alloc);
+    let mut names = Named::with_capacity(alloc, entries.len())?;
     for entry in entries {
         if entry.is_instance() {
             put(alloc, &mut names, entry.name())?;
@@ -166,9 +166,9 @@ impl Classes {
     {
         let instances = instance_names(alloc, entries)?;
         let mut numbering = Numbering {
-            keys: Named::new(alloc),
+            keys: Named::with_capacity(alloc, entries.len())?,
             firsts: Vec::new(alloc),
-            names: Named::new(alloc),
+            names: Named::with_capacity(alloc, entries.len())?,
         };
         let mut numbers = Vec::new(alloc);
         for i in 0..entries.len() {

@@ -14,5 +14,6 @@ pub use wac_nodes::{
     UnexportError, laws, one_export_answer,
 };
 pub use wac_plug::{PlugError, PlugFault, plug};
+pub use wac_scopes::WriteFault;
 pub use wac_types as types;
 pub use wac_validation::ValidationFault;

@@ -5,6 +5,8 @@ use Rattle.wac_shapes.specs.Name.{Name, same_name, find_name, option_case}
 use Rattle.wac_shapes.specs.Named.{NoNameTwice}
 use Rattle.wac_shapes.specs.Kinds.{kind_type}
 use Rattle.wac_shapes.proofs.Names.{same_name-true, same_name-refl, found_at}
+use Rattle.wac_shapes.specs.declared.component.FuncType.{FuncType}
+use Rattle.wac_shapes.specs.declared.component.FuncTypeId.{FuncTypeId}
 use Rattle.wac_shapes.specs.declared.component.Interface.{Interface}
 use Rattle.wac_shapes.specs.declared.component.InterfaceId.{InterfaceId}
 use Rattle.wac_shapes.specs.declared.component.ItemKind.{ItemKind}
@@ -15,13 +17,13 @@ use Rattle.wac_shapes.specs.declared.component.ValueType.{ValueType}
 use Rattle.wac_shapes.specs.declared.component.«Type».{«Type» as AnyType}
 use Rattle.wac_shapes.specs.declared.component.«Type».TheVariants as ty
 use Rattle.wac_collection.specs.declared.collection.Held.{Held}
-use Rattle.wac_collection.specs.Tree.{TypeTree, absent, resource, instance, type_equal, instance_item, module_item}
+use Rattle.wac_collection.specs.Tree.{TypeTree, absent, resource, function, instance, type_equal, instance_item, module_item}
 use Rattle.wac_collection.specs.Collection.{Collection, IsWellFormed, AddedBefore, size, holds_type, item_at, item_of, interface_exports}
-use Rattle.wac_collection.specs.Held.{resolved, interface_tree, module_tree, of_held, unfolded}
+use Rattle.wac_collection.specs.Held.{resolved, func_tree, interface_tree, module_tree, of_held, unfolded}
 use Rattle.wac_subtyping.specs.Subtype.{by_name, resource_names, type_tree, kind_tree, listed_in}
 use Rattle.wac_subtyping.proofs.Unfolding.{type_before, unfolded_step, type_step, held_item}
-use Rattle.wac_meaning.specs.Importable.{HasNoHandle, IsPlainItem, IsPlainWhereThere, IsImportable, IsImportableKind}
-use Rattle.wac_importing.specs.Looked.{ArePlain, ListsPlain}
+use Rattle.wac_meaning.specs.Importable.{HasNoHandle, IsPlainItem, IsPlainWhereThere, IsImportable, IsImportableKind, IsDefinable, IsDefinableKind}
+use Rattle.wac_importing.specs.Looked.{IsOfValues, ArePlain, ListsPlain}
 use Rattle.wac_importing.proofs.Handles.{plain_free, plain_reached, reached_none}
 
 -- an item that is there
@@ -103,21 +105,34 @@ lists_importable c wf (kind.Value v) held h = h
 abbrev TypePlain : TypeTree Name → Type 0
 TypePlain t = IsPlainItem (type_equal t)
 
-named_resource : (o : Option Name) → TypePlain (option_case o absent resource) → ⊥
-named_resource None h = h
-named_resource (Some n) h = h
+abbrev TypeDefinable : TypeTree Name → Type 0
+TypeDefinable t = IsDefinable (type_equal t)
 
-held_none : {A : Type 0} (g : A → TypeTree Name) → ((x : A) → TypePlain (g x) → ⊥) → (o : Option (Held A)) → TypePlain (of_held g o) → ⊥
-held_none g none None h = h
-held_none g none (Some x) h = none x.item h
+module _ (P : TypeTree Name → Type 0) (nothing : P absent → ⊥) where
+  named_none : ((n : Name) → P (resource n) → ⊥) → (o : Option Name) → P (option_case o absent resource) → ⊥
+  named_none none None h = nothing h
+  named_none none (Some n) h = none n h
+
+  held_none : {A : Type 0} (g : A → TypeTree Name) → ((x : A) → P (g x) → ⊥) → (o : Option (Held A)) → P (of_held g o) → ⊥
+  held_none g none None h = nothing h
+  held_none g none (Some x) h = none x.item h
 
 pub type_not_plain : (c : Collection) → IsWellFormed c → (a : AnyType) → holds_type c a ≡ true → ((v : _) → a ≡ ty.Value v → ⊥) → IsPlainItem (kind_tree c (kind.TypeItem a)) → ⊥
 type_not_plain c wf (ty.Value v) held other h = other v refl
-type_not_plain c wf (ty.Resource r) held other h = named_resource (resource_names c (resolved c r)) (subst TypePlain (type_step c wf (ty.Resource r) held) h)
-type_not_plain c wf (ty.Func f) held other h = held_none _ (λ x h. h) (slice_get c.funcs f.0) (subst TypePlain (type_step c wf (ty.Func f) held) h)
-type_not_plain c wf (ty.Interface i) held other h = held_none _ (λ x h. h) (slice_get c.interfaces i.0) (subst TypePlain (type_step c wf (ty.Interface i) held) h)
-type_not_plain c wf (ty.World w) held other h = held_none _ (λ x h. h) (slice_get c.worlds w.0) (subst TypePlain (type_step c wf (ty.World w) held) h)
-type_not_plain c wf (ty.Module m) held other h = held_none _ (λ x h. h) (slice_get c.modules m.0) (subst TypePlain (type_step c wf (ty.Module m) held) h)
+type_not_plain c wf (ty.Resource r) held other h = named_none TypePlain (λ h. h) (λ n h. h) (resource_names c (resolved c r)) (subst TypePlain (type_step c wf (ty.Resource r) held) h)
+type_not_plain c wf (ty.Func f) held other h = held_none TypePlain (λ h. h) _ (λ x h. h) (slice_get c.funcs f.0) (subst TypePlain (type_step c wf (ty.Func f) held) h)
+type_not_plain c wf (ty.Interface i) held other h = held_none TypePlain (λ h. h) _ (λ x h. h) (slice_get c.interfaces i.0) (subst TypePlain (type_step c wf (ty.Interface i) held) h)
+type_not_plain c wf (ty.World w) held other h = held_none TypePlain (λ h. h) _ (λ x h. h) (slice_get c.worlds w.0) (subst TypePlain (type_step c wf (ty.World w) held) h)
+type_not_plain c wf (ty.Module m) held other h = held_none TypePlain (λ h. h) _ (λ x h. h) (slice_get c.modules m.0) (subst TypePlain (type_step c wf (ty.Module m) held) h)
+
+-- nor is one of another sort defined so far, interfaces aside
+pub type_not_definable : (c : Collection) → IsWellFormed c → (a : AnyType) → holds_type c a ≡ true → (IsOfValues a → ⊥) → ((i : InterfaceId) → a ≡ ty.Interface i → ⊥) → IsDefinableKind c (kind.TypeItem a) → ⊥
+type_not_definable c wf (ty.Value v) held other apart h = other tt
+type_not_definable c wf (ty.Resource r) held other apart h = named_none TypeDefinable (λ h. h) (λ n h. h) (resource_names c (resolved c r)) (subst TypeDefinable (type_step c wf (ty.Resource r) held) h)
+type_not_definable c wf (ty.Func f) held other apart h = other tt
+type_not_definable c wf (ty.Interface i) held other apart h = apart i refl
+type_not_definable c wf (ty.World w) held other apart h = held_none TypeDefinable (λ h. h) _ (λ x h. h) (slice_get c.worlds w.0) (subst TypeDefinable (type_step c wf (ty.World w) held) h)
+type_not_definable c wf (ty.Module m) held other apart h = held_none TypeDefinable (λ h. h) _ (λ x h. h) (slice_get c.modules m.0) (subst TypeDefinable (type_step c wf (ty.Module m) held) h)
 
 -- a value type without handles is plain as a type item
 pub value_plain : (c : Collection) → IsWellFormed c → (a : AnyType) (v : ValueType) → a ≡ ty.Value v → holds_type c a ≡ true → HasNoHandle (type_tree c a) → IsPlainItem (kind_tree c (kind.TypeItem a))
@@ -128,6 +143,36 @@ value_plain c wf a v is held free =
 
 pub plain_value : (c : Collection) (a : AnyType) → IsPlainItem (kind_tree c (kind.TypeItem a)) → HasNoHandle (type_tree c a)
 plain_value c a h = plain_free (type_tree c a) h
+
+-- a value type and a function type without handles are defined so far
+plain_definable : {L : Type 0} (t : TypeTree L) → IsPlainItem (type_equal t) → IsDefinable (type_equal t)
+plain_definable absent h = absurd h
+plain_definable (function is_async names params result) h = absurd h
+plain_definable t h = h
+
+func_there : (g : ValueType → TypeTree Name) (n : ℕ) (o : Option (Held FuncType)) → AddedBefore n o → HasNoHandle (of_held (func_tree g) o) → TypeDefinable (of_held (func_tree g) o)
+func_there g n None b h = absurd b
+func_there g n (Some x) b h = h
+
+func_definable : (c : Collection) → IsWellFormed c → (f : FuncTypeId) → holds_type c (ty.Func f) ≡ true → HasNoHandle (type_tree c (ty.Func f)) → IsDefinableKind c (kind.TypeItem (ty.Func f))
+func_definable c wf f held free =
+    let steps = type_step c wf (ty.Func f) held in
+    subst TypeDefinable (sym steps)
+    (func_there (λ v. unfolded by_name c (resource_names c) (ty.Value v)) (size c) (slice_get c.funcs f.0) (type_before c wf (ty.Func f) held) (subst HasNoHandle steps free))
+
+pub free_definable : (c : Collection) → IsWellFormed c → (a : AnyType) → IsOfValues a → holds_type c a ≡ true → HasNoHandle (type_tree c a) → IsDefinableKind c (kind.TypeItem a)
+free_definable c wf (ty.Value v) of held free = plain_definable (type_tree c (ty.Value v)) (value_plain c wf (ty.Value v) v refl held free)
+free_definable c wf (ty.Func f) of held free = func_definable c wf f held free
+free_definable c wf a of held free = absurd of
+
+definable_free : {L : Type 0} (t : TypeTree L) → IsDefinable (type_equal t) → HasNoHandle t
+definable_free absent h = absurd h
+definable_free t h = h
+
+pub values_free : (c : Collection) (a : AnyType) → IsOfValues a → IsDefinableKind c (kind.TypeItem a) → HasNoHandle (type_tree c a)
+values_free c (ty.Value v) of h = definable_free (type_tree c (ty.Value v)) h
+values_free c (ty.Func f) of h = definable_free (type_tree c (ty.Func f)) h
+values_free c a of h = absurd of
 
 -- an interface that is imported so far lists plain items
 pub importable_lists : (c : Collection) → IsWellFormed c → (k : ItemKind) (i : InterfaceId) (it : Interface) → k ≡ kind.Instance i → holds_type c (kind_type k) ≡ true → item_at c.interfaces i.0 ≡ Some it → NoNameTwice it.exports → IsImportableKind c k → ArePlain c it.exports

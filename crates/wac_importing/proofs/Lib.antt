@@ -6,4 +6,5 @@ pub mod Loop
 pub mod Merging
 pub mod Asked
 pub mod ModuleImports
+pub mod Interfaces
 pub mod Defining

@@ -74,7 +74,7 @@ module _ (c : Collection) (wf : IsWellFormed c) where
   all_plain [] each = refl
   all_plain (e ∷ es) each = rw (each 0 e refl) (all_plain es (λ j x at. each (suc j) x at))
 
-  lists : (i : InterfaceId) → ArePlain c (interface_exports c i) → lists_plain c i ≡ true
+  pub lists : (i : InterfaceId) → ArePlain c (interface_exports c i) → lists_plain c i ≡ true
   lists i all = by (item_at c.interfaces i.0) refl all where
     by : (o : Option Interface) → item_at c.interfaces i.0 ≡ o → ArePlain c (option_case o [] (λ it. it.exports)) → option_case o true (λ it. are_plain it.exports) ≡ true
     by None is all = refl
@@ -97,7 +97,7 @@ module _ (c : Collection) (wf : IsWellFormed c) where
   in_split [] x ys = (0, refl)
   in_split (y ∷ xs) x ys = let (k, at) = in_split xs x ys in (suc k, at)
 
-  instance_fault : (i : InterfaceId) → ArePlain c (interface_exports c i) → (f : WriteFault) → HasRefusedItem c i (fault.Write f) → ⊥
+  pub instance_fault : (i : InterfaceId) → ArePlain c (interface_exports c i) → (f : WriteFault) → HasRefusedItem c i (fault.Write f) → ⊥
   instance_fault i all f h =
       let e : Name × ItemKind = (h.stopped.name, h.stopped.item) in
       let (k, at) = in_split h.stopped.before e h.stopped.after in

@@ -4,13 +4,14 @@ ghost use Rattle.std.specs.Prelude.{◌≡◌, ◌<◌, ℕ, true, false, List, 
 ghost use Rattle.wac_shapes.specs.Kinds.{kind_type};
 ghost use Rattle.wac_shapes.specs.declared.component.ItemKind.{ItemKind as AnyItem};
 ghost use Rattle.wac_shapes.specs.declared.component.ItemKind.TheVariants as kind;
-ghost use Rattle.wac_collection.specs.Collection.{holds_type};
+ghost use Rattle.wac_shapes.specs.declared.component.«Type».TheVariants as ty;
+ghost use Rattle.wac_collection.specs.Collection.{HasInterface, holds_type};
 ghost use Rattle.wac_subtyping.specs.Subtype.{type_tree, kind_tree};
 ghost use Rattle.wac_meaning.specs.Importable.{HasNoHandle, IsPlainItem, IsImportableKind, IsDefinableKind};
 ghost use Rattle.wac_importing.specs.Looked.{IsOfValues, HasNoResource, ArePlain, ListsPlain, AreImportable, HasNotYet};
 
 use std::alloc::AllocError;
-use wac_collection::{ItemKind, Named, Type, Types};
+use wac_collection::{InterfaceId, ItemKind, Named, Type, Types};
 use wac_reach::reach;
 
 /// Whether a held value type or function type is made of no handle.
@@ -116,15 +117,44 @@ pub fn is_importable(types: &Types, item: ItemKind) -> Result<bool, AllocError>
     lists_plain(types, item)
 }
 
-/// Whether a held item is a type that is defined so far: a type item of a value type that is made of no handle. Answers `AllocError`
-/// where memory ran out. Linear in what the type reaches.
+/// Whether a held interface has an id, uses nothing, and lists functions and type items of value types alone, made of no handle.
+fn is_definable_interface(types: &Types, interface: InterfaceId) -> Result<bool, AllocError>
+    requires { HasInterface types.now interface }
+    ensures definable { result ≡ Answers true → IsDefinableKind types.now (kind.TypeItem (ty.Interface interface)) }
+    ensures not { result ≡ Answers false → IsDefinableKind types.now (kind.TypeItem (ty.Interface interface)) → ⊥ }
+{
+    types.law();
+    let held = &types[interface];
+    if held.id.is_none() || held.uses.len() > 0 {
+        return Ok(false);
+    }
+    are_plain(types, &held.exports)
+}
+
+/// Whether a held type is a value type or a function type, made of no handle, or an interface that is defined so far.
+fn is_definable_type(types: &Types, ty: Type) -> Result<bool, AllocError>
+    requires { holds_type types.now ty ≡ true }
+    ensures definable { result ≡ Answers true → IsDefinableKind types.now (kind.TypeItem ty) }
+    ensures not { result ≡ Answers false → IsDefinableKind types.now (kind.TypeItem ty) → ⊥ }
+{
+    types.law();
+    match ty {
+        Type::Value(_) | Type::Func(_) => has_no_handle(types, ty),
+        Type::Interface(interface) => is_definable_interface(types, interface),
+        _ => Ok(false),
+    }
+}
+
+/// Whether a held item is a type that is defined so far: a type item of a value type or a function type that is made of no handle, or of
+/// an interface that has an id, uses nothing, and lists functions and type items of value types alone, made of no handle. Answers
+/// `AllocError` where memory ran out. Linear in what the type, or each of the interface's items, reaches.
 pub fn is_definable(types: &Types, item: ItemKind) -> Result<bool, AllocError>
     requires { holds_type types.now (kind_type item) ≡ true }
     ensures definable { result ≡ Answers true → IsDefinableKind types.now item }
     ensures not { result ≡ Answers false → IsDefinableKind types.now item → ⊥ }
 {
     match item {
-        ItemKind::TypeItem(ty) => is_plain_type(types, ty),
+        ItemKind::TypeItem(ty) => is_definable_type(types, ty),
         _ => Ok(false),
     }
 }

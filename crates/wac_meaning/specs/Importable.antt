@@ -1,9 +1,13 @@
 -- Which items are imported so far, and which types are defined.
-use Rattle.std.specs.Prelude.{ℕ}
+use Rattle.std.specs.Prelude.{ℕ, ◌≡◌, [], Some, IsSome, slice_get}
 use Rattle.wac_shapes.specs.Name.{Name}
+use Rattle.wac_shapes.specs.declared.component.Interface.{Interface}
+use Rattle.wac_shapes.specs.declared.component.InterfaceId.{InterfaceId}
 use Rattle.wac_shapes.specs.declared.component.ItemKind.{ItemKind}
+use Rattle.wac_shapes.specs.declared.component.ItemKind.TheVariants as kind
+use Rattle.wac_shapes.specs.declared.component.«Type».TheVariants as ty
 use Rattle.wac_collection.specs.Tree.{TypeTree, absent, resource, primitive, record_of, variant_of, list_of, fixed_list_of, tuple_of, flags_of, enum_of, option_of, result_of, stream_of, future_of, function, instance, module_of, type_equal, function_item, instance_item, module_item}
-use Rattle.wac_collection.specs.Collection.{Collection}
+use Rattle.wac_collection.specs.Collection.{Collection, item_at}
 use Rattle.wac_subtyping.specs.Subtype.{kind_tree}
 
 -- no resource stands in a value type, or in what a function takes and gives
@@ -47,11 +51,21 @@ IsImportable t = IsPlainItem t
 abbrev pub IsImportableKind : Collection → ItemKind → Type 0
 IsImportableKind c k = IsImportable (kind_tree c k)
 
--- a type that is defined so far: a value type without a resource in it
+-- a type that is defined so far: a value type or a function type, without a resource in it
 abbrev pub IsDefinable : {L : Type 0} → TypeTree L → Type 0
-IsDefinable (type_equal t) = IsPlainItem (type_equal t)
+IsDefinable (type_equal absent) = ⊥
+IsDefinable (type_equal t) = HasNoHandle t
 IsDefinable _ = ⊥
 
--- and so of a kind of item
+-- an interface that is defined so far: it has an id, it uses nothing, and each of its items is plain
+pub record IsDefinableInterface (c : Collection) (i : InterfaceId) : Type 0 where
+  pub interface : Interface
+  pub found : item_at c.interfaces i.0 ≡ Some interface
+  pub id : IsSome interface.id
+  pub uses : interface.uses ≡ []
+  pub plain : (k : ℕ) (e : Name × ItemKind) → slice_get interface.exports k ≡ Some e → IsPlainItem (kind_tree c e.1)
+
+-- and so of a kind of item; of an interface by what the collection holds, since its tree has neither its id nor its uses
 abbrev pub IsDefinableKind : Collection → ItemKind → Type 0
+IsDefinableKind c (kind.TypeItem (ty.Interface i)) = IsDefinableInterface c i
 IsDefinableKind c k = IsDefinable (kind_tree c k)

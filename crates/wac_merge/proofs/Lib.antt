@@ -6,3 +6,4 @@ pub mod BoundLookups
 pub mod OrderMentions
 pub mod MergedMentions
 pub mod RootPlaces
+pub mod UsedBefore

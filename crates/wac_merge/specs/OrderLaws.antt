@@ -1,8 +1,19 @@
 -- The laws of the order in which classes are written.
-use Rattle.std.specs.Prelude.{ℕ, ◌≡◌, ◌<◌, ◌↔◌, List, length, Some, slice_get, Contains}
-use Rattle.wac_collection.specs.Collection.{Collection}
-use Rattle.wac_entries.specs.Classes.{Entry, by_names, class_names}
+use Rattle.std.specs.Prelude.{ℕ, ◌≡◌, ◌<◌, ◌↔◌, true, false, List, take, length, Some, slice_get, Contains}
+use Rattle.wac_shapes.specs.Name.{Name, find_name}
+use Rattle.wac_shapes.specs.declared.component.Interface.{Interface}
+use Rattle.wac_shapes.specs.declared.component.InterfaceId.{InterfaceId}
+use Rattle.wac_shapes.specs.declared.component.ItemKind.TheVariants as kind
+use Rattle.wac_shapes.specs.declared.component.UsedType.{UsedType}
+use Rattle.wac_shapes.specs.declared.component.«Type».{«Type» as AnyType}
+use Rattle.wac_collection.specs.Collection.{Collection, item_at}
+use Rattle.wac_collection.specs.Uses.{is_there, is_used_by_id, name_there}
+use Rattle.wac_subtyping.specs.Subtype.{by_name}
+use Rattle.wac_subtyping.specs.TreeLaws.{IsDeepEnough}
+use Rattle.wac_entries.specs.Classes.{Entry, by_names, class_names, members, names_instance, same_class}
 use Rattle.wac_terms.specs.ClassOrder.{IsWrittenOrder, RestsOn}
+use Rattle.wac_terms.specs.Merge.{IsMerge, Merged}
+use Rattle.wac_uses.specs.KeptUses.{imported_interface, of_interface}
 use Rattle.wac_agreement.specs.Faults.{HasNoCircle}
 
 -- an order that has the number of each class, once where no class rests on itself through others, and is the only written one
@@ -19,3 +30,15 @@ OrderLaw = (c : Collection) (es : List Entry) (order : List ℕ) → IsWrittenOr
 abbrev pub RestsLaw : Type 0
 RestsLaw = (c : Collection) (es : List Entry) (order : List ℕ) → IsWrittenOrder by_names c es order
     → (i a b : ℕ) → RestsOn by_names c es a b → b < length (class_names by_names es) → slice_get order i ≡ Some a → (j : ℕ) × (j < i) × (slice_get order j ≡ Some b)
+
+-- Where a member of a class uses an interface, and an instance is asked for under its id, which is of another class, that class is imported before it, as an instance; and where an interface with that id is asked for under it, it has an id there, and lists a type under each name under which that interface does.
+abbrev pub UsedLaw : Type 0
+UsedLaw = (c : Collection) (es : List Entry) (m : Merged) → IsMerge by_names c es m
+    → (p : ℕ) (e member : Entry) (i : InterfaceId) (it used : Interface) (n id : Name) (u : UsedType)
+    → slice_get m.imports p ≡ Some e → Contains (members by_names es e.name) member → member.kind ≡ kind.Instance i → item_at c.interfaces i.0 ≡ Some it
+    → Contains it.uses (n, u) → item_at c.interfaces (u.interface).0 ≡ Some used → used.id ≡ Some id
+    → names_instance es id ≡ true → same_class by_names es id e.name ≡ false
+    → (j : InterfaceId) × (imported_interface by_names c es (take p m.imports) u.interface ≡ Some j)
+    × ((o : ℕ) (w : Entry) (x : InterfaceId) (own : Interface) → slice_get es o ≡ Some w → w.name ≡ id → w.kind ≡ kind.Instance x → item_at c.interfaces x.0 ≡ Some own → own.id ≡ Some id
+    → (is_used_by_id m.types (of_interface j u) ≡ true)
+    × (IsDeepEnough by_name c → IsDeepEnough by_name m.types → (t : AnyType) → find_name own.exports (name_there n u) ≡ Some (kind.TypeItem t) → is_there m.types (n, of_interface j u) ≡ true))

@@ -1,7 +1,7 @@
 //! Laws of classes, of faults and of the order in which classes are written, each given by a call.
 ghost use Rattle.wac_entries.specs.Classes.{ClassLaws};
 ghost use Rattle.wac_agreement.specs.Faults.{OneFault};
-ghost use Rattle.wac_merge.specs.OrderLaws.{OrderLaw, RestsLaw};
+ghost use Rattle.wac_merge.specs.OrderLaws.{OrderLaw, RestsLaw, UsedLaw};
 
 /// One class is an equivalence of names, and two entries are of one class exactly where a chain of links leads from one to the other.
 pub fn class_laws()
@@ -22,4 +22,9 @@ pub fn order_law()
 /// Where a class rests on another, that one stands before it in the order in which they are written.
 pub fn rests_law()
     ensures { RestsLaw }
+{}
+
+/// Where a class uses another that is asked for, that one is imported before it.
+pub fn used_law()
+    ensures { UsedLaw }
 {}

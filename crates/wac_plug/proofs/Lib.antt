@@ -5,6 +5,7 @@ mod Steps
 mod Order
 mod Made
 mod Each
+mod Pairs
 mod Listing
 mod Nothing
 mod Wired

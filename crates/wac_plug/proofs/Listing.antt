@@ -8,29 +8,35 @@ use Rattle.wac_shapes.specs.declared.component.ItemKind.{ItemKind}
 use Rattle.wac_shapes.specs.declared.component.World.{World}
 use Rattle.wac_shapes.specs.declared.component.WorldId.{WorldId}
 use Rattle.wac_collection.specs.Collection.{Collection, item_at, world_imports, world_exports}
+use Rattle.wac_plug.specs.declared.matching.Pair.{Pair}
 use Rattle.wac_plug.specs.Matching.{Match, IsMatch, HasNoMatch, AreMatches}
+use Rattle.wac_plug.specs.Pairs.{name_at, match_at, matches_at}
 use Rattle.wac_plug.proofs.Each.{world-imports, world-exports}
+use Rattle.wac_plug.proofs.Pairs.{name-there, named-more}
 
 module _ (types : Collection) (imports exports : List (Name × ItemKind)) where
   -- these are the matches of the exports before a position
   abbrev pub AreSoFar : ℕ → List Match → Type 0
   AreSoFar i items = (ms : List Match) → AreMatches types imports (drop i exports) ms → AreMatches types imports exports (items ++ ms)
 
-  module _ (i : ℕ) (e : Name × ItemKind) (at : slice_get exports i ≡ Some e) (o : Option Match) (found : MatchOption o (HasNoMatch types imports e) (IsMatch types imports e)) (items : List Match) (so_far : AreSoFar i items) where
+  module _ (i : ℕ) (e : Name × ItemKind) (at : slice_get exports i ≡ Some e) (o : Option ℕ) (found : MatchOption o (HasNoMatch types imports e) (λ j. IsMatch types imports e (record { export = e.0; import = name_at imports j }))) (pairs : List Pair) (so_far : AreSoFar i (matches_at exports imports pairs)) where
     place : i + 1 ≡ suc i
     place = omega arith
 
-    pub match-more : (m : Match) (new : List Match) → o ≡ Some m → new ≡ items ++ m ∷ [] → AreSoFar (i + 1) new
-    match-more m new is pushed ms h =
-        let one : IsMatch types imports e m = subst (λ o. MatchOption o (HasNoMatch types imports e) (IsMatch types imports e)) is found in
+    pub match-more : (j : ℕ) (p : Pair) (new : List Pair) → o ≡ Some j → p ≡ record { export = i; import = j } → new ≡ pairs ++ p ∷ [] → AreSoFar (i + 1) (matches_at exports imports new)
+    match-more j p new is pair pushed ms h =
+        let m : Match = match_at exports imports p in
+        let named : IsMatch types imports e (record { export = e.0; import = name_at imports j }) = subst (λ o. MatchOption o (HasNoMatch types imports e) (λ j. IsMatch types imports e (record { export = e.0; import = name_at imports j }))) is found in
+        let there : IsMatch types imports e (match_at exports imports (record { export = i; import = j })) = subst (λ n. IsMatch types imports e (record { export = n; import = name_at imports j })) (sym (name-there exports i e at)) named in
+        let one : IsMatch types imports e m = subst (λ (q : Pair). IsMatch types imports e (match_at exports imports q)) (sym pair) there in
         let rest : AreMatches types imports (drop (suc i) exports) ms = subst (λ k. AreMatches types imports (drop k exports) ms) place h in
-        let all : AreMatches types imports exports (items ++ (m ∷ ms)) = so_far (m ∷ ms) (subst (λ l. AreMatches types imports l (m ∷ ms)) (sym (drop_at exports i e at)) (inr (m, ms, refl, one, rest))) in
-        let same : new ++ ms ≡ items ++ (m ∷ ms) = ap (λ l. l ++ ms) pushed ∙ append_assoc items (m ∷ []) ms in
+        let all : AreMatches types imports exports (matches_at exports imports pairs ++ (m ∷ ms)) = so_far (m ∷ ms) (subst (λ l. AreMatches types imports l (m ∷ ms)) (sym (drop_at exports i e at)) (inr (m, ms, refl, one, rest))) in
+        let same : matches_at exports imports new ++ ms ≡ matches_at exports imports pairs ++ (m ∷ ms) = ap (λ l. l ++ ms) (named-more exports imports pairs new p pushed) ∙ append_assoc (matches_at exports imports pairs) (m ∷ []) ms in
         subst (AreMatches types imports exports) (sym same) all
 
-    pub match-none : o ≡ None → AreSoFar (i + 1) items
+    pub match-none : o ≡ None → AreSoFar (i + 1) (matches_at exports imports pairs)
     match-none is ms h =
-        let none : HasNoMatch types imports e = subst (λ o. MatchOption o (HasNoMatch types imports e) (IsMatch types imports e)) is found in
+        let none : HasNoMatch types imports e = subst (λ o. MatchOption o (HasNoMatch types imports e) (λ j. IsMatch types imports e (record { export = e.0; import = name_at imports j }))) is found in
         let rest : AreMatches types imports (drop (suc i) exports) ms = subst (λ k. AreMatches types imports (drop k exports) ms) place h in
         so_far ms (subst (λ l. AreMatches types imports l ms) (sym (drop_at exports i e at)) (inl (none, rest)))
 

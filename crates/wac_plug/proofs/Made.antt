@@ -44,3 +44,8 @@ pub passes-none : (socket : NodeId) (old : Graph) (name : Name) → IsSome (node
 passes-none socket old name there =
     let n = some-of (node_at old socket) there in
     inl (alias_error.OutOfMemory, rw n.1 refl, refl)
+
+pub wires-none : (plug socket : NodeId) (old : Graph) (m : Match) → IsSome (node_at old plug) → Wires plug socket old m (Err OutOfMemory) old
+wires-none plug socket old m there =
+    let n = some-of (node_at old plug) there in
+    inl (alias_error.OutOfMemory, rw n.1 refl, refl)

@@ -1,5 +1,6 @@
 pub mod Refusals
 pub mod Matching
+pub mod Pairs
 pub mod Tracks
 pub mod Fitting
 pub mod Plugging

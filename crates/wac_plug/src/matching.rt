@@ -7,12 +7,20 @@ ghost use Rattle.wac_shapes.specs.Named.{NoNameTwice};
 ghost use Rattle.wac_shapes.specs.declared.component.ItemKind.{ItemKind as AnItem};
 ghost use Rattle.wac_shapes.specs.declared.component.«Type».TheVariants.{World as world_type};
 ghost use Rattle.wac_plug.specs.Matching.{IsTarget, IsMatch, HasNoMatch, AreMatches};
+ghost use Rattle.wac_plug.specs.Pairs.{name_at, match_at, matches_at, IsWithin, AreWithin};
 ghost use Rattle.wac_plug.specs.Tracks.{track_key, first_at, PutsFirst, AreFirsts};
 
 use std::alloc::{AllocError, Global};
 use std::marker::Model;
 use wac_names::Track;
 use wac_types::{ItemKind, Named, ShapeError, SubtypeChecker, TypeFault, Types, WorldId};
+
+/// The positions of an export of a plug and of the import of the socket that it goes to, in their worlds.
+#[derive(Clone, Copy, Debug)]
+pub struct Pair {
+    export: usize,
+    import: usize,
+}
 
 /// An export of a plug, and the import of the socket that it goes to.
 #[derive(Drop)]
@@ -31,12 +39,21 @@ impl Model for Match {
 }
 
 impl Match {
-    /// The match of an export and an import of these names.
-    fn new(alloc: Global, export: &str, import: &str) -> Result<Match, AllocError>
-        ensures { IfOk result (λ m. m ≡ record { export = export.now; import = import.now }) }
+    /// The match of the export and of the import at these positions in the worlds of a plug and of a socket.
+    pub fn at(
+        types: &Types,
+        plug: WorldId,
+        socket: WorldId,
+        pair: &Pair,
+    ) -> Result<Match, AllocError>
+        requires plug { holds_type types.now (world_type plug) ≡ true }
+        requires socket { holds_type types.now (world_type socket) ≡ true }
+        requires within { IsWithin (world_exports types.now plug) (world_imports types.now socket) pair.now }
+        ensures { IfOk result (λ m. m ≡ match_at (world_exports types.now plug) (world_imports types.now socket) pair.now) }
     {
-        let export = String::from_str(alloc, export)?;
-        let import = String::from_str(alloc, import)?;
+        let alloc = types.allocator();
+        let export = String::from_str(alloc, types[plug].exports.name_at(pair.export))?;
+        let import = String::from_str(alloc, types[socket].imports.name_at(pair.import))?;
         Ok(Match { export, import })
     }
 
@@ -129,27 +146,27 @@ fn target(
     first_on_track(alloc, imports, firsts, name)
 }
 
-/// The match of an export of this name and kind, where it has one.
+/// The position of the import that an export of this name and kind matches, where it has a match.
 fn find_match(
     types: &Types,
     imports: &Named<ItemKind>,
     firsts: &mut Option<Named<usize>>,
     name: &str,
     kind: ItemKind,
-) -> Result<Option<Match>, AllocError>
+) -> Result<Option<usize>, AllocError>
     requires firsts { IfSome firsts.old (AreFirsts imports.now) }
     requires imports { holds_all types.now (kind_types imports.now) ≡ true }
     requires kind { holds_type types.now (kind_type kind) ≡ true }
     ensures firsts { IfSome firsts.new (AreFirsts imports.now) }
-    ensures found { IfOk result (λ o. MatchOption o (HasNoMatch types.now imports.now (name.now, kind)) (IsMatch types.now imports.now (name.now, kind))) }
+    ensures found { IfOk result (λ o. MatchOption o (HasNoMatch types.now imports.now (name.now, kind)) (λ i. IsMatch types.now imports.now (name.now, kind) (record { export = name.now; import = name_at imports.now i }))) }
+    ensures within { IfOk result (λ o. IfSome o (λ i. i < length imports.now)) }
 {
-    let alloc = types.allocator();
-    let Some(position) = target(alloc, imports, firsts, name)? else {
+    let Some(position) = target(types.allocator(), imports, firsts, name)? else {
         return Ok(None);
     };
-    let (import, wanted) = imports.entry_at(position);
+    let (_, wanted) = imports.entry_at(position);
     match SubtypeChecker::new().is_subtype(kind, types, *wanted, types) {
-        Ok(()) => Ok(Some(Match::new(alloc, name, import)?)),
+        Ok(()) => Ok(Some(position)),
         Err(TypeFault::Mismatch) => Ok(None),
         Err(TypeFault::OutOfMemory) => Err(AllocError),
     }
@@ -161,12 +178,13 @@ pub fn find_matches(
     plug: WorldId,
     socket: WorldId,
     firsts: &mut Option<Named<usize>>,
-) -> Result<Vec<Match>, AllocError>
+) -> Result<Vec<Pair>, AllocError>
     requires plug { holds_type types.now (world_type plug) ≡ true }
     requires socket { holds_type types.now (world_type socket) ≡ true }
     requires firsts { IfSome firsts.old (AreFirsts (world_imports types.now socket)) }
     ensures firsts { IfSome firsts.new (AreFirsts (world_imports types.now socket)) }
-    ensures matches { IfOk result (λ ms. AreMatches types.now (world_imports types.now socket) (world_exports types.now plug) ms.items) }
+    ensures matches { IfOk result (λ pairs. AreMatches types.now (world_imports types.now socket) (world_exports types.now plug) (matches_at (world_exports types.now plug) (world_imports types.now socket) pairs.items)) }
+    ensures within { IfOk result (λ pairs. AreWithin (world_exports types.now plug) (world_imports types.now socket) pairs.items) }
     ensures named { OnOk result (NoNameTwice (world_exports types.now plug)) }
     ensures asked { OnOk result (NoNameTwice (world_imports types.now socket)) }
 {
@@ -175,12 +193,12 @@ pub fn find_matches(
     exports.law();
     let imports = &types[socket].imports;
     imports.law();
-    let mut matches = Vec::new(types.allocator());
+    let mut pairs = Vec::with_capacity(types.allocator(), exports.len())?;
     for i in 0..exports.len() {
         let (name, kind) = exports.entry_at(i);
-        if let Some(found) = find_match(types, imports, firsts, name, *kind)? {
-            matches.push(found)?;
+        if let Some(import) = find_match(types, imports, firsts, name, *kind)? {
+            pairs.push(Pair { export: i, import })?;
         }
     }
-    Ok(matches)
+    Ok(pairs)
 }

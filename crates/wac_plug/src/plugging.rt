@@ -37,9 +37,11 @@ fn plug_one(
     ensures refused { IfErr result (λ e. PlugsNamed socket node graph.old plug (Err e) graph.new) }
 {
     graph.law();
-    let matches = find_matches(graph.types(), graph[plug].ty(), graph[socket].ty(), firsts)?;
-    plug_in(graph, plug, node, &matches)?;
-    Ok(!matches.is_empty())
+    let exporting = graph[plug].ty();
+    let importing = graph[socket].ty();
+    let pairs = find_matches(graph.types(), exporting, importing, firsts)?;
+    plug_in(graph, plug, exporting, importing, node, &pairs)?;
+    Ok(!pairs.is_empty())
 }
 
 /// Plugs in each plug that matches, in order. Answers whether one does.

@@ -1,14 +1,15 @@
 //! What plugging adds to a graph.
 ghost use Rattle.std.specs.Prelude.{◌≡◌, true, IsSome, OnOk};
-ghost use Rattle.wac_collection.specs.Collection.{holds_type, world_exports};
+ghost use Rattle.wac_collection.specs.Collection.{holds_type, world_imports, world_exports};
 ghost use Rattle.wac_shapes.specs.Named.{names_of};
 ghost use Rattle.wac_shapes.specs.declared.component.«Type».TheVariants.{World as world_type};
 ghost use Rattle.wac_nodes.specs.Graph.{node_at, package_at};
 ghost use Rattle.wac_plug.specs.Fitting.{FitsNodes, AllFit};
+ghost use Rattle.wac_plug.specs.Pairs.{matches_at, AreWithin};
 ghost use Rattle.wac_plug.specs.Plugging.{InOrder, Wires, PlugsIn, PassesOn, Keeps};
 
 use crate::errors::PlugError;
-use crate::matching::Match;
+use crate::matching::{Match, Pair};
 use wac_composition::{CompositionGraph, set_fitting_argument};
 use wac_nodes::{NodeId, PackageId};
 use wac_types::WorldId;
@@ -32,26 +33,33 @@ fn wire(
     Ok(())
 }
 
-/// Plugs in one plug by its matches; without a match it is left out.
+/// Plugs in one plug by the matches of its world with that of the socket; without a match it is left out. The names of a
+/// match are copied when it is wired, since none can be borrowed while the graph grows.
 pub fn plug_in(
     graph: &mut CompositionGraph,
     plug: PackageId,
+    exporting: WorldId,
+    importing: WorldId,
     socket: NodeId,
-    matches: &[Match],
+    pairs: &[Pair],
 ) -> Result<(), PlugError>
     requires plug { IsSome (package_at graph.old plug) }
+    requires exporting { holds_type graph.old.types (world_type exporting) ≡ true }
+    requires importing { holds_type graph.old.types (world_type importing) ≡ true }
     requires socket { IsSome (node_at graph.old socket) }
-    requires fit { AllFit graph.old plug socket matches.now }
-    ensures step { PlugsIn plug socket graph.old matches.now result graph.new }
+    requires within { AreWithin (world_exports graph.old.types exporting) (world_imports graph.old.types importing) pairs.now }
+    requires fit { AllFit graph.old plug socket (matches_at (world_exports graph.old.types exporting) (world_imports graph.old.types importing) pairs.now) }
+    ensures step { PlugsIn plug socket graph.old (matches_at (world_exports graph.old.types exporting) (world_imports graph.old.types importing) pairs.now) result graph.new }
     ensures kept { OnOk result (Keeps graph.old graph.new) }
 {
-    if matches.is_empty() {
+    if pairs.is_empty() {
         return Ok(());
     }
     graph.law();
     let node = graph.instantiate(plug)?;
-    for i in 0..matches.len() {
-        wire(graph, node, socket, &matches[i])?;
+    for i in 0..pairs.len() {
+        let found = Match::at(graph.types(), exporting, importing, &pairs[i])?;
+        wire(graph, node, socket, &found)?;
     }
     Ok(())
 }

@@ -1,4 +1,5 @@
 pub mod SatisfyLemmas
+pub mod SingleLemmas
 pub mod WayLemmas
 pub mod TiedLemmas
 pub mod SlotLemmas

@@ -79,7 +79,7 @@ impl Lost {
         ensures others { (q : ℕ) → q ≢ number → is_again self.new q ≡ is_again self.old q }
         ensures kept { (i : ℕ) → IsNoted self.old i → IsNoted self.new i }
     {
-        self.again.remove(&number)
+        !self.again.is_empty() && self.again.remove(&number)
     }
 
     /// Notes a position, where there is room for it. Takes no memory.

@@ -159,5 +159,10 @@ pub fn unsatisfy(nodes: &mut Slab<Node>, number: usize, position: usize)
     let NodeKind::Instantiation(positions) = &mut node.kind else {
         unreachable!()
     };
-    positions.remove(&position);
+    // The last one goes with the memory of the set, without a search.
+    if positions.len() == 1 && positions.contains(&position) {
+        positions.clear();
+    } else {
+        positions.remove(&position);
+    }
 }

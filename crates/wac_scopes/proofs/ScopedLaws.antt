@@ -12,7 +12,7 @@ use Rattle.wac_collection.specs.Uses.{same_value}
 use Rattle.wac_binary.specs.declared.types.ComponentValType.TheVariants.{Primitive, Index}
 use Rattle.wac_binary.specs.declared.sorts.Sort.TheVariants as s
 use Rattle.wac_binary.specs.declared.sorts.Description.TheVariants as e
-use Rattle.wac_binary.specs.Items.{ValueDef, TypeDef, ModuleDecl, Decl, decls, value_def, primitive_def, instance_def}
+use Rattle.wac_binary.specs.Items.{ValueDef, TypeDef, ModuleDecl, value_def, primitive_def}
 use Rattle.wac_binary.specs.Indexes.{space, core_types}
 use Rattle.wac_binary.specs.Unfold.{module_tree}
 use Rattle.wac_scopes.specs.declared.encodable.Encodable.{Encodable}
@@ -21,10 +21,10 @@ use Rattle.wac_scopes.specs.Contents.{content_of, IsOpenType, and_type, and_core
 use Rattle.wac_scopes.specs.Scopes.{at_type, Open, env, envs, next_type, and_def, with_def, remember_at}
 use Rattle.wac_scopes.specs.Good.{At, Onward, top}
 use Rattle.wac_scopes.specs.Laws.{Adds, DefinesValue, DefinesFunc, DefinesPrimitive, IsRecorded}
-use Rattle.wac_scopes.specs.Listed.{Lists, ListsEqual, ListsFunc}
+use Rattle.wac_scopes.specs.Listed.{Lists, ListsEqual, ListsFunc, ListsInstance}
 use Rattle.wac_scopes.specs.Modules.{and_module, module_count, with_module, DefinesModule}
-use Rattle.wac_scopes.specs.Scoped.{value_index, at_index, recorded_value, opened, IsThere, AddsValue, AddsFunc, AddsPrimitive, AddsInstance, AddsModule, ListsType, ListsValue, ListsFunction}
-use Rattle.wac_scopes.proofs.ContentLaws.{content-and-type, content-and-module, types-counted, modules-counted, lists-type-in, lists-function-in}
+use Rattle.wac_scopes.specs.Scoped.{value_index, at_index, recorded_value, opened, IsThere, AddsValue, AddsFunc, AddsPrimitive, AddsClosed, AddsModule, ListsType, ListsValue, ListsFunction, ListsInstanceOf}
+use Rattle.wac_scopes.proofs.ContentLaws.{content-and-type, content-and-module, types-counted, modules-counted, lists-type-in, lists-function-in, lists-instance-in}
 use Rattle.wac_scopes.proofs.Meant.{value-type}
 use Rattle.wac_scopes.proofs.Steps.{good-remember_at}
 use Rattle.wac_scopes.proofs.Values.{primitive-held}
@@ -75,10 +75,10 @@ adds-primitive old x p k law index appended c m ms o os g =
     let next : k ≡ next_type (opened old o) = index ∙ types-counted old.content in
     subst (λ (z : Open). Adds c (m ∷ ms) (opened old o ∷ os) (z ∷ os) k (primitive p)) (sym (opened-and-type old x (value_def (primitive_def p)) appended o)) (subst (λ (i : ℕ). Adds c (m ∷ ms) (opened old o ∷ os) (with_def (value_def (primitive_def p)) (opened old o) ∷ os) i (primitive p)) (sym next) r)
 
-pub adds-instance : (old : Scope) (x : Encodable) (ds : List Decl) (k : ℕ) → k ≡ count (space s.Type) old.content → x ≡ and_type old.content (instance_def (decls ds)) → AddsInstance old (record old { content = x }) ds k
-adds-instance old x ds k index appended c ms o os t adds =
+pub adds-closed : (old : Scope) (x : Encodable) (y : TypeDef) (k : ℕ) → k ≡ count (space s.Type) old.content → x ≡ and_type old.content y → AddsClosed old (record old { content = x }) y k
+adds-closed old x y k index appended c ms o os t adds =
     let next : k ≡ next_type (opened old o) = index ∙ types-counted old.content in
-    subst (λ (z : Open). Adds c ms (opened old o ∷ os) (z ∷ os) k t) (sym (opened-and-type old x (instance_def (decls ds)) appended o)) (subst (λ (i : ℕ). Adds c ms (opened old o ∷ os) (with_def (instance_def (decls ds)) (opened old o) ∷ os) i t) (sym next) adds)
+    subst (λ (z : Open). Adds c ms (opened old o ∷ os) (z ∷ os) k t) (sym (opened-and-type old x y appended o)) (subst (λ (i : ℕ). Adds c ms (opened old o ∷ os) (with_def y (opened old o) ∷ os) i t) (sym next) adds)
 
 pub adds-module : (old : Scope) (x : Encodable) (ds : List ModuleDecl) (k : ℕ) → DefinesModule → k ≡ count core_types old.content → x ≡ and_core_module old.content ds → AddsModule old (record old { content = x }) ds k
 adds-module old x ds k law index appended c m ms o os g says =
@@ -95,6 +95,9 @@ lists-type old x n i k law in_type index appended c m ms o os t = lists-type-in 
 
 pub lists-function : (old : Scope) (x : Encodable) (n : Name) (i : ℕ) → ListsFunc → IsOpenType old.content → x ≡ and_export old.content n (e.Func i) → ListsFunction old (record old { content = x }) n i
 lists-function old x n i law in_type appended c m ms o os t = lists-function-in law old.content x n i in_type appended c m ms (record o { memo = recorded_value old }) os t
+
+pub lists-instance-of : (old : Scope) (x : Encodable) (n : Name) (i k : ℕ) → ListsInstance → IsOpenType old.content → k ≡ count (space s.Instance) old.content → x ≡ and_export old.content n (e.Instance i) → ListsInstanceOf old (record old { content = x }) n i k
+lists-instance-of old x n i k law in_type index appended c m ms o os t = lists-instance-in law old.content x n i k in_type index appended c m ms (record o { memo = recorded_value old }) os t
 
 pub lists-value : (old new : Scope) (n : Name) (d : DefinedTypeId) (i k : ℕ) → ListsEqual → IsOpenType old.content → k ≡ count (space s.Type) old.content → new.content ≡ and_export old.content n (e.Equal i) → ((j : DefinedTypeId) → value_index new j ≡ cond (nat_eq d.0 j.0) (Some k) (value_index old j)) → ListsValue old new n d i k
 lists-value old new n d i k law in_type index appended too c m ms o os t g free held value at =

@@ -10,14 +10,14 @@ use Rattle.wac_shapes.specs.declared.component.FuncType.{FuncType}
 use Rattle.wac_shapes.specs.declared.component.ValueType.{ValueType}
 use Rattle.wac_shapes.specs.declared.component.ValueType.TheVariants as val
 use Rattle.wac_shapes.specs.declared.component.«Type».TheVariants as ty
-use Rattle.wac_collection.specs.Tree.{imported, exported, Tree, primitive, type_equal, function_item, instance_item, module_item}
+use Rattle.wac_collection.specs.Tree.{imported, exported, named, Tree, primitive, type_equal, function_item, instance_item, module_item}
 use Rattle.wac_collection.specs.Collection.{Collection, IsWellFormed, item_at}
 use Rattle.wac_collection.specs.Bound.{Bindings}
 use Rattle.wac_binary.specs.declared.types.ComponentValType.{ComponentValType}
 use Rattle.wac_binary.specs.declared.types.ComponentValType.TheVariants.{Primitive, Index}
 use Rattle.wac_binary.specs.declared.sorts.Sort.{Sort}
 use Rattle.wac_binary.specs.declared.sorts.Sort.TheVariants as s
-use Rattle.wac_binary.specs.Items.{ValueDef, TypeDef, instance_def, ModuleDecl, Decl, decls, Item}
+use Rattle.wac_binary.specs.Items.{ValueDef, TypeDef, component_def, instance_def, ModuleDecl, Decl, decls, Item}
 use Rattle.wac_binary.specs.Unfold.{Bound, no_module, module_tree}
 use Rattle.wac_binary.specs.Meaning.{import_at, Root, stands_for, meaning}
 use Rattle.wac_binary.specs.HasMeaning.{IsValue, IsFunction, IsType, IsInstance, IsModule, ModuleHasMeaning}
@@ -95,10 +95,17 @@ abbrev pub AddsPrimitive : Scope → Scope → PrimitiveType → ℕ → Type 0
 AddsPrimitive old new p k = (c : Collection) (m : Bindings) (ms : List Bindings) (o : Open) (os : Stack)
     → Good c (m ∷ ms) (opened old o ∷ os) → Adds c (m ∷ ms) (opened old o ∷ os) (opened new o ∷ os) k (primitive p)
 
--- where the declarations, closed as an instance type, would be a type of the scope, index k is that type, and so good stacks go onward
+-- where a type that is closed would be one of the scope, index k is that type, and so good stacks go onward
+abbrev pub AddsClosed : Scope → Scope → TypeDef → ℕ → Type 0
+AddsClosed old new y k = (c : Collection) (ms : List Bindings) (o : Open) (os : Stack) (t : Tree)
+    → Adds c ms (opened old o ∷ os) (with_def y (opened old o) ∷ os) (next_type (opened old o)) t → Adds c ms (opened old o ∷ os) (opened new o ∷ os) k t
+
+-- and so of declarations, closed as an instance type, and as a component type
 abbrev pub AddsInstance : Scope → Scope → List Decl → ℕ → Type 0
-AddsInstance old new ds k = (c : Collection) (ms : List Bindings) (o : Open) (os : Stack) (t : Tree)
-    → Adds c ms (opened old o ∷ os) (with_def (instance_def (decls ds)) (opened old o) ∷ os) (next_type (opened old o)) t → Adds c ms (opened old o ∷ os) (opened new o ∷ os) k t
+AddsInstance old new ds k = AddsClosed old new (instance_def (decls ds)) k
+
+abbrev pub AddsComponent : Scope → Scope → List Decl → ℕ → Type 0
+AddsComponent old new ds k = AddsClosed old new (component_def (decls ds)) k
 
 -- a core module type that has a meaning is at index k of the core types, and each good stack goes onward
 abbrev pub AddsModule : Scope → Scope → List ModuleDecl → ℕ → Type 0
@@ -123,6 +130,13 @@ abbrev pub ListsFunction : Scope → Scope → Name → ℕ → Type 0
 ListsFunction old new n i = (c : Collection) (m : Bindings) (ms : List Bindings) (o : Open) (os : Stack) (t : Tree)
     → Good c (m ∷ ms) (opened old o ∷ os) → IsNewName (opened old o) os exported n → IsFunction t → At ((env (opened old o) (envs os)).types) i t
     → Lists c m ms (opened old o) (opened new o) os exported n (function_item t)
+
+-- and an instance of the instance type at index i; index k is bound to that export
+abbrev pub ListsInstanceOf : Scope → Scope → Name → ℕ → ℕ → Type 0
+ListsInstanceOf old new n i k = (c : Collection) (m : Bindings) (ms : List Bindings) (o : Open) (os : Stack) (t : Tree)
+    → Good c (m ∷ ms) (opened old o ∷ os) → IsNewName (opened old o) os exported n → IsInstance t → At ((env (opened old o) (envs os)).types) i t
+    → Lists c m ms (opened old o) (opened new o) os exported n (instance_item t)
+    × At ((env (opened new o) (envs os)).instances) k (record { type = t; side = exported; path = named n ∷ [] })
 
 -- what the items of the root mean
 abbrev pub root_of : Scope → Root

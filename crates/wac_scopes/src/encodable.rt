@@ -5,7 +5,7 @@ ghost use Rattle.wac_binary.specs.declared.sorts.Sort.TheVariants as s;
 ghost use Rattle.wac_binary.specs.Fits.{TooLargeUnless};
 ghost use Rattle.wac_binary.specs.Indexes.{space, core_types, described_sort};
 ghost use Rattle.wac_binary.specs.declared.sorts.Description.TheVariants as e;
-ghost use Rattle.wac_binary.specs.Items.{value_def, instance_def, decls};
+ghost use Rattle.wac_binary.specs.Items.{value_def, component_def, instance_def, decls};
 ghost use Rattle.wac_binary.specs.Views.{defined_of, func_of};
 ghost use Rattle.wac_scopes.specs.Contents.{IsRoot, IsOpenType, and_type, and_core_module, and_export, and_import, count, ContentFits};
 ghost use Rattle.wac_scopes.specs.Scoped.{RecordsUnlessTooLarge};
@@ -99,6 +99,20 @@ impl Encodable {
             Encodable::Builder(content) => content.instance_type(t),
             Encodable::Instance(content) => content.instance_type(t),
             Encodable::Component(content) => content.instance_type(t),
+        }
+    }
+
+    /// Writes a component type with these declarations, and answers its type index.
+    pub(crate) fn component_type(&mut self, t: &ComponentType) -> Result<u32, BinaryFault>
+        ensures index { IfOk result (λ i. i ≡ count (space s.Type) self.old) }
+        ensures appended { OnOk result (self.new ≡ and_type self.old (component_def (decls t.now))) }
+        ensures refused { OnErr result (self.new ≡ self.old) }
+        ensures too_large { TooLargeUnless result (ContentFits (and_type self.old (component_def (decls t.now)))) }
+    {
+        match self {
+            Encodable::Builder(content) => content.component_type(t),
+            Encodable::Instance(content) => content.component_type(t),
+            Encodable::Component(content) => content.component_type(t),
         }
     }
 

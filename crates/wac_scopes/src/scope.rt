@@ -3,14 +3,14 @@
 ghost use Rattle.std.specs.Prelude.{◌≡◌, ◌<◌, ◌++◌, ◌∷◌, [], IfOk, OnOk, OnErr, None};
 ghost use Rattle.std.specs.HashMap.{spare};
 ghost use Rattle.wac_binary.specs.Fits.{Fits, TooLargeUnless};
-ghost use Rattle.wac_binary.specs.Items.{value_def, primitive_def, instance_def, decls, nested, custom, instantiate as instantiated, alias_item, export_alias, export_item};
+ghost use Rattle.wac_binary.specs.Items.{value_def, primitive_def, component_def, instance_def, decls, nested, custom, instantiate as instantiated, alias_item, export_alias, export_item};
 ghost use Rattle.wac_binary.specs.declared.sorts.Description.TheVariants as e;
 ghost use Rattle.wac_binary.specs.declared.sorts.Sort.TheVariants as s;
 ghost use Rattle.wac_binary.specs.Indexes.{space};
 ghost use Rattle.wac_binary.specs.Views.{arguments_of, defined_of, func_of};
 ghost use Rattle.wac_scopes.specs.declared.encodable.Encodable.TheVariants.{Builder};
 ghost use Rattle.wac_scopes.specs.Contents.{IsRoot, IsOpenType, and_type, and_core_module, and_export, and_import, count, items_of, ContentFits};
-ghost use Rattle.wac_scopes.specs.Scoped.{IfThere, IsThere, AddsValue, AddsFunc, AddsPrimitive, AddsInstance, AddsModule, ListsType, ListsValue, ListsFunction, RootImportsType, RootImportsValue, RootImportsFunction, RootImportsInstance, RootImportsModule, HasToo, IsAsBefore, value_index, in_use, WritesUnlessTooLarge, FitsUnlessTooLarge, RecordsUnlessTooLarge};
+ghost use Rattle.wac_scopes.specs.Scoped.{IfThere, IsThere, AddsValue, AddsFunc, AddsPrimitive, AddsInstance, AddsComponent, AddsModule, ListsType, ListsValue, ListsFunction, ListsInstanceOf, RootImportsType, RootImportsValue, RootImportsFunction, RootImportsInstance, RootImportsModule, HasToo, IsAsBefore, value_index, in_use, WritesUnlessTooLarge, FitsUnlessTooLarge, RecordsUnlessTooLarge};
 ghost use Rattle.wac_scopes.specs.Rooted.{ExportsRight};
 
 use crate::encodable::Encodable;
@@ -19,8 +19,8 @@ use crate::laws::{listing_law, module_law, root_law, rooted_law, step_law};
 use std::alloc::{AllocError, Global};
 use std::collections::HashMap;
 use wac_binary::{
-    BinaryFault, ComponentValType, DefinedType, Description, FuncType, InstanceType, ModuleType,
-    Sort,
+    BinaryFault, ComponentType, ComponentValType, DefinedType, Description, FuncType, InstanceType,
+    ModuleType, Sort,
 };
 use wac_collection::{DefinedTypeId, PrimitiveType, ValueType};
 
@@ -164,6 +164,21 @@ impl Scope {
         Ok(index)
     }
 
+    /// Writes a component type with these declarations. Answers its type index.
+    ///
+    /// Answers `TooLarge` exactly where what is written would not fit, and `OutOfMemory` where memory was refused; then it has
+    /// written nothing.
+    pub fn define_component(&mut self, t: &ComponentType) -> Result<u32, EncodeFault>
+        ensures index { IfOk result (λ k. k ≡ count (space s.Type) self.old.content) }
+        ensures stands { IfOk result (λ k. AddsComponent self.old self.new t.now k) }
+        ensures appended { OnOk result (self.new ≡ record self.old { content = and_type self.old.content (component_def (decls t.now)) }) }
+        ensures refused { OnErr result (self.new ≡ self.old) }
+        ensures too_large { WritesUnlessTooLarge result (ContentFits (and_type self.old.content (component_def (decls t.now)))) }
+    {
+        let index = self.content.component_type(t)?;
+        Ok(index)
+    }
+
     /// Writes a core module type. Answers its index among the core types.
     ///
     /// Answers `TooLarge` exactly where what is written would not fit, and `OutOfMemory` where memory was refused; then it has
@@ -239,6 +254,23 @@ impl Scope {
         listing_law();
         self.content.export(name, Description::Func(index))?;
         Ok(())
+    }
+
+    /// Lists an instance of the instance type at an index. Answers its instance index.
+    ///
+    /// Answers `TooLarge` exactly where what is written would not fit, and `OutOfMemory` where memory was refused; then it has
+    /// written nothing.
+    pub fn export_instance(&mut self, name: &str, index: u32) -> Result<u32, EncodeFault>
+        requires { IsOpenType self.old.content }
+        ensures index { IfOk result (λ k. k ≡ count (space s.Instance) self.old.content) }
+        ensures stands { IfOk result (λ k. ListsInstanceOf self.old self.new name.now index k) }
+        ensures appended { OnOk result (self.new ≡ record self.old { content = and_export self.old.content name.now (e.Instance index) }) }
+        ensures refused { OnErr result (self.new ≡ self.old) }
+        ensures too_large { WritesUnlessTooLarge result (ContentFits (and_export self.old.content name.now (e.Instance index))) }
+    {
+        listing_law();
+        let instance = self.content.export(name, Description::Instance(index))?;
+        Ok(instance)
     }
 
     /// Imports a type item that equals the type at an index, into the root. Answers its own type index.

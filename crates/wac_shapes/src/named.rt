@@ -1,6 +1,7 @@
 //! Texts, and values under names in order.
 ghost use Rattle.std.specs.Prelude.{◌≡◌, ◌<◌, ◌++◌, ◌∷◌, ◌↔◌, ℕ, List, [], length, slice_get, Some, None, Err, IfOk, OnOk, OnErr, IsOk, IsSome, string_bytes};
 ghost use Rattle.std.specs.Option.{option_map, option_copied};
+ghost use Rattle.std.specs.Str.{bytes_eq};
 ghost use Rattle.wac_shapes.specs.Name.{find_name};
 ghost use Rattle.wac_shapes.specs.Named.{named_at, named_pairs, labelled, given_names, NoNameTwice};
 
@@ -331,7 +332,10 @@ impl<'a> Iterator for LabelNames<'a> {
 }
 
 /// How many values stand in a list that is searched through, where it is not known how many there will be.
-const FEW: usize = 8;
+const FEW: usize = 32;
+
+/// How many do where it is known.
+const FEW_KNOWN: usize = 8;
 
 // A value, and the name that it stands under.
 #[derive(Drop)]
@@ -367,13 +371,27 @@ impl<V> Entry<V> {
     }
 }
 
+// Whether two names are the same. Their lengths and their last bytes tell most names apart, and cost less than a comparison.
+fn is_same(a: &str, b: &str) -> bool
+    ensures { result ≡ bytes_eq a.now b.now }
+{
+    let length = a.len();
+    if length != b.len() {
+        return false;
+    }
+    if length > 0 && a.as_bytes()[length - 1] != b.as_bytes()[length - 1] {
+        return false;
+    }
+    a == b
+}
+
 // The position of a name in a list.
 fn position_among<V>(entries: &[Entry<V>], name: &str) -> Option<usize>
     ensures { result ≡ option_map (λ p. p.0) (named_at 0 name.now entries.now) }
 {
     for i in 0..entries.len() {
         let entry = &entries[i];
-        if name == entry.name.as_str() {
+        if is_same(name, entry.name.as_str()) {
             return Some(i);
         }
     }
@@ -522,7 +540,7 @@ impl<V> Named<V> {
         ensures empty { IfOk result (λ n. n ≡ []) }
         ensures none { count ≡ 0 → IsOk result }
     {
-        if count <= FEW {
+        if count <= FEW_KNOWN {
             let few = Vec::with_capacity(alloc, count)?;
             return Ok(Named {
                 few,

@@ -5,7 +5,6 @@ ghost use Rattle.wac_cycles.specs.Cycles.{AreWithin};
 use std::alloc::{AllocError, Global};
 use std::collections::BTreeSet;
 use std::process::Abort;
-use std::test::Fail;
 use wac_cycles::cycles::{add_step, empty_sets, lowest_on_cycle};
 use wac_edges::edges::{Edge, Edges, End, Label};
 use wac_edges::node::NodeId;
@@ -28,52 +27,45 @@ fn edge_of(number: usize) -> Edge {
 fn compare(rt: &impl Abort, edges: &Edges, list: &[Edge], node: NodeId, end: End) {
     for edge in edges.walk(node, end) {
         assert!(rt; list.contains(&edge));
-        assert_eq!(rt; edge.node(end), node);
+        assert!(rt; edge.node(end) == node);
     }
     let mut walk = edges.walk(node, end);
     for _ in list {
         let _ = walk.next();
     }
     let count = list.iter().filter(|edge| edge.node(end) == node).count();
-    assert_eq!(rt; walk.steps(), count);
+    assert!(rt; walk.steps() == count);
     assert!(rt; walk.next().is_none());
 }
 
 /// Adds or removes an edge, in the list too where memory was not refused.
-fn change(
-    rt: &impl Abort,
-    edges: &mut Edges,
-    list: &mut Vec<Edge>,
-    number: usize,
-) -> Result<(), Fail> {
+fn change(rt: &impl Abort, edges: &mut Edges, list: &mut Vec<Edge>, number: usize) {
     let edge = edge_of(number);
     if number / 128 % 5 > 2 {
         edges.remove(edge);
         list.retain(|e| *e != edge);
     } else if edges.add(edge).is_ok() && !list.contains(&edge) {
-        list.push(edge)?;
+        list.push(edge).expect(rt, "room for an edge");
     }
-    assert_eq!(rt; edges.contains(edge), list.contains(&edge));
+    assert!(rt; edges.contains(edge) == list.contains(&edge));
     for node in 0..5 {
         compare(rt, edges, list, NodeId(node), End::Outgoing);
         compare(rt, edges, list, NodeId(node), End::Incoming);
     }
-    Ok(())
 }
 
 #[test]
-fn adds_and_removes(rt: HostRuntime) -> Result<(), Fail> {
+fn adds_and_removes(rt: HostRuntime) {
     let mut edges = Edges::new(rt.alloc());
-    let mut list = Vec::with_capacity(rt.alloc(), 128)?;
+    let mut list = Vec::with_capacity(rt.alloc(), 128).expect(&rt, "room for edges");
     let mut number: usize = 1;
     for _ in 0..300 {
         number = number
             .wrapping_mul(6364136223846793005)
             .wrapping_add(1442695040888963407);
-        change(&rt, &mut edges, &mut list, number / 8589934592)?;
+        change(&rt, &mut edges, &mut list, number / 8589934592);
     }
     assert!(rt; !list.is_empty());
-    Ok(())
 }
 
 /// Adds a step between numbers that have sets.
@@ -100,64 +92,78 @@ fn lowest(
     lowest_on_cycle(alloc, targets.as_slice())
 }
 
+/// The lowest number on a cycle of these steps between so many numbers is this one.
+fn assert_lowest(
+    rt: &impl Abort,
+    alloc: Global,
+    count: usize,
+    steps: &[(usize, usize)],
+    want: Option<usize>,
+) {
+    assert_eq!(rt; lowest(alloc, count, steps).expect(rt, "an answer"), want);
+}
+
 #[test]
-fn finds_the_lowest_on_a_cycle(rt: HostRuntime) -> Result<(), Fail> {
+fn finds_the_lowest_on_a_cycle(rt: HostRuntime) {
     let alloc = rt.alloc();
-    assert_eq!(rt; lowest(alloc, 3, &[])?, None);
-    assert_eq!(rt; lowest(alloc, 3, &[(0, 1), (0, 2), (1, 2)])?, None);
-    assert_eq!(rt; lowest(alloc, 3, &[(2, 2), (1, 0)])?, Some(2));
+    assert_lowest(&rt, alloc, 3, &[], None);
+    assert_lowest(&rt, alloc, 3, &[(0, 1), (0, 2), (1, 2)], None);
+    assert_lowest(&rt, alloc, 3, &[(2, 2), (1, 0)], Some(2));
     // 0 is fed by a cycle of 1 and 2, or leads to it, or both.
-    assert_eq!(rt; lowest(alloc, 3, &[(1, 2), (2, 1), (1, 0)])?, Some(1));
-    assert_eq!(rt; lowest(alloc, 3, &[(1, 2), (2, 1), (0, 2)])?, Some(1));
-    assert_eq!(rt;
-        lowest(alloc, 3, &[(1, 2), (2, 1), (0, 1), (2, 0)])?,
-        Some(0)
-    );
-    // Between two cycles; and two cycles that share a number.
-    assert_eq!(rt;
-        lowest(alloc, 5, &[(3, 4), (4, 3), (3, 0), (0, 1), (1, 2), (2, 1)])?,
-        Some(1)
-    );
-    assert_eq!(rt;
-        lowest(alloc, 5, &[(4, 3), (3, 4), (3, 1), (1, 3), (2, 1), (1, 0)])?,
-        Some(1)
-    );
-    Ok(())
+    assert_lowest(&rt, alloc, 3, &[(1, 2), (2, 1), (1, 0)], Some(1));
+    assert_lowest(&rt, alloc, 3, &[(1, 2), (2, 1), (0, 2)], Some(1));
+    assert_lowest(&rt, alloc, 3, &[(1, 2), (2, 1), (0, 1), (2, 0)], Some(0));
+}
+
+#[test]
+fn finds_the_lowest_on_two_cycles(rt: HostRuntime) {
+    // 0 stands between them.
+    let apart = [(3, 4), (4, 3), (3, 0), (0, 1), (1, 2), (2, 1)];
+    assert_lowest(&rt, rt.alloc(), 5, &apart, Some(1));
+    // They share 3.
+    let joined = [(4, 3), (3, 4), (3, 1), (1, 3), (2, 1), (1, 0)];
+    assert_lowest(&rt, rt.alloc(), 5, &joined, Some(1));
 }
 
 /// A step from each number to the next, so many from this one on.
-fn chain(alloc: Global, first: usize, count: usize) -> Result<Vec<(usize, usize)>, AllocError> {
+fn chain(rt: &impl Abort, alloc: Global, first: usize, count: usize) -> Vec<(usize, usize)> {
     let mut steps = Vec::new(alloc);
     for n in first..first.saturating_add(count) {
-        steps.push((n, n.saturating_add(1)))?;
+        steps
+            .push((n, n.saturating_add(1)))
+            .expect(rt, "room for a step");
     }
-    Ok(steps)
+    steps
 }
 
 /// Steps between 100,000 numbers: the lower half lead up, the upper half are cycles of four, each of which leads to the next.
-fn cycles_above(alloc: Global) -> Result<Vec<(usize, usize)>, AllocError> {
-    let mut steps = chain(alloc, 0, 99_999)?;
+fn cycles_above(rt: &impl Abort, alloc: Global) -> Vec<(usize, usize)> {
+    let mut steps = chain(rt, alloc, 0, 99_999);
     for n in 0..50_000 {
-        steps.push((n, n * 2 + 1))?;
+        steps.push((n, n * 2 + 1)).expect(rt, "room for a step");
     }
     for n in 12_500..25_000 {
-        steps.push((n * 4 + 3, n * 4))?;
+        steps.push((n * 4 + 3, n * 4)).expect(rt, "room for a step");
     }
-    Ok(steps)
+    steps
 }
 
 #[test]
-fn takes_no_walk_from_each_number(rt: HostRuntime) -> Result<(), Fail> {
+fn takes_no_walk_from_each_number(rt: HostRuntime) {
     let alloc = rt.alloc();
-    let mut ring = chain(alloc, 0, 99_999)?;
-    assert_eq!(rt; lowest(alloc, 100_000, ring.as_slice())?, None);
-    ring.push((99_999, 0))?;
-    assert_eq!(rt; lowest(alloc, 100_000, ring.as_slice())?, Some(0));
+    let mut ring = chain(&rt, alloc, 0, 99_999);
+    assert_lowest(&rt, alloc, 100_000, &ring, None);
+    ring.push((99_999, 0)).expect(&rt, "room for a step");
+    assert_lowest(&rt, alloc, 100_000, &ring, Some(0));
+}
+
+#[test]
+fn takes_no_walk_where_all_lead_to_a_cycle(rt: HostRuntime) {
+    let alloc = rt.alloc();
     // All others lead to a cycle of the last two.
-    let mut tail = chain(alloc, 0, 99_999)?;
-    tail.push((99_999, 99_998))?;
-    assert_eq!(rt; lowest(alloc, 100_000, tail.as_slice())?, Some(99_998));
-    let above = cycles_above(alloc)?;
-    assert_eq!(rt; lowest(alloc, 100_000, above.as_slice())?, Some(50_000));
-    Ok(())
+    let mut tail = chain(&rt, alloc, 0, 99_999);
+    tail.push((99_999, 99_998)).expect(&rt, "room for a step");
+    assert_lowest(&rt, alloc, 100_000, &tail, Some(99_998));
+    let above = cycles_above(&rt, alloc);
+    assert_lowest(&rt, alloc, 100_000, &above, Some(50_000));
 }

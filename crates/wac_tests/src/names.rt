@@ -2,7 +2,6 @@ use semver::Version;
 use std::alloc::Global;
 use std::cmp::Ordering;
 use std::process::Abort;
-use std::test::Fail;
 use wac_names::{
     ComponentName, ComponentNameKind, DependencyName, NameFault, Track, VersionRange,
     are_semver_compatible, clash, compare_versions,
@@ -23,74 +22,74 @@ enum Sort {
 
 use NameFault::{BadHash, BadLabel, BadPackage, BadRange, BadVersion, Empty, Trailing, Unclosed};
 
-const TABLE: [(&str, Result<Sort, NameFault>); 60] = [
-    ("a-1b", Ok(Sort::Label)),
-    ("A-b", Ok(Sort::Label)),
-    ("a", Ok(Sort::Label)),
-    ("a1-B2-3", Ok(Sort::Label)),
-    ("aB", Err(BadLabel)),
-    ("1a", Err(BadLabel)),
-    ("a-", Err(BadLabel)),
-    ("-a", Err(BadLabel)),
-    ("a--b", Err(BadLabel)),
-    ("a@1.0.0", Err(BadLabel)),
-    ("\u{e9}", Err(BadLabel)),
-    ("a\u{1f600}", Err(BadLabel)),
-    ("", Err(Empty)),
-    ("[constructor]a", Ok(Sort::Constructor)),
-    ("[constructor]", Err(BadLabel)),
-    ("[foo]a", Err(BadLabel)),
-    ("[", Err(BadLabel)),
-    ("[method]a.b", Ok(Sort::Method)),
-    ("[method]a.b.c", Err(BadLabel)),
-    ("[method]a", Err(BadLabel)),
-    ("[static]a.B-c", Ok(Sort::Static)),
-    ("[static].b", Err(BadLabel)),
-    ("a:b/c", Ok(Sort::Interface)),
-    ("a:b/C-d@1.0.0", Ok(Sort::Interface)),
-    ("a:b/c@1.2.3-rc.1+b", Ok(Sort::Interface)),
-    ("a:B/c", Err(BadPackage)),
-    ("A:b/c", Err(BadPackage)),
-    ("a:b", Err(BadLabel)),
-    (":", Err(BadPackage)),
-    ("a@b:c", Err(BadPackage)),
-    ("a:b/c/d", Err(BadLabel)),
-    ("a:b/c@1.0", Err(BadVersion)),
-    ("a:b/c@", Err(BadVersion)),
-    ("a:b/c@1.0.0@2.0.0", Err(BadVersion)),
-    ("unlocked-dep=<a:b>", Ok(Sort::Dependency)),
-    ("unlocked-dep=<a:b@*>", Ok(Sort::Dependency)),
-    ("unlocked-dep=<a:b@{>=1.0.0}>", Ok(Sort::Dependency)),
-    ("unlocked-dep=<a:b@{<2.0.0-rc}>", Ok(Sort::Dependency)),
-    ("unlocked-dep=<a:b@{>=1.0.0 <2.0.0}>", Ok(Sort::Dependency)),
-    ("unlocked-dep=<a:b@1.0.0>", Err(BadRange)),
-    ("unlocked-dep=<a:b@{>=1.0.0 2.0.0}>", Err(BadRange)),
-    ("unlocked-dep=<a:b@{>=1.0.0 <2.0}>", Err(BadRange)),
-    ("unlocked-dep=<a:b", Err(Unclosed)),
-    ("unlocked-dep=<a>", Err(BadPackage)),
-    ("locked-dep=<a:b>", Ok(Sort::Dependency)),
-    (
-        "locked-dep=<a:b@1.0.0>,integrity=<sha512-a>",
-        Ok(Sort::Dependency),
-    ),
-    ("locked-dep=<a:b@1>", Err(BadVersion)),
-    ("locked-dep=<a:b@1.0.0>,integrity=<sha1-a>", Err(BadHash)),
-    ("locked-dep=<a:b@1.0.0", Err(Unclosed)),
-    ("url=<>", Ok(Sort::Url)),
-    (
-        "url=<https://a.b/\u{e9}>,integrity=<sha256-a>",
-        Ok(Sort::Url),
-    ),
-    ("url=<u>x", Err(Trailing)),
-    ("url=<u<>", Err(Unclosed)),
-    ("url=<u>,integrity=<sha256-a>x", Err(Trailing)),
-    ("integrity=<sha256-aa==>", Ok(Sort::Hash)),
-    ("integrity=<sha384-a+/9?x!~ sha512-b=?>", Ok(Sort::Hash)),
-    ("integrity=<md5-a>", Err(BadHash)),
-    ("integrity=<sha256-a===>", Err(BadHash)),
-    ("integrity=<sha256-a>,", Err(Trailing)),
-    ("integrity=<sha256-a", Err(Unclosed)),
-];
+/// A row of a table: what is answered, and the text, which is empty where none stands.
+fn row(line: &str) -> (&str, &str) {
+    line.split_once(' ').unwrap_or((line, ""))
+}
+
+/// What is answered for each text, in one text, which is one value to the prover.
+const TABLE: &str = "\
+Ok(Label) a-1b
+Ok(Label) A-b
+Ok(Label) a
+Ok(Label) a1-B2-3
+Err(BadLabel) aB
+Err(BadLabel) 1a
+Err(BadLabel) a-
+Err(BadLabel) -a
+Err(BadLabel) a--b
+Err(BadLabel) a@1.0.0
+Err(BadLabel) \u{e9}
+Err(BadLabel) a\u{1f600}
+Err(Empty)
+Ok(Constructor) [constructor]a
+Err(BadLabel) [constructor]
+Err(BadLabel) [foo]a
+Err(BadLabel) [
+Ok(Method) [method]a.b
+Err(BadLabel) [method]a.b.c
+Err(BadLabel) [method]a
+Ok(Static) [static]a.B-c
+Err(BadLabel) [static].b
+Ok(Interface) a:b/c
+Ok(Interface) a:b/C-d@1.0.0
+Ok(Interface) a:b/c@1.2.3-rc.1+b
+Err(BadPackage) a:B/c
+Err(BadPackage) A:b/c
+Err(BadLabel) a:b
+Err(BadPackage) :
+Err(BadPackage) a@b:c
+Err(BadLabel) a:b/c/d
+Err(BadVersion) a:b/c@1.0
+Err(BadVersion) a:b/c@
+Err(BadVersion) a:b/c@1.0.0@2.0.0
+Ok(Dependency) unlocked-dep=<a:b>
+Ok(Dependency) unlocked-dep=<a:b@*>
+Ok(Dependency) unlocked-dep=<a:b@{>=1.0.0}>
+Ok(Dependency) unlocked-dep=<a:b@{<2.0.0-rc}>
+Ok(Dependency) unlocked-dep=<a:b@{>=1.0.0 <2.0.0}>
+Err(BadRange) unlocked-dep=<a:b@1.0.0>
+Err(BadRange) unlocked-dep=<a:b@{>=1.0.0 2.0.0}>
+Err(BadRange) unlocked-dep=<a:b@{>=1.0.0 <2.0}>
+Err(Unclosed) unlocked-dep=<a:b
+Err(BadPackage) unlocked-dep=<a>
+Ok(Dependency) locked-dep=<a:b>
+Ok(Dependency) locked-dep=<a:b@1.0.0>,integrity=<sha512-a>
+Err(BadVersion) locked-dep=<a:b@1>
+Err(BadHash) locked-dep=<a:b@1.0.0>,integrity=<sha1-a>
+Err(Unclosed) locked-dep=<a:b@1.0.0
+Ok(Url) url=<>
+Ok(Url) url=<https://a.b/\u{e9}>,integrity=<sha256-a>
+Err(Trailing) url=<u>x
+Err(Unclosed) url=<u<>
+Err(Trailing) url=<u>,integrity=<sha256-a>x
+Ok(Hash) integrity=<sha256-aa==>
+Ok(Hash) integrity=<sha384-a+/9?x!~ sha512-b=?>
+Err(BadHash) integrity=<md5-a>
+Err(BadHash) integrity=<sha256-a===>
+Err(Trailing) integrity=<sha256-a>,
+Err(Unclosed) integrity=<sha256-a
+";
 
 fn sort_of(kind: ComponentNameKind<'_>) -> Sort {
     match kind {
@@ -111,8 +110,11 @@ fn answer(alloc: Global, text: &str) -> Result<Sort, NameFault> {
 
 #[test]
 fn examples(rt: HostRuntime) {
-    for (text, want) in TABLE {
-        assert_eq!(rt; answer(rt.alloc(), text), want, "at {text}");
+    for line in TABLE.lines() {
+        let (want, text) = row(line);
+        let got = answer(rt.alloc(), text);
+        let got = format!(in rt.alloc(); "{got:?}").expect(&rt, "a text");
+        assert_eq!(rt; got.as_str(), want, "at {text}");
     }
 }
 
@@ -348,7 +350,8 @@ fn agree(rt: &impl Abort, alloc: Global, text: &str) {
 
 #[test]
 fn prefixes(rt: HostRuntime) {
-    for (text, _) in TABLE {
+    for line in TABLE.lines() {
+        let (_, text) = row(line);
         for end in 0..text.len() {
             if let Some(prefix) = text.get(..end) {
                 agree(&rt, rt.alloc(), prefix);
@@ -372,191 +375,211 @@ fn changed(
 }
 
 #[test]
-fn one_byte_changed(rt: HostRuntime) -> Result<(), Fail> {
-    for (text, _) in TABLE {
+fn one_byte_changed(rt: HostRuntime) {
+    for line in TABLE.lines() {
+        let (_, text) = row(line);
         for at in 0..text.len() {
             for byte in 0..=255 {
-                let bytes = changed(rt.alloc(), text, at, byte)?;
+                let bytes = changed(rt.alloc(), text, at, byte).expect(&rt, "bytes");
                 if let Ok(text) = std::str::from_utf8(bytes.as_slice()) {
                     agree(&rt, rt.alloc(), text);
                 }
             }
         }
     }
-    Ok(())
 }
 
 #[test]
-fn long_label(rt: HostRuntime) -> Result<(), Fail> {
+fn long_label(rt: HostRuntime) {
     let mut text = String::new(rt.alloc());
     for _ in 0..1 << 19 {
-        text.push_str("a-")?;
+        text.push_str("a-").expect(&rt, "a text");
     }
-    assert_eq!(rt; answer(rt.alloc(), text.as_str()), Err(BadLabel));
-    text.push_str("a")?;
-    assert_eq!(rt; answer(rt.alloc(), text.as_str()), Ok(Sort::Label));
-    Ok(())
+    assert!(rt; answer(rt.alloc(), text.as_str()) == Err(BadLabel));
+    text.push_str("a").expect(&rt, "a text");
+    assert!(rt; answer(rt.alloc(), text.as_str()) == Ok(Sort::Label));
 }
 
-const CLASHES: [(&str, &str, bool); 12] = [
-    ("a", "A", true),
-    ("a", "a", true),
-    ("a", "[constructor]a", false),
-    ("A", "[constructor]a", true),
-    ("[constructor]a", "[constructor]A", true),
-    ("[method]a.b", "[static]a.b", true),
-    ("[method]a.b", "[method]a.c", false),
-    ("a", "[method]a.a", false),
-    ("a:b/c", "a:b/C", false),
-    ("a:b/c", "a:b/c", true),
-    ("a", "a:b/c", false),
-    ("url=<u>", "url=<U>", false),
-];
-
-#[test]
-fn clashes(rt: HostRuntime) -> Result<(), Fail> {
-    for (a, b, want) in CLASHES {
-        let one = ComponentName::new(rt.alloc(), a)?;
-        let other = ComponentName::new(rt.alloc(), b)?;
-        assert_eq!(rt; clash(&one, &other), want, "{a} with {b}");
-        assert_eq!(rt; clash(&other, &one), want, "{b} with {a}");
-    }
-    Ok(())
-}
-
-const TRACKS: [(&str, &str, bool); 14] = [
-    ("a:b/c@0.2.0", "a:b/c@0.2.9+x", true),
-    ("a:b/c@1.0.0", "a:b/c@1.9.0", true),
-    ("a:b/c@1.0.0", "a:b/c@2.0.0", false),
-    ("a:b/c@0.2.0", "a:b/c@0.3.0", false),
-    ("a:b/c@0.0.1", "a:b/c@0.0.2", false),
-    ("a:b/c@0.0.1", "a:b/c@0.0.1+x", true),
-    ("a:b/c@0.1.0", "a:b/c@1.0.0", false),
-    ("a:b/c@1.0.0-rc", "a:b/c@1.0.0", false),
-    ("a:b/c@1.0.0-rc", "a:b/c@1.0.0-rc", true),
-    ("a:b/c@1.0.0", "a:b/d@1.0.0", false),
-    ("a:b/c", "a:b/c", true),
-    ("a:b/c", "a:b/c@1.0.0", false),
-    ("a:b/c@1", "a:b/c@1.0.0", false),
-    ("A:b/c@1.0.0", "A:b/c@1.1.0", false),
-];
-
-#[test]
-fn tracks(rt: HostRuntime) -> Result<(), Fail> {
-    for (a, b, want) in TRACKS {
-        assert_eq!(rt;
-            are_semver_compatible(rt.alloc(), a, b)?,
-            want,
-            "{a} with {b}"
-        );
-        assert_eq!(rt;
-            are_semver_compatible(rt.alloc(), b, a)?,
-            want,
-            "{b} with {a}"
-        );
-    }
-    let track = Track::new(rt.alloc(), "a:b/c@0.2.9+x")?;
-    assert_eq!(rt;
-        track,
-        Track::Minor {
-            name: "a:b/c",
-            minor: 2
-        }
-    );
-    Ok(())
-}
-
-#[test]
-fn versions(rt: HostRuntime) -> Result<(), Fail> {
-    let rising = [
-        "a:b/c",
-        "a:b/c@0.0.9",
-        "a:b/c@1.0.0-rc.2",
-        "a:b/c@1.0.0-rc.10",
-        "a:b/c@1.0.0",
-        "a:b/c@1.0.0+x",
-        "a:b/c@1.0.1",
-        "a:b/c@1.10.0",
-    ];
-    for (i, a) in rising.iter().enumerate() {
-        for (j, b) in rising.iter().enumerate() {
-            let order = compare_versions(rt.alloc(), a, b)?;
-            assert_eq!(rt; order, i.cmp(&j), "{a} with {b}");
+/// Two texts of a row, and whether they are alike: `=` stands between them then, and `/` where they are not.
+fn pair<'a>(rt: &impl Abort, line: &'a str) -> (&'a str, &'a str, bool) {
+    match line.split_once(" = ") {
+        Some((a, b)) => (a, b, true),
+        None => {
+            let (a, b) = line.split_once(" / ").expect(rt, line);
+            (a, b, false)
         }
     }
-    Ok(())
+}
+
+/// Names that clash, and names that do not.
+const CLASHES: &str = "\
+a = A
+a = a
+a / [constructor]a
+A = [constructor]a
+[constructor]a = [constructor]A
+[method]a.b = [static]a.b
+[method]a.b / [method]a.c
+a / [method]a.a
+a:b/c / a:b/C
+a:b/c = a:b/c
+a / a:b/c
+url=<u> / url=<U>
+";
+
+#[test]
+fn clashes(rt: HostRuntime) {
+    for line in CLASHES.lines() {
+        let (a, b, want) = pair(&rt, line);
+        let one = ComponentName::new(rt.alloc(), a).expect(&rt, a);
+        let other = ComponentName::new(rt.alloc(), b).expect(&rt, b);
+        assert!(rt; clash(&one, &other) == want, "{a} with {b}");
+        assert!(rt; clash(&other, &one) == want, "{b} with {a}");
+    }
+}
+
+/// Texts on one track, and texts that are not.
+const TRACKS: &str = "\
+a:b/c@0.2.0 = a:b/c@0.2.9+x
+a:b/c@1.0.0 = a:b/c@1.9.0
+a:b/c@1.0.0 / a:b/c@2.0.0
+a:b/c@0.2.0 / a:b/c@0.3.0
+a:b/c@0.0.1 / a:b/c@0.0.2
+a:b/c@0.0.1 = a:b/c@0.0.1+x
+a:b/c@0.1.0 / a:b/c@1.0.0
+a:b/c@1.0.0-rc / a:b/c@1.0.0
+a:b/c@1.0.0-rc = a:b/c@1.0.0-rc
+a:b/c@1.0.0 / a:b/d@1.0.0
+a:b/c = a:b/c
+a:b/c / a:b/c@1.0.0
+a:b/c@1 / a:b/c@1.0.0
+A:b/c@1.0.0 / A:b/c@1.1.0
+";
+
+#[test]
+fn tracks(rt: HostRuntime) {
+    for line in TRACKS.lines() {
+        let (a, b, want) = pair(&rt, line);
+        let there = are_semver_compatible(rt.alloc(), a, b).expect(&rt, "an answer");
+        assert!(rt; there == want, "{a} with {b}");
+        let back = are_semver_compatible(rt.alloc(), b, a).expect(&rt, "an answer");
+        assert!(rt; back == want, "{b} with {a}");
+    }
 }
 
 #[test]
-fn pieces(rt: HostRuntime) -> Result<(), Fail> {
-    let alloc = rt.alloc();
-    let name = ComponentName::new(alloc, "wasi:io/streams@0.2.0")?;
+fn a_track_has_its_name_and_number(rt: HostRuntime) {
+    let track = Track::new(rt.alloc(), "a:b/c@0.2.9+x").expect(&rt, "a track");
+    let minor = Track::Minor {
+        name: "a:b/c",
+        minor: 2,
+    };
+    assert_eq!(rt; track, minor);
+}
+
+/// Each comes before those that stand behind it.
+const RISING: &str = "\
+a:b/c
+a:b/c@0.0.9
+a:b/c@1.0.0-rc.2
+a:b/c@1.0.0-rc.10
+a:b/c@1.0.0
+a:b/c@1.0.0+x
+a:b/c@1.0.1
+a:b/c@1.10.0
+";
+
+#[test]
+fn versions(rt: HostRuntime) {
+    for (i, a) in RISING.lines().enumerate() {
+        for (j, b) in RISING.lines().enumerate() {
+            let order = compare_versions(rt.alloc(), a, b).expect(&rt, "an order");
+            assert!(rt; order == i.cmp(&j), "{a} with {b}");
+        }
+    }
+}
+
+#[test]
+fn pieces_of_an_interface(rt: HostRuntime) {
+    let name = ComponentName::new(rt.alloc(), "wasi:io/streams@0.2.0").expect(&rt, "a name");
     assert_eq!(rt; name.as_str(), "wasi:io/streams@0.2.0");
     assert!(rt; name.kind().is_exportable());
-    if let ComponentNameKind::Interface(interface) = name.kind() {
-        assert_eq!(rt; interface.namespace(), "wasi");
-        assert_eq!(rt; interface.package(), "io");
-        assert_eq!(rt; interface.interface(), "streams");
-        assert_eq!(rt; interface.version_text(), Some("0.2.0"));
-        assert!(rt; interface.version(alloc)? == Some(Version::new(0, 2, 0)));
-    }
-    let name = ComponentName::new(alloc, "url=<u>,integrity=<sha256-a>")?;
-    assert!(rt; !name.kind().is_exportable());
-    if let ComponentNameKind::Url(url) = name.kind() {
-        assert_eq!(rt; url.url(), "u");
-        assert_eq!(rt; url.integrity(), Some("sha256-a"));
-    }
-    let name = ComponentName::new(alloc, "unlocked-dep=<a:b@{>=1.0.0 <2.0.0}>")?;
-    if let ComponentNameKind::Dependency(
-        DependencyName::Unlocked { package, range },
-    ) = name.kind()
-    {
-        assert_eq!(rt; package.namespace(), "a");
-        assert_eq!(rt; package.name(), "b");
-        let between = VersionRange::Between {
-            low: "1.0.0",
-            high: "2.0.0",
-        };
-        assert!(rt; range == Some(between));
-    }
-    let name = ComponentName::new(alloc, "integrity=<sha256-a sha512-b>")?;
-    if let ComponentNameKind::Hash(hash) = name.kind() {
-        assert_eq!(rt; hash.integrity(), "sha256-a sha512-b");
-    }
-    Ok(())
+    let ComponentNameKind::Interface(interface) = name.kind() else {
+        panic!(rt; "no interface");
+    };
+    assert!(rt; interface.namespace() == "wasi");
+    assert!(rt; interface.package() == "io");
+    assert!(rt; interface.interface() == "streams");
+    assert!(rt; interface.version_text() == Some("0.2.0"));
+    let version = interface.version(rt.alloc()).expect(&rt, "a version");
+    assert!(rt; version == Some(Version::new(0, 2, 0)));
 }
 
 #[test]
-fn faults_display_their_names(rt: HostRuntime) -> Result<(), Fail> {
-    let names = [
-        (NameFault::Empty, "Empty"),
-        (NameFault::BadLabel, "BadLabel"),
-        (NameFault::BadVersion, "BadVersion"),
-        (NameFault::BadPackage, "BadPackage"),
-        (NameFault::BadRange, "BadRange"),
-        (NameFault::BadHash, "BadHash"),
-        (NameFault::Unclosed, "Unclosed"),
-        (NameFault::Trailing, "Trailing"),
-        (NameFault::OutOfMemory, "OutOfMemory"),
-        (NameFault::NotExportable, "NotExportable"),
+fn pieces_of_a_url(rt: HostRuntime) {
+    let name = ComponentName::new(rt.alloc(), "url=<u>,integrity=<sha256-a>").expect(&rt, "a name");
+    assert!(rt; !name.kind().is_exportable());
+    let ComponentNameKind::Url(url) = name.kind() else {
+        panic!(rt; "no url");
+    };
+    assert!(rt; url.url() == "u");
+    assert!(rt; url.integrity() == Some("sha256-a"));
+}
+
+#[test]
+fn pieces_of_a_dependency(rt: HostRuntime) {
+    let text = "unlocked-dep=<a:b@{>=1.0.0 <2.0.0}>";
+    let name = ComponentName::new(rt.alloc(), text).expect(&rt, "a name");
+    let ComponentNameKind::Dependency(DependencyName::Unlocked { package, range }) = name.kind()
+    else {
+        panic!(rt; "no unlocked dependency");
+    };
+    assert!(rt; package.namespace() == "a");
+    assert!(rt; package.name() == "b");
+    let between = VersionRange::Between {
+        low: "1.0.0",
+        high: "2.0.0",
+    };
+    assert!(rt; range == Some(between));
+}
+
+#[test]
+fn pieces_of_a_hash(rt: HostRuntime) {
+    let text = "integrity=<sha256-a sha512-b>";
+    let name = ComponentName::new(rt.alloc(), text).expect(&rt, "a name");
+    let ComponentNameKind::Hash(hash) = name.kind() else {
+        panic!(rt; "no hash");
+    };
+    assert_eq!(rt; hash.integrity(), "sha256-a sha512-b");
+}
+
+#[test]
+fn faults_display_their_names(rt: HostRuntime) {
+    let faults = [
+        NameFault::Empty,
+        NameFault::BadLabel,
+        NameFault::BadVersion,
+        NameFault::BadPackage,
+        NameFault::BadRange,
+        NameFault::BadHash,
+        NameFault::Unclosed,
+        NameFault::Trailing,
+        NameFault::OutOfMemory,
+        NameFault::NotExportable,
     ];
-    for (fault, want) in names {
-        let text = format!(in rt.alloc(); "{fault}")?;
+    let names =
+        "Empty BadLabel BadVersion BadPackage BadRange BadHash Unclosed Trailing OutOfMemory NotExportable";
+    for (fault, want) in faults.iter().zip(names.split(' ')) {
+        let text = format!(in rt.alloc(); "{fault}").expect(&rt, "a text");
         assert_eq!(rt; text.as_str(), want);
     }
-    Ok(())
 }
 
 /// With the memory refused in turn, only a version with a pre-release or build metadata wants some.
 #[test]
 fn memory(rt: HostRuntime) {
-    for text in [
-        "a",
-        "a:b/c",
-        "a:b/c@1.0.0",
-        "locked-dep=<a:b@1.2.3>",
-        "url=<u>",
-    ] {
+    let texts = "a a:b/c a:b/c@1.0.0 locked-dep=<a:b@1.2.3> url=<u>";
+    for text in texts.split(' ') {
         assert!(rt; answer(rt.alloc(), text).is_ok(), "at {text}");
         assert!(rt; Track::new(rt.alloc(), text).is_ok(), "at {text}");
     }

@@ -14,3 +14,4 @@ pub mod KeptBindings
 pub mod BoundNames
 pub mod AssembledBound
 pub mod BareImports
+pub mod ListedTypes

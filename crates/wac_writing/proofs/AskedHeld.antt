@@ -22,7 +22,8 @@ use Rattle.wac_asking.specs.ImportsLeft.{node_left}
 use Rattle.wac_nodes.specs.Entries.{under_id, used_to, used_by, with_used, asks_again, once, asked_entries}
 use Rattle.wac_asking.specs.EntriesLeft.{IsHeldKind, by_node, row_entry, asked_at, imported_at}
 use Rattle.wac_asking.proofs.EntryLists.{all_joined}
-use Rattle.wac_writing.proofs.AskingWalk.{first_entries, first_held}
+use Rattle.wac_causes.specs.TypeFaults.{wanted_by, wanted_at, wanted_entries}
+use Rattle.wac_writing.proofs.AskingWalk.{first_entries, first_held, wanted_asked}
 
 -- ---- lists
 all_of : {A : Type 0} (P : A → Type 0) → ((x : A) → P x) → (xs : List A) → AllByRecursion P xs
@@ -121,6 +122,19 @@ module _ (g : Graph) (n : ℕ) where
       by_kind (graph.import name) is = rw is (sound.held (node_number n) node at, tt)
       by_kind graph.alias is = rw is tt
 
+  wanted_held_at : IsSound g → IsWellFormed g.types → AllByRecursion (λ e. IsHeldKind g.types e.kind) (wanted_at g n)
+  wanted_held_at sound wf = split (node_at g (node_number n)) refl where
+    split : (o : Option GraphNode) → node_at g (node_number n) ≡ o → AllByRecursion (λ e. IsHeldKind g.types e.kind) (wanted_by g n o)
+    split None _ = tt
+    split (Some node) at = by_kind node.kind refl where
+      by_kind : (k : Kind) → node.kind ≡ k → AllByRecursion (λ e. IsHeldKind g.types e.kind) (wanted_by g n (Some node))
+      by_kind graph.instantiation is =
+          subst (AllByRecursion (λ e. IsHeldKind g.types e.kind)) (wanted_asked g n (Some node) node refl is)
+          (subst (λ o. AllByRecursion (λ e. IsHeldKind g.types e.kind) (asked_by g n o)) at (asked_held wf))
+      by_kind graph.definition is = rw is (sound.held (node_number n) node at, tt)
+      by_kind (graph.import name) is = rw is (sound.held (node_number n) node at, tt)
+      by_kind graph.alias is = rw is tt
+
 -- ---- who asks for it
 module _ (g : Graph) where
   abbrev IsAskedByNode : Entry → Type 0
@@ -156,3 +170,11 @@ held_entries g sound wf = all_entries g (λ e. IsHeldKind g.types e.kind) (λ e 
 
 pub asking_nodes : (g : Graph) → AllByRecursion (λ e. AsksImplicitly g (node_number e.node) ⊎ AsksExplicitly g (node_number e.node)) (asked_entries g)
 asking_nodes g = all_entries g (IsAskedByNode g) (λ e h name i held. h) (asked_by_node g) (imported_by_node g)
+
+pub held_wanted : (g : Graph) → IsSound g → IsWellFormed g.types → AllByRecursion (λ e. IsHeldKind g.types e.kind) (wanted_entries g)
+held_wanted g sound wf =
+    let P : Entry → Type 0 = λ e. IsHeldKind g.types e.kind in
+    let ns = finite.keys g.nodes in
+    let each = all_flat P (wanted_at g) ns (all_of (λ n. AllByRecursion P (wanted_at g n)) (λ n. wanted_held_at g n sound wf) ns) in
+    all_once P (flat_map (with_used g.types) (flat_map (wanted_at g) ns))
+    (all_flat P (with_used g.types) (flat_map (wanted_at g) ns) (each_with_used g P (λ e h name i held. held) (flat_map (wanted_at g) ns) each))

@@ -2,6 +2,7 @@
 use Rattle.std.proofs.Common.{◌≡◌, ℕ, zero, suc, ◌+◌, ◌≤◌, Bool, true, false, cond, List, [], ◌∷◌, ◌++◌, map, length, refl, ap, ◌∙◌, sym, subst, append_assoc, arith, Option, Some, None}
 use Rattle.std.specs.Prelude.{slice_get}
 use Rattle.std.specs.List.{AllByRecursion, flat_map, range_with_len}
+use Rattle.std.specs.FinMap as finite
 use Rattle.std.proofs.lemmas.List.{append-nil}
 use Rattle.wac_shapes.specs.Name.{Name, option_case}
 use Rattle.wac_collection.specs.Collection.{Collection, IsWellFormed, item_at, holds_type}
@@ -22,6 +23,7 @@ use Rattle.wac_asking.specs.EntriesLeft.{IsHeldKind, AsksAlike, row_entry, all_w
 use Rattle.wac_fields.specs.Fields.{Fields, graph_of}
 use Rattle.wac_asking.proofs.EntryLists.{stands_itself, stands_through, stands_more}
 use Rattle.wac_nodes.proofs.HeldLemmas.{imports_held}
+use Rattle.wac_causes.specs.TypeFaults.{wanted_by, wanted_at}
 use Rattle.wac_writing.proofs.EncodingLemmas.{node_is}
 use Rattle.wac_writing.proofs.ImportRows.{by_numbers}
 
@@ -161,6 +163,20 @@ module _ (a : Fields) (end : ℕ) (slots : length a.nodes.slots ≤ end) where
 
   pub all_imported : all_imported_by (graph_of a) ≡ flat_map (imported_at (graph_of a)) (range_with_len 0 end)
   all_imported = by_numbers a end slots (imported_at (graph_of a)) (λ n none. ap (imported_by n) (node_is a n None none))
+
+  pub all_wanted : flat_map (wanted_at (graph_of a)) (finite.keys (graph_of a).nodes) ≡ flat_map (wanted_at (graph_of a)) (range_with_len 0 end)
+  all_wanted = by_numbers a end slots (wanted_at (graph_of a)) (λ n none. ap (wanted_by (graph_of a) n) (node_is a n None none))
+
+-- what an instantiation is wanted for is what it asks for
+pub wanted_asked : (g : Graph) (n : ℕ) (o : Option GraphNode) (node : GraphNode) → o ≡ Some node → node.kind ≡ graph.instantiation → asked_by g n o ≡ wanted_by g n o
+wanted_asked g n None node is kind = cc
+wanted_asked g n (Some other) node is kind =
+    let same : other ≡ node = cc in
+    let of_other : other.kind ≡ graph.instantiation = ap (λ (x : GraphNode). x.kind) same ∙ kind in
+    by of_other
+  where
+    by : other.kind ≡ graph.instantiation → asked_by g n (Some other) ≡ wanted_by g n (Some other)
+    by e = rw e refl
 
 -- first what instantiations ask for, then what import nodes do
 pub both_asked : (g : Graph) (mid new : List Entry) → AsksAlike g.types (all_with_used g.types (all_asked_by g)) mid → AsksAlike g.types (mid ++ all_with_used g.types (all_imported_by g)) new → AsksAlike g.types (all_with_used g.types (asked g)) new

@@ -22,11 +22,15 @@ use Rattle.wac_entries.specs.Classes.{by_names}
 use Rattle.wac_terms.specs.NoDisagreement.{HasNoDisagreement}
 use Rattle.wac_nodes.specs.Asked.{Entry}
 use Rattle.wac_nodes.specs.Entries.{asked_entries, to_merge}
-use Rattle.wac_causes.specs.Cause.{IsFirstConflict, HasNoConflict, HasMerge, IsMergeConflict, IsImplicitMerge, IsExplicitMerge, IsImportCircle, Cause, cycle, conflict, implicit_merge, explicit_merge, import_circle, not_yet, invalid, a_disagreement, an_invalid_name, rank, kind_of_cause, Stands, cause_of, AnswersFor}
+use Rattle.wac_causes.specs.Cause.{IsFirstConflict, HasNoConflict, HasMerge, IsMergeConflict, IsImplicitMerge, IsExplicitMerge, IsImportCircle, Cause, cycle, conflict, implicit_merge, explicit_merge, import_circle, unwritable, not_yet, invalid, a_disagreement, an_invalid_name, rank, kind_of_cause, Stands, cause_of, AnswersFor}
+use Rattle.wac_causes.specs.TypeFaults.{wanted_entries, IsEntryFault, IsTypeFault, HasNoTypeFault}
 use Rattle.wac_causes.specs.Search.{IsRefused}
+use Rattle.wac_scopes.specs.declared.fault.WriteFault.{WriteFault}
+use Rattle.wac_writable.specs.Faults.{IsLowest}
+use Rattle.wac_writable.proofs.Lowest.{one_lowest}
 use Rattle.wac_writing.specs.Refused.{IsRefusedBefore}
 use Rattle.wac_writing.proofs.OuterLemmas.{nothing_left}
-use Rattle.wac_causes.proofs.StandsLemmas.{stands_cycle, stands_not_yet, same_kind, none_there, invalid_alone}
+use Rattle.wac_causes.proofs.StandsLemmas.{stands_cycle, stands_unwritable, stands_not_yet, same_kind, none_there, invalid_alone}
 use Rattle.wac_causes.specs.OuterNames.{IsOuterFault}
 use Rattle.wac_validation.specs.FirstFault as names
 use Rattle.wac_agreement.specs.declared.fault.MergeFault.TheVariants as merge
@@ -131,6 +135,18 @@ module _ (g : Graph) (law : OneFault) where
   one_circle : (i j : Name) → HasNoDisagreement by_names g.types (to_merge (asked_entries g)) → IsImportCircle g i → IsImportCircle g j → import_circle i ≡ import_circle j
   one_circle i j agree a b = ap import_circle (ap text_in (law g.types (to_merge (asked_entries g)) (use_each_other i) (use_each_other j) (agree, a) (agree, b)))
 
+-- of what cannot be written one fault is the first
+one_type_fault : (g : Graph) (n m : NodeId) (f h : WriteFault) → IsTypeFault g n f → IsTypeFault g m h → unwritable n f ≡ unwritable m h
+one_type_fault g n m f h a b =
+    let up = a.first b.position b.entry h b.there b.lowest.0 in
+    let down = b.first a.position a.entry f a.there a.lowest.0 in
+    let at : a.position ≡ b.position = omega (arith, up, down) in
+    let entry : a.entry ≡ b.entry = same_some (slice_get (wanted_entries g) a.position) a.entry b.entry a.there (ap (slice_get (wanted_entries g)) at ∙ b.there) in
+    let number : n.0 ≡ m.0 = a.by_node ∙ (ap (λ (e : Entry). e.node) entry ∙ sym b.by_node) in
+    let node : n ≡ m = λ d. record { 0 = number d } in
+    let fault : f ≡ h = one_lowest (IsEntryFault g b.entry) f h (subst (λ (e : Entry). IsLowest (IsEntryFault g e) (Some f)) entry a.lowest) b.lowest in
+    λ d. unwritable (node d) (fault d)
+
 -- of one kind no two causes are named
 one_named : (g : Graph) → IsSound g → OneFault → (o : EncodeOptions) (a b : Cause) → rank (kind_of_cause a) < rank an_invalid_name → kind_of_cause a ≡ kind_of_cause b → Stands g o a → Stands g o b → a ≡ b
 one_named g sound law o (cycle n) (cycle m) before e a b = ap cycle (same_id n m (a.1.lowest m b.1.here) (b.1.lowest n a.1.here))
@@ -138,6 +154,7 @@ one_named g sound law o (cycle n) (conflict j m l t) before e a b = cc
 one_named g sound law o (cycle n) (implicit_merge i f s p q x) before e a b = cc
 one_named g sound law o (cycle n) (explicit_merge i m k) before e a b = cc
 one_named g sound law o (cycle n) (import_circle i) before e a b = cc
+one_named g sound law o (cycle n) (unwritable m h) before e a b = cc
 one_named g sound law o (cycle n) not_yet before e a b = cc
 one_named g sound law o (cycle n) (invalid f') before e a b = cc
 one_named g sound law o (conflict i n k s) (cycle m) before e a b = cc
@@ -145,6 +162,7 @@ one_named g sound law o (conflict i n k s) (conflict j m l t) before e a b = one
 one_named g sound law o (conflict i n k s) (implicit_merge j f t p q x) before e a b = cc
 one_named g sound law o (conflict i n k s) (explicit_merge j m t) before e a b = cc
 one_named g sound law o (conflict i n k s) (import_circle j) before e a b = cc
+one_named g sound law o (conflict i n k s) (unwritable m h) before e a b = cc
 one_named g sound law o (conflict i n k s) not_yet before e a b = cc
 one_named g sound law o (conflict i n k s) (invalid f') before e a b = cc
 one_named g sound law o (implicit_merge i f s p q x) (cycle m) before e a b = cc
@@ -152,6 +170,7 @@ one_named g sound law o (implicit_merge i f s p q x) (conflict j m l t) before e
 one_named g sound law o (implicit_merge i f s p q x) (implicit_merge j t u r v y) before e a b = one_implicit g law i j f s t u p q r v x y a.1 b.1
 one_named g sound law o (implicit_merge i f s p q x) (explicit_merge j n k) before e a b = absurd (not_both g law i j f s n k p q x a.1 b.1)
 one_named g sound law o (implicit_merge i f s p q x) (import_circle j) before e a b = cc
+one_named g sound law o (implicit_merge i f s p q x) (unwritable m h) before e a b = cc
 one_named g sound law o (implicit_merge i f s p q x) not_yet before e a b = cc
 one_named g sound law o (implicit_merge i f s p q x) (invalid f') before e a b = cc
 one_named g sound law o (explicit_merge i n k) (cycle m) before e a b = cc
@@ -159,6 +178,7 @@ one_named g sound law o (explicit_merge i n k) (conflict j m l t) before e a b =
 one_named g sound law o (explicit_merge i n k) (implicit_merge j t u r v y) before e a b = absurd (not_both g law j i t u n k r v y b.1 a.1)
 one_named g sound law o (explicit_merge i n k) (explicit_merge j m l) before e a b = one_explicit g law i j n k m l a.1 b.1
 one_named g sound law o (explicit_merge i n k) (import_circle j) before e a b = cc
+one_named g sound law o (explicit_merge i n k) (unwritable m h) before e a b = cc
 one_named g sound law o (explicit_merge i n k) not_yet before e a b = cc
 one_named g sound law o (explicit_merge i n k) (invalid f') before e a b = cc
 one_named g sound law o (import_circle i) (cycle m) before e a b = cc
@@ -166,13 +186,23 @@ one_named g sound law o (import_circle i) (conflict j m l t) before e a b = cc
 one_named g sound law o (import_circle i) (implicit_merge j t u r v y) before e a b = cc
 one_named g sound law o (import_circle i) (explicit_merge j m l) before e a b = cc
 one_named g sound law o (import_circle i) (import_circle j) before e a b = one_circle g law i j (λ p q h. a.0.1 a_disagreement (omega arith) (p, q, h)) a.1 b.1
+one_named g sound law o (import_circle i) (unwritable m h) before e a b = cc
 one_named g sound law o (import_circle i) not_yet before e a b = cc
 one_named g sound law o (import_circle i) (invalid f') before e a b = cc
+one_named g sound law o (unwritable n f) (cycle m) before e a b = cc
+one_named g sound law o (unwritable n f) (conflict j m l t) before e a b = cc
+one_named g sound law o (unwritable n f) (implicit_merge j t u r v y) before e a b = cc
+one_named g sound law o (unwritable n f) (explicit_merge j m l) before e a b = cc
+one_named g sound law o (unwritable n f) (import_circle j) before e a b = cc
+one_named g sound law o (unwritable n f) (unwritable m h) before e a b = one_type_fault g n m f h a.1 b.1
+one_named g sound law o (unwritable n f) not_yet before e a b = cc
+one_named g sound law o (unwritable n f) (invalid f') before e a b = cc
 one_named g sound law o not_yet (cycle m) before e a b = cc
 one_named g sound law o not_yet (conflict j m l t) before e a b = cc
 one_named g sound law o not_yet (implicit_merge j t u r v y) before e a b = cc
 one_named g sound law o not_yet (explicit_merge j m l) before e a b = cc
 one_named g sound law o not_yet (import_circle j) before e a b = cc
+one_named g sound law o not_yet (unwritable m h) before e a b = cc
 one_named g sound law o not_yet not_yet before e a b = refl
 one_named g sound law o not_yet (invalid f') before e a b = cc
 one_named g sound law o (invalid f') b' before e a b = absurd (omega (arith, before))
@@ -193,18 +223,21 @@ refused_for g sound law o e (inr (named, names, before, there)) cause stands = i
 
 -- where all is written names alone may be at fault
 abbrev pub IsChecked : Graph → EncodeOptions → Type 0
-IsChecked g o = IsAcyclic g.edges × HasNoConflict g × HasMerge g × (IsNotYet g o → ⊥)
+IsChecked g o = IsAcyclic g.edges × HasNoConflict g × HasMerge g × HasNoTypeFault g × (IsNotYet g o → ⊥)
 
 -- where the names are valid, or none asks whether they are, no cause stands
 pub none_stands : (g : Graph) → (o : EncodeOptions) → IsChecked g o → (IsTrue o.validate → (fault : names.Fault) → IsOuterFault g o fault → ⊥) → (cause : Cause) → Stands g o cause → ⊥
-none_stands g o h valid cause s = none_there g o h.0 h.1 h.2 h.3 valid (kind_of_cause cause) s.0.0
+none_stands g o h valid cause s = none_there g o h.0 h.1 h.2 h.3 h.4 valid (kind_of_cause cause) s.0.0
 
 -- where a size does not fit names alone may be at fault as well
 pub too_large : (g : Graph) → (o : EncodeOptions) → IsChecked g o → (cause : Cause) → Stands g o cause → AnswersFor cause error.TooLarge
-too_large g o h cause s = inr (inr (invalid_alone g o h.0 h.1 h.2 h.3 (kind_of_cause cause) s.0.0, refl))
+too_large g o h cause s = inr (inr (invalid_alone g o h.0 h.1 h.2 h.3 h.4 (kind_of_cause cause) s.0.0, refl))
 
-pub at_not_yet : (g : Graph) (o : EncodeOptions) → IsAcyclic g.edges → HasNoConflict g → HasMerge g → IsNotYet g o → IsRefused g o error.NotYet
-at_not_yet g o acyclic apart merges here = inr (not_yet, refl, lit< tt, stands_not_yet g o acyclic apart merges here)
+pub at_not_yet : (g : Graph) (o : EncodeOptions) → IsAcyclic g.edges → HasNoConflict g → HasMerge g → HasNoTypeFault g → IsNotYet g o → IsRefused g o error.NotYet
+at_not_yet g o acyclic apart merges types here = inr (not_yet, refl, lit< tt, stands_not_yet g o acyclic apart merges types here)
+
+pub at_type_fault : (g : Graph) (n : NodeId) (f : WriteFault) → IsAcyclic g.edges → HasNoConflict g → HasMerge g → IsTypeFault g n f → (o : EncodeOptions) → IsRefused g o (error.TypeNotWritable n f)
+at_type_fault g n f acyclic apart merges here o = inr (unwritable n f, refl, lit< tt, stands_unwritable g o n f acyclic apart merges here)
 
 pub at_cycle : (g : Graph) (n : NodeId) → IsLowestOnCycle g.edges n → (o : EncodeOptions) → IsRefused g o (error.GraphContainsCycle n)
 at_cycle g n lowest o = inr (cycle n, refl, lit< tt, stands_cycle g o n lowest)
@@ -218,6 +251,7 @@ nameless (error.ImportTypeMergeConflict import first second (merge.UseEachOther 
 nameless (error.ImportTypeMergeConflict import first second merge.OutOfMemory) h = cc
 nameless (error.ExplicitImportMergeConflict import node other) h = cc
 nameless (error.ImportsUseEachOther import) h = cc
+nameless (error.TypeNotWritable node fault) h = cc
 nameless error.TooLarge h = inr refl
 nameless error.OutOfMemory h = inl refl
 nameless error.NotYet h = cc
@@ -234,9 +268,9 @@ pub begun_cause : (g : Graph) (o : EncodeOptions) (e : EncodeError) → IsRefuse
 begun_cause g o e (inl h) = names_cause g o e h
 begun_cause g o e (inr (none, written)) = subst (λ x. IfSome x (Stands g o)) (sym none) tt
 
-pub begun_refused : (g : Graph) → IsSound g → OneFault → (o : EncodeOptions) → IsAcyclic g.edges → HasNoConflict g → HasMerge g → (e : EncodeError) → IsRefusedBefore g o e → (cause : Cause) → Stands g o cause → AnswersFor cause e
-begun_refused g sound law o acyclic apart merges e (inl h) cause s = refused_for g sound law o e h cause s
-begun_refused g sound law o acyclic apart merges e (inr (none, written)) cause s = nameless_answers g o (acyclic, apart, merges, written) e none cause s
+pub begun_refused : (g : Graph) → IsSound g → OneFault → (o : EncodeOptions) → IsAcyclic g.edges → HasNoConflict g → HasMerge g → HasNoTypeFault g → (e : EncodeError) → IsRefusedBefore g o e → (cause : Cause) → Stands g o cause → AnswersFor cause e
+begun_refused g sound law o acyclic apart merges types e (inl h) cause s = refused_for g sound law o e h cause s
+begun_refused g sound law o acyclic apart merges types e (inr (none, written)) cause s = nameless_answers g o (acyclic, apart, merges, types, written) e none cause s
 
 -- what the builder refuses names no cause
 pub binary_nameless : (e : BinaryFault) → cause_of (encode_error e) ≡ None

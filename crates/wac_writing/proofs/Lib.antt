@@ -9,6 +9,7 @@ pub mod SourceLemmas
 pub mod ImportRows
 pub mod AskingWalk
 pub mod AskedHeld
+pub mod WantedLemmas
 pub mod MergeLemmas
 pub mod ConflictLemmas
 pub mod WriteAliasLemmas

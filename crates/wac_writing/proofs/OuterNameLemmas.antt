@@ -31,7 +31,7 @@ use Rattle.wac_validation.specs.Valid.{AreValid}
 use Rattle.wac_validation.specs.declared.fault.ValidationError.{ValidationError}
 use Rattle.wac_validation.specs.declared.fault.ValidationError.TheVariants as validation
 use Rattle.wac_causes.specs.declared.errors.EncodeError.{EncodeError}
-use Rattle.wac_causes.specs.Cause.{Cause, cycle, conflict, implicit_merge, explicit_merge, import_circle, not_yet, invalid, an_invalid_name, kind_of_cause, IsNamed, Stands, cause_of, AnswersFor}
+use Rattle.wac_causes.specs.Cause.{Cause, cycle, conflict, implicit_merge, explicit_merge, import_circle, unwritable, not_yet, invalid, an_invalid_name, kind_of_cause, IsNamed, Stands, cause_of, AnswersFor}
 use Rattle.wac_causes.specs.Faults.{validation_failure}
 use Rattle.wac_causes.specs.OuterNames.{first_name_of, written_exports, AreOuterNames, import_names, export_names, IsOuterFault}
 use Rattle.wac_causes.specs.Search.{NamesFault}
@@ -173,17 +173,18 @@ module _ (g : Graph) (sound : IsSound g) (o : EncodeOptions) (define : o.define_
   -- the fault that is named stands
   pub fault_stands : IsChecked g o → (e : EncodeError) → IsTrue o.validate → NamesFault AreWrong e → IfSome (cause_of e) (Stands g o)
   fault_stands h e asked (inl is) = subst (λ x. IfSome (cause_of x) (Stands g o)) (sym is) tt
-  fault_stands h e asked (inr (f, names, first, one)) = subst (λ x. IfSome x (Stands g o)) (sym names) (stands_invalid g o f h.0 h.1 h.2 h.3 asked (of_graph f first))
+  fault_stands h e asked (inr (f, names, first, one)) = subst (λ x. IfSome x (Stands g o)) (sym names) (stands_invalid g o f h.0 h.1 h.2 h.3 h.4 asked (of_graph f first))
 
   -- and what stands is named
   pub fault_answers : IsChecked g o → (e : EncodeError) → NamesFault AreWrong e → (cause : Cause) → Stands g o cause → AnswersFor cause e
   fault_answers h e (inl is) cause s = inr (inl is)
-  fault_answers h e (inr (f, names, first, one)) cause s = named cause (invalid_alone g o h.0 h.1 h.2 h.3 (kind_of_cause cause) s.0.0) s.1 where
+  fault_answers h e (inr (f, names, first, one)) cause s = named cause (invalid_alone g o h.0 h.1 h.2 h.3 h.4 (kind_of_cause cause) s.0.0) s.1 where
     named : (cause : Cause) → kind_of_cause cause ≡ an_invalid_name → IsNamed g o cause → AnswersFor cause e
     named (cycle node) k is = cc
     named (conflict import instantiation key name) k is = cc
     named (implicit_merge import first second p q export) k is = cc
     named (explicit_merge import node other) k is = cc
     named (import_circle import) k is = cc
+    named (unwritable node fault) k is = cc
     named not_yet k is = cc
     named (invalid other) k is = inl (names ∙ ap (λ x. Some (invalid x)) (sym (one other (from_graph other is))))

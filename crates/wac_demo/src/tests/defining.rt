@@ -3,7 +3,10 @@ use crate::compositions::{function, register};
 use std::alloc::Global;
 use std::process::Abort;
 use std::test::Fail;
-use wac_graph::types::{DefinedType, Enum, Interface, PrimitiveType, Resource, Type, ValueType};
+use wac_graph::types::{
+    DefinedType, Enum, FuncType, Interface, ItemKind, PrimitiveType, Record, Resource, Type,
+    ValueType, World,
+};
 use wac_graph::{
     CompositionGraph, DefineTypeError, EncodeError, EncodeOptions, NodeId, ValidationFault,
 };
@@ -228,6 +231,52 @@ fn a_definition_is_exported_by_further_names(rt: HostRuntime) -> Result<(), Fail
     Ok(())
 }
 
+// The function type, and its export as a type.
+#[test]
+fn definitions_of_function_types_are_written(rt: HostRuntime) -> Result<(), Fail> {
+    let alloc = rt.alloc();
+    let mut graph = CompositionGraph::new(alloc);
+    let func = graph.add_func_type(FuncType::new(alloc, &[], None, false)?)?;
+    define(&rt, &mut graph, "f", Type::Func(func))?;
+    let text = encoded(alloc, &graph)?;
+    assert_eq!(rt; text.as_str(), "070501400001000b0701000166030000");
+    Ok(())
+}
+
+// A function type stands behind the record that it is made of, and goes by the index of the record's export.
+#[test]
+fn definitions_of_function_types_go_by_defined_records(rt: HostRuntime) -> Result<(), Fail> {
+    let alloc = rt.alloc();
+    let mut graph = CompositionGraph::new(alloc);
+    let flag = ValueType::Primitive(PrimitiveType::Bool);
+    let record = defined(
+        &mut graph,
+        DefinedType::Record(Record::new(alloc, &[("b", flag)])?),
+    )?;
+    let func = graph.add_func_type(FuncType::new(alloc, &[("x", record)], Some(record), false)?)?;
+    define(&rt, &mut graph, "f", Type::Func(func))?;
+    define(&rt, &mut graph, "r", Type::Value(record))?;
+    let text = encoded(alloc, &graph)?;
+    assert_eq!(rt;
+        text.as_str(),
+        "070601720101627f0b0701000172030000070801400101780100010b0701000166030200"
+    );
+    Ok(())
+}
+
+#[test]
+fn definitions_of_function_types_over_handles_are_not_written(rt: HostRuntime) -> Result<(), Fail> {
+    let alloc = rt.alloc();
+    let mut graph = CompositionGraph::new(alloc);
+    let resource = graph.add_resource(Resource::new(alloc, "r")?)?;
+    let handle = ValueType::Own(resource);
+    let func = graph.add_func_type(FuncType::new(alloc, &[("x", handle)], None, false)?)?;
+    define(&rt, &mut graph, "f", Type::Func(func))?;
+    let text = encoded(alloc, &graph)?;
+    assert_eq!(rt; text.as_str(), NOT_YET);
+    Ok(())
+}
+
 // A definition beside an import: the import stands first.
 #[test]
 fn definitions_stand_behind_imports(rt: HostRuntime) -> Result<(), Fail> {
@@ -267,6 +316,26 @@ fn definitions_stand_among_instances(rt: HostRuntime) -> Result<(), Fail> {
     Ok(())
 }
 
+// A component and its instance may stand between two definitions, of which the later goes by the index of the earlier's export.
+#[test]
+fn instances_stand_among_definitions(rt: HostRuntime) -> Result<(), Fail> {
+    let alloc = rt.alloc();
+    let mut graph = CompositionGraph::new(alloc);
+    let package = register(alloc, &mut graph, "my:package", &[], &[])?;
+    let types = diamond(alloc, &mut graph)?;
+    define(&rt, &mut graph, "a", types[0])?;
+    let held = graph.has_package(package);
+    assert!(rt; held);
+    graph.instantiate(package)?;
+    define(&rt, &mut graph, "b", types[1])?;
+    let text = encoded(alloc, &graph)?;
+    assert_eq!(rt;
+        text.as_str(),
+        "0705016d0101780b070100016103000004080061736d0d00010005040100000007030170010b0701000162030200"
+    );
+    Ok(())
+}
+
 // A name that may not be exported is refused where validation is asked for.
 #[test]
 fn names_of_definitions_are_validated(rt: HostRuntime) -> Result<(), Fail> {
@@ -287,12 +356,56 @@ fn names_of_definitions_are_validated(rt: HostRuntime) -> Result<(), Fail> {
     }
 }
 
+// The interface `n:p/i` of an enum and a function that takes it.
+fn interface(alloc: Global, graph: &mut CompositionGraph) -> Result<(Type, Type), Fail> {
+    let t = defined(graph, DefinedType::Enum(Enum::new(alloc, &["a"])?))?;
+    let f = graph.add_func_type(FuncType::new(alloc, &[("x", t)], None, false)?)?;
+    let items = [
+        ("t", ItemKind::TypeItem(Type::Value(t))),
+        ("f", ItemKind::Func(f)),
+    ];
+    let i = graph.add_interface(Interface::new(alloc, Some("n:p/i"), &items)?)?;
+    Ok((Type::Value(t), Type::Interface(i)))
+}
+
+// An interface is written as a component type that exports an instance of it under its id.
 #[test]
-fn definitions_of_interfaces_are_not_written(rt: HostRuntime) -> Result<(), Fail> {
+fn interfaces_are_defined_under_their_ids(rt: HostRuntime) -> Result<(), Fail> {
     let alloc = rt.alloc();
     let mut graph = CompositionGraph::new(alloc);
-    let interface = Type::Interface(graph.add_interface(Interface::new(alloc, None, &[])?)?);
-    define(&rt, &mut graph, "i", interface)?;
+    let (_, i) = interface(alloc, &mut graph)?;
+    define(&rt, &mut graph, "d", i)?;
+    let text = encoded(alloc, &graph)?;
+    assert_eq!(rt;
+        text.as_str(),
+        "072a014102014204016d0101610400017403000001400101780101000400016601020400056e3a702f6905000b0701000164030000"
+    );
+    Ok(())
+}
+
+// A component type sees nothing outside itself: what the interface is made of is written in it once more.
+#[test]
+fn an_interface_is_written_with_what_it_is_made_of(rt: HostRuntime) -> Result<(), Fail> {
+    let alloc = rt.alloc();
+    let mut graph = CompositionGraph::new(alloc);
+    let (t, i) = interface(alloc, &mut graph)?;
+    define(&rt, &mut graph, "d", i)?;
+    define(&rt, &mut graph, "e", t)?;
+    let text = encoded(alloc, &graph)?;
+    assert_eq!(rt;
+        text.as_str(),
+        "0705016d0101610b0701000165030000072a014102014204016d0101610400017403000001400101780101000400016601020400056e3a702f6905000b0701000164030200"
+    );
+    Ok(())
+}
+
+#[test]
+fn definitions_of_worlds_are_not_written(rt: HostRuntime) -> Result<(), Fail> {
+    let alloc = rt.alloc();
+    let mut graph = CompositionGraph::new(alloc);
+    let world = World::new(alloc, Some("n:p/w"), &[], &[])?;
+    let world = Type::World(graph.add_world(world)?);
+    define(&rt, &mut graph, "w", world)?;
     let text = encoded(alloc, &graph)?;
     assert_eq!(rt; text.as_str(), NOT_YET);
     Ok(())

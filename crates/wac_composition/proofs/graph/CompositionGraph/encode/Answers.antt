@@ -39,42 +39,50 @@ pub returns-in_err-merge-clause-refused : goal.returns-in_err-merge-clause-refus
 returns-in_err-merge-clause-refused c = λ cause stands. exit_refused (AnswersFor cause) c.from_residual-in_err-merge.result (c.in_err-merge.field-0).0 c.from_residual-in_err-merge.ensures.1
     (refused_for c.args.self.now c.law-2.ensures c.fault_law.ensures c.args.options (c.in_err-merge.field-0).0 (c.in_err-merge.ensures.refused c.args.options) cause stands)
 
+pub returns-in_err-check_types-clause-cause : goal.returns-in_err-check_types-clause-cause
+returns-in_err-check_types-clause-cause c = exit_cause (λ e. IfSome (cause_of e) (Stands c.args.self.now c.args.options)) c.from_residual-in_err-check_types.result (c.in_err-check_types.field-0).0 c.from_residual-in_err-check_types.ensures.1
+    (names_cause c.args.self.now c.args.options (c.in_err-check_types.field-0).0 (c.in_err-check_types.ensures.refused c.args.options))
+
+pub returns-in_err-check_types-clause-refused : goal.returns-in_err-check_types-clause-refused
+returns-in_err-check_types-clause-refused c = λ cause stands. exit_refused (AnswersFor cause) c.from_residual-in_err-check_types.result (c.in_err-check_types.field-0).0 c.from_residual-in_err-check_types.ensures.1
+    (refused_for c.args.self.now c.law-2.ensures c.fault_law.ensures c.args.options (c.in_err-check_types.field-0).0 (c.in_err-check_types.ensures.refused c.args.options) cause stands)
+
 pub returns-in_err-root-clause-cause : goal.returns-in_err-root-clause-cause
 returns-in_err-root-clause-cause c = exit_cause (λ e. IfSome (cause_of e) (Stands c.args.self.now c.args.options)) c.from_residual-in_err-root.result (c.in_err-root.field-0).0 c.from_residual-in_err-root.ensures.1
     (begun_cause c.args.self.now c.args.options (c.in_err-root.field-0).0 (c.in_err-root.ensures.refused c.args.options refl))
 
 pub returns-in_err-root-clause-refused : goal.returns-in_err-root-clause-refused
 returns-in_err-root-clause-refused c = λ cause stands. exit_refused (AnswersFor cause) c.from_residual-in_err-root.result (c.in_err-root.field-0).0 c.from_residual-in_err-root.ensures.1
-    (begun_refused c.args.self.now c.law-2.ensures c.fault_law.ensures c.args.options c.in_ok-order.ensures.acyclic c.in_ok-check_conflicts.ensures.none c.in_ok-merge.ensures.merges (c.in_err-root.field-0).0 (c.in_err-root.ensures.refused c.args.options refl) cause stands)
+    (begun_refused c.args.self.now c.law-2.ensures c.fault_law.ensures c.args.options c.in_ok-order.ensures.acyclic c.in_ok-check_conflicts.ensures.none c.in_ok-merge.ensures.merges c.in_ok-check_types.ensures.none (c.in_err-root.field-0).0 (c.in_err-root.ensures.refused c.args.options refl) cause stands)
 
 pub returns-in_err-write_nodes-clause-refused : goal.returns-in_err-write_nodes-clause-refused
 returns-in_err-write_nodes-clause-refused c = λ cause stands. exit_refused (AnswersFor cause) c.from_residual-in_err-write_nodes.result (c.in_err-write_nodes.field-0).0 c.from_residual-in_err-write_nodes.ensures.1
-    (nameless_answers c.args.self.now c.args.options (c.in_ok-order.ensures.acyclic, c.in_ok-check_conflicts.ensures.none, c.in_ok-merge.ensures.merges, c.in_ok-root.ensures.written c.args.options refl) (c.in_err-write_nodes.field-0).0 c.in_err-write_nodes.ensures.fault cause stands)
+    (nameless_answers c.args.self.now c.args.options (c.in_ok-order.ensures.acyclic, c.in_ok-check_conflicts.ensures.none, c.in_ok-merge.ensures.merges, c.in_ok-check_types.ensures.none, c.in_ok-root.ensures.written c.args.options refl) (c.in_err-write_nodes.field-0).0 c.in_err-write_nodes.ensures.fault cause stands)
 
 pub returns-in_err-write_exports-clause-refused : goal.returns-in_err-write_exports-clause-refused
 returns-in_err-write_exports-clause-refused c = λ cause stands. exit_refused (AnswersFor cause) c.from_residual-in_err-write_exports.result (c.in_err-write_exports.field-0).0 c.from_residual-in_err-write_exports.ensures.1
-    (nameless_answers c.args.self.now c.args.options (c.in_ok-order.ensures.acyclic, c.in_ok-check_conflicts.ensures.none, c.in_ok-merge.ensures.merges, c.in_ok-root.ensures.written c.args.options refl) (c.in_err-write_exports.field-0).0 c.in_err-write_exports.ensures.fault cause stands)
+    (nameless_answers c.args.self.now c.args.options (c.in_ok-order.ensures.acyclic, c.in_ok-check_conflicts.ensures.none, c.in_ok-merge.ensures.merges, c.in_ok-check_types.ensures.none, c.in_ok-root.ensures.written c.args.options refl) (c.in_err-write_exports.field-0).0 c.in_err-write_exports.ensures.fault cause stands)
 
 pub returns-in_err-write_names-clause-refused : goal.returns-in_err-write_names-clause-refused
 returns-in_err-write_names-clause-refused c = λ cause stands. exit_refused (AnswersFor cause) c.from_residual-in_err-write_names.result (c.in_err-write_names.field-0).0 c.from_residual-in_err-write_names.ensures.1
-    (nameless_answers c.args.self.now c.args.options (c.in_ok-order.ensures.acyclic, c.in_ok-check_conflicts.ensures.none, c.in_ok-merge.ensures.merges, c.in_ok-root.ensures.written c.args.options refl) (c.in_err-write_names.field-0).0 c.in_err-write_names.ensures.fault cause stands)
+    (nameless_answers c.args.self.now c.args.options (c.in_ok-order.ensures.acyclic, c.in_ok-check_conflicts.ensures.none, c.in_ok-merge.ensures.merges, c.in_ok-check_types.ensures.none, c.in_ok-root.ensures.written c.args.options refl) (c.in_err-write_names.field-0).0 c.in_err-write_names.ensures.fault cause stands)
 
 pub returns-in_err-write_processor-clause-refused : goal.returns-in_err-write_processor-clause-refused
 returns-in_err-write_processor-clause-refused c = λ cause stands. exit_refused (AnswersFor cause) c.from_residual-in_err-write_processor.result (c.in_err-write_processor.field-0).0 c.from_residual-in_err-write_processor.ensures.1
-    (nameless_answers c.args.self.now c.args.options (c.in_ok-order.ensures.acyclic, c.in_ok-check_conflicts.ensures.none, c.in_ok-merge.ensures.merges, c.in_ok-root.ensures.written c.args.options refl) (c.in_err-write_processor.field-0).0 c.in_err-write_processor.ensures.fault cause stands)
+    (nameless_answers c.args.self.now c.args.options (c.in_ok-order.ensures.acyclic, c.in_ok-check_conflicts.ensures.none, c.in_ok-merge.ensures.merges, c.in_ok-check_types.ensures.none, c.in_ok-root.ensures.written c.args.options refl) (c.in_err-write_processor.field-0).0 c.in_err-write_processor.ensures.fault cause stands)
 
 pub returns-in_err-check_names-clause-cause : goal.returns-in_err-check_names-clause-cause
 returns-in_err-check_names-clause-cause c = exit_cause (λ e. IfSome (cause_of e) (Stands c.args.self.now c.args.options)) c.from_residual-in_err-check_names.result (c.in_err-check_names.field-0).0 c.from_residual-in_err-check_names.ensures.1
-    (fault_stands c.args.self.now c.law-2.ensures c.args.options c.in_ok-root.ensures.defined c.class_laws.ensures (λ t es order w. (c.order_law.ensures t es order w).each) c.in_ok-root.imports.merge c.in_ok-root.ensures.placed.merged c.deref-4.result.now (subst (λ ns. Writes c.args.self.now.edges (is_written c.args.self.now) ns) (sym c.deref-4.ensures.value) c.in_ok-order.ensures.whole) (c.in_ok-order.ensures.acyclic, c.in_ok-check_conflicts.ensures.none, c.in_ok-merge.ensures.merges, c.in_ok-root.ensures.written c.args.options refl)
+    (fault_stands c.args.self.now c.law-2.ensures c.args.options c.in_ok-root.ensures.defined c.class_laws.ensures (λ t es order w. (c.order_law.ensures t es order w).each) c.in_ok-root.imports.merge c.in_ok-root.ensures.placed.merged c.deref-4.result.now (subst (λ ns. Writes c.args.self.now.edges (is_written c.args.self.now) ns) (sym c.deref-4.ensures.value) c.in_ok-order.ensures.whole) (c.in_ok-order.ensures.acyclic, c.in_ok-check_conflicts.ensures.none, c.in_ok-merge.ensures.merges, c.in_ok-check_types.ensures.none, c.in_ok-root.ensures.written c.args.options refl)
     (c.in_err-check_names.field-0).0 c.in_err-check_names.ensures.fault.0 c.in_err-check_names.ensures.fault.1)
 
 pub returns-in_err-check_names-clause-refused : goal.returns-in_err-check_names-clause-refused
 returns-in_err-check_names-clause-refused c = λ cause stands. exit_refused (AnswersFor cause) c.from_residual-in_err-check_names.result (c.in_err-check_names.field-0).0 c.from_residual-in_err-check_names.ensures.1
-    (fault_answers c.args.self.now c.law-2.ensures c.args.options c.in_ok-root.ensures.defined c.class_laws.ensures (λ t es order w. (c.order_law.ensures t es order w).each) c.in_ok-root.imports.merge c.in_ok-root.ensures.placed.merged c.deref-4.result.now (subst (λ ns. Writes c.args.self.now.edges (is_written c.args.self.now) ns) (sym c.deref-4.ensures.value) c.in_ok-order.ensures.whole) (c.in_ok-order.ensures.acyclic, c.in_ok-check_conflicts.ensures.none, c.in_ok-merge.ensures.merges, c.in_ok-root.ensures.written c.args.options refl)
+    (fault_answers c.args.self.now c.law-2.ensures c.args.options c.in_ok-root.ensures.defined c.class_laws.ensures (λ t es order w. (c.order_law.ensures t es order w).each) c.in_ok-root.imports.merge c.in_ok-root.ensures.placed.merged c.deref-4.result.now (subst (λ ns. Writes c.args.self.now.edges (is_written c.args.self.now) ns) (sym c.deref-4.ensures.value) c.in_ok-order.ensures.whole) (c.in_ok-order.ensures.acyclic, c.in_ok-check_conflicts.ensures.none, c.in_ok-merge.ensures.merges, c.in_ok-check_types.ensures.none, c.in_ok-root.ensures.written c.args.options refl)
     (c.in_err-check_names.field-0).0 c.in_err-check_names.ensures.fault.1 cause stands)
 
 pub returns-clause-refused : goal.returns-clause-refused
-returns-clause-refused c = λ cause stands. absurd (none_stands c.args.self.now c.args.options (c.in_ok-order.ensures.acyclic, c.in_ok-check_conflicts.ensures.none, c.in_ok-merge.ensures.merges, c.in_ok-root.ensures.written c.args.options refl)
+returns-clause-refused c = λ cause stands. absurd (none_stands c.args.self.now c.args.options (c.in_ok-order.ensures.acyclic, c.in_ok-check_conflicts.ensures.none, c.in_ok-merge.ensures.merges, c.in_ok-check_types.ensures.none, c.in_ok-root.ensures.written c.args.options refl)
     (names_valid c.args.self.now c.law-2.ensures c.args.options c.in_ok-root.ensures.defined c.class_laws.ensures (λ t es order w. (c.order_law.ensures t es order w).each) c.in_ok-root.imports.merge c.in_ok-root.ensures.placed.merged c.deref-4.result.now (subst (λ ns. Writes c.args.self.now.edges (is_written c.args.self.now) ns) (sym c.deref-4.ensures.value) c.in_ok-order.ensures.whole) c.in_ok-check_names.ensures.none) cause stands)
 
 pub write_nodes-requires-clause-nodes : goal.write_nodes-requires-clause-nodes
@@ -126,4 +134,4 @@ returns-clause-valid c = λ asked.
 
 pub returns-in_err-bytes-clause-refused : goal.returns-in_err-bytes-clause-refused
 returns-in_err-bytes-clause-refused c = λ cause stands. exit_refused (AnswersFor cause) c.from_residual-in_err-bytes.result (encode_error (c.in_err-bytes.field-0).0) c.from_residual-in_err-bytes.ensures.1
-    (nameless_answers c.args.self.now c.args.options (c.in_ok-order.ensures.acyclic, c.in_ok-check_conflicts.ensures.none, c.in_ok-merge.ensures.merges, c.in_ok-root.ensures.written c.args.options refl) (encode_error (c.in_err-bytes.field-0).0) (binary_nameless (c.in_err-bytes.field-0).0) cause stands)
+    (nameless_answers c.args.self.now c.args.options (c.in_ok-order.ensures.acyclic, c.in_ok-check_conflicts.ensures.none, c.in_ok-merge.ensures.merges, c.in_ok-check_types.ensures.none, c.in_ok-root.ensures.written c.args.options refl) (encode_error (c.in_err-bytes.field-0).0) (binary_nameless (c.in_err-bytes.field-0).0) cause stands)

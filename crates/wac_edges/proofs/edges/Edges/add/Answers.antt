@@ -28,6 +28,11 @@ invariant_of-self-in_err-reserve c =
     subst (λ (s : Slab Record). AreListed (get s) c.make_firsts-2.new.firsts.items × AreNoted c.self.inside.crowded.items c.self.inside.aliases (get s)) (sym c.reserve.ensures.rest_kept)
     (listed_same (get c.self.inside.records) c.self.inside.firsts.items c.make_firsts-2.new.firsts.items (λ end n. c.make_firsts-2.ensures.same end n ∙ c.make_firsts.ensures.same end n) c.self.invariant.0, c.self.invariant.1)
 
+pub invariant_of-self-then-vacant_key-ge-MOST : goal.invariant_of-self-then-vacant_key-ge-MOST
+invariant_of-self-then-vacant_key-ge-MOST c =
+    subst (λ (s : Slab Record). AreListed (get s) c.make_firsts-2.new.firsts.items × AreNoted c.self.inside.crowded.items c.self.inside.aliases (get s)) (sym c.reserve.ensures.rest_kept)
+    (listed_same (get c.self.inside.records) c.self.inside.firsts.items c.make_firsts-2.new.firsts.items (λ end n. c.make_firsts-2.ensures.same end n ∙ c.make_firsts.ensures.same end n) c.self.invariant.0, c.self.invariant.1)
+
 pub invariant_of-self-in_err-note : goal.invariant_of-self-in_err-note
 invariant_of-self-in_err-note c =
     subst (λ (s : Slab Record). AreListed (get s) c.make_firsts-2.new.firsts.items × AreNoted c.self.inside.crowded.items c.note.new.aliases (get s)) (sym c.reserve.ensures.rest_kept) (

@@ -3,20 +3,30 @@ use Rattle.slab.specs.Slab.{get}
 use Rattle.wac_edges.specs.declared.records.Firsts.{Firsts}
 use Rattle.wac_edges.specs.Records.{AreListed}
 use Rattle.wac_edges.proofs.AliasLemmas.{noted_without, listed_back}
+use Rattle.std.proofs.lemmas.Bool.{false_from_ne_true}
 use Rattle.std.specs.FinSet as set
 use Rattle.wac_edges.specs.Order.{Edges}
-use Rattle.wac_edges.proofs.SetLemmas.{in_table, value_taken, removed_same}
-use Rattle.wac_edges.proofs.edges.Edges.remove.Goals as goal
+use Rattle.wac_edges.proofs.SetLemmas.{in_table, of_table, value_taken, removed_same}
+use Rattle.wac_edges.proofs.edges.Edges.take.Goals as goal
 
-pub returns-in-Some : goal.returns-in-Some
-returns-in-Some c =
+pub returns-clause-taken : goal.returns-clause-taken
+returns-clause-taken c =
     value_taken c.self.inside.records c.take.new.records c.args.edge c.in-Some.key c.in-Some.ensures.some c.take.ensures.edges
     ∙ ap (λ (s : Edges). set.remove s c.args.edge) c.self.view_is
 
-pub returns-in_default : goal.returns-in_default
-returns-in_default c =
+pub returns-clause-was : goal.returns-clause-was
+returns-clause-was c =
+    sym (of_table c.self.inside.records c.args.edge (c.in-Some.key, c.in-Some.ensures.some)) ∙ ap (λ (s : Edges). set.contains s c.args.edge) c.self.view_is
+
+pub returns-in_default-clause-taken : goal.returns-in_default-clause-taken
+returns-in_default-clause-taken c =
     removed_same c.args.self.now c.args.edge
     (λ h. let (k, at) = in_table c.self.inside.records c.args.edge (ap (λ (s : Edges). set.contains s c.args.edge) c.self.view_is ∙ h) in c.in_default.ensures.none k at)
+
+pub returns-in_default-clause-was : goal.returns-in_default-clause-was
+returns-in_default-clause-was c =
+    sym (false_from_ne_true (set.contains c.args.self.now c.args.edge)
+    (λ h. let (k, at) = in_table c.self.inside.records c.args.edge (ap (λ (s : Edges). set.contains s c.args.edge) c.self.view_is ∙ h) in c.in_default.ensures.none k at))
 
 pub find-requires : goal.find-requires
 find-requires c = subst (λ (f : List Firsts). AreListed (get c.self.inside.records) f) (sym c.deref.ensures.value) c.self.invariant.0

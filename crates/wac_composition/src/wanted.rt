@@ -1,0 +1,121 @@
+//! Whether what nodes ask for can be written, whatever stands around it.
+ghost use Rattle.std.specs.Prelude.{◌≡◌, ◌++◌, [], map, IfErr, IfOk, OnOk};
+ghost use Rattle.wac_asking.specs.EntriesLeft.{entry_view, entries_of, IsRight, IsHeldKind, AreSettled, AsksAlike, all_with_used};
+ghost use Rattle.wac_causes.specs.Cause.{HasMerge, HasNoConflict};
+ghost use Rattle.wac_causes.specs.Search.{IsRefused};
+ghost use Rattle.wac_causes.specs.TypeFaults.{wanted_at, wanted_entries as wanted_of, role_of, role_of_kind, IsEntryFault, HasNoTypeFault};
+ghost use Rattle.wac_edges.specs.Edge.{node_number};
+ghost use Rattle.wac_edges.specs.Order.{IsAcyclic};
+ghost use Rattle.wac_nodes.specs.Graph.{node_at};
+ghost use Rattle.wac_nodes.specs.Nodes.{kind_of};
+ghost use Rattle.wac_nodes.specs.declared.options.EncodeOptions.{EncodeOptions as Asked};
+ghost use Rattle.wac_writable.specs.Faults.{IsLowest};
+
+use crate::graph::CompositionGraph;
+use std::alloc::AllocError;
+use wac_asking::{AskedEntry, Asking};
+use wac_causes::EncodeError;
+use wac_nodes::{NodeId, NodeKind};
+use wac_scopes::WriteFault;
+use wac_writable::{Role, lowest_fault};
+
+impl CompositionGraph {
+    /// Refuses a graph in which a node asks for what cannot be written, by the first of it.
+    pub(crate) fn check_types(&self) -> Result<(), EncodeError>
+        requires acyclic { IsAcyclic self.now.edges }
+        requires apart { HasNoConflict self.now }
+        requires merges { HasMerge self.now }
+        ensures none { OnOk result (HasNoTypeFault self.now) }
+        ensures refused { IfErr result (λ e. (o : Asked) → IsRefused self.now o e) }
+    {
+        self.law();
+        self.types.law();
+        let wanted = self.wanted_entries()?;
+        for i in 0..wanted.len() {
+            let entry = wanted[i];
+            if let Some(fault) = self.entry_fault(entry)? {
+                return Err(EncodeError::TypeNotWritable {
+                    node: NodeId(entry.node),
+                    fault,
+                });
+            }
+        }
+        Ok(())
+    }
+
+    /// The lowest fault of what a node asks for.
+    fn entry_fault(&self, entry: AskedEntry<'_>) -> Result<Option<WriteFault>, AllocError>
+        requires { IsHeldKind self.now.types entry.kind }
+        ensures { IfOk result (IsLowest (IsEntryFault self.now (entry_view entry.entry))) }
+    {
+        lowest_fault(&self.types, entry.kind, self.role_at(entry.node))
+    }
+
+    /// What is to be done with the items that a node asks for.
+    fn role_at(&self, n: usize) -> Role
+        ensures { result ≡ role_of (node_at self.now (node_number n)) }
+    {
+        match self.nodes.get(n) {
+            Some(node) => role(&node.kind),
+            None => Role::Imported,
+        }
+    }
+
+    /// What nodes ask for, node by node, the interfaces that an asked instance uses before it, each instance once under a name.
+    fn wanted_entries(&self) -> Result<Vec<AskedEntry<'_>>, AllocError>
+        ensures { IfOk result (λ v. map entry_view v.items ≡ wanted_of self.now) }
+    {
+        let mut asking = Asking::new(self.alloc);
+        for n in 0..self.nodes.capacity() {
+            self.ask_wanted(&mut asking, n)?;
+        }
+        Ok(asking.into_entries())
+    }
+
+    /// Asks for what a node asks for.
+    fn ask_wanted<'a>(&'a self, asking: &mut Asking<'a>, n: usize) -> Result<(), AllocError>
+        requires right { IsRight asking.old }
+        requires settled { AreSettled self.now.types [] (entries_of asking.old) }
+        ensures right { OnOk result (IsRight asking.new) }
+        ensures settled { OnOk result (AreSettled self.now.types [] (entries_of asking.new)) }
+        ensures stands { OnOk result (AsksAlike self.now.types (entries_of asking.old ++ all_with_used self.now.types (wanted_at self.now n)) (entries_of asking.new)) }
+    {
+        let Some(node) = self.nodes.get(n) else {
+            return Ok(());
+        };
+        let kind = node.item_kind;
+        match &node.kind {
+            NodeKind::Instantiation(_) => self.ask_unset(asking, n),
+            NodeKind::Import(name) => {
+                let name = name.as_str();
+                asking.ask(
+                    &self.types,
+                    AskedEntry {
+                        name,
+                        kind,
+                        node: n,
+                    },
+                )
+            }
+            NodeKind::Definition => asking.ask(
+                &self.types,
+                AskedEntry {
+                    name: "",
+                    kind,
+                    node: n,
+                },
+            ),
+            NodeKind::Alias => Ok(()),
+        }
+    }
+}
+
+/// What is to be done with the items that a node of this kind asks for.
+fn role(kind: &NodeKind) -> Role
+    ensures { result ≡ role_of_kind (kind_of kind.now) }
+{
+    match kind {
+        NodeKind::Definition => Role::Defined,
+        _ => Role::Imported,
+    }
+}

@@ -1,0 +1,83 @@
+-- An interface that is defined so far is no fault to the writer of definitions, and what is written is its definition.
+use Rattle.std.proofs.Common.{◌≡◌, ℕ, zero, suc, true, false, List, [], ◌∷◌, refl, ap, ◌∙◌, sym, subst, Option, Some, None, IsSome}
+use Rattle.std.proofs.Math.Path.{fun_ext}
+use Rattle.wac_shapes.specs.Name.{Name, option_case}
+use Rattle.wac_shapes.specs.declared.component.Interface.{Interface}
+use Rattle.wac_shapes.specs.declared.component.InterfaceId.{InterfaceId}
+use Rattle.wac_shapes.specs.declared.component.ItemKind.{ItemKind}
+use Rattle.wac_shapes.specs.declared.component.ItemKind.TheVariants as kind
+use Rattle.wac_shapes.specs.declared.component.UsedType.{UsedType}
+use Rattle.wac_shapes.specs.declared.component.«Type».TheVariants as ty
+use Rattle.wac_collection.specs.Tree.{Leaf, Tree, absent, imported, exported, component, instance_item}
+use Rattle.wac_collection.specs.Collection.{Collection, IsWellFormed, item_at, interface_exports}
+use Rattle.wac_collection.specs.Held.{items_under}
+use Rattle.wac_collection.specs.Bound.{Bindings, first_bound, held_tree}
+use Rattle.wac_scopes.specs.declared.fault.WriteFault.{WriteFault}
+use Rattle.wac_scopes.specs.Good.{nothing_bound}
+use Rattle.wac_encode.specs.Components.{held_under_id, component_tree}
+use Rattle.wac_encode.specs.Defining.{IsDefinitionFault}
+use Rattle.wac_encode.specs.Defining.{IsDefinable as IsWritable}
+use Rattle.wac_nodes.specs.Entries.{under_id}
+use Rattle.wac_meaning.specs.Definition.{definition_tree, uses_of, reached_to, reached, as_imports, listed, cut_imports, interface_definition}
+use Rattle.wac_meaning.specs.Importable.{IsDefinableKind, IsDefinableInterface}
+use Rattle.wac_importing.specs.Looked.{ArePlain}
+use Rattle.wac_importing.proofs.Items.{exports_are}
+use Rattle.wac_importing.proofs.Refusing.{lists, instance_fault}
+
+-- what it is, where it is held
+same_interface : (c : Collection) (i : InterfaceId) (it : Interface) → item_at c.interfaces i.0 ≡ Some it → (h : IsDefinableInterface c i) → h.interface ≡ it
+same_interface c i it at h = let both : Some h.interface ≡ Some it = sym h.found ∙ at in cc
+
+pub lists_plain_ones : (c : Collection) (i : InterfaceId) (it : Interface) → item_at c.interfaces i.0 ≡ Some it → IsDefinableInterface c i → ArePlain c it.exports
+lists_plain_ones c i it at h = subst (λ (x : Interface). ArePlain c x.exports) (same_interface c i it at h) h.plain
+
+the_id : (o : Option Name) → IsSome o → (id : Name) × (o ≡ Some id)
+the_id None h = let both : false ≡ true = h in cc
+the_id (Some id) h = (id, refl)
+
+module _ (c : Collection) (wf : IsWellFormed c) (i : InterfaceId) where
+  lists_plain_items : IsDefinableKind c (kind.TypeItem (ty.Interface i)) → ArePlain c (interface_exports c i)
+  lists_plain_items so = subst (ArePlain c) (sym (exports_are c i so.interface so.found)) so.plain
+
+  pub interface_writable : IsDefinableKind c (kind.TypeItem (ty.Interface i)) → IsWritable c (ty.Interface i)
+  interface_writable so =
+      let (id, named) = the_id so.interface.id so.id in
+      ((id, (so.interface, so.found, named)), lists c wf i (lists_plain_items so))
+
+  pub interface_no_fault : IsDefinableKind c (kind.TypeItem (ty.Interface i)) → (f : WriteFault) → IsDefinitionFault c (ty.Interface i) f → ⊥
+  interface_no_fault so f h = instance_fault c wf i (lists_plain_items so) f h
+
+-- what is written
+
+-- the definition where these interfaces are reached over uses
+abbrev with_reached : Collection → InterfaceId → List InterfaceId → Tree
+with_reached c i is = component (items_under (cut_imports c (first_bound c [] imported (as_imports c is)) (as_imports c is))) (items_under (listed c (first_bound c [] imported (as_imports c is)) exported (under_id c i)))
+
+none_reached : (c : Collection) (k : ℕ) → reached_to k c [] ≡ []
+none_reached c zero = refl
+none_reached c (suc k) = refl
+
+none_bound : (c : Collection) → first_bound c [] imported [] ≡ nothing_bound
+none_bound c = fun_ext (λ r. refl)
+
+no_items : items_under {L = Leaf} [] ≡ (λ n. absent)
+no_items = fun_ext (λ n. refl)
+
+alone_under_id : (c : Collection) (i : InterfaceId) → listed c nothing_bound exported (under_id c i) ≡ held_under_id c i
+alone_under_id c i = by (item_at c.interfaces i.0) where
+  by_id : (o : Option Name) → listed c nothing_bound exported (option_case o [] (λ id. (id, kind.Instance i) ∷ [])) ≡ option_case o [] (λ id. (id, instance_item (held_tree c nothing_bound (ty.Interface i))) ∷ [])
+  by_id None = refl
+  by_id (Some id) = refl
+
+  by : (o : Option Interface) → listed c nothing_bound exported (option_case o [] (λ it. option_case it.id [] (λ id. (id, kind.Instance i) ∷ []))) ≡ option_case o [] (λ it. option_case it.id [] (λ id. (id, instance_item (held_tree c nothing_bound (ty.Interface i))) ∷ []))
+  by None = refl
+  by (Some it) = by_id it.id
+
+alone_reached : (c : Collection) (i : InterfaceId) → with_reached c i [] ≡ component_tree c i
+alone_reached c i = λ j. component (no_items j) (items_under ((ap (λ (m : Bindings). listed c m exported (under_id c i)) (none_bound c) ∙ alone_under_id c i) j))
+
+pub interface_tree_is : (c : Collection) (i : InterfaceId) → IsDefinableKind c (kind.TypeItem (ty.Interface i)) → definition_tree c (ty.Interface i) ≡ component_tree c i
+unfolding definition_tree
+interface_tree_is c i so =
+    let no_uses : uses_of c i ≡ [] = ap (λ (o : Option Interface). option_case o [] (λ x. x.uses)) so.found ∙ so.uses in
+    ap (with_reached c i) (ap (reached c) no_uses ∙ none_reached c _) ∙ alone_reached c i

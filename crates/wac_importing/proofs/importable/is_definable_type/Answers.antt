@@ -1,0 +1,37 @@
+use Rattle.std.proofs.Common.{◌≡◌, refl, sym, subst, ◌⊎◌, inl, inr}
+use Rattle.wac_shapes.specs.declared.component.FuncTypeId.{FuncTypeId}
+use Rattle.wac_shapes.specs.declared.component.ItemKind.TheVariants as kind
+use Rattle.wac_shapes.specs.declared.component.ValueType.{ValueType}
+use Rattle.wac_shapes.specs.declared.component.«Type».{«Type» as AnyType}
+use Rattle.wac_shapes.specs.declared.component.«Type».TheVariants as ty
+use Rattle.wac_meaning.specs.Importable.{IsDefinableKind}
+use Rattle.wac_importing.specs.Looked.{IsOfValues}
+use Rattle.wac_importing.proofs.Items.{type_not_definable, free_definable, values_free}
+use Rattle.wac_importing.proofs.importable.is_definable_type.Goals as goal
+
+is_of_values : (a : AnyType) → ((v : ValueType) × (a ≡ ty.Value v)) ⊎ ((f : FuncTypeId) × (a ≡ ty.Func f)) → IsOfValues a
+is_of_values a (inl h) = subst IsOfValues (sym h.1) tt
+is_of_values a (inr h) = subst IsOfValues (sym h.1) tt
+
+not_of_values : (a : AnyType) → ((v : ValueType) → a ≡ ty.Value v → ⊥) → ((f : FuncTypeId) → a ≡ ty.Func f → ⊥) → IsOfValues a → ⊥
+not_of_values (ty.Value v) value func of = value v refl
+not_of_values (ty.Func f) value func of = func f refl
+not_of_values a value func of = of
+
+pub has_no_handle-requires-clause-of_values : goal.has_no_handle-requires-clause-of_values
+has_no_handle-requires-clause-of_values c = is_of_values c.args.ty c.in-Value.is
+
+pub returns-in-Value-clause-definable : goal.returns-in-Value-clause-definable
+returns-in-Value-clause-definable c h = free_definable c.args.types.now c.law.ensures c.args.ty (is_of_values c.args.ty c.in-Value.is) c.requires (c.has_no_handle.ensures.none h)
+
+pub returns-in-Value-clause-not : goal.returns-in-Value-clause-not
+returns-in-Value-clause-not c h so = c.has_no_handle.ensures.some h (values_free c.args.types.now c.args.ty (is_of_values c.args.ty c.in-Value.is) so)
+
+pub returns-in_default : goal.returns-in_default
+returns-in_default c = record { definable = λ h. cc; not = λ h. type_not_definable c.args.types.now c.law.ensures c.args.ty c.requires (not_of_values c.args.ty c.in_default.not-Value c.in_default.not-Func) c.in_default.not-Interface }
+
+pub returns-in-Interface-clause-definable : goal.returns-in-Interface-clause-definable
+returns-in-Interface-clause-definable c h = subst (λ (a : AnyType). IsDefinableKind c.args.types.now (kind.TypeItem a)) (sym c.in-Interface.is) (c.is_definable_interface.ensures.definable h)
+
+pub returns-in-Interface-clause-not : goal.returns-in-Interface-clause-not
+returns-in-Interface-clause-not c h so = c.is_definable_interface.ensures.not h (subst (λ (a : AnyType). IsDefinableKind c.args.types.now (kind.TypeItem a)) c.in-Interface.is so)

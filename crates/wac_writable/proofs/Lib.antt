@@ -1,0 +1,4 @@
+pub mod Lowest
+pub mod Listing
+pub mod Insides
+pub mod Examples

@@ -1,0 +1,39 @@
+-- How faults are found; private functions alone cite this.
+use Rattle.std.specs.Prelude.{nat_lt, cond, List, [], ◌∷◌, ◌++◌, Option, Some, None}
+use Rattle.wac_shapes.specs.Name.{Name}
+use Rattle.wac_shapes.specs.Kinds.{kind_type}
+use Rattle.wac_shapes.specs.declared.component.ItemKind.{ItemKind}
+use Rattle.wac_shapes.specs.declared.component.«Type».{«Type» as AnyType}
+use Rattle.wac_shapes.specs.declared.component.«Type».TheVariants as ty
+use Rattle.wac_collection.specs.Collection.{Collection, interface_exports, world_imports, world_exports}
+use Rattle.wac_scopes.specs.declared.fault.WriteFault.{WriteFault}
+use Rattle.wac_writable.specs.Faults.{fault_rank}
+
+-- the lower of two faults that may be there
+abbrev pub lower_of : Option WriteFault → Option WriteFault → Option WriteFault
+lower_of None second = second
+lower_of (Some one) None = Some one
+lower_of (Some one) (Some other) = cond (nat_lt (fault_rank other) (fault_rank one)) (Some other) (Some one)
+
+-- the type itself, where it is an interface or a world
+abbrev pub scope_of : AnyType → List AnyType
+scope_of (ty.Interface i) = ty.Interface i ∷ []
+scope_of (ty.World w) = ty.World w ∷ []
+scope_of (ty.Resource r) = []
+scope_of (ty.Func f) = []
+scope_of (ty.Value v) = []
+scope_of (ty.Module m) = []
+
+-- the interfaces and worlds of listed items
+abbrev pub scopes_of : List (Name × ItemKind) → List AnyType
+scopes_of [] = []
+scopes_of (e ∷ es) = scope_of (kind_type e.1) ++ scopes_of es
+
+-- those that a type lists
+abbrev pub inner_scopes : Collection → AnyType → List AnyType
+inner_scopes c (ty.Interface i) = scopes_of (interface_exports c i)
+inner_scopes c (ty.World w) = scopes_of (world_imports c w) ++ scopes_of (world_exports c w)
+inner_scopes c (ty.Resource r) = []
+inner_scopes c (ty.Func f) = []
+inner_scopes c (ty.Value v) = []
+inner_scopes c (ty.Module m) = []
