@@ -7,3 +7,7 @@ pub mod OrderMentions
 pub mod MergedMentions
 pub mod RootPlaces
 pub mod UsedBefore
+pub mod ListedInOrder
+pub mod ListedExample
+pub mod UsedValues
+pub mod UsedResources

@@ -27,6 +27,7 @@ use Rattle.wac_terms.specs.ClassOrder.{by_use}
 use Rattle.wac_terms.specs.Merge.{IsListed, IsMerge, Merged, first_entry_id, import_under, is_on_track}
 use Rattle.wac_terms.proofs.Found.{one_some}
 use Rattle.wac_uses.specs.KeptUses.{imported_interface, instance_of, of_interface}
+use Rattle.wac_unions.proofs.AssembledKinds.{the-instance}
 use Rattle.wac_unions.proofs.ListedTypes.{listed-type}
 use Rattle.wac_agreement.proofs.OrderLaws.{at_in, in_contains, order_each}
 use Rattle.wac_merge.proofs.OrderOnce.{order_rests}
@@ -55,36 +56,31 @@ under-there (e ∷ es) (suc p) (suc j) x n less at name = by (same_name n e.name
       let low = rest.less in
       record { at = suc rest.at; entry = rest.entry; there = rest.there; less = omega (arith, low); named = rest.named; found = ap (λ b. cond b (Some e.kind) (import_under (take p es) n)) is ∙ rest.found }
 
--- ---- a subtype of an instance is one
+-- ---- a subtype of an instance is one, and of nothing else
 abbrev is_instance_tree : TypeTree Name → Bool
 is_instance_tree (instance_item t) = true
 is_instance_tree t = false
 
-sub-instance : (a b : TypeTree Name) → Sub a b → is_instance_tree b ≡ true → is_instance_tree a ≡ true
-sub-instance a b (Sub.same _ q) h = h
-sub-instance a b (Sub.instances _ _ f) h = absurd (false≢true h)
-sub-instance a b (Sub.components _ _ _ _ f g) h = absurd (false≢true h)
-sub-instance a b (Sub.modules _ _ _ _ f g) h = absurd (false≢true h)
-sub-instance a b (Sub.type_items _ _ s t) h = absurd (false≢true h)
-sub-instance a b (Sub.instance_items _ _ s) h = refl
-sub-instance a b (Sub.component_items _ _ s) h = absurd (false≢true h)
-sub-instance a b (Sub.module_items _ _ s) h = absurd (false≢true h)
+sub-alike : (a b : TypeTree Name) → Sub a b → is_instance_tree a ≡ is_instance_tree b
+sub-alike a b (Sub.same _ q) = refl
+sub-alike a b (Sub.instances _ _ f) = refl
+sub-alike a b (Sub.components _ _ _ _ f g) = refl
+sub-alike a b (Sub.modules _ _ _ _ f g) = refl
+sub-alike a b (Sub.type_items _ _ s t) = refl
+sub-alike a b (Sub.instance_items _ _ s) = refl
+sub-alike a b (Sub.component_items _ _ s) = refl
+sub-alike a b (Sub.module_items _ _ s) = refl
 
-tree-of-instance : (c : Collection) (k : ItemKind) → is_instance k ≡ true → is_instance_tree (kind_tree c k) ≡ true
-tree-of-instance c (kind.Instance i) h = refl
-tree-of-instance c (kind.TypeItem t) h = absurd (false≢true h)
-tree-of-instance c (kind.Func f) h = absurd (false≢true h)
-tree-of-instance c (kind.Component w) h = absurd (false≢true h)
-tree-of-instance c (kind.Module x) h = absurd (false≢true h)
-tree-of-instance c (kind.Value v) h = absurd (false≢true h)
+tree-of-instance : (c : Collection) (k : ItemKind) → is_instance_tree (kind_tree c k) ≡ is_instance k
+tree-of-instance c (kind.Instance i) = refl
+tree-of-instance c (kind.TypeItem t) = refl
+tree-of-instance c (kind.Func f) = refl
+tree-of-instance c (kind.Component w) = refl
+tree-of-instance c (kind.Module x) = refl
+tree-of-instance c (kind.Value v) = refl
 
-instance-by-tree : (c : Collection) (k : ItemKind) → is_instance_tree (kind_tree c k) ≡ true → (j : InterfaceId) × (k ≡ kind.Instance j)
-instance-by-tree c (kind.Instance i) h = (i, refl)
-instance-by-tree c (kind.TypeItem t) h = absurd (false≢true h)
-instance-by-tree c (kind.Func f) h = absurd (false≢true h)
-instance-by-tree c (kind.Component w) h = absurd (false≢true h)
-instance-by-tree c (kind.Module x) h = absurd (false≢true h)
-instance-by-tree c (kind.Value v) h = absurd (false≢true h)
+pub instances-alike : (m c : Collection) (k l : ItemKind) → IsSubtype m k c l → is_instance l ≡ is_instance k
+instances-alike m c k l sub = sym (tree-of-instance c l) ∙ (sym (sub-alike (kind_tree m k) (kind_tree c l) sub) ∙ tree-of-instance m k)
 
 -- what holds of all that pass a test holds of each that does
 of-filtered : (P : Entry → Type 0) (f : Entry → Bool) (es : List Entry) (i : ℕ) (x : Entry) → AllByRecursion P (filter f es) → slice_get es i ≡ Some x → f x ≡ true → P x
@@ -124,7 +120,7 @@ module _ (es : List Entry) where
   class-asked : (k : ℕ) (class : Name) → slice_get (class_names by_names es) k ≡ Some class → is_asked es class ≡ true
   class-asked k class at = class_name-asked es es class (any-at (λ n. same_name n class) (class_names by_names es) k class at (same_name-refl class))
 
-  canonical-class : (class : Name) → same_class by_names es class (canonical by_names es class) ≡ true
+  pub canonical-class : (class : Name) → same_class by_names es class (canonical by_names es class) ≡ true
   canonical-class class = newest-class es class class es (class-refl by_names es class)
 
 module _ (c : Collection) (es : List Entry) (m : Merged) (g : IsMerge by_names c es m) where
@@ -155,7 +151,7 @@ module _ (c : Collection) (es : List Entry) (m : Merged) (g : IsMerge by_names c
       let a = class-at id q y y-at y-name in
       let one : same_class by_names es a.class w.name ≡ true = subst (λ x. same_class by_names es a.class x ≡ true) (sym w-name) a.one in
       let sub = of-filtered (λ x. IsSubtype m.types y.kind c x.kind) (λ x. same_class by_names es a.class x.name) es i w (g.subtypes q a.number a.class y a.placed a.there y-at) w-at one in
-      instance-by-tree m.types y.kind (sub-instance (kind_tree m.types y.kind) (kind_tree c w.kind) sub (tree-of-instance c w.kind w-is))
+      the-instance y.kind (sym (instances-alike m.types c y.kind w.kind sub) ∙ w-is)
 
   -- an interface with the id is on the track of its class
   on-track : (id class : Name) → same_class by_names es class id ≡ true → (x : InterfaceId) (own : Interface) (k : ItemKind) → k ≡ kind.Instance x → item_at c.interfaces x.0 ≡ Some own → own.id ≡ Some id

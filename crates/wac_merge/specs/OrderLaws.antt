@@ -14,7 +14,9 @@ use Rattle.wac_entries.specs.Classes.{Entry, by_names, class_names, members, nam
 use Rattle.wac_terms.specs.ClassOrder.{IsWrittenOrder, RestsOn}
 use Rattle.wac_terms.specs.Merge.{IsMerge, Merged}
 use Rattle.wac_uses.specs.KeptUses.{imported_interface, of_interface}
+use Rattle.wac_unions.specs.OneId.{HasOneIdEach}
 use Rattle.wac_agreement.specs.Faults.{HasNoCircle}
+use Rattle.wac_merge.specs.Listed.{AreListedInOrder}
 
 -- an order that has the number of each class, once where no class rests on itself through others, and is the only written one
 pub record IsOnlyOrder (c : Collection) (es : List Entry) (order : List ℕ) : Type 0 where
@@ -42,3 +44,7 @@ UsedLaw = (c : Collection) (es : List Entry) (m : Merged) → IsMerge by_names c
     × ((o : ℕ) (w : Entry) (x : InterfaceId) (own : Interface) → slice_get es o ≡ Some w → w.name ≡ id → w.kind ≡ kind.Instance x → item_at c.interfaces x.0 ≡ Some own → own.id ≡ Some id
     → (is_used_by_id m.types (of_interface j u) ≡ true)
     × (IsDeepEnough by_name c → IsDeepEnough by_name m.types → (t : AnyType) → find_name own.exports (name_there n u) ≡ Some (kind.TypeItem t) → is_there m.types (n, of_interface j u) ≡ true))
+
+-- What each interface of a merge lists, at each depth, stands in order of first appearance in what it unites.
+abbrev pub ListedLaw : Type 0
+ListedLaw = (c : Collection) (es : List Entry) (m : Merged) → IsMerge by_names c es m → HasOneIdEach c es m → AreListedInOrder by_names c es m

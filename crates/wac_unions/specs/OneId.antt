@@ -11,8 +11,10 @@ use Rattle.wac_shapes.specs.declared.component.ValueType.{ValueType}
 use Rattle.wac_shapes.specs.declared.component.ValueType.TheVariants as val
 use Rattle.wac_shapes.specs.declared.component.«Type».TheVariants as ty
 use Rattle.wac_collection.specs.Collection.{Collection, defined_values, func_values, item_at}
-use Rattle.wac_entries.specs.Bindings.{ClassBindings}
+use Rattle.wac_entries.specs.Bindings.{AreBindings, ClassBindings}
 use Rattle.wac_entries.specs.Classes.{AreClasses, Entry, by_names}
+use Rattle.wac_terms.specs.Became.{AreFresh}
+use Rattle.wac_terms.specs.ClassOrder.{IsWrittenOrder}
 use Rattle.wac_terms.specs.Merge.{Merged}
 use Rattle.wac_terms.specs.declared.fresh.Fresh.{Fresh}
 use Rattle.wac_terms.specs.declared.parts.Export.{Export}
@@ -60,7 +62,7 @@ pub record AreMadeOnce (c m : Collection) (es : List Entry) (us : List Union) (p
   pub unions : AreUnionsMadeOf c m t made us written.ws
   pub imported : AreImportsMadeOf c m t made es positions order imports
 
--- The unions of what entries list, and the interfaces and imports that they became, before uses were added. What stands under one name of one union is one named type, and so are the entries of one class; no others are.
+-- The unions of what entries list, what classes bind, the new resources, and the interfaces and imports that all became in written order, before uses were added. What stands under one name of one union is one named type, and so are the entries of one class; no others are.
 -- Two mentions with equal definitions in the merged collection have one id exactly where they are one named type, or stand under no name both.
 pub record HasOneIdEach (c : Collection) (es : List Entry) (m : Merged) : Type 0 where
   pub us : List Union
@@ -73,7 +75,10 @@ pub record HasOneIdEach (c : Collection) (es : List Entry) (m : Merged) : Type 0
   pub order : List ℕ
   pub t : NamedTypes
   pub classes : AreClasses by_names es numbers positions names
+  pub ordered : IsWrittenOrder by_names c es order
+  pub bindings : AreBindings c es bs
   pub unions : AreClassUnions c es us ps
+  pub fresh : AreFresh c us bs f m.types
   pub bare : List Entry
   pub written : AreWrittenImports c m.types es us ps bs f order bare
   pub using : AreUsing by_names c es m.types bare m.imports

@@ -1,0 +1,55 @@
+-- When a used resource is what is listed under its name in a finished merge.
+use Rattle.std.specs.Prelude.{ℕ, ◌≡◌, true, false, List, [], ◌∷◌, map, Option, Some, None, slice_get, Contains}
+use Rattle.wac_shapes.specs.Name.{Name, find_name}
+use Rattle.wac_shapes.specs.declared.component.Interface.{Interface}
+use Rattle.wac_shapes.specs.declared.component.InterfaceId.{InterfaceId}
+use Rattle.wac_shapes.specs.declared.component.ItemKind.{ItemKind}
+use Rattle.wac_shapes.specs.declared.component.ItemKind.TheVariants as kind
+use Rattle.wac_shapes.specs.declared.component.ResourceId.{ResourceId}
+use Rattle.wac_shapes.specs.declared.component.UsedType.{UsedType}
+use Rattle.wac_shapes.specs.declared.component.«Type».TheVariants as ty
+use Rattle.wac_collection.specs.Bound.{is_alias, own_name}
+use Rattle.wac_collection.specs.Collection.{Collection, IsWellFormed, interface_exports, item_at}
+use Rattle.wac_collection.specs.Held.{resolved}
+use Rattle.wac_collection.specs.Tree.{named}
+use Rattle.wac_collection.specs.Uses.{is_listed_as_used, name_there}
+use Rattle.wac_entries.specs.Binding.{binding_class}
+use Rattle.wac_entries.specs.Classes.{Entry, by_names, canonical, class_names, members}
+use Rattle.wac_terms.specs.Merge.{IsMerge, Merged}
+use Rattle.wac_uses.specs.KeptUses.{of_interface}
+use Rattle.wac_unions.specs.OneId.{HasOneIdEach}
+use Rattle.wac_merge.specs.Listed.{listed_by, united_interfaces}
+
+-- The first member of the class of an import that lists a name lists a resource there, at the end of its aliases, which no member has as its own; and the import, which is an instance, lists this alias there.
+pub record ListsResource (c : Collection) (es : List Entry) (m : Merged) (p : ℕ) (n : Name) (r a : ResourceId) : Type 0 where
+  pub entry : Entry
+  pub at : slice_get m.imports p ≡ Some entry
+  pub interface : InterfaceId
+  pub is : entry.kind ≡ kind.Instance interface
+  pub merged : find_name (interface_exports m.types interface) n ≡ Some (kind.TypeItem (ty.Resource a))
+  pub alias : is_alias m.types a ≡ true
+  pub first : ResourceId
+  pub more : List ItemKind
+  pub listed : listed_by c (united_interfaces (map (λ x. x.kind) (members by_names es entry.name))) n ≡ kind.TypeItem (ty.Resource first) ∷ more
+  pub end : resolved c first ≡ r
+  pub free : (e : Entry) (i : InterfaceId) (it : Interface) → Contains (members by_names es entry.name) e → e.kind ≡ kind.Instance i → item_at c.interfaces i.0 ≡ Some it → own_name c it.uses it.exports r ≡ None
+
+-- The class of an import is the first, in asked order, that binds a resource, and the import, which is an instance, lists this own resource under that name.
+pub record BindsResource (c : Collection) (es : List Entry) (m : Merged) (p : ℕ) (n : Name) (r b : ResourceId) : Type 0 where
+  pub number : ℕ
+  pub class : Name
+  pub known : slice_get (class_names by_names es) number ≡ Some class
+  pub first : binding_class by_names c es r ≡ Some (number, named n ∷ [])
+  pub entry : Entry
+  pub at : slice_get m.imports p ≡ Some entry
+  pub name : entry.name ≡ canonical by_names es class
+  pub interface : InterfaceId
+  pub is : entry.kind ≡ kind.Instance interface
+  pub listed : find_name (interface_exports m.types interface) n ≡ Some (kind.TypeItem (ty.Resource b))
+  pub own : is_alias m.types b ≡ false
+
+-- Where one class lists a resource under the name of a use, and another is the first that binds it, under the name there, what is listed is what is used.
+abbrev pub UsedResourceLaw : Type 0
+UsedResourceLaw = (c : Collection) (es : List Entry) (m : Merged) → IsWellFormed m.types → IsMerge by_names c es m → HasOneIdEach c es m
+    → (p q : ℕ) (n : Name) (u : UsedType) (r a b : ResourceId) (lists : ListsResource c es m p n r a) (binds : BindsResource c es m q (name_there n u) r b)
+    → is_listed_as_used m.types (interface_exports m.types lists.interface) (n, of_interface binds.interface u) ≡ true

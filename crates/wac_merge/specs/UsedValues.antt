@@ -1,0 +1,42 @@
+-- When a used value type is what is listed under its name in a finished merge.
+use Rattle.std.specs.Prelude.{ℕ, ◌≡◌, true, List, map, Option, Some, slice_get, Contains}
+use Rattle.wac_shapes.specs.Name.{Name, find_name}
+use Rattle.wac_shapes.specs.declared.component.DefinedType.{DefinedType}
+use Rattle.wac_shapes.specs.declared.component.DefinedTypeId.{DefinedTypeId}
+use Rattle.wac_shapes.specs.declared.component.InterfaceId.{InterfaceId}
+use Rattle.wac_shapes.specs.declared.component.ItemKind.{ItemKind}
+use Rattle.wac_shapes.specs.declared.component.ItemKind.TheVariants as kind
+use Rattle.wac_shapes.specs.declared.component.UsedType.{UsedType}
+use Rattle.wac_shapes.specs.declared.component.ValueType.TheVariants as val
+use Rattle.wac_shapes.specs.declared.component.«Type».TheVariants as ty
+use Rattle.wac_collection.specs.Collection.{Collection, IsWellFormed, interface_exports, item_at}
+use Rattle.wac_collection.specs.Uses.{is_listed_as_used, name_there}
+use Rattle.wac_entries.specs.Classes.{Entry, by_names, members}
+use Rattle.wac_terms.specs.Merge.{IsMerge, Merged}
+use Rattle.wac_terms.specs.Values.{listed_value}
+use Rattle.wac_uses.specs.KeptUses.{of_interface}
+use Rattle.wac_unions.specs.OneId.{HasOneIdEach}
+use Rattle.wac_merge.specs.Listed.{listed_by, united_interfaces}
+
+-- A member of the class of an import lists a definition under a name, all members that list the name list definitions, and the import, which is an instance, lists this one there.
+pub record ListsDefinition (c : Collection) (es : List Entry) (m : Merged) (p : ℕ) (n : Name) (d a : DefinedTypeId) : Type 0 where
+  pub entry : Entry
+  pub at : slice_get m.imports p ≡ Some entry
+  pub interface : InterfaceId
+  pub is : entry.kind ≡ kind.Instance interface
+  pub merged : find_name (interface_exports m.types interface) n ≡ Some (kind.TypeItem (ty.Value (val.Defined a)))
+  pub member : Entry
+  pub among : Contains (members by_names es entry.name) member
+  pub of : InterfaceId
+  pub instance : member.kind ≡ kind.Instance of
+  pub item : ItemKind
+  pub listed : find_name (interface_exports c of) n ≡ Some item
+  pub definition : listed_value c item ≡ Some d
+  pub each : (k : ItemKind) → Contains (listed_by c (united_interfaces (map (λ x. x.kind) (members by_names es entry.name))) n) k → (e : DefinedTypeId) × (listed_value c k ≡ Some e)
+
+-- Where one class lists a definition under the name of a use, and another the same one under the name there, what is listed is what is used, if both have one content in the merge.
+abbrev pub UsedValueLaw : Type 0
+UsedValueLaw = (c : Collection) (es : List Entry) (m : Merged) → IsWellFormed c → IsMerge by_names c es m → HasOneIdEach c es m
+    → (p q : ℕ) (n : Name) (u : UsedType) (d a b : DefinedTypeId) (x : DefinedType) (lists : ListsDefinition c es m p n d a) (there : ListsDefinition c es m q (name_there n u) d b)
+    → item_at m.types.defined a.0 ≡ Some x → item_at m.types.defined b.0 ≡ Some x
+    → is_listed_as_used m.types (interface_exports m.types lists.interface) (n, of_interface there.interface u) ≡ true
