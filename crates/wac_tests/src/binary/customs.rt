@@ -1,52 +1,50 @@
 use super::assert_written;
-use std::test::Fail;
 use wac_binary::{ComponentBuilder, Sort, component_names, producers};
 
 // The processor `x` with the version `1`.
 #[test]
-fn writes_a_processor(rt: HostRuntime) -> Result<(), Fail> {
+fn writes_a_processor(rt: HostRuntime) {
     let alloc = rt.alloc();
     let mut b = ComponentBuilder::new(alloc);
-    b.custom("producers", &producers(alloc, "x", "1")?)?;
+    let bytes = producers(alloc, "x", "1").expect(&rt, "bytes");
+    b.custom("producers", &bytes).expect(&rt, "a section");
     assert_written(
         &rt,
         rt.alloc(),
-        b.finish()?,
+        b.finish(),
         &[
             "0061736d0d000100", // the preamble
             "001d0970726f647563657273010c",
             "70726f6365737365642d62790101",
             "780131",
         ],
-    )
+    );
 }
 
 // The name `n` of function 0.
 #[test]
-fn writes_a_name(rt: HostRuntime) -> Result<(), Fail> {
+fn writes_a_name(rt: HostRuntime) {
     let alloc = rt.alloc();
     let mut b = ComponentBuilder::new(alloc);
-    b.custom(
-        "component-name",
-        &component_names(alloc, &[(Sort::Func, 0, "n")])?,
-    )?;
+    let bytes = component_names(alloc, &[(Sort::Func, 0, "n")]).expect(&rt, "bytes");
+    b.custom("component-name", &bytes).expect(&rt, "a section");
     assert_written(
         &rt,
         rt.alloc(),
-        b.finish()?,
+        b.finish(),
         &[
             "0061736d0d000100", // the preamble
             "00160e636f6d706f6e656e742d6e",
             "616d650105010100016e",
         ],
-    )
+    );
 }
 
 // A subsection for each sort with a name, in the order of the format; no names, no bytes.
 #[test]
-fn writes_names_of_each_sort(rt: HostRuntime) -> Result<(), Fail> {
+fn writes_names_of_each_sort(rt: HostRuntime) {
     let alloc = rt.alloc();
-    let none = component_names(alloc, &[])?;
+    let none = component_names(alloc, &[]).expect(&rt, "bytes");
     assert!(rt; none.is_empty());
     let bytes = component_names(
         alloc,
@@ -59,7 +57,7 @@ fn writes_names_of_each_sort(rt: HostRuntime) -> Result<(), Fail> {
             (Sort::Type, 5, "t"),
             (Sort::Func, 200, "g"),
         ],
-    )?;
+    );
     assert_written(
         &rt,
         rt.alloc(),
@@ -72,5 +70,5 @@ fn writes_names_of_each_sort(rt: HostRuntime) -> Result<(), Fail> {
             "010600110101016d", // a core module
             "01050201000176", // a value
         ],
-    )
+    );
 }

@@ -1,5 +1,4 @@
 use super::assert_written;
-use std::test::Fail;
 use wac_binary::{
     BinaryFault, ComponentBuilder, Description, EntityType, InstanceType, ModuleType, Sort,
 };
@@ -64,7 +63,7 @@ impl Writers {
 // Makes each call, and once more where it was refused for want of memory: it had added nothing. Without a refusal these
 // are the bytes, and with `--fail-alloc N` they stay the same.
 #[test]
-fn a_refused_call_adds_nothing(rt: HostRuntime) -> Result<(), Fail> {
+fn a_refused_call_adds_nothing(rt: HostRuntime) {
     let alloc = rt.alloc();
     let mut writers = Writers {
         component: ComponentBuilder::new(alloc),
@@ -74,16 +73,16 @@ fn a_refused_call_adds_nothing(rt: HostRuntime) -> Result<(), Fail> {
     for call in CALLS {
         match writers.make(call) {
             Err(BinaryFault::OutOfMemory) => {
-                let _i = writers.make(call)?;
+                let _i = writers.make(call).expect(&rt, "an index");
             }
             answer => {
-                let _i = answer?;
+                let _i = answer.expect(&rt, "an index");
             }
         }
     }
     let bytes = match writers.component.finish() {
-        Err(BinaryFault::OutOfMemory) => writers.component.finish()?,
-        answer => answer?,
+        Err(BinaryFault::OutOfMemory) => writers.component.finish(),
+        answer => answer,
     };
     assert_written(
         &rt,
@@ -98,5 +97,5 @@ fn a_refused_call_adds_nothing(rt: HostRuntime) -> Result<(), Fail> {
             "0b070100017a010000", // an export
             "0003016307", // a custom section
         ],
-    )
+    );
 }
