@@ -4,13 +4,9 @@
 #![tactic(auto)]
 
 #[cfg(test)]
-mod binary;
-#[cfg(test)]
 mod collection;
 #[cfg(test)]
 mod edges;
-#[cfg(test)]
-mod names;
 #[cfg(test)]
 mod refused;
 #[cfg(test)]

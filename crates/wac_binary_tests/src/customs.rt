@@ -1,4 +1,4 @@
-use super::assert_written;
+use crate::components::assert_written;
 use wac_binary::{ComponentBuilder, Sort, component_names, producers};
 
 // The processor `x` with the version `1`.

@@ -1,14 +1,9 @@
-mod customs;
-mod modules;
-mod refused;
-mod types;
-
 use std::alloc::Global;
 use std::process::Abort;
 use wac_binary::{
     BinaryFault, ComponentBuilder, ComponentValType, Description, FuncType, InstanceType, Sort,
 };
-use wac_types::PrimitiveType;
+use wac_collection::PrimitiveType;
 
 const PREAMBLE: [u8; 8] = [0x00, 0x61, 0x73, 0x6d, 0x0d, 0x00, 0x01, 0x00];
 
@@ -28,7 +23,7 @@ fn two_packages(rt: &impl Abort, alloc: Global) -> ComponentBuilder {
 }
 
 // These bytes are written, in hexadecimal.
-fn assert_written(
+pub fn assert_written(
     rt: &impl Abort,
     alloc: Global,
     bytes: Result<Vec<u8>, BinaryFault>,

@@ -1,11 +1,11 @@
-use super::assert_written;
+use crate::components::assert_written;
 use std::alloc::Global;
 use std::process::Abort;
 use wac_binary::{
     BinaryFault, ComponentBuilder, ComponentType, ComponentValType, DefinedType, Description,
     FuncType, InstanceType, Sort,
 };
-use wac_types::PrimitiveType;
+use wac_collection::PrimitiveType;
 
 const U8: ComponentValType = ComponentValType::Primitive(PrimitiveType::U8);
 

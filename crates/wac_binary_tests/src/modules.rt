@@ -1,10 +1,10 @@
-use super::assert_written;
+use crate::components::assert_written;
 use std::process::Abort;
 use wac_binary::{
     BinaryFault, ComponentBuilder, ComponentType, EntityType, GlobalType, InstanceType, MemoryType,
     ModuleType, TableType,
 };
-use wac_types::{CoreExtern, CoreFuncType, CoreRefType, CoreType};
+use wac_collection::{CoreExtern, CoreFuncType, CoreRefType, CoreType};
 
 const MEMORY: MemoryType = MemoryType {
     minimum: 1,
@@ -52,7 +52,7 @@ fn writes_a_module_type(rt: HostRuntime) {
 #[test]
 fn writes_imports_in_the_order_given(rt: HostRuntime) {
     let alloc = rt.alloc();
-    let mut held = wac_types::ModuleType::new(alloc);
+    let mut held = wac_collection::ModuleType::new(alloc);
     for (source, name) in [("m", "f"), ("n", "g"), ("m", "h")] {
         let func = CoreFuncType::new(alloc, &[], &[]).expect(&rt, "a function type");
         held.import(alloc, source, name, CoreExtern::Func(func))

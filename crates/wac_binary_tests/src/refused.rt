@@ -1,4 +1,4 @@
-use super::assert_written;
+use crate::components::assert_written;
 use wac_binary::{
     BinaryFault, ComponentBuilder, Description, EntityType, InstanceType, ModuleType, Sort,
 };
