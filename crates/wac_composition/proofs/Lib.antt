@@ -2,3 +2,4 @@ pub mod ListedLemmas
 pub mod DefiningLemmas
 mod FittingLemmas
 pub mod RootLemmas
+pub mod ConflictFreeLemmas

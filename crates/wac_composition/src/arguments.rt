@@ -176,8 +176,7 @@ impl CompositionGraph {
         ensures { self.new ≡ record self.old { edges = set.remove self.old.edges (labelled argument instantiation position) } }
     {
         let edge = argument_edge(instantiation, position, argument);
-        if self.edges.contains(edge) {
-            self.edges.remove(edge);
+        if self.edges.take(edge) {
             unsatisfy(&mut self.nodes, instantiation.0, position);
         }
     }

@@ -27,6 +27,9 @@ impl CompositionGraph {
         ensures none { OnOk result (HasNoConflict self.now) }
         ensures refused { IfErr result (λ e. (o : Asked) → IsRefused self.now o e) }
     {
+        if self.imports.is_empty() {
+            return Ok(());
+        }
         for n in 0..self.nodes.capacity() {
             if let Some((position, import)) = self.conflict_at(n) {
                 return Err(self.conflict(n, position, import)?);

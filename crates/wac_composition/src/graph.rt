@@ -299,15 +299,17 @@ impl CompositionGraph {
         let Some(package) = package_in_slots(&self.slots, id) else {
             unreachable!()
         };
-        let node = Node {
+        let item_kind = ItemKind::Instance(package.instance_type());
+        self.nodes.reserve(1)?;
+        let number = self.nodes.vacant_key();
+        self.nodes.insert_reserved(Node {
             kind: NodeKind::Instantiation(BTreeSet::new(self.alloc)),
             package: Some(id),
-            item_kind: ItemKind::Instance(package.instance_type()),
+            item_kind,
             name: None,
             export_name: None,
             first_name: None,
-        };
-        let number = self.nodes.insert(node)?;
+        });
         Ok(NodeId(number))
     }
 

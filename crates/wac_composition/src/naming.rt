@@ -1,5 +1,8 @@
 //! The names of nodes, as names of the indexes at which these stand.
-ghost use Rattle.std.specs.Prelude.{◌≡◌, ◌↔◌, Some, IfOk, IsSome, IsSomeAnd, IsTrue};
+ghost use Rattle.std.specs.Prelude.{◌≡◌, ◌↔◌, ◌≤◌, Some, IfOk, IsSome, IsSomeAnd, IsTrue};
+ghost use Rattle.wac_binary.specs.declared.sorts.Sort.{Sort as ASort};
+ghost use Rattle.wac_edges.specs.declared.node.NodeId.{NodeId as AnId};
+ghost use Rattle.wac_edges.specs.Edge.{node_number};
 ghost use Rattle.wac_binary.specs.Views.{names_of};
 ghost use Rattle.wac_nodes.specs.Graph.{node_at};
 ghost use Rattle.wac_meaning.specs.Means.{AreNames};
@@ -20,21 +23,50 @@ impl CompositionGraph {
         requires { HasRoom self.now indexes.now }
         ensures { IfOk result (λ names. AreNames self.now (index_in indexes.now) (names_of names.items)) }
     {
-        let mut names = self.sort_names(indexes, Sort::Type)?;
-        names.append(&mut self.sort_names(indexes, Sort::Func)?)?;
-        names.append(&mut self.sort_names(indexes, Sort::Instance)?)?;
-        names.append(&mut self.sort_names(indexes, Sort::Component)?)?;
-        names.append(&mut self.sort_names(indexes, Sort::CoreModule)?)?;
-        names.append(&mut self.sort_names(indexes, Sort::Value)?)?;
+        let end = self.names_end();
+        let mut names = self.sort_names(indexes, end, Sort::Type)?;
+        names.append(&mut self.sort_names(indexes, end, Sort::Func)?)?;
+        names.append(&mut self.sort_names(indexes, end, Sort::Instance)?)?;
+        names.append(&mut self.sort_names(indexes, end, Sort::Component)?)?;
+        names.append(&mut self.sort_names(indexes, end, Sort::CoreModule)?)?;
+        names.append(&mut self.sort_names(indexes, end, Sort::Value)?)?;
         Ok(names)
     }
 
-    /// The names of the indexes of one sort, by rising indexes.
-    fn sort_names(&self, indexes: &[u32], sort: Sort) -> Result<Vec<(Sort, u32, &str)>, AllocError>
-        requires { HasRoom self.now indexes.now }
+    /// A number below which all nodes are that have a name: zero where none has one.
+    fn names_end(&self) -> usize
+        ensures { (sort : ASort) (n : AnId) → result ≤ n.0 → IsNamed self.now sort n → ⊥ }
+    {
+        for n in (0..self.nodes.capacity()).rev() {
+            if self.has_name(n) {
+                return n + 1;
+            }
+        }
+        0
+    }
+
+    /// Whether the node of this number is there and has a name.
+    fn has_name(&self, n: usize) -> bool
+        ensures { (sort : ASort) → IsNamed self.now sort (node_number n) → IsTrue result }
+    {
+        match self.nodes.get(n) {
+            Some(node) => node.name.is_some(),
+            None => false,
+        }
+    }
+
+    /// The names of the indexes of one sort, by rising indexes. The numbers of named nodes are below an end.
+    fn sort_names(
+        &self,
+        indexes: &[u32],
+        end: usize,
+        sort: Sort,
+    ) -> Result<Vec<(Sort, u32, &str)>, AllocError>
+        requires room { HasRoom self.now indexes.now }
+        requires end { (n : AnId) → end ≤ n.0 → IsNamed self.now sort n → ⊥ }
         ensures { IfOk result (λ names. AreNamesOf self.now (index_in indexes.now) sort (names_of names.items)) }
     {
-        let lowest = self.lowest_named(indexes, sort)?;
+        let lowest = self.lowest_named(indexes, end, sort)?;
         let mut names = Vec::new(self.alloc);
         for (index, n) in &lowest {
             names.push((sort, *index, self.name_of(*n)))?;
@@ -42,13 +74,19 @@ impl CompositionGraph {
         Ok(names)
     }
 
-    /// For each index of a sort at which a named node stands the lowest of these.
-    fn lowest_named(&self, indexes: &[u32], sort: Sort) -> Result<BTreeMap<u32, NodeId>, AllocError>
-        requires { HasRoom self.now indexes.now }
+    /// For each index of a sort at which a named node stands the lowest of these. The numbers of named nodes are below an end.
+    fn lowest_named(
+        &self,
+        indexes: &[u32],
+        end: usize,
+        sort: Sort,
+    ) -> Result<BTreeMap<u32, NodeId>, AllocError>
+        requires room { HasRoom self.now indexes.now }
+        requires end { (n : AnId) → end ≤ n.0 → IsNamed self.now sort n → ⊥ }
         ensures { IfOk result (AreLowest (IsNamedAt self.now (index_in indexes.now) sort) 0) }
     {
         let mut lowest = BTreeMap::new(self.alloc);
-        for n in (0..self.nodes.capacity()).rev() {
+        for n in (0..end).rev() {
             let id = NodeId(n);
             if self.is_named(id, sort) {
                 lowest.insert(indexes[n], id)?;

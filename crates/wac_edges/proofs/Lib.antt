@@ -11,3 +11,4 @@ pub mod ListLemmas
 pub mod FindLemmas
 pub mod SetLemmas
 pub mod AliasLemmas
+pub mod RisingLemmas

@@ -6,7 +6,10 @@ use Rattle.std.specs.List.{sum_by}
 use Rattle.std.specs.Ordering.{nat_cmp}
 use Rattle.std.specs.declared.cmp.Reverse.{Reverse}
 use Rattle.std.specs.declared.collections.BinaryHeap.{BinaryHeap}
+use Rattle.std.specs.FinSet as set
 use Rattle.wac_cycles.specs.Numbers.{Has}
+use Rattle.wac_edges.specs.declared.edges.Edge.{Edge}
+use Rattle.wac_edges.specs.Order.{Edges}
 
 -- is the flag of a number set
 abbrev pub is_set : List Bool → ℕ → Bool
@@ -47,3 +50,7 @@ stands rs b = sum_by (λ r. one (b == r.0)) rs
 -- the heap has the numbers that are left and whose count is zero, each once
 abbrev pub AreReady : BinaryHeap (Reverse ℕ) Global → List Bool → List ℕ → Type 0
 AreReady ready flags counts = IsHeap (λ x y. nat_cmp y.0 x.0) (heap_items ready) × ((b : ℕ) → stands (heap_items ready) b ≡ one (is_left_with flags counts 0 b))
+
+-- each edge from a node below n leads to a higher number
+abbrev pub AllRise : Edges → ℕ → Type 0
+AllRise edges n = (e : Edge) → set.contains edges e ≡ true → e.source.0 < n → e.source.0 < e.target.0

@@ -9,7 +9,7 @@ ghost use Rattle.wac_edges.specs.Ends.{at_end, AreAt, HasLabel, LeadsTo};
 ghost use Rattle.wac_edges.specs.Order.{IsAcyclic, IsEdge, IsLowestOnCycle};
 ghost use Rattle.wac_cycles.specs.Cycles.{IsStep};
 ghost use Rattle.wac_cycles.specs.Numbers.{Has};
-ghost use Rattle.wac_edges.specs.Ready.{IsListed};
+ghost use Rattle.wac_edges.specs.Ready.{IsListed, AllRise};
 
 use crate::aliases::{first_alias, forget_alias, is_crowded, mark, note, note_all};
 use crate::node::NodeId;
@@ -271,6 +271,30 @@ impl Edges {
             Some(n) => Ok(Some(NodeId(n))),
             None => Ok(None),
         }
+    }
+
+    /// Whether each edge from one of the first so many nodes leads to a node of a higher number.
+    pub(crate) fn rise(&self, nodes: usize) -> bool
+        ensures { OnTrue result (AllRise self.now nodes) }
+    {
+        for a in 0..nodes {
+            if self.falls(NodeId(a)) {
+                return false;
+            }
+        }
+        true
+    }
+
+    /// Whether an edge leads from a node to one of no higher number.
+    fn falls(&self, node: NodeId) -> bool
+        ensures { OnFalse result ((e : AnEdge) → set.contains self.now e ≡ true → e.source ≡ node → node.0 < e.target.0) }
+    {
+        for edge in self.walk(node, End::Outgoing) {
+            if edge.target.0 <= node.0 {
+                return true;
+            }
+        }
+        false
     }
 
     /// For each of the first so many nodes, those to which edges lead from it.

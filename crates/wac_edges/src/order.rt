@@ -3,8 +3,8 @@ ghost use Rattle.std.specs.Prelude.{◌≡◌, ℕ, ◌<◌, ◌≤◌, ◌+◌,
 ghost use Rattle.wac_edges.specs.Edge.{is_left};
 ghost use Rattle.wac_edges.specs.declared.node.NodeId.{NodeId as AnId};
 ghost use Rattle.std.specs.Bool.{OnTrue, OnFalse};
-ghost use Rattle.wac_edges.specs.Order.{Writes, IsOnCycle};
-ghost use Rattle.wac_edges.specs.Ready.{occurs, AreCounted, AreReady, is_left_with, is_set};
+ghost use Rattle.wac_edges.specs.Order.{Edges, Writes, IsOnCycle};
+ghost use Rattle.wac_edges.specs.Ready.{occurs, AreCounted, AreReady, AllRise, is_left_with, is_set};
 
 use crate::edges::Edges;
 use crate::node::NodeId;
@@ -140,9 +140,37 @@ fn is_done(left: &[bool]) -> bool
     true
 }
 
+/// The nodes that are left, by rising numbers.
+fn rising(alloc: Global, left: &[bool]) -> Result<Vec<NodeId>, AllocError>
+    ensures { IfOk result (λ ns. (edges : Edges) → AllRise edges (length left.now) → Writes edges (is_left left.now) ns.items) }
+{
+    let mut ids = Vec::new(alloc);
+    for n in 0..left.len() {
+        if left[n] {
+            ids.push(NodeId(n))?;
+        }
+    }
+    Ok(ids)
+}
+
 /// The nodes that are left, each the lowest to which no edge leads from one that is left then; none where edges
-/// among them form a cycle.
+/// among them form a cycle. Where each edge leads to a higher number, the numbers are the order.
 pub fn order(
+    alloc: Global,
+    edges: &Edges,
+    left: Vec<bool>,
+) -> Result<Option<Vec<NodeId>>, AllocError>
+    ensures whole { IfOk result (λ o. IfSome o (λ ns. Writes edges.now (is_left left.items) ns.items)) }
+    ensures cycle { IfOk result (λ o. IfNone o ((n : AnId) × IsOnCycle edges.now n)) }
+{
+    if edges.rise(left.len()) {
+        return Ok(Some(rising(alloc, left.as_slice())?));
+    }
+    order_by_counts(alloc, edges, left)
+}
+
+/// The nodes that are left in that order, found by how many edges lead to each from those that are left.
+fn order_by_counts(
     alloc: Global,
     edges: &Edges,
     left: Vec<bool>,

@@ -6,6 +6,7 @@ use Rattle.wac_edges.specs.Edge.{node_number}
 use Rattle.wac_writing.proofs.ConflictLemmas.{is_lowest, no_conflict}
 use Rattle.wac_causes.proofs.StandsLemmas.{stands_conflict}
 use Rattle.wac_composition.specs.Inside.{fields_of}
+use Rattle.wac_composition.proofs.ConflictFreeLemmas.{no_imports}
 use Rattle.wac_composition.proofs.graph.CompositionGraph.check_conflicts.Goals as goal
 
 pub conflict-requires-clause-lowest : goal.conflict-requires-clause-lowest
@@ -24,3 +25,6 @@ pub returns-in-Some-clause-refused : goal.returns-in-Some-clause-refused
 returns-in-Some-clause-refused c = λ o.
     let (key, name, names, first) = c.in_ok-conflict.ensures in
     inr (conflict c.in-Some.import (node_number c.loop-n.n) key name, names, lit< tt, stands_conflict c.args.self.now o c.in-Some.import (node_number c.loop-n.n) key name c.requires first)
+
+pub returns-then-is_empty-clause-none : goal.returns-then-is_empty-clause-none
+returns-then-is_empty-clause-none c = rw (← c.self.view_is) (no_imports (fields_of c.self.inside) c.self.invariant (c.is_empty.ensures.0 c.if-is_empty.true))

@@ -1,23 +1,19 @@
 use Rattle.std.proofs.Common.{◌≡◌, ◌<◌, ◌+◌, ◌-◌, rules, length, refl, arith, subst, sym, slice_index_or}
 use Rattle.wac_edges.specs.Edge.{node_number}
 use Rattle.wac_meaning.specs.Encoding.{index_in}
-use Rattle.wac_writing.specs.Naming.{AreLowest, IsNamed, IsNamedAt}
-use Rattle.wac_writing.proofs.EncodingLemmas.{none_past}
-use Rattle.wac_writing.proofs.NamingLemmas.{lowest_none, lowest_put, named_there_is, none_there}
-use Rattle.wac_composition.specs.Inside.{fields_of}
+use Rattle.wac_writing.specs.Naming.{AreLowest, IsNamedAt}
+use Rattle.wac_writing.proofs.NamingLemmas.{lowest_none, lowest_put, named_there_is}
 use Rattle.wac_composition.proofs.graph.CompositionGraph.lowest_named.Goals as goal
 
 pub loop-n-init : goal.loop-n-init
-loop-n-init c =
-    lowest_none (IsNamedAt c.args.self.now (index_in c.args.indexes.now) c.args.sort) c.capacity-n.result c.new-lowest.result c.new-lowest.ensures.empty
-    (λ i n far is. none_there (fields_of c.self.inside) n c.args.sort (none_past (fields_of c.self.inside) n.0 (omega (arith, c.capacity-n.ensures.slots, far))) (subst (λ g. IsNamed g c.args.sort n) (sym c.self.view_is) is.0))
+loop-n-init c = lowest_none (IsNamedAt c.args.self.now (index_in c.args.indexes.now) c.args.sort) c.args.end c.new-lowest.result c.new-lowest.ensures.empty (λ i n far is. c.requires.end n far is.0)
 
 pub bounds-indexes-n : goal.bounds-indexes-n
-bounds-indexes-n c = c.requires (node_number (c.loop-n.n - 1)) (named_there_is c.args.self.now c.args.sort (node_number (c.loop-n.n - 1)) (c.is_named.ensures.0 c.if-is_named.true))
+bounds-indexes-n c = c.requires.room (node_number (c.loop-n.n - 1)) (named_there_is c.args.self.now c.args.sort (node_number (c.loop-n.n - 1)) (c.is_named.ensures.0 c.if-is_named.true))
 
 pub offset_bounds-indexes-n : goal.offset_bounds-indexes-n
 offset_bounds-indexes-n c =
-    let low : c.loop-n.n - 1 < length c.args.indexes.now = c.requires (node_number (c.loop-n.n - 1)) (named_there_is c.args.self.now c.args.sort (node_number (c.loop-n.n - 1)) (c.is_named.ensures.0 c.if-is_named.true)) in
+    let low : c.loop-n.n - 1 < length c.args.indexes.now = c.requires.room (node_number (c.loop-n.n - 1)) (named_there_is c.args.self.now c.args.sort (node_number (c.loop-n.n - 1)) (c.is_named.ensures.0 c.if-is_named.true)) in
     search rules
 
 pub loop-n-preserved-in_ok-insert : goal.loop-n-preserved-in_ok-insert

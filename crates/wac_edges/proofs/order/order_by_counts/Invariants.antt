@@ -4,7 +4,7 @@ use Rattle.wac_edges.specs.declared.node.NodeId.{NodeId}
 use Rattle.wac_edges.specs.Edge.{is_left}
 use Rattle.wac_edges.specs.Order.{Writes}
 use Rattle.wac_edges.specs.Ready.{AreCounted, AreReady}
-use Rattle.wac_edges.proofs.order.order.Given as goal
+use Rattle.wac_edges.proofs.order.order_by_counts.Given as goal
 
 abbrev pub invariant-loop-lowest : goal.invariant-loop-lowest
 invariant-loop-lowest l = record {

@@ -13,7 +13,7 @@ use Rattle.wac_edges.specs.Ready.{occurs, one, stands, AreReady, is_set}
 use Rattle.wac_edges.proofs.OrderLemmas.{flags_after}
 use Rattle.wac_edges.proofs.CycleLemmas.{stuck_cycle, within}
 use Rattle.wac_edges.proofs.ReadyLemmas.{are_left, counted_next, lowest_ready, none_of, popped_some, ready_next, stuck}
-use Rattle.wac_edges.proofs.order.order.Goals as goal
+use Rattle.wac_edges.proofs.order.order_by_counts.Goals as goal
 
 pub loop-lowest-preserved : goal.loop-lowest-preserved
 loop-lowest-preserved c =
