@@ -8,7 +8,7 @@ use Rattle.wac_agreement.specs.Apart.{ItemsAgree, AgreeTo, AllAgree, IsFirstApar
 use Rattle.wac_terms.proofs.Found.{one_some, no_some}
 use Rattle.wac_terms.proofs.Found.{less_cases}
 
-least_or : (a b : ℕ) → (a ≤ b) ⊎ (b < a)
+pub least_or : (a b : ℕ) → (a ≤ b) ⊎ (b < a)
 least_or zero b = inl (omega arith)
 least_or (suc a) zero = inr (omega arith)
 least_or (suc a) (suc b) = elim (least_or a b) [

@@ -24,3 +24,4 @@ pub mod OrderSteps
 pub mod OrderPlaces
 pub mod OrderGroups
 pub mod Agreeing
+pub mod Picking

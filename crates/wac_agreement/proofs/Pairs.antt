@@ -24,7 +24,7 @@ use Rattle.wac_entries.proofs.Lists.{some-at}
 use Rattle.wac_terms.proofs.Found.{get_map, mapped_length}
 
 -- what holds at each position holds of all
-all_from : {A : Type 0} (P : A → Type 0) (xs : List A) → ((k : ℕ) (x : A) → slice_get xs k ≡ Some x → P x) → AllByRecursion P xs
+pub all_from : {A : Type 0} (P : A → Type 0) (xs : List A) → ((k : ℕ) (x : A) → slice_get xs k ≡ Some x → P x) → AllByRecursion P xs
 all_from P [] h = tt
 all_from P (x ∷ xs) h = (h 0 x refl, all_from P xs (λ k y at. h (suc k) y at))
 

@@ -7,3 +7,4 @@ pub mod Compared
 pub mod Faults
 pub mod Resting
 pub mod Order
+pub mod Picked

@@ -7,6 +7,7 @@ ghost use Rattle.wac_entries.specs.NodeViews.{item_view, listed};
 ghost use Rattle.wac_agreement.specs.Slots.{spot_view};
 ghost use Rattle.wac_agreement.specs.Apart.{AllAgree, AreLow, AreSlots, IsCompared, IsFirstApart, IsLeast, Meets, MeetsAll, pushed};
 
+use crate::picked::Picked;
 use crate::slots::{Held, Slots, Spot, exports, fits};
 use std::alloc::{AllocError, Global};
 use wac_entries::nodes::{Item, Nodes};
@@ -122,8 +123,9 @@ impl Walk {
     }
 }
 
-/// The first entry that disagrees with an earlier one of its class, and the first that it disagrees with.
-pub fn first_disagreement(
+/// Of entries each of which is compared, the first that disagrees with an earlier one of its class, and the first that it
+/// disagrees with.
+fn first_apart(
     alloc: Global,
     nodes: &Nodes,
     items: &[Item],
@@ -145,4 +147,28 @@ pub fn first_disagreement(
         }
     }
     Ok(None)
+}
+
+/// The first entry that disagrees with an earlier one of its class, and the first that it disagrees with.
+pub fn first_disagreement(
+    alloc: Global,
+    nodes: &Nodes,
+    items: &[Item],
+    classes: &[usize],
+) -> Result<Option<(usize, usize)>, AllocError>
+    requires counted { length classes.now ≡ length items.now }
+    requires low { AllByRecursion (λ x. type_of x < length nodes.now) (map item_view items.now) }
+    ensures { IfOk result (λ o. MatchOption o (AllAgree nodes.now (map item_view items.now) classes.now) (λ p. IsFirstApart nodes.now (map item_view items.now) classes.now p.0 p.1)) }
+{
+    let picked = Picked::new(alloc, items, classes)?;
+    let apart = first_apart(
+        alloc,
+        nodes,
+        picked.items.as_slice(),
+        picked.classes.as_slice(),
+    )?;
+    let Some((first, second)) = apart else {
+        return Ok(None);
+    };
+    Ok(Some((picked.positions[first], picked.positions[second])))
 }

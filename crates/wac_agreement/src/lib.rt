@@ -8,6 +8,7 @@ pub mod apart;
 pub mod compared;
 pub mod fault;
 pub mod order;
+pub mod picked;
 pub mod reach;
 pub mod rests;
 pub mod slots;

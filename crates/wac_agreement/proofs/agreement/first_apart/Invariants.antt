@@ -1,7 +1,7 @@
 use Rattle.std.proofs.Common.{◌≡◌, map, None}
 use Rattle.wac_entries.specs.NodeViews.{item_view}
 use Rattle.wac_agreement.specs.Apart.{AgreeTo, AreSlots}
-use Rattle.wac_agreement.proofs.agreement.first_disagreement.Given as goal
+use Rattle.wac_agreement.proofs.agreement.first_apart.Given as goal
 
 abbrev pub invariant-loop-i : goal.invariant-loop-i
 invariant-loop-i l = record {
