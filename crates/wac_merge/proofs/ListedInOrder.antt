@@ -1,5 +1,5 @@
 -- The interfaces of a merge list what those list that they unite, in order of first appearance.
-use Rattle.std.proofs.Common.{◌≡◌, inl, inr, ℕ, zero, suc, Bool, true, false, List, [], ◌∷◌, ◌++◌, fold, map, length, take, slice_get, ◌&&◌, ◌<◌, Option, Some, None, refl, sym, ap, ◌∙◌, subst, arith}
+use Rattle.std.proofs.Common.{◌≡◌, inl, inr, ℕ, suc, Bool, true, false, List, [], ◌∷◌, ◌++◌, fold, map, length, take, slice_get, ◌&&◌, ◌<◌, Option, Some, None, refl, sym, ap, ◌∙◌, subst, arith}
 use Rattle.std.specs.Prelude.{◌⊎◌}
 use Rattle.std.specs.List.{AllZip}
 use Rattle.std.specs.Option.{MatchOption}
@@ -35,7 +35,7 @@ use Rattle.wac_trees.proofs.UnionTreesParts.{all_at, zip_map}
 use Rattle.wac_trees.proofs.UnionTreesWritten.{written_name, written_other, written_own}
 use Rattle.wac_uses.specs.Using.{IsKindUsing, IsWithUses, uses_among}
 use Rattle.wac_uses.proofs.ClassFolds.{mapped_at}
-use Rattle.wac_unions.specs.MergedClasses.{IsClassKind, class_roots, with_root}
+use Rattle.wac_unions.specs.MergedClasses.{class_roots, with_root}
 use Rattle.wac_unions.specs.OneId.{HasOneIdEach}
 use Rattle.wac_agreement.proofs.OrderLaws.{at_in, in_contains, order_each}
 use Rattle.wac_merge.specs.Listed.{AreListedInOrder, Unites, as_import, inside, instances_of, interface_in, listed_by, united_interfaces}
@@ -338,16 +338,18 @@ module _ (c : Collection) (es : List Entry) (m : Merged) (g : IsMerge by_names c
         let r = some-at h.unions.roots o.number (omega (arith, low, counted)) in
         let u = h.unions.unions.rooted o.number r.0 r.1 in
         let all = ap (λ (ys : List Entry). united_interfaces (map (λ (y : Entry). y.kind) ys)) o.alike in
-        let are = h.unions.rooted.each o.number o.class r.0 o.known r.1 ∙ (roots ∙ all) in
-        (record {
-          number = o.number;
-          union = u.0;
-          there = u.1;
-          parts = subst (λ is. AllZip (IsPartOf h.ps) is (u.0).parts.items) are (root-parts c h.ps o.number r.0 (u.0).parts.items u.2);
-          bare = bare;
-          written = written;
-          same = same;
-        }, refl)
+        let are = h.unions.rooted.each o.number o.class r.0 o.known r.1 ∙ (roots ∙ all) in (
+          record {
+            number = o.number;
+            union = u.0;
+            there = u.1;
+            parts = subst (λ is. AllZip (IsPartOf h.ps) is (u.0).parts.items) are (root-parts c h.ps o.number r.0 (u.0).parts.items u.2);
+            bare = bare;
+            written = written;
+            same = same;
+          },
+          refl,
+        )
 
     abbrev Became : ItemKind → Entry → Option ResourceId → Type 0
     Became k e q = MatchOption q (IsWrittenAs c m.types (became c h.ps h.bs h.f None) (slice_get h.written.ws o.number) e.name e.kind k) (λ r. k ≡ kind.TypeItem (ty.Resource r))

@@ -1,6 +1,5 @@
 -- A used resource is what is listed under its name, where the used class is the first that binds it.
 use Rattle.std.proofs.Common.{◌≡◌, ℕ, zero, suc, Bool, true, false, cond, List, [], ◌∷◌, map, slice_get, Option, Some, None, refl, sym, ap, ◌∙◌, subst, arith}
-use Rattle.std.specs.List.{AllZip}
 use Rattle.std.proofs.lemmas.Bool.{eq-eqb, false≢true}
 use Rattle.std.proofs.lemmas.Option.{MatchOption-at_some, slice_get_within}
 use Rattle.wac_shapes.specs.Name.{Name, find_name, first_some, option_case}
@@ -36,7 +35,7 @@ use Rattle.wac_uses.specs.KeptUses.{of_interface}
 use Rattle.wac_uses.proofs.ClassFolds.{mapped_at}
 use Rattle.wac_unions.specs.OneId.{HasOneIdEach}
 use Rattle.wac_unions.proofs.AssembledKinds.{the-instance}
-use Rattle.wac_merge.specs.Listed.{instances_of, listed_by, united_interfaces}
+use Rattle.wac_merge.specs.Listed.{instances_of, united_interfaces}
 use Rattle.wac_merge.specs.UsedResources.{BindsResource, ListsResource}
 use Rattle.wac_merge.proofs.ListedInOrder.{AreAll, IsPartOf, IsUnionOf, as-instance, exports-are, first-instances, first-is, members-like, of-class, zip-back}
 use Rattle.wac_merge.proofs.UsedBefore.{canonical-class}

@@ -1,5 +1,5 @@
 -- When a used resource is what is listed under its name in a finished merge.
-use Rattle.std.specs.Prelude.{ℕ, ◌≡◌, true, false, List, [], ◌∷◌, map, Option, Some, None, slice_get, Contains}
+use Rattle.std.specs.Prelude.{ℕ, ◌≡◌, true, false, List, [], ◌∷◌, map, Some, None, slice_get, Contains}
 use Rattle.wac_shapes.specs.Name.{Name, find_name}
 use Rattle.wac_shapes.specs.declared.component.Interface.{Interface}
 use Rattle.wac_shapes.specs.declared.component.InterfaceId.{InterfaceId}

@@ -4,6 +4,8 @@
 #![tactic(auto)]
 
 #[cfg(test)]
+mod listed;
+#[cfg(test)]
 mod merging;
 #[cfg(test)]
 mod one_type;
