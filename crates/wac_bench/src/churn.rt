@@ -1,8 +1,8 @@
 //! How long it takes to remove nodes of a graph with many exports and to make them again: half of the nodes, ten times.
 
-use crate::graphs::{alias, export, instantiate, one, pass, plain, register, unvalidated};
+use crate::graphs::{alias, export, instantiate, one, pass, plain, refused, register, unvalidated};
 use crate::times::{ROUNDS, Times, print_power_of_ten, print_times};
-use anyhow::{Result, bail};
+use anyhow::Result;
 use std::alloc::Global;
 use std::time::{Duration, Instant};
 use wac_graph::types::Named;
@@ -54,46 +54,48 @@ fn register_parts(alloc: Global, graph: &mut CompositionGraph) -> Result<Parts> 
     })
 }
 
-/// Makes a triple, of which the alias is exported by this name.
-fn make_triple(graph: &mut CompositionGraph, parts: Parts, name: &str) -> Result<Triple> {
+/// Makes a triple, of which the alias is exported by this name; none where a call is refused.
+fn make_triple(graph: &mut CompositionGraph, parts: Parts, name: &str) -> Option<Triple> {
     let provider = instantiate(graph, parts.provider)?;
     let alias = alias(graph, provider, "a")?;
     let consumer = instantiate(graph, parts.consumer)?;
     pass(graph, consumer, "b", alias)?;
     export(graph, alias, name)?;
-    Ok(Triple {
+    Some(Triple {
         provider,
         alias,
         consumer,
     })
 }
 
-/// Removes a node.
-fn remove(graph: &mut CompositionGraph, node: NodeId) -> Result<()> {
+/// Removes a node; none where it is not there.
+fn remove(graph: &mut CompositionGraph, node: NodeId) -> Option<()> {
     if !graph.has_node(node) {
-        bail!("a node is not there");
+        return None;
     }
     graph.remove_node(node);
-    Ok(())
+    Some(())
 }
 
-/// Takes the argument of a triple away, and removes its nodes.
-fn unmake(graph: &mut CompositionGraph, triple: Triple) -> Result<()> {
+/// Takes the argument of a triple away, and removes its nodes; none where a call is refused.
+fn unmake(graph: &mut CompositionGraph, triple: Triple) -> Option<()> {
     if !graph.has_node(triple.consumer) {
-        bail!("an instance is not there");
+        return None;
     }
-    graph.unset_instantiation_argument(triple.consumer, "b", triple.alias)?;
+    graph
+        .unset_instantiation_argument(triple.consumer, "b", triple.alias)
+        .ok()?;
     remove(graph, triple.provider)?;
     remove(graph, triple.consumer)
 }
 
-/// Removes every other triple, and makes each again.
+/// Removes every other triple, and makes each again; none where a call is refused.
 fn turn(
     graph: &mut CompositionGraph,
     parts: Parts,
     names: &[String],
     triples: &mut [Triple],
-) -> Result<()> {
+) -> Option<()> {
     for (number, triple) in triples.iter().enumerate() {
         if number % 2 == 1 {
             unmake(graph, *triple)?;
@@ -104,7 +106,7 @@ fn turn(
             *slot = make_triple(graph, parts, name.as_str())?;
         }
     }
-    Ok(())
+    Some(())
 }
 
 /// The names `e0`, `e1` and so on.
@@ -126,12 +128,12 @@ fn timed(
     let mut triples = Vec::new(rt.alloc());
     let start = Instant::now(rt)?;
     for name in names {
-        triples.push(make_triple(graph, parts, name.as_str())?)?;
+        triples.push(refused(make_triple(graph, parts, name.as_str()))?)?;
     }
     let made = start.elapsed(rt)?;
     let start = Instant::now(rt)?;
     for _ in 0..TURNS {
-        turn(graph, parts, names, &mut triples)?;
+        refused(turn(graph, parts, names, &mut triples))?;
     }
     let turned = start.elapsed(rt)?;
     let start = Instant::now(rt)?;

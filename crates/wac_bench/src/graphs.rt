@@ -105,41 +105,52 @@ pub fn register(
     Ok(graph.register_package(package)?)
 }
 
-/// Makes an instance of a package.
-pub fn instantiate(graph: &mut CompositionGraph, package: PackageId) -> Result<NodeId> {
+/// Makes an instance of a package; none where that is refused. As the calls below, it carries no error with its text, since what is
+/// measured is the graph's call.
+pub fn instantiate(graph: &mut CompositionGraph, package: PackageId) -> Option<NodeId> {
     if !graph.has_package(package) {
-        bail!("a package is not registered");
+        return None;
     }
-    Ok(graph.instantiate(package)?)
+    graph.instantiate(package).ok()
 }
 
-/// Makes an alias of an export.
-pub fn alias(graph: &mut CompositionGraph, instance: NodeId, name: &str) -> Result<NodeId> {
+/// Makes an alias of an export; none where that is refused.
+pub fn alias(graph: &mut CompositionGraph, instance: NodeId, name: &str) -> Option<NodeId> {
     if !graph.has_node(instance) {
-        bail!("an instance is not there");
+        return None;
     }
-    Ok(graph.alias_instance_export(instance, name)?)
+    graph.alias_instance_export(instance, name).ok()
 }
 
-/// Gives a node to an instance as its argument of this name.
+/// Gives a node to an instance as its argument of this name; none where that is refused.
 pub fn pass(
     graph: &mut CompositionGraph,
     instance: NodeId,
     name: &str,
     argument: NodeId,
-) -> Result<()> {
+) -> Option<()> {
     if !graph.has_node(instance) || !graph.has_node(argument) {
-        bail!("an instance or its argument is not there");
+        return None;
     }
-    Ok(graph.set_instantiation_argument(instance, name, argument)?)
+    graph
+        .set_instantiation_argument(instance, name, argument)
+        .ok()
 }
 
-/// Exports a node.
-pub fn export(graph: &mut CompositionGraph, node: NodeId, name: &str) -> Result<()> {
+/// Exports a node; none where that is refused.
+pub fn export(graph: &mut CompositionGraph, node: NodeId, name: &str) -> Option<()> {
     if !graph.has_node(node) {
-        bail!("what is exported is not there");
+        return None;
     }
-    Ok(graph.export(node, name)?)
+    graph.export(node, name).ok()
+}
+
+/// What a refused call comes to.
+pub fn refused<T>(made: Option<T>) -> Result<T> {
+    match made {
+        Some(made) => Ok(made),
+        None => bail!("a call is refused"),
+    }
 }
 
 /// Imports an item.
@@ -166,8 +177,13 @@ fn links(alloc: Global, graph: &mut CompositionGraph, count: u64) -> Result<Vec<
 /// So many packages, each given `a` of the one before as its `b`; that of the first is imported, and `a` of the last is exported.
 fn chain(alloc: Global, graph: &mut CompositionGraph, count: u64) -> Result<()> {
     let packages = links(alloc, graph, count)?;
+    refused(chained(graph, &packages))
+}
+
+/// An instance of each of these packages, given `a` of the one before as its `b`; `a` of the last is exported.
+fn chained(graph: &mut CompositionGraph, packages: &[PackageId]) -> Option<()> {
     let mut last: Option<NodeId> = None;
-    for package in &packages {
+    for package in packages {
         let instance = instantiate(graph, *package)?;
         if let Some(a) = last {
             pass(graph, instance, "b", a)?;
@@ -176,7 +192,7 @@ fn chain(alloc: Global, graph: &mut CompositionGraph, count: u64) -> Result<()> 
     }
     match last {
         Some(a) => export(graph, a, "out"),
-        None => Ok(()),
+        None => Some(()),
     }
 }
 
@@ -187,18 +203,29 @@ fn fan(alloc: Global, graph: &mut CompositionGraph, count: u64) -> Result<()> {
     let imports = functions(alloc, graph, &names)?;
     let provider = register(alloc, graph, "n:provider", Named::new(alloc), exports)?;
     let consumer = register(alloc, graph, "n:consumer", imports, Named::new(alloc))?;
-    let instance = instantiate(graph, provider)?;
+    let instance = refused(instantiate(graph, provider))?;
     let mut arguments = Vec::new(alloc);
     for name in &names {
-        arguments.push(alias(graph, instance, name.as_str())?)?;
+        arguments.push(refused(alias(graph, instance, name.as_str()))?)?;
     }
+    refused(fanned(graph, consumer, count, &names, &arguments))
+}
+
+/// So many instances of a package, each given these arguments by these names.
+fn fanned(
+    graph: &mut CompositionGraph,
+    consumer: PackageId,
+    count: u64,
+    names: &[String],
+    arguments: &[NodeId],
+) -> Option<()> {
     for _ in 0..count {
         let instance = instantiate(graph, consumer)?;
-        for (name, argument) in names.iter().zip(&arguments) {
+        for (name, argument) in names.iter().zip(arguments) {
             pass(graph, instance, name.as_str(), *argument)?;
         }
     }
-    Ok(())
+    Some(())
 }
 
 /// A function over a tuple of two of a tuple, and so on so many levels deep, which is imported.
@@ -241,11 +268,16 @@ fn package(graph: &CompositionGraph, name: &str) -> Result<PackageId>
 /// Aliases each of these exports of an instance of the plug.
 fn aliases(graph: &mut CompositionGraph, names: &[String]) -> Result<()> {
     let id = package(graph, "n:plug")?;
-    let instance = instantiate(graph, id)?;
+    refused(aliased(graph, id, names))
+}
+
+/// An instance of a package, and an alias of each of these exports of it.
+fn aliased(graph: &mut CompositionGraph, package: PackageId, names: &[String]) -> Option<()> {
+    let instance = instantiate(graph, package)?;
     for name in names {
         let _alias = alias(graph, instance, name.as_str())?;
     }
-    Ok(())
+    Some(())
 }
 
 /// Plugs the plug into the socket.

@@ -1,7 +1,7 @@
 //! How long types take to add: packages that each import an interface of their own, of a record, a variant, and functions over
 //! both, four versions on each track; each package is instantiated once.
 
-use crate::graphs::{instantiate, one, register, unvalidated};
+use crate::graphs::{instantiate, one, refused, register, unvalidated};
 use crate::times::{ROUNDS, Times, print_power_of_ten, print_times};
 use crate::types::primitive;
 use anyhow::Result;
@@ -91,7 +91,7 @@ fn make(alloc: Global, graph: &mut CompositionGraph, count: u64) -> Result<()> {
         let imports = one(alloc, id.as_str(), kind)?;
         let name = format!(in alloc; "n:c{number}")?;
         let package = register(alloc, graph, name.as_str(), imports, Named::new(alloc))?;
-        let _instance = instantiate(graph, package)?;
+        let _instance = refused(instantiate(graph, package))?;
     }
     Ok(())
 }

@@ -128,9 +128,9 @@ pub(crate) fn take_node(
     ensures next { nodes.new.vacant_key ≡ number }
     ensures noted { AreNoted nodes.new lost.new exports.now.entries }
 {
-    let node = nodes.remove(number);
-    lost.note_exports(exports, number, &node);
-    node
+    let node = &nodes[number];
+    lost.note_exports(exports, number, node);
+    nodes.remove(number)
 }
 
 /// Takes the exports out whose nodes are not there, from the last to the first; each time the last export takes the freed place.
