@@ -31,7 +31,7 @@ use wac_entries::nodes::{Item, Nodes};
 use wac_entries::scopes::{Opener, Scopes};
 
 /// What the item of an entry is compared as, from around its scopes.
-fn source_item(nodes: &mut Nodes, source: &Source) -> Result<Item, AllocError>
+fn source_item(memo: &mut Memo, nodes: &mut Nodes, source: &Source) -> Result<Item, AllocError>
     requires held { holds_type source.now.types.now (kind_type source.now.calls.now.kind) ≡ true }
     requires named { AreNamed source.now.types.now source.now.calls.now }
     requires outermost { source.now.calls.now.scope ≡ None }
@@ -40,7 +40,7 @@ fn source_item(nodes: &mut Nodes, source: &Source) -> Result<Item, AllocError>
         → IsItemOf nodes.new source.now.types.now source.now.calls.now.entries.now name source.now.calls.now.kind (item_view x)) }
 {
     let kind = source.calls.kind;
-    let listings = listings(nodes, source)?;
+    let listings = listings(memo, nodes, source)?;
     if let ItemKind::Instance(id) = kind {
         let calls = source.calls.at(0);
         let inside = source.with(&calls);
@@ -48,13 +48,14 @@ fn source_item(nodes: &mut Nodes, source: &Source) -> Result<Item, AllocError>
         let number = scope_instance(nodes, &inside, Opener::Interface(id), items)?;
         return Ok(Item::Instance(number));
     }
-    let mut memo = Memo::new(source.alloc);
-    listed_item(&mut memo, nodes, source, kind, 0, listings.as_slice())
+    memo.clear();
+    listed_item(memo, nodes, source, kind, 0, listings.as_slice())
 }
 
 /// What an entry of a class is compared as.
 fn entry_item(
     alloc: Global,
+    memo: &mut Memo,
     nodes: &mut Nodes,
     types: &Types,
     entries: &[Entry],
@@ -84,7 +85,7 @@ fn entry_item(
         types,
         calls: &calls,
     };
-    source_item(nodes, &source)
+    source_item(memo, nodes, &source)
 }
 
 /// What the entries are compared as, in order.
@@ -104,10 +105,14 @@ pub fn entry_items(
     ensures items { IfOk result (λ xs. AreCompared nodes.new types.now entries.now (map item_view xs.items)) }
 {
     let numbers = classes.numbers();
+    let mut memo = Memo::new(alloc);
     let mut items = Vec::new(alloc);
     for i in 0..entries.len() {
         let kind = entries[i].kind();
-        items.push(entry_item(alloc, nodes, types, entries, bindings, numbers[i], kind)?)?;
+        let class = numbers[i];
+        items.push(entry_item(
+            alloc, &mut memo, nodes, types, entries, bindings, class, kind,
+        )?)?;
     }
     Ok(items)
 }

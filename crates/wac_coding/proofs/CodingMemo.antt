@@ -2,7 +2,6 @@
 use Rattle.std.proofs.Common.{◌≡◌, ℕ, Bool, true, false, cond, nat_eq, List, Some, Result, Ok, Err, OnOk, refl, ap, sym, ◌∙◌, subst, eq-eqb}
 use Rattle.std.proofs.lemmas.Bool.{eqb-true}
 use Rattle.std.specs.Prelude.{IsSome}
-use Rattle.std.specs.HashMap.{get}
 use Rattle.std.specs.declared.alloc.AllocError.{AllocError}
 use Rattle.wac_collection.specs.Tree.{TypeTree}
 use Rattle.wac_subtyping.specs.Called.{Called}
@@ -13,6 +12,7 @@ use Rattle.wac_shapes.specs.declared.component.«Type».{«Type» as AnyType}
 use Rattle.wac_shapes.specs.declared.component.«Type».TheVariants as ty
 use Rattle.wac_coding.specs.declared.memo.Memo.{Memo}
 use Rattle.wac_entries.specs.Nodes.{Node}
+use Rattle.wac_coding.specs.Numbers.{number_at}
 use Rattle.wac_coding.specs.Coding.{HasTree, defined_number, func_number, HasDefinedToo, HasFuncToo, IsRight, IsMore}
 
 same_defined : (a b : DefinedTypeId) → nat_eq a.0 b.0 ≡ true → a ≡ b
@@ -34,7 +34,7 @@ module _ (t : AnyType → TypeTree Called) (ns : List Node) (old new : Memo) whe
     pub defined_right : IsRight t old ns → HasTree ns (t (ty.Value (val.Defined d))) n → IsRight t new ns
     defined_right r h = record {
       defined = λ k i is. split_right r h k i (nat_eq d.0 k.0) refl (sym (put.defined k) ∙ is);
-      funcs = λ f i is. r.funcs f i (ap (λ m. get (λ a b. nat_eq a.0 b.0) m f) (sym put.funcs) ∙ is);
+      funcs = λ f i is. r.funcs f i (ap (λ m. number_at m f.0) (sym put.funcs) ∙ is);
     }
 
     split_more : (k : DefinedTypeId) (b : Bool) → IsSome (defined_number old k) → IsSome (cond b (Some n) (defined_number old k))
@@ -54,7 +54,7 @@ module _ (t : AnyType → TypeTree Called) (ns : List Node) (old new : Memo) whe
 
     pub func_right : IsRight t old ns → HasTree ns (t (ty.Func f)) n → IsRight t new ns
     func_right r h = record {
-      defined = λ d i is. r.defined d i (ap (λ m. get (λ a b. nat_eq a.0 b.0) m d) (sym put.defined) ∙ is);
+      defined = λ d i is. r.defined d i (ap (λ m. number_at m d.0) (sym put.defined) ∙ is);
       funcs = λ k i is. split_func r h k i (nat_eq f.0 k.0) refl (sym (put.funcs k) ∙ is);
     }
 

@@ -2,7 +2,6 @@
 use Rattle.std.specs.Global.{Global}
 use Rattle.std.specs.Prelude.{ℕ, ◌≡◌, ◌<◌, ◌++◌, ◌⊎◌, cond, nat_eq, List, [], ◌∷◌, length, Option, Some, None, IsSome, string_bytes}
 use Rattle.std.specs.List.{AllByRecursion, AllZip}
-use Rattle.std.specs.HashMap.{get}
 use Rattle.std.specs.declared.string.String.{String}
 use Rattle.wac_shapes.specs.Name.{Name}
 use Rattle.wac_collection.specs.Tree.{TypeTree}
@@ -24,6 +23,7 @@ use Rattle.wac_entries.specs.declared.tasks.Task.TheVariants.{Open, Close}
 use Rattle.wac_entries.specs.Nodes.{Node, mentions, IsSorted, node_tree, tree_at}
 use Rattle.wac_entries.specs.NodeViews.{node_view}
 use Rattle.wac_coding.specs.CallsView.{names_in}
+use Rattle.wac_coding.specs.Numbers.{number_at}
 use Rattle.wac_entries.specs.Tasks.{task_id, parts_of, openings, HasTask, IsHeldTask}
 
 -- the tree of each type where resources are called so
@@ -50,10 +50,10 @@ pub record HasTree (ns : List Node) (t : TypeTree Called) (i : ℕ) : Type 0 whe
 
 -- the numbers in a memo
 abbrev pub defined_number : Memo → DefinedTypeId → Option ℕ
-defined_number memo d = get (λ a b. nat_eq a.0 b.0) memo.defined d
+defined_number memo d = number_at memo.defined d.0
 
 abbrev pub func_number : Memo → FuncTypeId → Option ℕ
-func_number memo f = get (λ a b. nat_eq a.0 b.0) memo.funcs f
+func_number memo f = number_at memo.funcs f.0
 
 -- with one more number
 pub record HasDefinedToo (old : Memo) (d : DefinedTypeId) (n : ℕ) (new : Memo) : Type 0 where

@@ -1,4 +1,5 @@
 pub mod CallsView
+pub mod Numbers
 pub mod Coding
 pub mod ModuleCoding
 pub mod ItemCoding

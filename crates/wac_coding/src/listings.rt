@@ -88,6 +88,7 @@ fn opens(kind: ItemKind) -> usize
 
 /// What items of a scope are listed as, where the scopes that they open begin at a position.
 fn listed_items(
+    memo: &mut Memo,
     nodes: &mut Nodes,
     source: &Source,
     kinds: &Named<ItemKind>,
@@ -103,12 +104,12 @@ fn listed_items(
     ensures grown { IsGrown nodes.old nodes.new }
     ensures items { IfOk result (λ xs. AreItems nodes.new (source_tree source.now) kinds.now xs.items) }
 {
-    let mut memo = Memo::with_capacity(source.alloc, kinds.len())?;
+    memo.clear();
     let mut items = Vec::with_capacity(source.alloc, kinds.len())?;
     let mut next = first;
     for i in 0..kinds.len() {
         let kind = *kinds.value_at(i);
-        items.push(listed_item(&mut memo, nodes, source, kind, next, listings)?)?;
+        items.push(listed_item(memo, nodes, source, kind, next, listings)?)?;
         next += opens(kind);
     }
     Ok(items)
@@ -116,6 +117,7 @@ fn listed_items(
 
 /// What the scope at a position lists, where it is known what those behind it list.
 fn listing_at(
+    memo: &mut Memo,
     nodes: &mut Nodes,
     source: &Source,
     position: usize,
@@ -135,13 +137,34 @@ fn listing_at(
     let types = source.types;
     match scope.opener {
         Opener::Interface(id) => {
-            listed_items(nodes, &inside, &types[id].exports, scope.first, listings)
+            listed_items(
+                memo,
+                nodes,
+                &inside,
+                &types[id].exports,
+                scope.first,
+                listings,
+            )
         }
         Opener::Imports(id) => {
-            listed_items(nodes, &inside, &types[id].imports, scope.first, listings)
+            listed_items(
+                memo,
+                nodes,
+                &inside,
+                &types[id].imports,
+                scope.first,
+                listings,
+            )
         }
         Opener::Exports(id) => {
-            listed_items(nodes, &inside, &types[id].exports, scope.first, listings)
+            listed_items(
+                memo,
+                nodes,
+                &inside,
+                &types[id].exports,
+                scope.first,
+                listings,
+            )
         }
     }
 }
@@ -157,8 +180,12 @@ fn unlisted(alloc: Global, count: usize) -> Result<Vec<Vec<Item>>, AllocError>
     Ok(listings)
 }
 
-/// What each scope of an entry lists.
-pub fn listings(nodes: &mut Nodes, source: &Source) -> Result<Vec<Vec<Item>>, AllocError>
+/// What each scope of an entry lists. The memo is used for one scope after another.
+pub fn listings(
+    memo: &mut Memo,
+    nodes: &mut Nodes,
+    source: &Source,
+) -> Result<Vec<Vec<Item>>, AllocError>
     requires named { AreNamed source.now.types.now source.now.calls.now }
     ensures grown { IsGrown nodes.old nodes.new }
     ensures counted { IfOk result (λ v. length v.items ≡ length source.now.calls.now.scopes.now) }
@@ -168,7 +195,7 @@ pub fn listings(nodes: &mut Nodes, source: &Source) -> Result<Vec<Vec<Item>>, Al
     let mut listings = unlisted(source.alloc, position)?;
     while position > 0 {
         position -= 1;
-        let items = listing_at(nodes, source, position, listings.as_slice())?;
+        let items = listing_at(memo, nodes, source, position, listings.as_slice())?;
         listings[position] = items;
     }
     Ok(listings)

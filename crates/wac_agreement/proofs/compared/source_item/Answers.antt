@@ -49,7 +49,7 @@ listed_item-requires c =
     record {
       held = c.requires.held;
       named = c.requires.named;
-      right = source.right_new (source_tree s) c.new-memo.result c.listings.new.nodes c.new-memo.ensures.defined c.new-memo.ensures.funcs;
+      right = source.right_new (source_tree s) c.clear.new.self c.listings.new.nodes c.clear.ensures.defined c.clear.ensures.funcs;
       around = source.around s.types.now s.calls.now c.requires.named plain c.requires.outermost;
       opened = source.opens s.types.now s.calls.now c.requires.named c.requires.outermost;
       counted = ap (λ (l : List (Vec AnItem Global)). length l) c.as_slice.ensures.value ∙ c.in_ok-listings.ensures.counted;

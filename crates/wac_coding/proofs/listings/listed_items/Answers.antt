@@ -13,7 +13,7 @@ use Rattle.wac_coding.proofs.listings.listed_items.Goals as goal
 pub loop-i-init : goal.loop-i-init
 loop-i-init c = record {
   grown = grown_not c.args.nodes.now;
-  right = record { defined = λ d n is. (let none = c.in_ok-memo.ensures.defined d in cc); funcs = λ f n is. (let none = c.in_ok-memo.ensures.funcs f in cc) };
+  right = record { defined = λ d n is. (let none = c.clear.ensures.defined d in cc); funcs = λ f n is. (let none = c.clear.ensures.funcs f in cc) };
   items = subst (λ (xs : List Item). AreItems c.args.nodes.now (source_tree c.args.source.now) [] xs) (sym c.in_ok-items.ensures.items) tt;
   next = omega arith;
 }

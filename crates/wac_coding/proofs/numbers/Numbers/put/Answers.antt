@@ -1,0 +1,14 @@
+use Rattle.std.proofs.Common.{◌<◌, nat_eq, cond, length, Some, refl, ap, ◌∙◌, arith}
+use Rattle.wac_coding.specs.Numbers.{number_at, number_in}
+use Rattle.wac_coding.specs.declared.numbers.Put.{Put}
+use Rattle.wac_coding.proofs.CodingNumbers.{map_length, put_at}
+use Rattle.wac_coding.proofs.numbers.Numbers.put.Goals as goal
+
+pub returns : goal.returns
+returns c =
+    let round = c.self.inside.round in
+    let puts = c.self.inside.puts.items in
+    let p : Put = record { round = round; number = c.args.number } in
+    let long = ap length c.self.view_is in
+    let within : c.args.position < length puts = omega (arith, c.in_ok-make_room.ensures.there, long, map_length (number_in round) puts) in
+    λ k. put_at round puts c.args.position p refl within k ∙ ap (λ o. cond (nat_eq c.args.position k) (Some c.args.number) o) (ap (λ l. number_at l k) c.self.view_is ∙ c.in_ok-make_room.ensures.same k)

@@ -1,0 +1,106 @@
+//! Numbers at positions, of which all are let go of at once.
+//!
+//! Beside each number stands the round in which it was put. A number of an earlier round counts as none, so a new round
+//! begins without a walk over them, and their memory is used again.
+ghost use Rattle.std.specs.Prelude.{◌≡◌, ◌<◌, ℕ, [], None, Some, cond, nat_eq, length, OnOk};
+ghost use Rattle.wac_coding.specs.Numbers.{number_at};
+
+use std::alloc::{AllocError, Global};
+use std::marker::Model;
+
+/// A number, and the round in which it was put.
+#[derive(Clone, Copy)]
+struct Put {
+    round: usize,
+    number: usize,
+}
+
+/// Numbers at positions.
+#[derive(Drop)]
+pub struct Numbers {
+    puts: Vec<Put>,
+    /// This round. No number was put in a later one, and none in the round 0.
+    round: usize,
+}
+
+impl Model for Numbers {
+    ghost use Rattle.std.specs.Prelude.{List, ℕ, Option, map};
+    ghost use Rattle.wac_coding.specs.Numbers.{IsTimely, number_in};
+
+    ghost Value = { List (Option ℕ) };
+
+    ghost view = { λ n. map (number_in n.round) n.puts.items };
+
+    ghost invariant = { λ n. IsTimely n.puts.items n.round };
+}
+
+impl Numbers {
+    /// No number.
+    pub fn new(alloc: Global) -> Numbers
+        ensures { result ≡ [] }
+    {
+        Numbers {
+            puts: Vec::new(alloc),
+            round: 1,
+        }
+    }
+
+    /// Lets go of all numbers.
+    pub fn clear(&mut self)
+        ensures { (k : ℕ) → number_at self.new k ≡ None }
+    {
+        if self.round < usize::MAX {
+            self.round += 1;
+        } else {
+            self.puts.clear();
+        }
+    }
+
+    /// The number at a position.
+    pub fn get(&self, position: usize) -> Option<usize>
+        ensures { result ≡ number_at self.now position }
+    {
+        if position >= self.puts.len() {
+            return None;
+        }
+        let put = self.puts[position];
+        if put.round == self.round {
+            Some(put.number)
+        } else {
+            None
+        }
+    }
+
+    /// Makes room up to a position.
+    fn make_room(&mut self, position: usize) -> Result<(), AllocError>
+        ensures there { OnOk result (position < length self.new) }
+        ensures same { OnOk result ((k : ℕ) → number_at self.new k ≡ number_at self.old k) }
+    {
+        if position < self.puts.len() {
+            return Ok(());
+        }
+        let Some(count) = position.checked_add(1) else {
+            return Err(AllocError);
+        };
+        self.puts.resize(
+            count,
+            Put {
+                round: 0,
+                number: 0,
+            },
+        )?;
+        Ok(())
+    }
+
+    /// Puts a number at a position.
+    pub fn put(&mut self, position: usize, number: usize) -> Result<(), AllocError>
+        ensures { OnOk result ((k : ℕ) → number_at self.new k ≡ cond (nat_eq position k) (Some number) (number_at self.old k)) }
+    {
+        self.make_room(position)?;
+        self.puts[position] = Put {
+            round: self.round,
+            number,
+        };
+        Ok(())
+    }
+}
