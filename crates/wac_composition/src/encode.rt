@@ -182,6 +182,10 @@ impl CompositionGraph {
         ensures room { IfOk result (λ v. HasRoom self.now v.items) }
         ensures found { IfOk result (λ v. AreFound self.now imports.now v.items) }
     {
+        if self.imports.is_empty() {
+            let zeros = vec![in self.alloc; 0; self.nodes.capacity()]?;
+            return Ok(zeros);
+        }
         let mut indexes = Vec::new(self.alloc);
         for n in 0..self.nodes.capacity() {
             indexes.push(self.import_index(imports, n))?;

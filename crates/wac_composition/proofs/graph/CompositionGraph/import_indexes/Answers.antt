@@ -3,6 +3,7 @@ use Rattle.std.proofs.lemmas.List.{length-append}
 use Rattle.wac_writing.proofs.MeansLemmas.{has_room}
 use Rattle.wac_writing.proofs.WriteArgumentsLemmas.{AreFoundBelow, found_next, found_all}
 use Rattle.wac_composition.specs.Inside.{fields_of}
+use Rattle.wac_composition.proofs.ConflictFreeLemmas.{none_found}
 use Rattle.wac_composition.proofs.graph.CompositionGraph.import_indexes.Goals as goal
 
 pub loop-n-preserved : goal.loop-n-preserved
@@ -18,3 +19,9 @@ returns-clause-room c = λ n h. let small = has_room (fields_of c.self.inside) c
 pub returns-clause-found : goal.returns-clause-found
 returns-clause-found c = found_all c.args.self.now c.args.imports.now c.loop-n.n c.loop-n.indexes.items c.loop-n.invariant.1
     (has_room (fields_of c.self.inside) c.self.invariant c.args.self.now c.self.view_is c.loop-n.n (omega (arith, c.loop-n-test.false, c.capacity-n-end.ensures.slots)))
+
+pub returns-then-is_empty-clause-room : goal.returns-then-is_empty-clause-room
+returns-then-is_empty-clause-room c = λ n h. let small = has_room (fields_of c.self.inside) c.self.invariant c.args.self.now c.self.view_is c.capacity.result c.capacity.ensures.slots n h in omega (arith, small, c.in_ok-zeros.ensures.len)
+
+pub returns-then-is_empty-clause-found : goal.returns-then-is_empty-clause-found
+returns-then-is_empty-clause-found c = rw (← c.self.view_is) (none_found (fields_of c.self.inside) c.self.invariant (c.is_empty.ensures.0 c.if-is_empty.true) c.args.imports.now c.in_ok-zeros.zeros.items)
