@@ -11,3 +11,4 @@ pub mod OptionRows
 pub mod DefinitionRows
 pub mod PlugExample
 pub mod BeginningRows
+pub mod KindRows

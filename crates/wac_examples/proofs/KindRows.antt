@@ -1,0 +1,146 @@
+-- Worked rows: which items are imported so far, and which types are defined, one of each sort taken and one refused.
+use Rattle.std.proofs.Common.{◌≡◌, Bool, true, false, if◌then◌else◌, ℕ, zero, suc, List, [], ◌∷◌, Option, Some, None, IsSome, slice_get, codes, refl, sym, ◌∙◌, ap, subst}
+use Rattle.std.proofs.lemmas.Option.{none-some}
+use Rattle.wac_shapes.specs.Name.{Name, same_name, option_case}
+use Rattle.wac_shapes.proofs.Under.{not_some}
+use Rattle.wac_shapes.specs.declared.component.DefinedType.TheVariants as def
+use Rattle.wac_shapes.specs.declared.component.FuncType.{FuncType}
+use Rattle.wac_shapes.specs.declared.component.Interface.{Interface}
+use Rattle.wac_shapes.specs.declared.component.ItemKind.{ItemKind}
+use Rattle.wac_shapes.specs.declared.component.ItemKind.TheVariants as kind
+use Rattle.wac_shapes.specs.declared.component.PrimitiveType.TheVariants as prim
+use Rattle.wac_shapes.specs.declared.component.UsedType.{UsedType}
+use Rattle.wac_shapes.specs.declared.component.ValueType.{ValueType}
+use Rattle.wac_shapes.specs.declared.component.ValueType.TheVariants as val
+use Rattle.wac_shapes.specs.declared.component.«Type».TheVariants as ty
+use Rattle.wac_collection.specs.Collection.{Collection}
+use Rattle.wac_collection.specs.declared.collection.Held.{Held}
+use Rattle.wac_collection.specs.Held.{part_at}
+use Rattle.wac_collection.specs.Tree.{absent, function, function_item, primitive}
+use Rattle.wac_subtyping.specs.Subtype.{kind_tree, type_tree}
+use Rattle.wac_meaning.specs.Importable.{HasNoHandle, IsPlainItem, IsPlainWhereThere, IsImportableKind, IsDefinableKind}
+
+-- functions: of a number, and of a handle
+abbrev function_of : ValueType → ℕ → Held FuncType
+function_of x before = record { item = record { params = (codes "x", x) ∷ []; result = None; is_async = false }; before = before }
+
+abbrev interface_of : Option Name → List (Name × UsedType) → List (Name × ItemKind) → Held Interface
+interface_of id uses exports = record { item = record { id = id; uses = uses; exports = exports }; before = 0 }
+
+abbrev plain_function : ItemKind
+plain_function = kind.Func (record { 0 = 0 })
+
+abbrev of_handle : ItemKind
+of_handle = kind.Func (record { 0 = 1 })
+
+abbrev used_type : Name × UsedType
+used_type = (codes "t", record { interface = record { 0 = 0 }; name = None })
+
+-- a resource; a list of bytes; and interfaces: with an id, without, with a use, with an instance, with a function of a handle
+abbrev types : Collection
+types = record {
+  resources = record { item = record { name = codes "r"; alias = None }; before = 0 } ∷ [];
+  funcs = function_of (val.Primitive prim.U8) 0 ∷ function_of (val.Own (record { 0 = 0 })) 0 ∷ [];
+  defined = record { item = def.List (val.Primitive prim.U8); before = 0 } ∷ [];
+  modules = [];
+  interfaces =
+      interface_of (Some (codes "a:b/c")) [] ((codes "f", plain_function) ∷ [])
+      ∷ interface_of None [] ((codes "f", plain_function) ∷ [])
+      ∷ interface_of (Some (codes "a:b/d")) (used_type ∷ []) ((codes "f", plain_function) ∷ [])
+      ∷ interface_of (Some (codes "a:b/e")) [] ((codes "i", kind.Instance (record { 0 = 0 })) ∷ [])
+      ∷ interface_of (Some (codes "a:b/g")) [] ((codes "f", of_handle) ∷ []) ∷ [];
+  worlds = [];
+}
+
+abbrev instance_of : ℕ → ItemKind
+instance_of n = kind.Instance (record { 0 = n })
+
+abbrev interface_at : ℕ → ItemKind
+interface_at n = kind.TypeItem (ty.Interface (record { 0 = n }))
+
+given_back : {A : Type 0} (x y : A) → Some x ≡ Some y → x ≡ y
+given_back x y is = ap (λ o. option_case o x (λ z. z)) is
+
+abbrev of_plain : Option Name → List (Name × UsedType) → Interface
+of_plain id uses = record { id = id; uses = uses; exports = (codes "f", plain_function) ∷ [] }
+
+abbrev with_instance : Interface
+with_instance = record { id = Some (codes "a:b/e"); uses = []; exports = (codes "i", instance_of 0) ∷ [] }
+
+-- a function of a number is imported, and one of a handle is not
+byte_parts : (i : ℕ) → HasNoHandle {L = Name} (part_at (primitive prim.U8 ∷ []) i)
+byte_parts zero = tt
+byte_parts (suc i) = tt
+
+pub function_is_imported : IsImportableKind types plain_function
+unfolding type_tree
+function_is_imported = (byte_parts, tt)
+
+pub function_of_a_handle : IsImportableKind types of_handle → ⊥
+unfolding type_tree
+function_of_a_handle h = h.0 0
+
+-- a type item of a list of bytes is imported, and one of a function type is not
+pub list_is_imported : IsImportableKind types (kind.TypeItem (ty.Value (val.Defined (record { 0 = 0 }))))
+unfolding type_tree
+list_is_imported = tt
+
+pub function_type_is_not : IsImportableKind types (kind.TypeItem (ty.Func (record { 0 = 0 }))) → ⊥
+unfolding type_tree
+function_type_is_not h = h
+
+-- an instance of functions of numbers is imported; one that holds an instance, or a function of a handle, is not
+pub instance_is_imported : IsImportableKind types (instance_of 0)
+unfolding type_tree
+instance_is_imported n = by_name (same_name n (codes "f")) refl where
+  by_name : (b : Bool) → same_name n (codes "f") ≡ b → IsPlainWhereThere {L = Name} (if b then function_item (function false (codes "x" ∷ []) (part_at (primitive prim.U8 ∷ [])) absent) else absent)
+  by_name true is = (byte_parts, tt)
+  by_name false is = tt
+
+pub nested_instance_is_not : IsImportableKind types (instance_of 3) → ⊥
+unfolding type_tree
+nested_instance_is_not h = h (codes "i")
+
+pub handle_inside_is_not : IsImportableKind types (instance_of 4) → ⊥
+unfolding type_tree
+handle_inside_is_not h = (h (codes "f")).0 0
+
+-- an interface with an id and a function of numbers is defined; one without an id is not, nor one with a use, nor one with an instance inside
+pub interface_is_defined : IsDefinableKind types (interface_at 0)
+unfolding type_tree
+interface_is_defined = record {
+  interface = record { id = Some (codes "a:b/c"); uses = []; exports = (codes "f", plain_function) ∷ [] };
+  found = refl;
+  id = refl;
+  uses = refl;
+  plain = only;
+} where
+  only : (k : ℕ) (e : Name × ItemKind) → slice_get ((codes "f", plain_function) ∷ []) k ≡ Some e → IsPlainItem (kind_tree types e.1)
+  only zero e is = subst (λ x. IsPlainItem (kind_tree types x.1)) (given_back (codes "f", plain_function) e is) (byte_parts, tt)
+  only (suc k) e is = absurd (none-some e is)
+
+pub no_id_is_not : IsDefinableKind types (interface_at 1) → ⊥
+no_id_is_not h = not_some {A = Name} None refl (subst (λ x. IsSome x.id) (sym (given_back (of_plain None []) h.interface h.found)) h.id)
+
+no_use : used_type ∷ [] ≡ [] → ⊥
+no_use same = cc
+
+pub use_is_not : IsDefinableKind types (interface_at 2) → ⊥
+use_is_not h = no_use (ap (λ x. x.uses) (given_back (of_plain (Some (codes "a:b/d")) (used_type ∷ [])) h.interface h.found) ∙ h.uses)
+
+pub instance_inside_is_not : IsDefinableKind types (interface_at 3) → ⊥
+unfolding type_tree
+instance_inside_is_not h = h.plain 0 (codes "i", instance_of 0) (ap (λ x. slice_get x.exports 0) (sym (given_back with_instance h.interface h.found)))
+
+-- a definition of a function type is written, and of a resource or of a function of a handle is not
+pub function_type_is_defined : IsDefinableKind types (kind.TypeItem (ty.Func (record { 0 = 0 })))
+unfolding type_tree
+function_type_is_defined = (byte_parts, tt)
+
+pub resource_is_not_defined : IsDefinableKind types (kind.TypeItem (ty.Resource (record { 0 = 0 }))) → ⊥
+unfolding type_tree
+resource_is_not_defined h = h
+
+pub function_type_of_a_handle : IsDefinableKind types (kind.TypeItem (ty.Func (record { 0 = 1 }))) → ⊥
+unfolding type_tree
+function_type_of_a_handle h = h.0 0
