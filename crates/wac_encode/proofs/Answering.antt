@@ -5,6 +5,7 @@ use Rattle.std.proofs.Common.{refl, ap, ◌∙◌, sym, subst, take, add-one}
 use Rattle.wac_shapes.specs.declared.component.DefinedTypeId.{DefinedTypeId}
 use Rattle.wac_shapes.specs.declared.component.ValueType.{ValueType}
 use Rattle.wac_shapes.specs.declared.component.ValueType.TheVariants as val
+use Rattle.wac_shapes.specs.declared.component.«Type».TheVariants as ty
 use Rattle.wac_collection.specs.Collection.{Collection}
 use Rattle.wac_collection.specs.Aliases.{value_resolved}
 use Rattle.wac_binary.specs.Items.{value_def}
@@ -17,14 +18,14 @@ use Rattle.wac_scopes.specs.Scoped.{IsAsBefore}
 use Rattle.wac_scopes.specs.Laws.{StaysOnward}
 use Rattle.wac_encode.specs.declared.task.Task.{Task}
 use Rattle.wac_listing.specs.Made.{MadeOf, itself, part}
-use Rattle.wac_encode.specs.Written.{IsHandle, IsRefused}
+use Rattle.wac_encode.specs.Written.{IsHandle, PartOf, IsRefused}
 use Rattle.wac_encode.specs.Tasks.{IsReady, IsNext, IsMissing, IsStepRefused, Did, passed, put_off, IsUnderWay}
 use Rattle.wac_encode.proofs.Saying.{zip-more}
 use Rattle.wac_encode.proofs.Stacks.{writes-none, says-same}
 use Rattle.wac_encode.proofs.Stepping.{all-last}
 
 pub as-it-was : (s : Scope) → IsAsBefore s s
-as-it-was s = record { content = refl; values = λ k. refl }
+as-it-was s = record { content = refl; types = λ a. refl }
 
 -- loops over lists that go together
 
@@ -43,19 +44,19 @@ did-put-off c t s left now p d next m is = put_off m.0 d (subst (IsNext c t) m.1
 
 pub begins : (c : Collection) → StaysOnward → (d : DefinedTypeId) (s : Scope) (tasks : List Task) → tasks ≡ record { id = d; next = 0 } ∷ [] → IsReady c s (record { id = d; next = 0 }) → IsUnderWay c d s s tasks
 begins c stays d s tasks is ready = subst (λ (ts : List Task). IsUnderWay c d s s ts) (sym is) (record {
-  written = writes-none c stays (MadeOf c (val.Defined d)) s s (as-it-was s);
+  written = writes-none c stays (PartOf c (val.Defined d)) s s (as-it-was s);
   ready = (ready, tt);
   made = (itself, tt);
   falls = (tt, tt);
   covers = refl;
 })
 
-pub refused-so : (B : Type 0) (c : Collection) (d : DefinedTypeId) (old now new : Scope) (t : Task) (left : List Task) (e : EncodeFault) → IsUnderWay c d old now (left ++ t ∷ []) → IsAsBefore now new → IsStepRefused {A = Unit {0}} c now t (Err e) → IsRefused {A = B} c (MadeOf c (val.Defined d)) new (Err e)
+pub refused-so : (B : Type 0) (c : Collection) (d : DefinedTypeId) (old now new : Scope) (t : Task) (left : List Task) (e : EncodeFault) → IsUnderWay c d old now (left ++ t ∷ []) → IsAsBefore now new → IsStepRefused {A = Unit {0}} c now t (Err e) → IsRefused {A = B} c (PartOf c (val.Defined d)) new (Err e)
 refused-so B c d old now new t left (fault.Write f) w same h = (h.0, (value_resolved c h.1, part t.id h.2.0 t.next h.1 (all-last (λ (u : Task). MadeOf c (val.Defined d) (val.Defined u.id)) left t w.made) h.2.1 h.2.2, h.3))
 refused-so B c d old now new t left fault.TooLarge w same h = record {
   id = t.id;
   made = all-last (λ (u : Task). MadeOf c (val.Defined d) (val.Defined u.id)) left t w.made;
-  unwritten = same.values t.id ∙ (all-last (IsReady c now) left t w.ready).unwritten;
+  unwritten = same.types (ty.Value (val.Defined t.id)) ∙ (all-last (IsReady c now) left t w.ready).unwritten;
   definition = h.definition;
   found = h.found;
   written = h.written;
@@ -66,7 +67,7 @@ refused-so B c d old now new t left fault.OutOfMemory w same h = tt
 
 -- a value type
 
-pub value-refused : (A : Type 0) (c : Collection) (s : Scope) (v : ValueType) (e : EncodeFault) → IsMissing c s (Some v) (Err e) → IsRefused {A = A} c (MadeOf c (value_resolved c v)) s (Err e)
+pub value-refused : (A : Type 0) (c : Collection) (s : Scope) (v : ValueType) (e : EncodeFault) → IsMissing c s (Some v) (Err e) → IsRefused {A = A} c (PartOf c (value_resolved c v)) s (Err e)
 value-refused A c s v (fault.Write f) h = let given : Some v ≡ Some h.1 = h.2 in let same : v ≡ h.1 = cc in (h.0, (value_resolved c v, itself, subst (λ (w : ValueType). IsHandle (value_resolved c w)) (sym same) h.3))
 value-refused A c s v fault.TooLarge h = absurd h
 value-refused A c s v fault.OutOfMemory h = absurd h

@@ -3,12 +3,8 @@ use Rattle.std.specs.Prelude.{ℕ, ◌≡◌, true, false, List, [], ◌∷◌, 
 use Rattle.std.proofs.Common.{refl, ap, ◌∙◌, sym, subst, inl, inr, arith}
 use Rattle.std.proofs.Math.Path.{fun_ext}
 use Rattle.wac_shapes.specs.Name.{Name, option_case}
-use Rattle.wac_shapes.specs.declared.component.DefinedTypeId.{DefinedTypeId}
 use Rattle.wac_shapes.specs.declared.component.Interface.{Interface}
 use Rattle.wac_shapes.specs.declared.component.InterfaceId.{InterfaceId}
-use Rattle.wac_shapes.specs.declared.component.ItemKind.TheVariants as kind
-use Rattle.wac_shapes.specs.declared.component.ValueType.{ValueType}
-use Rattle.wac_shapes.specs.declared.component.ValueType.TheVariants as val
 use Rattle.wac_shapes.specs.declared.component.«Type».{«Type» as AnyType}
 use Rattle.wac_shapes.specs.declared.component.«Type».TheVariants as ty
 use Rattle.wac_collection.specs.Tree.{exported, Tree, absent, component, instance_item}
@@ -33,11 +29,11 @@ use Rattle.wac_scopes.specs.Good.{Good, nothing_bound}
 use Rattle.wac_scopes.specs.Laws.{Adds, IsItsTree, StaysOnward}
 use Rattle.wac_scopes.specs.Listed.{declaring, OpensWorld, ClosesComponent}
 use Rattle.wac_scopes.specs.Rooted.{unbound, IsRightRoot, IsWrittenThere}
-use Rattle.wac_scopes.specs.Scoped.{value_index, at_index, recorded_value, opened, AddsInstance, AddsComponent, ListsInstanceOf, WritesUnlessTooLarge}
+use Rattle.wac_scopes.specs.Scoped.{type_index, at_index, recorded_type, opened, AddsInstance, AddsComponent, ListsInstanceOf, WritesUnlessTooLarge, FitsUnlessTooLarge}
 use Rattle.wac_encode.specs.Written.{GoesOn, WritesFor}
-use Rattle.wac_encode.specs.Listing.{lists_plain, SaysInterface, WritesInterface, NeededBy, IsInterfaceRefused}
+use Rattle.wac_encode.specs.Listing.{lists_plain, SaysInterface, WritesInterface, IsInterfaceRefused}
 use Rattle.wac_encode.specs.Components.{HasId, held_under_id, component_tree, SaysComponent, under_id, WritesComponent, IsComponentRefused, EndsWithComponent}
-use Rattle.wac_encode.specs.Defining.{IsDefinable, WritesDefinition, WritesOnce, IsDefinitionRefused}
+use Rattle.wac_encode.specs.Defining.{IsDefinable, WritesDefinition, MadeFor, WritesTypesFor, WritesOnce, IsDefinitionRefused}
 use Rattle.wac_encode.proofs.Answering.{as-it-was}
 use Rattle.wac_encode.proofs.Defining.{stands-there, at-root, defined-so, content-is, records-same}
 use Rattle.wac_encode.proofs.Imported.{still-root}
@@ -67,32 +63,26 @@ one-item n t = fun_ext (λ q. refl)
 
 -- a component type in which nothing is written
 
-new-opened : (s : Scope) → s.content ≡ Component [] → ((d : DefinedTypeId) → value_index s d ≡ None) → opened s unbound ≡ unbound
-new-opened s empty none = let memo_same : recorded_value s ≡ (λ v. None) = fun_ext by_value in (λ i. record unbound { content = content_of (empty i); memo = memo_same i })
-  where
-    by_value : (v : ValueType) → recorded_value s v ≡ None
-    by_value (val.Defined d) = ap at_index (none d)
-    by_value (val.Primitive p) = refl
-    by_value (val.Own r) = refl
-    by_value (val.Borrow r) = refl
+new-opened : (s : Scope) → s.content ≡ Component [] → ((a : AnyType) → type_index s a ≡ None) → opened s unbound ≡ unbound
+new-opened s empty none = let memo_same : recorded_type s ≡ (λ a. None) = fun_ext (λ a. ap at_index (none a)) in (λ i. record unbound { content = content_of (empty i); memo = memo_same i })
 
 -- what is written into it says the interface under its id
 pub says-component : IsItsTree → OpensWorld → ClosesComponent → (c : Collection) (i : InterfaceId) (id : Name) (start mid new : Scope) (ds es : List Decl) (k j : ℕ)
-    → start.content ≡ Component [] → ((d : DefinedTypeId) → value_index start d ≡ None) → HasId c i id → SaysInterface c i ds → AddsInstance start mid ds k → ListsInstanceOf mid new id k j → new.content ≡ Component es → SaysComponent c i es
+    → start.content ≡ Component [] → ((a : AnyType) → type_index start a ≡ None) → HasId c i id → SaysInterface c i ds → AddsInstance start mid i ds k → ListsInstanceOf mid new id k j → new.content ≡ Component es → SaysComponent c i es
 says-component tree opens closes c i id start mid new ds es k j empty none named says adds lists written m ms o os g =
     let b : Bindings = nothing_bound in
     let world = opens c b in
     let same : opened start unbound ≡ unbound = new-opened start empty none in
     let begun : Good c (b ∷ []) (opened start unbound ∷ []) = subst (λ (p : Open). Good c (b ∷ []) (p ∷ [])) (sym same) world.0 in
     let held = says b [] (opened start unbound) [] begun in
-    let a = adds c (b ∷ []) unbound [] held.0 held.3 in
+    let a = adds c b [] unbound [] held.0 held.1 held.2 held.3 in
     let no_exports : (env (opened start unbound) []).exports ≡ (λ n. absent) = ap (λ (p : Open). (env p []).exports) same ∙ fun_ext world.2 in
     let no_imports : (env (opened start unbound) []).imports ≡ (λ n. absent) = ap (λ (p : Open). (env p []).imports) same ∙ fun_ext world.1 in
     let mid_exports : (env (opened mid unbound) []).exports ≡ (λ n. absent) = a.0.1.0.exports ∙ no_exports in
     let free : IsFree ((env (opened mid unbound) []).exports id) = subst (λ (items : Name → Tree). IsFree (items id)) (sym mid_exports) tt in
     let l = lists c b [] unbound [] held.0 a.0.0 free held.2 a.1 in
     let is : held.0 ≡ held_tree c b (ty.Interface i) = sym (tree c b (ty.Interface i) held.0 held.1) in
-    let around : Open = record unbound { memo = recorded_value new } in
+    let around : Open = record unbound { memo = recorded_type new } in
     let content : opened new unbound ≡ declaring es around = (λ q. record around { content = content_of (written q) }) in
     let exports : (env (declaring es around) []).exports ≡ items_under (held_under_id c i) =
     ap (λ (p : Open). (env p []).exports) (sym content) ∙ l.0.this ∙ ap (λ (items : Name → Tree). with_item items id (instance_item held.0)) mid_exports
@@ -124,7 +114,7 @@ interface-refused A B c i (fault.Write g) h = h
 interface-refused A B c i fault.TooLarge h = inl h
 interface-refused A B c i fault.OutOfMemory h = tt
 
-pub type-too-large : (A B : Type 0) (c : Collection) (i : InterfaceId) (id : Name) (ds : List Decl) (start : Encodable) (f : EncodeFault) → HasId c i id → WritesInterface c i ds → start ≡ Component [] → WritesUnlessTooLarge {A = A} (Err f) (ContentFits (and_type start (instance_def (decls ds)))) → IsComponentRefused {A = B} c i (Err f)
+pub type-too-large : (A B : Type 0) (c : Collection) (i : InterfaceId) (id : Name) (ds : List Decl) (start : Encodable) (f : EncodeFault) → HasId c i id → WritesInterface c i ds → start ≡ Component [] → FitsUnlessTooLarge {A = A} (Err f) (ContentFits (and_type start (instance_def (decls ds)))) → IsComponentRefused {A = B} c i (Err f)
 type-too-large A B c i id ds start (fault.Write g) named written empty h = absurd h
 type-too-large A B c i id ds start fault.TooLarge named written empty h = inr (record {
   id = id;
@@ -148,8 +138,8 @@ listing-too-large A B c i id ds k start mid fault.OutOfMemory named written empt
 
 -- the component type in the root
 
-pub component-behind : (c : Collection) (old now : Scope) (i : InterfaceId) (ds : List Decl) (k : ℕ) → SaysComponent c i ds → AddsComponent old now ds k → now ≡ record old { content = and_type old.content (component_def (decls ds)) } → WritesFor c 1 (NeededBy c (kind.Instance i)) old now
-component-behind c old now i ds k says adds same = writes-type c (NeededBy c (kind.Instance i)) old now (component_def (decls ds)) same goes
+pub component-behind : (c : Collection) (old now : Scope) (i : InterfaceId) (ds : List Decl) (k : ℕ) → SaysComponent c i ds → AddsComponent old now ds k → now ≡ record old { content = and_type old.content (component_def (decls ds)) } → WritesFor c 1 (MadeFor c (ty.Interface i)) old now
+component-behind c old now i ds k says adds same = writes-type c (MadeFor c (ty.Interface i)) old now (component_def (decls ds)) same goes
   where
     goes : GoesOn c old now
     goes m ms o os g = (adds c (m ∷ ms) o os (component_tree c i) (says m ms (opened old o) os g)).0
@@ -161,11 +151,11 @@ pub interface-defined : IsWrittenThere → (c : Collection) (old now new : Scope
 interface-defined there c old now new n i ds j k r says adds same index exports answer =
     let w = component-behind c old now i ds j says adds same in
     let is_root : IsRoot now.content = still-root old.content now.content w.types w.appended r.is_root in
-    defined-so c (ty.Interface i) n 1 (NeededBy c (kind.Instance i)) old now new j k r w
+    defined-so c (ty.Interface i) n 1 (MadeFor c (ty.Interface i)) old now new j k r w
     (λ good means. stands-there there old now w.types j (component_tree c i) r.is_root w.appended (omega (arith, index)) (at-root now j (component_tree c i) is_root (adds c (nothing_bound ∷ []) unbound [] (component_tree c i) (says nothing_bound [] (opened old unbound) [] good)).1))
     (content-is now new (Builder (items_of now.content ++ export_item n sort.«Type» j ∷ [])) exports) answer
 
-pub interface-once : (c : Collection) (old now new : Scope) (n : Name) (i : InterfaceId) (j k : ℕ) → WritesFor c 1 (NeededBy c (kind.Instance i)) old now → EndsWithComponent c old now i j → new ≡ record now { content = Builder (items_of now.content ++ export_item n sort.«Type» j ∷ []) } → WritesOnce c (ty.Interface i) n old new k
+pub interface-once : (c : Collection) (old now new : Scope) (n : Name) (i : InterfaceId) (j k : ℕ) → WritesFor c 1 (MadeFor c (ty.Interface i)) old now → EndsWithComponent c old now i j → new ≡ record now { content = Builder (items_of now.content ++ export_item n sort.«Type» j ∷ []) } → WritesOnce c (ty.Interface i) n old new k
 interface-once c old now new n i j k w ends exports = record {
   now = now;
   behind = w;
@@ -175,14 +165,22 @@ interface-once c old now new n i j k w ends exports = record {
   named = records-same now new (Builder (items_of now.content ++ export_item n sort.«Type» j ∷ [])) exports;
 }
 
+-- nothing but types is written of it
+
+pub nothing-for : (c : Collection) → StaysOnward → (t : AnyType) (old new : Scope) → new ≡ old → WritesTypesFor c t old new
+nothing-for c stays t old new same = (0, subst (λ (s : Scope). WritesFor c 0 (MadeFor c t) old s) (sym same) (writes-none c stays (MadeFor c t) old old (as-it-was old)))
+
+pub types-for : (c : Collection) (t : AnyType) (types : ℕ) (old now new : Scope) → WritesFor c types (MadeFor c t) old now → new ≡ now → WritesTypesFor c t old new
+types-for c t types old now new w same = (types, subst (λ (s : Scope). WritesFor c types (MadeFor c t) old s) (sym same) w)
+
 -- and its refusals
 
 pub component-not-defined : (A B : Type 0) (c : Collection) → StaysOnward → (old : Scope) (n : Name) (i : InterfaceId) (f : EncodeFault) → IsComponentRefused {A = A} c i (Err f) → IsDefinitionRefused {A = B} c (ty.Interface i) n old (Err f)
 component-not-defined A B c stays old n i (fault.Write g) h = h
-component-not-defined A B c stays old n i fault.TooLarge h = record { scope = old; types = 0; behind = writes-none c stays (NeededBy c (kind.Instance i)) old old (as-it-was old); large = inl (inl h) }
+component-not-defined A B c stays old n i fault.TooLarge h = record { scope = old; types = 0; behind = writes-none c stays (MadeFor c (ty.Interface i)) old old (as-it-was old); large = inl (inl h) }
 component-not-defined A B c stays old n i fault.OutOfMemory h = tt
 
 pub component-too-large : (A B : Type 0) (c : Collection) → StaysOnward → (old : Scope) (n : Name) (i : InterfaceId) (ds : List Decl) (f : EncodeFault) → WritesComponent c i ds → WritesUnlessTooLarge {A = A} (Err f) (ContentFits (and_type old.content (component_def (decls ds)))) → IsDefinitionRefused {A = B} c (ty.Interface i) n old (Err f)
 component-too-large A B c stays old n i ds (fault.Write g) written h = absurd h
-component-too-large A B c stays old n i ds fault.TooLarge written h = record { scope = old; types = 0; behind = writes-none c stays (NeededBy c (kind.Instance i)) old old (as-it-was old); large = inl (inr (ds, written, h)) }
+component-too-large A B c stays old n i ds fault.TooLarge written h = record { scope = old; types = 0; behind = writes-none c stays (MadeFor c (ty.Interface i)) old old (as-it-was old); large = inl (inr (ds, written, h)) }
 component-too-large A B c stays old n i ds fault.OutOfMemory written h = tt

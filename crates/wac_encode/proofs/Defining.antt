@@ -33,14 +33,13 @@ use Rattle.wac_scopes.specs.Scopes.{Content, ContentHasMeaning, at_type, scope_o
 use Rattle.wac_scopes.specs.Good.{At, IsHeld, Good, nothing_bound}
 use Rattle.wac_scopes.specs.Laws.{IsItsEnd, IsItsTree, StaysOnward}
 use Rattle.wac_scopes.specs.Rooted.{unbound, IsRightRoot, StaysRight, MeansBefore, IsWrittenThere}
-use Rattle.wac_scopes.specs.Scoped.{value_index, at_index, opened, root_of, HasToo, IsAsBefore, AddsPrimitive, WritesUnlessTooLarge, FitsUnlessTooLarge}
+use Rattle.wac_scopes.specs.Scoped.{type_index, value_index, at_index, opened, root_of, HasToo, IsAsBefore, AddsPrimitive, WritesUnlessTooLarge, FitsUnlessTooLarge}
 use Rattle.wac_scopes.proofs.Rooted.{content-of-root}
 use Rattle.wac_scopes.proofs.Values.{primitive-held}
-use Rattle.wac_listing.specs.Made.{MadeOf}
-use Rattle.wac_encode.specs.Written.{WritesFor, with_types, IsOfFunc, AddsHeldFunc, EndsWithFunc, IsRefused, IsFuncRefused}
+use Rattle.wac_encode.specs.Written.{PartOf, WritesFor, with_types, IsOfFunc, AddsHeldFunc, IsFuncFrom, IsFuncAt, IsRefused, IsFuncRefused}
 use Rattle.wac_encode.specs.Listing.{NeededBy, own_types, SameRecords, PrimitiveDoesNotFit}
 use Rattle.wac_encode.specs.Importing.{IsImportedOnce, NamesImportedValue}
-use Rattle.wac_encode.specs.Defining.{defined_tree, WritesDefinition, item_of_type, IsDefinedAt, WritesOnce, IsDefinitionRefused}
+use Rattle.wac_encode.specs.Defining.{defined_tree, WritesDefinition, item_of_type, MadeFor, IsDefinedAt, WritesOnce, IsDefinitionRefused}
 use Rattle.wac_encode.proofs.Answering.{as-it-was}
 use Rattle.wac_encode.proofs.Imported.{still-root}
 use Rattle.wac_encode.proofs.Listed.{held-at-end}
@@ -84,16 +83,16 @@ stands-new there tree c old now ys a i t is_root appended behind held at = stand
 stands-recorded : IsItsEnd → IsItsTree → (c : Collection) → IsWellFormed c → (s : Scope) (v : ValueType) (d : DefinedTypeId) (i : ℕ) → value_resolved c v ≡ val.Defined d → IsRightRoot c s → value_index s d ≡ Some i → HasMeaning (items_of s.content)
     → stands_for (root_of s) sort.«Type» i ≡ written (held_tree c nothing_bound (ty.Value v))
 stands-recorded end tree c wf s v d i is r at means =
-    let m = (r.right means).0.memo (val.Defined d) (at_type i) (ap at_index at) in
-    r.written means d i at ∙ ap written (tree c nothing_bound (ty.Value (val.Defined d)) m.0 m.1 ∙ sym (tree c nothing_bound (ty.Value v) m.0 (held-at-end c wf end nothing_bound v (val.Defined d) m.0 is m.1)))
+    let m = (r.right means).0.memo (ty.Value (val.Defined d)) (at_type i) (ap at_index at) in
+    r.written means (ty.Value (val.Defined d)) i at ∙ ap written (tree c nothing_bound (ty.Value (val.Defined d)) m.0 m.1 ∙ sym (tree c nothing_bound (ty.Value v) m.0 (held-at-end c wf end nothing_bound v (val.Defined d) m.0 is m.1)))
 
 -- the root stays right
 
-pub right-after : StaysRight → MeansBefore → IsWrittenThere → IsItsTree → (c : Collection) (n : ℕ) (P : ValueType → Type 0) (old new : Scope) → WritesFor c n P old new → IsRightRoot c old → IsRightRoot c new
+pub right-after : StaysRight → MeansBefore → IsWrittenThere → IsItsTree → (c : Collection) (n : ℕ) (P : AnyType → Type 0) (old new : Scope) → WritesFor c n P old new → IsRightRoot c old → IsRightRoot c new
 right-after stays before there tree c n P old new w r = record {
   is_root = is_root;
   right = good;
-  written = λ means d i h. by_old means d i h (value_index old d) refl;
+  written = λ means a i h. by_old means a i h (type_index old a) refl;
 }
   where
     is_root : IsRoot new.content
@@ -106,26 +105,26 @@ right-after stays before there tree c n P old new w r = record {
     good means = (w.onward nothing_bound [] unbound [] (r.right (before (items_of old.content) (map type_item w.types) (subst HasMeaning is means)))).0
 
     mid : IsRightRoot c (record old { content = new.content })
-    mid = stays c old (record old { content = new.content }) (map type_item w.types) r is_root is (λ d. refl)
+    mid = stays c old (record old { content = new.content }) (map type_item w.types) r is_root is (λ a. refl)
 
-    by_old : HasMeaning (items_of new.content) → (d : DefinedTypeId) (i : ℕ) → value_index new d ≡ Some i → (o : Option ℕ) → value_index old d ≡ o → stands_for (root_of new) sort.«Type» i ≡ written (held_tree c nothing_bound (ty.Value (val.Defined d)))
-    by_old means d i h (Some j) e = subst (λ (k : ℕ). stands_for (root_of new) sort.«Type» k ≡ written (held_tree c nothing_bound (ty.Value (val.Defined d)))) (same-index new d j i (w.kept d j e) h) (mid.written means d j e)
-    by_old means d i h None e =
-        let m = (good means).0.memo (val.Defined d) (at_type i) (ap at_index h) in
-        stands-new there tree c old new w.types (ty.Value (val.Defined d)) i m.0 r.is_root w.appended (w.later d i e h) m.1 (at-root new i m.0 is_root m.3)
+    by_old : HasMeaning (items_of new.content) → (a : AnyType) (i : ℕ) → type_index new a ≡ Some i → (o : Option ℕ) → type_index old a ≡ o → stands_for (root_of new) sort.«Type» i ≡ written (held_tree c nothing_bound a)
+    by_old means a i h (Some j) e = subst (λ (k : ℕ). stands_for (root_of new) sort.«Type» k ≡ written (held_tree c nothing_bound a)) (same-index new a j i (w.kept a j e) h) (mid.written means a j e)
+    by_old means a i h None e =
+        let m = (good means).0.memo a (at_type i) (ap at_index h) in
+        stands-new there tree c old new w.types a i m.0 r.is_root w.appended (w.later a i e h) m.1 (at-root new i m.0 is_root m.3)
 
 pub right-exported : StaysRight → (c : Collection) (now new : Scope) (n : Name) (i : ℕ) → new ≡ record now { content = Builder (items_of now.content ++ export_item n sort.«Type» i ∷ []) } → IsRightRoot c now → IsRightRoot c new
-right-exported stays c now new n i is r = subst (IsRightRoot c) (sym is) (stays c now (record now { content = Builder (items_of now.content ++ export_item n sort.«Type» i ∷ []) }) (export_item n sort.«Type» i ∷ []) r tt refl (λ d. refl))
+right-exported stays c now new n i is r = subst (IsRightRoot c) (sym is) (stays c now (record now { content = Builder (items_of now.content ++ export_item n sort.«Type» i ∷ []) }) (export_item n sort.«Type» i ∷ []) r tt refl (λ a. refl))
 
 pub right-same : (c : Collection) (old new : Scope) → new ≡ old → IsRightRoot c old → IsRightRoot c new
 right-same c old new is r = subst (IsRightRoot c) (sym is) r
 
 pub right-still : StaysRight → (c : Collection) (old new : Scope) → IsAsBefore old new → IsRightRoot c old → IsRightRoot c new
-right-still stays c old new h r = stays c old new [] r (subst IsRoot (sym h.content) r.is_root) (ap items_of h.content ∙ sym (append-nil (items_of old.content))) h.values
+right-still stays c old new h r = stays c old new [] r (subst IsRoot (sym h.content) r.is_root) (ap items_of h.content ∙ sym (append-nil (items_of old.content))) h.types
 
 -- what is written is the definition
 
-pub defined-so : (c : Collection) (t : AnyType) (n : Name) (m : ℕ) (P : ValueType → Type 0) (old now new : Scope) (i k : ℕ) → IsRightRoot c old → WritesFor c m P old now → (Good c (nothing_bound ∷ []) (opened old unbound ∷ []) → HasMeaning (items_of now.content) → stands_for (root_of now) sort.«Type» i ≡ written (defined_tree c t)) → new.content ≡ Builder (items_of now.content ++ export_item n sort.«Type» i ∷ []) → k ≡ count (space sort.«Type») now.content
+pub defined-so : (c : Collection) (t : AnyType) (n : Name) (m : ℕ) (P : AnyType → Type 0) (old now new : Scope) (i k : ℕ) → IsRightRoot c old → WritesFor c m P old now → (Good c (nothing_bound ∷ []) (opened old unbound ∷ []) → HasMeaning (items_of now.content) → stands_for (root_of now) sort.«Type» i ≡ written (defined_tree c t)) → new.content ≡ Builder (items_of now.content ++ export_item n sort.«Type» i ∷ []) → k ≡ count (space sort.«Type») now.content
     → WritesDefinition c t n old new k
 defined-so c t n m P old now new i k r w stands appended answer =
     let is_root : IsRoot now.content = still-root old.content now.content w.types w.appended r.is_root in record {
@@ -145,7 +144,7 @@ pub content-is : (now new : Scope) (x : Encodable) → new ≡ record now { cont
 content-is now new x is = ap (λ (s : Scope). s.content) is
 
 pub records-same : (now new : Scope) (x : Encodable) → new ≡ record now { content = x } → SameRecords now new
-records-same now new x is d = ap (λ (s : Scope). value_index s d) is
+records-same now new x is a = ap (λ (s : Scope). type_index s a) is
 
 -- a primitive
 
@@ -179,7 +178,7 @@ second-defined stays end tree c wf old new n v d i k r is at exports answer =
 pub second-once : (c : Collection) → StaysOnward → (old new : Scope) (n : Name) (v : ValueType) (d : DefinedTypeId) (i k : ℕ) → value_resolved c v ≡ val.Defined d → value_index old d ≡ Some i → new ≡ record old { content = Builder (items_of old.content ++ export_item n sort.«Type» i ∷ []) } → WritesOnce c (ty.Value v) n old new k
 second-once c stays old new n v d i k is at exports = record {
   now = old;
-  behind = definition-behind c old old v d is (writes-none c stays (MadeOf c (value_resolved c v)) old old (as-it-was old));
+  behind = definition-behind c old old v d is (writes-none c stays (PartOf c (value_resolved c v)) old old (as-it-was old));
   index = i;
   defined = definition-described c old old v d i is at;
   appended = content-is old new (Builder (items_of old.content ++ export_item n sort.«Type» i ∷ [])) exports;
@@ -188,13 +187,13 @@ second-once c stays old new n v d i k is at exports = record {
 
 -- one that is written for it
 
-pub first-defined : StaysRight → MeansBefore → IsWrittenThere → IsItsEnd → IsItsTree → (c : Collection) → IsWellFormed c → (old now new : Scope) (n : Name) (v : ValueType) (d : DefinedTypeId) (i k : ℕ) → IsRightRoot c old → value_resolved c v ≡ val.Defined d → WritesFor c 0 (MadeOf c (value_resolved c v)) old now → value_index now d ≡ Some i
+pub first-defined : StaysRight → MeansBefore → IsWrittenThere → IsItsEnd → IsItsTree → (c : Collection) → IsWellFormed c → (old now new : Scope) (n : Name) (v : ValueType) (d : DefinedTypeId) (i k : ℕ) → IsRightRoot c old → value_resolved c v ≡ val.Defined d → WritesFor c 0 (PartOf c (value_resolved c v)) old now → value_index now d ≡ Some i
     → new.content ≡ Builder (items_of now.content ++ export_item n sort.«Type» i ∷ []) → k ≡ count (space sort.«Type») now.content → WritesDefinition c (ty.Value v) n old new k
 first-defined stays before there end tree c wf old now new n v d i k r is w at appended answer =
-    defined-so c (ty.Value v) n 0 (MadeOf c (value_resolved c v)) old now new i k r w
-    (λ good means. stands-recorded end tree c wf now v d i is (right-after stays before there tree c 0 (MadeOf c (value_resolved c v)) old now w r) at means) appended answer
+    defined-so c (ty.Value v) n 0 (PartOf c (value_resolved c v)) old now new i k r w
+    (λ good means. stands-recorded end tree c wf now v d i is (right-after stays before there tree c 0 (PartOf c (value_resolved c v)) old now w r) at means) appended answer
 
-pub first-once : (c : Collection) (old now new : Scope) (n : Name) (v : ValueType) (d : DefinedTypeId) (i k : ℕ) → value_resolved c v ≡ val.Defined d → value_index old d ≡ None → WritesFor c 0 (MadeOf c (value_resolved c v)) old now → value_index now d ≡ Some i → new.content ≡ Builder (items_of now.content ++ export_item n sort.«Type» i ∷ []) → HasToo now d k new → WritesOnce c (ty.Value v) n old new k
+pub first-once : (c : Collection) (old now new : Scope) (n : Name) (v : ValueType) (d : DefinedTypeId) (i k : ℕ) → value_resolved c v ≡ val.Defined d → value_index old d ≡ None → WritesFor c 0 (PartOf c (value_resolved c v)) old now → value_index now d ≡ Some i → new.content ≡ Builder (items_of now.content ++ export_item n sort.«Type» i ∷ []) → HasToo now (ty.Value (val.Defined d)) k new → WritesOnce c (ty.Value v) n old new k
 first-once c old now new n v d i k is none w at appended too = record {
   now = now;
   behind = definition-behind c old now v d is w;
@@ -206,19 +205,26 @@ first-once c old now new n v d i k is none w at appended too = record {
 
 -- a function type
 
-pub function-defined : IsWrittenThere → IsItsTree → (c : Collection) (old now new : Scope) (n : Name) (f : FuncTypeId) (i k : ℕ) → IsRightRoot c old → WritesFor c 1 (IsOfFunc c f) old now → count (space sort.«Type») old.content ≤ i → AddsHeldFunc c old now f i → new ≡ record now { content = Builder (items_of now.content ++ export_item n sort.«Type» i ∷ []) } → k ≡ count (space sort.«Type») now.content → WritesDefinition c (ty.Func f) n old new k
-function-defined there tree c old now new n f i k r w later adds exports answer =
-    let is_root : IsRoot now.content = still-root old.content now.content w.types w.appended r.is_root in
-    defined-so c (ty.Func f) n 1 (IsOfFunc c f) old now new i k r w
-    (λ good means. let a = adds nothing_bound [] unbound [] good in stands-new there tree c old now w.types (ty.Func f) i a.0 r.is_root w.appended later a.1 (at-root now i a.0 is_root a.3.1))
+-- the index is recorded now
+recorded-func : (c : Collection) (old now : Scope) (f : FuncTypeId) (i : ℕ) (o : Option ℕ) → type_index old (ty.Func f) ≡ o → WritesFor c 0 (IsOfFunc c f) old now → IsFuncFrom (type_index old (ty.Func f)) c f old now i → type_index now (ty.Func f) ≡ Some i
+recorded-func c old now f i (Some j) is w at = let h = subst (λ (p : Option ℕ). IsFuncFrom p c f old now i) is at in w.kept (ty.Func f) i (is ∙ ap (λ (k : ℕ). Some k) (sym h.0))
+recorded-func c old now f i None is w at = (subst (λ (p : Option ℕ). IsFuncFrom p c f old now i) is at).0
+
+function-stands : StaysRight → MeansBefore → IsWrittenThere → IsItsTree → (c : Collection) (old now : Scope) (f : FuncTypeId) (i : ℕ) → IsRightRoot c old → WritesFor c 0 (IsOfFunc c f) old now → IsFuncAt c f old now i → HasMeaning (items_of now.content) → stands_for (root_of now) sort.«Type» i ≡ written (held_tree c nothing_bound (ty.Func f))
+function-stands stays before there tree c old now f i r w at means = (right-after stays before there tree c 0 (IsOfFunc c f) old now w r).written means (ty.Func f) i (recorded-func c old now f i (type_index old (ty.Func f)) refl w at)
+
+pub function-defined : StaysRight → MeansBefore → IsWrittenThere → IsItsTree → (c : Collection) (old now new : Scope) (n : Name) (f : FuncTypeId) (i k : ℕ) → IsRightRoot c old → WritesFor c 0 (IsOfFunc c f) old now → IsFuncAt c f old now i → new ≡ record now { content = Builder (items_of now.content ++ export_item n sort.«Type» i ∷ []) } → k ≡ count (space sort.«Type») now.content → WritesDefinition c (ty.Func f) n old new k
+function-defined stays before there tree c old now new n f i k r w at exports answer =
+    defined-so c (ty.Func f) n 0 (IsOfFunc c f) old now new i k r w
+    (λ good means. function-stands stays before there tree c old now f i r w at means)
     (content-is now new (Builder (items_of now.content ++ export_item n sort.«Type» i ∷ [])) exports) answer
 
-pub function-once : (c : Collection) (old now new : Scope) (n : Name) (f : FuncTypeId) (i k : ℕ) → WritesFor c 1 (IsOfFunc c f) old now → AddsHeldFunc c old now f i → EndsWithFunc c f now → new ≡ record now { content = Builder (items_of now.content ++ export_item n sort.«Type» i ∷ []) } → WritesOnce c (ty.Func f) n old new k
-function-once c old now new n f i k w adds ends exports = record {
+pub function-once : (c : Collection) (old now new : Scope) (n : Name) (f : FuncTypeId) (i k : ℕ) → WritesFor c 0 (IsOfFunc c f) old now → AddsHeldFunc c old now f i → IsFuncAt c f old now i → new ≡ record now { content = Builder (items_of now.content ++ export_item n sort.«Type» i ∷ []) } → WritesOnce c (ty.Func f) n old new k
+function-once c old now new n f i k w adds at exports = record {
   now = now;
   behind = w;
   index = i;
-  defined = (adds, ends);
+  defined = (adds, at);
   appended = content-is now new (Builder (items_of now.content ++ export_item n sort.«Type» i ∷ [])) exports;
   named = records-same now new (Builder (items_of now.content ++ export_item n sort.«Type» i ∷ [])) exports;
 }
@@ -235,7 +241,7 @@ primitive-not-defined A B c stays old n v p fault.TooLarge is h = record {
 }
 primitive-not-defined A B c stays old n v p fault.OutOfMemory is h = tt
 
-pub value-not-defined : (A B : Type 0) (c : Collection) (old now : Scope) (n : Name) (v : ValueType) (f : EncodeFault) → WritesFor c 0 (MadeOf c (value_resolved c v)) old now → IsRefused {A = A} c (MadeOf c (value_resolved c v)) now (Err f) → IsDefinitionRefused {A = B} c (ty.Value v) n old (Err f)
+pub value-not-defined : (A B : Type 0) (c : Collection) (old now : Scope) (n : Name) (v : ValueType) (f : EncodeFault) → WritesFor c 0 (PartOf c (value_resolved c v)) old now → IsRefused {A = A} c (PartOf c (value_resolved c v)) now (Err f) → IsDefinitionRefused {A = B} c (ty.Value v) n old (Err f)
 value-not-defined A B c old now n v (fault.Write g) w h = h
 value-not-defined A B c old now n v fault.TooLarge w h = record { scope = now; types = 0; behind = w; large = inl (inl h) }
 value-not-defined A B c old now n v fault.OutOfMemory w h = tt
@@ -246,7 +252,7 @@ function-not-defined A B c old now n g fault.TooLarge w refused = record { scope
 function-not-defined A B c old now n g fault.OutOfMemory w refused = tt
 
 -- where the export does not fit
-pub name-too-large : (A B : Type 0) (c : Collection) (t : AnyType) (old now : Scope) (n : Name) (types i : ℕ) (f : EncodeFault) → WritesFor c types (NeededBy c (item_of_type t)) old now → IsDefinedAt c old now t i → FitsUnlessTooLarge {A = A} (Err f) (Fits (items_of now.content ++ export_item n sort.«Type» i ∷ [])) → IsDefinitionRefused {A = B} c t n old (Err f)
+pub name-too-large : (A B : Type 0) (c : Collection) (t : AnyType) (old now : Scope) (n : Name) (types i : ℕ) (f : EncodeFault) → WritesFor c types (MadeFor c t) old now → IsDefinedAt c old now t i → FitsUnlessTooLarge {A = A} (Err f) (Fits (items_of now.content ++ export_item n sort.«Type» i ∷ [])) → IsDefinitionRefused {A = B} c t n old (Err f)
 name-too-large A B c t old now n types i (fault.Write g) w defined h = absurd h
 name-too-large A B c t old now n types i fault.TooLarge w defined h = record { scope = now; types = types; behind = w; large = inr (i, defined, h) }
 name-too-large A B c t old now n types i fault.OutOfMemory w defined h = tt

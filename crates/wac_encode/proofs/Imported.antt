@@ -19,7 +19,7 @@ use Rattle.wac_scopes.specs.declared.fault.EncodeFault.TheVariants as fault
 use Rattle.wac_scopes.specs.Contents.{IsRoot, items_of, and_import, ContentFits}
 use Rattle.wac_scopes.specs.Scoped.{opened, root_of, IsNewInRoot, RootImportsFunction, WritesUnlessTooLarge}
 use Rattle.wac_scopes.specs.Laws.{Follows}
-use Rattle.wac_encode.specs.Written.{IsOfFunc, WritesFor, with_types, AddsHeldFunc, EndsWithFunc, IsFuncRefused, ImportsHeldFunc, EndsWithImport, WritesFuncAtMost, IsImportRefused}
+use Rattle.wac_encode.specs.Written.{IsOfFunc, WritesFor, with_types, AddsHeldFunc, IsFuncAt, IsFuncRefused, ImportsHeldFunc, EndsWithImport, IsImportRefused}
 
 -- what one more item imports
 abbrev pub ListsOneMore : Type 0
@@ -62,8 +62,8 @@ imports-held law c follows old now new n f i k ys appended adds imports m ms o o
       },
     )
 
-pub ends-with-import : (c : Collection) (f : FuncTypeId) (n : Name) (old now new : Scope) (i : ℕ) → WritesFor c 1 (IsOfFunc c f) old now → EndsWithFunc c f now → new ≡ record now { content = and_import now.content n (e.Func i) } → EndsWithImport c f n old new
-ends-with-import c f n old now new i written recorded is = record { now = now; written = written; recorded = recorded; index = i; imported = is }
+pub ends-with-import : (c : Collection) (f : FuncTypeId) (n : Name) (old now new : Scope) (i : ℕ) → WritesFor c 0 (IsOfFunc c f) old now → IsFuncAt c f old now i → new ≡ record now { content = and_import now.content n (e.Func i) } → EndsWithImport c f n old new
+ends-with-import c f n old now new i written recorded is = record { now = now; written = written; index = i; recorded = recorded; imported = is }
 
 -- refusals
 
@@ -77,5 +77,5 @@ import-refused c f n now new i (fault.Write g) is h = absurd h
 import-refused c f n now new i fault.TooLarge is h = inr (subst (λ (s : Scope). (j : ℕ) × (ContentFits (and_import s.content n (e.Func j)) → ⊥)) (sym is) (i, h))
 import-refused c f n now new i fault.OutOfMemory is h = tt
 
-pub func-at-most : (c : Collection) (f : FuncTypeId) (old now new : Scope) → WritesFor c 1 (IsOfFunc c f) old now → new ≡ now → WritesFuncAtMost c f old new
-func-at-most c f old now new w is = inr (subst (λ (s : Scope). WritesFor c 1 (IsOfFunc c f) old s) (sym is) w)
+pub func-at-most : (c : Collection) (f : FuncTypeId) (old now new : Scope) → WritesFor c 0 (IsOfFunc c f) old now → new ≡ now → WritesFor c 0 (IsOfFunc c f) old new
+func-at-most c f old now new w is = subst (λ (s : Scope). WritesFor c 0 (IsOfFunc c f) old s) (sym is) w

@@ -1,5 +1,5 @@
 -- Items of held kinds are imported into the root.
-use Rattle.std.specs.Prelude.{ℕ, suc, ◌+◌, ◌≡◌, List, [], ◌∷◌, ◌++◌, length, map, Option, Some, None, Err}
+use Rattle.std.specs.Prelude.{ℕ, suc, ◌+◌, ◌<◌, ◌≡◌, List, [], ◌∷◌, ◌++◌, length, map, Option, Some, None, Err}
 use Rattle.std.proofs.Common.{refl, ap, ◌∙◌, sym, subst, arith, inl, inr}
 use Rattle.wac_shapes.specs.Name.{Name}
 use Rattle.wac_shapes.specs.declared.component.DefinedTypeId.{DefinedTypeId}
@@ -33,18 +33,16 @@ use Rattle.wac_scopes.specs.Contents.{content_of, items_of, IsRoot, and_type, an
 use Rattle.wac_scopes.specs.Scopes.{Open, Stack, envs, scope_of}
 use Rattle.wac_scopes.specs.Good.{At, Onward}
 use Rattle.wac_scopes.specs.Laws.{Follows, IsItsEnd, IsItsTree, IsRecorded, StaysOnward}
-use Rattle.wac_scopes.specs.Scoped.{value_index, at_index, opened, imported_at, root_of, IsNewInRoot, HasToo, IsAsBefore, AddsPrimitive, AddsInstance, RootImports, RootImportsType, RootImportsValue, RootImportsFunction, RootImportsInstance, WritesUnlessTooLarge, FitsUnlessTooLarge}
+use Rattle.wac_scopes.specs.Scoped.{type_index, value_index, at_index, opened, imported_at, root_of, IsNewInRoot, HasToo, IsAsBefore, IsAt, AddsPrimitive, AddsInstance, RootImports, RootImportsType, RootImportsValue, RootImportsFunction, RootImportsInstance, WritesUnlessTooLarge, FitsUnlessTooLarge}
 use Rattle.wac_scopes.proofs.Values.{primitive-held}
-use Rattle.wac_listing.specs.Made.{MadeOf}
-use Rattle.wac_encode.specs.Written.{GoesOn, WritesFor, with_types, IsOfFunc, AddsHeldFunc, EndsWithFunc, IsRefused, IsFuncRefused}
+use Rattle.wac_encode.specs.Written.{PartOf, WritesFor, with_types, IsOfFunc, AddsHeldFunc, IsFuncAt, IsRefused, IsFuncRefused}
 use Rattle.wac_encode.specs.Listing.{SaysInterface, WritesInterface, NeededBy, SameRecords, PrimitiveDoesNotFit, IsInterfaceRefused}
-use Rattle.wac_encode.specs.Importing.{next_place, ImportsHeld, EndsWithInterface, IsImportedAs, IsImportedOnce, NamesImportedValue, WritesImport, WritesTypesOf, IsItemNotImported, held_imports, ImportsOneMore}
+use Rattle.wac_encode.specs.Importing.{next_place, AddsHeldInterface, ImportsHeld, IsInterfaceFrom, IsInterfaceAt, IsInstanceRefused, IsImportedAs, IsImportedOnce, NamesImportedValue, WritesImport, WritesTypesOf, IsItemNotImported, held_imports, ImportsOneMore}
 use Rattle.wac_encode.proofs.Answering.{as-it-was}
 use Rattle.wac_encode.proofs.Imported.{ListsOneMore, same-imports, still-root}
 use Rattle.wac_encode.proofs.Listed.{held-at-end, value-is-type}
 use Rattle.wac_encode.proofs.Naming.{primitive-behind, primitive-described, definition-behind, definition-described}
-use Rattle.wac_encode.proofs.Rows.{writes-type}
-use Rattle.wac_encode.proofs.Stacks.{writes-none, writes-no-more}
+use Rattle.wac_encode.proofs.Stacks.{writes-none, writes-no-more, writes-recorded}
 
 -- what is imported behind types of it
 
@@ -89,7 +87,7 @@ second-imported c wf end tree recorded old new n v d k j is at imports m ms o os
 
 -- one that is written for it
 
-pub first-imported : ListsOneMore → (c : Collection) → IsWellFormed c → Follows → IsItsEnd → IsItsTree → IsRecorded → (old now new : Scope) (n : Name) (v : ValueType) (d : DefinedTypeId) (k j : ℕ) → value_resolved c v ≡ val.Defined d → WritesFor c 0 (MadeOf c (value_resolved c v)) old now → value_index now d ≡ Some k → RootImportsValue now new n d k j → ImportsHeld c old new n (kind.TypeItem (ty.Value v)) j
+pub first-imported : ListsOneMore → (c : Collection) → IsWellFormed c → Follows → IsItsEnd → IsItsTree → IsRecorded → (old now new : Scope) (n : Name) (v : ValueType) (d : DefinedTypeId) (k j : ℕ) → value_resolved c v ≡ val.Defined d → WritesFor c 0 (PartOf c (value_resolved c v)) old now → value_index now d ≡ Some k → RootImportsValue now new n d k j → ImportsHeld c old new n (kind.TypeItem (ty.Value v)) j
 first-imported law c wf follows end tree recorded old now new n v d k j is w at imports m ms o os g free =
     let first = w.onward m ms o os g in
     let r = recorded c m ms (opened now o) os (val.Defined d) k first.0 (ap at_index at) in
@@ -99,7 +97,7 @@ first-imported law c wf follows end tree recorded old now new n v d k j is w at 
 
 -- a function
 
-pub function-imported : ListsOneMore → (c : Collection) → Follows → IsItsTree → (old now new : Scope) (n : Name) (f : FuncTypeId) (i k : ℕ) → WritesFor c 1 (IsOfFunc c f) old now → AddsHeldFunc c old now f i → RootImportsFunction now new n i k → ImportsHeld c old new n (kind.Func f) k
+pub function-imported : ListsOneMore → (c : Collection) → Follows → IsItsTree → (old now new : Scope) (n : Name) (f : FuncTypeId) (i k : ℕ) → WritesFor c 0 (IsOfFunc c f) old now → AddsHeldFunc c old now f i → RootImportsFunction now new n i k → ImportsHeld c old new n (kind.Func f) k
 function-imported law c follows tree old now new n f i k w adds imports m ms o os g free =
     let a = adds m ms o os g in
     let r = imports c m ms o os a.0 a.3.0.0 (still-new law old now n w.types w.appended free) a.2 a.3.1 in
@@ -117,31 +115,42 @@ root-imported (Builder items) n d h = tt
 root-imported (Instance ds) n d h = absurd h
 root-imported (Component ds) n d h = absurd h
 
--- the instance type goes onward
-pub instance-goes-on : (c : Collection) (old now : Scope) (i : InterfaceId) (ds : List Decl) (k : ℕ) → SaysInterface c i ds → AddsInstance old now ds k → GoesOn c old now
-instance-goes-on c old now i ds k says adds m ms o os g = let s = says m ms (opened old o) os g in (adds c (m ∷ ms) o os s.0 s.3).0
+-- the instance type, which is recorded
 
-pub instance-behind : (c : Collection) (old now : Scope) (i : InterfaceId) (ds : List Decl) (k : ℕ) → SaysInterface c i ds → AddsInstance old now ds k → now ≡ record old { content = and_type old.content (instance_def (decls ds)) } → WritesFor c 1 (NeededBy c (kind.Instance i)) old now
-instance-behind c old now i ds k says adds same = writes-type c (NeededBy c (kind.Instance i)) old now (instance_def (decls ds)) same (instance-goes-on c old now i ds k says adds)
+pub adds-interface : (c : Collection) (old now : Scope) (i : InterfaceId) (ds : List Decl) (k : ℕ) → SaysInterface c i ds → AddsInstance old now i ds k → AddsHeldInterface c old now i k
+adds-interface c old now i ds k says adds m ms o os g = let s = says m ms (opened old o) os g in (s.0, s.1, s.2, adds c m ms o os s.0 s.1 s.2 s.3)
 
-pub instance-imported : ListsOneMore → (c : Collection) → Follows → IsItsTree → (old now new : Scope) (n : Name) (i : InterfaceId) (ds : List Decl) (j k : ℕ) → IsRoot now.content → SaysInterface c i ds → AddsInstance old now ds j → now ≡ record old { content = and_type old.content (instance_def (decls ds)) } → new ≡ record now { content = and_import now.content n (e.Instance j) } → RootImportsInstance now new n j k → ImportsHeld c old new n (kind.Instance i) k
-instance-imported law c follows tree old now new n i ds j k is_root says adds same is imports m ms o os g free =
-    let s = says m ms (opened old o) os g in
-    let a = adds c (m ∷ ms) o os s.0 s.3 in
-    let w = instance-behind c old now i ds j says adds same in
-    let r = imports c m ms o os s.0 a.0.0 (still-new law old now n w.types w.appended free) s.2 a.1 in
-    let held : held_tree c m (ty.Interface i) ≡ s.0 = tree c m (ty.Interface i) s.0 s.1 in
+pub instance-behind : (c : Collection) → Follows → StaysOnward → (old now : Scope) (i : InterfaceId) (ds : List Decl) (k : ℕ) → i.0 < length c.interfaces → type_index old (ty.Interface i) ≡ None → AddsHeldInterface c old now i k → HasToo old (ty.Interface i) k now → k ≡ count (space sort.«Type») old.content → now.content ≡ and_type old.content (instance_def (decls ds)) → WritesFor c 0 (NeededBy c (kind.Instance i)) old now
+instance-behind c follows stays old now i ds k held none adds too index is =
+    writes-recorded c follows 0 (NeededBy c (kind.Instance i)) old old now (ty.Interface i) k (instance_def (decls ds)) (writes-none c stays (NeededBy c (kind.Instance i)) old old (as-it-was old)) refl held none (λ m ms o os g. (adds m ms o os g).3.0) too index is
+
+pub none-else : (o : Option ℕ) → ((k : ℕ) → o ≡ Some k → ⊥) → o ≡ None
+none-else None h = refl
+none-else (Some k) h = absurd (h k refl)
+
+-- where it is recorded
+pub interface-there : (c : Collection) → StaysOnward → (s : Scope) (i : InterfaceId) (k : ℕ) → IsAt s (ty.Interface i) k → AddsHeldInterface c s s i k
+interface-there c stays s i k at m ms o os g = let r = at c m ms o os g in (r.0, r.1, r.2, (stays c (m ∷ ms) (opened s o ∷ os) g, r.3))
+
+pub interface-at-there : (c : Collection) (s : Scope) (i : InterfaceId) (k : ℕ) → type_index s (ty.Interface i) ≡ Some k → IsInterfaceAt c s s i k
+interface-at-there c s i k at = subst (λ (o : Option ℕ). IsInterfaceFrom o c s s i k) (sym at) (refl, refl)
+
+pub instance-imported : ListsOneMore → (c : Collection) → Follows → IsItsTree → (old now new : Scope) (n : Name) (i : InterfaceId) (j k : ℕ) → IsRoot now.content → WritesFor c 0 (NeededBy c (kind.Instance i)) old now → AddsHeldInterface c old now i j → new ≡ record now { content = and_import now.content n (e.Instance j) } → RootImportsInstance now new n j k → ImportsHeld c old new n (kind.Instance i) k
+instance-imported law c follows tree old now new n i j k is_root w adds is imports m ms o os g free =
+    let a = adds m ms o os g in
+    let r = imports c m ms o os a.0 a.3.0.0 (still-new law old now n w.types w.appended free) a.2 a.3.1 in
+    let held : held_tree c m (ty.Interface i) ≡ a.0 = tree c m (ty.Interface i) a.0 a.1 in
     let new_root : IsRoot new.content = subst (λ (z : Scope). IsRoot z.content) (sym is) (root-imported now.content n (e.Instance j) is_root) in
     let bound : Bound = record { type = held_tree c m (ty.Interface i); side = imported; path = next_place old } in
-    let is_bound : imported_at s.0 (items_of now.content) ≡ bound = (λ q. record { type = sym held q; side = imported; path = position (length (imports-since law old now w.types w.appended q)) ∷ [] }) in (
-      as-held c (m ∷ ms) old new o os sort.Instance k n instance_item s.0 (held_tree c m (ty.Interface i)) held (imports-after law c follows (m ∷ ms) old now new o os sort.Instance k n (instance_item s.0) w.types w.appended a.0 r.0),
-      subst (λ (b : Bound). At ((root_of new).scope.instances) k b) is_bound (subst (λ (x : Env). At (x.instances) k (imported_at s.0 (items_of now.content))) (root-env new.content (envs os) new_root) r.1),
+    let is_bound : imported_at a.0 (items_of now.content) ≡ bound = (λ q. record { type = sym held q; side = imported; path = position (length (imports-since law old now w.types w.appended q)) ∷ [] }) in (
+      as-held c (m ∷ ms) old new o os sort.Instance k n instance_item a.0 (held_tree c m (ty.Interface i)) held (imports-after law c follows (m ∷ ms) old now new o os sort.Instance k n (instance_item a.0) w.types w.appended a.3.0 r.0),
+      subst (λ (b : Bound). At ((root_of new).scope.instances) k b) is_bound (subst (λ (x : Env). At (x.instances) k (imported_at a.0 (items_of now.content))) (root-env new.content (envs os) new_root) r.1),
     )
 
 -- what is written
 
 same-records : (old new : Scope) (n : Name) (d : Description) → new ≡ record old { content = and_import old.content n d } → SameRecords old new
-same-records old new n d is k = ap (λ (s : Scope). value_index s k) is
+same-records old new n d is k = ap (λ (s : Scope). type_index s k) is
 
 imported-so : (old new : Scope) (n : Name) (d : Description) → new ≡ record old { content = and_import old.content n d } → new.content ≡ and_import old.content n d
 imported-so old new n d is = ap (λ (s : Scope). s.content) is
@@ -160,7 +169,7 @@ primitive-written c old now new n v p k j is adds same imports index = record {
 pub second-written : (c : Collection) → StaysOnward → (old new : Scope) (n : Name) (v : ValueType) (d : DefinedTypeId) (k j : ℕ) → value_resolved c v ≡ val.Defined d → value_index old d ≡ Some k → new ≡ record old { content = and_import old.content n (e.Equal k) } → j ≡ count (space sort.«Type») old.content → WritesImport c old new n (kind.TypeItem (ty.Value v)) j
 second-written c stays old new n v d k j is at imports index = record {
   now = old;
-  behind = definition-behind c old old v d is (writes-none c stays (MadeOf c (value_resolved c v)) old old (as-it-was old));
+  behind = definition-behind c old old v d is (writes-none c stays (PartOf c (value_resolved c v)) old old (as-it-was old));
   description = e.Equal k;
   described = definition-described c old old v d k is at;
   appended = imported-so old new n (e.Equal k) imports;
@@ -168,7 +177,7 @@ second-written c stays old new n v d k j is at imports index = record {
   named = subst (λ (w : ValueType). NamesImportedValue old old new w j) (sym is) (subst (λ (o : Option ℕ). IsImportedOnce o old new d j) (sym at) (same-records old new n (e.Equal k) imports));
 }
 
-pub first-written : (c : Collection) (old now new : Scope) (n : Name) (v : ValueType) (d : DefinedTypeId) (k j : ℕ) → value_resolved c v ≡ val.Defined d → value_index old d ≡ None → WritesFor c 0 (MadeOf c (value_resolved c v)) old now → value_index now d ≡ Some k → new.content ≡ and_import now.content n (e.Equal k) → HasToo now d j new → j ≡ count (space sort.«Type») now.content → WritesImport c old new n (kind.TypeItem (ty.Value v)) j
+pub first-written : (c : Collection) (old now new : Scope) (n : Name) (v : ValueType) (d : DefinedTypeId) (k j : ℕ) → value_resolved c v ≡ val.Defined d → value_index old d ≡ None → WritesFor c 0 (PartOf c (value_resolved c v)) old now → value_index now d ≡ Some k → new.content ≡ and_import now.content n (e.Equal k) → HasToo now (ty.Value (val.Defined d)) j new → j ≡ count (space sort.«Type») now.content → WritesImport c old new n (kind.TypeItem (ty.Value v)) j
 first-written c old now new n v d k j is none w at appended too index = record {
   now = now;
   behind = definition-behind c old now v d is w;
@@ -179,26 +188,26 @@ first-written c old now new n v d k j is none w at appended too index = record {
   named = subst (λ (u : ValueType). NamesImportedValue old now new u j) (sym is) (subst (λ (o : Option ℕ). IsImportedOnce o now new d j) (sym none) too);
 }
 
-pub function-written : (c : Collection) (old now new : Scope) (n : Name) (f : FuncTypeId) (k j : ℕ) → WritesFor c 1 (IsOfFunc c f) old now → AddsHeldFunc c old now f k → EndsWithFunc c f now → new ≡ record now { content = and_import now.content n (e.Func k) } → j ≡ count (space sort.Func) now.content → WritesImport c old new n (kind.Func f) j
-function-written c old now new n f k j w adds ends imports index = record {
+pub function-written : (c : Collection) (old now new : Scope) (n : Name) (f : FuncTypeId) (k j : ℕ) → WritesFor c 0 (IsOfFunc c f) old now → AddsHeldFunc c old now f k → IsFuncAt c f old now k → new ≡ record now { content = and_import now.content n (e.Func k) } → j ≡ count (space sort.Func) now.content → WritesImport c old new n (kind.Func f) j
+function-written c old now new n f k j w adds there imports index = record {
   now = now;
   behind = w;
   description = e.Func k;
-  described = (adds, ends);
+  described = (adds, there);
   appended = imported-so now new n (e.Func k) imports;
   index = index;
   named = same-records now new n (e.Func k) imports;
 }
 
-pub ends-with-interface : (c : Collection) (old now : Scope) (i : InterfaceId) (ds : List Decl) (k : ℕ) → WritesInterface c i ds → now ≡ record old { content = and_type old.content (instance_def (decls ds)) } → k ≡ count (space sort.«Type») old.content → EndsWithInterface c old now i k
-ends-with-interface c old now i ds k written same index = record { declarations = ds; written = written; appended = same; index = index }
+pub ends-with-interface : (c : Collection) (old now : Scope) (i : InterfaceId) (ds : List Decl) (k : ℕ) → type_index old (ty.Interface i) ≡ None → WritesInterface c i ds → now.content ≡ and_type old.content (instance_def (decls ds)) → HasToo old (ty.Interface i) k now → k ≡ count (space sort.«Type») old.content → IsInterfaceAt c old now i k
+ends-with-interface c old now i ds k none written appended too index = subst (λ (o : Option ℕ). IsInterfaceFrom o c old now i k) (sym none) (record { declarations = ds; written = written; appended = appended; recorded = too; index = index })
 
-pub instance-written : (c : Collection) (old now new : Scope) (n : Name) (i : InterfaceId) (k j : ℕ) → WritesFor c 1 (NeededBy c (kind.Instance i)) old now → EndsWithInterface c old now i k → new ≡ record now { content = and_import now.content n (e.Instance k) } → j ≡ count (space sort.Instance) now.content → WritesImport c old new n (kind.Instance i) j
-instance-written c old now new n i k j w ends imports index = record {
+pub instance-written : (c : Collection) (old now new : Scope) (n : Name) (i : InterfaceId) (k j : ℕ) → WritesFor c 0 (NeededBy c (kind.Instance i)) old now → IsInterfaceAt c old now i k → new ≡ record now { content = and_import now.content n (e.Instance k) } → j ≡ count (space sort.Instance) now.content → WritesImport c old new n (kind.Instance i) j
+instance-written c old now new n i k j w there imports index = record {
   now = now;
   behind = w;
   description = e.Instance k;
-  described = ends;
+  described = there;
   appended = imported-so now new n (e.Instance k) imports;
   index = index;
   named = same-records now new n (e.Instance k) imports;
@@ -220,8 +229,8 @@ nothing-of c stays item old new same = (0, subst (λ (s : Scope). WritesFor c 0 
 pub types-of : (c : Collection) (item : ItemKind) (types : ℕ) (old now new : Scope) → WritesFor c types (NeededBy c item) old now → new ≡ now → WritesTypesOf c item old new
 types-of c item types old now new w same = (types, subst (λ (s : Scope). WritesFor c types (NeededBy c item) old s) (sym same) w)
 
-pub first-at-most : (c : Collection) → Follows → StaysOnward → (old now new : Scope) (v : ValueType) → WritesFor c 0 (MadeOf c (value_resolved c v)) old now → IsAsBefore now new → WritesTypesOf c (kind.TypeItem (ty.Value v)) old new
-first-at-most c follows stays old now new v w same = (0, writes-no-more c follows stays (MadeOf c (value_resolved c v)) old now new w same)
+pub first-at-most : (c : Collection) → Follows → StaysOnward → (old now new : Scope) (v : ValueType) → WritesFor c 0 (PartOf c (value_resolved c v)) old now → IsAsBefore now new → WritesTypesOf c (kind.TypeItem (ty.Value v)) old new
+first-at-most c follows stays old now new v w same = (0, writes-no-more c follows stays (PartOf c (value_resolved c v)) old now new w same)
 
 -- refusals
 
@@ -235,7 +244,7 @@ primitive-not-imported A B c stays old n v p fault.TooLarge is h = record {
 }
 primitive-not-imported A B c stays old n v p fault.OutOfMemory is h = tt
 
-pub value-not-imported : (A B : Type 0) (c : Collection) (old now : Scope) (n : Name) (v : ValueType) (f : EncodeFault) → WritesFor c 0 (MadeOf c (value_resolved c v)) old now → IsRefused {A = A} c (MadeOf c (value_resolved c v)) now (Err f) → IsItemNotImported {A = B} c n (kind.TypeItem (ty.Value v)) old (Err f)
+pub value-not-imported : (A B : Type 0) (c : Collection) (old now : Scope) (n : Name) (v : ValueType) (f : EncodeFault) → WritesFor c 0 (PartOf c (value_resolved c v)) old now → IsRefused {A = A} c (PartOf c (value_resolved c v)) now (Err f) → IsItemNotImported {A = B} c n (kind.TypeItem (ty.Value v)) old (Err f)
 value-not-imported A B c old now n v (fault.Write g) w h = h
 value-not-imported A B c old now n v fault.TooLarge w h = record { scope = now; types = 0; behind = w; large = inl (inl h) }
 value-not-imported A B c old now n v fault.OutOfMemory w h = tt
@@ -245,15 +254,20 @@ function-not-imported A B c old now n g (fault.Write h) w refused = refused
 function-not-imported A B c old now n g fault.TooLarge w refused = record { scope = now; types = 0; behind = w; large = inl refused }
 function-not-imported A B c old now n g fault.OutOfMemory w refused = tt
 
-pub interface-not-imported : (A B : Type 0) (c : Collection) → StaysOnward → (old : Scope) (n : Name) (i : InterfaceId) (f : EncodeFault) → IsInterfaceRefused {A = A} c i (Err f) → IsItemNotImported {A = B} c n (kind.Instance i) old (Err f)
-interface-not-imported A B c stays old n i (fault.Write g) h = h
-interface-not-imported A B c stays old n i fault.TooLarge h = record { scope = old; types = 0; behind = writes-none c stays (NeededBy c (kind.Instance i)) old old (as-it-was old); large = inl (inl h) }
-interface-not-imported A B c stays old n i fault.OutOfMemory h = tt
+pub interface-refused : (A B : Type 0) (c : Collection) (i : InterfaceId) (s : Scope) (f : EncodeFault) → IsInterfaceRefused {A = A} c i (Err f) → IsInstanceRefused {A = B} c i s (Err f)
+interface-refused A B c i s (fault.Write g) h = h
+interface-refused A B c i s fault.TooLarge h = inl h
+interface-refused A B c i s fault.OutOfMemory h = tt
 
-pub instance-not-imported : (A B : Type 0) (c : Collection) → StaysOnward → (old : Scope) (n : Name) (i : InterfaceId) (ds : List Decl) (f : EncodeFault) → WritesInterface c i ds → WritesUnlessTooLarge {A = A} (Err f) (ContentFits (and_type old.content (instance_def (decls ds)))) → IsItemNotImported {A = B} c n (kind.Instance i) old (Err f)
-instance-not-imported A B c stays old n i ds (fault.Write g) written h = absurd h
-instance-not-imported A B c stays old n i ds fault.TooLarge written h = record { scope = old; types = 0; behind = writes-none c stays (NeededBy c (kind.Instance i)) old old (as-it-was old); large = inl (inr (ds, written, h)) }
-instance-not-imported A B c stays old n i ds fault.OutOfMemory written h = tt
+pub instance-too-large : (A B : Type 0) (c : Collection) (i : InterfaceId) (s : Scope) (ds : List Decl) (f : EncodeFault) → WritesInterface c i ds → FitsUnlessTooLarge {A = A} (Err f) (ContentFits (and_type s.content (instance_def (decls ds)))) → IsInstanceRefused {A = B} c i s (Err f)
+instance-too-large A B c i s ds (fault.Write g) written h = absurd h
+instance-too-large A B c i s ds fault.TooLarge written h = inr (ds, written, h)
+instance-too-large A B c i s ds fault.OutOfMemory written h = tt
+
+pub instance-not-imported : (A B : Type 0) (c : Collection) → StaysOnward → (old : Scope) (n : Name) (i : InterfaceId) (f : EncodeFault) → IsInstanceRefused {A = A} c i old (Err f) → IsItemNotImported {A = B} c n (kind.Instance i) old (Err f)
+instance-not-imported A B c stays old n i (fault.Write g) h = h
+instance-not-imported A B c stays old n i fault.TooLarge h = record { scope = old; types = 0; behind = writes-none c stays (NeededBy c (kind.Instance i)) old old (as-it-was old); large = inl h }
+instance-not-imported A B c stays old n i fault.OutOfMemory h = tt
 
 -- where the import does not fit
 pub import-too-large : (A B : Type 0) (c : Collection) (old now : Scope) (n : Name) (item : ItemKind) (types : ℕ) (d : Description) (f : EncodeFault) → WritesFor c types (NeededBy c item) old now → IsImportedAs c old now item d → FitsUnlessTooLarge {A = A} (Err f) (ContentFits (and_import now.content n d)) → IsItemNotImported {A = B} c n item old (Err f)

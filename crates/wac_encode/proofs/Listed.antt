@@ -33,7 +33,7 @@ use Rattle.wac_scopes.specs.Scopes.{Open, Stack, env, envs, opening}
 use Rattle.wac_scopes.specs.Good.{Keeps, IsHeld, Good, Onward, top}
 use Rattle.wac_scopes.specs.Laws.{IsItsEnd, IsRecorded}
 use Rattle.wac_scopes.specs.Listed.{IsUnder, IsNewName, Lists, AreListed, has_own, declaring, ListsOneMore, ListsInAnyOrder, OpensInterface, ClosesInstance, HoldsInterface}
-use Rattle.wac_scopes.specs.Scoped.{value_index, at_index, recorded_value, opened, AddsPrimitive, ListsType, ListsValue, ListsFunction}
+use Rattle.wac_scopes.specs.Scoped.{value_index, at_index, recorded_type, opened, AddsPrimitive, ListsType, ListsValue, ListsFunction}
 use Rattle.wac_scopes.proofs.Values.{primitive-held}
 use Rattle.wac_encode.specs.Written.{GoesOn, with_types, AddsHeldFunc}
 use Rattle.wac_encode.specs.Listing.{SaysInterface, WritesItem, WritesItems, IsEmpty, IsItemRefused, IsStopped}
@@ -113,15 +113,9 @@ listed-more c more it old new es n k had item missing ms st g =
 none-listed : (c : Collection) → OpensInterface → (it : Interface) (s : Scope) → IsEmpty s → HasListed c it s []
 none-listed c opens it s empty ms st g =
     let o : Open = opening (has_own c it) in
-    let memo_same : recorded_value s ≡ (λ v. None) = fun_ext by_value in
+    let memo_same : recorded_type s ≡ (λ a. None) = fun_ext (λ a. ap at_index (empty.types a)) in
     let same : opened s o ≡ o = (λ i. record o { content = content_of (empty.content i); memo = memo_same i }) in
     subst (λ (p : Open). Good c (inside_interface c it (top ms) ∷ ms) (p ∷ st) × AreListed c (inside_interface c it (top ms)) exported [] ((env p (envs st)).exports)) (sym same) (opens c ms st it g)
-  where
-    by_value : (v : ValueType) → recorded_value s v ≡ None
-    by_value (val.Defined d) = ap at_index (empty.values d)
-    by_value (val.Primitive p) = refl
-    by_value (val.Own r) = refl
-    by_value (val.Borrow r) = refl
 
 -- nothing is imported
 
@@ -234,7 +228,7 @@ written-content x y ds same is = sym same ∙ is
 -- the whole
 pub says-interface : (c : Collection) → IsWellFormed c → HoldsInterface → ClosesInstance → ListsInAnyOrder → (i : InterfaceId) (it : Interface) (s : Scope) (ds : List Decl) (order : List (Name × ItemKind)) → item_at c.interfaces i.0 ≡ Some it → ((n : Name) → find_name order n ≡ find_name it.exports n) → HasListed c it s order → s.content ≡ Instance ds → CanClose s.content → SaysInterface c i ds
 says-interface c wf holds closes any i it s ds order at same had is imports m ms o os g =
-    let inner : Open = record (opening (has_own c it)) { memo = recorded_value s } in
+    let inner : Open = record (opening (has_own c it)) { memo = recorded_type s } in
     let h = subst (λ (x : Encodable). Good c (inside_interface c it m ∷ m ∷ ms) (record inner { content = content_of x } ∷ o ∷ os) × AreListed c (inside_interface c it m) exported order ((env (record inner { content = content_of x }) (env o (envs os) ∷ envs os)).exports)) is (had (m ∷ ms) (o ∷ os) g) in
     let items : Name → Tree = (env (declaring ds inner) (env o (envs os) ∷ envs os)).exports in
     let all : AreListed c (inside_interface c it m) exported it.exports items = any c (inside_interface c it m) exported order it.exports items h.1 (λ n. sym (same n)) in

@@ -23,9 +23,9 @@ use Rattle.wac_scopes.specs.declared.fault.WriteFault.TheVariants as write
 use Rattle.wac_scopes.specs.declared.scope.Scope.{Scope}
 use Rattle.wac_scopes.specs.Contents.{and_type, and_export, ContentFits}
 use Rattle.wac_scopes.specs.Laws.{StaysOnward}
-use Rattle.wac_scopes.specs.Scoped.{value_index, by_index, in_use, HasToo, AddsPrimitive, ListsValue, WritesUnlessTooLarge, FitsUnlessTooLarge}
-use Rattle.wac_listing.specs.Made.{MadeOf, itself}
-use Rattle.wac_encode.specs.Written.{WritesFor, HasHandle, IsHandle, IsByRecord, IsRefused, IsOfFunc, AddsHeldFunc, EndsWithFunc, IsFuncRefused}
+use Rattle.wac_scopes.specs.Scoped.{type_index, value_index, by_index, in_use, HasToo, AddsPrimitive, ListsValue, WritesUnlessTooLarge, FitsUnlessTooLarge}
+use Rattle.wac_listing.specs.Made.{itself}
+use Rattle.wac_encode.specs.Written.{PartOf, WritesFor, HasHandle, IsHandle, IsByRecord, IsRefused, IsOfFunc, AddsHeldFunc, IsFuncAt, IsFuncRefused}
 use Rattle.wac_encode.specs.Listing.{NeededBy, own_types, one_if_primitive, IsListedAt, IsDescribed, SameRecords, IsNamedOnce, NamesValue, WritesItem, PrimitiveDoesNotFit, IsItemRefused}
 use Rattle.wac_encode.proofs.Answering.{as-it-was}
 use Rattle.wac_encode.proofs.Stacks.{writes-none}
@@ -35,7 +35,7 @@ abbrev with_export : Scope → Name → Description → Scope
 with_export s n d = record s { content = and_export s.content n d }
 
 same-records : (old new : Scope) (n : Name) (d : Description) → new ≡ with_export old n d → SameRecords old new
-same-records old new n d is k = ap (λ (s : Scope). value_index s k) is
+same-records old new n d is k = ap (λ (s : Scope). type_index s k) is
 
 declared-so : (old new : Scope) (n : Name) (d : Description) → new ≡ with_export old n d → new.content ≡ and_export old.content n d
 declared-so old new n d is = ap (λ (s : Scope). s.content) is
@@ -56,7 +56,7 @@ primitive-wrote c old now new n v p k is adds same lists = record {
   named = subst (λ (w : ValueType). NamesValue old now new n w) (sym is) (same-records now new n (e.Equal k) lists);
 }
 
-pub definition-behind : (c : Collection) (old now : Scope) (v : ValueType) (d : DefinedTypeId) → value_resolved c v ≡ val.Defined d → WritesFor c 0 (MadeOf c (value_resolved c v)) old now → WritesFor c (own_types c (kind.TypeItem (ty.Value v))) (NeededBy c (kind.TypeItem (ty.Value v))) old now
+pub definition-behind : (c : Collection) (old now : Scope) (v : ValueType) (d : DefinedTypeId) → value_resolved c v ≡ val.Defined d → WritesFor c 0 (PartOf c (value_resolved c v)) old now → WritesFor c (own_types c (kind.TypeItem (ty.Value v))) (NeededBy c (kind.TypeItem (ty.Value v))) old now
 definition-behind c old now v d is w = subst (λ (u : ValueType). WritesFor c (one_if_primitive u) (NeededBy c (kind.TypeItem (ty.Value v))) old now) (sym is) w
 
 pub definition-described : (c : Collection) (old now : Scope) (v : ValueType) (d : DefinedTypeId) (k : ℕ) → value_resolved c v ≡ val.Defined d → value_index now d ≡ Some k → IsDescribed c old now (kind.TypeItem (ty.Value v)) (e.Equal k)
@@ -65,7 +65,7 @@ definition-described c old now v d k is at = subst (λ (w : ValueType). IsListed
 pub second-wrote : (c : Collection) → StaysOnward → (old new : Scope) (n : Name) (v : ValueType) (d : DefinedTypeId) (k : ℕ) → value_resolved c v ≡ val.Defined d → value_index old d ≡ Some k → new ≡ record old { content = and_export old.content n (e.Equal k) } → WritesItem c old new n (kind.TypeItem (ty.Value v))
 second-wrote c stays old new n v d k is at lists = record {
   now = old;
-  behind = definition-behind c old old v d is (writes-none c stays (MadeOf c (value_resolved c v)) old old (as-it-was old));
+  behind = definition-behind c old old v d is (writes-none c stays (PartOf c (value_resolved c v)) old old (as-it-was old));
   description = e.Equal k;
   described = definition-described c old old v d k is at;
   appended = declared-so old new n (e.Equal k) lists;
@@ -74,12 +74,12 @@ second-wrote c stays old new n v d k is at lists = record {
 
 -- where nothing is written, a definition that is recorded
 pub still-described : (c : Collection) → StaysOnward → (s : Scope) (v : ValueType) (d : DefinedTypeId) (k : ℕ) → value_resolved c v ≡ val.Defined d → value_index s d ≡ Some k → WritesFor c 0 (NeededBy c (kind.TypeItem (ty.Value v))) s s × IsDescribed c s s (kind.TypeItem (ty.Value v)) (e.Equal k)
-still-described c stays s v d k is at = (writes-none c stays (MadeOf c (value_resolved c v)) s s (as-it-was s), definition-described c s s v d k is at)
+still-described c stays s v d k is at = (writes-none c stays (PartOf c (value_resolved c v)) s s (as-it-was s), definition-described c s s v d k is at)
 
 same-index : (s : Scope) (d : DefinedTypeId) (k i : ℕ) → value_index s d ≡ Some k → value_index s d ≡ Some i → k ≡ i
 same-index s d k i one two = let both : Some k ≡ Some i = sym one ∙ two in cc
 
-pub first-wrote : (c : Collection) (old now new : Scope) (n : Name) (v : ValueType) (d : DefinedTypeId) (k j : ℕ) → value_resolved c v ≡ val.Defined d → value_index old d ≡ None → WritesFor c 0 (MadeOf c (value_resolved c v)) old now → value_index now d ≡ Some k → new.content ≡ and_export now.content n (e.Equal k) → HasToo now d j new → ListsValue now new n d k j → WritesItem c old new n (kind.TypeItem (ty.Value v))
+pub first-wrote : (c : Collection) (old now new : Scope) (n : Name) (v : ValueType) (d : DefinedTypeId) (k j : ℕ) → value_resolved c v ≡ val.Defined d → value_index old d ≡ None → WritesFor c 0 (PartOf c (value_resolved c v)) old now → value_index now d ≡ Some k → new.content ≡ and_export now.content n (e.Equal k) → HasToo now (ty.Value (val.Defined d)) j new → ListsValue now new n d k j → WritesItem c old new n (kind.TypeItem (ty.Value v))
 first-wrote c old now new n v d k j is none w at appended too lists = record {
   now = now;
   behind = definition-behind c old now v d is w;
@@ -89,12 +89,12 @@ first-wrote c old now new n v d k j is none w at appended too lists = record {
   named = subst (λ (u : ValueType). NamesValue old now new n u) (sym is) (subst (λ (o : Option ℕ). IsNamedOnce o now new n d) (sym none) (j, too, λ i also. subst (λ (i' : ℕ). ListsValue now new n d i' j) (same-index now d k i at also) lists));
 }
 
-pub function-wrote : (c : Collection) (old now new : Scope) (n : Name) (f : FuncTypeId) (k : ℕ) → WritesFor c 1 (IsOfFunc c f) old now → AddsHeldFunc c old now f k → EndsWithFunc c f now → new ≡ record now { content = and_export now.content n (e.Func k) } → WritesItem c old new n (kind.Func f)
-function-wrote c old now new n f k w adds ends lists = record {
+pub function-wrote : (c : Collection) (old now new : Scope) (n : Name) (f : FuncTypeId) (k : ℕ) → WritesFor c 0 (IsOfFunc c f) old now → AddsHeldFunc c old now f k → IsFuncAt c f old now k → new ≡ record now { content = and_export now.content n (e.Func k) } → WritesItem c old new n (kind.Func f)
+function-wrote c old now new n f k w adds there lists = record {
   now = now;
   behind = w;
   description = e.Func k;
-  described = (adds, ends);
+  described = (adds, there);
   appended = declared-so now new n (e.Func k) lists;
   named = same-records now new n (e.Func k) lists;
 }
@@ -122,7 +122,7 @@ export-refused A B c old now n k types d fault.TooLarge w described h = record {
 }
 export-refused A B c old now n k types d fault.OutOfMemory w described h = tt
 
-pub value-item-refused : (A B : Type 0) (c : Collection) (old now : Scope) (n : Name) (v : ValueType) (f : EncodeFault) → WritesFor c 0 (MadeOf c (value_resolved c v)) old now → IsRefused {A = A} c (MadeOf c (value_resolved c v)) now (Err f) → IsItemRefused {A = B} c n (kind.TypeItem (ty.Value v)) old (Err f)
+pub value-item-refused : (A B : Type 0) (c : Collection) (old now : Scope) (n : Name) (v : ValueType) (f : EncodeFault) → WritesFor c 0 (PartOf c (value_resolved c v)) old now → IsRefused {A = A} c (PartOf c (value_resolved c v)) now (Err f) → IsItemRefused {A = B} c n (kind.TypeItem (ty.Value v)) old (Err f)
 value-item-refused A B c old now n v (fault.Write g) w h = h
 value-item-refused A B c old now n v fault.TooLarge w h = record { scope = now; types = 0; behind = w; large = inl (inl h) }
 value-item-refused A B c old now n v fault.OutOfMemory w h = tt
@@ -132,7 +132,7 @@ function-item-refused A B c old now n g (fault.Write h) w refused = refused
 function-item-refused A B c old now n g fault.TooLarge w refused = record { scope = now; types = 0; behind = w; large = inl refused }
 function-item-refused A B c old now n g fault.OutOfMemory w refused = tt
 
-pub handle-fault : (c : Collection) (v w : ValueType) → w ≡ value_resolved c v → IsHandle w → (write.UnboundResource ≡ write.UnboundResource) × HasHandle (MadeOf c (value_resolved c v))
+pub handle-fault : (c : Collection) (v w : ValueType) → w ≡ value_resolved c v → IsHandle w → (write.UnboundResource ≡ write.UnboundResource) × HasHandle (PartOf c (value_resolved c v))
 handle-fault c v w is h = (refl, (value_resolved c v, itself, subst IsHandle is h))
 
 pub is-handle : (w : ValueType) → ((r : ResourceId) × (w ≡ val.Own r)) ⊎ ((r : ResourceId) × (w ≡ val.Borrow r)) → IsHandle w

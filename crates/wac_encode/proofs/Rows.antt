@@ -4,10 +4,14 @@ use Rattle.std.specs.List.{AllZip, AllByRecursion}
 use Rattle.std.specs.Borrow.{Bor}
 use Rattle.std.specs.Option.{option_map}
 use Rattle.std.proofs.Common.{refl, ap, ◌∙◌, sym, subst, arith, inl, inr}
+use Rattle.std.proofs.Math.Path.{fun_ext}
 use Rattle.wac_shapes.specs.Name.{Name, option_case}
 use Rattle.wac_shapes.specs.declared.component.FuncType.{FuncType}
 use Rattle.wac_shapes.specs.declared.component.FuncTypeId.{FuncTypeId}
 use Rattle.wac_shapes.specs.declared.component.ValueType.{ValueType}
+use Rattle.wac_shapes.specs.declared.component.DefinedTypeId.{DefinedTypeId}
+use Rattle.wac_shapes.specs.declared.component.ValueType.TheVariants as val
+use Rattle.wac_shapes.specs.declared.component.«Type».{«Type» as AnyType}
 use Rattle.wac_shapes.specs.declared.component.«Type».TheVariants as ty
 use Rattle.wac_collection.specs.declared.collection.Held.{Held}
 use Rattle.wac_collection.specs.Collection.{Collection, IsWellFormed, IsBefore, IsValueBefore, item_at, item_of, and_maybe, seconds, func_values, value_types, holds_value}
@@ -17,22 +21,25 @@ use Rattle.wac_collection.proofs.Growth.{value_within}
 use Rattle.wac_binary.specs.declared.types.ComponentValType.{ComponentValType}
 use Rattle.wac_binary.specs.Items.{TypeDef, func_def}
 use Rattle.wac_binary.specs.Views.{named}
-use Rattle.wac_scopes.specs.Contents.{and_type, ContentFits}
+use Rattle.wac_binary.specs.declared.sorts.Sort.TheVariants as sort
+use Rattle.wac_binary.specs.Indexes.{space}
+use Rattle.wac_scopes.specs.declared.encodable.Encodable.{Encodable}
+use Rattle.wac_scopes.specs.Contents.{and_type, count, ContentFits}
 use Rattle.wac_scopes.specs.Scopes.{Open, Stack, env, envs}
 use Rattle.wac_scopes.specs.Good.{Good}
 use Rattle.wac_scopes.specs.Parts.{Is, IsWrittenFunc}
 use Rattle.wac_scopes.specs.declared.scope.Scope.{Scope}
 use Rattle.wac_scopes.specs.declared.fault.EncodeFault.{EncodeFault}
 use Rattle.wac_scopes.specs.declared.fault.EncodeFault.TheVariants as fault
-use Rattle.wac_scopes.specs.Scoped.{value_index, opened, AddsFunc, WritesUnlessTooLarge}
+use Rattle.wac_scopes.specs.Scoped.{type_index, value_index, by_index, in_use, opened, HasToo, IsAsBefore, IsAt, AddsFunc, FitsUnlessTooLarge}
 use Rattle.wac_scopes.specs.Laws.{Follows, StaysOnward}
 use Rattle.wac_listing.specs.Made.{MadeOf, OneIsMadeOf}
-use Rattle.wac_encode.specs.Written.{Says, MaybeSays, IsByRecord, MaybeByRecord, GoesOn, IsKnown, unwritten, WritesFor, IsRefused, values_of, IsOfFunc, AddsHeldFunc, IsFuncByRecord, EndsWithFunc, FuncDoesNotFit, IsFuncRefused}
+use Rattle.wac_encode.specs.Written.{Says, MaybeSays, IsByRecord, MaybeByRecord, GoesOn, IsKnown, unwritten, OfValue, PartOf, PartOfOne, WritesFor, IsRefused, values_of, IsOfFunc, AddsHeldFunc, IsFuncByRecord, IsFuncFrom, IsFuncAt, FuncDoesNotFit, IsFuncRefused}
 use Rattle.wac_encode.specs.Tasks.{FieldSays}
 use Rattle.wac_encode.proofs.Saying.{maybe-is, zip-map}
 use Rattle.wac_encode.proofs.Counting.{unwritten-same}
 use Rattle.wac_encode.proofs.Answering.{as-it-was}
-use Rattle.wac_encode.proofs.Stacks.{writes-none, writes-then, one-type}
+use Rattle.wac_encode.proofs.Stacks.{opened-same, writes-none, writes-then, writes-recorded, recorded-there, of-values, one-type}
 use Rattle.wac_encode.proofs.Stepping.{known-more}
 
 -- the second of an entry is one of the seconds
@@ -52,8 +59,8 @@ within-list (y ∷ xs) zero x at = omega arith
 within-list (y ∷ xs) (suc k) x at = let below : k < length xs = within-list xs k x at in omega (arith, below)
 
 -- what one of them is made of is made of one of them
-pub of-one : (c : Collection) (vs : List ValueType) (k : ℕ) (v : ValueType) → slice_get vs k ≡ Some v → (w : ValueType) → MadeOf c (value_resolved c v) w → OneIsMadeOf c vs w
-of-one c vs k v at w made = (k, v, at, made)
+pub of-one : (c : Collection) (vs : List ValueType) (k : ℕ) (v : ValueType) → slice_get vs k ≡ Some v → (a : AnyType) → PartOf c (value_resolved c v) a → PartOfOne c vs a
+of-one c vs k v at = of-values (MadeOf c (value_resolved c v)) (OneIsMadeOf c vs) (λ w made. (k, v, at, made))
 
 pub result-of : (c : Collection) (o : Option ValueType) (vs : List ValueType) (w : ValueType) → OneIsMadeOf c (and_maybe o []) w → OneIsMadeOf c (and_maybe o vs) w
 result-of c None vs w h = let none_some : None ≡ Some h.1 = h.2 in cc
@@ -70,14 +77,18 @@ params-of c (Some v) vs w h = (suc h.0, h.1, h.2, h.3)
 values-are : (c : Collection) (f : FuncTypeId) (x : FuncType) → item_at c.funcs f.0 ≡ Some x → func_values x ≡ values_of c f
 values-are c f x at = ap (λ (o : Option FuncType). option_case o [] func_values) (sym at)
 
-pub params-of-func : (c : Collection) (f : FuncTypeId) (x : FuncType) → item_at c.funcs f.0 ≡ Some x → (w : ValueType) → OneIsMadeOf c (seconds x.params) w → IsOfFunc c f w
-params-of-func c f x at w h = subst (λ (vs : List ValueType). OneIsMadeOf c vs w) (values-are c f x at) (params-of c x.result (seconds x.params) w h)
+of-func : (c : Collection) (f : FuncTypeId) (P : ValueType → Type 0) → ((w : ValueType) → P w → OneIsMadeOf c (values_of c f) w) → (a : AnyType) → OfValue P a → IsOfFunc c f a
+of-func c f P ok (ty.Value w) h = ok w h
+of-func c f P ok a h = absurd h
 
-pub result-of-func : (c : Collection) (f : FuncTypeId) (x : FuncType) → item_at c.funcs f.0 ≡ Some x → (w : ValueType) → OneIsMadeOf c (and_maybe x.result []) w → IsOfFunc c f w
-result-of-func c f x at w h = subst (λ (vs : List ValueType). OneIsMadeOf c vs w) (values-are c f x at) (result-of c x.result (seconds x.params) w h)
+pub params-of-func : (c : Collection) (f : FuncTypeId) (x : FuncType) → item_at c.funcs f.0 ≡ Some x → (a : AnyType) → PartOfOne c (seconds x.params) a → IsOfFunc c f a
+params-of-func c f x at = of-func c f (OneIsMadeOf c (seconds x.params)) (λ w h. subst (λ (vs : List ValueType). OneIsMadeOf c vs w) (values-are c f x at) (params-of c x.result (seconds x.params) w h))
 
-pub one-of : (c : Collection) (o : Option ValueType) (v : ValueType) → o ≡ Some v → (w : ValueType) → MadeOf c (value_resolved c v) w → OneIsMadeOf c (and_maybe o []) w
-one-of c o v is w made = subst (λ (p : Option ValueType). OneIsMadeOf c (and_maybe p []) w) (sym is) (zero, v, refl, made)
+pub result-of-func : (c : Collection) (f : FuncTypeId) (x : FuncType) → item_at c.funcs f.0 ≡ Some x → (a : AnyType) → PartOfOne c (and_maybe x.result []) a → IsOfFunc c f a
+result-of-func c f x at = of-func c f (OneIsMadeOf c (and_maybe x.result [])) (λ w h. subst (λ (vs : List ValueType). OneIsMadeOf c vs w) (values-are c f x at) (result-of c x.result (seconds x.params) w h))
+
+pub one-of : (c : Collection) (o : Option ValueType) (v : ValueType) → o ≡ Some v → (a : AnyType) → PartOf c (value_resolved c v) a → PartOfOne c (and_maybe o []) a
+one-of c o v is = of-values (MadeOf c (value_resolved c v)) (OneIsMadeOf c (and_maybe o [])) (λ w made. subst (λ (p : Option ValueType). OneIsMadeOf c (and_maybe p []) w) (sym is) (zero, v, refl, made))
 
 pub maybe-says : (c : Collection) (s : Scope) (o : Option ValueType) (v : ValueType) (x : ComponentValType) → o ≡ Some v → Says c s v x → MaybeSays c s o (Some x)
 maybe-says c s o v x is h = subst (λ (p : Option ValueType). MaybeSays c s p (Some x)) (sym is) h
@@ -87,8 +98,8 @@ maybe-by-record c s o v x is h = subst (λ (p : Option ValueType). MaybeByRecord
 
 -- a refusal says the same of more
 
-pub refused-as : (A B : Type 0) (c : Collection) (P Q : ValueType → Type 0) (s : Scope) (e : EncodeFault) → ((v : ValueType) → P v → Q v) → IsRefused {A = A} c P s (Err e) → IsRefused {A = B} c Q s (Err e)
-refused-as A B c P Q s (fault.Write f) ok h = (h.0, (h.1.0, ok h.1.0 h.1.1, h.1.2))
+pub refused-as : (A B : Type 0) (c : Collection) (P Q : AnyType → Type 0) (s : Scope) (e : EncodeFault) → ((a : AnyType) → P a → Q a) → IsRefused {A = A} c P s (Err e) → IsRefused {A = B} c Q s (Err e)
+refused-as A B c P Q s (fault.Write f) ok h = (h.0, (h.1.0, ok (ty.Value h.1.0) h.1.1, h.1.2))
 refused-as A B c P Q s fault.TooLarge ok h = record {
   id = h.id;
   made = ok _ h.made;
@@ -101,27 +112,27 @@ refused-as A B c P Q s fault.TooLarge ok h = record {
 }
 refused-as A B c P Q s fault.OutOfMemory ok h = tt
 
-pub func-refused-as : (A B : Type 0) (c : Collection) (P : ValueType → Type 0) (f : FuncTypeId) (s : Scope) (e : EncodeFault) → ((v : ValueType) → P v → IsOfFunc c f v) → IsRefused {A = A} c P s (Err e) → IsFuncRefused {A = B} c f s (Err e)
+pub func-refused-as : (A B : Type 0) (c : Collection) (P : AnyType → Type 0) (f : FuncTypeId) (s : Scope) (e : EncodeFault) → ((a : AnyType) → P a → IsOfFunc c f a) → IsRefused {A = A} c P s (Err e) → IsFuncRefused {A = B} c f s (Err e)
 func-refused-as A B c P f s (fault.Write g) ok h = refused-as A B c P (IsOfFunc c f) s (fault.Write g) ok h
 func-refused-as A B c P f s fault.TooLarge ok h = inl (refused-as A B c P (IsOfFunc c f) s fault.TooLarge ok h)
 func-refused-as A B c P f s fault.OutOfMemory ok h = tt
 
 -- one more of a row
 
-pub row-written : (c : Collection) → Follows → (es : List (Name × ValueType)) (old now new : Scope) (i : ℕ) (e : Name × ValueType) → slice_get es i ≡ Some e → WritesFor c 0 (OneIsMadeOf c (seconds es)) old now → WritesFor c 0 (MadeOf c (value_resolved c e.1)) now new → WritesFor c 0 (OneIsMadeOf c (seconds es)) old new
-row-written c follows es old now new i e at w u = writes-then c follows 0 0 (OneIsMadeOf c (seconds es)) (MadeOf c (value_resolved c e.1)) old now new w u (OneIsMadeOf c (seconds es)) (λ v m. m) (of-one c (seconds es) i e.1 (second-at es i e at))
+pub row-written : (c : Collection) → Follows → (es : List (Name × ValueType)) (old now new : Scope) (i : ℕ) (e : Name × ValueType) → slice_get es i ≡ Some e → WritesFor c 0 (PartOfOne c (seconds es)) old now → WritesFor c 0 (PartOf c (value_resolved c e.1)) now new → WritesFor c 0 (PartOfOne c (seconds es)) old new
+row-written c follows es old now new i e at w u = writes-then c follows 0 0 (PartOfOne c (seconds es)) (PartOf c (value_resolved c e.1)) old now new w u (PartOfOne c (seconds es)) (λ v m. m) (of-one c (seconds es) i e.1 (second-at es i e at))
 
 pub known-now : (c : Collection) (s : Scope) (v : ValueType) (x : ComponentValType) → IsByRecord c s v x → IsKnown c s v
 known-now c s v x is = subst (λ (o : Option ComponentValType). IsSome o) (sym is) refl
 
 -- what a row of value types has come to
 abbrev pub RowSoFar : Collection → List (Name × ValueType) → Scope → Scope → ℕ → Type 0
-RowSoFar c es old now i = WritesFor c 0 (OneIsMadeOf c (seconds es)) old now × ((k : ℕ) (e : Name × ValueType) → k < i → slice_get es k ≡ Some e → IsKnown c now e.1)
+RowSoFar c es old now i = WritesFor c 0 (PartOfOne c (seconds es)) old now × ((k : ℕ) (e : Name × ValueType) → k < i → slice_get es k ≡ Some e → IsKnown c now e.1)
 
 pub row-starts : (c : Collection) → StaysOnward → (es : List (Name × ValueType)) (s : Scope) → RowSoFar c es s s 0
-row-starts c stays es s = (writes-none c stays (OneIsMadeOf c (seconds es)) s s (as-it-was s), λ k e less at. absurd (omega (arith, less)))
+row-starts c stays es s = (writes-none c stays (PartOfOne c (seconds es)) s s (as-it-was s), λ k e less at. absurd (omega (arith, less)))
 
-pub row-further : (c : Collection) → Follows → (es : List (Name × ValueType)) (old now new : Scope) (i : ℕ) (e : Name × ValueType) → slice_get es i ≡ Some e → RowSoFar c es old now i → WritesFor c 0 (MadeOf c (value_resolved c e.1)) now new → IsKnown c new e.1 → RowSoFar c es old new (i + 1)
+pub row-further : (c : Collection) → Follows → (es : List (Name × ValueType)) (old now new : Scope) (i : ℕ) (e : Name × ValueType) → slice_get es i ≡ Some e → RowSoFar c es old now i → WritesFor c 0 (PartOf c (value_resolved c e.1)) now new → IsKnown c new e.1 → RowSoFar c es old new (i + 1)
 row-further c follows es old now new i e at so_far w known = (row-written c follows es old now new i e at so_far.0 w, λ k x less there. by_place k x less there (nat_eq k i) refl)
   where
     by_place : (k : ℕ) (x : Name × ValueType) → k < i + 1 → slice_get es k ≡ Some x → (b : Bool) → nat_eq k i ≡ b → IsKnown c new x.1
@@ -152,6 +163,14 @@ held-params c wf f x at k e is = let there = behind-result x.result (seconds x.p
 pub held-result : (c : Collection) → IsWellFormed c → (f : FuncTypeId) (x : FuncType) → item_at c.funcs f.0 ≡ Some x → (v : ValueType) → x.result ≡ Some v → holds_value c v ≡ true
 held-result c wf f x at v is = held-values c wf f x at zero v (ap (λ (o : Option ValueType). slice_get (and_maybe o (seconds x.params)) 0) is)
 
+pub held-func : (c : Collection) (f : FuncTypeId) (x : FuncType) → item_at c.funcs f.0 ≡ Some x → f.0 < length c.funcs
+held-func c f x at = by_item c.funcs f.0 at
+  where
+    by_item : (hs : List (Held FuncType)) (k : ℕ) → item_at hs k ≡ Some x → k < length hs
+    by_item [] k is = let none_some : None ≡ Some x = is in cc
+    by_item (h ∷ hs) zero is = omega arith
+    by_item (h ∷ hs) (suc k) is = let below : k < length hs = by_item hs k is in omega (arith, below)
+
 -- a function type
 
 pub func-says : (c : Collection) (s : Scope) (x : FuncType) (a : Bool) (ys : List (Bor (List ℕ) × ComponentValType)) (y : Option ComponentValType) → a ≡ x.is_async → AllZip (FieldSays c s) x.params ys → MaybeSays c s x.result y → (m : Bindings) (ms : List Bindings) (o : Open) (os : Stack) → Good c (m ∷ ms) (opened s o ∷ os) → IsWrittenFunc c m (env (opened s o) (envs os)) x (func_def a (named ys) y)
@@ -160,25 +179,20 @@ func-says c s x a ys y is z r m ms o os g = (is, zip-map (FieldSays c s) (λ e u
 pub func-by-record : (c : Collection) (s : Scope) (x : FuncType) (a : Bool) (ys : List (Bor (List ℕ) × ComponentValType)) (y : Option ComponentValType) → AllZip (FieldSays c s) x.params ys → MaybeByRecord c s x.result y → IsFuncByRecord c s x (func_def a (named ys) y)
 func-by-record c s x a ys y z r = (zip-map (FieldSays c s) (λ e u. (u.0 ≡ e.0) × IsByRecord c s e.1 u.1) (λ u. (u.0.now, u.1)) (λ e u h. (h.0, h.2)) x.params ys z, r)
 
-abbrev with_type : Scope → TypeDef → Scope
-with_type s y = record s { content = and_type s.content y }
-
--- a definition that is no value type
-pub writes-type : (c : Collection) (P : ValueType → Type 0) (old new : Scope) (y : TypeDef) → new ≡ with_type old y → GoesOn c old new → WritesFor c 1 P old new
+-- a type of which nothing is recorded
+pub writes-type : (c : Collection) (P : AnyType → Type 0) (old new : Scope) (y : TypeDef) → new ≡ record old { content = and_type old.content y } → GoesOn c old new → WritesFor c 1 P old new
 writes-type c P old new y is on = record {
   onward = on;
   types = y ∷ [];
   appended = ap (λ (s : Scope). s.content) is ∙ one-type old.content y;
-  kept = λ d i h. ap (λ (s : Scope). value_index s d) is ∙ h;
-  needed = λ d i none some. let both : None ≡ Some i = sym none ∙ sym (ap (λ (s : Scope). value_index s d) is) ∙ some in cc;
-  later = λ d i none some. let both : None ≡ Some i = sym none ∙ sym (ap (λ (s : Scope). value_index s d) is) ∙ some in cc;
-  once =
-      let same : unwritten new (length c.defined) ≡ unwritten old (length c.defined) = unwritten-same old new (length c.defined) (λ k l. ap (λ (s : Scope). value_index s (record { 0 = k })) is) in
-      omega (arith, same);
+  kept = λ a i h. ap (λ (s : Scope). type_index s a) is ∙ h;
+  needed = λ a i none some. let both : None ≡ Some i = sym none ∙ sym (ap (λ (s : Scope). type_index s a) is) ∙ some in cc;
+  later = λ a i none some. let both : None ≡ Some i = sym none ∙ sym (ap (λ (s : Scope). type_index s a) is) ∙ some in cc;
+  once = let same : unwritten c new ≡ unwritten c old = unwritten-same c old new (λ a. ap (λ (s : Scope). type_index s a) is) in omega (arith, same);
 }
 
-pub adds-held : (c : Collection) → IsWellFormed c → (old new : Scope) (f : FuncTypeId) (x : FuncType) (y : TypeDef) (k : ℕ) → item_at c.funcs f.0 ≡ Some x → ((m : Bindings) (ms : List Bindings) (o : Open) (os : Stack) → Good c (m ∷ ms) (opened old o ∷ os) → IsWrittenFunc c m (env (opened old o) (envs os)) x y) → AddsFunc old new y k → AddsHeldFunc c old new f k
-adds-held c wf old new f x y k at says adds m ms o os g = adds c wf m ms o os f x g at (says m ms o os g)
+pub adds-held : (c : Collection) → IsWellFormed c → (old new : Scope) (f : FuncTypeId) (x : FuncType) (y : TypeDef) (k : ℕ) → item_at c.funcs f.0 ≡ Some x → ((m : Bindings) (ms : List Bindings) (o : Open) (os : Stack) → Good c (m ∷ ms) (opened old o ∷ os) → IsWrittenFunc c m (env (opened old o) (envs os)) x y) → AddsFunc old new f y k → AddsHeldFunc c old new f k
+adds-held c wf old new f x y k at says adds m ms o os g = adds c wf m ms o os x g at (says m ms o os g)
 
 pub func-onward : (c : Collection) (old new : Scope) (f : FuncTypeId) (k : ℕ) → AddsHeldFunc c old new f k → GoesOn c old new
 func-onward c old new f k adds m ms o os g = (adds m ms o os g).3.0
@@ -194,26 +208,64 @@ pub adds-when : (c : Collection) → Follows → (old now new : Scope) (f : Func
 adds-when c follows old now new f (Ok k) on adds = adds-after c follows old now new f k on adds
 adds-when c follows old now new f (Err e) on adds = tt
 
-pub ends-with : (c : Collection) (f : FuncTypeId) (x : FuncType) (y : TypeDef) (old new : Scope) → item_at c.funcs f.0 ≡ Some x → new ≡ with_type old y → IsFuncByRecord c old x y → EndsWithFunc c f new
-ends-with c f x y old new at is h = subst (λ (s : Scope). EndsWithFunc c f s) (sym is) (x, at, old.content, y, refl, still y h)
-  where
-    still : (z : TypeDef) → IsFuncByRecord c old x z → IsFuncByRecord c (with_type old y) x z
-    still z k = k
+in-use-same : (old new : Scope) → ((d : DefinedTypeId) → value_index new d ≡ value_index old d) → (v : ValueType) → in_use new v ≡ in_use old v
+in-use-same old new same (val.Defined d) = ap by_index (same d)
+in-use-same old new same (val.Primitive p) = refl
+in-use-same old new same (val.Own r) = refl
+in-use-same old new same (val.Borrow r) = refl
 
-pub put-adds : (c : Collection) → IsWellFormed c → (old new : Scope) (f : FuncTypeId) (x : FuncType) (ys : List (Bor (List ℕ) × ComponentValType)) (y : Option ComponentValType) (k : ℕ) → item_at c.funcs f.0 ≡ Some x → AllZip (FieldSays c old) x.params ys → MaybeSays c old x.result y → AddsFunc old new (func_def x.is_async (named ys) y) k → AddsHeldFunc c old new f k
+maybe-still : (c : Collection) (old new : Scope) → ((d : DefinedTypeId) → value_index new d ≡ value_index old d) → (o : Option ValueType) (y : Option ComponentValType) → MaybeByRecord c old o y → MaybeByRecord c new o y
+maybe-still c old new same None None h = tt
+maybe-still c old new same (Some v) (Some x) h = in-use-same old new same (value_resolved c v) ∙ h
+maybe-still c old new same None (Some x) h = absurd h
+maybe-still c old new same (Some v) None h = absurd h
+
+by-record-still : (c : Collection) (old new : Scope) → ((d : DefinedTypeId) → value_index new d ≡ value_index old d) → (x : FuncType) (y : TypeDef) → IsFuncByRecord c old x y → IsFuncByRecord c new x y
+by-record-still c old new same x (func_def a xs y) h = (
+  subst (λ (taken : ValueType → Option ComponentValType). AllZip (λ (v : Name × ValueType) (z : Name × ComponentValType). (z.0 ≡ v.0) × (taken (value_resolved c v.1) ≡ Some z.1)) x.params xs) (sym (fun_ext (in-use-same old new same))) h.0,
+  maybe-still c old new same x.result y h.1,
+)
+by-record-still c old new same x y h = absurd h
+
+pub ends-with : (c : Collection) (f : FuncTypeId) (x : FuncType) (y : TypeDef) (k : ℕ) (old new : Scope) → item_at c.funcs f.0 ≡ Some x → type_index old (ty.Func f) ≡ None → new.content ≡ and_type old.content y → HasToo old (ty.Func f) k new → IsFuncByRecord c old x y → IsFuncAt c f old new k
+ends-with c f x y k old new at none is too h = subst (λ (o : Option ℕ). IsFuncFrom o c f old new k) (sym none) (recorded-there (ty.Func f) k old new too, (x, at, old.content, y, is, by-record-still c old new (λ d. too.types (ty.Value (val.Defined d))) x y h))
+
+pub put-adds : (c : Collection) → IsWellFormed c → (old new : Scope) (f : FuncTypeId) (x : FuncType) (ys : List (Bor (List ℕ) × ComponentValType)) (y : Option ComponentValType) (k : ℕ) → item_at c.funcs f.0 ≡ Some x → AllZip (FieldSays c old) x.params ys → MaybeSays c old x.result y → AddsFunc old new f (func_def x.is_async (named ys) y) k → AddsHeldFunc c old new f k
 put-adds c wf old new f x ys y k at z r adds = adds-held c wf old new f x (func_def x.is_async (named ys) y) k at (func-says c old x x.is_async ys y refl z r) adds
 
-pub put-writes : (c : Collection) (P : ValueType → Type 0) (old new : Scope) (f : FuncTypeId) (y : TypeDef) (k : ℕ) → new ≡ with_type old y → AddsHeldFunc c old new f k → WritesFor c 1 P old new
-put-writes c P old new f y k is adds = writes-type c P old new y is (func-onward c old new f k adds)
+pub put-writes : (c : Collection) → Follows → StaysOnward → (old new : Scope) (f : FuncTypeId) (y : TypeDef) (k : ℕ) → f.0 < length c.funcs → type_index old (ty.Func f) ≡ None → HasToo old (ty.Func f) k new → k ≡ count (space sort.«Type») old.content → new.content ≡ and_type old.content y → AddsHeldFunc c old new f k → WritesFor c 0 (IsOfFunc c f) old new
+put-writes c follows stays old new f y k held none too index is adds = writes-recorded c follows 0 (IsOfFunc c f) old old new (ty.Func f) k y (writes-none c stays (IsOfFunc c f) old old (as-it-was old)) refl held none (func-onward c old new f k adds) too index is
 
-pub put-refused : (A B : Type 0) (c : Collection) (old new : Scope) (f : FuncTypeId) (x : FuncType) (ys : List (Bor (List ℕ) × ComponentValType)) (y : Option ComponentValType) (e : EncodeFault) → item_at c.funcs f.0 ≡ Some x → AllZip (FieldSays c old) x.params ys → MaybeSays c old x.result y → new ≡ old → WritesUnlessTooLarge {A = A} (Err e) (ContentFits (and_type old.content (func_def x.is_async (named ys) y))) → IsFuncRefused {A = B} c f new (Err e)
+-- as long as value types alone are written, it is not recorded
+pub still-unwritten : (c : Collection) (n : ℕ) (P : ValueType → Type 0) (old new : Scope) (f : FuncTypeId) → WritesFor c n (OfValue P) old new → type_index old (ty.Func f) ≡ None → type_index new (ty.Func f) ≡ None
+still-unwritten c n P old new f w none = by_now (type_index new (ty.Func f)) refl
+  where
+    by_now : (o : Option ℕ) → type_index new (ty.Func f) ≡ o → type_index new (ty.Func f) ≡ None
+    by_now None is = is
+    by_now (Some i) is = absurd (w.needed (ty.Func f) i none is)
+
+-- what is said of the scope before value types were written
+pub at-func-after : (c : Collection) (f : FuncTypeId) (old now new : Scope) (r : Result ℕ EncodeFault) → type_index old (ty.Func f) ≡ None → type_index now (ty.Func f) ≡ None → IfOk r (IsFuncAt c f now new) → IfOk r (IsFuncAt c f old new)
+at-func-after c f old now new (Ok k) none none_now h = subst (λ (o : Option ℕ). IsFuncFrom o c f old new k) (sym none) (subst (λ (o : Option ℕ). IsFuncFrom o c f now new k) none_now h)
+at-func-after c f old now new (Err e) none none_now h = tt
+
+-- where it is recorded
+pub func-there : (c : Collection) → StaysOnward → (s : Scope) (f : FuncTypeId) (k : ℕ) → IsAt s (ty.Func f) k → AddsHeldFunc c s s f k
+func-there c stays s f k at m ms o os g = let r = at c m ms o os g in (r.0, r.1, r.2, (stays c (m ∷ ms) (opened s o ∷ os) g, r.3))
+
+pub func-at-there : (c : Collection) (s : Scope) (f : FuncTypeId) (k : ℕ) → type_index s (ty.Func f) ≡ Some k → IsFuncAt c f s s k
+func-at-there c s f k at = subst (λ (o : Option ℕ). IsFuncFrom o c f s s k) (sym at) (refl, refl)
+
+pub put-refused : (A B : Type 0) (c : Collection) (old new : Scope) (f : FuncTypeId) (x : FuncType) (ys : List (Bor (List ℕ) × ComponentValType)) (y : Option ComponentValType) (e : EncodeFault) → item_at c.funcs f.0 ≡ Some x → AllZip (FieldSays c old) x.params ys → MaybeSays c old x.result y → IsAsBefore old new → FitsUnlessTooLarge {A = A} (Err e) (ContentFits (and_type old.content (func_def x.is_async (named ys) y))) → IsFuncRefused {A = B} c f new (Err e)
 put-refused A B c old new f x ys y (fault.Write g) at z r is h = absurd h
 put-refused A B c old new f x ys y fault.TooLarge at z r is h =
-    let d : FuncDoesNotFit c f old = record {
+    let written : TypeDef = func_def x.is_async (named ys) y in
+    let says = func-says c old x x.is_async ys y refl z r in
+    let d : FuncDoesNotFit c f new = record {
       func = x;
       found = at;
-      written = func_def x.is_async (named ys) y;
-      says = func-says c old x x.is_async ys y refl z r;
-      large = h;
-    } in inr (subst (λ (s : Scope). FuncDoesNotFit c f s) (sym is) d)
+      written = written;
+      says = λ m ms o os. subst (λ (p : Open). Good c (m ∷ ms) (p ∷ os) → IsWrittenFunc c m (env p (envs os)) x written) (sym (opened-same old new is o)) (says m ms o os);
+      large = λ fits. h (subst (λ (e : Encodable). ContentFits (and_type e written)) is.content fits);
+    } in inr d
 put-refused A B c old new f x ys y fault.OutOfMemory at z r is h = tt

@@ -1,5 +1,5 @@
 -- Good stacks go on as definitions are written.
-use Rattle.std.specs.Prelude.{ℕ, suc, ◌+◌, ◌<◌, ◌≤◌, ◌≡◌, cond, nat_eq, Bool, true, false, List, [], ◌∷◌, ◌++◌, length, map, Option, Some, None, Result, Ok, Err, IfOk}
+use Rattle.std.specs.Prelude.{ℕ, suc, ◌+◌, ◌<◌, ◌≤◌, ◌≡◌, cond, Bool, true, false, List, [], ◌∷◌, ◌++◌, length, map, Option, Some, None, Err}
 use Rattle.std.proofs.Common.{refl, ap, ◌∙◌, sym, subst, arith, length-append, zero-add}
 use Rattle.std.proofs.Math.Path.{fun_ext}
 use Rattle.std.proofs.lemmas.List.{append-nil, append_assoc}
@@ -7,6 +7,11 @@ use Rattle.wac_shapes.specs.declared.component.DefinedType.{DefinedType}
 use Rattle.wac_shapes.specs.declared.component.DefinedTypeId.{DefinedTypeId}
 use Rattle.wac_shapes.specs.declared.component.ValueType.{ValueType}
 use Rattle.wac_shapes.specs.declared.component.ValueType.TheVariants as val
+use Rattle.wac_shapes.specs.declared.component.«Type».{«Type» as AnyType}
+use Rattle.wac_shapes.specs.declared.component.«Type».TheVariants as ty
+use Rattle.wac_shapes.specs.declared.component.ItemKind.TheVariants as kind
+use Rattle.wac_collection.specs.Uses.{same_type}
+use Rattle.wac_collection.proofs.Ids.{same_type-true, same_item-refl}
 use Rattle.wac_collection.specs.Collection.{Collection, IsWellFormed, item_at}
 use Rattle.wac_binary.specs.declared.sorts.Sort.TheVariants as sort
 use Rattle.wac_binary.specs.Indexes.{space, indexes, declared}
@@ -20,23 +25,17 @@ use Rattle.wac_scopes.specs.Contents.{content_of, and_type, count, ContentFits}
 use Rattle.wac_scopes.specs.Scopes.{Open, env, envs}
 use Rattle.wac_scopes.specs.Good.{Good, Onward}
 use Rattle.wac_scopes.specs.Parts.{IsWritten}
-use Rattle.wac_scopes.specs.Scoped.{value_index, at_index, recorded_value, opened, IsAsBefore, HasToo, AddsValue, WritesUnlessTooLarge, FitsUnlessTooLarge, RecordsUnlessTooLarge}
+use Rattle.wac_scopes.specs.Scoped.{type_index, value_index, at_index, recorded_type, opened, IsAsBefore, HasToo, AddsValue, WritesUnlessTooLarge, FitsUnlessTooLarge, RecordsUnlessTooLarge}
 use Rattle.wac_scopes.specs.Laws.{Follows, StaysOnward}
-use Rattle.wac_encode.specs.Written.{SaysDefinition, GoesOn, WritesFor, unwritten, with_types}
+use Rattle.wac_encode.specs.Written.{OfValue, SaysDefinition, GoesOn, WritesFor, unwritten, with_types}
 use Rattle.wac_encode.specs.Tasks.{WritesOne, IsOneRefused}
-use Rattle.wac_encode.proofs.Counting.{unwritten-same, unwritten-less}
+use Rattle.wac_encode.proofs.Counting.{IsCounted, unwritten-same, unwritten-less}
 
 pub opened-same : (old new : Scope) → IsAsBefore old new → (o : Open) → opened new o ≡ opened old o
-opened-same old new h o = let memo_same : recorded_value new ≡ recorded_value old = fun_ext by_value in (λ i. record o { content = content_of (h.content i); memo = memo_same i })
-  where
-    by_value : (v : ValueType) → recorded_value new v ≡ recorded_value old v
-    by_value (val.Defined d) = ap at_index (h.values d)
-    by_value (val.Primitive p) = refl
-    by_value (val.Own r) = refl
-    by_value (val.Borrow r) = refl
+opened-same old new h o = let memo_same : recorded_type new ≡ recorded_type old = fun_ext (λ a. ap at_index (h.types a)) in (λ i. record o { content = content_of (h.content i); memo = memo_same i })
 
 pub as-equal : (old new : Scope) → new ≡ old → IsAsBefore old new
-as-equal old new is = record { content = ap (λ (s : Scope). s.content) is; values = λ k. ap (λ (s : Scope). value_index s k) is }
+as-equal old new is = record { content = ap (λ (s : Scope). s.content) is; types = λ k. ap (λ (s : Scope). type_index s k) is }
 
 pub goes-on-same : (c : Collection) → StaysOnward → (old new : Scope) → IsAsBefore old new → GoesOn c old new
 goes-on-same c stays old new h m ms o os g = subst (λ (p : Open). Onward c (m ∷ ms) (opened old o ∷ os) (p ∷ os)) (sym (opened-same old new h o)) (stays c (m ∷ ms) (opened old o ∷ os) g)
@@ -44,7 +43,7 @@ goes-on-same c stays old new h m ms o os g = subst (λ (p : Open). Onward c (m �
 pub goes-on-twice : (c : Collection) → Follows → (a b d : Scope) → GoesOn c a b → GoesOn c b d → GoesOn c a d
 goes-on-twice c follows a b d p q m ms o os g = let first = p m ms o os g in follows c (m ∷ ms) (opened a o ∷ os) (opened b o ∷ os) (opened d o ∷ os) first (q m ms o os first.0)
 
-pub writes-one : (c : Collection) → IsWellFormed c → (old new : Scope) (d : DefinedTypeId) (x : DefinedType) (y : ValueDef) (k : ℕ) → item_at c.defined d.0 ≡ Some x → SaysDefinition c old x y → AddsValue old new d y k → HasToo old d k new → new.content ≡ and_type old.content (value_def y) → k ≡ count (space sort.«Type») old.content → WritesOne c old new d
+pub writes-one : (c : Collection) → IsWellFormed c → (old new : Scope) (d : DefinedTypeId) (x : DefinedType) (y : ValueDef) (k : ℕ) → item_at c.defined d.0 ≡ Some x → SaysDefinition c old x y → AddsValue old new d y k → HasToo old (ty.Value (val.Defined d)) k new → new.content ≡ and_type old.content (value_def y) → k ≡ count (space sort.«Type») old.content → WritesOne c old new d
 writes-one c wf old new d x y k at says adds too appended index = record {
   onward = λ m ms o os g. (adds c wf m ms o os x g at (says m ms o os g)).3.0;
   index = k;
@@ -108,99 +107,107 @@ still-later x y ys i is behind =
     let same : count (space sort.«Type») y ≡ count (space sort.«Type») (with_types x ys) = ap (count (space sort.«Type»)) is in
     omega (arith, more, same, behind)
 
-pub later-when : (x y : Encodable) (ys : List TypeDef) (r : Result ℕ EncodeFault) → y ≡ with_types x ys → IfOk r (λ k. count (space sort.«Type») y ≤ k) → IfOk r (λ k. count (space sort.«Type») x ≤ k)
-later-when x y ys (Ok k) is behind = still-later x y ys k is behind
-later-when x y ys (Err e) is behind = tt
-
-pub same-index : (s : Scope) (d : DefinedTypeId) (i j : ℕ) → value_index s d ≡ Some i → value_index s d ≡ Some j → i ≡ j
-same-index s d i j one two = let both : Some i ≡ Some j = sym one ∙ two in cc
+pub same-index : (s : Scope) (a : AnyType) (i j : ℕ) → type_index s a ≡ Some i → type_index s a ≡ Some j → i ≡ j
+same-index s a i j one two = let both : Some i ≡ Some j = sym one ∙ two in cc
 
 -- nothing is written
-pub writes-none : (c : Collection) → StaysOnward → (P : ValueType → Type 0) (old new : Scope) → IsAsBefore old new → WritesFor c 0 P old new
+pub writes-none : (c : Collection) → StaysOnward → (P : AnyType → Type 0) (old new : Scope) → IsAsBefore old new → WritesFor c 0 P old new
 writes-none c stays P old new h = record {
   onward = goes-on-same c stays old new h;
   types = [];
   appended = h.content ∙ none-behind old.content;
-  kept = λ d i e. h.values d ∙ e;
-  needed = λ d i none some. let both : None ≡ Some i = sym none ∙ sym (h.values d) ∙ some in cc;
-  later = λ d i none some. let both : None ≡ Some i = sym none ∙ sym (h.values d) ∙ some in cc;
-  once = let n : unwritten new (length c.defined) ≡ unwritten old (length c.defined) = unwritten-same old new (length c.defined) (λ k l. h.values (record { 0 = k })) in omega (arith, n);
+  kept = λ a i e. h.types a ∙ e;
+  needed = λ a i none some. let both : None ≡ Some i = sym none ∙ sym (h.types a) ∙ some in cc;
+  later = λ a i none some. let both : None ≡ Some i = sym none ∙ sym (h.types a) ∙ some in cc;
+  once = let n : unwritten c new ≡ unwritten c old = unwritten-same c old new h.types in omega (arith, n);
 }
 
 -- what is recorded after one more
-pub recorded-now : (d : DefinedTypeId) (i : ℕ) (old new : Scope) → HasToo old d i new → (e : DefinedTypeId) (j : ℕ) → value_index old d ≡ None → value_index old e ≡ Some j → value_index new e ≡ Some j
-recorded-now d i old new too e j none some = by_case (nat_eq d.0 e.0) refl
+pub recorded-now : (a : AnyType) (i : ℕ) (old new : Scope) → HasToo old a i new → (e : AnyType) (j : ℕ) → type_index old a ≡ None → type_index old e ≡ Some j → type_index new e ≡ Some j
+recorded-now a i old new too e j none some = by_case (same_type e a) refl
   where
-    by_case : (b : Bool) → nat_eq d.0 e.0 ≡ b → value_index new e ≡ Some j
-    by_case true same = let id : d ≡ e = (let number : d.0 ≡ e.0 = grind arith in ap (λ (n : ℕ). let it : DefinedTypeId = record { 0 = n } in it) number) in let both : None ≡ Some j = sym none ∙ ap (value_index old) id ∙ some in cc
-    by_case false other = too.values e ∙ ap (λ (b : Bool). cond b (Some i) (value_index old e)) other ∙ some
+    by_case : (b : Bool) → same_type e a ≡ b → type_index new e ≡ Some j
+    by_case true same = let both : None ≡ Some j = sym none ∙ ap (type_index old) (sym (same_type-true e a same)) ∙ some in cc
+    by_case false other = too.types e ∙ ap (λ (b : Bool). cond b (Some i) (type_index old e)) other ∙ some
 
-new-is : (d : DefinedTypeId) (i : ℕ) (old new : Scope) → HasToo old d i new → (e : DefinedTypeId) (j : ℕ) → value_index old e ≡ None → value_index new e ≡ Some j → d ≡ e
-new-is d i old new too e j none some = by_case (nat_eq d.0 e.0) refl
+new-is : (a : AnyType) (i : ℕ) (old new : Scope) → HasToo old a i new → (e : AnyType) (j : ℕ) → type_index old e ≡ None → type_index new e ≡ Some j → a ≡ e
+new-is a i old new too e j none some = by_case (same_type e a) refl
   where
-    by_case : (b : Bool) → nat_eq d.0 e.0 ≡ b → d ≡ e
-    by_case true same = (let number : d.0 ≡ e.0 = grind arith in ap (λ (n : ℕ). let it : DefinedTypeId = record { 0 = n } in it) number)
-    by_case false other = let both : None ≡ Some j = sym none ∙ sym (too.values e ∙ ap (λ (b : Bool). cond b (Some i) (value_index old e)) other) ∙ some in cc
+    by_case : (b : Bool) → same_type e a ≡ b → a ≡ e
+    by_case true same = sym (same_type-true e a same)
+    by_case false other = let both : None ≡ Some j = sym none ∙ sym (too.types e ∙ ap (λ (b : Bool). cond b (Some i) (type_index old e)) other) ∙ some in cc
 
--- one definition more, which is needed
-pub writes-more : (c : Collection) → Follows → (n : ℕ) (P : ValueType → Type 0) (old now new : Scope) (d : DefinedTypeId) → WritesFor c n P old now → P (val.Defined d) → d.0 < length c.defined → value_index now d ≡ None → WritesOne c now new d → WritesFor c n P old new
-writes-more c follows n P old now new d w made held none one = record {
-  onward = goes-on-twice c follows old now new w.onward one.onward;
-  types = w.types ++ one.definition ∷ [];
-  appended = one.appended ∙ ap (λ (x : Encodable). and_type x one.definition) w.appended ∙ one-behind old.content w.types one.definition;
-  kept = λ e i h. recorded-now d one.index now new one.recorded e i none (w.kept e i h);
-  needed = λ e i h k. by_now e i h k (value_index now e) refl;
-  later = λ e i h k. later_now e i h k (value_index now e) refl;
-  once = let less : suc (unwritten new (length c.defined)) ≡ unwritten now (length c.defined) = unwritten-less now new d.0 one.index (length c.defined) held none one.recorded.values in let before : length w.types + unwritten now (length c.defined) ≡ n + unwritten old (length c.defined) = w.once in omega (arith, less, one-longer w.types one.definition, before);
+-- the new one is at its index
+pub recorded-there : (a : AnyType) (i : ℕ) (old new : Scope) → HasToo old a i new → type_index new a ≡ Some i
+recorded-there a i old new too = too.types a ∙ ap (λ (b : Bool). cond b (Some i) (type_index old a)) (same_item-refl (kind.TypeItem a))
+
+-- one type more, which is needed
+pub writes-recorded : (c : Collection) → Follows → (n : ℕ) (P : AnyType → Type 0) (old now new : Scope) (a : AnyType) (k : ℕ) (y : TypeDef) → WritesFor c n P old now → P a → IsCounted c a → type_index now a ≡ None → GoesOn c now new → HasToo now a k new → k ≡ count (space sort.«Type») now.content → new.content ≡ and_type now.content y → WritesFor c n P old new
+writes-recorded c follows n P old now new a k y w made held none on too next appended = record {
+  onward = goes-on-twice c follows old now new w.onward on;
+  types = w.types ++ y ∷ [];
+  appended = appended ∙ ap (λ (x : Encodable). and_type x y) w.appended ∙ one-behind old.content w.types y;
+  kept = λ e i h. recorded-now a k now new too e i none (w.kept e i h);
+  needed = λ e i h some. by_now e i h some (type_index now e) refl;
+  later = λ e i h some. later_now e i h some (type_index now e) refl;
+  once = let less : suc (unwritten c new) ≡ unwritten c now = unwritten-less c now new a k held none too in let before : length w.types + unwritten c now ≡ n + unwritten c old = w.once in omega (arith, less, one-longer w.types y, before);
 }
   where
-    by_now : (e : DefinedTypeId) (i : ℕ) → value_index old e ≡ None → value_index new e ≡ Some i → (o : Option ℕ) → value_index now e ≡ o → P (val.Defined e)
-    by_now e i h k None is = subst (λ (u : DefinedTypeId). P (val.Defined u)) (new-is d one.index now new one.recorded e i is k) made
-    by_now e i h k (Some j) is = w.needed e j h is
+    by_now : (e : AnyType) (i : ℕ) → type_index old e ≡ None → type_index new e ≡ Some i → (o : Option ℕ) → type_index now e ≡ o → P e
+    by_now e i h some None is = subst P (new-is a k now new too e i is some) made
+    by_now e i h some (Some j) is = w.needed e j h is
 
-    later_now : (e : DefinedTypeId) (i : ℕ) → value_index old e ≡ None → value_index new e ≡ Some i → (o : Option ℕ) → value_index now e ≡ o → count (space sort.«Type») old.content ≤ i
-    later_now e i h k None is =
-        let same : d ≡ e = new-is d one.index now new one.recorded e i is k in
-        let index : i ≡ one.index = same-index new e i one.index k (subst (λ (u : DefinedTypeId). value_index new u ≡ Some one.index) same (one.recorded.values d ∙ ap (λ (b : Bool). cond b (Some one.index) (value_index now d)) (let equal : nat_eq d.0 d.0 ≡ true = grind arith in equal))) in
-        subst (λ (n : ℕ). count (space sort.«Type») old.content ≤ n) (sym (index ∙ one.next)) (still-later old.content now.content w.types (count (space sort.«Type») now.content) w.appended (omega arith))
-    later_now e i h k (Some j) is = subst (λ (n : ℕ). count (space sort.«Type») old.content ≤ n) (same-index new e j i (recorded-now d one.index now new one.recorded e j none is) k) (w.later e j h is)
+    later_now : (e : AnyType) (i : ℕ) → type_index old e ≡ None → type_index new e ≡ Some i → (o : Option ℕ) → type_index now e ≡ o → count (space sort.«Type») old.content ≤ i
+    later_now e i h some None is =
+        let same : a ≡ e = new-is a k now new too e i is some in
+        let index : i ≡ k = same-index new e i k some (subst (λ (u : AnyType). type_index new u ≡ Some k) same (recorded-there a k now new too)) in
+        subst (λ (m : ℕ). count (space sort.«Type») old.content ≤ m) (sym (index ∙ next)) (still-later old.content now.content w.types (count (space sort.«Type») now.content) w.appended (omega arith))
+    later_now e i h some (Some j) is = subst (λ (m : ℕ). count (space sort.«Type») old.content ≤ m) (same-index new e j i (recorded-now a k now new too e j none is) some) (w.later e j h is)
+
+pub writes-more : (c : Collection) → Follows → (n : ℕ) (P : AnyType → Type 0) (old now new : Scope) (d : DefinedTypeId) → WritesFor c n P old now → P (ty.Value (val.Defined d)) → d.0 < length c.defined → value_index now d ≡ None → WritesOne c now new d → WritesFor c n P old new
+writes-more c follows n P old now new d w made held none one = writes-recorded c follows n P old now new (ty.Value (val.Defined d)) one.index one.definition w made held none one.onward one.recorded one.next one.appended
 
 -- one after the other, for what both need
-pub writes-then : (c : Collection) → Follows → (k n : ℕ) (P Q : ValueType → Type 0) (old now new : Scope) → WritesFor c k P old now → WritesFor c n Q now new → (R : ValueType → Type 0) → ((v : ValueType) → P v → R v) → ((v : ValueType) → Q v → R v) → WritesFor c (k + n) R old new
+pub writes-then : (c : Collection) → Follows → (k n : ℕ) (P Q : AnyType → Type 0) (old now new : Scope) → WritesFor c k P old now → WritesFor c n Q now new → (R : AnyType → Type 0) → ((a : AnyType) → P a → R a) → ((a : AnyType) → Q a → R a) → WritesFor c (k + n) R old new
 writes-then c follows k n P Q old now new w u R p q = record {
   onward = goes-on-twice c follows old now new w.onward u.onward;
   types = w.types ++ u.types;
   appended = u.appended ∙ ap (λ (x : Encodable). with_types x u.types) w.appended ∙ all-behind old.content w.types u.types;
-  kept = λ d i e. u.kept d i (w.kept d i e);
-  needed = λ d i none some. by_now d i none some (value_index now d) refl;
-  later = λ d i none some. later_now d i none some (value_index now d) refl;
-  once = let one : length w.types + unwritten now (length c.defined) ≡ k + unwritten old (length c.defined) = w.once in let two : length u.types + unwritten new (length c.defined) ≡ n + unwritten now (length c.defined) = u.once in omega (arith, one, two, length-append w.types u.types);
+  kept = λ e i h. u.kept e i (w.kept e i h);
+  needed = λ e i none some. by_now e i none some (type_index now e) refl;
+  later = λ e i none some. later_now e i none some (type_index now e) refl;
+  once = let one : length w.types + unwritten c now ≡ k + unwritten c old = w.once in let two : length u.types + unwritten c new ≡ n + unwritten c now = u.once in omega (arith, one, two, length-append w.types u.types);
 }
   where
-    by_now : (d : DefinedTypeId) (i : ℕ) → value_index old d ≡ None → value_index new d ≡ Some i → (o : Option ℕ) → value_index now d ≡ o → R (val.Defined d)
-    by_now d i none some None is = q (val.Defined d) (u.needed d i is some)
-    by_now d i none some (Some j) is = p (val.Defined d) (w.needed d j none is)
+    by_now : (e : AnyType) (i : ℕ) → type_index old e ≡ None → type_index new e ≡ Some i → (o : Option ℕ) → type_index now e ≡ o → R e
+    by_now e i none some None is = q e (u.needed e i is some)
+    by_now e i none some (Some j) is = p e (w.needed e j none is)
 
-    later_now : (d : DefinedTypeId) (i : ℕ) → value_index old d ≡ None → value_index new d ≡ Some i → (o : Option ℕ) → value_index now d ≡ o → count (space sort.«Type») old.content ≤ i
-    later_now d i none some None is = still-later old.content now.content w.types i w.appended (u.later d i is some)
-    later_now d i none some (Some j) is = subst (λ (n : ℕ). count (space sort.«Type») old.content ≤ n) (same-index new d j i (u.kept d j is) some) (w.later d j none is)
+    later_now : (e : AnyType) (i : ℕ) → type_index old e ≡ None → type_index new e ≡ Some i → (o : Option ℕ) → type_index now e ≡ o → count (space sort.«Type») old.content ≤ i
+    later_now e i none some None is = still-later old.content now.content w.types i w.appended (u.later e i is some)
+    later_now e i none some (Some j) is = subst (λ (m : ℕ). count (space sort.«Type») old.content ≤ m) (same-index new e j i (u.kept e j is) some) (w.later e j none is)
 
-pub writes-behind : (c : Collection) → Follows → (n : ℕ) (P : ValueType → Type 0) (old now new : Scope) → WritesFor c 0 P old now → WritesFor c n P now new → WritesFor c n P old new
+pub writes-behind : (c : Collection) → Follows → (n : ℕ) (P : AnyType → Type 0) (old now new : Scope) → WritesFor c 0 P old now → WritesFor c n P now new → WritesFor c n P old new
 writes-behind c follows n P old now new w u = subst (λ (k : ℕ). WritesFor c k P old new) (zero-add n) (writes-then c follows 0 n P P old now new w u P (λ v m. m) (λ v m. m))
 
-pub writes-as : (c : Collection) (n : ℕ) (P Q : ValueType → Type 0) (old new : Scope) → ((v : ValueType) → P v → Q v) → WritesFor c n P old new → WritesFor c n Q old new
+-- what is said of value types, of types
+pub of-values : (P Q : ValueType → Type 0) → ((v : ValueType) → P v → Q v) → (a : AnyType) → OfValue P a → OfValue Q a
+of-values P Q ok (ty.Value v) h = ok v h
+of-values P Q ok a h = absurd h
+
+pub writes-as : (c : Collection) (n : ℕ) (P Q : AnyType → Type 0) (old new : Scope) → ((a : AnyType) → P a → Q a) → WritesFor c n P old new → WritesFor c n Q old new
 writes-as c n P Q old new ok w = record {
   onward = w.onward;
   types = w.types;
   appended = w.appended;
   kept = w.kept;
-  needed = λ d i none some. ok (val.Defined d) (w.needed d i none some);
+  needed = λ e i none some. ok e (w.needed e i none some);
   later = w.later;
   once = w.once;
 }
 
 -- and nothing more
-pub writes-no-more : (c : Collection) → Follows → StaysOnward → (P : ValueType → Type 0) (old now new : Scope) → WritesFor c 0 P old now → IsAsBefore now new → WritesFor c 0 P old new
+pub writes-no-more : (c : Collection) → Follows → StaysOnward → (P : AnyType → Type 0) (old now new : Scope) → WritesFor c 0 P old now → IsAsBefore now new → WritesFor c 0 P old new
 writes-no-more c follows stays P old now new w h = writes-then c follows 0 0 P P old now new w (writes-none c stays P now new h) P (λ v m. m) (λ v m. m)
 
 pub says-same : (c : Collection) (old new : Scope) (x : DefinedType) (y : ValueDef) → IsAsBefore old new → SaysDefinition c old x y → SaysDefinition c new x y

@@ -1,21 +1,23 @@
 -- Each step leaves the tasks in order, and less to do.
-use Rattle.std.specs.Prelude.{ℕ, suc, ◌+◌, ◌-◌, ◌*◌, ◌<◌, ◌≡◌, cond, nat_eq, Bool, true, false, List, [], ◌∷◌, ◌++◌, length, Option, Some, None, IsSome, slice_get}
+use Rattle.std.specs.Prelude.{ℕ, suc, ◌+◌, ◌-◌, ◌*◌, ◌<◌, ◌≡◌, ◌==◌, cond, nat_eq, Bool, true, false, List, [], ◌∷◌, ◌++◌, length, Option, Some, None, IsSome, slice_get}
 use Rattle.std.specs.List.{AllByRecursion}
 use Rattle.std.proofs.Common.{refl, ap, ◌∙◌, sym, subst, arith}
 use Rattle.wac_shapes.specs.declared.component.DefinedType.{DefinedType}
 use Rattle.wac_shapes.specs.declared.component.DefinedTypeId.{DefinedTypeId}
 use Rattle.wac_shapes.specs.declared.component.ValueType.{ValueType}
 use Rattle.wac_shapes.specs.declared.component.ValueType.TheVariants as val
+use Rattle.wac_shapes.specs.declared.component.«Type».{«Type» as AnyType}
+use Rattle.wac_shapes.specs.declared.component.«Type».TheVariants as ty
 use Rattle.wac_collection.specs.Collection.{Collection, IsWellFormed, item_at}
 use Rattle.wac_collection.specs.Aliases.{value_resolved}
 use Rattle.wac_scopes.specs.declared.scope.Scope.{Scope}
-use Rattle.wac_scopes.specs.Scoped.{value_index, by_index, in_use}
+use Rattle.wac_scopes.specs.Scoped.{type_index, value_index, by_index, in_use}
 use Rattle.wac_scopes.specs.Laws.{Follows}
 use Rattle.wac_encode.specs.declared.task.Task.{Task}
 use Rattle.wac_listing.specs.Made.{MadeOf, parts, part}
-use Rattle.wac_encode.specs.Written.{IsKnown, unwritten}
+use Rattle.wac_encode.specs.Written.{IsKnown, PartOf, unwritten}
 use Rattle.wac_encode.specs.Tasks.{IsReady, IsNext, IsKnownPart, WritesOne, Did, wrote, passed, put_off, Falls, Covers, IsUnderWay}
-use Rattle.wac_encode.proofs.Stacks.{recorded-now, writes-more}
+use Rattle.wac_encode.proofs.Stacks.{recorded-now, recorded-there, writes-more}
 use Rattle.wac_encode.proofs.Counting.{unwritten-less}
 use Rattle.wac_encode.proofs.Below.{next-below}
 
@@ -69,20 +71,20 @@ known-end s s' (val.Defined e) more h = by_index_of (value_index s e) refl h
     by_index_of None is k = let both : false ≡ true = k in cc
     by_index_of (Some j) is k = subst (λ (o : Option ℕ). IsSome (by_index o)) (sym (more e j is)) k
 
-pub known-more : (c : Collection) (s s' : Scope) → ((e : DefinedTypeId) (j : ℕ) → value_index s e ≡ Some j → value_index s' e ≡ Some j) → (v : ValueType) → IsKnown c s v → IsKnown c s' v
-known-more c s s' more v h = known-end s s' (value_resolved c v) more h
+pub known-more : (c : Collection) (s s' : Scope) → ((a : AnyType) (j : ℕ) → type_index s a ≡ Some j → type_index s' a ≡ Some j) → (v : ValueType) → IsKnown c s v → IsKnown c s' v
+known-more c s s' more v h = known-end s s' (value_resolved c v) (λ e. more (ty.Value (val.Defined e))) h
 
 -- a task that waits, as another definition is written
 still-ready : (c : Collection) (s s' : Scope) (d : DefinedTypeId) → value_index s d ≡ None → WritesOne c s s' d → (u : Task) → IsReady c s u → d.0 < u.id.0 → IsReady c s' u
 still-ready c s s' d none one u r below = record {
   held = r.held;
-  unwritten = one.recorded.values u.id ∙ ap (λ (b : Bool). cond b (Some one.index) (value_index s u.id)) (let other : nat_eq d.0 u.id.0 ≡ false = grind arith in other) ∙ r.unwritten;
+  unwritten = one.recorded.types (ty.Value (val.Defined u.id)) ∙ ap (λ (b : Bool). cond b (Some one.index) (value_index s u.id)) (let other : (u.id.0 == d.0) ≡ false = grind arith in other) ∙ r.unwritten;
   plain = r.plain;
-  known = λ x at k v l e. known-more c s s' (λ e j some. recorded-now d one.index s s' one.recorded e j none some) v (r.known x at k v l e);
+  known = λ x at k v l e. known-more c s s' (λ a j some. recorded-now (ty.Value (val.Defined d)) one.index s s' one.recorded a j none some) v (r.known x at k v l e);
 }
 
 now-written : (c : Collection) (s s' : Scope) (d : DefinedTypeId) → WritesOne c s s' d → IsSome (value_index s' d)
-now-written c s s' d one = subst (λ (o : Option ℕ). IsSome o) (sym (one.recorded.values d ∙ ap (λ (b : Bool). cond b (Some one.index) (value_index s d)) (let same : nat_eq d.0 d.0 ≡ true = grind arith in same))) refl
+now-written c s s' d one = subst (λ (o : Option ℕ). IsSome o) (sym (recorded-there (ty.Value (val.Defined d)) one.index s s' one.recorded)) refl
 
 covers-wrote : (c : Collection) (s s' : Scope) (d : DefinedTypeId) (t : Task) (left : List Task) → Covers s d (left ++ t ∷ []) → WritesOne c s s' t.id → Covers s' d left
 covers-wrote c s s' d t [] h one = subst (λ (e : DefinedTypeId). IsSome (value_index s' e)) h (now-written c s s' t.id one)
@@ -119,7 +121,7 @@ pub still-under-way : (c : Collection) → IsWellFormed c → Follows → (d : D
 still-under-way c wf follows d old now new t left next w (wrote one is) =
     let ready : IsReady c now t = all-last (IsReady c now) left t w.ready in
     subst (λ (ts : List Task). IsUnderWay c d old new ts) (sym is) (record {
-      written = writes-more c follows 0 (MadeOf c (val.Defined d)) old now new t.id w.written (all-last (λ (u : Task). MadeOf c (val.Defined d) (val.Defined u.id)) left t w.made) ready.held ready.unwritten one;
+      written = writes-more c follows 0 (PartOf c (val.Defined d)) old now new t.id w.written (all-last (λ (u : Task). MadeOf c (val.Defined d) (val.Defined u.id)) left t w.made) ready.held ready.unwritten one;
       ready = all-both (IsReady c now) (λ (u : Task). t.id.0 < u.id.0) (IsReady c new) (λ (u : Task) r below. still-ready c now new t.id ready.unwritten one u r below) left (all-front (IsReady c now) left t w.ready) (falls-last left t w.falls);
       made = all-front (λ (u : Task). MadeOf c (val.Defined d) (val.Defined u.id)) left t w.made;
       falls = falls-front left t w.falls;
@@ -160,7 +162,7 @@ top_weight (t ∷ []) = task_weight t
 top_weight (t ∷ u ∷ us) = top_weight (u ∷ us)
 
 abbrev pub weight : Collection → Scope → List Task → ℕ
-weight c s ts = unwritten s (length c.defined) * (length c.defined * 18446744073709551616) + top_weight ts
+weight c s ts = unwritten c s * (length c.defined * 18446744073709551616) + top_weight ts
 
 top-last : (ts : List Task) (t : Task) → top_weight (ts ++ t ∷ []) ≡ task_weight t
 top-last [] t = refl
@@ -188,17 +190,17 @@ pub less-to-do : (c : Collection) → IsWellFormed c → (d : DefinedTypeId) (ol
 less-to-do c wf d old now new t left next w (wrote one is) =
     let ready : IsReady c now t = all-last (IsReady c now) left t w.ready in
     let held : t.id.0 < length c.defined = ready.held in
-    let fewer : suc (unwritten new (length c.defined)) ≡ unwritten now (length c.defined) = unwritten-less now new t.id.0 one.index (length c.defined) held ready.unwritten one.recorded.values in
+    let fewer : suc (unwritten c new) ≡ unwritten c now = unwritten-less c now new (ty.Value (val.Defined t.id)) one.index held ready.unwritten one.recorded in
     let small : top_weight left < length c.defined * 18446744073709551616 = top-small (length c.defined) left (omega (arith, held)) (all-as (IsReady c now) (λ (u : Task). u.id.0 < length c.defined) (λ (u : Task) r. r.held) left (all-front (IsReady c now) left t w.ready)) in
-    subst (λ (ts : List Task). weight c new ts < weight c now (left ++ t ∷ [])) (sym is) (subst (λ (n : ℕ). unwritten new (length c.defined) * (length c.defined * 18446744073709551616) + top_weight left < n * (length c.defined * 18446744073709551616) + top_weight (left ++ t ∷ [])) fewer (less-product (unwritten new (length c.defined)) (length c.defined * 18446744073709551616) (top_weight left) (top_weight (left ++ t ∷ [])) small))
+    subst (λ (ts : List Task). weight c new ts < weight c now (left ++ t ∷ [])) (sym is) (subst (λ (n : ℕ). unwritten c new * (length c.defined * 18446744073709551616) + top_weight left < n * (length c.defined * 18446744073709551616) + top_weight (left ++ t ∷ [])) fewer (less-product (unwritten c new) (length c.defined * 18446744073709551616) (top_weight left) (top_weight (left ++ t ∷ [])) small))
 less-to-do c wf d old now new t left next w (passed p at known small same is) =
     let u : Task = record { id = t.id; next = t.next + 1 } in
     let now_top : top_weight (left ++ t ∷ []) ≡ task_weight t = top-last left t in
     let new_top : top_weight (left ++ u ∷ []) ≡ task_weight u = top-last left u in
-    subst (λ (s : Scope). weight c s next < weight c now (left ++ t ∷ [])) (sym same) (subst (λ (ts : List Task). weight c now ts < weight c now (left ++ t ∷ [])) (sym is) (weight-less (unwritten now (length c.defined) * (length c.defined * 18446744073709551616)) (top_weight (left ++ t ∷ [])) (top_weight (left ++ u ∷ [])) (task_weight t) (task_weight u) now_top new_top (passed-less t small)))
+    subst (λ (s : Scope). weight c s next < weight c now (left ++ t ∷ [])) (sym same) (subst (λ (ts : List Task). weight c now ts < weight c now (left ++ t ∷ [])) (sym is) (weight-less (unwritten c now * (length c.defined * 18446744073709551616)) (top_weight (left ++ t ∷ [])) (top_weight (left ++ u ∷ [])) (task_weight t) (task_weight u) now_top new_top (passed-less t small)))
 less-to-do c wf d old now new t left next w (put_off v e at end none plain same is) =
     let u : Task = record { id = e; next = 0 } in
     let below : e.0 < t.id.0 = next-below c wf t v e at end in
     let now_top : top_weight (left ++ t ∷ []) ≡ task_weight t = top-last left t in
     let new_top : top_weight ((left ++ t ∷ []) ++ u ∷ []) ≡ task_weight u = top-last (left ++ t ∷ []) u in
-    subst (λ (s : Scope). weight c s next < weight c now (left ++ t ∷ [])) (sym same) (subst (λ (ts : List Task). weight c now ts < weight c now (left ++ t ∷ [])) (two-more left t u ∙ sym is) (weight-less (unwritten now (length c.defined) * (length c.defined * 18446744073709551616)) (top_weight (left ++ t ∷ [])) (top_weight ((left ++ t ∷ []) ++ u ∷ [])) (task_weight t) (task_weight u) now_top new_top (lower-less t e.0 below)))
+    subst (λ (s : Scope). weight c s next < weight c now (left ++ t ∷ [])) (sym same) (subst (λ (ts : List Task). weight c now ts < weight c now (left ++ t ∷ [])) (two-more left t u ∙ sym is) (weight-less (unwritten c now * (length c.defined * 18446744073709551616)) (top_weight (left ++ t ∷ [])) (top_weight ((left ++ t ∷ []) ++ u ∷ [])) (task_weight t) (task_weight u) now_top new_top (lower-less t e.0 below)))

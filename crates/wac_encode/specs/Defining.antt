@@ -23,9 +23,9 @@ use Rattle.wac_scopes.specs.declared.fault.WriteFault.TheVariants as write
 use Rattle.wac_scopes.specs.declared.scope.Scope.{Scope}
 use Rattle.wac_scopes.specs.Contents.{items_of}
 use Rattle.wac_scopes.specs.Good.{nothing_bound}
-use Rattle.wac_encode.specs.Written.{WritesFor, HasHandle, AddsHeldFunc, EndsWithFunc}
-use Rattle.wac_encode.specs.Listing.{lists_plain, NeededBy, IsListedAt, TypeDoesNotFit, IsInterfaceRefused}
-use Rattle.wac_encode.specs.Importing.{types_before, NamesImport}
+use Rattle.wac_encode.specs.Written.{WritesFor, HasHandle, AddsHeldFunc, IsFuncAt}
+use Rattle.wac_encode.specs.Listing.{lists_plain, NeededBy, own_types, IsListedAt, TypeDoesNotFit, IsInterfaceRefused}
+use Rattle.wac_encode.specs.Importing.{NamesImport}
 use Rattle.wac_encode.specs.Components.{HasId, component_tree, IsComponentRefused, EndsWithComponent, ComponentDoesNotFit}
 
 -- whether a type is one that is defined so far: an interface has an id, and its items are of sorts that are written
@@ -57,10 +57,24 @@ item_of_type (ty.Func f) = kind.Func f
 item_of_type (ty.Interface i) = kind.Instance i
 item_of_type t = kind.TypeItem t
 
--- the type index of what is defined, where its types were written since old: a function type was written last, as was an interface's component type
+-- what a definition is made of that is recorded; an interface is written as a component type, and nothing is recorded of it
+abbrev pub MadeFor : Collection → AnyType → AnyType → Type 0
+MadeFor c (ty.Interface i) = λ a. ⊥
+MadeFor c t = NeededBy c (item_of_type t)
+
+-- how many types are written for it that are not recorded
+abbrev pub types_before : Collection → AnyType → ℕ
+types_before c (ty.Interface i) = 1
+types_before c t = own_types c (item_of_type t)
+
+-- nothing but types is written that it is made of
+abbrev pub WritesTypesFor : Collection → AnyType → Scope → Scope → Type 0
+WritesTypesFor c t old new = (types : ℕ) × WritesFor c types (MadeFor c t) old new
+
+-- the type index of what is defined, where its types were written since old: an interface's component type was written last
 abbrev pub IsDefinedAt : Collection → Scope → Scope → AnyType → ℕ → Type 0
 IsDefinedAt c old now (ty.Value v) i = IsListedAt old now (value_resolved c v) i
-IsDefinedAt c old now (ty.Func f) i = AddsHeldFunc c old now f i × EndsWithFunc c f now
+IsDefinedAt c old now (ty.Func f) i = AddsHeldFunc c old now f i × IsFuncAt c f old now i
 IsDefinedAt c old now (ty.Interface i) k = EndsWithComponent c old now i k
 IsDefinedAt c old now t i = ⊥
 
@@ -68,7 +82,7 @@ IsDefinedAt c old now t i = ⊥
 -- that was not recorded before is recorded at the export's own index.
 pub record WritesOnce (c : Collection) (t : AnyType) (n : Name) (old new : Scope) (k : ℕ) : Type 0 where
   pub now : Scope
-  pub behind : WritesFor c (types_before c (item_of_type t)) (NeededBy c (item_of_type t)) old now
+  pub behind : WritesFor c (types_before c t) (MadeFor c t) old now
   pub index : ℕ
   pub defined : IsDefinedAt c old now t index
   pub appended : new.content ≡ Builder (items_of now.content ++ export_item n sort.«Type» index ∷ [])
@@ -87,13 +101,13 @@ DefinedTypeDoesNotFit c t s = TypeDoesNotFit c (item_of_type t) s
 pub record DefinitionDoesNotFit (c : Collection) (t : AnyType) (n : Name) (old : Scope) : Type 0 where
   pub scope : Scope
   pub types : ℕ
-  pub behind : WritesFor c types (NeededBy c (item_of_type t)) old scope
+  pub behind : WritesFor c types (MadeFor c t) old scope
   pub large : DefinedTypeDoesNotFit c t scope ⊎ NameDoesNotFit c t n old scope
 
 -- which fault stands at a definition: a handle, whose resource nothing binds; the fault of the interface's first item that has one
 abbrev pub IsDefinitionFault : Collection → AnyType → WriteFault → Type 0
 IsDefinitionFault c (ty.Interface i) f = IsInterfaceRefused {A = Unit {0}} c i (Err (fault.Write f))
-IsDefinitionFault c t f = (f ≡ write.UnboundResource) × HasHandle (NeededBy c (item_of_type t))
+IsDefinitionFault c t f = (f ≡ write.UnboundResource) × HasHandle (MadeFor c t)
 
 -- what stands where a definition is refused: such a fault, or what does not fit
 abbrev pub IsDefinitionRefused : {A : Type 0} → Collection → AnyType → Name → Scope → Result A EncodeFault → Type 0

@@ -12,6 +12,7 @@ use Rattle.wac_collection.specs.Tree.{imported, Place, position, Tree}
 use Rattle.wac_collection.specs.Collection.{Collection}
 use Rattle.wac_collection.specs.Aliases.{value_resolved}
 use Rattle.wac_collection.specs.Bound.{Bindings, held_tree, held_item}
+use Rattle.wac_binary.specs.HasMeaning.{IsInstance}
 use Rattle.wac_binary.specs.Indexes.{space, described_sort}
 use Rattle.wac_binary.specs.Items.{instance_def, Decl, decls}
 use Rattle.wac_binary.specs.declared.sorts.Description.{Description}
@@ -25,10 +26,10 @@ use Rattle.wac_scopes.specs.declared.fault.WriteFault.{WriteFault}
 use Rattle.wac_scopes.specs.declared.fault.WriteFault.TheVariants as write
 use Rattle.wac_scopes.specs.Contents.{and_type, and_import, count, ContentFits}
 use Rattle.wac_scopes.specs.Scopes.{Open, Stack}
-use Rattle.wac_scopes.specs.Good.{At, Good}
-use Rattle.wac_scopes.specs.Scoped.{value_index, HasToo, opened, root_of, IsNewInRoot, RootImports}
-use Rattle.wac_listing.specs.Made.{MadeOf}
-use Rattle.wac_encode.specs.Written.{WritesFor, HasHandle, IsOfFunc}
+use Rattle.wac_scopes.specs.Good.{At, IsHeld, Good}
+use Rattle.wac_scopes.specs.Laws.{Adds}
+use Rattle.wac_scopes.specs.Scoped.{type_index, value_index, HasToo, opened, root_of, IsNewInRoot, RootImports}
+use Rattle.wac_encode.specs.Written.{PartOf, WritesFor, HasHandle, IsOfFunc}
 use Rattle.wac_encode.specs.Listing.{lists_plain, WritesInterface, NeededBy, own_types, IsDescribed, SameRecords, TypeDoesNotFit, IsInterfaceRefused}
 
 -- whether an item is of a sort that the root imports so far, or that it cannot import: not yet are type items of resources, function types,
@@ -66,26 +67,35 @@ abbrev pub ImportsHeld : Collection → Scope → Scope → Name → ItemKind �
 ImportsHeld c old new n item k = (m : Bindings) (ms : List Bindings) (o : Open) (os : Stack) → Good c (m ∷ ms) (opened old o ∷ os) → IsNewInRoot old n
     → RootImports c (m ∷ ms) old new o os (import_sort item) k n (held_item c m imported (next_place old) item) × IsBoundTo c m new (next_place old) item k
 
--- how many types are written for an import beside the definitions that it is made of
-abbrev pub types_before : Collection → ItemKind → ℕ
-types_before c (kind.Instance i) = 1
-types_before c item = own_types c item
+-- index k is the held interface's, in each stack that was good with the scope as the innermost; and that stack goes onward
+abbrev pub AddsHeldInterface : Collection → Scope → Scope → InterfaceId → ℕ → Type 0
+AddsHeldInterface c old new i k = (m : Bindings) (ms : List Bindings) (o : Open) (os : Stack) → Good c (m ∷ ms) (opened old o ∷ os)
+    → (t : Tree) × IsHeld c m (ty.Interface i) t × IsInstance t × Adds c (m ∷ ms) (opened old o ∷ os) (opened new o ∷ os) k t
 
--- index j is the instance type that was written last, that of the interface
+-- index j is the instance type that was written last, that of the interface, and is recorded
 pub record EndsWithInterface (c : Collection) (old now : Scope) (i : InterfaceId) (j : ℕ) : Type 0 where
   pub declarations : List Decl
   pub written : WritesInterface c i declarations
-  pub appended : now ≡ record old { content = and_type old.content (instance_def (decls declarations)) }
+  pub appended : now.content ≡ and_type old.content (instance_def (decls declarations))
+  pub recorded : HasToo old (ty.Interface i) j now
   pub index : j ≡ count (space sort.«Type») old.content
+
+-- index j is that of the interface: the recorded one, and nothing is written; else it was written last
+abbrev pub IsInterfaceFrom : Option ℕ → Collection → Scope → Scope → InterfaceId → ℕ → Type 0
+IsInterfaceFrom (Some k) c old now i j = (j ≡ k) × (now ≡ old)
+IsInterfaceFrom None c old now i j = EndsWithInterface c old now i j
+
+abbrev pub IsInterfaceAt : Collection → Scope → Scope → InterfaceId → ℕ → Type 0
+IsInterfaceAt c old now i j = IsInterfaceFrom (type_index old (ty.Interface i)) c old now i j
 
 -- what an import is described by, where its types were written since old
 abbrev pub IsImportedAs : Collection → Scope → Scope → ItemKind → Description → Type 0
-IsImportedAs c old now (kind.Instance i) (e.Instance j) = EndsWithInterface c old now i j
+IsImportedAs c old now (kind.Instance i) (e.Instance j) = IsInterfaceAt c old now i j
 IsImportedAs c old now item d = IsDescribed c old now item d
 
 -- a definition that was not written before is recorded at the import's own index, and so written by its name from then on
 abbrev pub IsImportedOnce : Option ℕ → Scope → Scope → DefinedTypeId → ℕ → Type 0
-IsImportedOnce None now new d k = HasToo now d k new
+IsImportedOnce None now new d k = HasToo now (ty.Value (val.Defined d)) k new
 IsImportedOnce (Some i) now new d k = SameRecords now new
 
 abbrev pub NamesImportedValue : Scope → Scope → Scope → ValueType → ℕ → Type 0
@@ -99,7 +109,7 @@ NamesImport c old now new item k = SameRecords now new
 -- From old to new, an item is imported, at index k: what it is made of is written first, once, where it is not written yet.
 pub record WritesImport (c : Collection) (old new : Scope) (n : Name) (item : ItemKind) (k : ℕ) : Type 0 where
   pub now : Scope
-  pub behind : WritesFor c (types_before c item) (NeededBy c item) old now
+  pub behind : WritesFor c (own_types c item) (NeededBy c item) old now
   pub description : Description
   pub described : IsImportedAs c old now item description
   pub appended : new.content ≡ and_import now.content n description
@@ -113,6 +123,11 @@ WritesTypesOf c item old new = (types : ℕ) × WritesFor c types (NeededBy c it
 -- which of an import's types does not fit behind what is written
 abbrev pub InstanceDoesNotFit : Collection → InterfaceId → Scope → Type 0
 InstanceDoesNotFit c i s = (ds : List Decl) × WritesInterface c i ds × (ContentFits (and_type s.content (instance_def (decls ds))) → ⊥)
+
+-- what stands where the interface is not written: its fault, or something does not fit
+abbrev pub IsInstanceRefused : {A : Type 0} → Collection → InterfaceId → Scope → Result A EncodeFault → Type 0
+IsInstanceRefused c i s (Err fault.TooLarge) = IsInterfaceRefused {A = Unit {0}} c i (Err fault.TooLarge) ⊎ InstanceDoesNotFit c i s
+IsInstanceRefused c i s r = IsInterfaceRefused c i r
 
 abbrev pub ImportedTypeDoesNotFit : Collection → ItemKind → Scope → Type 0
 ImportedTypeDoesNotFit c (kind.Instance i) s = IsInterfaceRefused {A = Unit {0}} c i (Err fault.TooLarge) ⊎ InstanceDoesNotFit c i s
@@ -131,7 +146,7 @@ pub record ImportedDoesNotFit (c : Collection) (n : Name) (item : ItemKind) (old
 
 -- which fault stands at an import: a handle, whose resource nothing binds; a core module type; the fault of the interface's first item that has one; a value
 abbrev pub IsImportFault : Collection → ItemKind → WriteFault → Type 0
-IsImportFault c (kind.TypeItem (ty.Value v)) f = (f ≡ write.UnboundResource) × HasHandle (MadeOf c (value_resolved c v))
+IsImportFault c (kind.TypeItem (ty.Value v)) f = (f ≡ write.UnboundResource) × HasHandle (PartOf c (value_resolved c v))
 IsImportFault c (kind.Func g) f = (f ≡ write.UnboundResource) × HasHandle (IsOfFunc c g)
 IsImportFault c (kind.TypeItem (ty.Module m)) f = f ≡ write.ModuleAsType
 IsImportFault c (kind.Instance i) f = IsInterfaceRefused {A = Unit {0}} c i (Err (fault.Write f))

@@ -9,6 +9,7 @@ use Rattle.wac_shapes.specs.declared.component.ItemKind.{ItemKind}
 use Rattle.wac_shapes.specs.declared.component.ItemKind.TheVariants as kind
 use Rattle.wac_shapes.specs.declared.component.ValueType.{ValueType}
 use Rattle.wac_shapes.specs.declared.component.ValueType.TheVariants as val
+use Rattle.wac_shapes.specs.declared.component.«Type».{«Type» as AnyType}
 use Rattle.wac_shapes.specs.declared.component.«Type».TheVariants as ty
 use Rattle.wac_collection.specs.Tree.{Tree}
 use Rattle.wac_collection.specs.Collection.{Collection, item_at}
@@ -28,10 +29,9 @@ use Rattle.wac_scopes.specs.Contents.{and_type, and_export, ContentFits}
 use Rattle.wac_scopes.specs.Scopes.{Open, Stack, next_type, with_def}
 use Rattle.wac_scopes.specs.Good.{IsHeld, Good}
 use Rattle.wac_scopes.specs.Laws.{Adds}
-use Rattle.wac_scopes.specs.Scoped.{value_index, HasToo, AddsPrimitive, ListsValue}
-use Rattle.wac_listing.specs.Made.{MadeOf}
+use Rattle.wac_scopes.specs.Scoped.{type_index, value_index, HasToo, AddsPrimitive, ListsValue}
 use Rattle.wac_listing.specs.Order.{is_type, AreOrdered}
-use Rattle.wac_encode.specs.Written.{WritesFor, HasHandle, DoesNotFit, IsOfFunc, AddsHeldFunc, EndsWithFunc, FuncDoesNotFit}
+use Rattle.wac_encode.specs.Written.{PartOf, WritesFor, HasHandle, DoesNotFit, IsOfFunc, AddsHeldFunc, IsFuncAt, FuncDoesNotFit}
 
 -- closed, these declarations are the held interface, in each good stack, and that stack goes onward
 abbrev pub SaysInterface : Collection → InterfaceId → List Decl → Type 0
@@ -63,20 +63,25 @@ pub record IsOrder (c : Collection) (es order : List (Name × ItemKind)) : Type 
   -- so they are the same items
   pub permutation : IsPermutation es order
 
--- what an item is made of
-abbrev pub NeededBy : Collection → ItemKind → ValueType → Type 0
-NeededBy c (kind.TypeItem (ty.Value v)) w = MadeOf c (value_resolved c v) w
-NeededBy c (kind.Func f) w = IsOfFunc c f w
-NeededBy c k w = ⊥
+-- this interface
+abbrev pub IsInterface : InterfaceId → AnyType → Type 0
+IsInterface i (ty.Interface j) = j ≡ i
+IsInterface i a = ⊥
 
--- how many types are written for an item beside the definitions that it is made of: the primitive of a type item, a function type
+-- what an item is made of
+abbrev pub NeededBy : Collection → ItemKind → AnyType → Type 0
+NeededBy c (kind.TypeItem (ty.Value v)) = PartOf c (value_resolved c v)
+NeededBy c (kind.Func f) = IsOfFunc c f
+NeededBy c (kind.Instance i) = IsInterface i
+NeededBy c k = λ a. ⊥
+
+-- how many types are written for an item that are not recorded: the primitive of a type item
 abbrev pub one_if_primitive : ValueType → ℕ
 one_if_primitive (val.Primitive p) = 1
 one_if_primitive v = 0
 
 abbrev pub own_types : Collection → ItemKind → ℕ
 own_types c (kind.TypeItem (ty.Value v)) = one_if_primitive (value_resolved c v)
-own_types c (kind.Func f) = 1
 own_types c k = 0
 
 -- the type index of a value type that a type item lists: that of a primitive which was written for it, or the one that is recorded
@@ -85,19 +90,19 @@ IsListedAt old now (val.Primitive p) i = AddsPrimitive old now p i × (now.conte
 IsListedAt old now (val.Defined d) i = value_index now d ≡ Some i
 IsListedAt old now v i = ⊥
 
--- what an item is described by, where its types were written since old: a function by the function type that was written last
+-- what an item is described by, where its types were written since old
 abbrev pub IsDescribed : Collection → Scope → Scope → ItemKind → Description → Type 0
 IsDescribed c old now (kind.TypeItem (ty.Value v)) (e.Equal i) = IsListedAt old now (value_resolved c v) i
-IsDescribed c old now (kind.Func f) (e.Func i) = AddsHeldFunc c old now f i × EndsWithFunc c f now
+IsDescribed c old now (kind.Func f) (e.Func i) = AddsHeldFunc c old now f i × IsFuncAt c f old now i
 IsDescribed c old now k d = ⊥
 
 -- the same is recorded
 abbrev pub SameRecords : Scope → Scope → Type 0
-SameRecords old new = (d : DefinedTypeId) → value_index new d ≡ value_index old d
+SameRecords old new = (a : AnyType) → type_index new a ≡ type_index old a
 
 -- a definition that was not written before is recorded at the item's own index, and so written by its name from then on
 abbrev pub IsNamedOnce : Option ℕ → Scope → Scope → Name → DefinedTypeId → Type 0
-IsNamedOnce None now new n d = (j : ℕ) × HasToo now d j new × ((i : ℕ) → value_index now d ≡ Some i → ListsValue now new n d i j)
+IsNamedOnce None now new n d = (j : ℕ) × HasToo now (ty.Value (val.Defined d)) j new × ((i : ℕ) → value_index now d ≡ Some i → ListsValue now new n d i j)
 IsNamedOnce (Some i) now new n d = SameRecords now new
 
 abbrev pub NamesValue : Scope → Scope → Scope → Name → ValueType → Type 0
@@ -125,7 +130,7 @@ WritesItems c old (e ∷ es) new = (now : Scope) × WritesItem c old now e.0 e.1
 -- an instance type in which nothing is written, and nothing recorded
 pub record IsEmpty (s : Scope) : Type 0 where
   pub content : s.content ≡ Instance []
-  pub values : (d : DefinedTypeId) → value_index s d ≡ None
+  pub types : (a : AnyType) → type_index s a ≡ None
 
 -- the declarations list exactly the items of the interface, in order
 pub record WritesInterface (c : Collection) (i : InterfaceId) (ds : List Decl) : Type 0 where
@@ -154,7 +159,7 @@ PrimitiveDoesNotFit (val.Primitive p) s = ContentFits (and_type s.content (value
 PrimitiveDoesNotFit v s = ⊥
 
 abbrev pub TypeDoesNotFit : Collection → ItemKind → Scope → Type 0
-TypeDoesNotFit c (kind.TypeItem (ty.Value v)) s = DoesNotFit c (MadeOf c (value_resolved c v)) s ⊎ PrimitiveDoesNotFit (value_resolved c v) s
+TypeDoesNotFit c (kind.TypeItem (ty.Value v)) s = DoesNotFit c (PartOf c (value_resolved c v)) s ⊎ PrimitiveDoesNotFit (value_resolved c v) s
 TypeDoesNotFit c (kind.Func f) s = DoesNotFit c (IsOfFunc c f) s ⊎ FuncDoesNotFit c f s
 TypeDoesNotFit c k s = ⊥
 
@@ -171,7 +176,7 @@ pub record ItemDoesNotFit (c : Collection) (n : Name) (k : ItemKind) (old : Scop
 
 -- which fault stands at an item: a handle, whose resource nothing binds; a core module type; what an instance type cannot list
 abbrev pub IsItemFault : Collection → ItemKind → WriteFault → Type 0
-IsItemFault c (kind.TypeItem (ty.Value v)) f = (f ≡ write.UnboundResource) × HasHandle (MadeOf c (value_resolved c v))
+IsItemFault c (kind.TypeItem (ty.Value v)) f = (f ≡ write.UnboundResource) × HasHandle (PartOf c (value_resolved c v))
 IsItemFault c (kind.Func g) f = (f ≡ write.UnboundResource) × HasHandle (IsOfFunc c g)
 IsItemFault c (kind.TypeItem (ty.Module m)) f = f ≡ write.ModuleAsType
 IsItemFault c k f = f ≡ write.NestedItem

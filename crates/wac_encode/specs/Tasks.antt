@@ -8,6 +8,7 @@ use Rattle.wac_shapes.specs.declared.component.DefinedType.TheVariants as def
 use Rattle.wac_shapes.specs.declared.component.DefinedTypeId.{DefinedTypeId}
 use Rattle.wac_shapes.specs.declared.component.ValueType.{ValueType}
 use Rattle.wac_shapes.specs.declared.component.ValueType.TheVariants as val
+use Rattle.wac_shapes.specs.declared.component.«Type».TheVariants as ty
 use Rattle.wac_collection.specs.Collection.{Collection, HasDefined, item_at, holds_value}
 use Rattle.wac_collection.specs.Aliases.{target_of, value_resolved}
 use Rattle.wac_binary.specs.declared.types.ComponentValType.{ComponentValType}
@@ -22,7 +23,7 @@ use Rattle.wac_scopes.specs.Contents.{and_type, count, ContentFits}
 use Rattle.wac_scopes.specs.Scoped.{value_index, HasToo}
 use Rattle.wac_encode.specs.declared.task.Task.{Task}
 use Rattle.wac_listing.specs.Made.{MadeOf, parts}
-use Rattle.wac_encode.specs.Written.{Says, MaybeSays, SaysDefinition, GoesOn, IsByRecord, IsKnown, IsHandle, WritesFor}
+use Rattle.wac_encode.specs.Written.{Says, MaybeSays, SaysDefinition, GoesOn, IsByRecord, IsKnown, IsHandle, PartOf, WritesFor}
 
 -- a field and a case as they are written
 abbrev pub FieldSays : Collection → Scope → Name × ValueType → Bor (List ℕ) × ComponentValType → Type 0
@@ -73,7 +74,7 @@ IsKnownPart c s (Some v) = IsKnown c s v
 pub record WritesOne (c : Collection) (old new : Scope) (d : DefinedTypeId) : Type 0 where
   pub onward : GoesOn c old new
   pub index : ℕ
-  pub recorded : HasToo old d index new
+  pub recorded : HasToo old (ty.Value (val.Defined d)) index new
   pub next : index ≡ count (space sort.«Type») old.content
   pub definition : TypeDef
   pub appended : new.content ≡ and_type old.content definition
@@ -126,7 +127,7 @@ Covers s d (t ∷ ts) = t.id ≡ d
 
 -- between two steps
 pub record IsUnderWay (c : Collection) (d : DefinedTypeId) (old now : Scope) (tasks : List Task) : Type 0 where
-  pub written : WritesFor c 0 (MadeOf c (val.Defined d)) old now
+  pub written : WritesFor c 0 (PartOf c (val.Defined d)) old now
   pub ready : AllByRecursion (IsReady c now) tasks
   pub made : AllByRecursion (λ t. MadeOf c (val.Defined d) (val.Defined t.id)) tasks
   pub falls : Falls tasks

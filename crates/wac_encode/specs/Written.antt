@@ -8,6 +8,7 @@ use Rattle.wac_shapes.specs.declared.component.FuncType.{FuncType}
 use Rattle.wac_shapes.specs.declared.component.FuncTypeId.{FuncTypeId}
 use Rattle.wac_shapes.specs.declared.component.ValueType.{ValueType}
 use Rattle.wac_shapes.specs.declared.component.ValueType.TheVariants as val
+use Rattle.wac_shapes.specs.declared.component.«Type».{«Type» as AnyType}
 use Rattle.wac_shapes.specs.declared.component.«Type».TheVariants as ty
 use Rattle.wac_collection.specs.Tree.{Tree, function_item}
 use Rattle.wac_collection.specs.Collection.{Collection, item_at, func_values}
@@ -30,8 +31,8 @@ use Rattle.wac_scopes.specs.Scopes.{Open, Stack, env, envs}
 use Rattle.wac_scopes.specs.Good.{IsHeld, Good, Onward}
 use Rattle.wac_scopes.specs.Laws.{Adds}
 use Rattle.wac_scopes.specs.Parts.{Is, IsWritten, IsWrittenFunc}
-use Rattle.wac_scopes.specs.Scoped.{value_index, in_use, opened, IsNewInRoot, RootImports}
-use Rattle.wac_listing.specs.Made.{OneIsMadeOf}
+use Rattle.wac_scopes.specs.Scoped.{type_index, value_index, in_use, opened, IsNewInRoot, RootImports}
+use Rattle.wac_listing.specs.Made.{MadeOf, OneIsMadeOf}
 
 -- the value type in use is the held one, in each good stack in which the scope is the innermost
 abbrev pub Says : Collection → Scope → ValueType → ComponentValType → Type 0
@@ -68,10 +69,28 @@ abbrev pub one_if_none : Option ℕ → ℕ
 one_if_none None = 1
 one_if_none (Some i) = 0
 
--- of how many definitions below the n-th nothing is recorded
-abbrev pub unwritten : Scope → ℕ → ℕ
-unwritten s zero = 0
-unwritten s (suc n) = one_if_none (value_index s (record { 0 = n })) + unwritten s n
+-- for how many numbers below the n-th there is no index
+abbrev pub missing_below : (ℕ → Option ℕ) → ℕ → ℕ
+missing_below at zero = 0
+missing_below at (suc n) = one_if_none (at n) + missing_below at n
+
+-- how many definitions, function types and interfaces of the collection are not recorded
+abbrev pub unwritten : Collection → Scope → ℕ
+unwritten c s = missing_below (λ n. type_index s (ty.Value (val.Defined (record { 0 = n })))) (length c.defined)
+    + missing_below (λ n. type_index s (ty.Func (record { 0 = n }))) (length c.funcs)
+    + missing_below (λ n. type_index s (ty.Interface (record { 0 = n }))) (length c.interfaces)
+
+-- what is said of value types, as said of types
+abbrev pub OfValue : (ValueType → Type 0) → AnyType → Type 0
+OfValue P (ty.Value v) = P v
+OfValue P a = ⊥
+
+-- what a value type is made of, and what value types are, as types
+abbrev pub PartOf : Collection → ValueType → AnyType → Type 0
+PartOf c v = OfValue (MadeOf c v)
+
+abbrev pub PartOfOne : Collection → List ValueType → AnyType → Type 0
+PartOfOne c vs = OfValue (OneIsMadeOf c vs)
 
 -- type definitions are written behind what was
 abbrev pub with_types : Encodable → List TypeDef → Encodable
@@ -79,26 +98,26 @@ with_types (Builder items) ys = Builder (items ++ map type_item ys)
 with_types (Instance ds) ys = Instance (ds ++ map type_decl ys)
 with_types (Component ds) ys = Component (ds ++ map type_decl ys)
 
--- From old to new, while definitions that are needed were written, and so many function types.
-pub record WritesFor (c : Collection) (n : ℕ) (Needed : ValueType → Type 0) (old new : Scope) : Type 0 where
+-- From old to new, while types that are needed were written, and so many that are not recorded.
+pub record WritesFor (c : Collection) (n : ℕ) (Needed : AnyType → Type 0) (old new : Scope) : Type 0 where
   -- good stacks go onward
   pub onward : GoesOn c old new
   -- type definitions are written, and nothing else is
   pub types : List TypeDef
   pub appended : new.content ≡ with_types old.content types
   -- what was written is written where it was
-  pub kept : (d : DefinedTypeId) (i : ℕ) → value_index old d ≡ Some i → value_index new d ≡ Some i
+  pub kept : (a : AnyType) (i : ℕ) → type_index old a ≡ Some i → type_index new a ≡ Some i
   -- what is written since is needed
-  pub needed : (d : DefinedTypeId) (i : ℕ) → value_index old d ≡ None → value_index new d ≡ Some i → Needed (val.Defined d)
+  pub needed : (a : AnyType) (i : ℕ) → type_index old a ≡ None → type_index new a ≡ Some i → Needed a
   -- and stands behind what was written
-  pub later : (d : DefinedTypeId) (i : ℕ) → value_index old d ≡ None → value_index new d ≡ Some i → count (space sort.«Type») old.content ≤ i
+  pub later : (a : AnyType) (i : ℕ) → type_index old a ≡ None → type_index new a ≡ Some i → count (space sort.«Type») old.content ≤ i
   -- and is written once
-  pub once : length types + unwritten new (length c.defined) ≡ n + unwritten old (length c.defined)
+  pub once : length types + unwritten c new ≡ n + unwritten c old
 
 -- a definition that is needed is not written, and does not fit behind what is
-pub record DoesNotFit (c : Collection) (Needed : ValueType → Type 0) (s : Scope) : Type 0 where
+pub record DoesNotFit (c : Collection) (Needed : AnyType → Type 0) (s : Scope) : Type 0 where
   pub id : DefinedTypeId
-  pub made : Needed (val.Defined id)
+  pub made : Needed (ty.Value (val.Defined id))
   pub unwritten : value_index s id ≡ None
   pub definition : DefinedType
   pub found : item_at c.defined id.0 ≡ Some definition
@@ -112,11 +131,11 @@ IsHandle (val.Borrow r) = Unit {0}
 IsHandle v = ⊥
 
 -- a handle is needed
-abbrev pub HasHandle : (ValueType → Type 0) → Type 0
-HasHandle Needed = (w : ValueType) × Needed w × IsHandle w
+abbrev pub HasHandle : (AnyType → Type 0) → Type 0
+HasHandle Needed = (w : ValueType) × Needed (ty.Value w) × IsHandle w
 
 -- what stands where value types are refused: a handle, whose resource this scope does not bind; a definition that does not fit
-abbrev pub IsRefused : {A : Type 0} → Collection → (ValueType → Type 0) → Scope → Result A EncodeFault → Type 0
+abbrev pub IsRefused : {A : Type 0} → Collection → (AnyType → Type 0) → Scope → Result A EncodeFault → Type 0
 IsRefused c Needed s (Ok x) = Unit {0}
 IsRefused c Needed s (Err (fault.Write f)) = (f ≡ write.UnboundResource) × HasHandle Needed
 IsRefused c Needed s (Err fault.TooLarge) = DoesNotFit c Needed s
@@ -126,9 +145,11 @@ IsRefused c Needed s (Err fault.OutOfMemory) = Unit {0}
 abbrev pub values_of : Collection → FuncTypeId → List ValueType
 values_of c f = option_case (item_at c.funcs f.0) [] func_values
 
--- what they are made of
-abbrev pub IsOfFunc : Collection → FuncTypeId → ValueType → Type 0
-IsOfFunc c f = OneIsMadeOf c (values_of c f)
+-- what they are made of, and the function type itself
+abbrev pub IsOfFunc : Collection → FuncTypeId → AnyType → Type 0
+IsOfFunc c f (ty.Value v) = OneIsMadeOf c (values_of c f) v
+IsOfFunc c f (ty.Func g) = g ≡ f
+IsOfFunc c f a = ⊥
 
 -- index k is the held function type, in each stack that was good with the scope as the innermost; and that stack goes onward
 abbrev pub AddsHeldFunc : Collection → Scope → Scope → FuncTypeId → ℕ → Type 0
@@ -140,9 +161,17 @@ abbrev pub IsFuncByRecord : Collection → Scope → FuncType → TypeDef → Ty
 IsFuncByRecord c s x (func_def is_async xs y) = AllZip (λ v z. (z.0 ≡ v.0) × IsByRecord c s v.1 z.1) x.params xs × MaybeByRecord c s x.result y
 IsFuncByRecord c s x _ = ⊥
 
--- and is what was written last
+-- and was written last
 abbrev pub EndsWithFunc : Collection → FuncTypeId → Scope → Type 0
 EndsWithFunc c f s = (x : FuncType) × (item_at c.funcs f.0 ≡ Some x) × (before : Encodable) × (y : TypeDef) × (s.content ≡ and_type before y) × IsFuncByRecord c s x y
+
+-- index k is that of the function type: the recorded one, and nothing is written; else it was written last, and is recorded
+abbrev pub IsFuncFrom : Option ℕ → Collection → FuncTypeId → Scope → Scope → ℕ → Type 0
+IsFuncFrom (Some i) c f old new k = (k ≡ i) × (new ≡ old)
+IsFuncFrom None c f old new k = (type_index new (ty.Func f) ≡ Some k) × EndsWithFunc c f new
+
+abbrev pub IsFuncAt : Collection → FuncTypeId → Scope → Scope → ℕ → Type 0
+IsFuncAt c f old new k = IsFuncFrom (type_index old (ty.Func f)) c f old new k
 
 -- the function type does not fit behind what is written
 pub record FuncDoesNotFit (c : Collection) (f : FuncTypeId) (s : Scope) : Type 0 where
@@ -157,10 +186,6 @@ abbrev pub IsFuncRefused : {A : Type 0} → Collection → FuncTypeId → Scope 
 IsFuncRefused c f s (Err fault.TooLarge) = DoesNotFit c (IsOfFunc c f) s ⊎ FuncDoesNotFit c f s
 IsFuncRefused c f s r = IsRefused c (IsOfFunc c f) s r
 
-abbrev pub one_if_ok : {A : Type 0} → Result A EncodeFault → ℕ
-one_if_ok (Ok x) = 1
-one_if_ok (Err e) = 0
-
 -- a function of the held function type is imported under a name that is new, in each stack that was good with the root as the innermost; index k is that import
 abbrev pub ImportsHeldFunc : Collection → Scope → Scope → Name → FuncTypeId → ℕ → Type 0
 ImportsHeldFunc c old new n f k = (m : Bindings) (ms : List Bindings) (o : Open) (os : Stack) → Good c (m ∷ ms) (opened old o ∷ os) → IsNewInRoot old n
@@ -169,14 +194,10 @@ ImportsHeldFunc c old new n f k = (m : Bindings) (ms : List Bindings) (o : Open)
 -- the import is written behind the function type
 pub record EndsWithImport (c : Collection) (f : FuncTypeId) (n : Name) (old new : Scope) : Type 0 where
   pub now : Scope
-  pub written : WritesFor c 1 (IsOfFunc c f) old now
-  pub recorded : EndsWithFunc c f now
+  pub written : WritesFor c 0 (IsOfFunc c f) old now
   pub index : ℕ
+  pub recorded : IsFuncAt c f old now index
   pub imported : new ≡ record now { content = and_import now.content n (e.Func index) }
-
--- what is written where it is refused: at most the function type
-abbrev pub WritesFuncAtMost : Collection → FuncTypeId → Scope → Scope → Type 0
-WritesFuncAtMost c f old new = WritesFor c 0 (IsOfFunc c f) old new ⊎ WritesFor c 1 (IsOfFunc c f) old new
 
 -- what stands where an import of a function is refused: what stands where its type is, or the import does not fit
 abbrev pub IsImportRefused : {A : Type 0} → Collection → FuncTypeId → Name → Scope → Result A EncodeFault → Type 0

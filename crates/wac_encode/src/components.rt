@@ -36,7 +36,7 @@ impl<'a> TypeEncoder<'a> {
         };
         let alloc = self.types.allocator();
         let mut scope = Scope::new(alloc, Encodable::Component(ComponentType::new(alloc)));
-        let index = scope.define_instance(&declarations)?;
+        let index = scope.define_instance(interface, &declarations)?;
         scope.export_instance(id, index)?;
         Ok(component_type(scope.into_content()))
     }

@@ -7,8 +7,7 @@ ghost use Rattle.wac_collection.specs.Collection.{HasFunc, HasInterface, holds_t
 ghost use Rattle.wac_collection.specs.Aliases.{value_resolved};
 ghost use Rattle.wac_scopes.specs.Scoped.{value_index};
 ghost use Rattle.wac_scopes.specs.Rooted.{IsRightRoot};
-ghost use Rattle.wac_encode.specs.Importing.{WritesTypesOf};
-ghost use Rattle.wac_encode.specs.Defining.{IsDefinable, WritesDefinition, item_of_type, WritesOnce, IsDefinitionRefused};
+ghost use Rattle.wac_encode.specs.Defining.{IsDefinable, WritesDefinition, WritesTypesFor, WritesOnce, IsDefinitionRefused};
 
 use crate::encoder::TypeEncoder;
 use wac_binary::{ComponentValType, Sort};
@@ -29,7 +28,7 @@ impl<'a> TypeEncoder<'a> {
         ensures definition { IfOk result (WritesDefinition self.now.types.now (ty.Value value) name.now root.old root.new) }
         ensures written { IfOk result (WritesOnce self.now.types.now (ty.Value value) name.now root.old root.new) }
         ensures right { IsRightRoot self.now.types.now root.new }
-        ensures refused { OnErr result (WritesTypesOf self.now.types.now (item_of_type (ty.Value value)) root.old root.new) }
+        ensures refused { OnErr result (WritesTypesFor self.now.types.now (ty.Value value) root.old root.new) }
         ensures fault { IsDefinitionRefused self.now.types.now (ty.Value value) name.now root.old result }
     {
         self.types.law();
@@ -57,7 +56,7 @@ impl<'a> TypeEncoder<'a> {
         ensures definition { IfOk result (WritesDefinition self.now.types.now (ty.Value value) name.now root.old root.new) }
         ensures written { IfOk result (WritesOnce self.now.types.now (ty.Value value) name.now root.old root.new) }
         ensures right { IsRightRoot self.now.types.now root.new }
-        ensures refused { OnErr result (WritesTypesOf self.now.types.now (item_of_type (ty.Value value)) root.old root.new) }
+        ensures refused { OnErr result (WritesTypesFor self.now.types.now (ty.Value value) root.old root.new) }
         ensures fault { IsDefinitionRefused self.now.types.now (ty.Value value) name.now root.old result }
     {
         self.types.law();
@@ -84,7 +83,7 @@ impl<'a> TypeEncoder<'a> {
         ensures definition { IfOk result (WritesDefinition self.now.types.now (ty.Value value) name.now root.old root.new) }
         ensures written { IfOk result (WritesOnce self.now.types.now (ty.Value value) name.now root.old root.new) }
         ensures right { IsRightRoot self.now.types.now root.new }
-        ensures refused { OnErr result (WritesTypesOf self.now.types.now (item_of_type (ty.Value value)) root.old root.new) }
+        ensures refused { OnErr result (WritesTypesFor self.now.types.now (ty.Value value) root.old root.new) }
         ensures fault { IsDefinitionRefused self.now.types.now (ty.Value value) name.now root.old result }
     {
         self.types.law();
@@ -111,7 +110,7 @@ impl<'a> TypeEncoder<'a> {
         ensures definition { IfOk result (WritesDefinition self.now.types.now (ty.Value value) name.now root.old root.new) }
         ensures written { IfOk result (WritesOnce self.now.types.now (ty.Value value) name.now root.old root.new) }
         ensures right { IsRightRoot self.now.types.now root.new }
-        ensures refused { OnErr result (WritesTypesOf self.now.types.now (item_of_type (ty.Value value)) root.old root.new) }
+        ensures refused { OnErr result (WritesTypesFor self.now.types.now (ty.Value value) root.old root.new) }
         ensures fault { IsDefinitionRefused self.now.types.now (ty.Value value) name.now root.old result }
     {
         still_law();
@@ -142,7 +141,7 @@ impl<'a> TypeEncoder<'a> {
         ensures definition { IfOk result (WritesDefinition self.now.types.now (ty.Func func) name.now root.old root.new) }
         ensures written { IfOk result (WritesOnce self.now.types.now (ty.Func func) name.now root.old root.new) }
         ensures right { IsRightRoot self.now.types.now root.new }
-        ensures refused { OnErr result (WritesTypesOf self.now.types.now (item_of_type (ty.Func func)) root.old root.new) }
+        ensures refused { OnErr result (WritesTypesFor self.now.types.now (ty.Func func) root.old root.new) }
         ensures fault { IsDefinitionRefused self.now.types.now (ty.Func func) name.now root.old result }
     {
         rooted_law();
@@ -166,7 +165,7 @@ impl<'a> TypeEncoder<'a> {
         ensures definition { IfOk result (WritesDefinition self.now.types.now (ty.Interface interface) name.now root.old root.new) }
         ensures written { IfOk result (WritesOnce self.now.types.now (ty.Interface interface) name.now root.old root.new) }
         ensures right { IsRightRoot self.now.types.now root.new }
-        ensures refused { OnErr result (WritesTypesOf self.now.types.now (item_of_type (ty.Interface interface)) root.old root.new) }
+        ensures refused { OnErr result (WritesTypesFor self.now.types.now (ty.Interface interface) root.old root.new) }
         ensures fault { IsDefinitionRefused self.now.types.now (ty.Interface interface) name.now root.old result }
     {
         rooted_law();
@@ -212,7 +211,7 @@ impl<'a> TypeEncoder<'a> {
         ensures definition { IfOk result (WritesDefinition self.now.types.now ty name.now root.old root.new) }
         ensures written { IfOk result (WritesOnce self.now.types.now ty name.now root.old root.new) }
         ensures right { IsRightRoot self.now.types.now root.new }
-        ensures refused { OnErr result (WritesTypesOf self.now.types.now (item_of_type ty) root.old root.new) }
+        ensures refused { OnErr result (WritesTypesFor self.now.types.now ty root.old root.new) }
         ensures fault { IsDefinitionRefused self.now.types.now ty name.now root.old result }
     {
         match ty {

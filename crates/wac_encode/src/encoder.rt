@@ -11,8 +11,7 @@ ghost use Rattle.wac_collection.specs.Collection.{HasDefined, holds_value, item_
 ghost use Rattle.wac_collection.specs.Aliases.{target_of, value_resolved};
 ghost use Rattle.wac_binary.specs.Views.{defined_of};
 ghost use Rattle.wac_scopes.specs.Scoped.{IsAsBefore, value_index};
-ghost use Rattle.wac_listing.specs.Made.{MadeOf};
-ghost use Rattle.wac_encode.specs.Written.{Says, MaybeSays, SaysDefinition, IsByRecord, IsKnown, WritesFor, IsRefused};
+ghost use Rattle.wac_encode.specs.Written.{Says, MaybeSays, SaysDefinition, IsByRecord, IsKnown, PartOf, WritesFor, IsRefused};
 ghost use Rattle.wac_encode.specs.Tasks.{IsReady, Did, WritesOne, AllKnown, FieldSays, CaseSays, IsText, IsPlain, IsOneRefused, IsMissing, IsStepRefused};
 ghost use Rattle.wac_shapes.specs.declared.component.DefinedType.{DefinedType as AnyDefined};
 
@@ -261,9 +260,9 @@ impl<'a> TypeEncoder<'a> {
     /// Writes a definition, and first what it is made of.
     fn write(&self, scope: &mut Scope, id: DefinedTypeId) -> Result<(), EncodeFault>
         requires { IsReady self.now.types.now scope.old (record { id = id; next = 0 }) }
-        ensures written { WritesFor self.now.types.now 0 (MadeOf self.now.types.now (val.Defined id)) scope.old scope.new }
+        ensures written { WritesFor self.now.types.now 0 (PartOf self.now.types.now (val.Defined id)) scope.old scope.new }
         ensures done { OnOk result (IsSome (value_index scope.new id)) }
-        ensures fault { IsRefused self.now.types.now (MadeOf self.now.types.now (val.Defined id)) scope.new result }
+        ensures fault { IsRefused self.now.types.now (PartOf self.now.types.now (val.Defined id)) scope.new result }
     {
         self.types.law();
         step_law();
@@ -287,10 +286,10 @@ impl<'a> TypeEncoder<'a> {
         value: ValueType,
     ) -> Result<ComponentValType, EncodeFault>
         requires { holds_value self.now.types.now value ≡ true }
-        ensures written { WritesFor self.now.types.now 0 (MadeOf self.now.types.now (value_resolved self.now.types.now value)) scope.old scope.new }
+        ensures written { WritesFor self.now.types.now 0 (PartOf self.now.types.now (value_resolved self.now.types.now value)) scope.old scope.new }
         ensures says { IfOk result (Says self.now.types.now scope.new value) }
         ensures recorded { IfOk result (IsByRecord self.now.types.now scope.new value) }
-        ensures fault { IsRefused self.now.types.now (MadeOf self.now.types.now (value_resolved self.now.types.now value)) scope.new result }
+        ensures fault { IsRefused self.now.types.now (PartOf self.now.types.now (value_resolved self.now.types.now value)) scope.new result }
     {
         step_law();
         still_law();

@@ -9,9 +9,9 @@ ghost use Rattle.wac_collection.specs.Collection.{HasFunc, HasInterface, holds_t
 ghost use Rattle.wac_collection.specs.Aliases.{value_resolved};
 ghost use Rattle.wac_scopes.specs.Contents.{IsRoot};
 ghost use Rattle.wac_scopes.specs.Scoped.{value_index};
-ghost use Rattle.wac_encode.specs.Written.{ImportsHeldFunc, EndsWithImport, WritesFuncAtMost, IsImportRefused};
-ghost use Rattle.wac_encode.specs.Listing.{lists_plain};
-ghost use Rattle.wac_encode.specs.Importing.{is_importable as importable, ImportsHeld, WritesImport, WritesTypesOf, IsItemNotImported, ImportsIfThere, WritesImportIfThere, ImportsOneMore};
+ghost use Rattle.wac_encode.specs.Written.{WritesFor, IsOfFunc, ImportsHeldFunc, EndsWithImport, IsImportRefused};
+ghost use Rattle.wac_encode.specs.Listing.{NeededBy, lists_plain};
+ghost use Rattle.wac_encode.specs.Importing.{is_importable as importable, AddsHeldInterface, IsInterfaceAt, IsInstanceRefused, ImportsHeld, WritesImport, WritesTypesOf, IsItemNotImported, ImportsIfThere, WritesImportIfThere, ImportsOneMore};
 
 use crate::encoder::TypeEncoder;
 use wac_binary::{ComponentValType, listed_law};
@@ -36,7 +36,7 @@ impl<'a> TypeEncoder<'a> {
         requires root { IsRoot scope.old.content }
         ensures imports { IfOk result (ImportsHeldFunc self.now.types.now scope.old scope.new name.now func) }
         ensures written { OnOk result (EndsWithImport self.now.types.now func name.now scope.old scope.new) }
-        ensures refused { OnErr result (WritesFuncAtMost self.now.types.now func scope.old scope.new) }
+        ensures refused { OnErr result (WritesFor self.now.types.now 0 (IsOfFunc self.now.types.now func) scope.old scope.new) }
         ensures fault { IsImportRefused self.now.types.now func name.now scope.new result }
     {
         listed_law();
@@ -176,6 +176,27 @@ impl<'a> TypeEncoder<'a> {
         Ok(import)
     }
 
+    /// Writes an interface as an instance type, where it is not written yet, and answers its type index.
+    fn instance(&self, root: &mut Scope, interface: InterfaceId) -> Result<u32, EncodeFault>
+        requires held { HasInterface self.now.types.now interface }
+        requires plain { lists_plain self.now.types.now interface ≡ true }
+        ensures written { WritesFor self.now.types.now 0 (NeededBy self.now.types.now (kind.Instance interface)) root.old root.new }
+        ensures adds { IfOk result (AddsHeldInterface self.now.types.now root.old root.new interface) }
+        ensures recorded { IfOk result (IsInterfaceAt self.now.types.now root.old root.new interface) }
+        ensures fault { IsInstanceRefused self.now.types.now interface root.old result }
+    {
+        step_law();
+        still_law();
+        if let Some(index) = root.interface(interface) {
+            return Ok(index);
+        }
+        let Some(declarations) = self.interface_type(interface)? else {
+            unreachable!()
+        };
+        let index = root.define_instance(interface, &declarations)?;
+        Ok(index)
+    }
+
     /// Writes an interface as an instance type, and imports an instance of it.
     fn import_instance(
         &self,
@@ -194,10 +215,7 @@ impl<'a> TypeEncoder<'a> {
         listed_law();
         step_law();
         still_law();
-        let Some(declarations) = self.interface_type(interface)? else {
-            unreachable!()
-        };
-        let index = root.define_instance(&declarations)?;
+        let index = self.instance(root, interface)?;
         let import = root.import_instance(name, index)?;
         Ok(import)
     }

@@ -33,6 +33,25 @@ const NAMES: [u8; 41] = [
     0x00, 0x01, 0x6d, 0x03, 0x00, 0x03, // another, which equals the first
 ];
 
+const FUNCTIONS: [u8; 31] = [
+    0x00, 0x61, 0x73, 0x6d, 0x0d, 0x00, 0x01, 0x00, // the preamble
+    0x07, 0x08, 0x01, 0x40, 0x01, 0x01, 0x78, 0x7d, 0x01, 0x00, // a function type
+    0x0a, 0x0b, 0x02, // two imports
+    0x00, 0x01, 0x78, 0x01, 0x00, // a function of it
+    0x00, 0x01, 0x79, 0x01, 0x00, // another
+];
+
+const INSTANCES: [u8; 46] = [
+    0x00, 0x61, 0x73, 0x6d, 0x0d, 0x00, 0x01, 0x00, // the preamble
+    0x07, 0x17, 0x01, 0x42, 0x03, // an instance type of three declarations
+    0x01, 0x40, 0x01, 0x01, 0x78, 0x7d, 0x01, 0x00, // a function type
+    0x04, 0x00, 0x01, 0x66, 0x01, 0x00, // a function of it
+    0x04, 0x00, 0x01, 0x67, 0x01, 0x00, // another
+    0x0a, 0x0b, 0x02, // two imports
+    0x00, 0x01, 0x61, 0x05, 0x00, // an instance of it
+    0x00, 0x01, 0x62, 0x05, 0x00, // another
+];
+
 // The bytes of a component that imports these items, in order; none where one is not imported yet.
 fn imported(types: &Types, items: &[(&str, ItemKind)]) -> Result<Option<Vec<u8>>, Fail> {
     let mut root = Scope::new(
@@ -97,6 +116,29 @@ fn imports_names(rt: HostRuntime) -> Result<(), Fail> {
         return Err(Fail::new("not imported"));
     };
     assert!(rt; bytes.as_slice() == NAMES.as_slice());
+    Ok(())
+}
+
+// A function type and an interface that are imported twice are written once, and so is a function type that an interface lists twice.
+#[test]
+fn imports_once(rt: HostRuntime) -> Result<(), Fail> {
+    let alloc = rt.alloc();
+    let mut types = Types::new(alloc);
+    let byte = ValueType::Primitive(PrimitiveType::U8);
+    let f = types.add_func_type(FuncType::new(alloc, &[("x", byte)], None, false)?)?;
+    let f = ItemKind::Func(f);
+    let bytes = imported(&types, &[("x", f), ("y", f)])?;
+    let Some(bytes) = bytes else {
+        return Err(Fail::new("not imported"));
+    };
+    assert!(rt; bytes.as_slice() == FUNCTIONS.as_slice());
+    let i = types.add_interface(Interface::new(alloc, None, &[("f", f), ("g", f)])?)?;
+    let i = ItemKind::Instance(i);
+    let bytes = imported(&types, &[("a", i), ("b", i)])?;
+    let Some(bytes) = bytes else {
+        return Err(Fail::new("not imported"));
+    };
+    assert!(rt; bytes.as_slice() == INSTANCES.as_slice());
     Ok(())
 }
 

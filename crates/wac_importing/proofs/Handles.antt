@@ -26,7 +26,7 @@ use Rattle.wac_subtyping.proofs.Trees.{aliases_agree}
 use Rattle.wac_reach.specs.Reach.{IsIn, mentions, Reaches, at_once, further}
 use Rattle.wac_reach.proofs.Reaching.{mentioned_held}
 use Rattle.wac_listing.specs.Made.{parts, MadeOf, itself, part, some_of, second_of, some_second_of}
-use Rattle.wac_encode.specs.Written.{IsHandle, HasHandle, IsOfFunc}
+use Rattle.wac_encode.specs.Written.{IsHandle, HasHandle, PartOf, IsOfFunc}
 use Rattle.wac_meaning.specs.Importable.{HasNoHandle, IsPlainItem}
 use Rattle.wac_importing.specs.Looked.{IsOfValues}
 
@@ -307,7 +307,7 @@ module _ (c : Collection) (wf : IsWellFormed c) where
   free_handle w is held free = absurd is
 
   -- a value type and a function type without handles need none
-  pub value_needs_none : (v : ValueType) → holds_value c v ≡ true → HasNoHandle (type_tree c (ty.Value v)) → HasHandle (MadeOf c (value_resolved c v)) → ⊥
+  pub value_needs_none : (v : ValueType) → holds_value c v ≡ true → HasNoHandle (type_tree c (ty.Value v)) → HasHandle (PartOf c (value_resolved c v)) → ⊥
   value_needs_none v held free (w, made, is) =
       let (there, now) = made_free (value_resolved c v) w made (end_is_held c wf v (holds_value c v) refl ∙ held) (end_free (size c) v (subst HasNoHandle (sym (unfolded_is c (ty.Value v))) free)) in
       free_handle w is there now

@@ -8,12 +8,10 @@ use Rattle.std.proofs.lemmas.Option.{slice_get_within}
 use Rattle.wac_shapes.specs.Name.{Name, same_name, find_name}
 use Rattle.wac_shapes.specs.Named.{NoNameTwice}
 use Rattle.wac_shapes.proofs.Names.{same_name-true, found_at}
-use Rattle.wac_shapes.specs.declared.component.DefinedTypeId.{DefinedTypeId}
 use Rattle.wac_shapes.specs.declared.component.ItemKind.{ItemKind}
 use Rattle.wac_shapes.specs.declared.component.ItemKind.TheVariants as kind
 use Rattle.wac_shapes.specs.declared.core_types.ModuleType.{ModuleType}
-use Rattle.wac_shapes.specs.declared.component.ValueType.{ValueType}
-use Rattle.wac_shapes.specs.declared.component.ValueType.TheVariants as val
+use Rattle.wac_shapes.specs.declared.component.«Type».{«Type» as AnyType}
 use Rattle.wac_shapes.specs.declared.component.«Type».TheVariants as ty
 use Rattle.wac_collection.specs.Tree.{imported, position, Tree}
 use Rattle.wac_collection.specs.Collection.{Collection}
@@ -37,7 +35,7 @@ use Rattle.wac_scopes.specs.Contents.{IsRoot, items_of, content_of, and_import, 
 use Rattle.wac_scopes.specs.Scopes.{Open, root, ContentHasMeaning, opening}
 use Rattle.wac_scopes.specs.Good.{Good}
 use Rattle.wac_scopes.specs.Inside.{StartsRoot}
-use Rattle.wac_scopes.specs.Scoped.{opened, recorded_value, at_index, value_index, IsNewInRoot, root_of}
+use Rattle.wac_scopes.specs.Scoped.{opened, recorded_type, at_index, type_index, IsNewInRoot, root_of}
 use Rattle.wac_encode.specs.Written.{with_types}
 use Rattle.wac_encode.specs.Importing.{ImportsHeld, WritesImport, IsImportedAs}
 use Rattle.wac_meaning.specs.Means.{sort_of_kind}
@@ -64,9 +62,9 @@ pub record IsBegun (m : Merged) (i : ℕ) (s : Scope) (places : Places) : Type 0
   pub sorts : AreOfSorts m places
 
 -- ---- none yet
-pub begun : (m : Merged) → StartsRoot → (s : Scope) → s.content ≡ Builder [] → ((d : DefinedTypeId) → value_index s d ≡ None) → IsBegun m 0 s []
+pub begun : (m : Merged) → StartsRoot → (s : Scope) → s.content ≡ Builder [] → ((a : AnyType) → type_index s a ≡ None) → IsBegun m 0 s []
 begun m starts s is none =
-    let memo_same : recorded_value s ≡ (λ v. None) = fun_ext by_value in
+    let memo_same : recorded_type s ≡ (λ a. None) = fun_ext (λ a. ap at_index (none a)) in
     let same : opened s start ≡ record start { content = root [] } = (λ i. record start { content = content_of (is i); memo = memo_same i }) in
     record {
       is_root = subst IsRoot (sym is) tt;
@@ -77,12 +75,6 @@ begun m starts s is none =
   where
     no_such : {A : Type 0} {P : Type 0} (x : A) → None ≡ Some x → P
     no_such x h = cc
-
-    by_value : (v : ValueType) → recorded_value s v ≡ None
-    by_value (val.Defined d) = ap at_index (none d)
-    by_value (val.Primitive p) = refl
-    by_value (val.Own r) = refl
-    by_value (val.Borrow r) = refl
 
 -- ---- names
 not_among : (n : Name) (m : Merged) (q : ℕ) (es : List (Name × ItemKind)) → ((i : ℕ) (x : Name × ItemKind) → slice_get es i ≡ Some x → same_name n x.0 ≡ false) → IsNew n (map (λ e. e.0) (imports_from m q (import_entries es)))

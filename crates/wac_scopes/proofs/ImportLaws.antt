@@ -1,11 +1,13 @@
 -- What the root of the code imports.
-use Rattle.std.specs.Prelude.{ℕ, ◌≡◌, cond, nat_eq, true, false, List, [], ◌∷◌, ◌++◌, length, Some, if◌then◌else◌}
+use Rattle.std.specs.Prelude.{ℕ, ◌≡◌, cond, true, false, List, [], ◌∷◌, ◌++◌, length, Some, if◌then◌else◌}
 use Rattle.std.proofs.Common.{refl, ap, ◌∙◌, sym, subst}
 use Rattle.wac_shapes.specs.Name.{Name}
 use Rattle.wac_shapes.specs.declared.component.DefinedTypeId.{DefinedTypeId}
 use Rattle.wac_shapes.specs.declared.component.ValueType.TheVariants as val
+use Rattle.wac_shapes.specs.declared.component.«Type».{«Type» as AnyType}
+use Rattle.wac_shapes.specs.declared.component.«Type».TheVariants as ty
 use Rattle.wac_collection.specs.Tree.{Tree, type_equal, function_item, instance_item, module_item}
-use Rattle.wac_collection.specs.Uses.{same_value}
+use Rattle.wac_collection.specs.Uses.{same_type}
 use Rattle.wac_collection.specs.Collection.{Collection}
 use Rattle.wac_collection.specs.Bound.{Bindings}
 use Rattle.wac_binary.specs.declared.sorts.Description.TheVariants as e
@@ -22,7 +24,7 @@ use Rattle.wac_scopes.specs.Contents.{content_of, items_of, IsRoot, and_import, 
 use Rattle.wac_scopes.specs.Scopes.{at_type, Open, Stack, env, envs, remember_at}
 use Rattle.wac_scopes.specs.Good.{At, Good, top, Onward}
 use Rattle.wac_scopes.specs.Instances.{holding, IsNewImport, ImportsInstance, ImportsType, ImportsFunc, ImportsModule, ListsImport}
-use Rattle.wac_scopes.specs.Scoped.{value_index, recorded_value, opened, imported_at, RootImports, RootImportsType, RootImportsValue, RootImportsFunction, RootImportsInstance, RootImportsModule}
+use Rattle.wac_scopes.specs.Scoped.{type_index, recorded_type, opened, imported_at, RootImports, RootImportsType, RootImportsValue, RootImportsFunction, RootImportsInstance, RootImportsModule}
 use Rattle.wac_scopes.proofs.ContentLaws.{filled}
 use Rattle.wac_scopes.proofs.Grow.{at-type_at}
 use Rattle.wac_scopes.proofs.Meant.{value-type}
@@ -91,27 +93,27 @@ module-in law lists (Builder items) n i h = λ c m ms o os t g new module_type a
 module-in law lists (Instance ds) n i h = absurd h
 module-in law lists (Component ds) n i h = absurd h
 
-as-imports : (c : Collection) (ms : List Bindings) (old : Scope) (x : Encodable) (o : Open) (os : Stack) (sort : Sort) (k : ℕ) (n : Name) (item : Tree) → Imported c ms old.content x (record o { memo = recorded_value old }) os sort k n item → RootImports c ms old (record old { content = x }) o os sort k n item
+as-imports : (c : Collection) (ms : List Bindings) (old : Scope) (x : Encodable) (o : Open) (os : Stack) (sort : Sort) (k : ℕ) (n : Name) (item : Tree) → Imported c ms old.content x (record o { memo = recorded_type old }) os sort k n item → RootImports c ms old (record old { content = x }) o os sort k n item
 as-imports c ms old x o os sort k n item h = record { onward = h.0; listed = h.1; stands = h.2 }
 
 pub imports-type-item : (old : Scope) (x : Encodable) (n : Name) (i k : ℕ) → ImportsType → ListsImport → IsRoot old.content → k ≡ count (space s.Type) old.content → x ≡ and_import old.content n (e.Equal i) → RootImportsType old (record old { content = x }) n i k
 imports-type-item old x n i k law lists is_root index appended c m ms o os t g new type at =
     let into : ImportsTypeIn old.content x n i k = subst (λ (z : Encodable). ImportsTypeIn old.content z n i k) (sym appended) (subst (λ (j : ℕ). ImportsTypeIn old.content (and_import old.content n (e.Equal i)) n i j) (sym index) (type-in law lists old.content n i is_root)) in
-    let r = into c m ms (record o { memo = recorded_value old }) os t g new type at in
+    let r = into c m ms (record o { memo = recorded_type old }) os t g new type at in
     (as-imports c (m ∷ ms) old x o os s.Type k n (type_equal t) r.0, r.1)
 
 pub imports-function : (old : Scope) (x : Encodable) (n : Name) (i k : ℕ) → ImportsFunc → ListsImport → IsRoot old.content → k ≡ count (space s.Func) old.content → x ≡ and_import old.content n (e.Func i) → RootImportsFunction old (record old { content = x }) n i k
 imports-function old x n i k law lists is_root index appended c m ms o os t g new fun at =
     let into : ImportsFunctionIn old.content x n i k = subst (λ (z : Encodable). ImportsFunctionIn old.content z n i k) (sym appended) (subst (λ (j : ℕ). ImportsFunctionIn old.content (and_import old.content n (e.Func i)) n i j) (sym index) (function-in law lists old.content n i is_root)) in
-    as-imports c (m ∷ ms) old x o os s.Func k n (function_item t) (into c m ms (record o { memo = recorded_value old }) os t g new fun at)
+    as-imports c (m ∷ ms) old x o os s.Func k n (function_item t) (into c m ms (record o { memo = recorded_type old }) os t g new fun at)
 
-pub imports-value : (old new : Scope) (n : Name) (d : DefinedTypeId) (i k : ℕ) → ImportsType → ListsImport → IsRoot old.content → k ≡ count (space s.Type) old.content → new.content ≡ and_import old.content n (e.Equal i) → ((j : DefinedTypeId) → value_index new j ≡ cond (nat_eq d.0 j.0) (Some k) (value_index old j)) → RootImportsValue old new n d i k
+pub imports-value : (old new : Scope) (n : Name) (d : DefinedTypeId) (i k : ℕ) → ImportsType → ListsImport → IsRoot old.content → k ≡ count (space s.Type) old.content → new.content ≡ and_import old.content n (e.Equal i) → ((b : AnyType) → type_index new b ≡ cond (same_type b (ty.Value (val.Defined d))) (Some k) (type_index old b)) → RootImportsValue old new n d i k
 imports-value old new n d i k law lists is_root index appended too c m ms o os t g fresh_name held value at =
     let named_ : Open = opened (record old { content = new.content }) o in
     let r = imports-type-item old new.content n i k law lists is_root index appended c m ms o os t g fresh_name (value-type t value) at in
-    let memo_same : recorded_value new ≡ (λ u. if same_value u (val.Defined d) then Some (at_type k) else recorded_value old u) = recorded-too old new d k too in
-    let same : opened new o ≡ remember_at (val.Defined d) (at_type k) named_ = (λ j. record o { content = content_of new.content; memo = memo_same j }) in
-    let on : Onward c (m ∷ ms) (opened old o ∷ os) (remember_at (val.Defined d) (at_type k) named_ ∷ os) = ((good-remember_at c m (top ms) named_ (envs os) (val.Defined d) (at_type k) t r.0.onward.0.0 held value r.1, r.0.onward.0.1), r.0.onward.1) in (
+    let memo_same : recorded_type new ≡ (λ b. if same_type b (ty.Value (val.Defined d)) then Some (at_type k) else recorded_type old b) = recorded-too old new (ty.Value (val.Defined d)) k too in
+    let same : opened new o ≡ remember_at (ty.Value (val.Defined d)) (at_type k) named_ = (λ j. record o { content = content_of new.content; memo = memo_same j }) in
+    let on : Onward c (m ∷ ms) (opened old o ∷ os) (remember_at (ty.Value (val.Defined d)) (at_type k) named_ ∷ os) = ((good-remember_at c m (top ms) named_ (envs os) (ty.Value (val.Defined d)) (at_type k) t r.0.onward.0.0 held value r.1, r.0.onward.0.1), r.0.onward.1) in (
       record { onward = subst (λ (z : Open). Onward c (m ∷ ms) (opened old o ∷ os) (z ∷ os)) (sym same) on; listed = r.0.listed; stands = r.0.stands },
       subst (λ (z : Open). At ((env z (envs os)).types) k t) (sym same) r.1,
     )
@@ -119,10 +121,10 @@ imports-value old new n d i k law lists is_root index appended too c m ms o os t
 pub imports-core-module : (old : Scope) (x : Encodable) (n : Name) (i k : ℕ) → ImportsModule → ListsImport → IsRoot old.content → k ≡ count (space s.CoreModule) old.content → x ≡ and_import old.content n (e.CoreModule i) → RootImportsModule old (record old { content = x }) n i k
 imports-core-module old x n i k law lists is_root index appended c m ms o os t g new module_type at =
     let into : ImportsModuleIn old.content x n i k = subst (λ (z : Encodable). ImportsModuleIn old.content z n i k) (sym appended) (subst (λ (j : ℕ). ImportsModuleIn old.content (and_import old.content n (e.CoreModule i)) n i j) (sym index) (module-in law lists old.content n i is_root)) in
-    as-imports c (m ∷ ms) old x o os s.CoreModule k n (module_item t) (into c m ms (record o { memo = recorded_value old }) os t g new module_type at)
+    as-imports c (m ∷ ms) old x o os s.CoreModule k n (module_item t) (into c m ms (record o { memo = recorded_type old }) os t g new module_type at)
 
 pub imports-instance-item : (old : Scope) (x : Encodable) (n : Name) (i k : ℕ) → ImportsInstance → ListsImport → IsRoot old.content → k ≡ count (space s.Instance) old.content → x ≡ and_import old.content n (e.Instance i) → RootImportsInstance old (record old { content = x }) n i k
 imports-instance-item old x n i k law lists is_root index appended c m ms o os t g new inst at =
     let into : ImportsInstanceIn old.content x n i k = subst (λ (z : Encodable). ImportsInstanceIn old.content z n i k) (sym appended) (subst (λ (j : ℕ). ImportsInstanceIn old.content (and_import old.content n (e.Instance i)) n i j) (sym index) (instance-in law lists old.content n i is_root)) in
-    let r = into c m ms (record o { memo = recorded_value old }) os t g new inst at in
+    let r = into c m ms (record o { memo = recorded_type old }) os t g new inst at in
     (as-imports c (m ∷ ms) old x o os s.Instance k n (instance_item t) r.0, r.1)

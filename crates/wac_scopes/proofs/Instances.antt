@@ -128,7 +128,7 @@ far-value c wf m m' i it side path f listed b x natural v n found =
 
 pub has-exported : HasExported
 has-exported c wf m ms o os i it j v n g h b f holds =
-    (held, stands, top-onward c m ms o (remember_at v (at_export j n) o) os g (good-remember_at c m (top ms) o (envs os) v (at_export j n) (held_tree c m (ty.Value v)) g.0 held (holds-value c wf m v (held_tree c m (ty.Value v)) holds held) stands) (kept-refl (env o (envs os))))
+    (held, stands, top-onward c m ms o (remember_at (ty.Value v) (at_export j n) o) os g (good-remember_at c m (top ms) o (envs os) (ty.Value v) (at_export j n) (held_tree c m (ty.Value v)) g.0 held (holds-value c wf m v (held_tree c m (ty.Value v)) holds held) stands) (kept-refl (env o (envs os))))
   where
     held : IsHeld c m (ty.Value v) (held_tree c m (ty.Value v))
     held k m' x = far-value c wf m m' i it h.bound.side h.bound.path k h.listed b x (λ y z q. h.type y z q ∙ ap (moved y) (sym (held-here c m (ty.Interface i) h.bound.type h.type))) v n f

@@ -1,15 +1,16 @@
 -- A root into which definitions are written beside other items.
-use Rattle.std.specs.Prelude.{ℕ, zero, suc, ◌≡◌, ◌≤◌, ◌<◌, cond, nat_eq, Bool, true, false, List, [], ◌∷◌, ◌++◌, length, map, Some, None, if◌then◌else◌}
+use Rattle.std.specs.Prelude.{ℕ, zero, suc, ◌≡◌, ◌≤◌, ◌<◌, cond, Bool, true, false, List, [], ◌∷◌, ◌++◌, length, map, Some, None, if◌then◌else◌}
 use Rattle.std.proofs.Common.{refl, ap, ◌∙◌, sym, subst, arith}
 use Rattle.std.proofs.Math.Path.{fun_ext}
 use Rattle.std.proofs.lemmas.List.{append-nil, append_assoc}
 use Rattle.wac_shapes.specs.Name.{Name}
 use Rattle.wac_shapes.specs.declared.component.DefinedTypeId.{DefinedTypeId}
-use Rattle.wac_shapes.specs.declared.component.ValueType.{ValueType}
 use Rattle.wac_shapes.specs.declared.component.ValueType.TheVariants as val
+use Rattle.wac_shapes.specs.declared.component.«Type».{«Type» as AnyType}
 use Rattle.wac_shapes.specs.declared.component.«Type».TheVariants as ty
 use Rattle.wac_collection.specs.Tree.{Tree}
-use Rattle.wac_collection.specs.Uses.{same_value}
+use Rattle.wac_collection.specs.Uses.{same_type}
+use Rattle.wac_collection.proofs.Ids.{same_type-true}
 use Rattle.wac_collection.specs.Bound.{held_tree}
 use Rattle.wac_binary.specs.declared.sorts.Sort.{Sort}
 use Rattle.wac_binary.specs.declared.sorts.Sort.TheVariants as sort
@@ -26,7 +27,7 @@ use Rattle.wac_scopes.specs.Scopes.{Content, root, ContentHasMeaning, at_type, O
 use Rattle.wac_scopes.specs.Good.{At, Good, nothing_bound, top}
 use Rattle.wac_scopes.specs.Instances.{holding}
 use Rattle.wac_scopes.specs.Inside.{RootGoesOn}
-use Rattle.wac_scopes.specs.Scoped.{value_index, at_index, recorded_value, opened, root_of}
+use Rattle.wac_scopes.specs.Scoped.{type_index, value_index, at_index, recorded_type, opened, root_of}
 use Rattle.wac_scopes.specs.Rooted.{unbound, IsRightRoot, BeginsRight, StaysRight, MeansBefore, IsWrittenThere, ExportsRight}
 use Rattle.wac_scopes.proofs.Grow.{at-last, at-type_at}
 use Rattle.wac_scopes.proofs.ScopedLaws.{recorded-too}
@@ -98,20 +99,8 @@ content-of-root (Builder items) h = refl
 content-of-root (Instance ds) h = absurd h
 content-of-root (Component ds) h = absurd h
 
-nothing-recorded : (s : Scope) → ((d : DefinedTypeId) → value_index s d ≡ None) → (v : ValueType) → recorded_value s v ≡ None
-nothing-recorded s none (val.Defined d) = ap at_index (none d)
-nothing-recorded s none (val.Primitive p) = refl
-nothing-recorded s none (val.Own r) = refl
-nothing-recorded s none (val.Borrow r) = refl
-
-same-recorded : (old new : Scope) → ((d : DefinedTypeId) → value_index new d ≡ value_index old d) → recorded_value new ≡ recorded_value old
-same-recorded old new same = fun_ext by_value
-  where
-    by_value : (v : ValueType) → recorded_value new v ≡ recorded_value old v
-    by_value (val.Defined d) = ap at_index (same d)
-    by_value (val.Primitive p) = refl
-    by_value (val.Own r) = refl
-    by_value (val.Borrow r) = refl
+same-recorded : (old new : Scope) → ((a : AnyType) → type_index new a ≡ type_index old a) → recorded_type new ≡ recorded_type old
+same-recorded old new same = fun_ext (λ a. ap at_index (same a))
 
 pub begins-right : BeginsRight
 begins-right c s is_root none = record {
@@ -122,12 +111,12 @@ begins-right c s is_root none = record {
       bottom = λ items e. refl;
       binds = λ r w f. let no_some : None ≡ Some w = f in cc;
       unbound = λ r b f p. let both : true ≡ false = b in cc;
-      memo = λ v w f. let no_some : None ≡ Some w = sym (nothing-recorded s none v) ∙ f in cc;
+      memo = λ a w f. let no_some : None ≡ Some w = sym (ap at_index (none a)) ∙ f in cc;
       named = λ n a w f. let no_some : None ≡ Some (a, w) = f in cc;
     },
     tt,
   );
-  written = λ means d i h. let no_some : None ≡ Some i = sym (none d) ∙ h in cc;
+  written = λ means a i h. let no_some : None ≡ Some i = sym (none a) ∙ h in cc;
 }
 
 pub stays-right : RootGoesOn → Counted → Earlier → StaysRight
@@ -139,13 +128,13 @@ stays-right goes_on counted earlier c old new more r is_root added same = record
       let held_open : Good c (nothing_bound ∷ []) (holding (items_of old.content) (opened old unbound) ∷ []) = subst (λ (o : Open). Good c (nothing_bound ∷ []) (o ∷ [])) (λ i. record (opened old unbound) { content = (content-of-root old.content r.is_root) i }) good in
       let on = goes_on c nothing_bound (items_of old.content) more (opened old unbound) held_open all in
       let content_is : content_of new.content ≡ root (items_of old.content ++ more) = content-of-root new.content is_root ∙ ap root added in
-      let memo_is : recorded_value new ≡ recorded_value old = same-recorded old new same in
+      let memo_is : recorded_type new ≡ recorded_type old = same-recorded old new same in
       let new_is : opened new unbound ≡ holding (items_of old.content ++ more) (opened old unbound) = (λ i. record unbound { content = content_is i; memo = memo_is i }) in
       subst (λ (o : Open). Good c (nothing_bound ∷ []) (o ∷ [])) (sym new_is) on.0;
-  written = λ means d i h.
+  written = λ means a i h.
       let all : HasMeaning (items_of old.content ++ more) = subst HasMeaning added means in
-      let was : stands_for (root_of old) sort.Type i ≡ written (held_tree c nothing_bound (ty.Value (val.Defined d))) = r.written (means-before (items_of old.content) more all) d i (sym (same d) ∙ h) in
-      let within : i < length (things (root_of old) sort.Type) = is-there (things (root_of old) sort.Type) i (held_tree c nothing_bound (ty.Value (val.Defined d))) was in
+      let was : stands_for (root_of old) sort.Type i ≡ written (held_tree c nothing_bound a) = r.written (means-before (items_of old.content) more all) a i (sym (same a) ∙ h) in
+      let within : i < length (things (root_of old) sort.Type) = is-there (things (root_of old) sort.Type) i (held_tree c nothing_bound a) was in
       ap (λ (items : List Item). stands_for (meaning items) sort.Type i) added ∙ earlier (items_of old.content) more sort.Type i (subst (λ (n : ℕ). i < n) (counted (items_of old.content) sort.Type) within) ∙ was;
 }
 
@@ -171,11 +160,8 @@ count-of-root (Builder items) h = refl
 count-of-root (Instance ds) h = absurd h
 count-of-root (Component ds) h = absurd h
 
-same-id : (d e : DefinedTypeId) → nat_eq d.0 e.0 ≡ true → d ≡ e
-same-id d e same = let number : d.0 ≡ e.0 = grind arith in ap (λ (n : ℕ). let it : DefinedTypeId = record { 0 = n } in it) number
-
 pub exports-right : StaysRight → OneMore → TypesCounted → NewExport → (old new : Scope) (n : Name) (d : DefinedTypeId) (i k : ℕ) → k ≡ count (space sort.Type) old.content → new.content ≡ Builder (items_of old.content ++ export_item n sort.Type i ∷ [])
-    → ((j : DefinedTypeId) → value_index new j ≡ cond (nat_eq d.0 j.0) (Some k) (value_index old j)) → ExportsRight old new d i
+    → ((b : AnyType) → type_index new b ≡ cond (same_type b (ty.Value (val.Defined d))) (Some k) (type_index old b)) → ExportsRight old new d i
 exports-right stays one_more types_counted new_export old new n d i k index appended too c r at =
     subst (IsRightRoot c) (λ j. record new { content = sym appended j }) there
   where
@@ -195,29 +181,29 @@ exports-right stays one_more types_counted new_export old new n d i k index appe
     index_is : k ≡ indexes (space sort.Type) items
     index_is = index ∙ count-of-root old.content r.is_root
 
-    memo_is : recorded_value new ≡ (λ u. if same_value u (val.Defined d) then Some (at_type k) else recorded_value old u)
-    memo_is = recorded-too old new d k too
+    memo_is : recorded_type new ≡ (λ b. if same_type b (ty.Value (val.Defined d)) then Some (at_type k) else recorded_type old b)
+    memo_is = recorded-too old new (ty.Value (val.Defined d)) k too
 
-    new_is : opened (exported old new n i) unbound ≡ remember_at (val.Defined d) (at_type k) (opened mid unbound)
+    new_is : opened (exported old new n i) unbound ≡ remember_at (ty.Value (val.Defined d)) (at_type k) (opened mid unbound)
     new_is = λ j. record unbound { content = root more; memo = memo_is j }
 
-    good : HasMeaning more → Good c (nothing_bound ∷ []) (remember_at (val.Defined d) (at_type k) (opened mid unbound) ∷ [])
+    good : HasMeaning more → Good c (nothing_bound ∷ []) (remember_at (ty.Value (val.Defined d)) (at_type k) (opened mid unbound) ∷ [])
     good means =
-        let was = (r.right (means-before items (export_item n sort.Type i ∷ []) means)).0.memo (val.Defined d) (at_type i) (ap at_index at) in
+        let was = (r.right (means-before items (export_item n sort.Type i ∷ []) means)).0.memo (ty.Value (val.Defined d)) (at_type i) (ap at_index at) in
         let there_before : At ((meaning items).scope.types) i was.0 = subst (λ (x : Content). At ((scope_of x []).types) i was.0) (content-of-root old.content r.is_root) was.3 in
         let there_now : At ((meaning more).scope.types) k was.0 = subst (λ (j : ℕ). At ((meaning more).scope.types) j was.0) (sym index_is) (exported-at one_more types_counted items n i was.0 there_before) in
-        (good-remember_at c nothing_bound (top []) (opened mid unbound) [] (val.Defined d) (at_type k) was.0 (mid_right.right means).0 was.1 was.2 there_now, tt)
+        (good-remember_at c nothing_bound (top []) (opened mid unbound) [] (ty.Value (val.Defined d)) (at_type k) was.0 (mid_right.right means).0 was.1 was.2 there_now, tt)
 
-    written_now : HasMeaning more → (e : DefinedTypeId) (j : ℕ) → value_index new e ≡ Some j → (b : Bool) → nat_eq d.0 e.0 ≡ b → stands_for (meaning more) sort.Type j ≡ written (held_tree c nothing_bound (ty.Value (val.Defined e)))
-    written_now means e j h false other = mid_right.written means e j (sym (too e ∙ ap (λ (b : Bool). cond b (Some k) (value_index old e)) other) ∙ h)
+    written_now : HasMeaning more → (e : AnyType) (j : ℕ) → type_index new e ≡ Some j → (b : Bool) → same_type e (ty.Value (val.Defined d)) ≡ b → stands_for (meaning more) sort.Type j ≡ written (held_tree c nothing_bound e)
+    written_now means e j h false other = mid_right.written means e j (sym (too e ∙ ap (λ (b : Bool). cond b (Some k) (type_index old e)) other) ∙ h)
     written_now means e j h true same =
-        let some : Some k ≡ Some j = sym (too e ∙ ap (λ (b : Bool). cond b (Some k) (value_index old e)) same) ∙ h in
+        let some : Some k ≡ Some j = sym (too e ∙ ap (λ (b : Bool). cond b (Some k) (type_index old e)) same) ∙ h in
         let is : k ≡ j = cc in
-        ap (λ (m : ℕ). stands_for (meaning more) sort.Type m) (sym is ∙ index_is) ∙ new_export items n i ∙ r.written (means-before items (export_item n sort.Type i ∷ []) means) d i at ∙ ap (λ (u : DefinedTypeId). written (held_tree c nothing_bound (ty.Value (val.Defined u)))) (same-id d e same)
+        ap (λ (m : ℕ). stands_for (meaning more) sort.Type m) (sym is ∙ index_is) ∙ new_export items n i ∙ r.written (means-before items (export_item n sort.Type i ∷ []) means) (ty.Value (val.Defined d)) i at ∙ ap (λ (u : AnyType). written (held_tree c nothing_bound u)) (sym (same_type-true e (ty.Value (val.Defined d)) same))
 
     there : IsRightRoot c (exported old new n i)
     there = record {
       is_root = tt;
       right = λ means. subst (λ (o : Open). Good c (nothing_bound ∷ []) (o ∷ [])) (sym new_is) (good means);
-      written = λ means e j h. written_now means e j h (nat_eq d.0 e.0) refl;
+      written = λ means e j h. written_now means e j h (same_type e (ty.Value (val.Defined d))) refl;
     }

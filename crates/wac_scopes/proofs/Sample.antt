@@ -50,7 +50,7 @@ module _ (c : Collection) (wf : IsWellFormed c) (m : Bindings) (ms : List Bindin
           let s1 : Open = bind_at r (at_type 0) (declaring (export_decl nr e.Fresh ∷ []) s0) in
           let here = has-index-here c (inside_interface c it m) (m ∷ ms) s1 (o ∷ os) r 0 one.good (bound-there r (at_type 0) (declaring (export_decl nr e.Fresh ∷ []) s0)) in
           let handle = ((defines-handles reads) c (inside_interface c it m) (m ∷ ms) s1 (o ∷ os) r 0 here.0 one.good (ap (inside_interface c it m) called.0 ∙ here.1) here.2).0 in
-          let s2 : Open = remember_at (val.Own r) (at_type 1) (with_def (value_def (own_def 0)) s1) in
+          let s2 : Open = remember_at (ty.Value (val.Own r)) (at_type 1) (with_def (value_def (own_def 0)) s1) in
           let two = by-step c (inside_interface c it m) (m ∷ ms) s1 s2 (o ∷ os) (o ∷ os) handle.1.0 in
           let d : TypeDef = func_def false ((nx, Index 1) ∷ []) None in
           let written : IsWrittenFunc c (inside_interface c it m) (env s2 (envs (o ∷ os))) func d = (sym plain, subst (λ ps. AreFields c (inside_interface c it m) (env s2 (envs (o ∷ os))) ps ((nx, Index 1) ∷ [])) (sym params) ((refl, (own here.0, handle.0, (handle.1.1, tt))), tt), subst (λ x. MaybeIs c (inside_interface c it m) (env s2 (envs (o ∷ os))) x None) (sym result) tt) in

@@ -54,7 +54,7 @@ module _ (c : Collection) (wf : IsWellFormed c) (m : Bindings) (ms : List Bindin
   -- when the resource is met, it is aliased, bound to its index, and has a handle there
   pub sample-handle : Reads → (s1 : Open) (j : ℕ) → Good c (sees ∷ []) (s1 ∷ []) → s1.binds r ≡ Some (at_export j nr) → own_name c it.uses it.exports r ≡ Some nr
       → (l : Leaf) × IsHeld c sees (ty.Value (val.Own r)) (own l)
-      × Good c (sees ∷ []) (remember_at (val.Own r) (at_type (next_type (bind_at r (at_type (next_type s1)) (with_alias_of (export_alias s.Type j nr) s1)))) (with_def (value_def (own_def (next_type s1))) (bind_at r (at_type (next_type s1)) (with_alias_of (export_alias s.Type j nr) s1))) ∷ [])
+      × Good c (sees ∷ []) (remember_at (ty.Value (val.Own r)) (at_type (next_type (bind_at r (at_type (next_type s1)) (with_alias_of (export_alias s.Type j nr) s1)))) (with_def (value_def (own_def (next_type s1))) (bind_at r (at_type (next_type s1)) (with_alias_of (export_alias s.Type j nr) s1))) ∷ [])
   sample-handle reads s1 j g at mine =
       let b = g.0.binds r (at_export j nr) at in
       let called = calls-own c it (bound_by_imports c w) r nr mine in

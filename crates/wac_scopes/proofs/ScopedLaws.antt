@@ -5,25 +5,31 @@ use Rattle.std.proofs.Math.Path.{fun_ext}
 use Rattle.wac_shapes.specs.Name.{Name}
 use Rattle.wac_shapes.specs.declared.component.DefinedTypeId.{DefinedTypeId}
 use Rattle.wac_shapes.specs.declared.component.PrimitiveType.{PrimitiveType}
+use Rattle.wac_shapes.specs.declared.component.FuncTypeId.{FuncTypeId}
+use Rattle.wac_shapes.specs.declared.component.InterfaceId.{InterfaceId}
 use Rattle.wac_shapes.specs.declared.component.ValueType.{ValueType}
 use Rattle.wac_shapes.specs.declared.component.ValueType.TheVariants as val
-use Rattle.wac_collection.specs.Tree.{exported, primitive, type_equal}
-use Rattle.wac_collection.specs.Uses.{same_value}
+use Rattle.wac_shapes.specs.declared.component.«Type».{«Type» as AnyType}
+use Rattle.wac_shapes.specs.declared.component.«Type».TheVariants as ty
+use Rattle.wac_collection.specs.Tree.{exported, Tree, primitive, type_equal}
+use Rattle.wac_collection.specs.Collection.{Collection}
+use Rattle.wac_collection.specs.Bound.{Bindings}
+use Rattle.wac_collection.specs.Uses.{same_type}
 use Rattle.wac_binary.specs.declared.types.ComponentValType.TheVariants.{Primitive, Index}
 use Rattle.wac_binary.specs.declared.sorts.Sort.TheVariants as s
 use Rattle.wac_binary.specs.declared.sorts.Description.TheVariants as e
-use Rattle.wac_binary.specs.Items.{ValueDef, TypeDef, ModuleDecl, value_def, primitive_def}
+use Rattle.wac_binary.specs.Items.{ValueDef, TypeDef, ModuleDecl, Decl, decls, value_def, primitive_def, instance_def}
 use Rattle.wac_binary.specs.Indexes.{space, core_types}
 use Rattle.wac_binary.specs.Unfold.{module_tree}
 use Rattle.wac_scopes.specs.declared.encodable.Encodable.{Encodable}
 use Rattle.wac_scopes.specs.declared.scope.Scope.{Scope}
 use Rattle.wac_scopes.specs.Contents.{content_of, IsOpenType, and_type, and_core_module, and_export, count}
-use Rattle.wac_scopes.specs.Scopes.{at_type, Open, env, envs, next_type, and_def, with_def, remember_at}
-use Rattle.wac_scopes.specs.Good.{At, Onward, top}
-use Rattle.wac_scopes.specs.Laws.{Adds, DefinesValue, DefinesFunc, DefinesPrimitive, IsRecorded}
+use Rattle.wac_scopes.specs.Scopes.{at_type, Open, Stack, env, envs, next_type, and_def, with_def, remember_at}
+use Rattle.wac_scopes.specs.Good.{At, IsHeld, IsOf, Onward, top}
+use Rattle.wac_scopes.specs.Laws.{Adds, DefinesValue, DefinesFunc, DefinesPrimitive, IsRecorded, StandsRecorded}
 use Rattle.wac_scopes.specs.Listed.{Lists, ListsEqual, ListsFunc, ListsInstance}
 use Rattle.wac_scopes.specs.Modules.{and_module, module_count, with_module, DefinesModule}
-use Rattle.wac_scopes.specs.Scoped.{value_index, at_index, recorded_value, opened, IsThere, AddsValue, AddsFunc, AddsPrimitive, AddsClosed, AddsModule, ListsType, ListsValue, ListsFunction, ListsInstanceOf}
+use Rattle.wac_scopes.specs.Scoped.{type_index, value_index, at_index, recorded_type, opened, IsThere, IsAt, AddsValue, AddsFunc, AddsPrimitive, AddsInstance, AddsClosed, AddsModule, ListsType, ListsValue, ListsFunction, ListsInstanceOf}
 use Rattle.wac_scopes.proofs.ContentLaws.{content-and-type, content-and-module, types-counted, modules-counted, lists-type-in, lists-function-in, lists-instance-in}
 use Rattle.wac_scopes.proofs.Meant.{value-type}
 use Rattle.wac_scopes.proofs.Steps.{good-remember_at}
@@ -32,42 +38,98 @@ use Rattle.wac_scopes.proofs.Values.{primitive-held}
 same-number : (a b : ℕ) → nat_eq a b ≡ (b == a)
 same-number a b = grind arith
 
--- what is recorded after one more definition
-pub recorded-too : (old new : Scope) (d : DefinedTypeId) (k : ℕ) → ((j : DefinedTypeId) → value_index new j ≡ cond (nat_eq d.0 j.0) (Some k) (value_index old j)) → recorded_value new ≡ (λ u. if same_value u (val.Defined d) then Some (at_type k) else recorded_value old u)
-recorded-too old new d k too = fun_ext by_value
+-- what is recorded after one more type
+pub recorded-too : (old new : Scope) (a : AnyType) (k : ℕ) → ((b : AnyType) → type_index new b ≡ cond (same_type b a) (Some k) (type_index old b)) → recorded_type new ≡ (λ b. if same_type b a then Some (at_type k) else recorded_type old b)
+recorded-too old new a k too = fun_ext (λ b. ap at_index (too b) ∙ by_case (same_type b a) (type_index old b))
   where
-    by_case : (b : Bool) (o : Option ℕ) → at_index (cond b (Some k) o) ≡ (if b then Some (at_type k) else at_index o)
+    by_case : (z : Bool) (o : Option ℕ) → at_index (cond z (Some k) o) ≡ (if z then Some (at_type k) else at_index o)
     by_case true o = refl
     by_case false o = refl
 
-    by_value : (u : ValueType) → recorded_value new u ≡ (if same_value u (val.Defined d) then Some (at_type k) else recorded_value old u)
-    by_value (val.Defined j) = ap at_index (too j) ∙ by_case (nat_eq d.0 j.0) (value_index old j) ∙ ap (λ (b : Bool). if b then Some (at_type k) else at_index (value_index old j)) (same-number d.0 j.0)
-    by_value (val.Primitive p) = refl
-    by_value (val.Own r) = refl
-    by_value (val.Borrow r) = refl
+-- one more type after room was made for it
+pub recorded-more : (old roomy new : Scope) (a : AnyType) (k : ℕ) → ((b : AnyType) → type_index roomy b ≡ type_index old b) → ((b : AnyType) → type_index new b ≡ cond (same_type b a) (Some k) (type_index roomy b)) → (b : AnyType) → type_index new b ≡ cond (same_type b a) (Some k) (type_index old b)
+recorded-more old roomy new a k same too b = too b ∙ ap (cond (same_type b a) (Some k)) (same b)
 
--- one more definition after room was made for it
-pub recorded-more : (old roomy new : Scope) (d : DefinedTypeId) (k : ℕ) → ((j : DefinedTypeId) → value_index roomy j ≡ value_index old j) → ((j : DefinedTypeId) → value_index new j ≡ cond (nat_eq d.0 j.0) (Some k) (value_index roomy j)) → (j : DefinedTypeId) → value_index new j ≡ cond (nat_eq d.0 j.0) (Some k) (value_index old j)
-recorded-more old roomy new d k same too j = too j ∙ ap (cond (nat_eq d.0 j.0) (Some k)) (same j)
+-- the same is recorded where each map records the same
+pub same-types : (old new : Scope) → ((d : DefinedTypeId) → value_index new d ≡ value_index old d) → ((f : FuncTypeId) → type_index new (ty.Func f) ≡ type_index old (ty.Func f)) → ((i : InterfaceId) → type_index new (ty.Interface i) ≡ type_index old (ty.Interface i)) → (a : AnyType) → type_index new a ≡ type_index old a
+same-types old new values funcs interfaces (ty.Value (val.Defined d)) = values d
+same-types old new values funcs interfaces (ty.Value (val.Primitive p)) = refl
+same-types old new values funcs interfaces (ty.Value (val.Own r)) = refl
+same-types old new values funcs interfaces (ty.Value (val.Borrow r)) = refl
+same-types old new values funcs interfaces (ty.Func f) = funcs f
+same-types old new values funcs interfaces (ty.Interface i) = interfaces i
+same-types old new values funcs interfaces (ty.Resource r) = refl
+same-types old new values funcs interfaces (ty.World w) = refl
+same-types old new values funcs interfaces (ty.Module m) = refl
 
-pub adds-value : (old new : Scope) (d : DefinedTypeId) (y : ValueDef) (k : ℕ) → DefinesValue → k ≡ count (space s.Type) old.content → new.content ≡ and_type old.content (value_def y) → ((j : DefinedTypeId) → value_index new j ≡ cond (nat_eq d.0 j.0) (Some k) (value_index old j)) → AddsValue old new d y k
+-- what a map with one more entry records
+
+pub value-too : (old new : Scope) (d : DefinedTypeId) (k : ℕ) → ((f : FuncTypeId) → type_index new (ty.Func f) ≡ type_index old (ty.Func f)) → ((i : InterfaceId) → type_index new (ty.Interface i) ≡ type_index old (ty.Interface i)) → ((j : DefinedTypeId) → value_index new j ≡ cond (nat_eq d.0 j.0) (Some k) (value_index old j)) → (b : AnyType) → type_index new b ≡ cond (same_type b (ty.Value (val.Defined d))) (Some k) (type_index old b)
+value-too old new d k funcs interfaces too (ty.Value (val.Defined j)) = too j ∙ ap (λ (z : Bool). cond z (Some k) (value_index old j)) (same-number d.0 j.0)
+value-too old new d k funcs interfaces too (ty.Value (val.Primitive p)) = refl
+value-too old new d k funcs interfaces too (ty.Value (val.Own r)) = refl
+value-too old new d k funcs interfaces too (ty.Value (val.Borrow r)) = refl
+value-too old new d k funcs interfaces too (ty.Func f) = funcs f
+value-too old new d k funcs interfaces too (ty.Interface i) = interfaces i
+value-too old new d k funcs interfaces too (ty.Resource r) = refl
+value-too old new d k funcs interfaces too (ty.World w) = refl
+value-too old new d k funcs interfaces too (ty.Module m) = refl
+
+pub func-too : (old new : Scope) (f : FuncTypeId) (k : ℕ) → ((d : DefinedTypeId) → value_index new d ≡ value_index old d) → ((i : InterfaceId) → type_index new (ty.Interface i) ≡ type_index old (ty.Interface i)) → ((j : FuncTypeId) → type_index new (ty.Func j) ≡ cond (nat_eq f.0 j.0) (Some k) (type_index old (ty.Func j))) → (b : AnyType) → type_index new b ≡ cond (same_type b (ty.Func f)) (Some k) (type_index old b)
+func-too old new f k values interfaces too (ty.Value (val.Defined j)) = values j
+func-too old new f k values interfaces too (ty.Value (val.Primitive p)) = refl
+func-too old new f k values interfaces too (ty.Value (val.Own r)) = refl
+func-too old new f k values interfaces too (ty.Value (val.Borrow r)) = refl
+func-too old new f k values interfaces too (ty.Func j) = too j ∙ ap (λ (z : Bool). cond z (Some k) (type_index old (ty.Func j))) (same-number f.0 j.0)
+func-too old new f k values interfaces too (ty.Interface i) = interfaces i
+func-too old new f k values interfaces too (ty.Resource r) = refl
+func-too old new f k values interfaces too (ty.World w) = refl
+func-too old new f k values interfaces too (ty.Module m) = refl
+
+pub interface-too : (old new : Scope) (i : InterfaceId) (k : ℕ) → ((d : DefinedTypeId) → value_index new d ≡ value_index old d) → ((f : FuncTypeId) → type_index new (ty.Func f) ≡ type_index old (ty.Func f)) → ((j : InterfaceId) → type_index new (ty.Interface j) ≡ cond (nat_eq i.0 j.0) (Some k) (type_index old (ty.Interface j))) → (b : AnyType) → type_index new b ≡ cond (same_type b (ty.Interface i)) (Some k) (type_index old b)
+interface-too old new i k values funcs too (ty.Value (val.Defined j)) = values j
+interface-too old new i k values funcs too (ty.Value (val.Primitive p)) = refl
+interface-too old new i k values funcs too (ty.Value (val.Own r)) = refl
+interface-too old new i k values funcs too (ty.Value (val.Borrow r)) = refl
+interface-too old new i k values funcs too (ty.Func f) = funcs f
+interface-too old new i k values funcs too (ty.Interface j) = too j ∙ ap (λ (z : Bool). cond z (Some k) (type_index old (ty.Interface j))) (same-number i.0 j.0)
+interface-too old new i k values funcs too (ty.Resource r) = refl
+interface-too old new i k values funcs too (ty.World w) = refl
+interface-too old new i k values funcs too (ty.Module m) = refl
+
+-- one type definition more, recorded
+opened-recorded : (old new : Scope) (a : AnyType) (y : TypeDef) (k : ℕ) → new.content ≡ and_type old.content y → ((b : AnyType) → type_index new b ≡ cond (same_type b a) (Some k) (type_index old b)) → (o : Open) → opened new o ≡ remember_at a (at_type k) (with_def y (opened old o))
+opened-recorded old new a y k appended too o =
+    let memo_same : recorded_type new ≡ (λ b. if same_type b a then Some (at_type k) else recorded_type old b) = recorded-too old new a k too in
+    let content_same : content_of new.content ≡ and_def y (content_of old.content) = ap content_of appended ∙ content-and-type old.content y in
+    (λ i. record o { content = content_same i; memo = memo_same i })
+
+-- what stands at a new index may be recorded there
+adds-recorded : (old new : Scope) (a : AnyType) (y : TypeDef) (k : ℕ) → k ≡ count (space s.Type) old.content → new.content ≡ and_type old.content y → ((b : AnyType) → type_index new b ≡ cond (same_type b a) (Some k) (type_index old b)) → (c : Collection) (m : Bindings) (ms : List Bindings) (o : Open) (os : Stack) (t : Tree) → IsHeld c m a t → IsOf a t → Adds c (m ∷ ms) (opened old o ∷ os) (with_def y (opened old o) ∷ os) (next_type (opened old o)) t → Adds c (m ∷ ms) (opened old o ∷ os) (opened new o ∷ os) k t
+adds-recorded old new a y k index appended too c m ms o os t held sort adds =
+    let next : k ≡ next_type (opened old o) = index ∙ types-counted old.content in
+    let q : Open = with_def y (opened old o) in
+    let there : Adds c (m ∷ ms) (opened old o ∷ os) (q ∷ os) k t = subst (λ (i : ℕ). Adds c (m ∷ ms) (opened old o ∷ os) (q ∷ os) i t) (sym next) adds in
+    subst (λ (z : Open). Adds c (m ∷ ms) (opened old o ∷ os) (z ∷ os) k t) (sym (opened-recorded old new a y k appended too o))
+    (((good-remember_at c m (top ms) q (envs os) a (at_type k) t there.0.0.0 held sort there.1, there.0.0.1), there.0.1), there.1)
+
+pub adds-value : (old new : Scope) (d : DefinedTypeId) (y : ValueDef) (k : ℕ) → DefinesValue → k ≡ count (space s.Type) old.content → new.content ≡ and_type old.content (value_def y) → ((b : AnyType) → type_index new b ≡ cond (same_type b (ty.Value (val.Defined d))) (Some k) (type_index old b)) → AddsValue old new d y k
 adds-value old new d y k law index appended too c wf m ms o os x g at w =
     let r = law c wf m ms (opened old o) os d x y g at w in
     let next : k ≡ next_type (opened old o) = index ∙ types-counted old.content in
-    let memo_same : recorded_value new ≡ (λ u. if same_value u (val.Defined d) then Some (at_type k) else recorded_value old u) = recorded-too old new d k too in
-    let content_same : content_of new.content ≡ and_def (value_def y) (content_of old.content) = ap content_of appended ∙ content-and-type old.content (value_def y) in
-    let same : opened new o ≡ remember_at (val.Defined d) (at_type k) (with_def (value_def y) (opened old o)) = (λ i. record o { content = content_same i; memo = memo_same i }) in
-    (r.0, r.1, r.2, subst (λ (z : Open). Adds c (m ∷ ms) (opened old o ∷ os) (z ∷ os) k r.0) (sym same) (subst (λ (i : ℕ). Adds c (m ∷ ms) (opened old o ∷ os) (remember_at (val.Defined d) (at_type i) (with_def (value_def y) (opened old o)) ∷ os) i r.0) (sym next) r.3))
+    (r.0, r.1, r.2, subst (λ (z : Open). Adds c (m ∷ ms) (opened old o ∷ os) (z ∷ os) k r.0) (sym (opened-recorded old new (ty.Value (val.Defined d)) (value_def y) k appended too o)) (subst (λ (i : ℕ). Adds c (m ∷ ms) (opened old o ∷ os) (remember_at (ty.Value (val.Defined d)) (at_type i) (with_def (value_def y) (opened old o)) ∷ os) i r.0) (sym next) r.3))
 
 -- one type definition more, of which nothing is recorded
 opened-and-type : (old : Scope) (x : Encodable) (y : TypeDef) → x ≡ and_type old.content y → (o : Open) → opened (record old { content = x }) o ≡ with_def y (opened old o)
-opened-and-type old x y appended o = let content_same : content_of x ≡ and_def y (content_of old.content) = ap content_of appended ∙ content-and-type old.content y in (λ i. record o { content = content_same i; memo = recorded_value old })
+opened-and-type old x y appended o = let content_same : content_of x ≡ and_def y (content_of old.content) = ap content_of appended ∙ content-and-type old.content y in (λ i. record o { content = content_same i; memo = recorded_type old })
 
-pub adds-func : (old : Scope) (x : Encodable) (y : TypeDef) (k : ℕ) → DefinesFunc → k ≡ count (space s.Type) old.content → x ≡ and_type old.content y → AddsFunc old (record old { content = x }) y k
-adds-func old x y k law index appended c wf m ms o os f v g at w =
+pub adds-func : (old new : Scope) (f : FuncTypeId) (y : TypeDef) (k : ℕ) → DefinesFunc → k ≡ count (space s.Type) old.content → new.content ≡ and_type old.content y → ((b : AnyType) → type_index new b ≡ cond (same_type b (ty.Func f)) (Some k) (type_index old b)) → AddsFunc old new f y k
+adds-func old new f y k law index appended too c wf m ms o os v g at w =
     let r = law c wf m ms (opened old o) os f v y g at w in
-    let next : k ≡ next_type (opened old o) = index ∙ types-counted old.content in
-    (r.0, r.1, r.2, subst (λ (z : Open). Adds c (m ∷ ms) (opened old o ∷ os) (z ∷ os) k r.0) (sym (opened-and-type old x y appended o)) (subst (λ (i : ℕ). Adds c (m ∷ ms) (opened old o ∷ os) (with_def y (opened old o) ∷ os) i r.0) (sym next) r.3))
+    (r.0, r.1, r.2, adds-recorded old new (ty.Func f) y k index appended too c m ms o os r.0 r.1 r.2 r.3)
+
+pub adds-instance : (old new : Scope) (i : InterfaceId) (ds : List Decl) (k : ℕ) → k ≡ count (space s.Type) old.content → new.content ≡ and_type old.content (instance_def (decls ds)) → ((b : AnyType) → type_index new b ≡ cond (same_type b (ty.Interface i)) (Some k) (type_index old b)) → AddsInstance old new i ds k
+adds-instance old new i ds k index appended too c m ms o os t held inst adds = adds-recorded old new (ty.Interface i) (instance_def (decls ds)) k index appended too c m ms o os t held inst adds
 
 pub adds-primitive : (old : Scope) (x : Encodable) (p : PrimitiveType) (k : ℕ) → DefinesPrimitive → k ≡ count (space s.Type) old.content → x ≡ and_type old.content (value_def (primitive_def p)) → AddsPrimitive old (record old { content = x }) p k
 adds-primitive old x p k law index appended c m ms o os g =
@@ -85,28 +147,28 @@ adds-module old x ds k law index appended c m ms o os g says =
     let r = law c m ms (opened old o) os ds g says in
     let next : k ≡ module_count (content_of old.content) = index ∙ modules-counted old.content in
     let content_same : content_of x ≡ and_module ds (content_of old.content) = ap content_of appended ∙ content-and-module old.content ds in
-    let same : opened (record old { content = x }) o ≡ with_module ds (opened old o) = (λ i. record o { content = content_same i; memo = recorded_value old }) in (
+    let same : opened (record old { content = x }) o ≡ with_module ds (opened old o) = (λ i. record o { content = content_same i; memo = recorded_type old }) in (
       subst (λ (z : Open). Onward c (m ∷ ms) (opened old o ∷ os) (z ∷ os)) (sym same) r.0,
       subst (λ (z : Open). At ((env z (envs os)).core_types) k (module_tree ds)) (sym same) (subst (λ (i : ℕ). At ((env (with_module ds (opened old o)) (envs os)).core_types) i (module_tree ds)) (sym next) r.1),
     )
 
 pub lists-type : (old : Scope) (x : Encodable) (n : Name) (i k : ℕ) → ListsEqual → IsOpenType old.content → k ≡ count (space s.Type) old.content → x ≡ and_export old.content n (e.Equal i) → ListsType old (record old { content = x }) n i k
-lists-type old x n i k law in_type index appended c m ms o os t = lists-type-in law old.content x n i k in_type index appended c m ms (record o { memo = recorded_value old }) os t
+lists-type old x n i k law in_type index appended c m ms o os t = lists-type-in law old.content x n i k in_type index appended c m ms (record o { memo = recorded_type old }) os t
 
 pub lists-function : (old : Scope) (x : Encodable) (n : Name) (i : ℕ) → ListsFunc → IsOpenType old.content → x ≡ and_export old.content n (e.Func i) → ListsFunction old (record old { content = x }) n i
-lists-function old x n i law in_type appended c m ms o os t = lists-function-in law old.content x n i in_type appended c m ms (record o { memo = recorded_value old }) os t
+lists-function old x n i law in_type appended c m ms o os t = lists-function-in law old.content x n i in_type appended c m ms (record o { memo = recorded_type old }) os t
 
 pub lists-instance-of : (old : Scope) (x : Encodable) (n : Name) (i k : ℕ) → ListsInstance → IsOpenType old.content → k ≡ count (space s.Instance) old.content → x ≡ and_export old.content n (e.Instance i) → ListsInstanceOf old (record old { content = x }) n i k
-lists-instance-of old x n i k law in_type index appended c m ms o os t = lists-instance-in law old.content x n i k in_type index appended c m ms (record o { memo = recorded_value old }) os t
+lists-instance-of old x n i k law in_type index appended c m ms o os t = lists-instance-in law old.content x n i k in_type index appended c m ms (record o { memo = recorded_type old }) os t
 
-pub lists-value : (old new : Scope) (n : Name) (d : DefinedTypeId) (i k : ℕ) → ListsEqual → IsOpenType old.content → k ≡ count (space s.Type) old.content → new.content ≡ and_export old.content n (e.Equal i) → ((j : DefinedTypeId) → value_index new j ≡ cond (nat_eq d.0 j.0) (Some k) (value_index old j)) → ListsValue old new n d i k
+pub lists-value : (old new : Scope) (n : Name) (d : DefinedTypeId) (i k : ℕ) → ListsEqual → IsOpenType old.content → k ≡ count (space s.Type) old.content → new.content ≡ and_export old.content n (e.Equal i) → ((b : AnyType) → type_index new b ≡ cond (same_type b (ty.Value (val.Defined d))) (Some k) (type_index old b)) → ListsValue old new n d i k
 lists-value old new n d i k law in_type index appended too c m ms o os t g free held value at =
     let named_ : Open = opened (record old { content = new.content }) o in
     let r = lists-type old new.content n i k law in_type index appended c m ms o os t g free (value-type t value) at in
-    let memo_same : recorded_value new ≡ (λ u. if same_value u (val.Defined d) then Some (at_type k) else recorded_value old u) = recorded-too old new d k too in
-    let same : opened new o ≡ remember_at (val.Defined d) (at_type k) named_ = (λ j. record o { content = content_of new.content; memo = memo_same j }) in
-    let listed : Lists c m ms (opened old o) (remember_at (val.Defined d) (at_type k) named_) os exported n (type_equal t) = record {
-      good = (good-remember_at c m (top ms) named_ (envs os) (val.Defined d) (at_type k) t r.0.good.0 held value r.1, r.0.good.1);
+    let memo_same : recorded_type new ≡ (λ b. if same_type b (ty.Value (val.Defined d)) then Some (at_type k) else recorded_type old b) = recorded-too old new (ty.Value (val.Defined d)) k too in
+    let same : opened new o ≡ remember_at (ty.Value (val.Defined d)) (at_type k) named_ = (λ j. record o { content = content_of new.content; memo = memo_same j }) in
+    let listed : Lists c m ms (opened old o) (remember_at (ty.Value (val.Defined d)) (at_type k) named_) os exported n (type_equal t) = record {
+      good = (good-remember_at c m (top ms) named_ (envs os) (ty.Value (val.Defined d)) (at_type k) t r.0.good.0 held value r.1, r.0.good.1);
       keeps = r.0.keeps;
       this = r.0.this;
       that = r.0.that;
@@ -120,3 +182,6 @@ there-primitive scope v p is = subst (λ (u : ValueType). IsThere scope u (Primi
 
 pub there-index : (scope : Scope) (v : ValueType) (d : DefinedTypeId) (i : ℕ) → v ≡ val.Defined d → IsRecorded → value_index scope d ≡ Some i → IsThere scope v (Index i)
 there-index scope v d i of_defined law is = subst (λ (u : ValueType). IsThere scope u (Index i)) (sym of_defined) (λ c m ms o os g. law c m ms (opened scope o) os (val.Defined d) i g (ap at_index is))
+
+pub at-recorded : (scope : Scope) (a : AnyType) (k : ℕ) → StandsRecorded → type_index scope a ≡ Some k → IsAt scope a k
+at-recorded scope a k law is = λ c m ms o os g. law c m ms (opened scope o) os a k g (ap at_index is)

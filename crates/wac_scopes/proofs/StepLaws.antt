@@ -14,7 +14,7 @@ use Rattle.wac_scopes.specs.Reads.{Reads}
 use Rattle.wac_scopes.specs.Scopes.{Where, at_type, Open, Stack, env, envs, next_type, bind_at, remember_at}
 use Rattle.wac_scopes.specs.Good.{is_bottom, IsHeld, Good, top, seen_inside}
 use Rattle.wac_scopes.specs.Parts.{IsReached, IsWrittenFunc}
-use Rattle.wac_scopes.specs.Laws.{Adds, DefinesValue, DefinesFunc, DefinesPrimitive, DefinesHandles, Reaches, BringsResource, BringsType, SettlesResource, SettlesValue, GoesOnAround, Follows, StaysIs, IsRecorded, IsItsTree}
+use Rattle.wac_scopes.specs.Laws.{Adds, DefinesValue, DefinesFunc, DefinesPrimitive, DefinesHandles, Reaches, BringsResource, BringsType, SettlesResource, SettlesValue, GoesOnAround, Follows, StaysIs, IsRecorded, StandsRecorded, IsItsTree}
 use Rattle.wac_binary.specs.HasMeaning.{IsValue}
 use Rattle.wac_scopes.proofs.Meant.{value-type}
 use Rattle.wac_scopes.proofs.Grow.{grown-at}
@@ -27,8 +27,8 @@ pub added : (c : Collection) (m : Bindings) (ms : List Bindings) (o o' : Open) (
 added c m ms o o' os t g more = (top-onward c m ms o o' os g more.good more.kept, more.at)
 
 -- and recorded as a value type
-pub added-value : (c : Collection) (m : Bindings) (ms : List Bindings) (o o' : Open) (os : Stack) (v : ValueType) (t : Tree) → Good c (m ∷ ms) (o ∷ os) → OneMore c m (top ms) o o' (envs os) t → IsHeld c m (ty.Value v) t → IsValue t → Adds c (m ∷ ms) (o ∷ os) (remember_at v (at_type (next_type o)) o' ∷ os) (next_type o) t
-added-value c m ms o o' os v t g more held value = (top-onward c m ms o (remember_at v (at_type (next_type o)) o') os g (good-remember_at c m (top ms) o' (envs os) v (at_type (next_type o)) t more.good held value more.at) more.kept, more.at)
+pub added-value : (c : Collection) (m : Bindings) (ms : List Bindings) (o o' : Open) (os : Stack) (v : ValueType) (t : Tree) → Good c (m ∷ ms) (o ∷ os) → OneMore c m (top ms) o o' (envs os) t → IsHeld c m (ty.Value v) t → IsValue t → Adds c (m ∷ ms) (o ∷ os) (remember_at (ty.Value v) (at_type (next_type o)) o' ∷ os) (next_type o) t
+added-value c m ms o o' os v t g more held value = (top-onward c m ms o (remember_at (ty.Value v) (at_type (next_type o)) o') os g (good-remember_at c m (top ms) o' (envs os) (ty.Value v) (at_type (next_type o)) t more.good held value more.at) more.kept, more.at)
 
 -- and recorded as a resource
 pub added-resource : (c : Collection) (m : Bindings) (ms : List Bindings) (o o' : Open) (os : Stack) (r : ResourceId) (l : Leaf) → Good c (m ∷ ms) (o ∷ os) → OneMore c m (top ms) o o' (envs os) (resource l) → m r ≡ Some l → Adds c (m ∷ ms) (o ∷ os) (bind_at r (at_type (next_type o)) o' ∷ os) (next_type o) (resource l)
@@ -94,7 +94,10 @@ pub stays-is : StaysIs
 stays-is c ms st st' a x n h = is-keeps c (top ms) (scope_at (envs st) 0) (scope_at (envs st') 0) a x (grown-at (envs st) (envs st') 0 n.1) h
 
 pub is-recorded : IsRecorded
-is-recorded c m ms o os v i g at = let t = g.0.memo v (at_type i) at in (t.0, t.1, (t.3, t.2))
+is-recorded c m ms o os v i g at = let t = g.0.memo (ty.Value v) (at_type i) at in (t.0, t.1, (t.3, t.2))
+
+pub stands-recorded : StandsRecorded
+stands-recorded c m ms o os a i g at = g.0.memo a (at_type i) at
 
 pub is-its-tree : IsItsTree
 is-its-tree = held-here

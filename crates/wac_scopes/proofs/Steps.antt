@@ -4,23 +4,21 @@ use Rattle.std.proofs.Common.{refl, ap, ◌∙◌, sym, subst}
 use Rattle.std.proofs.lemmas.Bool.{eqb-true}
 use Rattle.wac_shapes.specs.Name.{Name, same_name}
 use Rattle.wac_shapes.specs.declared.component.ResourceId.{ResourceId}
-use Rattle.wac_shapes.specs.declared.component.ValueType.{ValueType}
 use Rattle.wac_shapes.specs.declared.component.«Type».{«Type» as AnyType}
-use Rattle.wac_shapes.specs.declared.component.«Type».TheVariants as ty
 use Rattle.wac_collection.specs.Tree.{Leaf, Tree, named, resource, seen_from, taken_from, items_in}
 use Rattle.wac_collection.specs.Collection.{Collection}
 use Rattle.wac_collection.specs.Bound.{Bindings}
-use Rattle.wac_collection.specs.Uses.{same_value}
-use Rattle.wac_collection.proofs.Ids.{same_value-true}
+use Rattle.wac_collection.specs.Uses.{same_type}
+use Rattle.wac_collection.proofs.Ids.{same_type-true}
 use Rattle.wac_binary.specs.declared.sorts.Sort.TheVariants as s
 use Rattle.wac_binary.specs.Items.{Item, TypeDef, type_decl, type_item, Alias, alias_decl, alias_item, export_alias, outer_alias}
 use Rattle.wac_binary.specs.Unfold.{Scope, Bound, scope_at, type_at, bound_at, bound_type, tree_of}
 use Rattle.wac_binary.specs.Meaning.{Root, meaning}
-use Rattle.wac_binary.specs.HasMeaning.{IsValue, IsType, TypeHasMeaning}
+use Rattle.wac_binary.specs.HasMeaning.{IsType, TypeHasMeaning}
 use Rattle.wac_scopes.specs.Reads.{Reads}
 use Rattle.wac_scopes.proofs.Meant.{steady, def-meaning, export-meaning, stands-sort, outer-meaning}
 use Rattle.wac_scopes.specs.Scopes.{Content, declarations, root, ContentHasMeaning, Where, at_export, Open, Stack, env, envs, scope_of, next_type, and_def, and_alias, with_def, with_alias_of, bind_at, remember_at, name_at}
-use Rattle.wac_scopes.specs.Good.{At, Kept, Under, is_bottom, Stands, IsHeld, GoodScope, Good, top, Onward, seen_inside}
+use Rattle.wac_scopes.specs.Good.{At, Kept, Under, is_bottom, Stands, IsHeld, IsOf, GoodScope, Good, top, Onward, seen_inside}
 use Rattle.wac_scopes.proofs.Grow.{at-last, at-type_at, at-bound_at, kept-refl, kept-type, keeps-type, and_type, grown-refl, grown-trans, under-refl, under-grown, under-at, types-count, good-deeper, Gives, good-pushed}
 
 pub some-equal : {A : Type 0} (a b : A) → Some a ≡ Some b → a ≡ b
@@ -51,20 +49,20 @@ good-bind_at c m mo o out r w l h bound at = record {
     not_found q true u f p = let no_some : Some w ≡ None = f in cc
     not_found q false u f p = h.unbound q u f p
 
--- recording where a value type stands
-pub good-remember_at : (c : Collection) (m mo : Bindings) (o : Open) (out : List Scope) (v : ValueType) (w : Where) (t : Tree) → GoodScope c m mo o out → IsHeld c m (ty.Value v) t → IsValue t → Stands (env o out) t w → GoodScope c m mo (remember_at v w o) out
-good-remember_at c m mo o out v w t h held value at = record {
+-- recording where a type stands
+pub good-remember_at : (c : Collection) (m mo : Bindings) (o : Open) (out : List Scope) (a : AnyType) (w : Where) (t : Tree) → GoodScope c m mo o out → IsHeld c m a t → IsOf a t → Stands (env o out) t w → GoodScope c m mo (remember_at a w o) out
+good-remember_at c m mo o out a w t h held sort at = record {
   meaning = h.meaning;
   bottom = h.bottom;
   binds = h.binds;
   unbound = h.unbound;
-  memo = λ u p f. found u p (same_value u v) refl f;
+  memo = λ b p f. found b p (same_type b a) refl f;
   named = h.named;
 }
   where
-    found : (u : ValueType) (p : Where) (b : Bool) → same_value u v ≡ b → (if b then Some w else o.memo u) ≡ Some p → (x : Tree) × IsHeld c m (ty.Value u) x × IsValue x × Stands (env o out) x p
-    found u p true e f = (t, subst (λ (x : ValueType). IsHeld c m (ty.Value x) t) (sym (same_value-true u v e)) held, value, subst (Stands (env o out) t) (some-equal w p f) at)
-    found u p false e f = h.memo u p f
+    found : (b : AnyType) (p : Where) (z : Bool) → same_type b a ≡ z → (if z then Some w else o.memo b) ≡ Some p → (x : Tree) × IsHeld c m b x × IsOf b x × Stands (env o out) x p
+    found b p true e f = let same : b ≡ a = same_type-true b a e in (t, subst (λ (x : AnyType). IsHeld c m x t) (sym same) held, subst (λ (x : AnyType). IsOf x t) (sym same) sort, subst (Stands (env o out) t) (some-equal w p f) at)
+    found b p false e f = h.memo b p f
 
 -- recording a type under a name
 pub good-name_at : (c : Collection) (m mo : Bindings) (o : Open) (out : List Scope) (n : Name) (a : AnyType) (w : Where) (t : Tree) → GoodScope c m mo o out → IsHeld c m a t → Stands (env o out) t w → GoodScope c m mo (name_at n a w o) out

@@ -48,7 +48,7 @@ HasExported = (c : Collection) → IsWellFormed c → (m : Bindings) (ms : List 
     → Good c (m ∷ ms) (o ∷ os) → (h : Stood c m (env o (envs os)) i it j)
     → BindsInstance c it h.bound.side h.bound.path m → find_name it.exports n ≡ Some (kind.TypeItem (ty.Value v)) → holds_value c v ≡ true
     → IsHeld c m (ty.Value v) (held_tree c m (ty.Value v)) × Stands (env o (envs os)) (held_tree c m (ty.Value v)) (at_export j n)
-    × Onward c (m ∷ ms) (o ∷ os) (remember_at v (at_export j n) o ∷ os)
+    × Onward c (m ∷ ms) (o ∷ os) (remember_at (ty.Value v) (at_export j n) o ∷ os)
 
 -- what is held as a value type is one
 abbrev pub HoldsValue : Type 0

@@ -23,7 +23,7 @@ use Rattle.wac_binary.specs.Items.{ValueDef, own_def, borrow_def, primitive_def,
 use Rattle.wac_binary.specs.Unfold.{scope_at}
 use Rattle.wac_binary.specs.HasMeaning.{IsValue, IsFunction, IsType}
 use Rattle.wac_scopes.specs.Scopes.{Where, at_type, at_export, Open, Stack, env, envs, next_type, with_def, with_alias_of, bind_at, remember_at}
-use Rattle.wac_scopes.specs.Good.{At, Stands, IsHeld, Good, top, Onward, innermost}
+use Rattle.wac_scopes.specs.Good.{At, Stands, IsHeld, IsOf, Good, top, Onward, innermost}
 use Rattle.wac_scopes.specs.Parts.{Is, IsWritten, IsWrittenFunc, IsReached}
 
 -- the stack goes onward, and this type index of its innermost scope is this tree
@@ -34,7 +34,7 @@ Adds c ms st st' i t = Onward c ms st st' × At ((innermost st').types) i t
 abbrev pub DefinesValue : Type 0
 DefinesValue = (c : Collection) → IsWellFormed c → (m : Bindings) (ms : List Bindings) (o : Open) (os : Stack) (d : DefinedTypeId) (x : DefinedType) (y : ValueDef)
     → Good c (m ∷ ms) (o ∷ os) → item_at c.defined d.0 ≡ Some x → IsWritten c m (env o (envs os)) x y
-    → (t : Tree) × IsHeld c m (ty.Value (val.Defined d)) t × IsValue t × Adds c (m ∷ ms) (o ∷ os) (remember_at (val.Defined d) (at_type (next_type o)) (with_def (value_def y) o) ∷ os) (next_type o) t
+    → (t : Tree) × IsHeld c m (ty.Value (val.Defined d)) t × IsValue t × Adds c (m ∷ ms) (o ∷ os) (remember_at (ty.Value (val.Defined d)) (at_type (next_type o)) (with_def (value_def y) o) ∷ os) (next_type o) t
 
 -- a function type, too
 abbrev pub DefinesFunc : Type 0
@@ -51,8 +51,8 @@ DefinesPrimitive = (c : Collection) (m : Bindings) (ms : List Bindings) (o : Ope
 abbrev pub DefinesHandles : Type 0
 DefinesHandles = (c : Collection) (m : Bindings) (ms : List Bindings) (o : Open) (os : Stack) (r : ResourceId) (i : ℕ) (l : Leaf)
     → Good c (m ∷ ms) (o ∷ os) → m (resolved c r) ≡ Some l → At ((env o (envs os)).types) i (resource l)
-    → (IsHeld c m (ty.Value (val.Own r)) (own l) × Adds c (m ∷ ms) (o ∷ os) (remember_at (val.Own r) (at_type (next_type o)) (with_def (value_def (own_def i)) o) ∷ os) (next_type o) (own l))
-    × (IsHeld c m (ty.Value (val.Borrow r)) (borrow l) × Adds c (m ∷ ms) (o ∷ os) (remember_at (val.Borrow r) (at_type (next_type o)) (with_def (value_def (borrow_def i)) o) ∷ os) (next_type o) (borrow l))
+    → (IsHeld c m (ty.Value (val.Own r)) (own l) × Adds c (m ∷ ms) (o ∷ os) (remember_at (ty.Value (val.Own r)) (at_type (next_type o)) (with_def (value_def (own_def i)) o) ∷ os) (next_type o) (own l))
+    × (IsHeld c m (ty.Value (val.Borrow r)) (borrow l) × Adds c (m ∷ ms) (o ∷ os) (remember_at (ty.Value (val.Borrow r)) (at_type (next_type o)) (with_def (value_def (borrow_def i)) o) ∷ os) (next_type o) (borrow l))
 
 -- where the innermost scope that has it has a resource recorded, there stands its leaf
 abbrev pub Reaches : Type 0
@@ -82,7 +82,7 @@ SettlesResource = (c : Collection) (m : Bindings) (ms : List Bindings) (o : Open
 abbrev pub SettlesValue : Type 0
 SettlesValue = (c : Collection) (m : Bindings) (ms : List Bindings) (o : Open) (os : Stack) (v : ValueType) (j : ℕ) (n : Name) (t : Tree)
     → Good c (m ∷ ms) (o ∷ os) → IsHeld c m (ty.Value v) t → IsValue t → Stands (env o (envs os)) t (at_export j n)
-    → Adds c (m ∷ ms) (o ∷ os) (remember_at v (at_type (next_type o)) (with_alias_of (export_alias s.Type j n) o) ∷ os) (next_type o) t
+    → Adds c (m ∷ ms) (o ∷ os) (remember_at (ty.Value v) (at_type (next_type o)) (with_alias_of (export_alias s.Type j n) o) ∷ os) (next_type o) t
 
 -- what goes on around the innermost scope leaves it good
 abbrev pub GoesOnAround : Type 0
@@ -100,7 +100,12 @@ StaysIs = (c : Collection) (ms : List Bindings) (st st' : Stack) (a : AnyType) (
 -- what is recorded of a value type is that value type, at an index
 abbrev pub IsRecorded : Type 0
 IsRecorded = (c : Collection) (m : Bindings) (ms : List Bindings) (o : Open) (os : Stack) (v : ValueType) (i : ℕ)
-    → Good c (m ∷ ms) (o ∷ os) → o.memo v ≡ Some (at_type i) → Is c m (env o (envs os)) (ty.Value v) (Index i)
+    → Good c (m ∷ ms) (o ∷ os) → o.memo (ty.Value v) ≡ Some (at_type i) → Is c m (env o (envs os)) (ty.Value v) (Index i)
+
+-- and so of any type
+abbrev pub StandsRecorded : Type 0
+StandsRecorded = (c : Collection) (m : Bindings) (ms : List Bindings) (o : Open) (os : Stack) (a : AnyType) (i : ℕ)
+    → Good c (m ∷ ms) (o ∷ os) → o.memo a ≡ Some (at_type i) → (t : Tree) × IsHeld c m a t × IsOf a t × At ((env o (envs os)).types) i t
 
 -- what is held is the held tree
 abbrev pub IsItsTree : Type 0

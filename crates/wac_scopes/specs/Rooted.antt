@@ -1,8 +1,7 @@
--- A root into which definitions are written beside other items: what is recorded there are definitions that are written.
+-- A root into which definitions are written beside other items: what is recorded there are types that are written.
 use Rattle.std.specs.Prelude.{ℕ, ◌≡◌, ◌≤◌, false, List, [], ◌∷◌, ◌++◌, map, Some, None}
 use Rattle.wac_shapes.specs.declared.component.DefinedTypeId.{DefinedTypeId}
-use Rattle.wac_shapes.specs.declared.component.ValueType.TheVariants as val
-use Rattle.wac_shapes.specs.declared.component.«Type».TheVariants as ty
+use Rattle.wac_shapes.specs.declared.component.«Type».{«Type» as AnyType}
 use Rattle.wac_collection.specs.Tree.{Tree}
 use Rattle.wac_collection.specs.Collection.{Collection}
 use Rattle.wac_collection.specs.Bound.{held_tree}
@@ -15,7 +14,7 @@ use Rattle.wac_scopes.specs.declared.scope.Scope.{Scope}
 use Rattle.wac_scopes.specs.Contents.{IsRoot, items_of}
 use Rattle.wac_scopes.specs.Scopes.{Open, opening}
 use Rattle.wac_scopes.specs.Good.{At, Good, nothing_bound}
-use Rattle.wac_scopes.specs.Scoped.{value_index, opened, root_of}
+use Rattle.wac_scopes.specs.Scoped.{type_index, value_index, opened, root_of}
 
 -- nothing is recorded
 abbrev pub unbound : Open
@@ -25,17 +24,17 @@ unbound = opening (λ r. false)
 pub record IsRightRoot (c : Collection) (s : Scope) : Type 0 where
   pub is_root : IsRoot s.content
   pub right : HasMeaning (items_of s.content) → Good c (nothing_bound ∷ []) (opened s unbound ∷ [])
-  pub written : HasMeaning (items_of s.content) → (d : DefinedTypeId) (i : ℕ) → value_index s d ≡ Some i
-      → stands_for (root_of s) sort.Type i ≡ written (held_tree c nothing_bound (ty.Value (val.Defined d)))
+  pub written : HasMeaning (items_of s.content) → (a : AnyType) (i : ℕ) → type_index s a ≡ Some i
+      → stands_for (root_of s) sort.Type i ≡ written (held_tree c nothing_bound a)
 
 -- a root in which nothing is recorded is such, whatever its items are
 abbrev pub BeginsRight : Type 0
-BeginsRight = (c : Collection) (s : Scope) → IsRoot s.content → ((d : DefinedTypeId) → value_index s d ≡ None) → IsRightRoot c s
+BeginsRight = (c : Collection) (s : Scope) → IsRoot s.content → ((a : AnyType) → type_index s a ≡ None) → IsRightRoot c s
 
 -- and stays such as items are added and nothing is recorded
 abbrev pub StaysRight : Type 0
 StaysRight = (c : Collection) (old new : Scope) (more : List Item) → IsRightRoot c old → IsRoot new.content → items_of new.content ≡ items_of old.content ++ more
-    → ((d : DefinedTypeId) → value_index new d ≡ value_index old d) → IsRightRoot c new
+    → ((a : AnyType) → type_index new a ≡ type_index old a) → IsRightRoot c new
 
 -- items that have a meaning have one without the last of them
 abbrev pub MeansBefore : Type 0

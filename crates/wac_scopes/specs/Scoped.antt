@@ -9,7 +9,10 @@ use Rattle.wac_shapes.specs.declared.component.DefinedType.{DefinedType}
 use Rattle.wac_shapes.specs.declared.component.FuncType.{FuncType}
 use Rattle.wac_shapes.specs.declared.component.ValueType.{ValueType}
 use Rattle.wac_shapes.specs.declared.component.ValueType.TheVariants as val
+use Rattle.wac_shapes.specs.declared.component.InterfaceId.{InterfaceId}
+use Rattle.wac_shapes.specs.declared.component.«Type».{«Type» as AnyType}
 use Rattle.wac_shapes.specs.declared.component.«Type».TheVariants as ty
+use Rattle.wac_collection.specs.Uses.{same_type}
 use Rattle.wac_collection.specs.Tree.{imported, exported, named, Tree, primitive, type_equal, function_item, instance_item, module_item}
 use Rattle.wac_collection.specs.Collection.{Collection, IsWellFormed, item_at}
 use Rattle.wac_collection.specs.Bound.{Bindings}
@@ -28,23 +31,28 @@ use Rattle.wac_scopes.specs.declared.fault.EncodeFault.TheVariants as fault
 use Rattle.wac_scopes.specs.declared.scope.Scope.{Scope}
 use Rattle.wac_scopes.specs.Contents.{content_of, items_of}
 use Rattle.wac_scopes.specs.Scopes.{Where, at_type, Open, Stack, env, envs, next_type, with_def}
-use Rattle.wac_scopes.specs.Good.{At, IsHeld, Good, Onward}
+use Rattle.wac_scopes.specs.Good.{At, IsHeld, IsOf, Good, Onward}
 use Rattle.wac_scopes.specs.Parts.{Is, IsWritten, IsWrittenFunc}
 use Rattle.wac_scopes.specs.Laws.{Adds}
 use Rattle.wac_scopes.specs.Listed.{IsNewName, Lists}
 use Rattle.wac_scopes.specs.Instances.{IsNewImport, position_of}
 
--- the type index of a definition, where it is written
+-- the type index of a definition, a function type or an interface, where it is written
+abbrev pub type_index : Scope → AnyType → Option ℕ
+type_index s (ty.Value (val.Defined d)) = get (λ a b. nat_eq a.0 b.0) s.values d
+type_index s (ty.Func f) = get (λ a b. nat_eq a.0 b.0) s.funcs f
+type_index s (ty.Interface i) = get (λ a b. nat_eq a.0 b.0) s.interfaces i
+type_index s a = None
+
 abbrev pub value_index : Scope → DefinedTypeId → Option ℕ
-value_index s d = get (λ a b. nat_eq a.0 b.0) s.values d
+value_index s d = type_index s (ty.Value (val.Defined d))
 
 abbrev pub at_index : Option ℕ → Option Where
 at_index None = None
 at_index (Some i) = Some (at_type i)
 
-abbrev pub recorded_value : Scope → ValueType → Option Where
-recorded_value s (val.Defined d) = at_index (value_index s d)
-recorded_value s v = None
+abbrev pub recorded_type : Scope → AnyType → Option Where
+recorded_type s a = at_index (type_index s a)
 
 -- the value type in use that says a held one
 abbrev pub by_index : Option ℕ → Option ComponentValType
@@ -58,7 +66,7 @@ in_use s v = None
 
 -- the open scope that is so written; resources and names are recorded as in o
 abbrev pub opened : Scope → Open → Open
-opened s o = record o { content = content_of s.content; memo = recorded_value s }
+opened s o = record o { content = content_of s.content; memo = recorded_type s }
 
 abbrev pub IfThere : Option ComponentValType → (ComponentValType → Type 0) → Type 0
 IfThere None P = Unit {0}
@@ -69,14 +77,19 @@ abbrev pub IsThere : Scope → ValueType → ComponentValType → Type 0
 IsThere s v x = (c : Collection) (m : Bindings) (ms : List Bindings) (o : Open) (os : Stack)
     → Good c (m ∷ ms) (opened s o ∷ os) → Is c m (env (opened s o) (envs os)) (ty.Value v) x
 
--- with one more definition at an index
-pub record HasToo (old : Scope) (d : DefinedTypeId) (i : ℕ) (new : Scope) : Type 0 where
-  pub values : (k : DefinedTypeId) → value_index new k ≡ cond (nat_eq d.0 k.0) (Some i) (value_index old k)
+-- what is recorded of a type stands at its index, as what is held, in each such stack
+abbrev pub IsAt : Scope → AnyType → ℕ → Type 0
+IsAt s a k = (c : Collection) (m : Bindings) (ms : List Bindings) (o : Open) (os : Stack)
+    → Good c (m ∷ ms) (opened s o ∷ os) → (t : Tree) × IsHeld c m a t × IsOf a t × At ((env (opened s o) (envs os)).types) k t
+
+-- with one more type at an index
+pub record HasToo (old : Scope) (a : AnyType) (i : ℕ) (new : Scope) : Type 0 where
+  pub types : (b : AnyType) → type_index new b ≡ cond (same_type b a) (Some i) (type_index old b)
 
 -- the same is written, and the same recorded
 pub record IsAsBefore (old new : Scope) : Type 0 where
   pub content : new.content ≡ old.content
-  pub values : (k : DefinedTypeId) → value_index new k ≡ value_index old k
+  pub types : (a : AnyType) → type_index new a ≡ type_index old a
 
 -- where the definition that is written says the held one, index k is the held value type, and each good stack goes onward
 abbrev pub AddsValue : Scope → Scope → DefinedTypeId → ValueDef → ℕ → Type 0
@@ -85,8 +98,8 @@ AddsValue old new d y k = (c : Collection) → IsWellFormed c → (m : Bindings)
     → (t : Tree) × IsHeld c m (ty.Value (val.Defined d)) t × IsValue t × Adds c (m ∷ ms) (opened old o ∷ os) (opened new o ∷ os) k t
 
 -- and so of a function type
-abbrev pub AddsFunc : Scope → Scope → TypeDef → ℕ → Type 0
-AddsFunc old new y k = (c : Collection) → IsWellFormed c → (m : Bindings) (ms : List Bindings) (o : Open) (os : Stack) (f : FuncTypeId) (x : FuncType)
+abbrev pub AddsFunc : Scope → Scope → FuncTypeId → TypeDef → ℕ → Type 0
+AddsFunc old new f y k = (c : Collection) → IsWellFormed c → (m : Bindings) (ms : List Bindings) (o : Open) (os : Stack) (x : FuncType)
     → Good c (m ∷ ms) (opened old o ∷ os) → item_at c.funcs f.0 ≡ Some x → IsWrittenFunc c m (env (opened old o) (envs os)) x y
     → (t : Tree) × IsHeld c m (ty.Func f) t × IsFunction t × Adds c (m ∷ ms) (opened old o ∷ os) (opened new o ∷ os) k t
 
@@ -100,10 +113,12 @@ abbrev pub AddsClosed : Scope → Scope → TypeDef → ℕ → Type 0
 AddsClosed old new y k = (c : Collection) (ms : List Bindings) (o : Open) (os : Stack) (t : Tree)
     → Adds c ms (opened old o ∷ os) (with_def y (opened old o) ∷ os) (next_type (opened old o)) t → Adds c ms (opened old o ∷ os) (opened new o ∷ os) k t
 
--- and so of declarations, closed as an instance type, and as a component type
-abbrev pub AddsInstance : Scope → Scope → List Decl → ℕ → Type 0
-AddsInstance old new ds k = AddsClosed old new (instance_def (decls ds)) k
+-- and so of declarations, closed as an instance type that is the held interface
+abbrev pub AddsInstance : Scope → Scope → InterfaceId → List Decl → ℕ → Type 0
+AddsInstance old new i ds k = (c : Collection) (m : Bindings) (ms : List Bindings) (o : Open) (os : Stack) (t : Tree) → IsHeld c m (ty.Interface i) t → IsInstance t
+    → Adds c (m ∷ ms) (opened old o ∷ os) (with_def (instance_def (decls ds)) (opened old o) ∷ os) (next_type (opened old o)) t → Adds c (m ∷ ms) (opened old o ∷ os) (opened new o ∷ os) k t
 
+-- and as a component type
 abbrev pub AddsComponent : Scope → Scope → List Decl → ℕ → Type 0
 AddsComponent old new ds k = AddsClosed old new (component_def (decls ds)) k
 

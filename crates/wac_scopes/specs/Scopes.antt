@@ -2,9 +2,8 @@
 use Rattle.std.specs.Prelude.{ℕ, ◌==◌, Bool, false, if◌then◌else◌, List, [], ◌∷◌, ◌++◌, Option, Some, None}
 use Rattle.wac_shapes.specs.Name.{Name, same_name}
 use Rattle.wac_shapes.specs.declared.component.ResourceId.{ResourceId}
-use Rattle.wac_shapes.specs.declared.component.ValueType.{ValueType}
 use Rattle.wac_shapes.specs.declared.component.«Type».{«Type» as AnyType}
-use Rattle.wac_collection.specs.Uses.{same_value}
+use Rattle.wac_collection.specs.Uses.{same_type}
 use Rattle.wac_binary.specs.declared.sorts.Sort.TheVariants as s
 use Rattle.wac_binary.specs.Items.{TypeDef, Alias, Decl, decls, type_decl, alias_decl, Item, type_item, alias_item}
 use Rattle.wac_binary.specs.Indexes.{space, declared, indexes}
@@ -22,13 +21,13 @@ pub data Where : Type 0 where
   at_type : ℕ → Where
   at_export : (instance : ℕ) → Name → Where
 
--- An open scope: what was written, and what is recorded: where resources stand, and value types, and under which names which types.
+-- An open scope: what was written, and what is recorded: where resources stand, and which other types, and under which names which types.
 -- A resource is pending that this scope will bind, and hasn't yet.
 pub record Open : Type 0 where
   pub content : Content
   pub pending : ResourceId → Bool
   pub binds : ResourceId → Option Where
-  pub memo : ValueType → Option Where
+  pub memo : AnyType → Option Where
   pub named : Name → Option (AnyType × Where)
 
 abbrev pub Stack : Type 0
@@ -90,12 +89,12 @@ with_declared ds d o = record o { content = declarations (ds ++ d ∷ []) }
 abbrev pub bind_at : ResourceId → Where → Open → Open
 bind_at r w o = record o { binds = λ q. if q.0 == r.0 then Some w else o.binds q; pending = λ q. if q.0 == r.0 then false else o.pending q }
 
-abbrev pub remember_at : ValueType → Where → Open → Open
-remember_at v w o = record o { memo = λ u. if same_value u v then Some w else o.memo u }
+abbrev pub remember_at : AnyType → Where → Open → Open
+remember_at a w o = record o { memo = λ b. if same_type b a then Some w else o.memo b }
 
 abbrev pub name_at : Name → AnyType → Where → Open → Open
 name_at n a w o = record o { named = λ k. if same_name k n then Some (a, w) else o.named k }
 
 -- a scope in which nothing is written and nothing recorded, and these resources are to be bound
 abbrev pub opening : (ResourceId → Bool) → Open
-opening pending = record { content = declarations []; pending = pending; binds = λ r. None; memo = λ v. None; named = λ n. None }
+opening pending = record { content = declarations []; pending = pending; binds = λ r. None; memo = λ a. None; named = λ n. None }

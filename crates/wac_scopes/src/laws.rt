@@ -1,6 +1,6 @@
 //! What each step of a type encoder keeps and gives, for proofs about one. Each call does nothing else.
 
-ghost use Rattle.wac_scopes.specs.Laws.{DefinesValue, DefinesFunc, DefinesPrimitive, DefinesHandles, Reaches, BringsResource, BringsType, SettlesResource, SettlesValue, GoesOnAround, Follows, StaysIs, IsRecorded, IsItsTree, IsItsEnd, StaysOnward};
+ghost use Rattle.wac_scopes.specs.Laws.{DefinesValue, DefinesFunc, DefinesPrimitive, DefinesHandles, Reaches, BringsResource, BringsType, SettlesResource, SettlesValue, GoesOnAround, Follows, StaysIs, IsRecorded, StandsRecorded, IsItsTree, IsItsEnd, StaysOnward};
 ghost use Rattle.wac_scopes.specs.Listed.{ListsEqual, ListsFresh, ListsFunc, ListsComponent, ListsModule, ListsInstance, ListsOneMore, ListsInAnyOrder, OpensInterface, ClosesInstance, HoldsInterface, OpensWorld, TurnsToExports, ClosesComponent, HoldsWorld, FreshInInterface, CallsOwn};
 ghost use Rattle.wac_scopes.specs.Instances.{BindsOwn, HasExported, HeldFurtherIn, CalledInside, HoldsValue, NamesType, ImportsInstance, ImportsType, ImportsFresh, ImportsFunc, ImportsModule, ListsImport};
 ghost use Rattle.wac_scopes.specs.Inside.{ByStep, ByItem, ByBoth, KeepsIs, SettlesThere, HasIndexHere, HasIndexAround, StartsRoot, RootGoesOn, RootBindsMore};
@@ -36,6 +36,7 @@ pub fn step_law()
     ensures follows { Follows }
     ensures stays_is { StaysIs }
     ensures is_recorded { IsRecorded }
+    ensures stands_recorded { StandsRecorded }
     ensures is_its_tree { IsItsTree }
 {
     binary_laws();

@@ -1,7 +1,10 @@
-//! An open scope: what is written there, and the value types among it.
+//! An open scope: what is written there, and where types stand among it.
 
-ghost use Rattle.std.specs.Prelude.{◌≡◌, ◌<◌, ◌++◌, ◌∷◌, [], IfOk, OnOk, OnErr, None};
+ghost use Rattle.std.specs.Prelude.{◌≡◌, ◌<◌, ◌++◌, ◌∷◌, [], IfOk, OnOk, OnErr, IfSome, None};
 ghost use Rattle.std.specs.HashMap.{spare};
+ghost use Rattle.wac_shapes.specs.declared.component.ValueType.TheVariants as val;
+ghost use Rattle.wac_shapes.specs.declared.component.«Type».{«Type» as AnyType};
+ghost use Rattle.wac_shapes.specs.declared.component.«Type».TheVariants as ty;
 ghost use Rattle.wac_binary.specs.Fits.{Fits, TooLargeUnless};
 ghost use Rattle.wac_binary.specs.Items.{value_def, primitive_def, component_def, instance_def, decls, nested, custom, instantiate as instantiated, alias_item, export_alias, export_item};
 ghost use Rattle.wac_binary.specs.declared.sorts.Description.TheVariants as e;
@@ -10,7 +13,7 @@ ghost use Rattle.wac_binary.specs.Indexes.{space};
 ghost use Rattle.wac_binary.specs.Views.{arguments_of, defined_of, func_of};
 ghost use Rattle.wac_scopes.specs.declared.encodable.Encodable.TheVariants.{Builder};
 ghost use Rattle.wac_scopes.specs.Contents.{IsRoot, IsOpenType, and_type, and_core_module, and_export, and_import, count, items_of, ContentFits};
-ghost use Rattle.wac_scopes.specs.Scoped.{IfThere, IsThere, AddsValue, AddsFunc, AddsPrimitive, AddsInstance, AddsComponent, AddsModule, ListsType, ListsValue, ListsFunction, ListsInstanceOf, RootImportsType, RootImportsValue, RootImportsFunction, RootImportsInstance, RootImportsModule, HasToo, IsAsBefore, value_index, in_use, WritesUnlessTooLarge, FitsUnlessTooLarge, RecordsUnlessTooLarge};
+ghost use Rattle.wac_scopes.specs.Scoped.{IfThere, IsThere, AddsValue, AddsFunc, AddsPrimitive, AddsInstance, AddsComponent, AddsModule, ListsType, ListsValue, ListsFunction, ListsInstanceOf, RootImportsType, RootImportsValue, RootImportsFunction, RootImportsInstance, RootImportsModule, HasToo, IsAsBefore, IsAt, type_index, in_use, WritesUnlessTooLarge, FitsUnlessTooLarge, RecordsUnlessTooLarge};
 ghost use Rattle.wac_scopes.specs.Rooted.{ExportsRight};
 
 use crate::encodable::Encodable;
@@ -22,14 +25,18 @@ use wac_binary::{
     BinaryFault, ComponentType, ComponentValType, DefinedType, Description, FuncType, InstanceType,
     ModuleType, Sort,
 };
-use wac_collection::{DefinedTypeId, PrimitiveType, ValueType};
+use wac_collection::{DefinedTypeId, FuncTypeId, InterfaceId, PrimitiveType, ValueType};
 
-/// An open scope: the root of a component, or a type that is being written; with the value types that are written there.
+/// An open scope: the root of a component, or a type that is being written; with the types that are written there, each once.
 pub struct Scope {
     /// What is written.
     content: Encodable,
     /// The type index of each definition that is written.
     values: HashMap<DefinedTypeId, u32>,
+    /// That of each function type.
+    funcs: HashMap<FuncTypeId, u32>,
+    /// That of the instance type of each interface.
+    interfaces: HashMap<InterfaceId, u32>,
 }
 
 /// What is written is let go of here, and not anew at each place where a scope goes out of scope.
@@ -38,19 +45,23 @@ impl Drop for Scope {
         let Scope {
             content: _,
             values: _,
+            funcs: _,
+            interfaces: _,
         } = self;
     }
 }
 
 impl Scope {
-    /// A scope in which this is written, and no definition is recorded.
+    /// A scope in which this is written, and no type is recorded.
     pub fn new(alloc: Global, content: Encodable) -> Scope
         ensures content { result.content ≡ content }
-        ensures values { (id : DefinedTypeId) → value_index result id ≡ None }
+        ensures types { (a : AnyType) → type_index result a ≡ None }
     {
         Scope {
             content,
             values: HashMap::new(alloc),
+            funcs: HashMap::new(alloc),
+            interfaces: HashMap::new(alloc),
         }
     }
 
@@ -72,6 +83,30 @@ impl Scope {
         }
     }
 
+    /// The type index of a function type, where it is written here.
+    pub fn func(&self, id: FuncTypeId) -> Option<u32>
+        ensures is { result ≡ type_index self.now (ty.Func id) }
+        ensures stands { IfSome result (IsAt self.now (ty.Func id)) }
+    {
+        step_law();
+        match self.funcs.get(&id) {
+            Some(index) => Some(*index),
+            None => None,
+        }
+    }
+
+    /// The type index of an interface's instance type, where it is written here.
+    pub fn interface(&self, id: InterfaceId) -> Option<u32>
+        ensures is { result ≡ type_index self.now (ty.Interface id) }
+        ensures stands { IfSome result (IsAt self.now (ty.Interface id)) }
+    {
+        step_law();
+        match self.interfaces.get(&id) {
+            Some(index) => Some(*index),
+            None => None,
+        }
+    }
+
     /// Writes this definition of a held value type, and records it. Answers its type index.
     ///
     /// Answers `TooLarge` where what is written would not fit, and `OutOfMemory` where memory was refused, other than in an instance
@@ -83,7 +118,7 @@ impl Scope {
     ) -> Result<u32, EncodeFault>
         ensures index { IfOk result (λ k. k ≡ count (space s.Type) self.old.content) }
         ensures stands { IfOk result (λ k. AddsValue self.old self.new id (defined_of definition.now) k) }
-        ensures recorded { IfOk result (λ k. HasToo self.old id k self.new) }
+        ensures recorded { IfOk result (λ k. HasToo self.old (ty.Value (val.Defined id)) k self.new) }
         ensures appended { OnOk result (self.new.content ≡ and_type self.old.content (value_def (defined_of definition.now))) }
         ensures refused { OnErr result (IsAsBefore self.old self.new) }
         ensures too_large { RecordsUnlessTooLarge self.old.content result (ContentFits (and_type self.old.content (value_def (defined_of definition.now)))) }
@@ -105,10 +140,26 @@ impl Scope {
         self.values.reserve(1)
     }
 
+    /// Makes room to record one more function type.
+    fn make_func_room(&mut self) -> Result<(), AllocError>
+        ensures same { IsAsBefore self.old self.new }
+        ensures room { OnOk result (0 < spare self.new.funcs) }
+    {
+        self.funcs.reserve(1)
+    }
+
+    /// Makes room to record one more interface.
+    fn make_interface_room(&mut self) -> Result<(), AllocError>
+        ensures same { IsAsBefore self.old self.new }
+        ensures room { OnOk result (0 < spare self.new.interfaces) }
+    {
+        self.interfaces.reserve(1)
+    }
+
     /// Records that a definition is written at a type index. There is room for it.
     fn record_value(&mut self, id: DefinedTypeId, index: u32)
         requires { 0 < spare self.old.values }
-        ensures recorded { HasToo self.old id index self.new }
+        ensures recorded { HasToo self.old (ty.Value (val.Defined id)) index self.new }
         ensures kept { self.new.content ≡ self.old.content }
     {
         match self.values.insert(id, index) {
@@ -117,19 +168,46 @@ impl Scope {
         }
     }
 
-    /// Writes this function type, which is a held one. Answers its type index.
+    /// Records that a function type is written at a type index. There is room for it.
+    fn record_func(&mut self, id: FuncTypeId, index: u32)
+        requires { 0 < spare self.old.funcs }
+        ensures recorded { HasToo self.old (ty.Func id) index self.new }
+        ensures kept { self.new.content ≡ self.old.content }
+    {
+        match self.funcs.insert(id, index) {
+            Ok(_) => {}
+            Err(_) => unreachable!(),
+        }
+    }
+
+    /// Records that the instance type of an interface is written at a type index. There is room for it.
+    fn record_interface(&mut self, id: InterfaceId, index: u32)
+        requires { 0 < spare self.old.interfaces }
+        ensures recorded { HasToo self.old (ty.Interface id) index self.new }
+        ensures kept { self.new.content ≡ self.old.content }
+    {
+        match self.interfaces.insert(id, index) {
+            Ok(_) => {}
+            Err(_) => unreachable!(),
+        }
+    }
+
+    /// Writes this function type, which is the held one, and records it. Answers its type index.
     ///
-    /// Answers `TooLarge` exactly where what is written would not fit, and `OutOfMemory` where memory was refused; then it has
-    /// written nothing.
-    pub fn define_func(&mut self, f: &FuncType<'_>) -> Result<u32, EncodeFault>
+    /// Answers `TooLarge` where what is written would not fit, and `OutOfMemory` where memory was refused, be it before it is known
+    /// whether it fits. Then nothing is written or recorded.
+    pub fn define_func(&mut self, id: FuncTypeId, f: &FuncType<'_>) -> Result<u32, EncodeFault>
         ensures index { IfOk result (λ k. k ≡ count (space s.Type) self.old.content) }
-        ensures stands { IfOk result (λ k. AddsFunc self.old self.new (func_of f.now) k) }
-        ensures appended { OnOk result (self.new ≡ record self.old { content = and_type self.old.content (func_of f.now) }) }
-        ensures refused { OnErr result (self.new ≡ self.old) }
-        ensures too_large { WritesUnlessTooLarge result (ContentFits (and_type self.old.content (func_of f.now))) }
+        ensures stands { IfOk result (λ k. AddsFunc self.old self.new id (func_of f.now) k) }
+        ensures recorded { IfOk result (λ k. HasToo self.old (ty.Func id) k self.new) }
+        ensures appended { OnOk result (self.new.content ≡ and_type self.old.content (func_of f.now)) }
+        ensures refused { OnErr result (IsAsBefore self.old self.new) }
+        ensures too_large { FitsUnlessTooLarge result (ContentFits (and_type self.old.content (func_of f.now))) }
     {
         step_law();
+        self.make_func_room()?;
         let index = self.content.func_type(f)?;
+        self.record_func(id, index);
         Ok(index)
     }
 
@@ -149,18 +227,21 @@ impl Scope {
         Ok(index)
     }
 
-    /// Writes an instance type with these declarations. Answers its type index.
+    /// Writes an instance type with these declarations, which is the held interface, and records it. Answers its type index.
     ///
-    /// Answers `TooLarge` exactly where what is written would not fit, and `OutOfMemory` where memory was refused; then it has
-    /// written nothing.
-    pub fn define_instance(&mut self, t: &InstanceType) -> Result<u32, EncodeFault>
+    /// Answers `TooLarge` where what is written would not fit, and `OutOfMemory` where memory was refused, be it before it is known
+    /// whether it fits. Then nothing is written or recorded.
+    pub fn define_instance(&mut self, id: InterfaceId, t: &InstanceType) -> Result<u32, EncodeFault>
         ensures index { IfOk result (λ k. k ≡ count (space s.Type) self.old.content) }
-        ensures stands { IfOk result (λ k. AddsInstance self.old self.new t.now k) }
-        ensures appended { OnOk result (self.new ≡ record self.old { content = and_type self.old.content (instance_def (decls t.now)) }) }
-        ensures refused { OnErr result (self.new ≡ self.old) }
-        ensures too_large { WritesUnlessTooLarge result (ContentFits (and_type self.old.content (instance_def (decls t.now)))) }
+        ensures stands { IfOk result (λ k. AddsInstance self.old self.new id t.now k) }
+        ensures recorded { IfOk result (λ k. HasToo self.old (ty.Interface id) k self.new) }
+        ensures appended { OnOk result (self.new.content ≡ and_type self.old.content (instance_def (decls t.now))) }
+        ensures refused { OnErr result (IsAsBefore self.old self.new) }
+        ensures too_large { FitsUnlessTooLarge result (ContentFits (and_type self.old.content (instance_def (decls t.now)))) }
     {
+        self.make_interface_room()?;
         let index = self.content.instance_type(t)?;
+        self.record_interface(id, index);
         Ok(index)
     }
 
@@ -226,7 +307,7 @@ impl Scope {
         requires { IsOpenType self.old.content }
         ensures index { IfOk result (λ k. k ≡ count (space s.Type) self.old.content) }
         ensures stands { IfOk result (λ k. ListsValue self.old self.new name.now id index k) }
-        ensures recorded { IfOk result (λ k. HasToo self.old id k self.new) }
+        ensures recorded { IfOk result (λ k. HasToo self.old (ty.Value (val.Defined id)) k self.new) }
         ensures appended { OnOk result (self.new.content ≡ and_export self.old.content name.now (e.Equal index)) }
         ensures refused { OnErr result (IsAsBefore self.old self.new) }
         ensures too_large { RecordsUnlessTooLarge self.old.content result (ContentFits (and_export self.old.content name.now (e.Equal index))) }
@@ -304,7 +385,7 @@ impl Scope {
         requires { IsRoot self.old.content }
         ensures index { IfOk result (λ k. k ≡ count (space s.Type) self.old.content) }
         ensures stands { IfOk result (λ k. RootImportsValue self.old self.new name.now id index k) }
-        ensures recorded { IfOk result (λ k. HasToo self.old id k self.new) }
+        ensures recorded { IfOk result (λ k. HasToo self.old (ty.Value (val.Defined id)) k self.new) }
         ensures appended { OnOk result (self.new.content ≡ and_import self.old.content name.now (e.Equal index)) }
         ensures refused { OnErr result (IsAsBefore self.old self.new) }
         ensures too_large { FitsUnlessTooLarge result (ContentFits (and_import self.old.content name.now (e.Equal index))) }
@@ -461,7 +542,7 @@ impl Scope {
         requires { IsRoot self.old.content }
         ensures index { IfOk result (λ k. k ≡ count (space s.Type) self.old.content) }
         ensures right { OnOk result (ExportsRight self.old self.new id index) }
-        ensures recorded { IfOk result (λ k. HasToo self.old id k self.new) }
+        ensures recorded { IfOk result (λ k. HasToo self.old (ty.Value (val.Defined id)) k self.new) }
         ensures appended { OnOk result (self.new.content ≡ Builder (items_of self.old.content ++ export_item name.now s.Type index ∷ [])) }
         ensures refused { OnErr result (IsAsBefore self.old self.new) }
         ensures too_large { FitsUnlessTooLarge result (Fits (items_of self.old.content ++ export_item name.now s.Type index ∷ [])) }
@@ -478,7 +559,12 @@ impl Scope {
     pub fn into_content(self) -> Encodable
         ensures { result ≡ self.content }
     {
-        let Scope { content, values: _ } = self;
+        let Scope {
+            content,
+            values: _,
+            funcs: _,
+            interfaces: _,
+        } = self;
         content
     }
 }

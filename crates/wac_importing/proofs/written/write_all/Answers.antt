@@ -11,6 +11,9 @@ use Rattle.wac_importing.proofs.written.write_all.Goals as goal
 pub write_one-requires-clause-held : goal.write_one-requires-clause-held
 write_one-requires-clause-held c = c.requires.held c.loop-i.i _ c.entry_at.ensures
 
+pub write_one-requires-clause-importable : goal.write_one-requires-clause-importable
+write_one-requires-clause-importable c = c.requires.importable c.loop-i.i (c.entry_at.result.0.now, c.entry_at.result.1.now) c.entry_at.ensures
+
 pub returns-in_err-index-clause-fault : goal.returns-in_err-index-clause-fault
 returns-in_err-index-clause-fault c =
     err_of (IsTooLarge (merge_of c.args.types.now c.args.imports.now)) c.from_residual.result (c.in_err-index.field-0).0 c.from_residual.ensures.1

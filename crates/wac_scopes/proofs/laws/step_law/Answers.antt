@@ -1,4 +1,4 @@
-use Rattle.wac_scopes.proofs.StepLaws.{defines-value, defines-func, defines-primitive, defines-handles, reaches, brings-resource, brings-type, settles-resource, settles-value, goes-on-around, follows, stays-is, is-recorded, is-its-tree}
+use Rattle.wac_scopes.proofs.StepLaws.{defines-value, defines-func, defines-primitive, defines-handles, reaches, brings-resource, brings-type, settles-resource, settles-value, goes-on-around, follows, stays-is, is-recorded, stands-recorded, is-its-tree}
 use Rattle.wac_scopes.proofs.laws.step_law.Goals as goal
 
 pub returns : goal.returns
@@ -16,5 +16,6 @@ returns c = record {
   follows = follows;
   stays_is = stays-is;
   is_recorded = is-recorded;
+  stands_recorded = stands-recorded;
   is_its_tree = is-its-tree;
 }

@@ -1,21 +1,19 @@
 use Rattle.std.specs.Prelude.{ℕ, List}
 use Rattle.std.proofs.Common.{refl}
 use Rattle.std.proofs.lemmas.Result.{err_from_is_err_and}
-use Rattle.wac_shapes.specs.declared.component.ItemKind.TheVariants as kind
 use Rattle.wac_shapes.specs.declared.component.«Type».TheVariants as ty
 use Rattle.wac_binary.specs.Items.{Decl}
 use Rattle.wac_scopes.specs.Faults.{encode_fault}
-use Rattle.wac_encode.specs.Listing.{NeededBy}
+use Rattle.wac_encode.specs.Defining.{MadeFor}
 use Rattle.wac_encode.proofs.Imported.{still-root}
-use Rattle.wac_encode.proofs.Importing.{nothing-of, types-of}
 use Rattle.wac_encode.proofs.Defining.{name-too-large, as-fault, right-after, right-same, right-exported}
-use Rattle.wac_encode.proofs.ComponentTypes.{component-behind, ends-with-component, interface-defined, interface-once, component-not-defined, component-too-large}
+use Rattle.wac_encode.proofs.ComponentTypes.{component-behind, nothing-for, types-for, ends-with-component, interface-defined, interface-once, component-not-defined, component-too-large}
 use Rattle.wac_encode.proofs.encoder.TypeEncoder.export_interface.Goals as goal
 
 pub returns-in_err-component-clause-refused : goal.returns-in_err-component-clause-refused
 returns-in_err-component-clause-refused c =
     let p = err_from_is_err_and c.from_residual.result c.from_residual.ensures.1 in
-    rw p.1 (nothing-of c.args.self.now.types.now c.still_law.ensures (kind.Instance c.args.interface) c.args.root.now c.args.root.now refl)
+    rw p.1 (nothing-for c.args.self.now.types.now c.still_law.ensures (ty.Interface c.args.interface) c.args.root.now c.args.root.now refl)
 
 pub returns-in_err-component-clause-fault : goal.returns-in_err-component-clause-fault
 returns-in_err-component-clause-fault c =
@@ -28,7 +26,7 @@ returns-in_err-index-clause-right c = right-same c.args.self.now.types.now c.arg
 pub returns-in_err-index-clause-refused : goal.returns-in_err-index-clause-refused
 returns-in_err-index-clause-refused c =
     let p = err_from_is_err_and c.from_residual-in_err-index.result c.from_residual-in_err-index.ensures.1 in
-    rw p.1 (nothing-of c.args.self.now.types.now c.still_law.ensures (kind.Instance c.args.interface) c.args.root.now c.define_component.new.self c.in_err-index.ensures.refused)
+    rw p.1 (nothing-for c.args.self.now.types.now c.still_law.ensures (ty.Interface c.args.interface) c.args.root.now c.define_component.new.self c.in_err-index.ensures.refused)
 
 pub returns-in_err-index-clause-fault : goal.returns-in_err-index-clause-fault
 returns-in_err-index-clause-fault c =
@@ -44,14 +42,14 @@ pub returns-in_err-own-clause-right : goal.returns-in_err-own-clause-right
 returns-in_err-own-clause-right c =
     let t = c.args.self.now.types.now in
     let w = component-behind t c.args.root.now c.define_component.new.self c.args.interface c.in_ok-component.component c.in_ok-index.index c.in_ok-component.ensures.says c.in_ok-index.ensures.stands c.in_ok-index.ensures.appended in
-    right-same t c.define_component.new.self c.export.new.self c.in_err-own.ensures.refused (right-after c.rooted_law.ensures.stays c.rooted_law.ensures.before c.rooted_law.ensures.written_there c.step_law.ensures.is_its_tree t 1 (NeededBy t (kind.Instance c.args.interface)) c.args.root.now c.define_component.new.self w c.requires.right)
+    right-same t c.define_component.new.self c.export.new.self c.in_err-own.ensures.refused (right-after c.rooted_law.ensures.stays c.rooted_law.ensures.before c.rooted_law.ensures.written_there c.step_law.ensures.is_its_tree t 1 (MadeFor t (ty.Interface c.args.interface)) c.args.root.now c.define_component.new.self w c.requires.right)
 
 pub returns-in_err-own-clause-refused : goal.returns-in_err-own-clause-refused
 returns-in_err-own-clause-refused c =
     let t = c.args.self.now.types.now in
     let p = err_from_is_err_and c.from_residual-in_err-own.result c.from_residual-in_err-own.ensures.1 in
     let w = component-behind t c.args.root.now c.define_component.new.self c.args.interface c.in_ok-component.component c.in_ok-index.index c.in_ok-component.ensures.says c.in_ok-index.ensures.stands c.in_ok-index.ensures.appended in
-    rw p.1 (types-of t (kind.Instance c.args.interface) 1 c.args.root.now c.define_component.new.self c.export.new.self w c.in_err-own.ensures.refused)
+    rw p.1 (types-for t (ty.Interface c.args.interface) 1 c.args.root.now c.define_component.new.self c.export.new.self w c.in_err-own.ensures.refused)
 
 pub returns-in_err-own-clause-fault : goal.returns-in_err-own-clause-fault
 returns-in_err-own-clause-fault c =
@@ -75,4 +73,4 @@ pub returns-clause-right : goal.returns-clause-right
 returns-clause-right c =
     let t = c.args.self.now.types.now in
     let w = component-behind t c.args.root.now c.define_component.new.self c.args.interface c.in_ok-component.component c.in_ok-index.index c.in_ok-component.ensures.says c.in_ok-index.ensures.stands c.in_ok-index.ensures.appended in
-    right-exported c.rooted_law.ensures.stays t c.define_component.new.self c.export.new.self c.args.name.now c.in_ok-index.index c.in_ok-own.ensures.appended (right-after c.rooted_law.ensures.stays c.rooted_law.ensures.before c.rooted_law.ensures.written_there c.step_law.ensures.is_its_tree t 1 (NeededBy t (kind.Instance c.args.interface)) c.args.root.now c.define_component.new.self w c.requires.right)
+    right-exported c.rooted_law.ensures.stays t c.define_component.new.self c.export.new.self c.args.name.now c.in_ok-index.index c.in_ok-own.ensures.appended (right-after c.rooted_law.ensures.stays c.rooted_law.ensures.before c.rooted_law.ensures.written_there c.step_law.ensures.is_its_tree t 1 (MadeFor t (ty.Interface c.args.interface)) c.args.root.now c.define_component.new.self w c.requires.right)

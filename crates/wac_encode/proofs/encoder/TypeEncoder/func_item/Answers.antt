@@ -16,7 +16,7 @@ pub returns-in_err-export_func-clause-fault : goal.returns-in_err-export_func-cl
 returns-in_err-export_func-clause-fault c =
     let t = c.args.self.now.types.now in
     let p = err_from_is_err_and c.from_residual-in_err-export_func.result c.from_residual-in_err-export_func.ensures.1 in
-    rw (p.1, p.2) (export-refused (Unit {0}) (Unit {0}) t c.args.scope.now c.func.new.scope c.args.name.now (kind.Func c.args.func) 1 (e.Func c.in_ok-index.index) c.in_err-export_func.field-0.0 c.in_ok-index.ensures.written (c.in_ok-index.ensures.adds, c.in_ok-index.ensures.recorded)
+    rw (p.1, p.2) (export-refused (Unit {0}) (Unit {0}) t c.args.scope.now c.func.new.scope c.args.name.now (kind.Func c.args.func) 0 (e.Func c.in_ok-index.index) c.in_err-export_func.field-0.0 c.in_ok-index.ensures.written (c.in_ok-index.ensures.adds, c.in_ok-index.ensures.recorded)
     (exactly-so (Unit {0}) _ c.in_err-export_func.field-0.0 c.in_err-export_func.ensures.too_large))
 
 pub returns-clause-listed : goal.returns-clause-listed

@@ -1,12 +1,11 @@
 use Rattle.std.proofs.lemmas.Result.{err_from_is_err_and}
-use Rattle.std.proofs.Common.{inl}
 use Rattle.wac_encode.proofs.Imported.{still-root, imports-held, ends-with-import, type-refused, import-refused, func-at-most}
 use Rattle.wac_encode.proofs.encoder.TypeEncoder.import_func.Goals as goal
 
 pub returns-in_err-index-clause-refused : goal.returns-in_err-index-clause-refused
 returns-in_err-index-clause-refused c =
     let p = err_from_is_err_and c.from_residual.result c.from_residual.ensures.1 in
-    rw p.1 (inl c.in_err-index.ensures.written)
+    rw p.1 c.in_err-index.ensures.written
 
 pub returns-in_err-index-clause-fault : goal.returns-in_err-index-clause-fault
 returns-in_err-index-clause-fault c =

@@ -23,13 +23,13 @@ returns-in_err-index-clause-fault c =
 pub returns-in_err-import-clause-refused : goal.returns-in_err-import-clause-refused
 returns-in_err-import-clause-refused c =
     let p = err_from_is_err_and c.from_residual-in_err-import.result c.from_residual-in_err-import.ensures.1 in
-    rw p.1 (types-of c.args.self.now.types.now (kind.Func c.args.func) 1 c.args.root.now c.func.new.scope c.import_func.new.self c.in_ok-index.ensures.written c.in_err-import.ensures.refused)
+    rw p.1 (types-of c.args.self.now.types.now (kind.Func c.args.func) 0 c.args.root.now c.func.new.scope c.import_func.new.self c.in_ok-index.ensures.written c.in_err-import.ensures.refused)
 
 pub returns-in_err-import-clause-fault : goal.returns-in_err-import-clause-fault
 returns-in_err-import-clause-fault c =
     let t = c.args.self.now.types.now in
     let p = err_from_is_err_and c.from_residual-in_err-import.result c.from_residual-in_err-import.ensures.1 in
-    rw (p.1, p.2) (import-too-large ℕ ℕ t c.args.root.now c.func.new.scope c.args.name.now (kind.Func c.args.func) 1 (e.Func c.in_ok-index.index) c.in_err-import.field-0.0 c.in_ok-index.ensures.written (c.in_ok-index.ensures.adds, c.in_ok-index.ensures.recorded)
+    rw (p.1, p.2) (import-too-large ℕ ℕ t c.args.root.now c.func.new.scope c.args.name.now (kind.Func c.args.func) 0 (e.Func c.in_ok-index.index) c.in_err-import.field-0.0 c.in_ok-index.ensures.written (c.in_ok-index.ensures.adds, c.in_ok-index.ensures.recorded)
     (exactly-so ℕ _ c.in_err-import.field-0.0 c.in_err-import.ensures.too_large))
 
 pub returns-clause-imports : goal.returns-clause-imports

@@ -1,7 +1,7 @@
 use Rattle.std.proofs.lemmas.Result.{err_from_is_err_and}
 use Rattle.wac_collection.specs.Aliases.{value_resolved}
 use Rattle.wac_binary.specs.declared.types.ComponentValType.{ComponentValType}
-use Rattle.wac_listing.specs.Made.{MadeOf}
+use Rattle.wac_encode.specs.Written.{PartOf}
 use Rattle.wac_encode.proofs.Answering.{as-it-was, value-refused}
 use Rattle.wac_encode.proofs.Stacks.{writes-none}
 use Rattle.wac_encode.proofs.encoder.TypeEncoder.value_type.Goals as goal
@@ -9,7 +9,7 @@ use Rattle.wac_encode.proofs.encoder.TypeEncoder.value_type.Goals as goal
 pub returns-in_err-missing-clause-written : goal.returns-in_err-missing-clause-written
 returns-in_err-missing-clause-written c =
     let t = c.args.self.now.types.now in
-    writes-none t c.still_law.ensures (MadeOf t (value_resolved t c.args.value)) c.args.scope.now c.args.scope.now (as-it-was c.args.scope.now)
+    writes-none t c.still_law.ensures (PartOf t (value_resolved t c.args.value)) c.args.scope.now c.args.scope.now (as-it-was c.args.scope.now)
 
 pub returns-in_err-missing-clause-fault : goal.returns-in_err-missing-clause-fault
 returns-in_err-missing-clause-fault c =
@@ -19,4 +19,4 @@ returns-in_err-missing-clause-fault c =
 pub returns-in-None-clause-written : goal.returns-in-None-clause-written
 returns-in-None-clause-written c =
     let t = c.args.self.now.types.now in
-    writes-none t c.still_law.ensures (MadeOf t (value_resolved t c.args.value)) c.args.scope.now c.args.scope.now (as-it-was c.args.scope.now)
+    writes-none t c.still_law.ensures (PartOf t (value_resolved t c.args.value)) c.args.scope.now c.args.scope.now (as-it-was c.args.scope.now)

@@ -3,8 +3,8 @@ use Rattle.std.specs.List.{AllByRecursion}
 use Rattle.std.proofs.Common.{ap, sym, ◌∙◌, subst, take}
 use Rattle.std.proofs.lemmas.Result.{err_from_is_err_and}
 use Rattle.wac_shapes.specs.declared.component.ValueType.TheVariants as val
+use Rattle.wac_encode.specs.Written.{PartOf}
 use Rattle.wac_encode.specs.declared.task.Task.{Task}
-use Rattle.wac_listing.specs.Made.{MadeOf}
 use Rattle.wac_encode.specs.Tasks.{IsReady, IsUnderWay}
 use Rattle.wac_encode.proofs.Answering.{as-it-was, begins, refused-so}
 use Rattle.wac_encode.proofs.Stacks.{writes-none, writes-no-more}
@@ -12,7 +12,7 @@ use Rattle.wac_encode.proofs.Stepping.{all-last, still-under-way, less-to-do, we
 use Rattle.wac_encode.proofs.encoder.TypeEncoder.write.Goals as goal
 
 pub returns-in_err-push-clause-written : goal.returns-in_err-push-clause-written
-returns-in_err-push-clause-written c = writes-none c.args.self.now.types.now c.still_law.ensures (MadeOf c.args.self.now.types.now (val.Defined c.args.id)) c.args.scope.now c.args.scope.now (as-it-was c.args.scope.now)
+returns-in_err-push-clause-written c = writes-none c.args.self.now.types.now c.still_law.ensures (PartOf c.args.self.now.types.now (val.Defined c.args.id)) c.args.scope.now c.args.scope.now (as-it-was c.args.scope.now)
 
 pub loop-task-init : goal.loop-task-init
 loop-task-init c = begins c.args.self.now.types.now c.still_law.ensures c.args.id c.args.scope.now c.push.new.self.items (c.in_ok-push.ensures.items ∙ ap (λ (ts : List Task). ts ++ record { id = c.args.id; next = 0 } ∷ []) c.new-tasks.ensures.items) c.requires
@@ -34,7 +34,7 @@ loop-task-preserved c =
     (subst (λ (ts : List Task). IsUnderWay s c.args.id c.args.scope.now c.loop-task.scope ts) c.in-Some.ensures.items c.loop-task.invariant) c.in_ok-step.ensures.did
 
 pub returns-in_err-step-clause-written : goal.returns-in_err-step-clause-written
-returns-in_err-step-clause-written c = writes-no-more c.args.self.now.types.now c.step_law.ensures.follows c.still_law.ensures (MadeOf c.args.self.now.types.now (val.Defined c.args.id)) c.args.scope.now c.loop-task.scope c.step.new.scope c.loop-task.invariant.written c.in_err-step.ensures.refused
+returns-in_err-step-clause-written c = writes-no-more c.args.self.now.types.now c.step_law.ensures.follows c.still_law.ensures (PartOf c.args.self.now.types.now (val.Defined c.args.id)) c.args.scope.now c.loop-task.scope c.step.new.scope c.loop-task.invariant.written c.in_err-step.ensures.refused
 
 pub returns-in_err-step-clause-fault : goal.returns-in_err-step-clause-fault
 returns-in_err-step-clause-fault c =

@@ -4,7 +4,7 @@ use Rattle.std.proofs.lemmas.Result.{err_from_is_err_and}
 use Rattle.wac_collection.specs.Collection.{seconds}
 use Rattle.wac_collection.specs.Aliases.{value_resolved}
 use Rattle.wac_binary.specs.declared.types.ComponentValType.{ComponentValType}
-use Rattle.wac_listing.specs.Made.{MadeOf, OneIsMadeOf}
+use Rattle.wac_encode.specs.Written.{PartOf, PartOfOne}
 use Rattle.wac_encode.proofs.Rows.{known-now, of-one, refused-as, row-further, row-starts, row-written, second-at, within-list}
 use Rattle.wac_encode.proofs.encoder.TypeEncoder.write_fields.Goals as goal
 
@@ -26,7 +26,7 @@ pub returns-in_err-value_type-clause-fault : goal.returns-in_err-value_type-clau
 returns-in_err-value_type-clause-fault c =
     let t = c.args.self.now.types.now in
     let p = err_from_is_err_and c.from_residual.result c.from_residual.ensures.1 in
-    rw (p.1, p.2) (refused-as ComponentValType (Unit {0}) t (MadeOf t (value_resolved t c.entry_at.result.1.now)) (OneIsMadeOf t (seconds c.args.fields.now)) c.value_type.new.scope c.in_err-value_type.field-0.0
+    rw (p.1, p.2) (refused-as ComponentValType (Unit {0}) t (PartOf t (value_resolved t c.entry_at.result.1.now)) (PartOfOne t (seconds c.args.fields.now)) c.value_type.new.scope c.in_err-value_type.field-0.0
     (of-one t (seconds c.args.fields.now) c.loop-i.i c.entry_at.result.1.now (second-at c.args.fields.now c.loop-i.i (c.entry_at.result.0.now, c.entry_at.result.1.now) c.entry_at.ensures)) c.in_err-value_type.ensures.fault)
 
 pub returns-clause-written : goal.returns-clause-written

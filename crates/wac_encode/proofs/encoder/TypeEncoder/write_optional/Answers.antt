@@ -3,7 +3,7 @@ use Rattle.std.proofs.lemmas.Result.{err_from_is_err_and}
 use Rattle.wac_collection.specs.Collection.{and_maybe}
 use Rattle.wac_collection.specs.Aliases.{value_resolved}
 use Rattle.wac_binary.specs.declared.types.ComponentValType.{ComponentValType}
-use Rattle.wac_listing.specs.Made.{MadeOf, OneIsMadeOf}
+use Rattle.wac_encode.specs.Written.{PartOf, PartOfOne}
 use Rattle.wac_encode.proofs.Rows.{one-of, refused-as}
 use Rattle.wac_encode.proofs.Stacks.{writes-as}
 use Rattle.wac_encode.proofs.encoder.TypeEncoder.write_optional.Goals as goal
@@ -11,16 +11,16 @@ use Rattle.wac_encode.proofs.encoder.TypeEncoder.write_optional.Goals as goal
 pub returns-in_err-value_type-in-Some-clause-written : goal.returns-in_err-value_type-in-Some-clause-written
 returns-in_err-value_type-in-Some-clause-written c =
     let t = c.args.self.now.types.now in
-    writes-as t 0 (MadeOf t (value_resolved t c.in-Some.value)) (OneIsMadeOf t (and_maybe c.args.value [])) c.args.scope.now c.value_type.new.scope (one-of t c.args.value c.in-Some.value c.in-Some.is) c.in_err-value_type-in-Some.ensures.written
+    writes-as t 0 (PartOf t (value_resolved t c.in-Some.value)) (PartOfOne t (and_maybe c.args.value [])) c.args.scope.now c.value_type.new.scope (one-of t c.args.value c.in-Some.value c.in-Some.is) c.in_err-value_type-in-Some.ensures.written
 
 pub returns-in_err-value_type-in-Some-clause-fault : goal.returns-in_err-value_type-in-Some-clause-fault
 returns-in_err-value_type-in-Some-clause-fault c =
     let t = c.args.self.now.types.now in
     let p = err_from_is_err_and c.from_residual.result c.from_residual.ensures.1 in
-    rw (p.1, p.2) (refused-as ComponentValType (Option ComponentValType) t (MadeOf t (value_resolved t c.in-Some.value)) (OneIsMadeOf t (and_maybe c.args.value [])) c.value_type.new.scope c.in_err-value_type-in-Some.field-0.0
+    rw (p.1, p.2) (refused-as ComponentValType (Option ComponentValType) t (PartOf t (value_resolved t c.in-Some.value)) (PartOfOne t (and_maybe c.args.value [])) c.value_type.new.scope c.in_err-value_type-in-Some.field-0.0
     (one-of t c.args.value c.in-Some.value c.in-Some.is) c.in_err-value_type-in-Some.ensures.fault)
 
 pub returns-in_ok-value_type-in-Some-clause-written : goal.returns-in_ok-value_type-in-Some-clause-written
 returns-in_ok-value_type-in-Some-clause-written c =
     let t = c.args.self.now.types.now in
-    writes-as t 0 (MadeOf t (value_resolved t c.in-Some.value)) (OneIsMadeOf t (and_maybe c.args.value [])) c.args.scope.now c.value_type.new.scope (one-of t c.args.value c.in-Some.value c.in-Some.is) c.in_ok-value_type-in-Some.ensures.written
+    writes-as t 0 (PartOf t (value_resolved t c.in-Some.value)) (PartOfOne t (and_maybe c.args.value [])) c.args.scope.now c.value_type.new.scope (one-of t c.args.value c.in-Some.value c.in-Some.is) c.in_ok-value_type-in-Some.ensures.written

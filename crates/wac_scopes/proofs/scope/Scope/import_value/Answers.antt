@@ -6,6 +6,8 @@ use Rattle.wac_scopes.specs.declared.encodable.Encodable.{Encodable}
 use Rattle.wac_scopes.specs.Contents.{IsRoot, and_import, count}
 use Rattle.wac_scopes.proofs.ImportLaws.{imports-value}
 use Rattle.wac_scopes.proofs.ScopedLaws.{recorded-more}
+use Rattle.wac_shapes.specs.declared.component.ValueType.TheVariants as val
+use Rattle.wac_shapes.specs.declared.component.«Type».TheVariants as ty
 use Rattle.wac_scopes.proofs.scope.Scope.import_value.Goals as goal
 
 pub import-requires : goal.import-requires
@@ -19,10 +21,10 @@ returns-clause-stands c =
     imports-value c.args.self.now c.record_value.new.self c.args.name.now c.args.id c.args.index c.in_ok-import.import c.root_law.ensures.imports_type c.root_law.ensures.lists_import c.requires
     (c.in_ok-import.ensures.index ∙ ap (count (space s.Type)) c.in_ok-make_room.ensures.same.content)
     (c.record_value.ensures.kept ∙ c.in_ok-import.ensures.appended ∙ ap (λ (x : Encodable). and_import x c.args.name.now (e.Equal c.args.index)) c.in_ok-make_room.ensures.same.content)
-    (recorded-more c.args.self.now c.make_room.new.self c.record_value.new.self c.args.id c.in_ok-import.import c.in_ok-make_room.ensures.same.values c.record_value.ensures.recorded.values)
+    (recorded-more c.args.self.now c.make_room.new.self c.record_value.new.self (ty.Value (val.Defined c.args.id)) c.in_ok-import.import c.in_ok-make_room.ensures.same.types c.record_value.ensures.recorded.types)
 
 pub returns-clause-recorded : goal.returns-clause-recorded
-returns-clause-recorded c = record { values = recorded-more c.args.self.now c.make_room.new.self c.record_value.new.self c.args.id c.in_ok-import.import c.in_ok-make_room.ensures.same.values c.record_value.ensures.recorded.values }
+returns-clause-recorded c = record { types = recorded-more c.args.self.now c.make_room.new.self c.record_value.new.self (ty.Value (val.Defined c.args.id)) c.in_ok-import.import c.in_ok-make_room.ensures.same.types c.record_value.ensures.recorded.types }
 
 pub returns-clause-appended : goal.returns-clause-appended
 returns-clause-appended c = c.record_value.ensures.kept ∙ c.in_ok-import.ensures.appended ∙ ap (λ (x : Encodable). and_import x c.args.name.now (e.Equal c.args.index)) c.in_ok-make_room.ensures.same.content
