@@ -109,6 +109,33 @@ fn turn(
     Some(())
 }
 
+/// Does so some times; none where a call is refused.
+fn turns(
+    graph: &mut CompositionGraph,
+    parts: Parts,
+    names: &[String],
+    triples: &mut [Triple],
+) -> Option<()> {
+    for _ in 0..TURNS {
+        turn(graph, parts, names, triples)?;
+    }
+    Some(())
+}
+
+/// Makes a triple for each name.
+fn triples(
+    alloc: Global,
+    graph: &mut CompositionGraph,
+    parts: Parts,
+    names: &[String],
+) -> Result<Vec<Triple>> {
+    let mut triples = Vec::new(alloc);
+    for name in names {
+        triples.push(refused(make_triple(graph, parts, name.as_str()))?)?;
+    }
+    Ok(triples)
+}
+
 /// The names `e0`, `e1` and so on.
 fn names(alloc: Global, count: u64) -> Result<Vec<String>> {
     let mut names = Vec::new(alloc);
@@ -125,16 +152,11 @@ fn timed(
     parts: Parts,
     names: &[String],
 ) -> Result<Round> {
-    let mut triples = Vec::new(rt.alloc());
     let start = Instant::now(rt)?;
-    for name in names {
-        triples.push(refused(make_triple(graph, parts, name.as_str()))?)?;
-    }
+    let mut triples = triples(rt.alloc(), graph, parts, names)?;
     let made = start.elapsed(rt)?;
     let start = Instant::now(rt)?;
-    for _ in 0..TURNS {
-        refused(turn(graph, parts, names, &mut triples))?;
-    }
+    refused(turns(graph, parts, names, &mut triples))?;
     let turned = start.elapsed(rt)?;
     let start = Instant::now(rt)?;
     let length = graph.encode(unvalidated())?.len();

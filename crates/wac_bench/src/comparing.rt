@@ -6,7 +6,7 @@ use crate::times::{ROUNDS, Times, print_power, print_times};
 use crate::types::{defined, export, function, instance, primitive, record};
 use anyhow::Result;
 use std::alloc::Global;
-use std::time::Instant;
+use std::time::{Duration, Instant};
 use wac_types::{
     DefinedType, ItemKind, Named, PrimitiveType, Sequence, SubtypeChecker, Types, ValueType,
 };
@@ -29,6 +29,14 @@ const LEVELS: u64 = 16;
 struct Costs {
     added: Times,
     compared: Times,
+}
+
+/// One comparison: how long the items took to add and to compare, and whether the first is a subtype of the second.
+#[derive(Clone, Copy)]
+struct Round {
+    added: Duration,
+    compared: Duration,
+    answer: bool,
 }
 
 /// Adds tuples, each of the one before twice.
@@ -71,14 +79,19 @@ fn aliases(alloc: Global, types: &mut Types, count: u64) -> Result<ItemKind> {
     Ok(ItemKind::Value(defined(types, DefinedType::Tuple(tuple))?))
 }
 
+/// Adds a function over two records of its own.
+fn function_of_records(alloc: Global, types: &mut Types) -> Result<ItemKind> {
+    let x = record(alloc, types)?;
+    let y = record(alloc, types)?;
+    let returned = Some(primitive(PrimitiveType::Bool));
+    function(alloc, types, &[("x", x), ("y", y)], returned)
+}
+
 /// Adds an interface of functions, each over two records of its own.
 fn functions(alloc: Global, types: &mut Types, count: u64) -> Result<ItemKind> {
     let mut exports = Named::new(alloc);
     for number in 0..count {
-        let x = record(alloc, types)?;
-        let y = record(alloc, types)?;
-        let returned = Some(primitive(PrimitiveType::Bool));
-        let kind = function(alloc, types, &[("x", x), ("y", y)], returned)?;
+        let kind = function_of_records(alloc, types)?;
         export(alloc, &mut exports, number, kind)?;
     }
     instance(alloc, types, None, exports)
@@ -153,21 +166,45 @@ fn is_subtype(a: ItemKind, at: &Types, b: ItemKind, bt: &Types) -> bool {
     SubtypeChecker::new().is_subtype(a, at, b, bt).is_ok()
 }
 
+/// Adds items of so many parts to two collections and compares them.
+fn timed(
+    rt: &HostRuntime,
+    first: &mut Types,
+    second: &mut Types,
+    sort: Sort,
+    count: u64,
+) -> Result<Round> {
+    let start = Instant::now(rt)?;
+    let a = item(rt.alloc(), first, sort, count, false)?;
+    let b = item(rt.alloc(), second, sort, count, true)?;
+    let added = start.elapsed(rt)?;
+    let start = Instant::now(rt)?;
+    let answer = is_subtype(a, first, b, second);
+    let compared = start.elapsed(rt)?;
+    Ok(Round {
+        added,
+        compared,
+        answer,
+    })
+}
+
+/// Adds items of so many parts to two new collections and compares them.
+fn measured_once(rt: &HostRuntime, sort: Sort, count: u64) -> Result<Round> {
+    let mut first = Types::new(rt.alloc());
+    let mut second = Types::new(rt.alloc());
+    timed(rt, &mut first, &mut second, sort, count)
+}
+
 /// Adds items of so many parts to two collections, compares them, and prints how long each takes.
 fn measured(rt: &HostRuntime, what: &str, sort: Sort, count: u64) -> Result<Costs> {
     let mut adding = Vec::new(rt.alloc());
     let mut comparing = Vec::new(rt.alloc());
     let mut answer = true;
     for _ in 0..ROUNDS {
-        let mut first = Types::new(rt.alloc());
-        let mut second = Types::new(rt.alloc());
-        let start = Instant::now(rt)?;
-        let a = item(rt.alloc(), &mut first, sort, count, false)?;
-        let b = item(rt.alloc(), &mut second, sort, count, true)?;
-        adding.push(start.elapsed(rt)?)?;
-        let start = Instant::now(rt)?;
-        answer = is_subtype(a, &first, b, &second) && answer;
-        comparing.push(start.elapsed(rt)?)?;
+        let round = measured_once(rt, sort, count)?;
+        adding.push(round.added)?;
+        comparing.push(round.compared)?;
+        answer = answer && round.answer;
     }
     let added = Times::of(adding)?;
     let compared = Times::of(comparing)?;
@@ -189,17 +226,24 @@ fn measure_growth(rt: &HostRuntime, what: &str, sort: Sort, count: u32) -> Resul
     print_power(rt, "  compared", first.compared, last.compared)
 }
 
+/// Whether tuples doubled 60 deep are subtypes of each other, such a tuple of a list, and chains of 100,000 of each other.
+fn answers(alloc: Global, first: &mut Types, second: &mut Types) -> Result<(bool, bool, bool)> {
+    let a = tuples(alloc, first, 60)?;
+    let b = chain(first, 100_000)?;
+    let c = chain(second, 100_000)?;
+    let d = tuples(alloc, second, 60)?;
+    Ok((
+        is_subtype(a, first, d, second),
+        is_subtype(a, first, b, first),
+        is_subtype(b, first, c, second),
+    ))
+}
+
 /// Compares tuples doubled 60 deep, tuples with lists, and chains of 100,000, and prints the answers.
 pub fn show(rt: &HostRuntime) -> Result<()> {
     let mut first = Types::new(rt.alloc());
     let mut second = Types::new(rt.alloc());
-    let a = tuples(rt.alloc(), &mut first, 60)?;
-    let b = chain(&mut first, 100_000)?;
-    let c = chain(&mut second, 100_000)?;
-    let d = tuples(rt.alloc(), &mut second, 60)?;
-    let same = is_subtype(a, &first, d, &second);
-    let other = is_subtype(a, &first, b, &first);
-    let long = is_subtype(b, &first, c, &second);
+    let (same, other, long) = answers(rt.alloc(), &mut first, &mut second)?;
     println!(rt;
         "tuples doubled 60 deep: {same}; a tuple for a list: {other}; a chain of 100000: {long}"
     )?;

@@ -56,22 +56,32 @@ pub fn one(alloc: Global, name: &str, kind: ItemKind) -> Result<Named<ItemKind>>
     Ok(items)
 }
 
+/// Adds a function type, and puts it among items under a name.
+fn add_function(
+    alloc: Global,
+    graph: &mut CompositionGraph,
+    items: &mut Named<ItemKind>,
+    name: &str,
+) -> Result<()> {
+    let params = [
+        ("x", ValueType::Primitive(PrimitiveType::U32)),
+        ("y", ValueType::Primitive(PrimitiveType::String)),
+    ];
+    let returned = Some(ValueType::Primitive(PrimitiveType::Bool));
+    let function = FuncType::new(alloc, &params, returned, false)?;
+    let kind = ItemKind::Func(graph.add_func_type(function)?);
+    Ok(items.insert(alloc, name, kind)?)
+}
+
 /// Adds a function type for each name.
 fn functions(
     alloc: Global,
     graph: &mut CompositionGraph,
     names: &[String],
 ) -> Result<Named<ItemKind>> {
-    let params = [
-        ("x", ValueType::Primitive(PrimitiveType::U32)),
-        ("y", ValueType::Primitive(PrimitiveType::String)),
-    ];
-    let returned = Some(ValueType::Primitive(PrimitiveType::Bool));
     let mut items = Named::new(alloc);
     for name in names {
-        let function = FuncType::new(alloc, &params, returned, false)?;
-        let kind = ItemKind::Func(graph.add_func_type(function)?);
-        items.insert(alloc, name.as_str(), kind)?;
+        add_function(alloc, graph, &mut items, name.as_str())?;
     }
     Ok(items)
 }
@@ -161,15 +171,25 @@ fn import(graph: &mut CompositionGraph, name: &str, kind: ItemKind) -> Result<No
     Ok(graph.import(name, kind)?)
 }
 
+/// Registers the package of a number, with the import `b` and the export `a`.
+fn link(
+    alloc: Global,
+    graph: &mut CompositionGraph,
+    kind: ItemKind,
+    number: u64,
+) -> Result<PackageId> {
+    let name = format!(in alloc; "n:p{number}")?;
+    let imports = one(alloc, "b", kind)?;
+    let exports = one(alloc, "a", kind)?;
+    register(alloc, graph, name.as_str(), imports, exports)
+}
+
 /// Registers so many packages, each with the import `b` and the export `a`.
 fn links(alloc: Global, graph: &mut CompositionGraph, count: u64) -> Result<Vec<PackageId>> {
     let kind = plain(alloc, graph)?;
     let mut packages = Vec::new(alloc);
     for number in 0..count {
-        let name = format!(in alloc; "n:p{number}")?;
-        let imports = one(alloc, "b", kind)?;
-        let exports = one(alloc, "a", kind)?;
-        packages.push(register(alloc, graph, name.as_str(), imports, exports)?)?;
+        packages.push(link(alloc, graph, kind, number)?)?;
     }
     Ok(packages)
 }
@@ -196,18 +216,29 @@ fn chained(graph: &mut CompositionGraph, packages: &[PackageId]) -> Option<()> {
     }
 }
 
+/// Makes an instance of a package with an export under each name, and an alias of each.
+fn provided(alloc: Global, graph: &mut CompositionGraph, names: &[String]) -> Result<Vec<NodeId>> {
+    let exports = functions(alloc, graph, names)?;
+    let provider = register(alloc, graph, "n:provider", Named::new(alloc), exports)?;
+    let instance = refused(instantiate(graph, provider))?;
+    let mut arguments = Vec::new(alloc);
+    for name in names {
+        arguments.push(refused(alias(graph, instance, name.as_str()))?)?;
+    }
+    Ok(arguments)
+}
+
+/// Registers a package with an import under each name.
+fn consumer(alloc: Global, graph: &mut CompositionGraph, names: &[String]) -> Result<PackageId> {
+    let imports = functions(alloc, graph, names)?;
+    register(alloc, graph, "n:consumer", imports, Named::new(alloc))
+}
+
 /// An instance with eight exports, and so many that are given all of them.
 fn fan(alloc: Global, graph: &mut CompositionGraph, count: u64) -> Result<()> {
     let names = function_names(alloc, ARGUMENTS)?;
-    let exports = functions(alloc, graph, &names)?;
-    let imports = functions(alloc, graph, &names)?;
-    let provider = register(alloc, graph, "n:provider", Named::new(alloc), exports)?;
-    let consumer = register(alloc, graph, "n:consumer", imports, Named::new(alloc))?;
-    let instance = refused(instantiate(graph, provider))?;
-    let mut arguments = Vec::new(alloc);
-    for name in &names {
-        arguments.push(refused(alias(graph, instance, name.as_str()))?)?;
-    }
+    let arguments = provided(alloc, graph, &names)?;
+    let consumer = consumer(alloc, graph, &names)?;
     refused(fanned(graph, consumer, count, &names, &arguments))
 }
 

@@ -33,21 +33,21 @@ fn show(rt: &HostRuntime) -> Result<()> {
 
 /// Measures what the word names. Answers whether it names a workload.
 fn measure(rt: &HostRuntime, word: &str) -> Result<bool> {
-    match word {
-        "names" => names::measure(rt)?,
-        "comparing" => comparing::measure(rt)?,
-        "merging" => merging::measure(rt)?,
-        "writing" => writing::measure(rt)?,
-        "chain" => graphs::measure(rt, Sort::Chain)?,
-        "fan" => graphs::measure(rt, Sort::Fan)?,
-        "aliases" => graphs::measure(rt, Sort::Aliases)?,
-        "plug" => graphs::measure(rt, Sort::Plug)?,
-        "shared" => graphs::measure(rt, Sort::Shared)?,
-        "churn" => churn::measure(rt)?,
-        "wide" => wide::measure(rt)?,
+    let measured = match word {
+        "names" => names::measure(rt),
+        "comparing" => comparing::measure(rt),
+        "merging" => merging::measure(rt),
+        "writing" => writing::measure(rt),
+        "chain" => graphs::measure(rt, Sort::Chain),
+        "fan" => graphs::measure(rt, Sort::Fan),
+        "aliases" => graphs::measure(rt, Sort::Aliases),
+        "plug" => graphs::measure(rt, Sort::Plug),
+        "shared" => graphs::measure(rt, Sort::Shared),
+        "churn" => churn::measure(rt),
+        "wide" => wide::measure(rt),
         _ => return Ok(false),
-    }
-    Ok(true)
+    };
+    measured.map(|()| true)
 }
 
 fn main(rt: HostRuntime) -> Result<ExitCode> {

@@ -3,7 +3,7 @@
 
 use crate::graphs::{instantiate, one, refused, register, unvalidated};
 use crate::times::{ROUNDS, Times, print_power_of_ten, print_times};
-use crate::types::primitive;
+use crate::types::{export, primitive};
 use anyhow::Result;
 use std::alloc::Global;
 use std::time::{Duration, Instant};
@@ -61,18 +61,23 @@ fn function(
     Ok(ItemKind::Func(graph.add_func_type(function)?))
 }
 
-/// Adds an interface of a record, a variant, and functions over both.
-fn interface(alloc: Global, graph: &mut CompositionGraph, id: &str) -> Result<ItemKind> {
+/// Puts a record, a variant, and functions over both among the exports of an interface.
+fn fill(alloc: Global, graph: &mut CompositionGraph, exports: &mut Named<ItemKind>) -> Result<()> {
     let x = record(alloc, graph)?;
     let case = variant(alloc, graph, x)?;
-    let mut exports = Named::new(alloc);
     exports.insert(alloc, "rec", ItemKind::TypeItem(Type::Value(x)))?;
     exports.insert(alloc, "var", ItemKind::TypeItem(Type::Value(case)))?;
     for number in 0..FUNCTIONS {
         let kind = function(alloc, graph, x, case)?;
-        let name = format!(in alloc; "f{number}")?;
-        exports.insert(alloc, name.as_str(), kind)?;
+        export(alloc, exports, number, kind)?;
     }
+    Ok(())
+}
+
+/// Adds an interface of a record, a variant, and functions over both.
+fn interface(alloc: Global, graph: &mut CompositionGraph, id: &str) -> Result<ItemKind> {
+    let mut exports = Named::new(alloc);
+    fill(alloc, graph, &mut exports)?;
     let interface = Interface {
         id: Some(Text::new(alloc, id)?),
         uses: Named::new(alloc),
@@ -81,14 +86,19 @@ fn interface(alloc: Global, graph: &mut CompositionGraph, id: &str) -> Result<It
     Ok(ItemKind::Instance(graph.add_interface(interface)?))
 }
 
+/// Adds an interface of a number, as the import of its id.
+fn imported(alloc: Global, graph: &mut CompositionGraph, number: u64) -> Result<Named<ItemKind>> {
+    let track = number / 4;
+    let minor = number % 4;
+    let id = format!(in alloc; "n:w/i{track}@1.{minor}.0")?;
+    let kind = interface(alloc, graph, id.as_str())?;
+    one(alloc, id.as_str(), kind)
+}
+
 /// Registers so many packages, each with an import of its own, and instantiates each.
 fn make(alloc: Global, graph: &mut CompositionGraph, count: u64) -> Result<()> {
     for number in 0..count {
-        let track = number / 4;
-        let minor = number % 4;
-        let id = format!(in alloc; "n:w/i{track}@1.{minor}.0")?;
-        let kind = interface(alloc, graph, id.as_str())?;
-        let imports = one(alloc, id.as_str(), kind)?;
+        let imports = imported(alloc, graph, number)?;
         let name = format!(in alloc; "n:c{number}")?;
         let package = register(alloc, graph, name.as_str(), imports, Named::new(alloc))?;
         let _instance = refused(instantiate(graph, package))?;
@@ -116,11 +126,16 @@ fn measured(rt: &HostRuntime, count: u32) -> Result<Times> {
     Ok(times)
 }
 
+/// Makes so many packages and answers how many bytes the graph has.
+fn length(alloc: Global, graph: &mut CompositionGraph, count: u64) -> Result<usize> {
+    make(alloc, graph, count)?;
+    Ok(graph.encode(unvalidated())?.len())
+}
+
 /// Makes a few packages and prints how many bytes the graph has.
 pub fn show(rt: &HostRuntime) -> Result<()> {
     let mut graph = CompositionGraph::new(rt.alloc());
-    make(rt.alloc(), &mut graph, 10)?;
-    let length = graph.encode(unvalidated())?.len();
+    let length = length(rt.alloc(), &mut graph, 10)?;
     println!(rt; "10 packages with types of their own: {length} bytes")?;
     Ok(())
 }

@@ -1,16 +1,10 @@
 //! Prints a composition of WebAssembly components by its word, as a line of hexadecimal.
 #![tactic(auto)]
 
-mod args;
-mod compositions;
-mod run;
-#[cfg(test)]
-mod tests;
-
-use args::asked_word;
-use run::{refuse, run};
 use std::io;
 use std::process::ExitCode;
+use wac_printing::args::asked_word;
+use wac_printing::run::{refuse, run};
 
 fn main(rt: HostRuntime) -> ExitCode {
     let mut out = io::writer(&rt);

@@ -1,13 +1,15 @@
 //! Functions that are written and listed beside the types that they use.
 
+use crate::shapes::{defined, function, resource};
+use std::process::Abort;
 use std::test::Fail;
 use wac_binary::{ComponentBuilder, ComponentValType, Description, InstanceType};
 use wac_collection::Types;
 use wac_encode::TypeEncoder;
 use wac_scopes::{Encodable, EncodeFault, Scope, WriteFault};
-use wac_shapes::{DefinedType, Enum, FuncType, PrimitiveType, Resource, Type, ValueType};
+use wac_shapes::{DefinedType, Enum, FuncType, PrimitiveType, Type, ValueType};
 
-const INTERFACE: [u8; 51] = [
+const INTERFACE: &[u8] = &[
     0x00, 0x61, 0x73, 0x6d, 0x0d, 0x00, 0x01, 0x00, // the preamble
     0x07, 0x1d, 0x01, 0x42, 0x04, // an instance type of four declarations
     0x01, 0x6d, 0x01, 0x01, 0x61, // the enum
@@ -43,54 +45,61 @@ fn takes_the_named_index(rt: HostRuntime) -> Result<(), Fail> {
     let mut builder = ComponentBuilder::new(alloc);
     let interface = builder.instance_type(&declarations)?;
     builder.import("n:p/i", Description::Instance(interface))?;
-    assert!(rt; builder.finish()?.as_slice() == INTERFACE.as_slice());
+    assert!(rt; builder.finish()?.as_slice() == INTERFACE);
     Ok(())
 }
 
 // Parameters in order, then the result; a list that stands twice is written once, and so is the function type.
 #[test]
-fn writes_parameters_in_order(rt: HostRuntime) -> Result<(), Fail> {
+fn writes_parameters_in_order(rt: HostRuntime) {
     let alloc = rt.alloc();
     let mut types = Types::new(alloc);
     let byte = ValueType::Primitive(PrimitiveType::U8);
-    let list = ValueType::Defined(types.add_defined_type(DefinedType::List(byte))?);
-    let option = ValueType::Defined(types.add_defined_type(DefinedType::Option(list))?);
+    let list = defined(&rt, &mut types, DefinedType::List(byte));
+    let option = defined(&rt, &mut types, DefinedType::Option(list));
     let params = [("a", option), ("b", byte)];
-    let f = types.add_func_type(FuncType::new(alloc, &params, Some(list), true)?)?;
+    let f = function(
+        &rt,
+        &mut types,
+        FuncType::new(alloc, &params, Some(list), true),
+    );
     let mut scope = Scope::new(alloc, Encodable::Instance(InstanceType::new(alloc)));
     if types.contains(Type::Func(f)) {
-        assert_eq!(rt; TypeEncoder::new(&types).func(&mut scope, f)?, 2);
-        assert_eq!(rt; TypeEncoder::new(&types).func(&mut scope, f)?, 2);
-        assert_eq!(rt; scope.func(f), Some(2));
+        assert!(rt; TypeEncoder::new(&types).func(&mut scope, f) == Ok(2));
+        assert!(rt; TypeEncoder::new(&types).func(&mut scope, f) == Ok(2));
+        assert!(rt; scope.func(f) == Some(2));
     }
     assert!(rt; scope.value(list) == Some(ComponentValType::Index(0)));
     assert!(rt; scope.value(option) == Some(ComponentValType::Index(1)));
-    Ok(())
 }
 
 // A type item of a primitive: the primitive has an index of its own there, and is written as itself all the same.
 #[test]
-fn lists_a_primitive(rt: HostRuntime) -> Result<(), Fail> {
+fn lists_a_primitive(rt: HostRuntime) {
     let alloc = rt.alloc();
     let mut scope = Scope::new(alloc, Encodable::Instance(InstanceType::new(alloc)));
-    let index = scope.define_primitive(PrimitiveType::U32)?;
-    assert_eq!(rt; scope.export_type("size", index)?, 1);
+    let index = scope
+        .define_primitive(PrimitiveType::U32)
+        .expect(&rt, "an index");
+    assert!(rt; scope.export_type("size", index) == Ok(1));
     let byte = ValueType::Primitive(PrimitiveType::U32);
     assert!(rt; scope.value(byte) == Some(ComponentValType::Primitive(PrimitiveType::U32)));
-    Ok(())
 }
 
 // A function whose result is a handle is refused, since the scope binds no resource.
 #[test]
-fn refuses_a_result_of_a_handle(rt: HostRuntime) -> Result<(), Fail> {
+fn refuses_a_result_of_a_handle(rt: HostRuntime) {
     let alloc = rt.alloc();
     let mut types = Types::new(alloc);
-    let resource = types.add_resource(Resource::new(alloc, "r")?)?;
-    let f = types.add_func_type(FuncType::new(alloc, &[], Some(ValueType::Own(resource)), false)?)?;
+    let resource = resource(&rt, &mut types);
+    let f = function(
+        &rt,
+        &mut types,
+        FuncType::new(alloc, &[], Some(ValueType::Own(resource)), false),
+    );
     let mut scope = Scope::new(alloc, Encodable::Instance(InstanceType::new(alloc)));
     if types.contains(Type::Func(f)) {
         let refused = TypeEncoder::new(&types).func(&mut scope, f);
         assert!(rt; refused == Err(EncodeFault::Write(WriteFault::UnboundResource)));
     }
-    Ok(())
 }

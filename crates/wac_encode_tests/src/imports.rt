@@ -1,15 +1,15 @@
 //! Items that are imported into the root.
 
+use crate::shapes::{defined, enumeration, function, interface, resource};
+use std::process::Abort;
 use std::test::Fail;
 use wac_binary::ComponentBuilder;
 use wac_collection::Types;
 use wac_encode::TypeEncoder;
 use wac_scopes::{Encodable, EncodeFault, Scope, WriteFault};
-use wac_shapes::{
-    DefinedType, Enum, FuncType, Interface, ItemKind, PrimitiveType, Resource, Type, ValueType,
-};
+use wac_shapes::{DefinedType, FuncType, Interface, ItemKind, PrimitiveType, Type, ValueType};
 
-const ITEMS: [u8; 85] = [
+const ITEMS: &[u8] = &[
     0x00, 0x61, 0x73, 0x6d, 0x0d, 0x00, 0x01, 0x00, // the preamble
     0x07, 0x1d, 0x01, 0x42, 0x04, // an instance type of four declarations
     0x01, 0x6d, 0x01, 0x01, 0x61, // the enum
@@ -23,7 +23,7 @@ const ITEMS: [u8; 85] = [
     0x0a, 0x06, 0x01, 0x00, 0x01, 0x66, 0x01, 0x03, // a function
 ];
 
-const NAMES: [u8; 41] = [
+const NAMES: &[u8] = &[
     0x00, 0x61, 0x73, 0x6d, 0x0d, 0x00, 0x01, 0x00, // the preamble
     0x07, 0x02, 0x01, 0x7d, // a primitive
     0x0a, 0x07, 0x01, 0x00, 0x01, 0x62, 0x03, 0x00, 0x00, // a type item that equals it
@@ -53,70 +53,65 @@ const INSTANCES: [u8; 46] = [
 ];
 
 // The bytes of a component that imports these items, in order; none where one is not imported yet.
-fn imported(types: &Types, items: &[(&str, ItemKind)]) -> Result<Option<Vec<u8>>, Fail> {
-    let mut root = Scope::new(
-        types.allocator(),
-        Encodable::Builder(ComponentBuilder::new(types.allocator())),
-    );
+fn imported(rt: &impl Abort, types: &Types, items: &[(&str, ItemKind)]) -> Option<Vec<u8>> {
+    let builder = ComponentBuilder::new(types.allocator());
+    let mut root = Scope::new(types.allocator(), Encodable::Builder(builder));
     for i in 0..items.len() {
         let (name, item) = items[i];
-        if !types.contains(item.ty()) {
-            return Err(Fail::new("not held"));
-        }
-        if TypeEncoder::new(types)
-            .import(&mut root, name, item)?
-            .is_none()
-        {
-            return Ok(None);
+        assert!(rt; types.contains(item.ty()));
+        let index = TypeEncoder::new(types).import(&mut root, name, item);
+        if index.expect(rt, "an import").is_none() {
+            return None;
         }
     }
     let Encodable::Builder(builder) = root.into_content() else {
-        return Err(Fail::new("no component"));
+        panic!(rt; "no component");
     };
-    Ok(Some(builder.finish()?))
+    Some(builder.finish().expect(rt, "bytes"))
+}
+
+// A component that imports these items is written so.
+fn assert_imported(rt: &impl Abort, types: &Types, items: &[(&str, ItemKind)], want: &[u8]) {
+    let bytes = imported(rt, types, items).expect(rt, "all are imported");
+    assert!(rt; bytes.as_slice() == want);
 }
 
 // An interface as an instance, then a type item, and a function, which takes the item's index. Nothing of the interface is used at the root.
 #[test]
-fn imports_each_kind(rt: HostRuntime) -> Result<(), Fail> {
+fn imports_each_kind(rt: HostRuntime) {
     let alloc = rt.alloc();
     let mut types = Types::new(alloc);
-    let x = ValueType::Defined(types.add_defined_type(DefinedType::Enum(Enum::new(
-        alloc,
-        &["a"],
-    )?))?);
-    let f = types.add_func_type(FuncType::new(alloc, &[("x", x)], None, false)?)?;
+    let x = enumeration(&rt, &mut types, "a");
+    let f = function(
+        &rt,
+        &mut types,
+        FuncType::new(alloc, &[("x", x)], None, false),
+    );
     let t = ("t", ItemKind::TypeItem(Type::Value(x)));
     let f = ("f", ItemKind::Func(f));
-    let i = types.add_interface(Interface::new(alloc, Some("n:p/i"), &[t, f])?)?;
+    let i = interface(
+        &rt,
+        &mut types,
+        Interface::new(alloc, Some("n:p/i"), &[t, f]),
+    );
     let items = [("n:p/i", ItemKind::Instance(i)), t, f];
-    let bytes = imported(&types, &items)?;
-    let Some(bytes) = bytes else {
-        return Err(Fail::new("not imported"));
-    };
-    assert!(rt; bytes.as_slice() == ITEMS.as_slice());
-    Ok(())
+    assert_imported(&rt, &types, &items, ITEMS);
 }
 
 // A primitive has a definition of its own; a second name of a list equals the first.
 #[test]
-fn imports_names(rt: HostRuntime) -> Result<(), Fail> {
+fn imports_names(rt: HostRuntime) {
     let alloc = rt.alloc();
     let mut types = Types::new(alloc);
     let byte = ValueType::Primitive(PrimitiveType::U8);
-    let list = ValueType::Defined(types.add_defined_type(DefinedType::List(byte))?);
-    let alias = ValueType::Defined(types.add_defined_type(DefinedType::Alias(list))?);
+    let list = defined(&rt, &mut types, DefinedType::List(byte));
+    let alias = defined(&rt, &mut types, DefinedType::Alias(list));
     let items = [
         ("b", ItemKind::TypeItem(Type::Value(byte))),
         ("l", ItemKind::TypeItem(Type::Value(list))),
         ("m", ItemKind::TypeItem(Type::Value(alias))),
     ];
-    let bytes = imported(&types, &items)?;
-    let Some(bytes) = bytes else {
-        return Err(Fail::new("not imported"));
-    };
-    assert!(rt; bytes.as_slice() == NAMES.as_slice());
-    Ok(())
+    assert_imported(&rt, &types, &items, NAMES);
 }
 
 // A function type and an interface that are imported twice are written once, and so is a function type that an interface lists twice.
@@ -144,17 +139,16 @@ fn imports_once(rt: HostRuntime) -> Result<(), Fail> {
 
 // What is not imported yet gives none; what can't be imported is refused.
 #[test]
-fn refuses_what_is_not_imported(rt: HostRuntime) -> Result<(), Fail> {
+fn refuses_what_is_not_imported(rt: HostRuntime) {
     let alloc = rt.alloc();
     let mut types = Types::new(alloc);
-    let resource = types.add_resource(Resource::new(alloc, "r")?)?;
+    let resource = resource(&rt, &mut types);
     let r = ("r", ItemKind::TypeItem(Type::Resource(resource)));
-    let i = types.add_interface(Interface::new(alloc, None, &[r])?)?;
-    assert!(rt; imported(&types, &[r])?.is_none());
-    assert!(rt; imported(&types, &[("i", ItemKind::Instance(i))])?.is_none());
+    let i = interface(&rt, &mut types, Interface::new(alloc, None, &[r]));
+    assert!(rt; imported(&rt, &types, &[r]).is_none());
+    assert!(rt; imported(&rt, &types, &[("i", ItemKind::Instance(i))]).is_none());
     let value = ValueType::Primitive(PrimitiveType::U8);
     let mut root = Scope::new(alloc, Encodable::Builder(ComponentBuilder::new(alloc)));
     let refused = TypeEncoder::new(&types).import(&mut root, "v", ItemKind::Value(value));
     assert!(rt; refused == Err(EncodeFault::Write(WriteFault::ValueItem)));
-    Ok(())
 }

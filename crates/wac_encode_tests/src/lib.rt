@@ -14,4 +14,6 @@ mod roots;
 #[cfg(test)]
 mod scopes;
 #[cfg(test)]
+mod shapes;
+#[cfg(test)]
 mod values;

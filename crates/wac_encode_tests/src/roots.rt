@@ -7,14 +7,14 @@ use wac_encode::TypeEncoder;
 use wac_scopes::{Encodable, Scope};
 use wac_shapes::{DefinedType, Enum, FuncType, Type, ValueType};
 
-const FUNCTION: [u8; 32] = [
+const FUNCTION: &[u8] = &[
     0x00, 0x61, 0x73, 0x6d, 0x0d, 0x00, 0x01, 0x00, // the preamble
     0x07, 0x05, 0x01, 0x40, 0x00, 0x01, 0x00, // a function type without parameters
     0x0a, 0x06, 0x01, 0x00, 0x01, 0x78, 0x01, 0x00, // the import
     0x0b, 0x07, 0x01, 0x00, 0x01, 0x79, 0x01, 0x00, 0x00, // the export
 ];
 
-const ITEMS: [u8; 42] = [
+const ITEMS: &[u8] = &[
     0x00, 0x61, 0x73, 0x6d, 0x0d, 0x00, 0x01, 0x00, // the preamble
     0x07, 0x05, 0x01, 0x6d, 0x01, 0x01, 0x61, // the enum
     0x0a, 0x07, 0x01, 0x00, 0x01, 0x74, 0x03, 0x00, 0x00, // a type item that equals it
@@ -22,7 +22,7 @@ const ITEMS: [u8; 42] = [
     0x0a, 0x06, 0x01, 0x00, 0x01, 0x66, 0x01, 0x02, // a function
 ];
 
-const MODULE: [u8; 39] = [
+const MODULE: &[u8] = &[
     0x00, 0x61, 0x73, 0x6d, 0x0d, 0x00, 0x01, 0x00, // the preamble
     0x03, 0x14, 0x01, 0x50, 0x03, // a core module type of three declarations
     0x01, 0x60, 0x00, 0x00, // a function type
@@ -48,7 +48,7 @@ fn imports_a_function(rt: HostRuntime) -> Result<(), Fail> {
         return Err(Fail::new("no component"));
     };
     builder.export("y", Sort::Func, 0)?;
-    assert!(rt; builder.finish()?.as_slice() == FUNCTION.as_slice());
+    assert!(rt; builder.finish()?.as_slice() == FUNCTION);
     Ok(())
 }
 
@@ -71,7 +71,7 @@ fn imports_a_named_type(rt: HostRuntime) -> Result<(), Fail> {
     let Encodable::Builder(builder) = scope.into_content() else {
         return Err(Fail::new("no component"));
     };
-    assert!(rt; builder.finish()?.as_slice() == ITEMS.as_slice());
+    assert!(rt; builder.finish()?.as_slice() == ITEMS);
     Ok(())
 }
 
@@ -96,6 +96,6 @@ fn imports_a_module(rt: HostRuntime) -> Result<(), Fail> {
     let Encodable::Builder(builder) = scope.into_content() else {
         return Err(Fail::new("no component"));
     };
-    assert!(rt; builder.finish()?.as_slice() == MODULE.as_slice());
+    assert!(rt; builder.finish()?.as_slice() == MODULE);
     Ok(())
 }

@@ -1,21 +1,23 @@
 //! What is recorded in an open scope.
 
-use std::test::Fail;
+use std::process::Abort;
 use wac_binary::{ComponentValType, DefinedType, InstanceType};
 use wac_scopes::{Encodable, Scope};
 use wac_shapes::{DefinedTypeId, PrimitiveType, ResourceId, ValueType};
 
 // A list of bytes, then an option of it: type indexes rise from 0. A handle and a definition that is not written have none.
 #[test]
-fn records_what_is_written(rt: HostRuntime) -> Result<(), Fail> {
+fn records_what_is_written(rt: HostRuntime) {
     let alloc = rt.alloc();
     let mut scope = Scope::new(alloc, Encodable::Instance(InstanceType::new(alloc)));
     let byte = ComponentValType::Primitive(PrimitiveType::U8);
-    let list = scope.define(DefinedTypeId(7), &DefinedType::List(byte))?;
-    assert_eq!(rt; list, 0);
+    let list = scope
+        .define(DefinedTypeId(7), &DefinedType::List(byte))
+        .expect(&rt, "an index");
+    assert!(rt; list == 0);
     let part = ComponentValType::Index(list);
-    let option = scope.define(DefinedTypeId(3), &DefinedType::Option(part))?;
-    assert_eq!(rt; option, 1);
+    let option = scope.define(DefinedTypeId(3), &DefinedType::Option(part));
+    assert!(rt; option.expect(&rt, "an index") == 1);
     assert!(rt; scope.value(ValueType::Primitive(PrimitiveType::U8)) == Some(byte));
     assert!(rt; scope.value(ValueType::Defined(DefinedTypeId(7))) == Some(part));
     assert!(rt;
@@ -23,5 +25,4 @@ fn records_what_is_written(rt: HostRuntime) -> Result<(), Fail> {
     );
     assert!(rt; scope.value(ValueType::Defined(DefinedTypeId(0))).is_none());
     assert!(rt; scope.value(ValueType::Own(ResourceId(0))).is_none());
-    Ok(())
 }

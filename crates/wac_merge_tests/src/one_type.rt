@@ -4,7 +4,6 @@ ghost use Rattle.std.specs.Prelude.{◌≡◌, true};
 use crate::merging::merge;
 use std::alloc::Global;
 use std::process::Abort;
-use std::test::Fail;
 use wac_merge::TypeAggregator;
 use wac_types::{
     DefinedType, DefinedTypeId, Enum, FuncType, Interface, InterfaceId, ItemKind, Record, Resource,
@@ -12,44 +11,56 @@ use wac_types::{
 };
 
 // An item that lists a value type by an alias of it.
-fn aliased(types: &mut Types, id: DefinedTypeId) -> Result<ItemKind, Fail> {
-    let alias = types.add_defined_type(DefinedType::Alias(ValueType::Defined(id)))?;
-    Ok(ItemKind::TypeItem(Type::Value(ValueType::Defined(alias))))
+fn aliased(rt: &impl Abort, types: &mut Types, id: DefinedTypeId) -> ItemKind {
+    let alias = DefinedType::Alias(ValueType::Defined(id));
+    let alias = types.add_defined_type(alias).expect(rt, "an alias");
+    ItemKind::TypeItem(Type::Value(ValueType::Defined(alias)))
 }
 
 // An enumeration of one case.
-fn enumeration(types: &mut Types, alloc: Global) -> Result<DefinedTypeId, Fail> {
-    let cases = Enum::new(alloc, &["a"])?;
-    Ok(types.add_defined_type(DefinedType::Enum(cases))?)
+fn enumeration(rt: &impl Abort, types: &mut Types, alloc: Global) -> DefinedTypeId {
+    let cases = Enum::new(alloc, &["a"]).expect(rt, "an enumeration");
+    types
+        .add_defined_type(DefinedType::Enum(cases))
+        .expect(rt, "its id")
 }
 
 // A record of one field, an optional value of a type.
-fn record_of(types: &mut Types, alloc: Global, value: ValueType) -> Result<DefinedTypeId, Fail> {
-    let option = types.add_defined_type(DefinedType::Option(value))?;
-    let record = Record::new(alloc, &[("f", ValueType::Defined(option))])?;
-    Ok(types.add_defined_type(DefinedType::Record(record))?)
+fn record_of(rt: &impl Abort, types: &mut Types, alloc: Global, value: ValueType) -> DefinedTypeId {
+    let option = types
+        .add_defined_type(DefinedType::Option(value))
+        .expect(rt, "an option");
+    let fields = [("f", ValueType::Defined(option))];
+    let record = Record::new(alloc, &fields).expect(rt, "a record");
+    types
+        .add_defined_type(DefinedType::Record(record))
+        .expect(rt, "its id")
 }
 
 // A function of one parameter of a type.
-fn taking(types: &mut Types, alloc: Global, id: DefinedTypeId) -> Result<ItemKind, Fail> {
-    let func = FuncType::new(alloc, &[("x", ValueType::Defined(id))], None, false)?;
-    Ok(ItemKind::Func(types.add_func_type(func)?))
+fn taking(rt: &impl Abort, types: &mut Types, alloc: Global, id: DefinedTypeId) -> ItemKind {
+    let params = [("x", ValueType::Defined(id))];
+    let func = FuncType::new(alloc, &params, None, false).expect(rt, "a function type");
+    ItemKind::Func(types.add_func_type(func).expect(rt, "its id"))
 }
 
 // An instance of an interface.
 fn instance(
+    rt: &impl Abort,
     types: &mut Types,
     alloc: Global,
     id: &str,
     uses: &[(&str, InterfaceId, Option<&str>)],
     exports: &[(&str, ItemKind)],
-) -> Result<InterfaceId, Fail> {
-    let interface = Interface::with_uses(alloc, Some(id), uses, exports)?;
-    Ok(types.add_interface(interface)?)
+) -> InterfaceId {
+    let interface = Interface::with_uses(alloc, Some(id), uses, exports);
+    types
+        .add_interface(interface.expect(rt, "an interface"))
+        .expect(rt, "its id")
 }
 
 // The definition that an item is of: that of its type, or of its first parameter.
-fn definition(rt: &impl Abort, types: &Types, kind: ItemKind) -> Result<DefinedTypeId, Fail> {
+fn definition(rt: &impl Abort, types: &Types, kind: ItemKind) -> DefinedTypeId {
     let value = match kind {
         ItemKind::TypeItem(Type::Value(value)) => value,
         ItemKind::Func(id) => {
@@ -58,11 +69,11 @@ fn definition(rt: &impl Abort, types: &Types, kind: ItemKind) -> Result<DefinedT
             assert!(rt; params.len() > 0);
             *params.value_at(0)
         }
-        _ => return Err(Fail::new("neither a type nor a function")),
+        _ => panic!(rt; "neither a type nor a function"),
     };
     match value {
-        ValueType::Defined(id) => Ok(id),
-        _ => Err(Fail::new("no definition")),
+        ValueType::Defined(id) => id,
+        _ => panic!(rt; "no definition"),
     }
 }
 
@@ -72,173 +83,195 @@ fn merged_definition(
     merged: &TypeAggregator,
     import: &str,
     name: &str,
-) -> Result<DefinedTypeId, Fail>
+) -> DefinedTypeId
     requires { merged.now.is_finished ≡ true }
 {
     let types = merged.types();
     let Some(kind) = merged.imports().get(import).copied() else {
-        return Err(Fail::new("no import"));
+        panic!(rt; "no import");
     };
     let ItemKind::Instance(id) = kind else {
         return definition(rt, types, kind);
     };
     assert!(rt; types.contains(Type::Interface(id)));
     let Some(item) = types[id].exports.get(name).copied() else {
-        return Err(Fail::new("no export"));
+        panic!(rt; "no export");
     };
     definition(rt, types, item)
 }
 
 #[test]
-fn versions_on_one_track_have_one_type(rt: HostRuntime) -> Result<(), Fail> {
+fn versions_on_one_track_have_one_type(rt: HostRuntime) {
     let alloc = rt.alloc();
     let mut types = Types::new(alloc);
-    let old = enumeration(&mut types, alloc)?;
-    let t = aliased(&mut types, old)?;
-    let f = taking(&mut types, alloc, old)?;
-    let first = instance(&mut types, alloc, "a:b/c@0.2.0", &[], &[("t", t), ("f", f)])?;
-    let new = enumeration(&mut types, alloc)?;
-    let t = aliased(&mut types, new)?;
-    let g = taking(&mut types, alloc, new)?;
-    let second = instance(&mut types, alloc, "a:b/c@0.2.3", &[], &[("t", t), ("g", g)])?;
+    let old = enumeration(&rt, &mut types, alloc);
+    let t = aliased(&rt, &mut types, old);
+    let f = taking(&rt, &mut types, alloc, old);
+    let first = instance(
+        &rt,
+        &mut types,
+        alloc,
+        "a:b/c@0.2.0",
+        &[],
+        &[("t", t), ("f", f)],
+    );
+    let new = enumeration(&rt, &mut types, alloc);
+    let t = aliased(&rt, &mut types, new);
+    let g = taking(&rt, &mut types, alloc, new);
+    let second = instance(
+        &rt,
+        &mut types,
+        alloc,
+        "a:b/c@0.2.3",
+        &[],
+        &[("t", t), ("g", g)],
+    );
     let asked = [
         ("a:b/c@0.2.0", ItemKind::Instance(first)),
         ("a:b/c@0.2.3", ItemKind::Instance(second)),
     ];
-    let merged = merge(alloc, &rt, &types, &asked)?;
-    let t = merged_definition(&rt, &merged, "a:b/c@0.2.3", "t")?;
-    let f = merged_definition(&rt, &merged, "a:b/c@0.2.3", "f")?;
-    let g = merged_definition(&rt, &merged, "a:b/c@0.2.3", "g")?;
-    assert_eq!(rt; f, t);
-    assert_eq!(rt; g, t);
-    Ok(())
+    let merged = merge(alloc, &rt, &types, &asked);
+    let t = merged_definition(&rt, &merged, "a:b/c@0.2.3", "t");
+    let f = merged_definition(&rt, &merged, "a:b/c@0.2.3", "f");
+    let g = merged_definition(&rt, &merged, "a:b/c@0.2.3", "g");
+    assert!(rt; f == t);
+    assert!(rt; g == t);
 }
 
 #[test]
-fn parts_without_a_name_keep_no_types_apart(rt: HostRuntime) -> Result<(), Fail> {
+fn parts_without_a_name_keep_no_types_apart(rt: HostRuntime) {
     let alloc = rt.alloc();
     let mut types = Types::new(alloc);
-    let old = enumeration(&mut types, alloc)?;
-    let r = record_of(&mut types, alloc, ValueType::Defined(old))?;
-    let t = aliased(&mut types, old)?;
-    let s = aliased(&mut types, r)?;
-    let f = taking(&mut types, alloc, r)?;
+    let old = enumeration(&rt, &mut types, alloc);
+    let r = record_of(&rt, &mut types, alloc, ValueType::Defined(old));
+    let t = aliased(&rt, &mut types, old);
+    let s = aliased(&rt, &mut types, r);
+    let f = taking(&rt, &mut types, alloc, r);
     let exports = [("t", t), ("s", s), ("f", f)];
-    let first = instance(&mut types, alloc, "a:b/c@0.2.0", &[], &exports)?;
-    let new = enumeration(&mut types, alloc)?;
-    let r = record_of(&mut types, alloc, ValueType::Defined(new))?;
-    let t = aliased(&mut types, new)?;
-    let s = aliased(&mut types, r)?;
-    let g = taking(&mut types, alloc, r)?;
+    let first = instance(&rt, &mut types, alloc, "a:b/c@0.2.0", &[], &exports);
+    let new = enumeration(&rt, &mut types, alloc);
+    let r = record_of(&rt, &mut types, alloc, ValueType::Defined(new));
+    let t = aliased(&rt, &mut types, new);
+    let s = aliased(&rt, &mut types, r);
+    let g = taking(&rt, &mut types, alloc, r);
     let exports = [("t", t), ("s", s), ("g", g)];
-    let second = instance(&mut types, alloc, "a:b/c@0.2.3", &[], &exports)?;
+    let second = instance(&rt, &mut types, alloc, "a:b/c@0.2.3", &[], &exports);
     let asked = [
         ("a:b/c@0.2.0", ItemKind::Instance(first)),
         ("a:b/c@0.2.3", ItemKind::Instance(second)),
     ];
-    let merged = merge(alloc, &rt, &types, &asked)?;
-    let s = merged_definition(&rt, &merged, "a:b/c@0.2.3", "s")?;
-    let f = merged_definition(&rt, &merged, "a:b/c@0.2.3", "f")?;
-    let g = merged_definition(&rt, &merged, "a:b/c@0.2.3", "g")?;
-    assert_eq!(rt; f, s);
-    assert_eq!(rt; g, s);
-    Ok(())
+    let merged = merge(alloc, &rt, &types, &asked);
+    let s = merged_definition(&rt, &merged, "a:b/c@0.2.3", "s");
+    let f = merged_definition(&rt, &merged, "a:b/c@0.2.3", "f");
+    let g = merged_definition(&rt, &merged, "a:b/c@0.2.3", "g");
+    assert!(rt; f == s);
+    assert!(rt; g == s);
 }
 
 #[test]
-fn a_used_type_is_the_one_that_it_is_used_from(rt: HostRuntime) -> Result<(), Fail> {
+fn a_used_type_is_the_one_that_it_is_used_from(rt: HostRuntime) {
     let alloc = rt.alloc();
     let mut types = Types::new(alloc);
-    let id = enumeration(&mut types, alloc)?;
-    let t = aliased(&mut types, id)?;
-    let f = taking(&mut types, alloc, id)?;
-    let j = instance(&mut types, alloc, "n:p/j", &[], &[("t", t)])?;
+    let id = enumeration(&rt, &mut types, alloc);
+    let t = aliased(&rt, &mut types, id);
+    let f = taking(&rt, &mut types, alloc, id);
+    let j = instance(&rt, &mut types, alloc, "n:p/j", &[], &[("t", t)]);
     let uses = [("t", j, None)];
-    let i = instance(&mut types, alloc, "n:p/i", &uses, &[("t", t), ("f", f)])?;
-    let k = instance(&mut types, alloc, "n:p/k", &uses, &[("f", f)])?;
+    let i = instance(
+        &rt,
+        &mut types,
+        alloc,
+        "n:p/i",
+        &uses,
+        &[("t", t), ("f", f)],
+    );
+    let k = instance(&rt, &mut types, alloc, "n:p/k", &uses, &[("f", f)]);
     let asked = [
         ("n:p/k", ItemKind::Instance(k)),
         ("n:p/i", ItemKind::Instance(i)),
         ("n:p/j", ItemKind::Instance(j)),
     ];
-    let merged = merge(alloc, &rt, &types, &asked)?;
-    let of_j = merged_definition(&rt, &merged, "n:p/j", "t")?;
-    assert_eq!(rt; merged_definition(&rt, &merged, "n:p/i", "t")?, of_j);
-    assert_eq!(rt; merged_definition(&rt, &merged, "n:p/i", "f")?, of_j);
-    assert_eq!(rt; merged_definition(&rt, &merged, "n:p/k", "f")?, of_j);
-    Ok(())
+    let merged = merge(alloc, &rt, &types, &asked);
+    let of_j = merged_definition(&rt, &merged, "n:p/j", "t");
+    assert!(rt; merged_definition(&rt, &merged, "n:p/i", "t") == of_j);
+    assert!(rt; merged_definition(&rt, &merged, "n:p/i", "f") == of_j);
+    assert!(rt; merged_definition(&rt, &merged, "n:p/k", "f") == of_j);
 }
 
 #[test]
-fn a_type_item_is_the_type_that_is_mentioned(rt: HostRuntime) -> Result<(), Fail> {
+fn a_type_item_is_the_type_that_is_mentioned(rt: HostRuntime) {
     let alloc = rt.alloc();
     let mut types = Types::new(alloc);
-    let id = enumeration(&mut types, alloc)?;
-    let t = aliased(&mut types, id)?;
-    let f = taking(&mut types, alloc, id)?;
-    let merged = merge(alloc, &rt, &types, &[("t", t), ("f", f)])?;
-    let of_t = merged_definition(&rt, &merged, "t", "")?;
-    assert_eq!(rt; merged_definition(&rt, &merged, "f", "")?, of_t);
-    Ok(())
+    let id = enumeration(&rt, &mut types, alloc);
+    let t = aliased(&rt, &mut types, id);
+    let f = taking(&rt, &mut types, alloc, id);
+    let merged = merge(alloc, &rt, &types, &[("t", t), ("f", f)]);
+    let of_t = merged_definition(&rt, &merged, "t", "");
+    assert!(rt; merged_definition(&rt, &merged, "f", "") == of_t);
 }
 
 #[test]
-fn types_of_two_names_are_two(rt: HostRuntime) -> Result<(), Fail> {
+fn types_of_two_names_are_two(rt: HostRuntime) {
     let alloc = rt.alloc();
     let mut types = Types::new(alloc);
-    let one = enumeration(&mut types, alloc)?;
-    let one = aliased(&mut types, one)?;
-    let other = enumeration(&mut types, alloc)?;
-    let other = aliased(&mut types, other)?;
-    let i = instance(&mut types, alloc, "n:p/i", &[], &[("t", one), ("u", other)])?;
-    let merged = merge(alloc, &rt, &types, &[("n:p/i", ItemKind::Instance(i))])?;
-    let t = merged_definition(&rt, &merged, "n:p/i", "t")?;
-    assert!(rt; merged_definition(&rt, &merged, "n:p/i", "u")? != t);
-    Ok(())
+    let one = enumeration(&rt, &mut types, alloc);
+    let one = aliased(&rt, &mut types, one);
+    let other = enumeration(&rt, &mut types, alloc);
+    let other = aliased(&rt, &mut types, other);
+    let i = instance(
+        &rt,
+        &mut types,
+        alloc,
+        "n:p/i",
+        &[],
+        &[("t", one), ("u", other)],
+    );
+    let merged = merge(alloc, &rt, &types, &[("n:p/i", ItemKind::Instance(i))]);
+    let t = merged_definition(&rt, &merged, "n:p/i", "t");
+    assert!(rt; merged_definition(&rt, &merged, "n:p/i", "u") != t);
 }
 
 #[test]
-fn types_of_two_interfaces_are_two(rt: HostRuntime) -> Result<(), Fail> {
+fn types_of_two_interfaces_are_two(rt: HostRuntime) {
     let alloc = rt.alloc();
     let mut types = Types::new(alloc);
-    let one = enumeration(&mut types, alloc)?;
-    let one = aliased(&mut types, one)?;
-    let other = enumeration(&mut types, alloc)?;
-    let other = aliased(&mut types, other)?;
-    let i = instance(&mut types, alloc, "n:p/i", &[], &[("t", one)])?;
-    let j = instance(&mut types, alloc, "n:p/j", &[], &[("t", other)])?;
+    let one = enumeration(&rt, &mut types, alloc);
+    let one = aliased(&rt, &mut types, one);
+    let other = enumeration(&rt, &mut types, alloc);
+    let other = aliased(&rt, &mut types, other);
+    let i = instance(&rt, &mut types, alloc, "n:p/i", &[], &[("t", one)]);
+    let j = instance(&rt, &mut types, alloc, "n:p/j", &[], &[("t", other)]);
     let asked = [
         ("n:p/i", ItemKind::Instance(i)),
         ("n:p/j", ItemKind::Instance(j)),
     ];
-    let merged = merge(alloc, &rt, &types, &asked)?;
-    let of_i = merged_definition(&rt, &merged, "n:p/i", "t")?;
-    assert!(rt; merged_definition(&rt, &merged, "n:p/j", "t")? != of_i);
-    Ok(())
+    let merged = merge(alloc, &rt, &types, &asked);
+    let of_i = merged_definition(&rt, &merged, "n:p/i", "t");
+    assert!(rt; merged_definition(&rt, &merged, "n:p/j", "t") != of_i);
 }
 
 // In each of two classes a resource of its own, a handle to it in a record that has one name.
 #[test]
-fn a_type_of_another_resource_is_another(rt: HostRuntime) -> Result<(), Fail> {
+fn a_type_of_another_resource_is_another(rt: HostRuntime) {
     let alloc = rt.alloc();
     let mut types = Types::new(alloc);
-    let r = types.add_resource(Resource::new(alloc, "r")?)?;
+    let resource = Resource::new(alloc, "r").expect(&rt, "a resource");
+    let r = types.add_resource(resource).expect(&rt, "its id");
     let item = ItemKind::TypeItem(Type::Resource(r));
-    let id = record_of(&mut types, alloc, ValueType::Own(r))?;
-    let t = aliased(&mut types, id)?;
-    let f = taking(&mut types, alloc, id)?;
+    let id = record_of(&rt, &mut types, alloc, ValueType::Own(r));
+    let t = aliased(&rt, &mut types, id);
+    let f = taking(&rt, &mut types, alloc, id);
     let exports = [("r", item), ("t", t), ("f", f)];
-    let i = instance(&mut types, alloc, "n:p/i", &[], &exports)?;
-    let j = instance(&mut types, alloc, "n:p/j", &[], &exports)?;
+    let i = instance(&rt, &mut types, alloc, "n:p/i", &[], &exports);
+    let j = instance(&rt, &mut types, alloc, "n:p/j", &[], &exports);
     let asked = [
         ("n:p/i", ItemKind::Instance(i)),
         ("n:p/j", ItemKind::Instance(j)),
     ];
-    let merged = merge(alloc, &rt, &types, &asked)?;
-    let of_i = merged_definition(&rt, &merged, "n:p/i", "t")?;
-    let of_j = merged_definition(&rt, &merged, "n:p/j", "t")?;
+    let merged = merge(alloc, &rt, &types, &asked);
+    let of_i = merged_definition(&rt, &merged, "n:p/i", "t");
+    let of_j = merged_definition(&rt, &merged, "n:p/j", "t");
     assert!(rt; of_i != of_j);
-    assert_eq!(rt; merged_definition(&rt, &merged, "n:p/i", "f")?, of_i);
-    assert_eq!(rt; merged_definition(&rt, &merged, "n:p/j", "f")?, of_j);
-    Ok(())
+    assert!(rt; merged_definition(&rt, &merged, "n:p/i", "f") == of_i);
+    assert!(rt; merged_definition(&rt, &merged, "n:p/j", "f") == of_j);
 }

@@ -4,46 +4,49 @@ ghost use Rattle.std.specs.Prelude.{◌≡◌, true, IfOk};
 use crate::merging::merge;
 use std::alloc::Global;
 use std::process::Abort;
-use std::test::Fail;
 use wac_merge::TypeAggregator;
 use wac_types::{
     DefinedType, Enum, Interface, InterfaceId, ItemKind, Resource, Type, Types, ValueType,
 };
 
 // A type item of a new resource of a name.
-fn resource(types: &mut Types, alloc: Global, name: &str) -> Result<ItemKind, Fail> {
-    let resource = types.add_resource(Resource::new(alloc, name)?)?;
-    Ok(ItemKind::TypeItem(Type::Resource(resource)))
+fn resource(rt: &impl Abort, types: &mut Types, alloc: Global, name: &str) -> ItemKind {
+    let resource = Resource::new(alloc, name).expect(rt, "a resource");
+    ItemKind::TypeItem(Type::Resource(types.add_resource(resource).expect(rt, "its id")))
 }
 
 // A type item of a new enumeration.
-fn enumeration(types: &mut Types, alloc: Global) -> Result<ItemKind, Fail> {
-    let id = types.add_defined_type(DefinedType::Enum(Enum::new(alloc, &["a"])?))?;
-    Ok(ItemKind::TypeItem(Type::Value(ValueType::Defined(id))))
+fn enumeration(rt: &impl Abort, types: &mut Types, alloc: Global) -> ItemKind {
+    let cases = DefinedType::Enum(Enum::new(alloc, &["a"]).expect(rt, "an enumeration"));
+    let id = types.add_defined_type(cases).expect(rt, "its id");
+    ItemKind::TypeItem(Type::Value(ValueType::Defined(id)))
 }
 
 // An interface that uses and exports these.
 fn interface(
+    rt: &impl Abort,
     types: &mut Types,
     alloc: Global,
     id: &str,
     uses: &[(&str, InterfaceId, Option<&str>)],
     exports: &[(&str, ItemKind)],
-) -> Result<InterfaceId, Fail> {
-    let interface = Interface::with_uses(alloc, Some(id), uses, exports)?;
-    Ok(types.add_interface(interface)?)
+) -> InterfaceId {
+    let interface = Interface::with_uses(alloc, Some(id), uses, exports);
+    types
+        .add_interface(interface.expect(rt, "an interface"))
+        .expect(rt, "its id")
 }
 
 // The interface of an import, an instance.
-fn imported(rt: &impl Abort, merged: &TypeAggregator, import: &str) -> Result<InterfaceId, Fail>
+fn imported(rt: &impl Abort, merged: &TypeAggregator, import: &str) -> InterfaceId
     requires { merged.now.is_finished ≡ true }
 {
     match merged.imports().get(import) {
         Some(ItemKind::Instance(id)) => {
             assert!(rt; merged.types().contains(Type::Interface(*id)));
-            Ok(*id)
+            *id
         }
-        _ => Err(Fail::new("no instance")),
+        _ => panic!(rt; "no instance"),
     }
 }
 
@@ -53,113 +56,129 @@ fn assert_uses(
     merged: &TypeAggregator,
     import: &str,
     want: &[(&str, &str, Option<&str>)],
-) -> Result<(), Fail>
+)
     requires { merged.now.is_finished ≡ true }
 {
-    let id = imported(rt, merged, import)?;
+    let id = imported(rt, merged, import);
     assert!(rt; merged.types().contains(Type::Interface(id)));
     let uses = &merged.types()[id].uses;
-    assert_eq!(rt; uses.len(), want.len());
+    assert!(rt; uses.len() == want.len());
     for i in 0..want.len() {
         let (name, of, there) = want[i];
-        assert_eq!(rt; uses.name_at(i), name);
+        assert!(rt; uses.name_at(i) == name);
         let used = uses.value_at(i);
-        assert!(rt; used.interface == imported(rt, merged, of)?);
+        assert!(rt; used.interface == imported(rt, merged, of));
         match (&used.name, there) {
             (None, None) => {}
-            (Some(text), Some(there)) => assert_eq!(rt; text.as_str(), there),
-            _ => return Err(Fail::new("another name there")),
+            (Some(text), Some(there)) => assert!(rt; text.as_str() == there),
+            _ => panic!(rt; "another name there"),
         }
     }
-    Ok(())
 }
 
 #[test]
-fn uses_are_of_the_imports_of_their_classes(rt: HostRuntime) -> Result<(), Fail> {
+fn uses_are_of_the_imports_of_their_classes(rt: HostRuntime) {
     let alloc = rt.alloc();
     let mut types = Types::new(alloc);
-    let r = resource(&mut types, alloc, "r")?;
-    let t = enumeration(&mut types, alloc)?;
-    let j = interface(&mut types, alloc, "n:p/j@1.0.0", &[], &[("r", r), ("t", t)])?;
-    let q = resource(&mut types, alloc, "r")?;
-    let newer = interface(&mut types, alloc, "n:p/j@1.2.0", &[], &[("r", q)])?;
+    let r = resource(&rt, &mut types, alloc, "r");
+    let t = enumeration(&rt, &mut types, alloc);
+    let j = interface(
+        &rt,
+        &mut types,
+        alloc,
+        "n:p/j@1.0.0",
+        &[],
+        &[("r", r), ("t", t)],
+    );
+    let q = resource(&rt, &mut types, alloc, "r");
+    let newer = interface(&rt, &mut types, alloc, "n:p/j@1.2.0", &[], &[("r", q)]);
     let uses = [("t", j, None), ("s", j, Some("r"))];
-    let i = interface(&mut types, alloc, "n:p/i", &uses, &[("s", r)])?;
+    let i = interface(&rt, &mut types, alloc, "n:p/i", &uses, &[("s", r)]);
     let asked = [
         ("n:p/i", ItemKind::Instance(i)),
         ("n:p/j@1.0.0", ItemKind::Instance(j)),
         ("n:p/j@1.2.0", ItemKind::Instance(newer)),
     ];
-    let merged = merge(alloc, &rt, &types, &asked)?;
-    assert_uses(&rt, &merged, "n:p/j@1.2.0", &[])?;
+    let merged = merge(alloc, &rt, &types, &asked);
+    assert_uses(&rt, &merged, "n:p/j@1.2.0", &[]);
     let want = [("t", "n:p/j@1.2.0", None), ("s", "n:p/j@1.2.0", Some("r"))];
-    assert_uses(&rt, &merged, "n:p/i", &want)
+    assert_uses(&rt, &merged, "n:p/i", &want);
 }
 
 #[test]
-fn members_use_what_one_of_them_uses(rt: HostRuntime) -> Result<(), Fail> {
+fn members_use_what_one_of_them_uses(rt: HostRuntime) {
     let alloc = rt.alloc();
     let mut types = Types::new(alloc);
-    let t = enumeration(&mut types, alloc)?;
-    let u = enumeration(&mut types, alloc)?;
-    let j = interface(&mut types, alloc, "n:p/j", &[], &[("t", t), ("u", u)])?;
+    let t = enumeration(&rt, &mut types, alloc);
+    let u = enumeration(&rt, &mut types, alloc);
+    let j = interface(&rt, &mut types, alloc, "n:p/j", &[], &[("t", t), ("u", u)]);
     let older = interface(
+        &rt,
         &mut types,
         alloc,
         "n:p/i@1.0.0",
         &[("t", j, None)],
         &[("t", t)],
-    )?;
+    );
     let uses = [("u", j, None), ("t", j, None)];
     let newer = interface(
+        &rt,
         &mut types,
         alloc,
         "n:p/i@1.1.0",
         &uses,
         &[("t", t), ("u", u)],
-    )?;
+    );
     let asked = [
         ("n:p/j", ItemKind::Instance(j)),
         ("n:p/i@1.0.0", ItemKind::Instance(older)),
         ("n:p/i@1.1.0", ItemKind::Instance(newer)),
     ];
-    let merged = merge(alloc, &rt, &types, &asked)?;
+    let merged = merge(alloc, &rt, &types, &asked);
     assert_uses(
         &rt,
         &merged,
         "n:p/i@1.1.0",
         &[("t", "n:p/j", None), ("u", "n:p/j", None)],
-    )
+    );
 }
 
 #[test]
-fn a_class_does_not_use_itself(rt: HostRuntime) -> Result<(), Fail> {
+fn a_class_does_not_use_itself(rt: HostRuntime) {
     let alloc = rt.alloc();
     let mut types = Types::new(alloc);
-    let r = resource(&mut types, alloc, "r")?;
-    let older = interface(&mut types, alloc, "n:p/i@1.0.0", &[], &[("r", r)])?;
+    let r = resource(&rt, &mut types, alloc, "r");
+    let older = interface(&rt, &mut types, alloc, "n:p/i@1.0.0", &[], &[("r", r)]);
     let newer = interface(
+        &rt,
         &mut types,
         alloc,
         "n:p/i@1.1.0",
         &[("r", older, None)],
         &[("r", r)],
-    )?;
+    );
     let asked = [
         ("n:p/i@1.0.0", ItemKind::Instance(older)),
         ("n:p/i@1.1.0", ItemKind::Instance(newer)),
     ];
-    let merged = merge(alloc, &rt, &types, &asked)?;
-    assert_uses(&rt, &merged, "n:p/i@1.1.0", &[])
+    let merged = merge(alloc, &rt, &types, &asked);
+    assert_uses(&rt, &merged, "n:p/i@1.1.0", &[]);
 }
 
 #[test]
-fn what_is_not_asked_for_is_not_used(rt: HostRuntime) -> Result<(), Fail> {
+fn what_is_not_asked_for_is_not_used(rt: HostRuntime) {
     let alloc = rt.alloc();
     let mut types = Types::new(alloc);
-    let t = enumeration(&mut types, alloc)?;
-    let j = interface(&mut types, alloc, "n:p/j", &[], &[("t", t)])?;
-    let i = interface(&mut types, alloc, "n:p/i", &[("t", j, None)], &[("t", t)])?;
-    let merged = merge(alloc, &rt, &types, &[("n:p/i", ItemKind::Instance(i))])?;
-    assert_uses(&rt, &merged, "n:p/i", &[])
+    let t = enumeration(&rt, &mut types, alloc);
+    let j = interface(&rt, &mut types, alloc, "n:p/j", &[], &[("t", t)]);
+    let i = interface(
+        &rt,
+        &mut types,
+        alloc,
+        "n:p/i",
+        &[("t", j, None)],
+        &[("t", t)],
+    );
+    let merged = merge(alloc, &rt, &types, &[("n:p/i", ItemKind::Instance(i))]);
+    assert_uses(&rt, &merged, "n:p/i", &[]);
 }

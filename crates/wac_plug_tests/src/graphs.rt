@@ -1,7 +1,5 @@
 // Graphs that packages are registered in, and what they are after a call.
-use std::alloc::Global;
 use std::process::Abort;
-use std::test::Fail;
 use wac_graph::types::{FuncType, Interface, ItemKind, World};
 use wac_graph::{CompositionGraph, EncodeOptions, NodeId, NodeKind, PackageId};
 
@@ -17,96 +15,100 @@ pub enum Item {
 // The items of a world under their names.
 pub type Items = &'static [(&'static str, Item)];
 
-fn kind(alloc: Global, graph: &mut CompositionGraph, item: Item) -> Result<ItemKind, Fail> {
-    let function = FuncType::new(alloc, &[], None, false)?;
-    let function = ItemKind::Func(graph.add_func_type(function)?);
+fn function(rt: &(impl Abort + AllocGlobal), graph: &mut CompositionGraph) -> ItemKind {
+    let function = FuncType::new(rt.alloc(), &[], None, false).expect(rt, "a function type");
+    ItemKind::Func(graph.add_func_type(function).expect(rt, "its id"))
+}
+
+fn kind(rt: &(impl Abort + AllocGlobal), graph: &mut CompositionGraph, item: Item) -> ItemKind {
+    let function = function(rt, graph);
     match item {
-        Item::Function => Ok(function),
+        Item::Function => function,
         Item::Exporting(name) => {
-            let interface = Interface::new(alloc, None, &[(name, function)])?;
-            Ok(ItemKind::Instance(graph.add_interface(interface)?))
+            let interface = Interface::new(rt.alloc(), None, &[(name, function)]);
+            let interface = interface.expect(rt, "an interface");
+            ItemKind::Instance(graph.add_interface(interface).expect(rt, "its id"))
         }
     }
 }
 
 fn kinds(
-    alloc: Global,
+    rt: &(impl Abort + AllocGlobal),
     graph: &mut CompositionGraph,
     items: Items,
-) -> Result<Vec<(&'static str, ItemKind)>, Fail> {
-    let mut kinds = Vec::new(alloc);
+) -> Vec<(&'static str, ItemKind)> {
+    let mut kinds = Vec::new(rt.alloc());
     for (name, item) in items {
-        let kind = kind(alloc, graph, *item)?;
-        kinds.push((*name, kind))?;
+        let kind = kind(rt, graph, *item);
+        kinds.push((*name, kind)).expect(rt, "room for a kind");
     }
-    Ok(kinds)
+    kinds
 }
 
 // A registered package with these imports and exports, its bytes an empty component.
 pub fn register(
-    alloc: Global,
+    rt: &(impl Abort + AllocGlobal),
     graph: &mut CompositionGraph,
     name: &str,
     imports: Items,
     exports: Items,
-) -> Result<PackageId, Fail> {
-    let imports = kinds(alloc, graph, imports)?;
-    let exports = kinds(alloc, graph, exports)?;
-    let world = graph.add_world(World::new(alloc, None, &imports, &exports)?)?;
+) -> PackageId {
+    let imports = kinds(rt, graph, imports);
+    let exports = kinds(rt, graph, exports);
+    let world = World::new(rt.alloc(), None, &imports, &exports).expect(rt, "a world");
+    let world = graph.add_world(world).expect(rt, "its id");
     let empty = [0x00, 0x61, 0x73, 0x6d, 0x0d, 0x00, 0x01, 0x00];
-    let bytes = Vec::from_array(alloc, empty)?;
-    let package = graph.new_package(name, None, bytes, world)?;
-    Ok(graph.register_package(package)?)
+    let bytes = Vec::from_array(rt.alloc(), empty).expect(rt, "bytes");
+    let package = graph
+        .new_package(name, None, bytes, world)
+        .expect(rt, "a package");
+    graph.register_package(package).expect(rt, "its id")
 }
 
 // Registered packages with these exports, named in order.
 pub fn register_all(
-    alloc: Global,
+    rt: &(impl Abort + AllocGlobal),
     graph: &mut CompositionGraph,
     plugs: &[Items],
-) -> Result<Vec<PackageId>, Fail> {
-    let mut ids = Vec::new(alloc);
+) -> Vec<PackageId> {
+    let mut ids = Vec::new(rt.alloc());
     for i in 0..plugs.len() {
-        let name = format!(in alloc; "my:plug{i}")?;
-        let id = register(alloc, graph, name.as_str(), &[], plugs[i])?;
-        ids.push(id)?;
+        let name = format!(in rt.alloc(); "my:plug{i}").expect(rt, "a name");
+        let id = register(rt, graph, name.as_str(), &[], plugs[i]);
+        ids.push(id).expect(rt, "room for an id");
     }
-    Ok(ids)
+    ids
 }
 
 // The first ids that graphs give to nodes.
-fn node_ids(rt: &(impl Abort + AllocGlobal), count: usize) -> Result<Vec<NodeId>, Fail> {
-    let alloc = rt.alloc();
-    let mut graph = CompositionGraph::new(alloc);
-    let package = register(alloc, &mut graph, "my:package", &[], &[])?;
-    let mut ids = Vec::new(alloc);
+fn node_ids(rt: &(impl Abort + AllocGlobal), count: usize) -> Vec<NodeId> {
+    let mut graph = CompositionGraph::new(rt.alloc());
+    let package = register(rt, &mut graph, "my:package", &[], &[]);
+    let mut ids = Vec::new(rt.alloc());
     for _ in 0..count {
         let held = graph.has_package(package);
         assert!(rt; held);
-        ids.push(graph.instantiate(package)?)?;
+        let id = graph.instantiate(package).expect(rt, "an instance");
+        ids.push(id).expect(rt, "room for an id");
     }
-    Ok(ids)
+    ids
 }
 
 fn package_name<'a>(
     rt: &impl Abort,
     graph: &'a CompositionGraph,
     id: Option<PackageId>,
-) -> Result<&'a str, Fail> {
+) -> &'a str {
     let Some(id) = id else {
-        return Ok("no package");
+        return "no package";
     };
     let held = graph.has_package(id);
     assert!(rt; held);
-    Ok(graph[id].name())
+    graph[id].name()
 }
 
 // What a node is, of which package, and under which name it is exported.
-fn described(
-    rt: &(impl Abort + AllocGlobal),
-    graph: &CompositionGraph,
-    id: NodeId,
-) -> Result<String, Fail> {
+fn described(rt: &(impl Abort + AllocGlobal), graph: &CompositionGraph, id: NodeId) -> String {
     let alloc = rt.alloc();
     let held = graph.has_node(id);
     assert!(rt; held);
@@ -117,11 +119,12 @@ fn described(
         NodeKind::Instantiation(_) => "instance",
         NodeKind::Alias => "alias",
     };
-    let package = package_name(rt, graph, node.package())?;
-    match node.export_name() {
-        Some(name) => Ok(format!(in alloc; "{kind} {package} as {name}")?),
-        None => Ok(format!(in alloc; "{kind} {package}")?),
-    }
+    let package = package_name(rt, graph, node.package());
+    let text = match node.export_name() {
+        Some(name) => format!(in alloc; "{kind} {package} as {name}"),
+        None => format!(in alloc; "{kind} {package}"),
+    };
+    text.expect(rt, "a text")
 }
 
 // What each of the first nodes is, up to the first that is not there.
@@ -129,32 +132,34 @@ pub fn first_nodes(
     rt: &(impl Abort + AllocGlobal),
     graph: &CompositionGraph,
     count: usize,
-) -> Result<Vec<String>, Fail> {
-    let ids = node_ids(rt, count)?;
+) -> Vec<String> {
+    let ids = node_ids(rt, count);
     let mut nodes = Vec::new(rt.alloc());
     for id in &ids {
         if !graph.has_node(*id) {
-            return Ok(nodes);
+            return nodes;
         }
-        nodes.push(described(rt, graph, *id)?)?;
+        nodes
+            .push(described(rt, graph, *id))
+            .expect(rt, "room for a text");
     }
-    Ok(nodes)
+    nodes
 }
 
 // The names of the imports that the graph asks for.
-pub fn asked(alloc: Global, graph: &CompositionGraph) -> Result<String, Fail> {
-    let mut names = String::new(alloc);
+pub fn asked(rt: &(impl Abort + AllocGlobal), graph: &CompositionGraph) -> String {
+    let mut names = String::new(rt.alloc());
     for (name, _, _) in graph.imports() {
-        let row = format!(in alloc; "{name}; ")?;
-        names.push_str(row.as_str())?;
+        names.push_str(name).expect(rt, "a text");
+        names.push_str("; ").expect(rt, "a text");
     }
-    Ok(names)
+    names
 }
 
 // The bytes in hexadecimal, or the error's text.
-pub fn encoded(alloc: Global, graph: &CompositionGraph) -> Result<String, Fail> {
+pub fn encoded(rt: &(impl Abort + AllocGlobal), graph: &CompositionGraph) -> String {
     match graph.encode(EncodeOptions::default()) {
-        Ok(bytes) => Ok(hex::encode(alloc, &bytes)?),
-        Err(error) => Ok(format!(in alloc; "{error}")?),
+        Ok(bytes) => hex::encode(rt.alloc(), &bytes).expect(rt, "a text"),
+        Err(error) => format!(in rt.alloc(); "{error}").expect(rt, "a text"),
     }
 }

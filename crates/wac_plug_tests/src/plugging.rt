@@ -1,8 +1,6 @@
 // Sockets and plugs as the rows of a table, each with what `plug` answers and which nodes it makes.
 use crate::graphs::{Item, Items, asked, encoded, first_nodes, register, register_all};
-use std::alloc::Global;
 use std::process::Abort;
-use std::test::Fail;
 use wac_graph::{CompositionGraph, ExportError, PackageId, PlugError, PlugFault, plug};
 
 // Plugs with these exports are plugged into a socket with these imports and exports.
@@ -34,20 +32,18 @@ const FUNCTION_A: Items = &[("a", Item::Function)];
 
 const RUN: Items = &[("run", Item::Function)];
 
-fn at(ids: &[PackageId], place: usize) -> Result<PackageId, Fail> {
-    match ids.get(place) {
-        Some(id) => Ok(*id),
-        None => Err(Fail::new("no such package")),
-    }
+fn at(rt: &impl Abort, ids: &[PackageId], place: usize) -> PackageId {
+    *ids.get(place).expect(rt, "a package")
 }
 
 // The text of the refusal, or of the error in it; empty where there is none.
-fn answer(alloc: Global, plugged: Result<(), PlugError>) -> Result<String, Fail> {
-    match plugged {
-        Ok(()) => Ok(String::new(alloc)),
-        Err(PlugError::GraphError { source }) => Ok(format!(in alloc; "{source}")?),
-        Err(error) => Ok(format!(in alloc; "{error}")?),
-    }
+fn answer(rt: &(impl Abort + AllocGlobal), plugged: Result<(), PlugError>) -> String {
+    let text = match plugged {
+        Ok(()) => return String::new(rt.alloc()),
+        Err(PlugError::GraphError { source }) => format!(in rt.alloc(); "{source}"),
+        Err(error) => format!(in rt.alloc(); "{error}"),
+    };
+    text.expect(rt, "a text")
 }
 
 fn plugged(
@@ -56,105 +52,86 @@ fn plugged(
     first: PackageId,
     second: Option<PackageId>,
     socket: PackageId,
-) -> Result<String, Fail> {
+) -> String {
     let held = graph.has_package(socket);
     assert!(rt; held);
     let held = graph.has_package(first);
     assert!(rt; held);
     let Some(second) = second else {
-        let plugs = vec![in rt.alloc(); first]?;
-        return answer(rt.alloc(), plug(graph, plugs, socket));
+        let plugs = vec![in rt.alloc(); first].expect(rt, "a list");
+        return answer(rt, plug(graph, plugs, socket));
     };
     let held = graph.has_package(second);
     assert!(rt; held);
-    let plugs = vec![in rt.alloc(); first, second]?;
-    answer(rt.alloc(), plug(graph, plugs, socket))
+    let plugs = vec![in rt.alloc(); first, second].expect(rt, "a list");
+    answer(rt, plug(graph, plugs, socket))
 }
 
 // Registers the packages of a row in a new graph, and plugs them together.
-fn answered(
-    rt: &(impl Abort + AllocGlobal),
-    graph: &mut CompositionGraph,
-    row: Row,
-) -> Result<String, Fail> {
-    let alloc = rt.alloc();
-    let plugs = register_all(alloc, graph, row.plugs)?;
-    let socket = register(alloc, graph, "my:socket", row.imports, row.exports)?;
-    let first = at(&plugs, row.order.0)?;
+fn answered(rt: &(impl Abort + AllocGlobal), graph: &mut CompositionGraph, row: Row) -> String {
+    let plugs = register_all(rt, graph, row.plugs);
+    let socket = register(rt, graph, "my:socket", row.imports, row.exports);
+    let first = at(rt, &plugs, row.order.0);
     let second = match row.order.1 {
-        Some(place) => Some(at(&plugs, place)?),
+        Some(place) => Some(at(rt, &plugs, place)),
         None => None,
     };
     plugged(rt, graph, first, second, socket)
 }
 
 // What a graph asks for once it has so many of the nodes of a row.
-fn assert_asked(
-    rt: &(impl Abort + AllocGlobal),
-    graph: &CompositionGraph,
-    row: Row,
-    count: usize,
-) -> Result<(), Fail> {
-    let asked = asked(rt.alloc(), graph)?;
+fn assert_asked(rt: &(impl Abort + AllocGlobal), graph: &CompositionGraph, row: Row, count: usize) {
+    let asked = asked(rt, graph);
     let want = match row.passed {
         _ if count == 0 => "",
         Some((passed, left)) if count > passed => left,
         Some((passed, left)) if count == passed && asked.as_str() == left => left,
         _ => row.asked,
     };
-    assert_eq!(rt; asked.as_str(), want);
-    Ok(())
+    assert!(rt; asked.as_str() == want);
 }
 
 // What a refused growth left is what the steps before it made.
-fn assert_begun(
-    rt: &(impl Abort + AllocGlobal),
-    graph: &CompositionGraph,
-    row: Row,
-) -> Result<(), Fail> {
-    let nodes = first_nodes(rt, graph, row.nodes.len() + 1)?;
+fn assert_begun(rt: &(impl Abort + AllocGlobal), graph: &CompositionGraph, row: Row) {
+    let nodes = first_nodes(rt, graph, row.nodes.len() + 1);
     let count = nodes.len();
     for i in 0..count {
         let Some(want) = row.nodes.get(i) else {
-            return Err(Fail::new("there is a node too many"));
+            panic!(rt; "there is a node too many");
         };
         if i + 1 < count {
-            assert_eq!(rt; nodes[i].as_str(), *want);
+            assert!(rt; nodes[i].as_str() == *want);
         } else {
             assert!(rt; want.starts_with(nodes[i].as_str()));
         }
     }
-    assert_asked(rt, graph, row, count)
+    assert_asked(rt, graph, row, count);
 }
 
 // All the nodes of a row are made.
-fn assert_made(
-    rt: &(impl Abort + AllocGlobal),
-    graph: &CompositionGraph,
-    row: Row,
-) -> Result<(), Fail> {
-    let nodes = first_nodes(rt, graph, row.nodes.len() + 1)?;
-    assert_eq!(rt; nodes.len(), row.nodes.len());
+fn assert_made(rt: &(impl Abort + AllocGlobal), graph: &CompositionGraph, row: Row) {
+    let nodes = first_nodes(rt, graph, row.nodes.len() + 1);
+    assert!(rt; nodes.len() == row.nodes.len());
     for (node, want) in nodes.iter().zip(row.nodes) {
-        assert_eq!(rt; node.as_str(), *want);
+        assert!(rt; node.as_str() == *want);
     }
-    let asked = asked(rt.alloc(), graph)?;
+    let asked = asked(rt, graph);
     let want = match row.passed {
         Some((_, left)) => left,
         None => row.asked,
     };
-    assert_eq!(rt; asked.as_str(), want);
-    Ok(())
+    assert!(rt; asked.as_str() == want);
 }
 
-fn assert_row(rt: &(impl Abort + AllocGlobal), row: Row) -> Result<(), Fail> {
+fn assert_row(rt: &(impl Abort + AllocGlobal), row: Row) {
     let mut graph = CompositionGraph::new(rt.alloc());
-    let answer = answered(rt, &mut graph, row)?;
+    let answer = answered(rt, &mut graph, row);
     if answer.as_str() == REFUSED {
-        return assert_begun(rt, &graph, row);
+        assert_begun(rt, &graph, row);
+    } else {
+        assert_eq!(rt; answer.as_str(), row.answer);
+        assert_made(rt, &graph, row);
     }
-    assert_eq!(rt; answer.as_str(), row.answer);
-    assert_made(rt, &graph, row)
 }
 
 // The function `a` of a plug is the argument `a` of the socket, whose function `run` is exported.
@@ -328,106 +305,96 @@ const BAD_EXPORT: Row = Row {
 };
 
 #[test]
-fn exports_become_arguments(rt: HostRuntime) -> Result<(), Fail> {
-    assert_row(&rt, ONE)
+fn exports_become_arguments(rt: HostRuntime) {
+    assert_row(&rt, ONE);
 }
 
 #[test]
-fn what_is_plugged_is_encoded(rt: HostRuntime) -> Result<(), Fail> {
+fn what_is_plugged_is_encoded(rt: HostRuntime) {
     let mut graph = CompositionGraph::new(rt.alloc());
-    let answer = answered(&rt, &mut graph, ONE)?;
-    if answer.as_str() == REFUSED {
-        return Err(Fail::new(REFUSED));
-    }
-    let bytes = encoded(rt.alloc(), &graph)?;
-    if bytes.as_str() == REFUSED {
-        return Err(Fail::new(REFUSED));
-    }
-    assert_eq!(rt; bytes.as_str(), ONE_ENCODED);
-    Ok(())
+    let answer = answered(&rt, &mut graph, ONE);
+    assert!(rt; answer.as_str() != REFUSED, "{REFUSED}");
+    let bytes = encoded(&rt, &graph);
+    assert!(rt; bytes.as_str() != REFUSED, "{REFUSED}");
+    assert!(rt; bytes.as_str() == ONE_ENCODED);
 }
 
 // What stays is the socket, each plug and its alias, and the argument from the first.
 #[test]
-fn two_plugs_match_an_import(rt: HostRuntime) -> Result<(), Fail> {
-    assert_row(&rt, TWO)
+fn two_plugs_match_an_import(rt: HostRuntime) {
+    assert_row(&rt, TWO);
 }
 
 #[test]
-fn a_plug_is_plugged_in_twice(rt: HostRuntime) -> Result<(), Fail> {
-    assert_row(&rt, TWICE)
+fn a_plug_is_plugged_in_twice(rt: HostRuntime) {
+    assert_row(&rt, TWICE);
 }
 
 // What stays is the socket, the plug and two aliases, and the argument from the first.
 #[test]
-fn two_exports_match_an_import(rt: HostRuntime) -> Result<(), Fail> {
-    assert_row(&rt, ONE_TRACK)
+fn two_exports_match_an_import(rt: HostRuntime) {
+    assert_row(&rt, ONE_TRACK);
 }
 
 // What stays is all but the export.
 #[test]
-fn an_export_is_refused(rt: HostRuntime) -> Result<(), Fail> {
-    assert_row(&rt, BAD_EXPORT)
+fn an_export_is_refused(rt: HostRuntime) {
+    assert_row(&rt, BAD_EXPORT);
 }
 
 // What stays is the socket.
 #[test]
-fn no_import_has_the_name(rt: HostRuntime) -> Result<(), Fail> {
-    assert_row(&rt, OTHER)
+fn no_import_has_the_name(rt: HostRuntime) {
+    assert_row(&rt, OTHER);
 }
 
 #[test]
-fn a_socket_has_no_imports(rt: HostRuntime) -> Result<(), Fail> {
-    assert_row(&rt, UNASKED)
+fn a_socket_has_no_imports(rt: HostRuntime) {
+    assert_row(&rt, UNASKED);
 }
 
 #[test]
-fn the_import_of_the_name_is_of_another_type(rt: HostRuntime) -> Result<(), Fail> {
-    assert_row(&rt, OTHER_TYPE)
+fn the_import_of_the_name_is_of_another_type(rt: HostRuntime) {
+    assert_row(&rt, OTHER_TYPE);
 }
 
 #[test]
-fn the_first_import_on_a_track_is_given(rt: HostRuntime) -> Result<(), Fail> {
-    assert_row(&rt, FIRST_ON_TRACK)
+fn the_first_import_on_a_track_is_given(rt: HostRuntime) {
+    assert_row(&rt, FIRST_ON_TRACK);
 }
 
 // A plug without a match is left out.
 #[test]
-fn one_of_two_plugs_matches(rt: HostRuntime) -> Result<(), Fail> {
-    assert_row(&rt, SECOND_ALONE)
+fn one_of_two_plugs_matches(rt: HostRuntime) {
+    assert_row(&rt, SECOND_ALONE);
 }
 
-fn found(graph: &CompositionGraph, name: &str) -> Result<PackageId, Fail> {
-    match graph.get_package_by_name(name, None) {
-        Some((id, _)) => Ok(id),
-        None => Err(Fail::new("no package of this name")),
-    }
+fn found(rt: &impl Abort, graph: &CompositionGraph, name: &str) -> PackageId {
+    graph
+        .get_package_by_name(name, None)
+        .expect(rt, "a package of this name")
+        .0
 }
 
 // The same packages once more: the socket's name is taken, and all but its export is made.
 #[test]
-fn an_export_is_there_already(rt: HostRuntime) -> Result<(), Fail> {
+fn an_export_is_there_already(rt: HostRuntime) {
     let mut graph = CompositionGraph::new(rt.alloc());
-    let first = answered(&rt, &mut graph, ONE)?;
-    let plug = found(&graph, "my:plug0")?;
-    let socket = found(&graph, "my:socket")?;
-    let second = plugged(&rt, &mut graph, plug, None, socket)?;
-    if first.as_str() == REFUSED || second.as_str() == REFUSED {
-        return Err(Fail::new(REFUSED));
-    }
-    assert_eq!(rt;
-        second.as_str(),
-        "an export with the name `run` already exists"
-    );
-    let nodes = first_nodes(&rt, &graph, 9)?;
-    assert_eq!(rt; nodes.len(), 8);
-    assert_eq!(rt; nodes[3].as_str(), "alias my:socket as run");
-    assert_eq!(rt; nodes[7].as_str(), "alias my:socket");
-    Ok(())
+    let first = answered(&rt, &mut graph, ONE);
+    let plug = found(&rt, &graph, "my:plug0");
+    let socket = found(&rt, &graph, "my:socket");
+    let second = plugged(&rt, &mut graph, plug, None, socket);
+    assert!(rt; first.as_str() != REFUSED, "{REFUSED}");
+    assert!(rt; second.as_str() != REFUSED, "{REFUSED}");
+    assert!(rt; second.as_str() == "an export with the name `run` already exists");
+    let nodes = first_nodes(&rt, &graph, 9);
+    assert!(rt; nodes.len() == 8);
+    assert!(rt; nodes[3].as_str() == "alias my:socket as run");
+    assert!(rt; nodes[7].as_str() == "alias my:socket");
 }
 
 #[test]
-fn refusals_have_texts(rt: HostRuntime) -> Result<(), Fail> {
+fn refusals_have_texts(rt: HostRuntime) {
     let source = PlugFault::Export(ExportError::OutOfMemory);
     let rows = [
         (PlugError::NoPlugHappened, NONE),
@@ -438,8 +405,7 @@ fn refusals_have_texts(rt: HostRuntime) -> Result<(), Fail> {
         (PlugError::OutOfMemory, REFUSED),
     ];
     for (error, want) in &rows {
-        let text = format!(in rt.alloc(); "{error}")?;
+        let text = format!(in rt.alloc(); "{error}").expect(&rt, "a text");
         assert_eq!(rt; text.as_str(), *want);
     }
-    Ok(())
 }

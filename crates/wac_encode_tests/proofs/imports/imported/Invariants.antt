@@ -2,4 +2,4 @@ use Rattle.wac_scopes.specs.Contents.{IsRoot}
 use Rattle.wac_encode_tests.proofs.imports.imported.Given as goal
 
 abbrev pub invariant-loop-i : goal.invariant-loop-i
-invariant-loop-i l = IsRoot l.root.content
+invariant-loop-i g l = IsRoot l.root.content

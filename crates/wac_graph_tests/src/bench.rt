@@ -1,0 +1,601 @@
+// Calls on a graph as the rows of a table, each with what it answers.
+use crate::parts::{empty_instance, encode, function, register};
+use std::alloc::{AllocError, Global};
+use std::fmt::Display;
+use std::process::Abort;
+use wac_graph::types::{
+    CoreExtern, CoreFuncType, DefinedType, Enum, FuncType, Interface, ItemKind, ModuleType,
+    PrimitiveType, Type, ValueType,
+};
+use wac_graph::{
+    CompositionGraph, EncodeError, EncodeOptions, MergeFault, NodeId, NodeKind, PackageId,
+    ValidationFault,
+};
+
+// What a package imports or exports.
+#[derive(Clone, Copy)]
+pub enum Item {
+    // A function without parameters and result.
+    Plain,
+    // A function with a parameter.
+    Other,
+    // A function without parameters that gives a bool.
+    Telling,
+    // An instance that exports the function `a`.
+    Instance,
+    // An instance that exports a function of this name, without parameters and result.
+    Exporting(&'static str),
+    // An instance that exports a function of this name, without parameters, that gives a bool.
+    ExportingTelling(&'static str),
+    // An instance without exports.
+    Empty,
+    // A core module that imports the function `f` of `m` and exports the memory `e`.
+    Module,
+    // An instance of an interface of this name, which uses the type of this name of the interface of that name.
+    Using(&'static str, &'static str, &'static str),
+}
+
+// A call. A package or a node is meant by its place among those that were answered.
+#[derive(Clone, Copy)]
+pub enum Call<'a> {
+    // A package of this name, with one import or none, and one export or none.
+    Register(&'a str, &'a [(&'a str, Item)], &'a [(&'a str, Item)]),
+    Instantiate(usize),
+    Alias(usize, &'a str),
+    // A node is given this argument, a node.
+    Set(usize, &'a str, usize),
+    Export(usize, &'a str),
+    // An import of this name.
+    Import(&'a str, Item),
+    // This argument, a node, is taken away from a node.
+    Unset(usize, &'a str, usize),
+    Unexport(usize),
+    // A node has this name.
+    Name(usize, &'a str),
+    // What a node's name is.
+    Named(usize),
+    // Of which node, and which of its exports, a node is the alias.
+    Source(usize),
+    // The node that is exported by this name.
+    Exported(&'a str),
+    Remove(usize),
+    Unregister(usize),
+    // Whether a package is registered.
+    Registered(usize),
+    // Whether a node is there.
+    Has(usize),
+    // How many imports of an instantiation have an argument.
+    Satisfied(usize),
+}
+
+impl Call<'_> {
+    // Whether something is taken away.
+    fn is_removal(&self) -> bool {
+        matches!(self, Call::Unset(..) | Call::Unexport(_) | Call::Remove(_))
+    }
+}
+
+// A graph, and what it answered so far.
+#[derive(Drop)]
+pub struct Bench {
+    alloc: Global,
+    graph: CompositionGraph,
+    packages: Vec<PackageId>,
+    nodes: Vec<NodeId>,
+}
+
+fn shown<T: Display + Drop>(rt: &impl Abort, alloc: Global, value: T) -> String {
+    format!(in alloc; "{value}").expect(rt, "a text")
+}
+
+// The text that is shown for what a call answers; for an answer without a number it is empty.
+fn answered<E: Display + Drop>(rt: &impl Abort, alloc: Global, answer: Result<(), E>) -> String {
+    match answer {
+        Ok(()) => String::new(alloc),
+        Err(error) => shown(rt, alloc, error),
+    }
+}
+
+// Whether this is the answer of a call for which memory was refused.
+fn is_refused(answer: &str) -> bool {
+    answer == "out of memory" || answer == "OutOfMemory" || answer == "memory allocation failed"
+}
+
+fn other(rt: &impl Abort, alloc: Global, graph: &mut CompositionGraph) -> ItemKind {
+    let params = [("p", ValueType::Primitive(PrimitiveType::Bool))];
+    let function = FuncType::new(alloc, &params, None, false).expect(rt, "a function type");
+    ItemKind::Func(graph.add_func_type(function).expect(rt, "its id"))
+}
+
+fn telling(rt: &impl Abort, alloc: Global, graph: &mut CompositionGraph) -> ItemKind {
+    let result = Some(ValueType::Primitive(PrimitiveType::Bool));
+    let function = FuncType::new(alloc, &[], result, false).expect(rt, "a function type");
+    ItemKind::Func(graph.add_func_type(function).expect(rt, "its id"))
+}
+
+fn exporting(
+    rt: &impl Abort,
+    alloc: Global,
+    graph: &mut CompositionGraph,
+    name: &str,
+    item: ItemKind,
+) -> ItemKind {
+    let interface = Interface::new(alloc, None, &[(name, item)]).expect(rt, "an interface");
+    ItemKind::Instance(graph.add_interface(interface).expect(rt, "its id"))
+}
+
+fn core_module(rt: &impl Abort, alloc: Global, graph: &mut CompositionGraph) -> ItemKind {
+    let mut module = ModuleType::new(alloc);
+    let function = CoreFuncType::new(alloc, &[], &[]).expect(rt, "a function type");
+    let imported = module.import(alloc, "m", "f", CoreExtern::Func(function));
+    imported.expect(rt, "an import");
+    let memory = CoreExtern::Memory {
+        memory64: false,
+        shared: false,
+        initial: 1,
+        maximum: None,
+        page_size_log2: None,
+    };
+    module.export(alloc, "e", memory).expect(rt, "an export");
+    ItemKind::Module(graph.add_module_type(module).expect(rt, "its id"))
+}
+
+fn enumeration(rt: &impl Abort, alloc: Global, graph: &mut CompositionGraph) -> ItemKind {
+    let cases = Enum::new(alloc, &["a"]).expect(rt, "an enumeration");
+    let cases = graph
+        .add_defined_type(DefinedType::Enum(cases))
+        .expect(rt, "its id");
+    ItemKind::TypeItem(Type::Value(ValueType::Defined(cases)))
+}
+
+fn using_instance(
+    rt: &impl Abort,
+    alloc: Global,
+    graph: &mut CompositionGraph,
+    id: &str,
+    name: &str,
+    used: &str,
+) -> ItemKind {
+    let item = enumeration(rt, alloc, graph);
+    let of = Interface::new(alloc, Some(used), &[(name, item)]).expect(rt, "an interface");
+    let of = graph.add_interface(of).expect(rt, "its id");
+    let interface = Interface::with_uses(alloc, Some(id), &[(name, of, None)], &[(name, item)]);
+    let interface = interface.expect(rt, "an interface");
+    ItemKind::Instance(graph.add_interface(interface).expect(rt, "its id"))
+}
+
+// Puts a row behind others.
+fn add(rt: &impl Abort, rows: &mut String, row: Result<String, AllocError>) {
+    let row = row.expect(rt, "a row");
+    rows.push_str(row.as_str()).expect(rt, "room for a row");
+}
+
+impl Bench {
+    pub fn new(alloc: Global) -> Bench {
+        Bench {
+            alloc,
+            graph: CompositionGraph::new(alloc),
+            packages: Vec::new(alloc),
+            nodes: Vec::new(alloc),
+        }
+    }
+
+    fn kind(&mut self, rt: &impl Abort, item: Item) -> ItemKind {
+        let (alloc, graph) = (self.alloc, &mut self.graph);
+        match item {
+            Item::Plain => function(rt, alloc, graph),
+            Item::Other => other(rt, alloc, graph),
+            Item::Telling => telling(rt, alloc, graph),
+            Item::Instance => {
+                let item = function(rt, alloc, graph);
+                exporting(rt, alloc, graph, "a", item)
+            }
+            Item::Exporting(name) => {
+                let item = function(rt, alloc, graph);
+                exporting(rt, alloc, graph, name, item)
+            }
+            Item::ExportingTelling(name) => {
+                let item = telling(rt, alloc, graph);
+                exporting(rt, alloc, graph, name, item)
+            }
+            Item::Empty => empty_instance(rt, alloc, graph),
+            Item::Module => core_module(rt, alloc, graph),
+            Item::Using(id, name, used) => using_instance(rt, alloc, graph, id, name, used),
+        }
+    }
+
+    fn kinds<'a>(
+        &mut self,
+        rt: &impl Abort,
+        items: &[(&'a str, Item)],
+    ) -> Vec<(&'a str, ItemKind)> {
+        let mut kinds = Vec::new(self.alloc);
+        for (name, item) in items {
+            let kind = self.kind(rt, *item);
+            kinds.push((*name, kind)).expect(rt, "room for an item");
+        }
+        kinds
+    }
+
+    fn register(
+        &mut self,
+        rt: &impl Abort,
+        name: &str,
+        imports: &[(&str, Item)],
+        exports: &[(&str, Item)],
+    ) -> String {
+        let imports = self.kinds(rt, imports);
+        let exports = self.kinds(rt, exports);
+        match register(rt, self.alloc, &mut self.graph, name, &imports, &exports) {
+            Ok(id) => {
+                self.packages.push(id).expect(rt, "room for a package");
+                String::new(self.alloc)
+            }
+            Err(error) => shown(rt, self.alloc, error),
+        }
+    }
+
+    fn node(&self, rt: &impl Abort, place: usize) -> NodeId {
+        *self.nodes.get(place).expect(rt, "a node")
+    }
+
+    fn package(&self, rt: &impl Abort, place: usize) -> PackageId {
+        *self.packages.get(place).expect(rt, "a package")
+    }
+
+    // A node that was made is kept, and its number shown.
+    fn made<E: Display + Drop>(&mut self, rt: &impl Abort, answer: Result<NodeId, E>) -> String {
+        match answer {
+            Ok(node) => {
+                self.nodes.push(node).expect(rt, "room for a node");
+                shown(rt, self.alloc, node)
+            }
+            Err(error) => shown(rt, self.alloc, error),
+        }
+    }
+
+    fn instantiate(&mut self, rt: &impl Abort, place: usize) -> String {
+        let id = self.package(rt, place);
+        let held = self.graph.has_package(id);
+        assert!(rt; held);
+        let answer = self.graph.instantiate(id);
+        self.made(rt, answer)
+    }
+
+    fn alias(&mut self, rt: &impl Abort, place: usize, name: &str) -> String {
+        let instance = self.node(rt, place);
+        let held = self.graph.has_node(instance);
+        assert!(rt; held);
+        let answer = self.graph.alias_instance_export(instance, name);
+        self.made(rt, answer)
+    }
+
+    fn set(&mut self, rt: &impl Abort, place: usize, name: &str, argument: usize) -> String {
+        let instantiation = self.node(rt, place);
+        let argument = self.node(rt, argument);
+        let held = self.graph.has_node(instantiation);
+        assert!(rt; held);
+        let held = self.graph.has_node(argument);
+        assert!(rt; held);
+        let answer = self
+            .graph
+            .set_instantiation_argument(instantiation, name, argument);
+        answered(rt, self.alloc, answer)
+    }
+
+    fn export(&mut self, rt: &impl Abort, place: usize, name: &str) -> String {
+        let node = self.node(rt, place);
+        let held = self.graph.has_node(node);
+        assert!(rt; held);
+        let answer = self.graph.export(node, name);
+        answered(rt, self.alloc, answer)
+    }
+
+    fn import(&mut self, rt: &impl Abort, name: &str, item: Item) -> String {
+        let kind = self.kind(rt, item);
+        let held = self.graph.types().contains(kind.ty());
+        assert!(rt; held);
+        let answer = self.graph.import(name, kind);
+        self.made(rt, answer)
+    }
+
+    fn unset(&mut self, rt: &impl Abort, place: usize, name: &str, argument: usize) -> String {
+        let instantiation = self.node(rt, place);
+        let argument = self.node(rt, argument);
+        let held = self.graph.has_node(instantiation);
+        assert!(rt; held);
+        let answer = self
+            .graph
+            .unset_instantiation_argument(instantiation, name, argument);
+        answered(rt, self.alloc, answer)
+    }
+
+    fn unexport(&mut self, rt: &impl Abort, place: usize) -> String {
+        let node = self.node(rt, place);
+        let held = self.graph.has_node(node);
+        assert!(rt; held);
+        let answer = self.graph.unexport(node);
+        answered(rt, self.alloc, answer)
+    }
+
+    fn name(&mut self, rt: &impl Abort, place: usize, name: &str) -> String {
+        let node = self.node(rt, place);
+        let held = self.graph.has_node(node);
+        assert!(rt; held);
+        let answer = self.graph.set_node_name(node, name);
+        answered(rt, self.alloc, answer)
+    }
+
+    fn copied(&self, rt: &impl Abort, text: &str) -> String {
+        String::from_str(self.alloc, text).expect(rt, "a text")
+    }
+
+    fn named(&self, rt: &impl Abort, place: usize) -> String {
+        let node = self.node(rt, place);
+        let held = self.graph.has_node(node);
+        assert!(rt; held);
+        self.copied(rt, self.graph[node].name().unwrap_or("no name"))
+    }
+
+    fn source(&self, rt: &impl Abort, place: usize) -> String {
+        match self.graph.get_alias_source(self.node(rt, place)) {
+            Some((node, name)) => format!(in self.alloc; "{node} {name}").expect(rt, "a text"),
+            None => self.copied(rt, "none"),
+        }
+    }
+
+    fn exported(&self, rt: &impl Abort, name: &str) -> String {
+        match self.graph.get_export(name) {
+            Some(node) => shown(rt, self.alloc, node),
+            None => self.copied(rt, "none"),
+        }
+    }
+
+    fn remove(&mut self, rt: &impl Abort, place: usize) -> String {
+        let node = self.node(rt, place);
+        let held = self.graph.has_node(node);
+        assert!(rt; held);
+        self.graph.remove_node(node);
+        String::new(self.alloc)
+    }
+
+    fn unregister(&mut self, rt: &impl Abort, place: usize) -> String {
+        let id = self.package(rt, place);
+        let held = self.graph.has_package(id);
+        assert!(rt; held);
+        self.graph.unregister_package(id);
+        String::new(self.alloc)
+    }
+
+    fn registered(&self, rt: &impl Abort, place: usize) -> String {
+        shown(
+            rt,
+            self.alloc,
+            self.graph.has_package(self.package(rt, place)),
+        )
+    }
+
+    fn has(&self, rt: &impl Abort, place: usize) -> String {
+        shown(rt, self.alloc, self.graph.has_node(self.node(rt, place)))
+    }
+
+    fn satisfied(&self, rt: &impl Abort, place: usize) -> String {
+        let node = self.node(rt, place);
+        let held = self.graph.has_node(node);
+        assert!(rt; held);
+        match self.graph[node].kind() {
+            NodeKind::Instantiation(positions) => shown(rt, self.alloc, positions.len()),
+            _ => self.copied(rt, "none"),
+        }
+    }
+
+    // The answer's number, or its error's text; an empty text for an answer without a number.
+    fn call(&mut self, rt: &impl Abort, call: Call<'_>) -> String {
+        match call {
+            Call::Register(name, imports, exports) => self.register(rt, name, imports, exports),
+            Call::Instantiate(place) => self.instantiate(rt, place),
+            Call::Alias(place, name) => self.alias(rt, place, name),
+            Call::Set(place, name, argument) => self.set(rt, place, name, argument),
+            Call::Export(place, name) => self.export(rt, place, name),
+            Call::Import(name, item) => self.import(rt, name, item),
+            Call::Unset(place, name, argument) => self.unset(rt, place, name, argument),
+            Call::Unexport(place) => self.unexport(rt, place),
+            Call::Name(place, name) => self.name(rt, place, name),
+            Call::Named(place) => self.named(rt, place),
+            Call::Source(place) => self.source(rt, place),
+            Call::Exported(name) => self.exported(rt, name),
+            Call::Remove(place) => self.remove(rt, place),
+            Call::Unregister(place) => self.unregister(rt, place),
+            Call::Registered(place) => self.registered(rt, place),
+            Call::Has(place) => self.has(rt, place),
+            Call::Satisfied(place) => self.satisfied(rt, place),
+        }
+    }
+
+    // Makes the calls. One that is refused for want of memory changed nothing: made again it answers as if it had not
+    // been refused. What takes something away is never refused for that.
+    pub fn calls(&mut self, rt: &impl Abort, rows: &[(Call<'_>, &str)]) {
+        for (call, want) in rows {
+            let mut answer = self.call(rt, *call);
+            if is_refused(answer.as_str()) {
+                assert!(rt; !call.is_removal() || !want.is_empty());
+                answer = self.call(rt, *call);
+            }
+            assert_eq!(rt; answer.as_str(), *want);
+        }
+    }
+
+    // The bytes in hexadecimal, or the error's text.
+    pub fn encoded(&self, rt: &impl Abort, options: EncodeOptions<'_>) -> String {
+        match encode(&self.graph, options) {
+            Ok(bytes) => hex::encode(self.alloc, &bytes).expect(rt, "a text"),
+            Err(error) => shown(rt, self.alloc, error),
+        }
+    }
+
+    // The export in which two imports differ.
+    fn differing(&self, rt: &impl Abort, fault: MergeFault) -> String {
+        match fault {
+            MergeFault::Disagree { export, .. } => {
+                format!(in self.alloc; "Disagree `{export}`").expect(rt, "a text")
+            }
+            _ => String::new(self.alloc),
+        }
+    }
+
+    // What is wrong with names.
+    fn invalid(&self, rt: &impl Abort, fault: ValidationFault) -> String {
+        let text = match fault {
+            ValidationFault::BadName { name } => format!(in self.alloc; "BadName `{name}`"),
+            ValidationFault::Clash { first, second } => {
+                format!(in self.alloc; "Clash `{first}`, `{second}`")
+            }
+            ValidationFault::NotExportable { name } => {
+                format!(in self.alloc; "NotExportable `{name}`")
+            }
+        };
+        text.expect(rt, "a text")
+    }
+
+    // What the refusal names: the node of a cycle, or the import, the instantiation, its package and the name, or an import
+    // that cannot be merged, the nodes that ask for it and the export that differs, or one of a circle, or names.
+    pub fn refused(&self, rt: &impl Abort) -> String {
+        let alloc = self.alloc;
+        let text = match encode(&self.graph, EncodeOptions::default()) {
+            Err(EncodeError::GraphContainsCycle { node }) => format!(in alloc; "{node}"),
+            Err(
+                EncodeError::ImplicitImportConflict {
+                    import,
+                    instantiation,
+                    package,
+                    name,
+                },
+            ) => format!(in alloc; "{import}, {instantiation}, {package}, {name}"),
+            Err(
+                EncodeError::ImportTypeMergeConflict {
+                    import,
+                    first,
+                    second,
+                    source,
+                },
+            ) => {
+                let differs = self.differing(rt, source);
+                format!(in alloc; "{import}, {first}, {second}, {differs}")
+            }
+            Err(
+                EncodeError::ExplicitImportMergeConflict {
+                    import,
+                    node,
+                    other,
+                },
+            ) => format!(in alloc; "{import}, {node}, {other}"),
+            Err(EncodeError::ImportsUseEachOther { import }) => return import,
+            Err(EncodeError::ValidationFailure { source }) => return self.invalid(rt, source),
+            _ => return String::new(alloc),
+        };
+        text.expect(rt, "a text")
+    }
+
+    // What the node at a place is: its kind, its item, its package, and the names by which it is imported
+    // and exported.
+    pub fn described(&self, rt: &impl Abort, place: usize) -> String {
+        let id = self.node(rt, place);
+        let held = self.graph.has_node(id);
+        assert!(rt; held);
+        let node = &self.graph[id];
+        let kind = match node.kind() {
+            NodeKind::Definition => "definition",
+            NodeKind::Import(_) => "import",
+            NodeKind::Instantiation(_) => "instantiation",
+            NodeKind::Alias => "alias",
+        };
+        let item = node.item_kind().desc(self.graph.types());
+        let package = self.package_name(rt, node.package());
+        let imported = node.import_name().unwrap_or("no name");
+        let exported = node.export_name().unwrap_or("no name");
+        let text = format!(in self.alloc; "{kind}, {item}, {package}, {imported}, {exported}");
+        text.expect(rt, "a text")
+    }
+
+    fn package_name<'a>(&'a self, rt: &impl Abort, id: Option<PackageId>) -> &'a str {
+        let Some(id) = id else {
+            return "no package";
+        };
+        let held = self.graph.has_package(id);
+        assert!(rt; held);
+        self.graph[id].name()
+    }
+
+    // Whether the node at a place is imported by a name.
+    pub fn imports(&self, rt: &impl Abort, place: usize, name: &str) -> bool {
+        let node = self.node(rt, place);
+        let held = self.graph.has_node(node);
+        assert!(rt; held);
+        self.graph.get_import_name(node) == Some(name)
+    }
+
+    // The imports that the graph asks for, each with its name, what it is and, of an import node, the node.
+    pub fn asked(&self, rt: &impl Abort) -> String {
+        let mut rows = String::new(self.alloc);
+        for (name, kind, node) in self.graph.imports() {
+            let kind = kind.desc(self.graph.types());
+            let row = match node {
+                Some(node) => format!(in self.alloc; "{name}: {kind}, {node}; "),
+                None => format!(in self.alloc; "{name}: {kind}; "),
+            };
+            add(rt, &mut rows, row);
+        }
+        rows
+    }
+
+    // A clone of the graph, with what was answered so far.
+    pub fn cloned(&self, rt: &impl Abort) -> Bench {
+        Bench {
+            alloc: self.alloc,
+            graph: self.graph.clone().expect(rt, "a clone"),
+            packages: self.packages.clone().expect(rt, "a clone"),
+            nodes: self.nodes.clone().expect(rt, "a clone"),
+        }
+    }
+
+    // The nodes, each with what it is, and their ids.
+    pub fn listed_nodes(&self, rt: &impl Abort) -> String {
+        let mut rows = String::new(self.alloc);
+        for (id, node) in self.graph.nodes() {
+            let item = node.item_kind().desc(self.graph.types());
+            add(rt, &mut rows, format!(in self.alloc; "{id}: {item}; "));
+        }
+        for id in self.graph.node_ids() {
+            add(rt, &mut rows, format!(in self.alloc; "{id}; "));
+        }
+        rows
+    }
+
+    // The packages, each by its slot.
+    pub fn listed_packages(&self, rt: &impl Abort) -> String {
+        let mut rows = String::new(self.alloc);
+        for (id, package) in self.graph.packages() {
+            let slot = id.slot;
+            let name = package.name();
+            add(rt, &mut rows, format!(in self.alloc; "{slot}: {name}; "));
+        }
+        rows
+    }
+
+    // The arguments of a node, each by its import's name.
+    pub fn listed_arguments(&self, rt: &impl Abort, id: NodeId) -> String {
+        let mut rows = String::new(self.alloc);
+        for (name, node) in self.graph.get_instantiation_arguments(id) {
+            add(rt, &mut rows, format!(in self.alloc; "{name}: {node}; "));
+        }
+        rows
+    }
+
+    // Whether the node at a place is exported by a name.
+    pub fn exports(&self, place: usize, name: &str) -> bool {
+        match self.nodes.get(place) {
+            Some(node) => self.graph.get_export(name) == Some(*node),
+            None => false,
+        }
+    }
+}

@@ -1,0 +1,385 @@
+// Definitions of types.
+use crate::parts::{encode, export, function, import, instantiate, register};
+use std::process::Abort;
+use wac_graph::types::{
+    DefinedType, Enum, FuncType, FuncTypeId, Interface, ItemKind, PrimitiveType, Record, Resource,
+    ResourceId, Type, ValueType, World,
+};
+use wac_graph::{
+    CompositionGraph, DefineTypeError, EncodeError, EncodeOptions, NodeId, PackageId,
+    ValidationFault,
+};
+
+const BOOL: Type = Type::Value(ValueType::Primitive(PrimitiveType::Bool));
+
+// Defines a type. Where memory was refused nothing changed: made again the call answers as if it had not been refused.
+fn answer(
+    rt: &impl Abort,
+    graph: &mut CompositionGraph,
+    name: &str,
+    ty: Type,
+) -> Result<NodeId, DefineTypeError> {
+    let held = graph.types().contains(ty);
+    assert!(rt; held);
+    let nodes = graph.node_ids().count();
+    let exported = graph.get_export(name);
+    match graph.define_type(name, ty) {
+        Err(DefineTypeError::OutOfMemory) => {
+            assert!(rt; graph.node_ids().count() == nodes && graph.get_export(name) == exported);
+            let held = graph.types().contains(ty);
+            assert!(rt; held);
+            graph.define_type(name, ty)
+        }
+        answer => answer,
+    }
+}
+
+// Defines a type that may be defined.
+fn define(rt: &impl Abort, graph: &mut CompositionGraph, name: &str, ty: Type) -> NodeId {
+    answer(rt, graph, name, ty).expect(rt, "a node")
+}
+
+// A type is not defined, and this is why.
+fn assert_refused(
+    rt: &(impl Abort + AllocGlobal),
+    graph: &mut CompositionGraph,
+    name: &str,
+    ty: Type,
+    want: &str,
+) {
+    let Err(error) = answer(rt, graph, name, ty) else {
+        panic!(rt; "the type is defined");
+    };
+    let text = format!(in rt.alloc(); "{error}").expect(rt, "a text");
+    assert_eq!(rt; text.as_str(), want);
+}
+
+fn defined(rt: &impl Abort, graph: &mut CompositionGraph, ty: DefinedType) -> ValueType {
+    ValueType::Defined(graph.add_defined_type(ty).expect(rt, "its id"))
+}
+
+fn function_type(
+    rt: &(impl Abort + AllocGlobal),
+    graph: &mut CompositionGraph,
+    params: &[(&str, ValueType)],
+    returned: Option<ValueType>,
+) -> FuncTypeId {
+    let function = FuncType::new(rt.alloc(), params, returned, false);
+    let function = function.expect(rt, "a function type");
+    graph.add_func_type(function).expect(rt, "its id")
+}
+
+fn resource(rt: &(impl Abort + AllocGlobal), graph: &mut CompositionGraph) -> ResourceId {
+    let resource = Resource::new(rt.alloc(), "r").expect(rt, "a resource");
+    graph.add_resource(resource).expect(rt, "its id")
+}
+
+fn enumeration(
+    rt: &(impl Abort + AllocGlobal),
+    graph: &mut CompositionGraph,
+    case: &str,
+) -> ValueType {
+    let cases = Enum::new(rt.alloc(), &[case]).expect(rt, "an enumeration");
+    defined(rt, graph, DefinedType::Enum(cases))
+}
+
+// The package `my:package`, which imports and exports nothing.
+fn package(rt: &(impl Abort + AllocGlobal), graph: &mut CompositionGraph) -> PackageId {
+    register(rt, rt.alloc(), graph, "my:package", &[], &[]).expect(rt, "a package")
+}
+
+const NAMES: [&str; 4] = ["a", "b", "c", "d"];
+
+// An enum, a list and an option of it, and a tuple of these two.
+fn diamond(rt: &(impl Abort + AllocGlobal), graph: &mut CompositionGraph) -> [Type; 4] {
+    let a = enumeration(rt, graph, "x");
+    let b = defined(rt, graph, DefinedType::List(a));
+    let c = defined(rt, graph, DefinedType::Option(a));
+    let d = DefinedType::tuple(rt.alloc(), &[b, c]).expect(rt, "a tuple");
+    let d = defined(rt, graph, d);
+    [
+        Type::Value(a),
+        Type::Value(b),
+        Type::Value(c),
+        Type::Value(d),
+    ]
+}
+
+fn remove(rt: &impl Abort, graph: &mut CompositionGraph, name: &str) {
+    let node = graph.get_export(name).expect(rt, "a node");
+    let held = graph.has_node(node);
+    assert!(rt; held);
+    graph.remove_node(node);
+}
+
+#[test]
+fn a_type_is_defined_once(rt: HostRuntime) {
+    let mut graph = CompositionGraph::new(rt.alloc());
+    let node = define(&rt, &mut graph, "foo", BOOL);
+    assert!(rt; graph.get_export("foo") == Some(node));
+    let defined = "the provided type has already been defined in the graph";
+    assert_refused(&rt, &mut graph, "bar", BOOL, defined);
+    assert!(rt; graph.get_export("bar").is_none());
+    remove(&rt, &mut graph, "foo");
+    assert!(rt; graph.get_export("foo").is_none());
+    define(&rt, &mut graph, "bar", BOOL);
+}
+
+#[test]
+fn a_resource_is_not_defined(rt: HostRuntime) {
+    let mut graph = CompositionGraph::new(rt.alloc());
+    let resource = Type::Resource(resource(&rt, &mut graph));
+    let why = "a resource type cannot be defined in the graph";
+    assert_refused(&rt, &mut graph, "r", resource, why);
+}
+
+#[test]
+fn names_of_definitions_are_checked(rt: HostRuntime) {
+    let mut graph = CompositionGraph::new(rt.alloc());
+    let kind = function(&rt, rt.alloc(), &mut graph);
+    let node = import(&rt, &mut graph, "x", kind);
+    export(&rt, &mut graph, node, "taken");
+    let taken = "type name `taken` conflicts with an existing export of the same name";
+    assert_refused(&rt, &mut graph, "taken", BOOL, taken);
+    let invalid = "type name `1a` is not valid";
+    assert_refused(&rt, &mut graph, "1a", BOOL, invalid);
+    define(&rt, &mut graph, "url=<u>", BOOL);
+}
+
+#[test]
+fn a_definition_stays_exported(rt: HostRuntime) {
+    let mut graph = CompositionGraph::new(rt.alloc());
+    let node = define(&rt, &mut graph, "foo", BOOL);
+    let held = graph.has_node(node);
+    assert!(rt; held);
+    assert!(rt; graph.unexport(node).is_err());
+    assert!(rt; graph.get_export("foo") == Some(node));
+}
+
+// Whatever order they are defined in, all go with the one that the others are made of, and may be defined again.
+#[test]
+fn definitions_go_with_what_they_are_made_of(rt: HostRuntime) {
+    let mut graph = CompositionGraph::new(rt.alloc());
+    let types = diamond(&rt, &mut graph);
+    for (i, ty) in types.iter().enumerate() {
+        define(&rt, &mut graph, NAMES[i], *ty);
+    }
+    remove(&rt, &mut graph, "a");
+    assert!(rt; graph.node_ids().next().is_none());
+    for (i, ty) in types.iter().enumerate().rev() {
+        assert!(rt; graph.get_export(NAMES[i]).is_none());
+        define(&rt, &mut graph, NAMES[i], *ty);
+    }
+    remove(&rt, &mut graph, "b");
+    assert!(rt; graph.get_export("a").is_some() && graph.get_export("c").is_some());
+    assert!(rt; graph.get_export("b").is_none() && graph.get_export("d").is_none());
+    remove(&rt, &mut graph, "a");
+    assert!(rt; graph.node_ids().next().is_none());
+}
+
+const PREAMBLE: &str = "0061736d0d000100";
+
+const NOT_YET: &str = "the graph holds something that is not written yet";
+
+fn written(graph: &CompositionGraph, validate: bool) -> Result<Vec<u8>, EncodeError> {
+    let options = EncodeOptions {
+        validate,
+        ..EncodeOptions::default()
+    };
+    encode(graph, options)
+}
+
+// These bytes are written behind the preamble, in hexadecimal.
+fn assert_written(rt: &(impl Abort + AllocGlobal), graph: &CompositionGraph, want: &str) {
+    let bytes = written(graph, false).expect(rt, "bytes");
+    let text = hex::encode(rt.alloc(), &bytes).expect(rt, "a text");
+    assert!(rt;
+        text.as_str().strip_prefix(PREAMBLE) == Some(want),
+        "{text}"
+    );
+}
+
+// Something is defined that is not written yet.
+fn assert_not_yet(rt: &(impl Abort + AllocGlobal), graph: &CompositionGraph) {
+    let Err(error) = written(graph, false) else {
+        panic!(rt; "bytes are written");
+    };
+    let text = format!(in rt.alloc(); "{error}").expect(rt, "a text");
+    assert_eq!(rt; text.as_str(), NOT_YET);
+}
+
+// Each definition stands behind those that it is made of, and a later one goes by the export's index.
+#[test]
+fn definitions_are_written_behind_what_they_are_made_of(rt: HostRuntime) {
+    let mut graph = CompositionGraph::new(rt.alloc());
+    let types = diamond(&rt, &mut graph);
+    for (i, ty) in types.iter().enumerate().rev() {
+        define(&rt, &mut graph, NAMES[i], *ty);
+    }
+    assert_written(
+        &rt,
+        &graph,
+        "0705016d0101780b07010001610300000703016b010b070100016303020007030170010b07010001620304000705016f0205030b0701000164030600",
+    );
+}
+
+// A second name of a definition is exported behind all that is written, of the definition's own index.
+#[test]
+fn a_definition_is_exported_by_further_names(rt: HostRuntime) {
+    let mut graph = CompositionGraph::new(rt.alloc());
+    let alias = DefinedType::Alias(ValueType::Primitive(PrimitiveType::Bool));
+    let alias = Type::Value(defined(&rt, &mut graph, alias));
+    let node = define(&rt, &mut graph, "foo", alias);
+    export(&rt, &mut graph, node, "bar");
+    assert_written(
+        &rt,
+        &graph,
+        "0702017f0b11020003666f6f0300000003626172030100",
+    );
+}
+
+// The function type, and its export as a type.
+#[test]
+fn definitions_of_function_types_are_written(rt: HostRuntime) {
+    let mut graph = CompositionGraph::new(rt.alloc());
+    let func = function_type(&rt, &mut graph, &[], None);
+    define(&rt, &mut graph, "f", Type::Func(func));
+    assert_written(&rt, &graph, "070501400001000b0701000166030000");
+}
+
+// A function type stands behind the record that it is made of, and goes by the index of the record's export.
+#[test]
+fn definitions_of_function_types_go_by_defined_records(rt: HostRuntime) {
+    let mut graph = CompositionGraph::new(rt.alloc());
+    let flag = ValueType::Primitive(PrimitiveType::Bool);
+    let record = Record::new(rt.alloc(), &[("b", flag)]).expect(&rt, "a record");
+    let record = defined(&rt, &mut graph, DefinedType::Record(record));
+    let func = function_type(&rt, &mut graph, &[("x", record)], Some(record));
+    define(&rt, &mut graph, "f", Type::Func(func));
+    define(&rt, &mut graph, "r", Type::Value(record));
+    assert_written(
+        &rt,
+        &graph,
+        "070601720101627f0b0701000172030000070801400101780100010b0701000166030200",
+    );
+}
+
+#[test]
+fn definitions_of_function_types_over_handles_are_not_written(rt: HostRuntime) {
+    let mut graph = CompositionGraph::new(rt.alloc());
+    let handle = ValueType::Own(resource(&rt, &mut graph));
+    let func = function_type(&rt, &mut graph, &[("x", handle)], None);
+    define(&rt, &mut graph, "f", Type::Func(func));
+    assert_not_yet(&rt, &graph);
+}
+
+// A definition beside an import: the import stands first.
+#[test]
+fn definitions_stand_behind_imports(rt: HostRuntime) {
+    let mut graph = CompositionGraph::new(rt.alloc());
+    let kind = function(&rt, rt.alloc(), &mut graph);
+    import(&rt, &mut graph, "x", kind);
+    define(&rt, &mut graph, "foo", BOOL);
+    assert_written(
+        &rt,
+        &graph,
+        "070501400001000a060100017801000702017f0b09010003666f6f030100",
+    );
+}
+
+// Nodes are written by number where none waits for another, so a definition may stand between two instances.
+#[test]
+fn definitions_stand_among_instances(rt: HostRuntime) {
+    let mut graph = CompositionGraph::new(rt.alloc());
+    let package = package(&rt, &mut graph);
+    instantiate(&rt, &mut graph, package);
+    define(&rt, &mut graph, "foo", BOOL);
+    instantiate(&rt, &mut graph, package);
+    assert_written(
+        &rt,
+        &graph,
+        "04080061736d0d0001000504010000000702017f0b09010003666f6f030000050401000000",
+    );
+}
+
+// A component and its instance may stand between two definitions, of which the later goes by the index of the earlier's export.
+#[test]
+fn instances_stand_among_definitions(rt: HostRuntime) {
+    let mut graph = CompositionGraph::new(rt.alloc());
+    let package = package(&rt, &mut graph);
+    let types = diamond(&rt, &mut graph);
+    define(&rt, &mut graph, "a", types[0]);
+    instantiate(&rt, &mut graph, package);
+    define(&rt, &mut graph, "b", types[1]);
+    assert_written(
+        &rt,
+        &graph,
+        "0705016d0101780b070100016103000004080061736d0d00010005040100000007030170010b0701000162030200",
+    );
+}
+
+// A name that may not be exported is refused where validation is asked for.
+#[test]
+fn names_of_definitions_are_validated(rt: HostRuntime) {
+    let mut graph = CompositionGraph::new(rt.alloc());
+    define(&rt, &mut graph, "url=<u>", BOOL);
+    assert!(rt; written(&graph, false).is_ok());
+    let Err(
+        EncodeError::ValidationFailure {
+            source: ValidationFault::NotExportable { name },
+        },
+    ) = written(&graph, true)
+    else {
+        panic!(rt; "the name is not refused");
+    };
+    assert_eq!(rt; name.as_str(), "url=<u>");
+}
+
+// The interface `n:p/i` of an enum and a function that takes it.
+fn interface(rt: &(impl Abort + AllocGlobal), graph: &mut CompositionGraph) -> (Type, Type) {
+    let t = enumeration(rt, graph, "a");
+    let f = function_type(rt, graph, &[("x", t)], None);
+    let items = [
+        ("t", ItemKind::TypeItem(Type::Value(t))),
+        ("f", ItemKind::Func(f)),
+    ];
+    let interface = Interface::new(rt.alloc(), Some("n:p/i"), &items).expect(rt, "an interface");
+    let interface = graph.add_interface(interface).expect(rt, "its id");
+    (Type::Value(t), Type::Interface(interface))
+}
+
+// An interface is written as a component type that exports an instance of it under its id.
+#[test]
+fn interfaces_are_defined_under_their_ids(rt: HostRuntime) {
+    let mut graph = CompositionGraph::new(rt.alloc());
+    let (_, i) = interface(&rt, &mut graph);
+    define(&rt, &mut graph, "d", i);
+    assert_written(
+        &rt,
+        &graph,
+        "072a014102014204016d0101610400017403000001400101780101000400016601020400056e3a702f6905000b0701000164030000",
+    );
+}
+
+// A component type sees nothing outside itself: what the interface is made of is written in it once more.
+#[test]
+fn an_interface_is_written_with_what_it_is_made_of(rt: HostRuntime) {
+    let mut graph = CompositionGraph::new(rt.alloc());
+    let (t, i) = interface(&rt, &mut graph);
+    define(&rt, &mut graph, "d", i);
+    define(&rt, &mut graph, "e", t);
+    assert_written(
+        &rt,
+        &graph,
+        "0705016d0101610b0701000165030000072a014102014204016d0101610400017403000001400101780101000400016601020400056e3a702f6905000b0701000164030200",
+    );
+}
+
+#[test]
+fn definitions_of_worlds_are_not_written(rt: HostRuntime) {
+    let mut graph = CompositionGraph::new(rt.alloc());
+    let world = World::new(rt.alloc(), Some("n:p/w"), &[], &[]).expect(&rt, "a world");
+    let world = graph.add_world(world).expect(&rt, "its id");
+    define(&rt, &mut graph, "w", Type::World(world));
+    assert_not_yet(&rt, &graph);
+}

@@ -1,0 +1,173 @@
+// Nodes that are removed, and what goes with them.
+use super::bench::Call::{
+    Alias, Export, Exported, Has, Import, Instantiate, Register, Remove, Satisfied, Set, Unexport,
+    Unset,
+};
+use super::bench::Item::{Empty, Instance, Plain};
+use super::bench::{Bench, Call};
+use wac_graph::EncodeOptions;
+
+// The number of a node that was removed comes next.
+const NUMBERS: &[(Call<'static>, &str)] = &[
+    (Register("my:package", &[], &[]), ""),
+    (Instantiate(0), "0"),
+    (Instantiate(0), "1"),
+    (Instantiate(0), "2"),
+    (Remove(1), ""),
+    (Has(1), "false"),
+    (Instantiate(0), "1"),
+    (Has(1), "true"),
+];
+
+// The exports `a` and `b` of a node go with it; the last export takes the freed place.
+const EXPORTS: &[(Call<'static>, &str)] = &[
+    (Register("my:package", &[], &[]), ""),
+    (Instantiate(0), "0"),
+    (Instantiate(0), "1"),
+    (Instantiate(0), "2"),
+    (Export(0, "a"), ""),
+    (Export(1, "c"), ""),
+    (Export(0, "b"), ""),
+    (Export(2, "d"), ""),
+    (Remove(0), ""),
+    (Exported("a"), "none"),
+    (Exported("c"), "1"),
+];
+
+// A node that was an argument of two instances of one package.
+const ARGUMENT: &[(Call<'static>, &str)] = &[
+    (Register("my:package1", &[], &[("a", Plain)]), ""),
+    (Register("my:package2", &[("b", Plain)], &[]), ""),
+    (Instantiate(0), "0"),
+    (Alias(0, "a"), "1"),
+    (Instantiate(1), "2"),
+    (Instantiate(1), "3"),
+    (Set(2, "b", 1), ""),
+    (Set(3, "b", 1), ""),
+    (Satisfied(2), "1"),
+    (Remove(1), ""),
+    (Satisfied(2), "0"),
+    (Satisfied(3), "0"),
+    (Has(0), "true"),
+];
+
+// An instance goes with its aliases, and with theirs.
+const BEHIND: &[(Call<'static>, &str)] = &[
+    (Register("my:package1", &[], &[("i", Instance)]), ""),
+    (Register("my:package2", &[("b", Plain)], &[]), ""),
+    (Instantiate(0), "0"),
+    (Alias(0, "i"), "1"),
+    (Alias(1, "a"), "2"),
+    (Instantiate(1), "3"),
+    (Set(3, "b", 2), ""),
+    (Export(2, "x"), ""),
+    (Remove(0), ""),
+    (Has(1), "false"),
+    (Has(2), "false"),
+    (Has(3), "true"),
+    (Satisfied(3), "0"),
+    (Exported("x"), "none"),
+    (Instantiate(0), "0"),
+];
+
+// The name of an import that was removed is free.
+const IMPORT: &[(Call<'static>, &str)] = &[
+    (Import("x", Plain), "0"),
+    (Import("y", Plain), "1"),
+    (
+        Import("x", Plain),
+        "import name `x` already exists in the graph",
+    ),
+    (Remove(0), ""),
+    (Import("x", Plain), "0"),
+    (
+        Import("y", Plain),
+        "import name `y` already exists in the graph",
+    ),
+];
+
+// Node 0 is given one of two instances that are each other's arguments; a node that was given one is removed, and its number
+// used again.
+const RING: &[(Call<'static>, &str)] = &[
+    (Register("my:package", &[("i", Empty)], &[]), ""),
+    (Instantiate(0), "0"),
+    (Instantiate(0), "1"),
+    (Instantiate(0), "2"),
+    (Instantiate(0), "3"),
+    (Set(2, "i", 1), ""),
+    (Set(1, "i", 2), ""),
+    (Set(0, "i", 1), ""),
+    (Set(3, "i", 1), ""),
+    (Remove(3), ""),
+    (Instantiate(0), "3"),
+];
+
+// An argument, the exports of a node and a node with its aliases are taken away; none of these calls takes memory.
+const TAKEN: &[(Call<'static>, &str)] = &[
+    (Register("my:package1", &[], &[("a", Plain)]), ""),
+    (Register("my:package2", &[("b", Plain)], &[]), ""),
+    (Instantiate(0), "0"),
+    (Alias(0, "a"), "1"),
+    (Instantiate(1), "2"),
+    (Instantiate(1), "3"),
+    (Set(2, "b", 1), ""),
+    (Set(3, "b", 1), ""),
+    (Export(1, "x"), ""),
+    (Export(1, "y"), ""),
+    (Export(2, "z"), ""),
+    (Unset(2, "b", 1), ""),
+    (Unexport(1), ""),
+    (Remove(0), ""),
+    (Remove(3), ""),
+    (Has(1), "false"),
+    (Satisfied(2), "0"),
+    (Exported("x"), "none"),
+    (Exported("z"), "2"),
+];
+
+#[test]
+fn what_is_taken_away_takes_no_memory(rt: HostRuntime) {
+    Bench::new(rt.alloc()).calls(&rt, TAKEN);
+}
+
+#[test]
+fn the_number_of_a_removed_node_comes_next(rt: HostRuntime) {
+    Bench::new(rt.alloc()).calls(&rt, NUMBERS);
+}
+
+#[test]
+fn exports_go_with_their_node(rt: HostRuntime) {
+    let mut bench = Bench::new(rt.alloc());
+    bench.calls(&rt, EXPORTS);
+    let answer = bench.encoded(&rt, EncodeOptions::default());
+    assert_eq!(rt;
+        answer.as_str(),
+        "0061736d0d00010004080061736d0d0001000507020000000000000b0d02000164050100000163050000"
+    );
+}
+
+#[test]
+fn an_argument_that_is_removed_is_asked_for(rt: HostRuntime) {
+    let mut bench = Bench::new(rt.alloc());
+    bench.calls(&rt, ARGUMENT);
+    assert_eq!(rt; bench.asked(&rt).as_str(), "b: function; b: function; ");
+}
+
+#[test]
+fn aliases_go_with_their_instance(rt: HostRuntime) {
+    let mut bench = Bench::new(rt.alloc());
+    bench.calls(&rt, BEHIND);
+    assert_eq!(rt; bench.asked(&rt).as_str(), "b: function; ");
+}
+
+#[test]
+fn the_name_of_a_removed_import_is_free(rt: HostRuntime) {
+    Bench::new(rt.alloc()).calls(&rt, IMPORT);
+}
+
+#[test]
+fn a_cycle_is_named_after_a_removal(rt: HostRuntime) {
+    let mut bench = Bench::new(rt.alloc());
+    bench.calls(&rt, RING);
+    assert_eq!(rt; bench.refused(&rt).as_str(), "1");
+}

@@ -1,0 +1,130 @@
+// Packages that are unregistered, and what goes with them.
+use super::bench::Call::{
+    Alias, Export, Exported, Has, Instantiate, Register, Registered, Satisfied, Set, Unregister,
+};
+use super::bench::Item::Plain;
+use super::bench::{Bench, Call};
+use wac_graph::EncodeOptions;
+
+// The nodes of the package go, and their exports; its id is not valid any more, and its key is free.
+const PACKAGE: &[(Call<'static>, &str)] = &[
+    (Register("test:pkg", &[("f", Plain)], &[("g", Plain)]), ""),
+    (Instantiate(0), "0"),
+    (Alias(0, "g"), "1"),
+    (Alias(0, "g"), "1"),
+    (Export(1, "g"), ""),
+    (Exported("g"), "1"),
+    (Unregister(0), ""),
+    (Exported("g"), "none"),
+    (Has(0), "false"),
+    (Has(1), "false"),
+    (Registered(0), "false"),
+    (Register("test:pkg", &[("f", Plain)], &[("g", Plain)]), ""),
+    (Registered(0), "false"),
+    (Registered(1), "true"),
+    (
+        Register("test:pkg", &[], &[]),
+        "package `test:pkg` has already been registered in the graph",
+    ),
+    (Instantiate(1), "1"),
+    (Instantiate(1), "0"),
+    (Instantiate(1), "2"),
+];
+
+// The third package takes the slot of the first.
+const SLOTS: &[(Call<'static>, &str)] = &[
+    (Register("my:first", &[], &[]), ""),
+    (Register("my:second", &[], &[]), ""),
+    (Unregister(0), ""),
+    (Register("my:third", &[], &[]), ""),
+    (Registered(0), "false"),
+    (Registered(1), "true"),
+    (Registered(2), "true"),
+];
+
+// The slot that was freed last is used first.
+const LAST: &[(Call<'static>, &str)] = &[
+    (Register("my:first", &[], &[]), ""),
+    (Register("my:second", &[], &[]), ""),
+    (Unregister(1), ""),
+    (Unregister(0), ""),
+    (Register("my:third", &[], &[]), ""),
+    (Register("my:fourth", &[], &[]), ""),
+    (Register("my:fifth", &[], &[]), ""),
+    (Unregister(3), ""),
+    (Register("my:sixth", &[], &[]), ""),
+    (Registered(3), "false"),
+];
+
+// The exports of another package's nodes keep their order.
+const EXPORTS: &[(Call<'static>, &str)] = &[
+    (Register("my:package1", &[], &[]), ""),
+    (Register("my:package2", &[], &[]), ""),
+    (Instantiate(0), "0"),
+    (Instantiate(1), "1"),
+    (Instantiate(1), "2"),
+    (Export(0, "a"), ""),
+    (Export(1, "b"), ""),
+    (Export(0, "c"), ""),
+    (Export(2, "d"), ""),
+    (Unregister(0), ""),
+    (Exported("a"), "none"),
+    (Exported("d"), "2"),
+];
+
+// An alias of the package was an argument of another package's instance.
+const ARGUMENT: &[(Call<'static>, &str)] = &[
+    (Register("my:package1", &[], &[("a", Plain)]), ""),
+    (Register("my:package2", &[("b", Plain)], &[]), ""),
+    (Instantiate(0), "0"),
+    (Alias(0, "a"), "1"),
+    (Instantiate(1), "2"),
+    (Set(2, "b", 1), ""),
+    (Satisfied(2), "1"),
+    (Unregister(0), ""),
+    (Has(2), "true"),
+    (Satisfied(2), "0"),
+];
+
+#[test]
+fn nodes_and_exports_go_with_their_package(rt: HostRuntime) {
+    Bench::new(rt.alloc()).calls(&rt, PACKAGE);
+}
+
+#[test]
+fn a_freed_slot_is_used_again(rt: HostRuntime) {
+    let mut bench = Bench::new(rt.alloc());
+    bench.calls(&rt, SLOTS);
+    assert_eq!(rt;
+        bench.listed_packages(&rt).as_str(),
+        "0: my:third; 1: my:second; "
+    );
+}
+
+#[test]
+fn the_slot_freed_last_is_used_first(rt: HostRuntime) {
+    let mut bench = Bench::new(rt.alloc());
+    bench.calls(&rt, LAST);
+    assert_eq!(rt;
+        bench.listed_packages(&rt).as_str(),
+        "0: my:third; 1: my:sixth; 2: my:fifth; "
+    );
+}
+
+#[test]
+fn the_other_exports_keep_their_order(rt: HostRuntime) {
+    let mut bench = Bench::new(rt.alloc());
+    bench.calls(&rt, EXPORTS);
+    let answer = bench.encoded(&rt, EncodeOptions::default());
+    assert_eq!(rt;
+        answer.as_str(),
+        "0061736d0d00010004080061736d0d0001000507020000000000000b0d02000162050000000164050100"
+    );
+}
+
+#[test]
+fn an_argument_of_the_package_is_asked_for(rt: HostRuntime) {
+    let mut bench = Bench::new(rt.alloc());
+    bench.calls(&rt, ARGUMENT);
+    assert_eq!(rt; bench.asked(&rt).as_str(), "b: function; ");
+}
