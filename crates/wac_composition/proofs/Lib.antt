@@ -3,3 +3,4 @@ pub mod DefiningLemmas
 mod FittingLemmas
 pub mod RootLemmas
 pub mod ConflictFreeLemmas
+pub mod WantedAskedLemmas

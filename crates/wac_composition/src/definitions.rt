@@ -6,6 +6,7 @@ ghost use Rattle.wac_causes.specs.OuterNames.{first_name_of};
 ghost use Rattle.wac_collection.specs.Collection.{holds_type};
 ghost use Rattle.wac_shapes.specs.Kinds.{kind_type};
 ghost use Rattle.wac_edges.specs.Edge.{node_number};
+ghost use Rattle.wac_edges.specs.declared.node.NodeId.{NodeId as AnId};
 ghost use Rattle.wac_meaning.specs.Encoding.{index_in};
 ghost use Rattle.wac_meaning.specs.Importable.{IsDefinableKind};
 ghost use Rattle.wac_meaning.specs.Means.{is_first};
@@ -37,6 +38,18 @@ impl CompositionGraph {
             }
         }
         Ok(true)
+    }
+
+    /// Whether a node is a definition. Each has a first name, by which it is exported, so exports tell it.
+    pub(crate) fn has_definition(&self) -> bool
+        ensures { result ≡ false → (n : AnId) → IsSomeAnd (node_at self.now n) (λ node. node.kind ≡ definition) → ⊥ }
+    {
+        for i in 0..self.exports.len() {
+            let Some(_) = self.further_export(i) else {
+                return true;
+            };
+        }
+        false
     }
 
     /// Whether the node of this number is none or no definition, or is one of a type that is defined so far.

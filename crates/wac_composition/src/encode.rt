@@ -85,8 +85,8 @@ impl CompositionGraph {
         self.law();
         let order = self.ordered()?;
         self.check_conflicts()?;
-        let merge = self.merged()?;
-        self.check_types()?;
+        let (merge, entries) = self.merged()?;
+        self.check_types(entries)?;
         let (root, imports) = self.begin(options.define_components, merge)?;
         let indexes = self.import_indexes(&imports)?;
         let mut encoder = Encoder::new(self.alloc, root, indexes);

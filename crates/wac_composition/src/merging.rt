@@ -21,11 +21,12 @@ use wac_nodes::NodeId;
 use wac_writing::exports_law;
 
 impl CompositionGraph {
-    /// The merge of all that the graph asks for. Refuses a graph that asks for what cannot be merged.
-    pub(crate) fn merged(&self) -> Result<TypeAggregator, EncodeError>
+    /// The merge of all that the graph asks for, and what that is. Refuses a graph that asks for what cannot be merged.
+    pub(crate) fn merged(&self) -> Result<(TypeAggregator, Vec<AskedEntry<'_>>), EncodeError>
         requires acyclic { IsAcyclic self.now.edges }
         requires apart { HasNoConflict self.now }
-        ensures merged { IfOk result (λ a. IsMergedFor self.now a) }
+        ensures merged { IfOk result (λ a. IsMergedFor self.now a.0) }
+        ensures asked { IfOk result (λ a. map entry_view a.1.items ≡ asked_entries self.now) }
         ensures merges { OnOk result (HasMerge self.now) }
         ensures refused { IfErr result (λ e. (o : Asked) → IsRefused self.now o e) }
     {
@@ -38,7 +39,7 @@ impl CompositionGraph {
                 exports_law(&self.types);
                 exports_law(merge.types());
                 merge.types().law();
-                Ok(merge)
+                Ok((merge, entries))
             }
             Err(fault) => Err(self.merge_error(entries.as_slice(), fault)?),
         }

@@ -6,6 +6,7 @@ ghost use Rattle.wac_causes.specs.Search.{IsRefused};
 ghost use Rattle.wac_causes.specs.TypeFaults.{wanted_at, wanted_entries as wanted_of, role_of, role_of_kind, IsEntryFault, HasNoTypeFault};
 ghost use Rattle.wac_edges.specs.Edge.{node_number};
 ghost use Rattle.wac_edges.specs.Order.{IsAcyclic};
+ghost use Rattle.wac_nodes.specs.Entries.{asked_entries};
 ghost use Rattle.wac_nodes.specs.Graph.{node_at};
 ghost use Rattle.wac_nodes.specs.Nodes.{kind_of};
 ghost use Rattle.wac_nodes.specs.declared.options.EncodeOptions.{EncodeOptions as Asked};
@@ -20,8 +21,10 @@ use wac_scopes::WriteFault;
 use wac_writable::{Role, lowest_fault};
 
 impl CompositionGraph {
-    /// Refuses a graph in which a node asks for what cannot be written, by the first of it.
-    pub(crate) fn check_types(&self) -> Result<(), EncodeError>
+    /// Refuses a graph in which a node asks for what cannot be written, by the first of it. The entries are what the graph
+    /// asks for.
+    pub(crate) fn check_types(&self, entries: Vec<AskedEntry<'_>>) -> Result<(), EncodeError>
+        requires asked { map entry_view entries.items ≡ asked_entries self.now }
         requires acyclic { IsAcyclic self.now.edges }
         requires apart { HasNoConflict self.now }
         requires merges { HasMerge self.now }
@@ -30,7 +33,7 @@ impl CompositionGraph {
     {
         self.law();
         self.types.law();
-        let wanted = self.wanted_entries()?;
+        let wanted = self.wanted_of_asked(entries)?;
         for i in 0..wanted.len() {
             let entry = wanted[i];
             if let Some(fault) = self.entry_fault(entry)? {
@@ -59,6 +62,20 @@ impl CompositionGraph {
             Some(node) => role(&node.kind),
             None => Role::Imported,
         }
+    }
+
+    /// What nodes ask for, from what the graph asks for: the same, where no node is an import or a definition.
+    fn wanted_of_asked<'a>(
+        &'a self,
+        entries: Vec<AskedEntry<'a>>,
+    ) -> Result<Vec<AskedEntry<'a>>, AllocError>
+        requires { map entry_view entries.items ≡ asked_entries self.now }
+        ensures { IfOk result (λ v. map entry_view v.items ≡ wanted_of self.now) }
+    {
+        if self.imports.is_empty() && !self.has_definition() {
+            return Ok(entries);
+        }
+        self.wanted_entries()
     }
 
     /// What nodes ask for, node by node, the interfaces that an asked instance uses before it, each instance once under a name.
