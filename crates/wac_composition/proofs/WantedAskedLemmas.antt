@@ -1,4 +1,5 @@
--- Where no node is an import or a definition, what nodes ask for is what the graph asks for.
+-- Where no node is an import, none asks as one, and where none is a definition either, what nodes ask for is what the graph
+-- asks for.
 use Rattle.std.proofs.Common.{◌≡◌, ◌<◌, ℕ, List, [], ◌∷◌, ◌++◌, cond, not, false, None, Some, Option, refl, ap, ◌∙◌, length, subst, sym}
 use Rattle.std.specs.Prelude.{IsSomeAnd, slice_get}
 use Rattle.std.specs.List.{flat_map}
@@ -13,6 +14,7 @@ use Rattle.wac_nodes.specs.Entries.{asked_entries, once, with_used}
 use Rattle.wac_nodes.specs.Graph as graph
 use Rattle.wac_nodes.specs.Graph.{Graph, GraphNode, Kind, node_at, IsImportOf}
 use Rattle.wac_nodes.specs.Sound.{IsSound}
+use Rattle.wac_asking.specs.EntriesLeft.{imported_at, all_imported_by}
 use Rattle.wac_causes.specs.TypeFaults.{wanted_by, wanted_at, wanted_entries}
 use Rattle.wac_writing.specs.Further.{further_of, further_at}
 
@@ -20,29 +22,42 @@ use Rattle.wac_writing.specs.Further.{further_of, further_at}
 abbrev pub IsDefinition : Graph → NodeId → Type 0
 IsDefinition g n = IsSomeAnd (node_at g n) (λ node. node.kind ≡ graph.definition)
 
+module _ (g : Graph) (no_import : (name : Name) (n : NodeId) → IsImportOf g name n → ⊥) where
+  not_at : (n : ℕ) (o : Option GraphNode) → node_at g (node_number n) ≡ o → imported_by n o ≡ []
+  not_at n None at = refl
+  not_at n (Some node) at = by_kind node.kind refl where
+    by_kind : (k : Kind) → node.kind ≡ k → imported_by n (Some node) ≡ []
+    by_kind graph.instantiation e = rw e refl
+    by_kind graph.alias e = rw e refl
+    by_kind graph.definition e = rw e refl
+    by_kind (graph.import name) e = absurd (no_import name (node_number n) (subst (λ o. IsSomeAnd o (λ x. x.kind ≡ graph.import name)) (sym at) e))
+
+  none_of : (ns : List ℕ) → flat_map (imported_at g) ns ≡ []
+  none_of [] = refl
+  none_of (n ∷ ns) = (λ i. not_at n (node_at g (node_number n)) refl i ++ none_of ns i)
+
+  pub none_imported : all_imported_by g ≡ []
+  none_imported = none_of (finite.keys g.nodes)
+
 module _ (g : Graph) (no_import : (name : Name) (n : NodeId) → IsImportOf g name n → ⊥) (no_definition : (n : NodeId) → IsDefinition g n → ⊥) where
-  same_at : (n : ℕ) (o : Option GraphNode) → node_at g (node_number n) ≡ o → (wanted_by g n o ≡ asked_by g n o) × (imported_by n o ≡ [])
-  same_at n None at = (refl, refl)
+  same_at : (n : ℕ) (o : Option GraphNode) → node_at g (node_number n) ≡ o → wanted_by g n o ≡ asked_by g n o
+  same_at n None at = refl
   same_at n (Some node) at = by_kind node.kind refl where
-    by_kind : (k : Kind) → node.kind ≡ k → (wanted_by g n (Some node) ≡ asked_by g n (Some node)) × (imported_by n (Some node) ≡ [])
-    by_kind graph.instantiation e = rw e (refl, refl)
-    by_kind graph.alias e = rw e (refl, refl)
+    by_kind : (k : Kind) → node.kind ≡ k → wanted_by g n (Some node) ≡ asked_by g n (Some node)
+    by_kind graph.instantiation e = rw e refl
+    by_kind graph.alias e = rw e refl
     by_kind graph.definition e = absurd (no_definition (node_number n) (subst (λ o. IsSomeAnd o (λ x. x.kind ≡ graph.definition)) (sym at) e))
     by_kind (graph.import name) e = absurd (no_import name (node_number n) (subst (λ o. IsSomeAnd o (λ x. x.kind ≡ graph.import name)) (sym at) e))
 
   all_same : (ns : List ℕ) → flat_map (wanted_at g) ns ≡ flat_map (λ n. asked_by g n (node_at g (node_number n))) ns
   all_same [] = refl
-  all_same (n ∷ ns) = (λ i. (same_at n (node_at g (node_number n)) refl).0 i ++ all_same ns i)
-
-  none_imported : (ns : List ℕ) → flat_map (λ n. imported_by n (node_at g (node_number n))) ns ≡ []
-  none_imported [] = refl
-  none_imported (n ∷ ns) = (λ i. (same_at n (node_at g (node_number n)) refl).1 i ++ none_imported ns i)
+  all_same (n ∷ ns) = (λ i. same_at n (node_at g (node_number n)) refl i ++ all_same ns i)
 
   pub wanted_is_asked : asked_entries g ≡ wanted_entries g
   wanted_is_asked =
       let keys = finite.keys g.nodes in
       ap (λ es. once (flat_map (with_used g.types) es))
-      (ap (λ es. flat_map (λ n. asked_by g n (node_at g (node_number n))) keys ++ es) (none_imported keys) ∙ append-nil (flat_map (λ n. asked_by g n (node_at g (node_number n))) keys) ∙ sym (all_same keys))
+      (ap (λ es. flat_map (λ n. asked_by g n (node_at g (node_number n))) keys ++ es) (none_imported g no_import) ∙ append-nil (flat_map (λ n. asked_by g n (node_at g (node_number n))) keys) ∙ sym (all_same keys))
 
 -- ---- exports tell of definitions
 module _ (g : Graph) (sound : IsSound g) where

@@ -68,6 +68,9 @@ impl CompositionGraph {
         ensures settled { OnOk result (AreSettled self.now.types [] (entries_of asking.new)) }
         ensures stands { OnOk result (AsksAlike self.now.types (entries_of asking.old ++ all_with_used self.now.types (all_imported_by self.now)) (entries_of asking.new)) }
     {
+        if self.imports.is_empty() {
+            return Ok(());
+        }
         for node in 0..self.nodes.capacity() {
             if let Some((name, kind)) = self.import_node_at(node) {
                 asking.ask(&self.types, AskedEntry { name, kind, node })?;

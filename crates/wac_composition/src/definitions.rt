@@ -32,6 +32,9 @@ impl CompositionGraph {
         ensures all { result ≡ Answers true → AllDefinable self.now }
         ensures not { result ≡ Answers false → AllDefinable self.now → ⊥ }
     {
+        if !self.has_definition() {
+            return Ok(true);
+        }
         for n in 0..self.nodes.capacity() {
             if !self.is_definable(n)? {
                 return Ok(false);

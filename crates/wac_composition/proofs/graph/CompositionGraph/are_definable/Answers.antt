@@ -1,15 +1,19 @@
 use Rattle.std.proofs.Common.{◌≡◌, ◌<◌, Ok, IfSome, ap, ◌∙◌, arith, subst, sym}
+use Rattle.std.specs.Prelude.{IsSomeAnd}
 use Rattle.wac_edges.specs.declared.node.NodeId.{NodeId}
 use Rattle.wac_edges.specs.Edge.{node_number}
 use Rattle.wac_nodes.specs.Graph.{Graph, GraphNode, node_at, definition}
 use Rattle.wac_causes.specs.NotYet.{AllDefinable}
 use Rattle.wac_meaning.specs.Importable.{IsDefinableKind}
-use Rattle.wac_writing.proofs.EncodingLemmas.{all_nodes, one_undefined, by_lt}
+use Rattle.wac_writing.proofs.EncodingLemmas.{all_nodes, one_undefined}
 use Rattle.wac_composition.specs.Inside.{fields_of}
 use Rattle.wac_composition.proofs.graph.CompositionGraph.are_definable.Goals as goal
 
 abbrev IsWritten : Graph → GraphNode → Type 0
 IsWritten g node = node.kind ≡ definition → IsDefinableKind g.types node.item_kind
+
+pub returns-then-not-has_definition-clause-all : goal.returns-then-not-has_definition-clause-all
+returns-then-not-has_definition-clause-all c = λ _ n node at is. absurd (c.has_definition.ensures c.if-not-has_definition.true n (subst (λ o. IsSomeAnd o (λ x. x.kind ≡ definition)) (sym at) is))
 
 pub returns-clause-all : goal.returns-clause-all
 returns-clause-all c = λ _.

@@ -1,16 +1,30 @@
 use Rattle.std.proofs.Common.{◌≡◌, ◌++◌, [], ◌+◌, ap, sym, subst, arith}
 use Rattle.std.specs.List.{flat_map, range_with_len}
+use Rattle.std.proofs.lemmas.List.{append-nil}
+use Rattle.wac_shapes.specs.Name.{Name}
+use Rattle.wac_edges.specs.declared.node.NodeId.{NodeId}
 use Rattle.wac_collection.specs.Collection.{Collection}
 use Rattle.wac_asking.specs.declared.asked.Asking.{Asking}
 use Rattle.wac_nodes.specs.Asked.{Entry}
 use Rattle.wac_nodes.specs.Entries.{with_used}
-use Rattle.wac_nodes.specs.Graph.{Graph}
+use Rattle.wac_nodes.specs.Graph.{Graph, IsImportOf}
+use Rattle.wac_asking.proofs.EntryLists.{stands_itself}
 use Rattle.wac_asking.specs.EntriesLeft.{entries_of, imported_at, all_imported_by, all_with_used, IsRight, IsHeldKind, AreSettled, AsksAlike}
 use Rattle.wac_nodes.specs.Sound.{IsSound}
 use Rattle.wac_writing.proofs.AskingWalk.{nothing_asked, number_asked, number_passed, one_number, asked_node, no_node, all_imported}
 use Rattle.wac_composition.specs.Inside.{fields_of}
+use Rattle.wac_composition.proofs.ConflictFreeLemmas.{no_import}
+use Rattle.wac_composition.proofs.WantedAskedLemmas.{none_imported}
 use Rattle.wac_composition.proofs.graph.CompositionGraph.ask_nodes.Goals as goal
 use Rattle.wac_composition.proofs.graph.CompositionGraph.ask_nodes.Goals.{in-Some+in_ok-ask, in_default}
+
+pub returns-then-is_empty-clause-stands : goal.returns-then-is_empty-clause-stands
+returns-then-is_empty-clause-stands c =
+    let g = c.args.self.now in
+    let old = entries_of c.args.asking.now in
+    let no = no_import (fields_of c.self.inside) c.self.invariant (c.is_empty.ensures.0 c.if-is_empty.true) in
+    let none = none_imported g (subst (λ h. (name : Name) (n : NodeId) → IsImportOf h name n → ⊥) c.self.view_is no) in
+    subst (λ es. AsksAlike g.types (old ++ all_with_used g.types es) old) (sym none) (subst (λ es. AsksAlike g.types es old) (sym (append-nil old)) (stands_itself g.types old))
 
 pub loop-node-init : goal.loop-node-init
 loop-node-init c = record { right = c.requires.right; settled = c.requires.settled; stands = nothing_asked c.args.self.now.types (imported_at c.args.self.now) (entries_of c.args.asking.now) }
