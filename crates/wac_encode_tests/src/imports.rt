@@ -2,7 +2,6 @@
 
 use crate::shapes::{defined, enumeration, function, interface, resource};
 use std::process::Abort;
-use std::test::Fail;
 use wac_binary::ComponentBuilder;
 use wac_collection::Types;
 use wac_encode::TypeEncoder;
@@ -33,7 +32,7 @@ const NAMES: &[u8] = &[
     0x00, 0x01, 0x6d, 0x03, 0x00, 0x03, // another, which equals the first
 ];
 
-const FUNCTIONS: [u8; 31] = [
+const FUNCTIONS: &[u8] = &[
     0x00, 0x61, 0x73, 0x6d, 0x0d, 0x00, 0x01, 0x00, // the preamble
     0x07, 0x08, 0x01, 0x40, 0x01, 0x01, 0x78, 0x7d, 0x01, 0x00, // a function type
     0x0a, 0x0b, 0x02, // two imports
@@ -41,7 +40,7 @@ const FUNCTIONS: [u8; 31] = [
     0x00, 0x01, 0x79, 0x01, 0x00, // another
 ];
 
-const INSTANCES: [u8; 46] = [
+const INSTANCES: &[u8] = &[
     0x00, 0x61, 0x73, 0x6d, 0x0d, 0x00, 0x01, 0x00, // the preamble
     0x07, 0x17, 0x01, 0x42, 0x03, // an instance type of three declarations
     0x01, 0x40, 0x01, 0x01, 0x78, 0x7d, 0x01, 0x00, // a function type
@@ -116,25 +115,24 @@ fn imports_names(rt: HostRuntime) {
 
 // A function type and an interface that are imported twice are written once, and so is a function type that an interface lists twice.
 #[test]
-fn imports_once(rt: HostRuntime) -> Result<(), Fail> {
+fn imports_once(rt: HostRuntime) {
     let alloc = rt.alloc();
     let mut types = Types::new(alloc);
     let byte = ValueType::Primitive(PrimitiveType::U8);
-    let f = types.add_func_type(FuncType::new(alloc, &[("x", byte)], None, false)?)?;
+    let f = function(
+        &rt,
+        &mut types,
+        FuncType::new(alloc, &[("x", byte)], None, false),
+    );
     let f = ItemKind::Func(f);
-    let bytes = imported(&types, &[("x", f), ("y", f)])?;
-    let Some(bytes) = bytes else {
-        return Err(Fail::new("not imported"));
-    };
-    assert!(rt; bytes.as_slice() == FUNCTIONS.as_slice());
-    let i = types.add_interface(Interface::new(alloc, None, &[("f", f), ("g", f)])?)?;
+    assert_imported(&rt, &types, &[("x", f), ("y", f)], FUNCTIONS);
+    let i = interface(
+        &rt,
+        &mut types,
+        Interface::new(alloc, None, &[("f", f), ("g", f)]),
+    );
     let i = ItemKind::Instance(i);
-    let bytes = imported(&types, &[("a", i), ("b", i)])?;
-    let Some(bytes) = bytes else {
-        return Err(Fail::new("not imported"));
-    };
-    assert!(rt; bytes.as_slice() == INSTANCES.as_slice());
-    Ok(())
+    assert_imported(&rt, &types, &[("a", i), ("b", i)], INSTANCES);
 }
 
 // What is not imported yet gives none; what can't be imported is refused.
