@@ -16,6 +16,7 @@ ghost use Rattle.wac_meaning.specs.Beginning.{Begins};
 ghost use Rattle.wac_meaning.specs.MergedImports.{merged_imports, IsFoundAt};
 ghost use Rattle.wac_meaning.specs.Encoding.{HasRoom, index_in};
 ghost use Rattle.wac_meaning.specs.Writing.{WritesNode, IsArgumentItem, AreArgumentItems, Wrote, WroteAll};
+ghost use Rattle.wac_writing.specs.Naming.{IsNamed};
 ghost use Rattle.wac_writing.specs.Places.{IsMergedFor, ArePlaced, AreFound};
 ghost use Rattle.std.specs.Result.{IsErrAnd};
 ghost use Rattle.wac_causes.specs.Cause.{AnswersFor, Cause, cause_of, HasMerge, HasNoConflict, Stands};
@@ -83,7 +84,7 @@ impl CompositionGraph {
         class_laws();
         order_law();
         self.law();
-        let order = self.ordered()?;
+        let (order, named) = self.ordered()?;
         self.check_conflicts()?;
         let (merge, entries) = self.merged()?;
         self.check_types(entries)?;
@@ -93,7 +94,7 @@ impl CompositionGraph {
         self.write_nodes(&mut encoder, &imports, &order)?;
         let (mut component, indexes) = encoder.finish();
         self.write_exports(&mut component, &indexes)?;
-        self.write_names(&mut component, &indexes)?;
+        self.write_names(&mut component, &indexes, named)?;
         write_processor(self.alloc, &mut component, options.processor)?;
         let bytes = component.into_bytes()?;
         self.check_names(&imports.merge, &order, options.validate)?;
@@ -129,14 +130,17 @@ impl CompositionGraph {
         }
     }
 
-    /// The nodes that are no imports, each the lowest of those that are left to which no edge leads from one that is left.
-    fn ordered(&self) -> Result<Vec<NodeId>, EncodeError>
-        ensures whole { IfOk result (λ ns. Writes self.now.edges (is_written self.now) ns.items) }
+    /// The nodes that are no imports, each the lowest of those that are left to which no edge leads from one that is left; and
+    /// whether any node has a name.
+    fn ordered(&self) -> Result<(Vec<NodeId>, bool), EncodeError>
+        ensures whole { IfOk result (λ r. Writes self.now.edges (is_written self.now) r.0.items) }
+        ensures named { IfOk result (λ r. r.1 ≡ false → (sort : ASort) (n : AnId) → IsNamed self.now sort n → ⊥) }
         ensures acyclic { OnOk result (IsAcyclic self.now.edges) }
         ensures refused { IfErr result (λ e. (o : Asked) → IsRefused self.now o e) }
     {
-        match order(self.alloc, &self.edges, self.to_write()?)? {
-            Some(order) => Ok(order),
+        let (left, named) = self.to_write()?;
+        match order(self.alloc, &self.edges, left)? {
+            Some(order) => Ok((order, named)),
             None => Err(self.cycle()?),
         }
     }
@@ -155,15 +159,18 @@ impl CompositionGraph {
         Ok(EncodeError::GraphContainsCycle { node: n })
     }
 
-    /// Which numbers are those of nodes that are no imports.
-    fn to_write(&self) -> Result<Vec<bool>, AllocError>
-        ensures { IfOk result (λ left. (n : AnId) → is_left left.items n ≡ is_written self.now n) }
+    /// Which numbers are those of nodes that are no imports, and whether any node has a name.
+    fn to_write(&self) -> Result<(Vec<bool>, bool), AllocError>
+        ensures left { IfOk result (λ r. (n : AnId) → is_left r.0.items n ≡ is_written self.now n) }
+        ensures named { IfOk result (λ r. r.1 ≡ false → (sort : ASort) (n : AnId) → IsNamed self.now sort n → ⊥) }
     {
         let mut left = Vec::new(self.alloc);
+        let mut named = false;
         for n in 0..self.nodes.capacity() {
             left.push(self.is_to_write(n))?;
+            named = named || self.has_name(n);
         }
-        Ok(left)
+        Ok((left, named))
     }
 
     /// Whether the number is that of a node that is no import.
@@ -400,12 +407,14 @@ impl CompositionGraph {
         &self,
         component: &mut ComponentBuilder,
         indexes: &[u32],
+        named: bool,
     ) -> Result<(), EncodeError>
-        requires { HasRoom self.now indexes.now }
+        requires room { HasRoom self.now indexes.now }
+        requires named { named ≡ false → (sort : ASort) (n : AnId) → IsNamed self.now sort n → ⊥ }
         ensures written { OnOk result ((names : List (ASort × ℕ × AName)) × AreNames self.now (index_in indexes.now) names × (component.new ≡ component.old ++ map custom_item (name_customs names))) }
         ensures fault { IfErr result (λ e. cause_of e ≡ None) }
     {
-        let names = self.index_names(indexes)?;
+        let names = self.index_names(indexes, named)?;
         if names.is_empty() {
             return Ok(());
         }

@@ -1,5 +1,5 @@
 //! The names of nodes, as names of the indexes at which these stand.
-ghost use Rattle.std.specs.Prelude.{◌≡◌, ◌↔◌, ◌≤◌, Some, IfOk, IsSome, IsSomeAnd, IsTrue};
+ghost use Rattle.std.specs.Prelude.{◌≡◌, ◌↔◌, ◌≤◌, false, Some, IfOk, IsSome, IsSomeAnd, IsTrue};
 ghost use Rattle.wac_binary.specs.declared.sorts.Sort.{Sort as ASort};
 ghost use Rattle.wac_edges.specs.declared.node.NodeId.{NodeId as AnId};
 ghost use Rattle.wac_edges.specs.Edge.{node_number};
@@ -19,11 +19,16 @@ use wac_nodes::NodeId;
 impl CompositionGraph {
     /// The names of the indexes at which named nodes stand, those of each sort by rising indexes. Of several nodes with one
     /// index the lowest named one gives the name.
-    pub(crate) fn index_names(&self, indexes: &[u32]) -> Result<Vec<(Sort, u32, &str)>, AllocError>
-        requires { HasRoom self.now indexes.now }
+    pub(crate) fn index_names(
+        &self,
+        indexes: &[u32],
+        named: bool,
+    ) -> Result<Vec<(Sort, u32, &str)>, AllocError>
+        requires room { HasRoom self.now indexes.now }
+        requires named { named ≡ false → (sort : ASort) (n : AnId) → IsNamed self.now sort n → ⊥ }
         ensures { IfOk result (λ names. AreNames self.now (index_in indexes.now) (names_of names.items)) }
     {
-        let end = self.names_end();
+        let end = self.names_end(named);
         let mut names = self.sort_names(indexes, end, Sort::Type)?;
         names.append(&mut self.sort_names(indexes, end, Sort::Func)?)?;
         names.append(&mut self.sort_names(indexes, end, Sort::Instance)?)?;
@@ -34,9 +39,13 @@ impl CompositionGraph {
     }
 
     /// A number below which all nodes are that have a name: zero where none has one.
-    fn names_end(&self) -> usize
+    fn names_end(&self, named: bool) -> usize
+        requires { named ≡ false → (sort : ASort) (n : AnId) → IsNamed self.now sort n → ⊥ }
         ensures { (sort : ASort) (n : AnId) → result ≤ n.0 → IsNamed self.now sort n → ⊥ }
     {
+        if !named {
+            return 0;
+        }
         for n in (0..self.nodes.capacity()).rev() {
             if self.has_name(n) {
                 return n + 1;
@@ -46,7 +55,7 @@ impl CompositionGraph {
     }
 
     /// Whether the node of this number is there and has a name.
-    fn has_name(&self, n: usize) -> bool
+    pub(crate) fn has_name(&self, n: usize) -> bool
         ensures { (sort : ASort) → IsNamed self.now sort (node_number n) → IsTrue result }
     {
         match self.nodes.get(n) {

@@ -102,8 +102,8 @@ pub write_exports-requires : goal.write_exports-requires
 write_exports-requires c = subst (HasRoom c.args.self.now) (sym (c.deref-2.ensures.value ∙ ap (λ v. v.items) c.finish-component.ensures.indexes))
     (room_kept c.args.self.now c.in_ok-indexes.indexes.items c.write_nodes.new.encoder.indexes.items (c.in_ok-write_nodes.ensures.kept ∙ ap (λ v. length v.items) c.new-encoder.ensures.indexes) c.in_ok-indexes.ensures.room)
 
-pub write_names-requires : goal.write_names-requires
-write_names-requires c = subst (HasRoom c.args.self.now) (sym (c.deref-3.ensures.value ∙ ap (λ v. v.items) c.finish-component.ensures.indexes))
+pub write_names-requires-clause-room : goal.write_names-requires-clause-room
+write_names-requires-clause-room c = subst (HasRoom c.args.self.now) (sym (c.deref-3.ensures.value ∙ ap (λ v. v.items) c.finish-component.ensures.indexes))
     (room_kept c.args.self.now c.in_ok-indexes.indexes.items c.write_nodes.new.encoder.indexes.items (c.in_ok-write_nodes.ensures.kept ∙ ap (λ v. length v.items) c.new-encoder.ensures.indexes) c.in_ok-indexes.ensures.room)
 
 pub returns-clause-means : goal.returns-clause-means
