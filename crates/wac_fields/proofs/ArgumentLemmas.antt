@@ -1,10 +1,10 @@
 -- Steps of `set_instantiation_argument`.
-use Rattle.std.proofs.Common.{arith, ◌≡◌, ℕ, ◌<◌, length, Bool, true, false, not, ◌||◌, ◌&&◌, ap, ◌∙◌, sym, refl, subst, Option, Some, None, IfSome, IsSome, IsSomeAnd, Ok, Err, String, Global, string_bytes, [], Result}
+use Rattle.std.proofs.Common.{arith, ◌≡◌, ℕ, ◌<◌, length, Bool, true, false, ap, ◌∙◌, sym, refl, subst, Option, Some, None, IfSome, IsSome, IsSomeAnd, Ok, Err, String, Global, string_bytes, [], Result}
 use Rattle.std.specs.Prelude.{slice_get, nat_lt}
 use Rattle.std.specs.Result.{IsErrAnd}
 use Rattle.std.specs.Option.{option_map}
 use Rattle.std.specs.FinSet as set
-use Rattle.std.specs.Ordering.{nat_cmp, eq_by_cmp}
+use Rattle.std.specs.Ordering.{nat_cmp}
 use Rattle.std.specs.BTreeSet as positions
 use Rattle.std.specs.BTreeSet.{BTreeSet}
 use Rattle.std.proofs.lemmas.Bool.Decides.{nat_tests}
@@ -23,7 +23,6 @@ use Rattle.wac_edges.specs.declared.node.NodeId.{NodeId}
 use Rattle.wac_nodes.specs.declared.node.NodeKind.{NodeKind}
 use Rattle.wac_nodes.specs.declared.node.NodeKind.TheVariants as code
 use Rattle.wac_nodes.specs.declared.packages.PackageId.{PackageId}
-use Rattle.wac_edges.specs.declared.edges.Edge.{Edge}
 use Rattle.wac_nodes.specs.declared.errors.InstantiationArgumentError.{InstantiationArgumentError}
 use Rattle.wac_nodes.specs.declared.errors.InstantiationArgumentError.TheVariants.{NodeIsNotAnInstantiation, InvalidArgumentName, ArgumentAlreadyPassed, ArgumentTypeMismatch, OutOfMemory}
 use Rattle.wac_edges.specs.Edge.{edge_cmp, argument_edge}
@@ -33,7 +32,6 @@ use Rattle.wac_nodes.specs.Graph.{Graph, GraphNode, node_at, package_at, package
 use Rattle.wac_nodes.specs.Nodes.{node_of, kind_of, satisfied, satisfied_at, IsInstantiationAt}
 use Rattle.wac_fields.specs.Fields.{Fields, graph_of, Invariant}
 use Rattle.wac_nodes.specs.Steps.{SetsArgument, SetsOn, UnsetsArgument, UnsetsOn, import_named}
-use Rattle.wac_edges.proofs.EdgeLemmas.{edge_cmp_total, exact_edges, edge_cmp-IsAntisymmetric}
 use Rattle.wac_nodes.proofs.NodeLemmas.{get-nodes_of, nodes_of-same}
 use Rattle.wac_nodes.proofs.HeldLemmas.{imports_held}
 use Rattle.wac_nodes.proofs.JoinLemmas.{imports_of_package}
@@ -71,16 +69,6 @@ not_instantiation a id argument n name had not_one = sets_at a id argument n nam
 
 pub not_instantiation_unset : (a : Fields) (id argument : NodeId) (n : Node) (name : Name) → get a.nodes id.0 ≡ Some n → ((s : BTreeSet ℕ) → n.kind ≡ code.Instantiation s → ⊥) → UnsetsArgument (graph_of a) id name argument (Err (NodeIsNotAnInstantiation id)) (graph_of a)
 not_instantiation_unset a id argument n name had not_one = unsets_at a id argument n name (Err (NodeIsNotAnInstantiation id)) (graph_of a) had (refl, refl, no_instantiation n.kind not_one)
-
--- adding an edge that isn't there and removing it
-pub taken_back : (s : set.FinSet edge_cmp) (e : Edge) → set.contains s e ≡ false → set.remove (set.insert s e) e ≡ s
-taken_back s e absent = set.same_set edge_cmp_total edge_cmp-IsAntisymmetric (set.remove (set.insert s e) e) s (λ q.
-    set.contains-remove edge_cmp_total (set.insert s e) e q
-    ∙ ap (λ b. not (eq_by_cmp edge_cmp q e) && b) (set.contains-insert edge_cmp_total s e q)
-    ∙ at q (eq_by_cmp edge_cmp q e) refl) where
-      at : (q : Edge) (b : Bool) → eq_by_cmp edge_cmp q e ≡ b → (not b && (b || set.contains s q)) ≡ set.contains s q
-      at q true is = sym (ap (λ x. set.contains s x) (exact_edges q e is) ∙ absent)
-      at q false is = refl
 
 item_at_node : (a : Fields) (argument : NodeId) (m : Node) → get a.nodes argument.0 ≡ Some m → (g : GraphNode) → node_at (graph_of a) argument ≡ Some g → m.item_kind ≡ g.item_kind
 item_at_node a argument m given g at = let e : Some (node_of m) ≡ Some g = sym (get-nodes_of a.nodes.slots argument.0 ∙ ap (option_map node_of) given) ∙ at in let f : node_of m ≡ g = cc in ap (λ x. x.item_kind) f

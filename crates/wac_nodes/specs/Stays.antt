@@ -1,5 +1,5 @@
 -- What calls leave in a graph: what was there stays, and the alias and the argument that a call adds are there.
-use Rattle.std.specs.Prelude.{◌≡◌, ℕ, Some, true}
+use Rattle.std.specs.Prelude.{◌≡◌, ◌⊎◌, ℕ, Some, true, Result, Ok, Err}
 use Rattle.std.specs.FinSet as set
 use Rattle.wac_shapes.specs.Name.{Name}
 use Rattle.wac_collection.specs.Collection.{item_at}
@@ -28,3 +28,7 @@ IsAliasBy g instance name node = (n : GraphNode) × (e : ℕ × ItemKind) × (no
 -- the node is the argument for an instantiation's import of this name
 abbrev pub IsArgumentBy : Graph → NodeId → Name → NodeId → Type 0
 IsArgumentBy g consumer name node = (n : GraphNode) × (e : ℕ × ItemKind) × (node_at g consumer ≡ Some n) × (import_named g n name ≡ Some e) × IsArgumentOf g consumer e.0 node
+
+-- nothing changes, and the answer is this one, but for want of memory
+abbrev pub GivesAgain : {X E : Type 0} → Graph → X → E → Result X E → Graph → Type 0
+GivesAgain old x lack r new = (new ≡ old) × ((r ≡ Ok x) ⊎ (r ≡ Err lack))

@@ -19,12 +19,17 @@ ghost use Rattle.wac_shapes.specs.declared.component.ModuleTypeId.{ModuleTypeId}
 ghost use Rattle.wac_shapes.specs.declared.component.ItemKind.{ItemKind};
 ghost use Rattle.wac_shapes.specs.declared.component.«Type».{«Type» as AnyType};
 ghost use Rattle.wac_nodes.specs.declared.errors.RegisterPackageError.{RegisterPackageError};
+ghost use Rattle.wac_nodes.specs.declared.errors.AliasError.{AliasError};
+ghost use Rattle.wac_nodes.specs.declared.errors.AliasError.TheVariants as alias_error;
+ghost use Rattle.wac_nodes.specs.declared.errors.InstantiationArgumentError.{InstantiationArgumentError};
+ghost use Rattle.wac_nodes.specs.declared.errors.InstantiationArgumentError.TheVariants as argument_error;
 ghost use Rattle.wac_edges.specs.declared.node.NodeId.{NodeId};
 ghost use Rattle.wac_nodes.specs.declared.packages.PackageId.{PackageId};
 ghost use Rattle.wac_nodes.specs.Graph.{Graph, GraphNode, node_at, package_at};
 ghost use Rattle.wac_nodes.specs.Definitions.{definition_node};
-ghost use Rattle.wac_nodes.specs.Steps.{Adds, Registers, Defines, Imports, import_node, Instantiates, instance_node, Aliases, SetsArgument};
-ghost use Rattle.wac_nodes.specs.Stays.{Stays, IsAliasBy, IsArgumentBy};
+ghost use Rattle.wac_nodes.specs.Sound.{IsSound};
+ghost use Rattle.wac_nodes.specs.Steps.{Adds, Registers, Defines, Imports, import_node, Instantiates, instance_node, Aliases, SetsArgument, UnsetsArgument};
+ghost use Rattle.wac_nodes.specs.Stays.{Stays, IsAliasBy, IsArgumentBy, GivesAgain};
 
 /// What was in a graph is in it still after each call that adds types, packages, definitions, imports, instances, aliases or arguments,
 /// and the node, the alias or the argument that the call adds is there.
@@ -47,4 +52,12 @@ pub fn stays_law()
     ensures instantiated { (old new : Graph) (id : PackageId) (p : PackageParts) (n : NodeId) → package_at old id ≡ Some p → Instantiates old id (Ok n) new → (node_at new n ≡ Some (instance_node id p)) × Stays old new }
     ensures aliased { (old new : Graph) (instance : NodeId) (source : GraphNode) (name : AName) (alias : NodeId) → node_at old instance ≡ Some source → Aliases old instance name (Ok alias) new → IsAliasBy new instance name alias × Stays old new }
     ensures given { (old new : Graph) (consumer : NodeId) (node : GraphNode) (name : AName) (argument : NodeId) (given : GraphNode) → node_at old consumer ≡ Some node → node_at old argument ≡ Some given → SetsArgument old consumer name argument (Ok tt) new → IsArgumentBy new consumer name argument × Stays old new }
+{}
+
+/// What is asked for once more gives what stands: the second alias of an export is the first one, and an argument that is set again
+/// changes nothing; neither is refused, but for want of memory. An argument that is set anew and then unset leaves the graph as it was.
+pub fn again_law()
+    ensures alias { (old mid new : Graph) (instance : NodeId) (source : GraphNode) (name : AName) (first : NodeId) (r : AResult NodeId AliasError) → IsSound mid → node_at old instance ≡ Some source → Aliases old instance name (Ok first) mid → Aliases mid instance name r new → GivesAgain mid first alias_error.OutOfMemory r new }
+    ensures argument { (old mid new : Graph) (consumer : NodeId) (node : GraphNode) (name : AName) (argument : NodeId) (given : GraphNode) (r : AResult (Unit {0}) InstantiationArgumentError) → node_at old consumer ≡ Some node → node_at old argument ≡ Some given → SetsArgument old consumer name argument (Ok tt) mid → SetsArgument mid consumer name argument r new → GivesAgain mid tt argument_error.OutOfMemory r new }
+    ensures unset { (old mid new : Graph) (consumer : NodeId) (node : GraphNode) (name : AName) (argument : NodeId) (given : GraphNode) → node_at old consumer ≡ Some node → node_at old argument ≡ Some given → SetsArgument old consumer name argument (Ok tt) mid → (mid ≡ old → ⊥) → UnsetsArgument mid consumer name argument (Ok tt) new → new ≡ old }
 {}

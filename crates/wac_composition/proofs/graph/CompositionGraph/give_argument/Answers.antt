@@ -2,7 +2,8 @@ use Rattle.std.proofs.Common.{ap, ◌∙◌}
 use Rattle.std.specs.FinSet as set
 use Rattle.wac_edges.specs.Edge.{argument_edge}
 use Rattle.wac_fields.proofs.InvariantLemmas.{invariant_argument, invariant_back}
-use Rattle.wac_fields.proofs.ArgumentLemmas.{is_instantiation, given_instantiation, unset_edge, taken_back, same_graph}
+use Rattle.wac_fields.proofs.ArgumentLemmas.{is_instantiation, given_instantiation, unset_edge, same_graph}
+use Rattle.wac_nodes.proofs.AgainLemmas.{taken_back}
 use Rattle.wac_fields.specs.Fields.{graph_of}
 use Rattle.wac_composition.specs.Inside.{fields_of}
 use Rattle.wac_composition.proofs.graph.CompositionGraph.give_argument.Goals as goal
