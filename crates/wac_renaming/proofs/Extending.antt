@@ -25,8 +25,9 @@ use Rattle.wac_subtyping.specs.TreeLaws.{GrowthKeepsTrees, IsKeptBy}
 use Rattle.wac_terms.specs.Became.{AreFresh, IsNew, became}
 use Rattle.wac_entries.specs.Bindings.{ClassBindings}
 use Rattle.wac_terms.specs.Renaming.{AreEnds, IsExtended, IsRenamed}
-use Rattle.wac_renaming.specs.Made.{AreMade, IsFuncMadeOf}
+use Rattle.wac_renaming.specs.Made.{AreMade, IsFuncMadeOf, IsOfForm}
 use Rattle.wac_renaming.specs.Shapes.{shape_view}
+use Rattle.wac_renaming.specs.declared.made.FuncForm.{FuncForm}
 use Rattle.wac_renaming.specs.declared.made.Made.{Made}
 use Rattle.wac_renaming.specs.RenamedTypes.{AreRenamed, CanRename, CanRenameAll, becomes}
 use Rattle.wac_terms.specs.Writing.{IsAliasOf}
@@ -286,7 +287,12 @@ module _ (m more : Collection) (x : IsExtended m more) where
   still_made made are = record {
     there = λ f e is. kept_item m.defined more.defined x.kept.defined e.0 (shape_view f.shape) (are.there f e is);
     apart = are.apart;
-  }
+    funcs = λ k g is. still_of_form k g (are.funcs k g is);
+  } where
+    still_of_form : (k : FuncForm) (g : FuncTypeId) → IsOfForm m k g → IsOfForm more k g
+    still_of_form k g of =
+        let (b, at, alike) = of.alike in
+        record { after = of.after; is = kept_item m.funcs more.funcs x.kept.funcs g.0 of.after of.is; alike = (b, kept_item m.funcs more.funcs x.kept.funcs k.func.0 b at, alike); params = of.params; result = of.result }
 
   pub still_all_renamed : (s : Renaming) (memo : Renamed) → AreRenamed m s memo → AreRenamed more s memo
   still_all_renamed s memo r = record {
@@ -297,7 +303,7 @@ module _ (m more : Collection) (x : IsExtended m more) where
     once_funcs = λ f g is. still_made_func f g (r.once_funcs f g is);
   } where
     still_made_func : (f g : FuncTypeId) → IsFuncMadeOf s.types.now m s.became.now.named.now memo.made f g → IsFuncMadeOf s.types.now more s.became.now.named.now memo.made f g
-    still_made_func f g h = record { before = h.before; after = h.after; is = h.is; became = kept_item m.funcs more.funcs x.kept.funcs g.0 h.after h.became; values = h.values }
+    still_made_func f g h = record { before = h.before; after = h.after; is = h.is; became = kept_item m.funcs more.funcs x.kept.funcs g.0 h.after h.became; values = h.values; once = h.once }
 
   pub still_alias : (n : Name) (q a : ResourceId) → IsAliasOf m n q a → IsAliasOf more n q a
   still_alias n q a r = record { there = still_resource m more x a r.there; is = same_resource m more x a r.there ∙ r.is }

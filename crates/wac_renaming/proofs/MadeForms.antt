@@ -1,9 +1,9 @@
--- `==` tells keys of definitions apart by what they stand for, and what one more definition leaves.
+-- `==` tells keys of definitions and of function types apart by what they stand for, and what one more of them leaves.
 use Rattle.std.proofs.Common.{◌≡◌, Bool, true, false, cond, ◌&&◌, ℕ, ◌+◌, nat_eq, List, [], ◌∷◌, ◌++◌, map, take, Option, Some, None, refl, ap, sym, ◌∙◌, subst, eq-eqb, rules, add-one, ◌⊎◌, inl, inr}
 use Rattle.std.proofs.lemmas.Bool.{cases_Bool, eqb-true}
 use Rattle.std.proofs.lemmas.List.{map-append}
 use Rattle.std.specs.Cmp.Lexicographic.{pointwise, pointwise_decides}
-use Rattle.std.specs.HashMap.{get_by}
+use Rattle.std.specs.HashMap.{get, get_by}
 use Rattle.std.specs.Option.{option_eq}
 use Rattle.std.specs.Prelude.{slice_get, string_bytes}
 use denote.Enum.Bare.{same_true, true_same}
@@ -13,19 +13,23 @@ use Rattle.wac_shapes.specs.contracts.component.ValueTypePartialEq.TheImpl as Va
 use Rattle.wac_shapes.specs.declared.component.DefinedType.{DefinedType}
 use Rattle.wac_shapes.specs.declared.component.DefinedType.TheVariants as def
 use Rattle.wac_shapes.specs.declared.component.DefinedTypeId.{DefinedTypeId}
+use Rattle.wac_shapes.specs.declared.component.FuncType.{FuncType}
+use Rattle.wac_shapes.specs.declared.component.FuncTypeId.{FuncTypeId}
 use Rattle.wac_shapes.specs.declared.component.ValueType.{ValueType}
 use Rattle.wac_shapes.specs.declared.component.ValueType.TheVariants as val
 use Rattle.wac_shapes.proofs.Names.{take_at}
-use Rattle.wac_collection.specs.Collection.{Collection, item_at}
+use Rattle.wac_collection.specs.Collection.{Collection, item_at, seconds}
 use Rattle.wac_entries.proofs.Telling.{Tells, both, and_true, list_itself, list_same, Text, text_eq, text_tells}
 use Rattle.wac_entries.proofs.TaskOpenings.{labels_take}
 use Rattle.wac_renaming.specs.contracts.made.FormPartialEq.TheImpl as FormEq
+use Rattle.wac_renaming.specs.contracts.made.FuncFormPartialEq.TheImpl as FuncFormEq
 use Rattle.wac_renaming.specs.contracts.shapes.ShapePartialEq.TheImpl as ShapeEq
 use Rattle.wac_renaming.specs.declared.made.Form.{Form}
+use Rattle.wac_renaming.specs.declared.made.FuncForm.{FuncForm}
 use Rattle.wac_renaming.specs.declared.made.Made.{Made}
 use Rattle.wac_renaming.specs.declared.shapes.Shape.{Shape}
 use Rattle.wac_renaming.specs.declared.shapes.Shape.TheVariants as shape
-use Rattle.wac_renaming.specs.Made.{AreMade, HasMadeToo, made_in}
+use Rattle.wac_renaming.specs.Made.{AreCalledAlike, AreMade, HasMadeFuncToo, HasMadeToo, IsCalledAlike, IsOfForm, StayMade, form, func_form, func_made_in, made_in}
 use Rattle.wac_renaming.specs.Shapes.{pairs, shape_view}
 
 abbrev value_eq : ValueType → ValueType → Bool
@@ -168,8 +172,8 @@ module _ (m : Collection) (old new : Made) (f : Form) (id : DefinedTypeId) (put 
   -- what is looked up is the new one, or was there
   looked_up : (k : Form) (e : DefinedTypeId) → made_in new k ≡ Some e → ((f.named ≡ k.named) × (shape_view f.shape ≡ shape_view k.shape) × (id ≡ e)) ⊎ (made_in old k ≡ Some e)
   looked_up k e is = elim (cases_Bool ((FormEq.ghosts).eq f k)) [
-    | inl same ↦ let (p, q) = form_there f k same in inl (p, q, one_some id e (sym (put k ∙ ap (λ b. cond b (Some id) (made_in old k)) same) ∙ is))
-    | inr other ↦ inr (sym (put k ∙ ap (λ b. cond b (Some id) (made_in old k)) other) ∙ is)
+    | inl same ↦ let (p, q) = form_there f k same in inl (p, q, one_some id e (sym (put.ids k ∙ ap (λ b. cond b (Some id) (made_in old k)) same) ∙ is))
+    | inr other ↦ inr (sym (put.ids k ∙ ap (λ b. cond b (Some id) (made_in old k)) other) ∙ is)
   ]
 
   is_there : (k : Form) (e : DefinedTypeId) → made_in new k ≡ Some e → item_at m.defined e.0 ≡ Some (shape_view k.shape)
@@ -191,14 +195,94 @@ module _ (m : Collection) (old new : Made) (f : Form) (id : DefinedTypeId) (put 
   ]
 
   pub made_too : AreMade m new
-  made_too = record { there = is_there; apart = is_apart }
+  made_too = record { there = is_there; apart = is_apart; funcs = λ k g is. are.funcs k g (ap (λ fs. get (FuncFormEq.ghosts).eq fs k) (sym put.funcs) ∙ is) }
 
 module _ (old new : Made) (f : Form) (id : DefinedTypeId) (put : HasMadeToo old f id new) where
   pub put_there : (k : Form) → k.named ≡ f.named → shape_view k.shape ≡ shape_view f.shape → made_in new k ≡ Some id
-  put_there k n v = put k ∙ ap (λ b. cond b (Some id) (made_in old k)) (form_itself f k (sym n) (sym v))
+  put_there k n v = put.ids k ∙ ap (λ b. cond b (Some id) (made_in old k)) (form_itself f k (sym n) (sym v))
 
-  pub put_stays : ((e : DefinedTypeId) → made_in old f ≡ Some e → ⊥) → (k : Form) (e : DefinedTypeId) → made_in old k ≡ Some e → made_in new k ≡ Some e
-  put_stays free k e is = elim (cases_Bool ((FormEq.ghosts).eq f k)) [
+  put_stays_defined : ((e : DefinedTypeId) → made_in old f ≡ Some e → ⊥) → (k : Form) (e : DefinedTypeId) → made_in old k ≡ Some e → made_in new k ≡ Some e
+  put_stays_defined free k e is = elim (cases_Bool ((FormEq.ghosts).eq f k)) [
     | inl same ↦ let (p, q) = form_there f k same in absurd (free e (made_alike old f k p q ∙ is))
-    | inr other ↦ put k ∙ ap (λ b. cond b (Some id) (made_in old k)) other ∙ is
+    | inr other ↦ put.ids k ∙ ap (λ b. cond b (Some id) (made_in old k)) other ∙ is
+  ]
+
+  pub put_stays : ((e : DefinedTypeId) → made_in old f ≡ Some e → ⊥) → StayMade old new
+  put_stays free (form k) n is = put_stays_defined free k (record { 0 = n }) is
+  put_stays free (func_form k) n is = ap (λ fs. get (FuncFormEq.ghosts).eq fs k) put.funcs ∙ is
+
+-- ---- function types
+func_form_there : (a b : FuncForm) → (FuncFormEq.ghosts).eq a b ≡ true → (a.func ≡ b.func) × (a.params.items ≡ b.params.items) × (a.result ≡ b.result)
+func_form_there a b e =
+    let (p, rest) = both (nat_eq a.func.0 b.func.0) (pointwise value_eq a.params.items b.params.items && option_eq value_eq a.result b.result) e in
+    let (q, r) = both (pointwise value_eq a.params.items b.params.items) (option_eq value_eq a.result b.result) rest in
+    (rw (eqb-true a.func.0 b.func.0 p) refl, (pointwise_decides value_tells a.params.items b.params.items).0 q, (optional_tells a.result b.result).0 r)
+
+func_form_itself : (a b : FuncForm) → a.func ≡ b.func → a.params.items ≡ b.params.items → a.result ≡ b.result → (FuncFormEq.ghosts).eq a b ≡ true
+func_form_itself a b f v r =
+    and_true (nat_eq a.func.0 b.func.0) (pointwise value_eq a.params.items b.params.items && option_eq value_eq a.result b.result) (eq-eqb a.func.0 b.func.0 (ap (λ (x : FuncTypeId). x.0) f))
+    (and_true (pointwise value_eq a.params.items b.params.items) (option_eq value_eq a.result b.result) ((pointwise_decides value_tells a.params.items b.params.items).1 v) ((optional_tells a.result b.result).1 r))
+
+func_alike : (a b : FuncForm) → a.func ≡ b.func → a.params.items ≡ b.params.items → a.result ≡ b.result → (k : FuncForm) → (FuncFormEq.ghosts).eq a k ≡ (FuncFormEq.ghosts).eq b k
+func_alike a b f v r k =
+    bool_same ((FuncFormEq.ghosts).eq a k) ((FuncFormEq.ghosts).eq b k) (λ e. let (p, q, s) = func_form_there a k e in func_form_itself b k (sym f ∙ p) (sym v ∙ q) (sym r ∙ s))
+    (λ e. let (p, q, s) = func_form_there b k e in func_form_itself a k (f ∙ p) (v ∙ q) (r ∙ s))
+
+-- a function type that became the same twice has one id
+pub func_made_alike : (made : Made) (a b : FuncForm) → a.func ≡ b.func → a.params.items ≡ b.params.items → a.result ≡ b.result → func_made_in made a ≡ func_made_in made b
+func_made_alike made a b f v r = λ i. get_by (λ k. func_alike a b f v r k i) made.funcs
+
+-- names and values tell fields apart
+same_fields : {V : Type 0} (es fs : List (Name × V)) → map (λ e. e.0) es ≡ map (λ e. e.0) fs → seconds es ≡ seconds fs → es ≡ fs
+same_fields [] [] n v = refl
+same_fields [] (f ∷ fs) n v = cc n
+same_fields (e ∷ es) [] n v = cc n
+same_fields (e ∷ es) (f ∷ fs) n v =
+    let first : e.0 ≡ f.0 = cc n in
+    let second : e.1 ≡ f.1 = cc v in
+    let names : map (λ x. x.0) es ≡ map (λ x. x.0) fs = cc n in
+    let values : seconds es ≡ seconds fs = cc v in
+    let rest = same_fields es fs names values in
+    (λ i. (first i, second i) ∷ rest i)
+
+-- function types that are called as a third, with the same parameters and the same result, are one
+same_func_type : (b x y : FuncType) → AreCalledAlike b x → AreCalledAlike b y → seconds x.params ≡ seconds y.params → x.result ≡ y.result → x ≡ y
+same_func_type b x y p q e result =
+    let params = same_fields x.params y.params (p.1 ∙ sym q.1) e in
+    let async = p.0 ∙ sym q.0 in
+    (λ i. record { params = params i; result = result i; is_async = async i })
+
+-- a function type of a form is any that is called as that one, with the same parameters and the same result
+pub is_of_form : (m : Collection) (k : FuncForm) (g : FuncTypeId) (y : FuncType) → IsOfForm m k g → IsCalledAlike m k.func y → k.params.items ≡ seconds y.params → k.result ≡ y.result → item_at m.funcs g.0 ≡ Some y
+is_of_form m k g y of (b, at, alike) v r =
+    let (a, at_a, alike_a) = of.alike in
+    let same : a ≡ b = one_some a b (sym at_a ∙ at) in
+    of.is ∙ ap Some (same_func_type b of.after y (subst (λ (z : FuncType). AreCalledAlike z of.after) same alike_a) alike (of.params ∙ v) (of.result ∙ r))
+
+module _ (m : Collection) (old new : Made) (f : FuncForm) (id : FuncTypeId) (put : HasMadeFuncToo old f id new) where
+  of_form_alike : (k : FuncForm) → f.func ≡ k.func → f.params.items ≡ k.params.items → f.result ≡ k.result → IsOfForm m f id → IsOfForm m k id
+  of_form_alike k p q r of = record { after = of.after; is = of.is; alike = subst (λ (x : FuncTypeId). IsCalledAlike m x of.after) p of.alike; params = of.params ∙ q; result = of.result ∙ r }
+
+  of_form : AreMade m old → IsOfForm m f id → (k : FuncForm) (g : FuncTypeId) → func_made_in new k ≡ Some g → IsOfForm m k g
+  of_form are of k g is = elim (cases_Bool ((FuncFormEq.ghosts).eq f k)) [
+    | inl same ↦ let (p, q, r) = func_form_there f k same in subst (λ (x : FuncTypeId). IsOfForm m k x) (one_some id g (sym (put.funcs k ∙ ap (λ b. cond b (Some id) (func_made_in old k)) same) ∙ is)) (of_form_alike k p q r of)
+    | inr other ↦ are.funcs k g (sym (put.funcs k ∙ ap (λ b. cond b (Some id) (func_made_in old k)) other) ∙ is)
+  ]
+
+  -- with one more function type
+  pub func_made_too : AreMade m old → IsOfForm m f id → AreMade m new
+  func_made_too are of = record {
+    there = λ k e is. are.there k e (ap (λ fs. get (FormEq.ghosts).eq fs k) (sym put.ids) ∙ is);
+    apart = λ g k e p q. are.apart g k e (ap (λ fs. get (FormEq.ghosts).eq fs g) (sym put.ids) ∙ p) (ap (λ fs. get (FormEq.ghosts).eq fs k) (sym put.ids) ∙ q);
+    funcs = of_form are of;
+  }
+
+  pub func_there : func_made_in new f ≡ Some id
+  func_there = put.funcs f ∙ ap (λ b. cond b (Some id) (func_made_in old f)) (func_form_itself f f refl refl refl)
+
+  pub func_put_stays : ((g : FuncTypeId) → func_made_in old f ≡ Some g → ⊥) → StayMade old new
+  func_put_stays free (form k) n is = ap (λ fs. get (FormEq.ghosts).eq fs k) put.ids ∙ is
+  func_put_stays free (func_form k) n is = elim (cases_Bool ((FuncFormEq.ghosts).eq f k)) [
+    | inl same ↦ let (p, q, r) = func_form_there f k same in absurd (free (record { 0 = n }) (func_made_alike old f k p q r ∙ is))
+    | inr other ↦ put.funcs k ∙ ap (λ b. cond b (Some id) (func_made_in old k)) other ∙ is
   ]

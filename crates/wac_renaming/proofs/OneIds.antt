@@ -1,5 +1,5 @@
 -- What was made for the named types that value types are, and what stays of it.
-use Rattle.std.proofs.Common.{◌≡◌, ℕ, zero, suc, List, [], ◌∷◌, Option, Some, None, refl, sym, subst}
+use Rattle.std.proofs.Common.{◌≡◌, ℕ, zero, suc, List, [], ◌∷◌, map, Option, Some, None, refl, sym, subst}
 use Rattle.std.specs.Prelude.{slice_get}
 use Rattle.std.specs.List.{AllZip}
 use Rattle.wac_shapes.specs.Name.{Name}
@@ -16,7 +16,7 @@ use Rattle.wac_shapes.specs.declared.component.ValueType.TheVariants as val
 use Rattle.wac_shapes.specs.declared.component.«Type».TheVariants as ty
 use Rattle.wac_values.specs.declared.named.NamedTypes.{NamedTypes}
 use Rattle.wac_terms.specs.Renaming.{IsExtended}
-use Rattle.wac_renaming.specs.Made.{IsFuncMadeOf, IsKindMadeOf, IsMadeFor, IsMadeOf, StayMade, alias, anew, other_name, plain}
+use Rattle.wac_renaming.specs.Made.{IsFuncMadeFor, IsFuncMadeOf, IsKindMadeOf, IsMadeFor, IsMadeOf, StayMade, alias, anew, form, func_form, other_name, plain}
 use Rattle.wac_renaming.specs.RenamingSteps.{CasesGoTogether, FieldsGoTogether, GoTogether, HaveOneShape, IsRenamedIn, aliases, enums, fixed_lists, flags, futures, lists, options, records, results, streams, tuples, variants}
 use Rattle.wac_renaming.specs.declared.made.Made.{Made}
 use Rattle.wac_renaming.specs.declared.renamer.Renaming.{Renaming}
@@ -71,6 +71,12 @@ module _ (R : ValueType → ValueType → Type 0) where
   pub shape_pairs : (d e : DefinedType) → HaveOneShape R d e → (i : ℕ) (a b : ValueType) → slice_get (defined_values d) i ≡ Some a → slice_get (defined_values e) i ≡ Some b → R a b
   shape_pairs d e h = pair_at (defined_values d) (defined_values e) (shape_beside d e h)
 
+  pub names_beside : (es fs : List (Name × ValueType)) → FieldsGoTogether R es fs → map (λ e. e.0) fs ≡ map (λ e. e.0) es
+  names_beside [] [] h = refl
+  names_beside [] (f ∷ fs) h = absurd h
+  names_beside (e ∷ es) [] h = absurd h
+  names_beside (e ∷ es) (f ∷ fs) h = let a = h.0.0 in let b = names_beside es fs h.1 in (λ i. a i ∷ b i)
+
   pub func_pairs : (x y : FuncType) → FieldsGoTogether R x.params y.params → GoTogether R x.result y.result → (i : ℕ) (a b : ValueType) → slice_get (func_values x) i ≡ Some a → slice_get (func_values y) i ≡ Some b → R a b
   func_pairs x y h g = pair_at (func_values x) (func_values y) (maybe_beside x.result y.result (seconds x.params) (seconds y.params) g (fields_beside x.params y.params h))
 
@@ -80,7 +86,10 @@ stay_twice a b c g h f e is = h f e (g f e is)
 
 module _ (c : Collection) (t : NamedTypes) (old new : Made) (stay : StayMade old new) where
   still_for : (n : Option DefinedTypeId) (x : DefinedType) (e : DefinedTypeId) → IsMadeFor old n x e → IsMadeFor new n x e
-  still_for n x e (f, p, q, is) = (f, p, q, stay f e is)
+  still_for n x e (f, p, q, is) = (f, p, q, stay (form f) e.0 is)
+
+  pub still_func_for : (f : FuncTypeId) (x : FuncType) (g : FuncTypeId) → IsFuncMadeFor old f x g → IsFuncMadeFor new f x g
+  still_func_for f x g (k, p, q, r, is) = (k, p, q, r, stay (func_form k) g.0 is)
 
   pub still_of : (v w : ValueType) → IsMadeOf c t old v w → IsMadeOf c t new v w
   still_of v w (plain _ _ none) = plain v w none
@@ -95,6 +104,7 @@ module _ (c : Collection) (t : NamedTypes) (old new : Made) (stay : StayMade old
       is = r.is;
       became = kept_item m.funcs more.funcs x.kept.funcs g.0 r.after r.became;
       values = λ i a b p q. still_of a b (r.values i a b p q);
+      once = still_func_for f r.after g r.once;
     }
 
     pub still_kind_of : (k l : ItemKind) → IsKindMadeOf c m t old k l → IsKindMadeOf c more t new k l
@@ -110,14 +120,15 @@ module _ (c : Collection) (t : NamedTypes) (old new : Made) (stay : StayMade old
     still_kind_of k l h = tt
 
 -- what a function type mentions was made where its parameters and its result were
-pub func_once : (s : Renaming) (m more : Collection) (made : Made) (f g : FuncTypeId) (x y : FuncType) → item_at s.types.now.funcs f.0 ≡ Some x → item_at more.funcs g.0 ≡ Some y → FieldsGoTogether (IsRenamedIn s m made) x.params y.params → GoTogether (IsRenamedIn s m made) x.result y.result
-    → IsFuncMadeOf s.types.now more s.became.now.named.now made f g
-func_once s m more made f g x y at there fields result = record {
+pub func_once : (s : Renaming) (m more : Collection) (made new : Made) (stay : StayMade made new) (f g : FuncTypeId) (x y : FuncType) → item_at s.types.now.funcs f.0 ≡ Some x → item_at more.funcs g.0 ≡ Some y → IsFuncMadeFor new f y g
+    → FieldsGoTogether (IsRenamedIn s m made) x.params y.params → GoTogether (IsRenamedIn s m made) x.result y.result → IsFuncMadeOf s.types.now more s.became.now.named.now new f g
+func_once s m more made new stay f g x y at there once fields result = record {
   before = x;
   after = y;
   is = at;
   became = there;
-  values = λ i a b p q. (func_pairs (IsRenamedIn s m made) x y fields result i a b p q).1;
+  values = λ i a b p q. still_of s.types.now s.became.now.named.now made new stay a b (func_pairs (IsRenamedIn s m made) x y fields result i a b p q).1;
+  once = once;
 }
 
 -- ---- names of others

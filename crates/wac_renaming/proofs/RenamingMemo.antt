@@ -19,7 +19,8 @@ use Rattle.wac_terms.specs.Renaming.{IsExtended, IsRenamed}
 use Rattle.wac_renaming.specs.RenamingSteps.{FieldsGoTogether, GoTogether, HasDefinedToo, HasFuncToo, HaveOneShape, IsDefinedBehind, IsFuncBehind, IsMore, IsRenamedIn, IsRenamedValue}
 use Rattle.wac_renaming.specs.declared.renamer.Renamed.{Renamed}
 use Rattle.wac_renaming.specs.declared.renamer.Renaming.{Renaming}
-use Rattle.wac_renaming.proofs.Extending.{still_renamed}
+use Rattle.wac_renaming.proofs.Extending.{still_all_renamed, still_renamed}
+use Rattle.wac_renaming.proofs.OneIds.{still_func_of, still_of}
 use Rattle.wac_renaming.proofs.RenamingShapes.{fields_more, option_more, shape_more}
 use Rattle.wac_renaming.proofs.RenamingTrees.{AreWhole, defined_renamed, func_renamed}
 
@@ -81,6 +82,19 @@ module _ (old mid new : Renamed) (d e : DefinedTypeId) (same : mid.defined ≡ o
   pub more_put : (r : Result (Unit {0}) AllocError) → OnOk r (HasDefinedToo mid d e new) → OnOk r (IsMore old new)
   more_put (Ok _) put = record { defined = is_some_more put; made = subst (StayMade old.made) (sym put.made) stay }
   more_put (Err _) put = put
+
+-- where more was made, and the collection grew
+pub still_with : (s : Renaming) (m more : Collection) (x : IsExtended m more) (memo : Renamed) (new : Made) → StayMade memo.made new → AreMade more new → AreRenamed m s memo → AreRenamed more s (record { defined = memo.defined; funcs = memo.funcs; made = new })
+still_with s m more x memo new stay made r =
+    let t = s.became.now.named.now in
+    let still = still_all_renamed m more x s memo r in
+    record {
+      defined = still.defined;
+      funcs = still.funcs;
+      made = made;
+      once = λ d e is. still_of s.types.now t memo.made new stay (val.Defined d) (val.Defined e) (still.once d e is);
+      once_funcs = λ f g is. still_func_of s.types.now t memo.made new stay m more x f g (r.once_funcs f g is);
+    }
 
 -- ---- what was added behind is what it was made of
 module _ (s : Renaming) (m more : Collection) (wc : AreWhole s.types.now) (wm : AreWhole more) (made : Made) where

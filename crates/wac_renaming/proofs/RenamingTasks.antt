@@ -9,7 +9,7 @@ use Rattle.wac_shapes.specs.declared.component.DefinedType.{DefinedType}
 use Rattle.wac_shapes.specs.declared.component.DefinedTypeId.{DefinedTypeId}
 use Rattle.wac_shapes.specs.declared.component.ValueType.{ValueType}
 use Rattle.wac_shapes.specs.declared.component.ValueType.TheVariants as val
-use Rattle.wac_renaming.specs.Made.{StayMade, made_in}
+use Rattle.wac_renaming.specs.Made.{StayMade}
 use Rattle.wac_renaming.specs.RenamedTypes.{AreRenamed, defined_in}
 use Rattle.wac_terms.specs.Renaming.{IsExtended}
 use Rattle.wac_renaming.specs.RenamingSteps.{AreCovered, AreReady, Did, IsAwaited, IsDone, IsMore, IsReady, IsUnderWay, MayBeDone, put_off, renamed}
@@ -163,7 +163,7 @@ all_done s first m wanted memo u = done_all memo wanted u.awaited
 -- what was made still is after a task
 pub did_stay : (c : Collection) (t : Task) (old new : Renamed) (left now : List Task) → Did c t old new left now → StayMade old.made new.made
 did_stay c t old new left now (renamed more done is) = more.made
-did_stay c t old new left now (put_off d is same made) = λ f e h. subst (λ (k : Renamed). made_in k.made f ≡ Some e) (sym same) h
+did_stay c t old new left now (put_off d is same made) = subst (λ (k : Renamed). StayMade old.made k.made) (sym same) (λ f e h. h)
 
 -- values whose openings are done are ready
 pub ready_values : (memo : Renamed) (vs : List ValueType) → AllByRecursion (IsDone memo) (openings vs) → AreReady memo vs

@@ -1,5 +1,5 @@
--- Definitions that were made in a merged collection. Private functions alone cite this.
-use Rattle.std.specs.Prelude.{ℕ, ◌≡◌, cond, List, Option, Some, None, slice_get}
+-- Definitions and function types that were made in a merged collection. Private functions alone cite this.
+use Rattle.std.specs.Prelude.{ℕ, ◌≡◌, cond, List, map, Option, Some, None, slice_get}
 use Rattle.std.specs.HashMap.{get}
 use Rattle.wac_shapes.specs.declared.component.DefinedType.{DefinedType}
 use Rattle.wac_shapes.specs.declared.component.DefinedType.TheVariants as def
@@ -11,35 +11,77 @@ use Rattle.wac_shapes.specs.declared.component.ItemKind.TheVariants as kind
 use Rattle.wac_shapes.specs.declared.component.ValueType.{ValueType}
 use Rattle.wac_shapes.specs.declared.component.ValueType.TheVariants as val
 use Rattle.wac_shapes.specs.declared.component.«Type».TheVariants as ty
-use Rattle.wac_collection.specs.Collection.{Collection, defined_values, func_values, item_at}
+use Rattle.wac_collection.specs.Collection.{Collection, defined_values, func_values, item_at, seconds}
 use Rattle.wac_terms.specs.Values.{definition}
 use Rattle.wac_values.specs.NamedTypes.{named_type}
 use Rattle.wac_values.specs.declared.named.NamedTypes.{NamedTypes}
 use Rattle.wac_renaming.specs.Shapes.{shape_view}
 use Rattle.wac_renaming.specs.contracts.made.FormPartialEq.TheImpl as FormEq
+use Rattle.wac_renaming.specs.contracts.made.FuncFormPartialEq.TheImpl as FuncFormEq
 use Rattle.wac_renaming.specs.declared.made.Form.{Form}
+use Rattle.wac_renaming.specs.declared.made.FuncForm.{FuncForm}
 use Rattle.wac_renaming.specs.declared.made.Made.{Made}
 
 -- the id under which a definition was made
 abbrev pub made_in : Made → Form → Option DefinedTypeId
 made_in made f = get (FormEq.ghosts).eq made.ids f
 
--- each id is that of its definition, and of one named type
+-- the id under which a function type was made of another
+abbrev pub func_made_in : Made → FuncForm → Option FuncTypeId
+func_made_in made k = get (FuncFormEq.ghosts).eq made.funcs k
+
+-- function types of one sort, whose parameters have the same names
+abbrev pub AreCalledAlike : FuncType → FuncType → Type 0
+AreCalledAlike x y = (y.is_async ≡ x.is_async) × (map (λ e. e.0) y.params ≡ map (λ e. e.0) x.params)
+
+-- a function type is called as one of a collection
+abbrev pub IsCalledAlike : Collection → FuncTypeId → FuncType → Type 0
+IsCalledAlike m f y = (x : FuncType) × (item_at m.funcs f.0 ≡ Some x) × AreCalledAlike x y
+
+-- a function type of a collection that was made of another: it is called as that, and has these parameters and this result
+pub record IsOfForm (m : Collection) (k : FuncForm) (g : FuncTypeId) : Type 0 where
+  pub after : FuncType
+  pub is : item_at m.funcs g.0 ≡ Some after
+  pub alike : IsCalledAlike m k.func after
+  pub params : seconds after.params ≡ k.params.items
+  pub result : after.result ≡ k.result
+
+-- each id is that of its definition, and of one named type; or of its function type
 pub record AreMade (m : Collection) (made : Made) : Type 0 where
   pub there : (f : Form) (e : DefinedTypeId) → made_in made f ≡ Some e → item_at m.defined e.0 ≡ Some (shape_view f.shape)
   pub apart : (f g : Form) (e : DefinedTypeId) → made_in made f ≡ Some e → made_in made g ≡ Some e → f.named ≡ g.named
+  pub funcs : (k : FuncForm) (g : FuncTypeId) → func_made_in made k ≡ Some g → IsOfForm m k g
 
--- with one more definition
-abbrev pub HasMadeToo : Made → Form → DefinedTypeId → Made → Type 0
-HasMadeToo old f e new = (k : Form) → made_in new k ≡ cond ((FormEq.ghosts).eq f k) (Some e) (made_in old k)
+-- with one more definition, or function type
+pub record HasMadeToo (old : Made) (f : Form) (e : DefinedTypeId) (new : Made) : Type 0 where
+  pub ids : (k : Form) → made_in new k ≡ cond ((FormEq.ghosts).eq f k) (Some e) (made_in old k)
+  pub funcs : new.funcs ≡ old.funcs
+
+pub record HasMadeFuncToo (old : Made) (f : FuncForm) (g : FuncTypeId) (new : Made) : Type 0 where
+  pub funcs : (k : FuncForm) → func_made_in new k ≡ cond ((FuncFormEq.ghosts).eq f k) (Some g) (func_made_in old k)
+  pub ids : new.ids ≡ old.ids
+
+-- what was made: a definition for a named type, or a function type of another
+pub data Key : Type 0 where
+  form : Form → Key
+  func_form : FuncForm → Key
+
+-- it has the id of this number
+abbrev pub IsMadeAs : Made → Key → ℕ → Type 0
+IsMadeAs made (form f) n = made_in made f ≡ Some (record { 0 = n })
+IsMadeAs made (func_form k) n = func_made_in made k ≡ Some (record { 0 = n })
 
 -- what was made still is
 abbrev pub StayMade : Made → Made → Type 0
-StayMade old new = (f : Form) (e : DefinedTypeId) → made_in old f ≡ Some e → made_in new f ≡ Some e
+StayMade old new = (k : Key) (n : ℕ) → IsMadeAs old k n → IsMadeAs new k n
 
 -- an id under which a definition was made for a named type
 abbrev pub IsMadeFor : Made → Option DefinedTypeId → DefinedType → DefinedTypeId → Type 0
 IsMadeFor made named x e = (f : Form) × (f.named ≡ named) × (shape_view f.shape ≡ x) × (made_in made f ≡ Some e)
+
+-- the id under which a function type was made of another
+abbrev pub IsFuncMadeFor : Made → FuncTypeId → FuncType → FuncTypeId → Type 0
+IsFuncMadeFor made f x g = (k : FuncForm) × (k.func ≡ f) × (k.params.items ≡ seconds x.params) × (k.result ≡ x.result) × (func_made_in made k ≡ Some g)
 
 -- the definition that a definition is another name of
 abbrev pub other_name : DefinedType → Option DefinedTypeId
@@ -57,13 +99,14 @@ pub data IsMadeOf (c : Collection) (t : NamedTypes) (made : Made) : ValueType �
 abbrev pub AreMadeOf : Collection → NamedTypes → Made → List ValueType → List ValueType → Type 0
 AreMadeOf c t made vs ws = (i : ℕ) (a b : ValueType) → slice_get vs i ≡ Some a → slice_get ws i ≡ Some b → IsMadeOf c t made a b
 
--- so did what a function type mentions
+-- so did what a function type mentions, and what it became was made of it once
 pub record IsFuncMadeOf (c m : Collection) (t : NamedTypes) (made : Made) (f g : FuncTypeId) : Type 0 where
   pub before : FuncType
   pub after : FuncType
   pub is : item_at c.funcs f.0 ≡ Some before
   pub became : item_at m.funcs g.0 ≡ Some after
   pub values : AreMadeOf c t made (func_values before) (func_values after)
+  pub once : IsFuncMadeFor made f after g
 
 -- so did what an item mentions, where it became no resource
 abbrev pub IsKindMadeOf : Collection → Collection → NamedTypes → Made → ItemKind → ItemKind → Type 0

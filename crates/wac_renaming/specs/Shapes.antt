@@ -1,5 +1,4 @@
 -- What keys of definitions stand for.
-use Rattle.std.specs.Global.{Global}
 use Rattle.std.specs.Prelude.{List, map, string_bytes}
 use Rattle.std.specs.declared.string.String.{String}
 use Rattle.wac_shapes.specs.Name.{Name}

@@ -1,19 +1,21 @@
-//! Definitions that were made in a merged collection, each once for the named type that it is.
+//! Definitions and function types that were made in a merged collection: each definition once for the named type that it is, each
+//! function type once for the one that it was made of.
 ghost use Rattle.std.specs.Prelude.{◌≡◌, Some, IfOk, OnOk};
-ghost use Rattle.wac_collection.specs.Collection.{Collection, defined_values};
+ghost use Rattle.wac_collection.specs.Collection.{Collection, defined_values, func_values, seconds};
 ghost use Rattle.wac_collection.specs.declared.collection.AddTypeError.TheVariants.{OutOfMemory};
 ghost use Rattle.wac_entries.specs.Tasks.{AreHeldValues};
-ghost use Rattle.wac_renaming.specs.Made.{AreMade, HasMadeToo, IsMadeFor, made_in};
-ghost use Rattle.wac_renaming.specs.RenamingSteps.{IsDefinedBehind};
+ghost use Rattle.wac_renaming.specs.Made.{AreMade, HasMadeFuncToo, HasMadeToo, IsCalledAlike, IsFuncMadeFor, IsMadeFor, StayMade, func_made_in, made_in};
+ghost use Rattle.wac_renaming.specs.RenamingSteps.{IsDefinedBehind, IsFuncBehind};
 ghost use Rattle.wac_renaming.specs.Shapes.{shape_view};
 ghost use Rattle.wac_renaming.specs.declared.made.Form.{Form as AForm};
-ghost use Rattle.wac_shapes.specs.declared.component.DefinedTypeId.{DefinedTypeId as Defined};
 ghost use Rattle.wac_terms.specs.Renaming.{IsExtended};
 
 use crate::shapes::Shape;
 use std::alloc::{AllocError, Global};
 use std::collections::HashMap;
-use wac_collection::{AddTypeError, DefinedType, DefinedTypeId, Types};
+use wac_collection::{
+    AddTypeError, DefinedType, DefinedTypeId, FuncType, FuncTypeId, Named, Types, ValueType,
+};
 use wac_subtyping::laws::growth_keeps_trees;
 
 /// A definition, and the named type that it is, if it is one.
@@ -25,10 +27,22 @@ pub struct Form {
     pub shape: Shape,
 }
 
+/// A function type, and the types of the parameters and of the result of one that is made of it.
+#[derive(PartialEq, Eq, Hash, Drop)]
+pub struct FuncForm {
+    /// The function type.
+    pub func: FuncTypeId,
+    /// The types of the parameters, in order.
+    pub params: Vec<ValueType>,
+    /// The type of the result.
+    pub result: Option<ValueType>,
+}
+
 /// What was made.
 #[derive(Drop)]
 pub struct Made {
     ids: HashMap<Form, DefinedTypeId>,
+    funcs: HashMap<FuncForm, FuncTypeId>,
 }
 
 /// An error of an adder, where nothing stands against what it adds: memory ran out.
@@ -41,6 +55,30 @@ pub(crate) fn out_of_memory(fault: AddTypeError) -> AllocError
     AllocError
 }
 
+/// The types of parameters, in order.
+fn param_types(alloc: Global, params: &Named<ValueType>) -> Result<Vec<ValueType>, AllocError>
+    ensures { IfOk result (λ types. types.items ≡ seconds params.now) }
+{
+    let mut types = Vec::with_capacity(alloc, params.len())?;
+    for i in 0..params.len() {
+        types.push(*params.value_at(i))?;
+    }
+    Ok(types)
+}
+
+/// Adds a function type whose values are held.
+fn add_func(merged: &mut Types, func: FuncType) -> Result<FuncTypeId, AllocError>
+    requires held { AreHeldValues merged.old (func_values func) }
+    ensures extended { IsExtended merged.old merged.new }
+    ensures added { IfOk result (λ id. IsFuncBehind merged.old merged.new func id) }
+{
+    growth_keeps_trees(merged);
+    match merged.add_func_type(func) {
+        Ok(id) => Ok(id),
+        Err(fault) => Err(out_of_memory(fault)),
+    }
+}
+
 impl Made {
     /// Nothing was made yet.
     pub fn new(alloc: Global) -> Made
@@ -48,6 +86,7 @@ impl Made {
     {
         Made {
             ids: HashMap::new(alloc),
+            funcs: HashMap::new(alloc),
         }
     }
 
@@ -63,6 +102,23 @@ impl Made {
         ensures { OnOk result (HasMadeToo self.old form id self.new) }
     {
         match self.ids.insert(form, id) {
+            Ok(_) => Ok(()),
+            Err(_) => Err(AllocError),
+        }
+    }
+
+    /// The id of a function type that was made.
+    fn func(&self, form: &FuncForm) -> Option<FuncTypeId>
+        ensures { result ≡ func_made_in self.now form.now }
+    {
+        self.funcs.get(form).copied()
+    }
+
+    /// A function type was made.
+    fn put_func(&mut self, form: FuncForm, id: FuncTypeId) -> Result<(), AllocError>
+        ensures { OnOk result (HasMadeFuncToo self.old form id self.new) }
+    {
+        match self.funcs.insert(form, id) {
             Ok(_) => Ok(()),
             Err(_) => Err(AllocError),
         }
@@ -84,7 +140,7 @@ impl Made {
         ensures added { IfOk result (λ id. IsDefinedBehind merged.old merged.new definition id) }
         ensures once { IfOk result (λ id. (f : AForm) → f.named ≡ named → shape_view f.shape ≡ definition → made_in self.new f ≡ Some id) }
         ensures named { IfOk result (λ id. IsMadeFor self.new named definition id) }
-        ensures stay { OnOk result ((f : AForm) (e : Defined) → made_in self.old f ≡ Some e → made_in self.new f ≡ Some e) }
+        ensures stay { OnOk result (StayMade self.old self.new) }
     {
         let shape = Shape::of(alloc, &definition)?;
         let form = Form { named, shape };
@@ -99,5 +155,38 @@ impl Made {
             }
             Err(fault) => Err(out_of_memory(fault)),
         }
+    }
+
+    /// The id of a function type whose values are held, made of another that is called alike: that under which it was made of
+    /// this one before, or else a new one, behind what is there.
+    pub fn make_func(
+        &mut self,
+        alloc: Global,
+        merged: &mut Types,
+        of: FuncTypeId,
+        func: FuncType,
+    ) -> Result<FuncTypeId, AllocError>
+        requires held { AreHeldValues merged.old (func_values func) }
+        requires alike { IsCalledAlike merged.old of func }
+        requires made { AreMade merged.old self.old }
+        ensures extended { IsExtended merged.old merged.new }
+        ensures made { OnOk result (AreMade merged.new self.new) }
+        ensures added { IfOk result (λ id. IsFuncBehind merged.old merged.new func id) }
+        ensures once { IfOk result (λ id. IsFuncMadeFor self.new of func id) }
+        ensures stay { OnOk result (StayMade self.old self.new) }
+    {
+        let params = param_types(alloc, &func.params)?;
+        let result = func.result;
+        let form = FuncForm {
+            func: of,
+            params,
+            result,
+        };
+        if let Some(id) = self.func(&form) {
+            return Ok(id);
+        }
+        let id = add_func(merged, func)?;
+        self.put_func(form, id)?;
+        Ok(id)
     }
 }

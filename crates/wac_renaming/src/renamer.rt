@@ -5,7 +5,7 @@
 ghost use Rattle.std.specs.Prelude.{◌≡◌, ◌++◌, ◌∷◌, [], true, None, IfOk, IfSome, OnOk};
 ghost use Rattle.std.specs.List.{AllByRecursion, AllZip};
 ghost use Rattle.wac_renaming.specs.Made.{AreMade, IsFuncMadeOf, IsMadeOf, StayMade, other_name};
-ghost use Rattle.wac_collection.specs.Collection.{Collection, HasDefined, HasFunc, and_maybe, case_values, defined_values, func_values, holds_value, seconds};
+ghost use Rattle.wac_collection.specs.Collection.{Collection, HasDefined, HasFunc, and_maybe, case_values, defined_values, holds_value, seconds};
 ghost use Rattle.wac_collection.specs.Held.{resolved};
 ghost use Rattle.wac_shapes.specs.Name.{find_name};
 ghost use Rattle.wac_shapes.specs.declared.component.DefinedType.TheVariants as def;
@@ -14,13 +14,13 @@ ghost use Rattle.wac_shapes.specs.declared.component.«Type».TheVariants as ty;
 ghost use Rattle.wac_terms.specs.Became.{AreBoundParts};
 ghost use Rattle.wac_renaming.specs.RenamedTypes.{AreRenamed, CanRename, becomes, defined_in, func_in};
 ghost use Rattle.wac_terms.specs.Renaming.{IsExtended, IsRenamed};
-ghost use Rattle.wac_renaming.specs.RenamingSteps.{AreReady, CasesGoTogether, Did, FieldsGoTogether, GoTogether, HasDefinedToo, HasFuncToo, HaveOneShape, IsDone, IsFuncBehind, IsMore, IsReady, IsRenamedIn, MayBeDone};
+ghost use Rattle.wac_renaming.specs.RenamingSteps.{AreReady, CasesGoTogether, Did, FieldsGoTogether, GoTogether, HasDefinedToo, HasFuncToo, HaveOneShape, IsDone, IsMore, IsReady, IsRenamedIn, MayBeDone};
 ghost use Rattle.wac_entries.specs.Tasks.{IsHeldTask, IsOpening, parts_of, AreHeldValues};
 ghost use Rattle.wac_terms.specs.Unions.{AreAround, IsPart};
 ghost use Rattle.wac_renaming.specs.declared.renamer.Renaming.{Renaming as ARenaming};
 
 use crate::became::Became;
-use crate::made::{Made, out_of_memory};
+use crate::made::Made;
 use std::alloc::{AllocError, Global};
 use std::collections::HashMap;
 use wac_collection::{
@@ -28,7 +28,7 @@ use wac_collection::{
     ResourceId, ShapeError, Types, ValueType, Variant,
 };
 use wac_entries::tasks::{Task, open_fields, open_optional, open_parts, open_value};
-use wac_subtyping::laws::{growth_keeps_trees, trees_are_whole};
+use wac_subtyping::laws::trees_are_whole;
 
 /// Where types are renamed: the collection that they are of, what its resources become, and in which part.
 #[derive(Clone, Copy)]
@@ -102,19 +102,6 @@ fn alias_end(definition: &DefinedType) -> Option<DefinedTypeId>
     match value {
         ValueType::Defined(end) => Some(*end),
         _ => None,
-    }
-}
-
-/// Adds a function type whose values are held.
-fn add_func(merged: &mut Types, func: FuncType) -> Result<FuncTypeId, AllocError>
-    requires held { AreHeldValues merged.old (func_values func) }
-    ensures extended { IsExtended merged.old merged.new }
-    ensures added { IfOk result (λ id. IsFuncBehind merged.old merged.new func id) }
-{
-    growth_keeps_trees(merged);
-    match merged.add_func_type(func) {
-        Ok(id) => Ok(id),
-        Err(fault) => Err(out_of_memory(fault)),
     }
 }
 
@@ -468,7 +455,7 @@ impl Renamed {
             result: self.optional(merged, renaming, func.result),
             is_async: func.is_async,
         };
-        let became = add_func(merged, renamed)?;
+        let became = self.made.make_func(renaming.alloc, merged, id, renamed)?;
         trees_are_whole(merged);
         self.put_func(id, became)?;
         Ok(became)

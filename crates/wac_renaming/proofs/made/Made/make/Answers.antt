@@ -1,7 +1,6 @@
-use Rattle.std.proofs.Common.{◌≡◌, Some, refl, sym, ◌∙◌, ap, arith}
+use Rattle.std.proofs.Common.{Some, refl, sym, ◌∙◌, ap, arith}
 use Rattle.wac_collection.specs.Collection.{defined_values}
 use Rattle.wac_shapes.specs.declared.component.DefinedTypeId.{DefinedTypeId}
-use Rattle.wac_renaming.specs.RenamingSteps.{IsDefinedBehind}
 use Rattle.wac_renaming.specs.Shapes.{shape_view}
 use Rattle.wac_renaming.specs.declared.made.Form.{Form}
 use Rattle.wac_renaming.proofs.Extending.{extended_none, still_made}

@@ -1,4 +1,4 @@
-use Rattle.std.proofs.Common.{◌≡◌, [], ◌∷◌, Some, IsSome, refl, sym, ap, ◌∙◌, subst}
+use Rattle.std.proofs.Common.{[], ◌∷◌, Some, IsSome, refl, sym, ap, ◌∙◌, subst}
 use Rattle.wac_shapes.specs.Name.{option_case}
 use Rattle.wac_collection.specs.Collection.{defined_values}
 use Rattle.wac_shapes.specs.declared.component.DefinedType.TheVariants as def
@@ -9,9 +9,8 @@ use Rattle.wac_renaming.specs.Made.{IsMadeFor, IsMadeOf, alias, anew}
 use Rattle.wac_renaming.specs.RenamingSteps.{AreReady, IsRenamedIn, IsRenamedValue}
 use Rattle.wac_renaming.specs.declared.renamer.Renamed.{Renamed}
 use Rattle.wac_entries.proofs.TaskLemmas.{defined_values_hold}
-use Rattle.wac_renaming.proofs.Extending.{extended_none, still_all_renamed}
-use Rattle.wac_renaming.proofs.OneIds.{shape_pairs, still_func_of, still_of}
-use Rattle.wac_renaming.proofs.RenamingMemo.{defined_closed, defined_put, more_put}
+use Rattle.wac_renaming.proofs.OneIds.{shape_pairs, still_of}
+use Rattle.wac_renaming.proofs.RenamingMemo.{defined_closed, defined_put, more_put, still_with}
 use Rattle.wac_renaming.proofs.RenamingShapes.{shape_more}
 use Rattle.wac_renaming.proofs.RenamingTrees.{alias_renamed, shape_held}
 use Rattle.wac_renaming.proofs.renamer.Renamed.close.Goals as goal
@@ -31,19 +30,12 @@ returns-clause-right c =
     let old = c.args.merged.now in
     let new = c.make.new.merged in
     let behind = c.in_ok-became.ensures.added in
-    let still = still_all_renamed old new behind.extended s c.args.self.now c.requires.right in
     let mid : Renamed = record { defined = c.args.self.now.defined; funcs = c.args.self.now.funcs; made = c.make.new.self } in
     let t = s.became.now.named.now in
     let stay = c.in_ok-became.ensures.stay in
     let x = c.index-definition.result.now in
     let y = c.in_ok-definition.definition in
-    let made : AreRenamed new s mid = record {
-      defined = still.defined;
-      funcs = still.funcs;
-      made = c.in_ok-became.ensures.made;
-      once = λ d e is. still_of s.types.now t c.args.self.now.made c.make.new.self stay (val.Defined d) (val.Defined e) (still.once d e is);
-      once_funcs = λ f g is. still_func_of s.types.now t c.args.self.now.made c.make.new.self stay old new behind.extended f g (c.requires.right.once_funcs f g is);
-    } in
+    let made : AreRenamed new s mid = still_with s old new behind.extended c.args.self.now c.make.new.self stay c.in_ok-became.ensures.made c.requires.right in
     let once : IsMadeOf s.types.now t c.make.new.self (val.Defined c.args.id) (val.Defined c.in_ok-became.became) =
     anew (val.Defined c.args.id) (val.Defined c.in_ok-became.became) c.args.id c.in_ok-became.became x y refl refl c.index-definition.ensures (sym c.alias_end.ensures.named ∙ c.in_default.is)
     (subst (λ n. IsMadeFor c.make.new.self n y c.in_ok-became.became) c.of-named.ensures c.in_ok-became.ensures.named)

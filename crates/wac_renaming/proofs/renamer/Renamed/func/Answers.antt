@@ -8,11 +8,12 @@ use Rattle.wac_renaming.specs.RenamedTypes.{becomes}
 use Rattle.wac_renaming.specs.Made.{IsFuncMadeOf, StayMade}
 use Rattle.wac_renaming.specs.RenamingSteps.{IsDone, IsReady, IsRenamedIn, IsRenamedValue}
 use Rattle.wac_renaming.specs.declared.made.Made.{Made}
+use Rattle.wac_renaming.specs.declared.renamer.Renamed.{Renamed}
 use Rattle.wac_entries.proofs.TaskOpenings.{first_of, openings_two, rest_of}
 use Rattle.wac_entries.proofs.TaskLemmas.{all_openings, func_held, func_values_hold}
-use Rattle.wac_renaming.proofs.Extending.{extended_none, extended_twice, still_all_renamed, still_can}
-use Rattle.wac_renaming.proofs.OneIds.{func_once}
-use Rattle.wac_renaming.proofs.RenamingMemo.{func_closed, func_right}
+use Rattle.wac_renaming.proofs.Extending.{extended_none, extended_twice, kept_item, still_can}
+use Rattle.wac_renaming.proofs.OneIds.{func_once, names_beside, stay_twice}
+use Rattle.wac_renaming.proofs.RenamingMemo.{func_closed, func_right, still_with}
 use Rattle.wac_renaming.proofs.RenamingShapes.{fields_more, option_more}
 use Rattle.wac_renaming.proofs.RenamingTasks.{ready_values}
 use Rattle.wac_renaming.proofs.RenamingTrees as trees
@@ -61,53 +62,71 @@ optional-requires-clause-held c =
 pub optional-requires-clause-known : goal.optional-requires-clause-known
 optional-requires-clause-known c = still_can c.args.merged.now c.finish.new.merged c.finish.ensures.extended c.law-2.ensures c.args.renaming.now c.requires.known
 
-pub add_func-requires : goal.add_func-requires
-add_func-requires c =
+pub make_func-requires-clause-held : goal.make_func-requires-clause-held
+make_func-requires-clause-held c =
     let s = c.args.renaming.now in
     let x = c.index-func.result.now in
     let y : FuncType = record { params = c.in_ok-fields.field-0; result = c.optional.result; is_async = x.is_async } in
     let R = IsRenamedIn s c.finish.new.merged c.finish.new.self.made in
     let S = IsRenamedValue s.types.now c.finish.new.merged (becomes s) in
-    record { held = trees.func_held s.types.now c.finish.new.merged (becomes s) x y (fields_more R S (λ v w r. r.0) x.params y.params c.in_ok-fields.ensures) (option_more R S (λ v w r. r.0) x.result y.result c.optional.ensures) }
+    trees.func_held s.types.now c.finish.new.merged (becomes s) x y (fields_more R S (λ v w r. r.0) x.params y.params c.in_ok-fields.ensures) (option_more R S (λ v w r. r.0) x.result y.result c.optional.ensures)
+
+pub make_func-requires-clause-alike : goal.make_func-requires-clause-alike
+make_func-requires-clause-alike c =
+    let s = c.args.renaming.now in
+    let m = c.finish.new.merged in
+    let x = c.index-func.result.now in
+    let grown = extended_twice s.types.now c.args.merged.now m c.requires.known.extended c.finish.ensures.extended in
+    (x, kept_item s.types.now.funcs m.funcs grown.kept.funcs c.args.id.0 x c.index-func.ensures, (refl, names_beside (IsRenamedIn s m c.finish.new.self.made) x.params c.in_ok-fields.field-0 c.in_ok-fields.ensures))
+
+pub make_func-requires-clause-made : goal.make_func-requires-clause-made
+make_func-requires-clause-made c = c.in_ok-finish.ensures.right.made
 
 pub returns-in_err-became-clause-extended : goal.returns-in_err-became-clause-extended
-returns-in_err-became-clause-extended c = extended_twice c.args.merged.now c.finish.new.merged c.add_func.new.merged c.finish.ensures.extended c.add_func.ensures.extended
+returns-in_err-became-clause-extended c = extended_twice c.args.merged.now c.finish.new.merged c.make_func.new.merged c.finish.ensures.extended c.make_func.ensures.extended
 
 pub returns-in_err-put_func-clause-extended : goal.returns-in_err-put_func-clause-extended
-returns-in_err-put_func-clause-extended c = extended_twice c.args.merged.now c.finish.new.merged c.add_func.new.merged c.finish.ensures.extended c.add_func.ensures.extended
+returns-in_err-put_func-clause-extended c = extended_twice c.args.merged.now c.finish.new.merged c.make_func.new.merged c.finish.ensures.extended c.make_func.ensures.extended
 
 pub returns-clause-extended : goal.returns-clause-extended
-returns-clause-extended c = extended_twice c.args.merged.now c.finish.new.merged c.add_func.new.merged c.finish.ensures.extended c.add_func.ensures.extended
+returns-clause-extended c = extended_twice c.args.merged.now c.finish.new.merged c.make_func.new.merged c.finish.ensures.extended c.make_func.ensures.extended
 
 pub returns-clause-func : goal.returns-clause-func
 returns-clause-func c =
     let s = c.args.renaming.now in
     let x = c.index-func.result.now in
     let y : FuncType = record { params = c.in_ok-fields.field-0; result = c.optional.result; is_async = x.is_async } in
-    func_closed s c.finish.new.merged c.add_func.new.merged (record { named = c.trees_are_whole.ensures.named; placed = c.trees_are_whole.ensures.placed }) (record { named = c.trees_are_whole-2.ensures.named; placed = c.trees_are_whole-2.ensures.placed }) c.finish.new.self.made
+    func_closed s c.finish.new.merged c.make_func.new.merged (record { named = c.trees_are_whole.ensures.named; placed = c.trees_are_whole.ensures.placed }) (record { named = c.trees_are_whole-2.ensures.named; placed = c.trees_are_whole-2.ensures.placed }) c.finish.new.self.made
     c.args.id c.in_ok-became.became x y c.index-func.ensures c.in_ok-became.ensures.added c.in_ok-fields.ensures c.optional.ensures refl
 
 pub returns-clause-right : goal.returns-clause-right
 returns-clause-right c =
     let s = c.args.renaming.now in
     let m = c.finish.new.merged in
-    let more = c.add_func.new.merged in
+    let more = c.make_func.new.merged in
+    let memo = c.finish.new.self in
+    let made = c.make_func.new.self in
+    let mid : Renamed = record { defined = memo.defined; funcs = memo.funcs; made = made } in
     let x = c.index-func.result.now in
     let y : FuncType = record { params = c.in_ok-fields.field-0; result = c.optional.result; is_async = x.is_async } in
-    func_right s more c.finish.new.self c.put_func.new.self c.args.id c.in_ok-became.became c.in_ok-put_func.ensures (still_all_renamed m more c.add_func.ensures.extended s c.finish.new.self c.in_ok-finish.ensures.right) (returns-clause-func c)
-    (func_once c.args.renaming.now m more c.finish.new.self.made c.args.id c.in_ok-became.became x y c.index-func.ensures c.in_ok-became.ensures.added.there c.in_ok-fields.ensures c.optional.ensures)
+    func_right s more mid c.put_func.new.self c.args.id c.in_ok-became.became c.in_ok-put_func.ensures
+    (still_with s m more c.make_func.ensures.extended memo made c.in_ok-became.ensures.stay c.in_ok-became.ensures.made c.in_ok-finish.ensures.right) (returns-clause-func c)
+    (func_once s m more memo.made made c.in_ok-became.ensures.stay c.args.id c.in_ok-became.became x y c.index-func.ensures c.in_ok-became.ensures.added.there c.in_ok-became.ensures.once c.in_ok-fields.ensures c.optional.ensures)
 
 pub returns-clause-once : goal.returns-clause-once
 returns-clause-once c =
     let s = c.args.renaming.now in
-    let more = c.add_func.new.merged in
+    let more = c.make_func.new.merged in
     let x = c.index-func.result.now in
     let y : FuncType = record { params = c.in_ok-fields.field-0; result = c.optional.result; is_async = x.is_async } in
     subst (λ (made : Made). IsFuncMadeOf s.types.now more s.became.now.named.now made c.args.id c.in_ok-became.became) (sym c.in_ok-put_func.ensures.made)
-    (func_once s c.finish.new.merged more c.finish.new.self.made c.args.id c.in_ok-became.became x y c.index-func.ensures c.in_ok-became.ensures.added.there c.in_ok-fields.ensures c.optional.ensures)
+    (func_once s c.finish.new.merged more c.finish.new.self.made c.make_func.new.self c.in_ok-became.ensures.stay c.args.id c.in_ok-became.became x y c.index-func.ensures c.in_ok-became.ensures.added.there c.in_ok-became.ensures.once c.in_ok-fields.ensures
+    c.optional.ensures)
 
 pub returns-clause-stay : goal.returns-clause-stay
-returns-clause-stay c = subst (StayMade c.args.self.now.made) (sym c.in_ok-put_func.ensures.made) c.in_ok-finish.ensures.stay
+returns-clause-stay c =
+    stay_twice c.args.self.now.made c.finish.new.self.made c.put_func.new.self.made c.in_ok-finish.ensures.stay
+    (subst (StayMade c.finish.new.self.made) (sym c.in_ok-put_func.ensures.made) c.in_ok-became.ensures.stay)
 
 pub returns-in-Some-clause-once : goal.returns-in-Some-clause-once
 returns-in-Some-clause-once c = c.requires.right.once_funcs c.args.id c.in-Some.became (sym c.func_type.ensures ∙ c.in-Some.is)

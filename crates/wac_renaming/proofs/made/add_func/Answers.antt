@@ -1,7 +1,7 @@
 use Rattle.wac_collection.specs.Collection.{func_values}
 use Rattle.wac_shapes.specs.declared.component.FuncTypeId.{FuncTypeId}
 use Rattle.wac_renaming.proofs.RenamingLoops.{func_behind, memory_alone}
-use Rattle.wac_renaming.proofs.renamer.add_func.Goals as goal
+use Rattle.wac_renaming.proofs.made.add_func.Goals as goal
 
 pub returns-in-Ok-clause-extended : goal.returns-in-Ok-clause-extended
 returns-in-Ok-clause-extended c = (func_behind c.args.merged.now c.add_func_type.new.self c.args.func c.in-Ok.id c.growth_keeps_trees.ensures c.in-Ok.ensures.added.0 c.in-Ok.ensures.added.1).extended
