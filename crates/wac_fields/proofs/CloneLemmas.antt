@@ -1,5 +1,5 @@
 -- The fields of a clone mean the same graph.
-use Rattle.std.proofs.Common.{◌≡◌, ℕ, zero, suc, ◌+◌, List, [], ◌∷◌, length, reverse, map, get_or, ◌≤◌, arith, refl, ap, subst, ◌∙◌, sym, Option, Some, None, string_bytes}
+use Rattle.std.proofs.Common.{◌≡◌, ℕ, zero, suc, ◌+◌, List, [], ◌∷◌, length, reverse, map, get_or, ◌≤◌, refl, ap, subst, ◌∙◌, sym, Option, Some, None, string_bytes}
 use Rattle.std.specs.Prelude.{String}
 use Rattle.std.specs.Global.{Global}
 use Rattle.std.specs.List.{AllZip}
@@ -72,10 +72,6 @@ same_graph a b types nodes next edges exports slots vacant =
     let shown : nodes_of b.nodes.slots ≡ nodes_of a.nodes.slots = ap finite.from_entries (same_entries 0 a.nodes.slots b.nodes.slots nodes) in
     let named : names_of b.exports.entries ≡ names_of a.exports.entries = same_names a.exports.entries b.exports.entries exports in
     λ d. record { types = types d; nodes = shown d; next = next d; edges = edges d; exports = named d; slots = slots d; vacant = reverse (vacant d) }
-
--- the room that was made is room for all slots
-pub room_cloned : (asked counted room : ℕ) (were slots : List Slot) → asked ≤ room → asked ≡ counted → counted ≡ length were → slots ≡ were → length slots ≤ room
-room_cloned asked counted room were slots made is count same = let many : length slots ≡ length were = ap length same in omega (arith, made, is, count, many)
 
 -- so what is always true of a graph's fields is true of those of its clone
 pub invariant_clone : (a b : Fields) → Invariant a → graph_of b ≡ graph_of a → ((q i : ℕ) → satisfied_at (get b.nodes q) i ≡ satisfied_at (get a.nodes q) i)
