@@ -57,12 +57,12 @@ left_after flags k = fun_ext (λ m. at (is_left flags m) m.0 (cases_eq m.0 k)) w
   at b m s = grind (arith, nat_tests)
 
 -- the lowest that is left is ready
-pub first_ready : (edges : Edges) (flags : List Bool) (k : ℕ) → AllRise edges (length flags) → is_set flags k ≡ true → IsLowestReady edges (left_from flags k) (node_number k)
+pub first_ready : (edges : Edges) (flags : List Bool) (k : ℕ) → AllRise edges → is_set flags k ≡ true → IsLowestReady edges (left_from flags k) (node_number k)
 first_ready edges flags k rising here = record {
   here = rw (here, high k k (omega arith)) refl;
   free = λ e has to. false_from_ne_true (left_from flags k e.source) (λ h.
-      let (left, from) = both (is_left flags e.source) (not (nat_lt e.source.0 k)) h in
-      let up = rising e has (within flags e.source.0 left) in
+      let from = (both (is_left flags e.source) (not (nat_lt e.source.0 k)) h).1 in
+      let up = rising e has in
       let at : e.target.0 ≡ k = ap (λ (n : NodeId). n.0) to in
       let below : nat_lt e.source.0 k ≡ true = low e.source.0 k (omega (arith, up, at)) in
       clash (nat_lt e.source.0 k) below from);

@@ -51,6 +51,6 @@ stands rs b = sum_by (λ r. one (b == r.0)) rs
 abbrev pub AreReady : BinaryHeap (Reverse ℕ) Global → List Bool → List ℕ → Type 0
 AreReady ready flags counts = IsHeap (λ x y. nat_cmp y.0 x.0) (heap_items ready) × ((b : ℕ) → stands (heap_items ready) b ≡ one (is_left_with flags counts 0 b))
 
--- each edge from a node below n leads to a higher number
-abbrev pub AllRise : Edges → ℕ → Type 0
-AllRise edges n = (e : Edge) → set.contains edges e ≡ true → e.source.0 < n → e.source.0 < e.target.0
+-- each edge leads to a node of a higher number
+abbrev pub AllRise : Edges → Type 0
+AllRise edges = (e : Edge) → set.contains edges e ≡ true → e.source.0 < e.target.0

@@ -13,7 +13,7 @@ ghost use Rattle.wac_edges.specs.Ready.{IsListed, AllRise};
 
 use crate::aliases::{first_alias, forget_alias, is_crowded, mark, note, note_all};
 use crate::node::NodeId;
-use crate::records::{Firsts, MOST, Record, find, make_firsts, put, take};
+use crate::records::{Firsts, MOST, Record, all_rise, find, make_firsts, put, take};
 use crate::walk::{Walk, records_at};
 use slab::Slab;
 use std::alloc::{AllocError, Global};
@@ -273,28 +273,11 @@ impl Edges {
         }
     }
 
-    /// Whether each edge from one of the first so many nodes leads to a node of a higher number.
-    pub(crate) fn rise(&self, nodes: usize) -> bool
-        ensures { OnTrue result (AllRise self.now nodes) }
+    /// Whether each edge leads to a node of a higher number.
+    pub(crate) fn rise(&self) -> bool
+        ensures { OnTrue result (AllRise self.now) }
     {
-        for a in 0..nodes {
-            if self.falls(NodeId(a)) {
-                return false;
-            }
-        }
-        true
-    }
-
-    /// Whether an edge leads from a node to one of no higher number.
-    fn falls(&self, node: NodeId) -> bool
-        ensures { OnFalse result ((e : AnEdge) → set.contains self.now e ≡ true → e.source ≡ node → node.0 < e.target.0) }
-    {
-        for edge in self.walk(node, End::Outgoing) {
-            if edge.target.0 <= node.0 {
-                return true;
-            }
-        }
-        false
+        all_rise(&self.records)
     }
 
     /// For each of the first so many nodes, those to which edges lead from it.

@@ -142,7 +142,7 @@ fn is_done(left: &[bool]) -> bool
 
 /// The nodes that are left, by rising numbers.
 fn rising(alloc: Global, left: &[bool]) -> Result<Vec<NodeId>, AllocError>
-    ensures { IfOk result (λ ns. (edges : Edges) → AllRise edges (length left.now) → Writes edges (is_left left.now) ns.items) }
+    ensures { IfOk result (λ ns. (edges : Edges) → AllRise edges → Writes edges (is_left left.now) ns.items) }
 {
     let mut ids = Vec::new(alloc);
     for n in 0..left.len() {
@@ -163,7 +163,7 @@ pub fn order(
     ensures whole { IfOk result (λ o. IfSome o (λ ns. Writes edges.now (is_left left.items) ns.items)) }
     ensures cycle { IfOk result (λ o. IfNone o ((n : AnId) × IsOnCycle edges.now n)) }
 {
-    if edges.rise(left.len()) {
+    if edges.rise() {
         return Ok(Some(rising(alloc, left.as_slice())?));
     }
     order_by_counts(alloc, edges, left)

@@ -1,5 +1,6 @@
 //! Edges as records of one table, each in a list of those at its source and in one of those at its target.
 ghost use Rattle.std.specs.Prelude.{◌≡◌, ◌↔◌, ◌⊎◌, ℕ, ◌<◌, ◌≤◌, ◌^◌, Some, None, IfSome, IfNone, OnOk, length, vec_len};
+ghost use Rattle.std.specs.Bool.{OnTrue, OnFalse};
 ghost use Rattle.std.specs.Option.{option_map, ForNone, ForSome};
 ghost use Rattle.slab.specs.Slab.{get, ContainsKey, HasRoomFor};
 ghost use Rattle.wac_edges.specs.declared.edges.Edge.{Edge as AnEdge};
@@ -256,4 +257,26 @@ pub(crate) fn take(records: &mut Slab<Record>, firsts: &mut [Firsts], key: usize
     unlink(records, firsts, key, End::Outgoing);
     unlink(records, firsts, key, End::Incoming);
     records.remove(key);
+}
+
+/// Whether each edge leads to a node of a higher number. This reads the table from its first record to its last.
+pub(crate) fn all_rise(records: &Slab<Record>) -> bool
+    ensures { OnTrue result ((k : ℕ) (e : AnEdge) → edge_at (get records.now) k ≡ Some e → e.source.0 < e.target.0) }
+{
+    for key in 0..records.capacity() {
+        if falls(records, key) {
+            return false;
+        }
+    }
+    true
+}
+
+/// Whether the edge of the record of this key, if there is one, leads to a node of no higher number.
+fn falls(records: &Slab<Record>, key: usize) -> bool
+    ensures { OnFalse result ((e : AnEdge) → edge_at (get records.now) key ≡ Some e → e.source.0 < e.target.0) }
+{
+    match records.get(key) {
+        Some(record) => record.edge.target.0 <= record.edge.source.0,
+        None => false,
+    }
 }

@@ -1,17 +1,17 @@
-use Rattle.std.proofs.Common.{◌≡◌, inl, inr, ap, subst, arith}
-use Rattle.std.proofs.lemmas.Bool.{cases_lt}
-use Rattle.wac_edges.specs.Edge.{node_number}
-use Rattle.wac_edges.specs.Ready.{AllRise}
+use Rattle.std.proofs.Common.{◌≡◌, Bool, true, false, sym, subst}
+use Rattle.std.specs.Bool.{OnTrue}
+use Rattle.std.specs.FinSet as set
+use Rattle.wac_edges.specs.Order.{Edges}
+use Rattle.wac_edges.proofs.SetLemmas.{in_table}
 use Rattle.wac_edges.proofs.edges.Edges.rise.Goals as goal
 
-pub loop-a-preserved : goal.loop-a-preserved
-loop-a-preserved c = λ e has low. elim (cases_lt e.source.0 c.loop-a.a) [
-  | inl below ↦ c.loop-a.invariant e has below
-  | inr high ↦
-      let here : e.source.0 ≡ c.loop-a.a = omega (arith, low, high) in
-      let up = (rw c.if-falls.false at c.falls.ensures) e has (ap node_number here) in
-      omega (arith, up, here)
-]
+-- what follows where the answer is yes
+on_true : {P Q : Type 0} (b : Bool) → (P → Q) → OnTrue b P → OnTrue b Q
+on_true true f p = f p
+on_true false f p = tt
 
 pub returns : goal.returns
-returns c = let all : c.loop-a.a ≡ c.args.nodes = omega arith in subst (λ k. AllRise c.args.self.now k) all c.loop-a.invariant
+returns c =
+    on_true c.all_rise.result
+    (λ rise e has. let (k, at) = in_table c.self.inside.records e (subst (λ (s : Edges). set.contains s e ≡ true) (sym c.self.view_is) has) in rise k e at)
+    c.all_rise.ensures
