@@ -1,8 +1,8 @@
 -- The way to where two items disagree.
-use Rattle.std.proofs.Common.{◌≡◌, ℕ, zero, suc, ◌+◌, ◌<◌, if◌then◌else◌, Bool, true, false, not, is_some, ◌↔◌, List, [], ◌∷◌, ◌++◌, ◌⊎◌, inl, inr, length, map, take, Option, Some, None, refl, ap, sym, ◌∙◌, subst, arith, add-one}
-use Rattle.std.specs.Prelude.{slice_get, IsTrue, IsSome, IfOk, Result, Ok, Err, string_bytes}
+use Rattle.std.proofs.Common.{◌≡◌, ℕ, zero, suc, ◌+◌, if◌then◌else◌, List, [], ◌∷◌, ◌++◌, ◌⊎◌, inl, inr, map, take, Option, Some, None, refl, ap, sym, ◌∙◌, subst, add-one}
+use Rattle.std.specs.Prelude.{slice_get, IsSome, IfOk, Result, Ok, Err}
 use Rattle.std.specs.List.{AllByRecursion}
-use Rattle.std.specs.Option.{MatchOption, option_map}
+use Rattle.std.specs.Option.{MatchOption}
 use Rattle.wac_shapes.specs.Name.{Name, same_name, find_name, option_case}
 use Rattle.wac_collection.specs.Tree.{TypeTree, absent, instance, instance_item}
 use Rattle.wac_subtyping.specs.Called.{Called}
@@ -10,39 +10,16 @@ use Rattle.wac_collection.specs.Collection.{Collection, interface_exports}
 use Rattle.wac_shapes.specs.declared.component.ItemKind.{ItemKind}
 use Rattle.wac_shapes.specs.declared.component.ItemKind.TheVariants as kind
 use Rattle.wac_shapes.specs.declared.component.InterfaceId.{InterfaceId}
-use Rattle.wac_shapes.proofs.Names.{take_at, same_name-from, same_name-refl, same_name-true}
+use Rattle.wac_shapes.proofs.Names.{take_at, same_name-from}
 use Rattle.std.proofs.lemmas.Bool.{cases_Bool}
-use Rattle.wac_entries.specs.Agreement.{LeadsApart, here, below, AgreesAt}
-use Rattle.wac_entries.specs.Nodes.{Node, Item, type_of, item_tree, listed_tree, tree_at, IsTable}
-use Rattle.wac_agreement.specs.declared.apart.Step.{Step}
-use Rattle.wac_entries.specs.NodeViews.{item_view}
+use Rattle.wac_entries.specs.Agreement.{LeadsApart, below, AgreesAt}
+use Rattle.wac_entries.specs.Nodes.{Node, Item, item_tree, listed_tree, tree_at, IsTable}
 use Rattle.wac_agreement.specs.Slots.{exports_of}
-use Rattle.wac_agreement.specs.Apart.{ItemsAgree, AreApart, AllAgree, IsFirstApart}
-use Rattle.wac_agreement.specs.Shapes.{IsShaped, IsOfKind, AgreeUnder, IsNextListed, IsNext, AreAtEnd}
+use Rattle.wac_agreement.specs.Apart.{ItemsAgree}
+use Rattle.wac_agreement.specs.Shapes.{IsShaped, IsOfKind, AgreeUnder, IsNextListed}
 use Rattle.wac_terms.proofs.Found.{some_same, no_some, find_at}
-use Rattle.wac_agreement.proofs.Comparing.{all_at, all_of, open_lower, listed_find, item_there, open_tree, agree_open, child_lower}
+use Rattle.wac_agreement.proofs.Comparing.{all_at, listed_find, item_there, open_tree, agree_open}
 use Rattle.wac_terms.proofs.Alike.{agree_at}
-
--- ---- whether two items agree
-pair_apart : (ns : List Node) (x y : Item) (i j : ℕ) → AreApart ns (x ∷ y ∷ []) (0 ∷ 0 ∷ []) i j → ItemsAgree ns x y → ⊥
-pair_apart ns x y i zero h agree = let less = h.before in absurd (omega (arith, less))
-pair_apart ns x y zero (suc zero) h agree =
-    h.apart (subst (λ z. ItemsAgree ns z h.later) (some_same x h.earlier h.at_first) (subst (λ z. ItemsAgree ns x z) (some_same y h.later h.at_second) agree))
-pair_apart ns x y (suc i) (suc zero) h agree = let less = h.before in absurd (omega (arith, less))
-pair_apart ns x y i (suc (suc j)) h agree = no_some h.later h.at_second
-
-flipped : (r : Bool) → false ≡ not r → r ≡ true
-flipped true e = refl
-flipped false e = cc
-
-clash : (r : Bool) → true ≡ not r → r ≡ true → ⊥
-clash true e _ = cc
-clash false _ e = cc
-
-pub agree_of : (ns : List Node) (x y : Item) (o : Option (ℕ × ℕ)) (r : Bool) → MatchOption o (AllAgree ns (x ∷ y ∷ []) (0 ∷ 0 ∷ [])) (λ p. IsFirstApart ns (x ∷ y ∷ []) (0 ∷ 0 ∷ []) p.0 p.1)
-    → is_some o ≡ not r → IsTrue r ↔ ItemsAgree ns x y
-agree_of ns x y None r h is = (λ _. h 0 1 0 x y (omega arith) (omega arith) refl refl refl refl, λ _. flipped r is)
-agree_of ns x y (Some p) r h is = (λ t. absurd (clash r is t), λ agree. absurd (pair_apart ns x y p.0 p.1 h.apart agree))
 
 -- ---- listings
 pub all_before : {A : Type 0} (P : A → Type 0) (xs : List A) (i : ℕ) (x : A) → slice_get xs i ≡ Some x → AllByRecursion P (take i xs) → P x → AllByRecursion P (take (i + 1) xs)
@@ -63,14 +40,6 @@ find_there (y ∷ es) zero e at = (y.1, ap (λ b. if b then Some y.1 else find_n
 find_there (y ∷ es) (suc q) e at = elim (cases_Bool (same_name e.0 y.0)) [
   | inl t ↦ (y.1, ap (λ b. if b then Some y.1 else find_name es e.0) t)
   | inr f ↦ let (v, is) = find_there es q e at in (v, ap (λ b. if b then Some y.1 else find_name es e.0) f ∙ is)
-]
-
--- what stands behind names that all have what its own has not is found
-find_first : {V : Type 0} (P : Name → Type 0) (before : List (Name × V)) (n : Name) (v : V) (after : List (Name × V)) → AllByRecursion (λ e. P e.0) before → (P n → ⊥) → find_name (before ++ (n, v) ∷ after) n ≡ Some v
-find_first P [] n v after h never = ap (λ b. if b then Some v else find_name after n) (same_name-refl n)
-find_first P (y ∷ before) n v after h never = elim (cases_Bool (same_name n y.0)) [
-  | inl t ↦ absurd (never (subst P (sym (same_name-true n y.0 t)) h.0))
-  | inr f ↦ ap (λ b. if b then Some y.1 else find_name (before ++ (n, v) ∷ after) n) f ∙ find_first P before n v after h.1 never
 ]
 
 at_first : {A : Type 0} (xs ys : List A) (k : ℕ) (x : A) → slice_get xs k ≡ Some x → slice_get (xs ++ ys) k ≡ Some x
@@ -120,34 +89,23 @@ module _ (c : Collection) (ns : List Node) (table : IsTable ns) where
     in_g : (n : Name) (o : Option Item) → find_name fs n ≡ o → g n ≡ option_case o absent (item_tree (tree_at ns))
     in_g n o is = listed_find (tree_at ns) fs n ∙ ap (λ r. option_case r absent (item_tree (tree_at ns))) is
 
-    pub end_agree : AllByRecursion (λ e. AgreeUnder ns es fs e.0) (interface_exports c i) → AreAtEnd ns x y
-    end_agree all = inr (agree_open ns table x y es fs open_x open_y under) where
+    pub all_agree : AllByRecursion (λ e. AgreeUnder ns es fs e.0) (interface_exports c i) → ItemsAgree ns x y
+    all_agree all = agree_open ns table x y es fs open_x open_y under where
       under : (n : Name) (a b : Item) → find_name es n ≡ Some a → find_name fs n ≡ Some b → ItemsAgree ns a b
       under n a b found also =
           let (k, is) = some_of (find_name (interface_exports c i) n) (opened.1 n (λ gone. item_there (tree_at ns) b (sym (in_g n (Some b) also) ∙ gone))) in
           let (q, at) = find_at (interface_exports c i) n k is in
           all_at (λ (e : Name × ItemKind). AgreeUnder ns es fs e.0) (interface_exports c i) q (n, k) all at a b found also
 
+    pub shaped_under : (n : Name) (a : Item) → find_name es n ≡ Some a → IsShaped (item_tree (tree_at ns) x) → IsShaped (item_tree (tree_at ns) a)
+    shaped_under n a found shaped = subst (λ t. IsShaped t) (in_f n (Some a) found) (all n) where
+      all : IsShaped (instance_item (instance f))
+      all = subst (λ t. IsShaped t) (open_tree ns table x es open_x) shaped
+
+    pub of_kind_under : (n : Name) (b : Item) (k : ItemKind) → find_name fs n ≡ Some b → find_name (interface_exports c i) n ≡ Some k → IsOfKind c (item_tree (tree_at ns) b) k
+    of_kind_under n b k found listed = subst (λ t. IsOfKind c t k) (in_g n (Some b) found) (opened.2 n k listed).1
+
     module _ (n : Name) (a b : Item) (k : ItemKind) (next : IsNextListed ns es fs (interface_exports c i) n a b k) where
-      pub lower : type_of a < type_of x
-      lower = child_lower ns table x a es n open_x next.under.in_first
-
-      pub second_lower : type_of b < type_of y
-      second_lower = child_lower ns table y b fs n open_y next.under.in_second
-
-      pub shaped_on : IsShaped (item_tree (tree_at ns) x) → IsShaped (item_tree (tree_at ns) a)
-      shaped_on shaped = subst (λ t. IsShaped t) (in_f n (Some a) next.under.in_first) (all n) where
-        all : IsShaped (instance_item (instance f))
-        all = subst (λ t. IsShaped t) (open_tree ns table x es open_x) shaped
-
-      listed_here : find_name (interface_exports c i) n ≡ Some k
-      listed_here =
-          ap (λ l. find_name l n) next.order
-          ∙ find_first (AgreeUnder ns es fs) next.before n k next.after next.agree (λ agree. next.under.apart (agree a b next.under.in_first next.under.in_second))
-
-      pub of_kind_on : IsOfKind c (item_tree (tree_at ns) b) k
-      of_kind_on = subst (λ t. IsOfKind c t k) (in_g n (Some b) next.under.in_second) (opened.2 n k listed_here).1
-
       agrees_at : (q : ℕ) (e : Name × ItemKind) → slice_get next.before q ≡ Some e → AgreeUnder ns es fs e.0 → AgreesAt f g e
       agrees_at q e at agree = go (find_name es e.0) (find_name fs e.0) refl refl where
         there : g e.0 ≡ absent → ⊥
@@ -189,57 +147,6 @@ pub if_ok : {T E : Type 0} (P Q : T → Type 0) (r : Result T E) → ((x : T) �
 if_ok P Q (Ok x) f h = f x h
 if_ok P Q (Err e) f h = h
 
-pub entry_there : {V : Type 0} (o : Option (Name × V)) (n : Name) → option_map (λ e. e.0) o ≡ Some n → (e : Name × V) × (o ≡ Some e) × (e.0 ≡ n)
-entry_there None n h = cc h
-entry_there (Some e) n h = (e, refl, some_same e.0 n h)
-
-pub open_low : (ns : List Node) → IsTable ns → (x : Item) (es : List (Name × Item)) → exports_of ns x ≡ Some es → type_of x < length ns → AllByRecursion (λ e. type_of e.1 < length ns) es
-open_low ns table x es ex in_table = all_of (λ (e : Name × Item) (less : type_of e.1 < type_of x). omega (arith, less, in_table)) es (open_lower ns table x es ex)
-
--- what was listed next is next
-pub next_ok : {E : Type 0} (c : Collection) (ns : List Node) (table : IsTable ns) (x y : Item) (es fs : List (Name × Item)) (l : ItemKind) (i : InterfaceId) (xs : List (Name × ItemKind)) → exports_of ns x ≡ Some es → exports_of ns y ≡ Some fs → l ≡ kind.Instance i → interface_exports c i ≡ xs
-    → IsOfKind c (item_tree (tree_at ns) y) l → (r : Result (Option Step) E)
-    → IfOk r (λ o. MatchOption o (AllByRecursion (λ e. AgreeUnder ns es fs e.0) xs) (λ s. IsNextListed ns es fs xs (string_bytes s.name) (item_view s.first) (item_view s.second) s.kind))
-    → IfOk r (λ o. MatchOption o (AreAtEnd ns x y) (λ s. IsNext c ns x y l (string_bytes s.name) (item_view s.first) (item_view s.second) s.kind))
-next_ok c ns table x y es fs l i xs ex ey is order of (Err e) h = h
-next_ok c ns table x y es fs l i xs ex ey is order of (Ok None) h =
-    end_agree c ns table x y es fs i ex ey (subst (λ k. IsOfKind c (item_tree (tree_at ns) y) k) is of) (subst (λ (zs : List (Name × ItemKind)). AllByRecursion (λ e. AgreeUnder ns es fs e.0) zs) (sym order) h)
-next_ok c ns table x y es fs l i xs ex ey is order of (Ok (Some s)) h = record {
-  es = es;
-  fs = fs;
-  interface = i;
-  first_open = ex;
-  second_open = ey;
-  kind_is = is;
-  next = subst (λ (zs : List (Name × ItemKind)). IsNextListed ns es fs zs (string_bytes s.name) (item_view s.first) (item_view s.second) s.kind) (sym order) h;
-}
-
--- the way goes on with what is next
-pub record GoesOn (c : Collection) (ns : List Node) (x y : Item) (l : ItemKind) (n : Name) (a b : Item) (k : ItemKind) : Type 0 where
-  pub lower : type_of a < type_of x
-  pub second_lower : type_of b < type_of y
-  pub shaped : IsShaped (item_tree (tree_at ns) a)
-  pub of_kind : IsOfKind c (item_tree (tree_at ns) b) k
-  pub apart : ItemsAgree ns a b → ⊥
-  pub leads : (names : List Name) → LeadsApart c (item_tree (tree_at ns) a) (item_tree (tree_at ns) b) k names → LeadsApart c (item_tree (tree_at ns) x) (item_tree (tree_at ns) y) l (n ∷ names)
-
-pub goes_on : (c : Collection) (ns : List Node) (table : IsTable ns) (x y : Item) (l : ItemKind) (n : Name) (a b : Item) (k : ItemKind) → IsShaped (item_tree (tree_at ns) x) → IsOfKind c (item_tree (tree_at ns) y) l → IsNext c ns x y l n a b k → GoesOn c ns x y l n a b k
-goes_on c ns table x y l n a b k shaped of next = record {
-  lower = lower c ns table x y next.es next.fs next.interface next.first_open next.second_open own n a b k next.next;
-  second_lower = second_lower c ns table x y next.es next.fs next.interface next.first_open next.second_open own n a b k next.next;
-  shaped = shaped_on c ns table x y next.es next.fs next.interface next.first_open next.second_open own n a b k next.next shaped;
-  of_kind = of_kind_on c ns table x y next.es next.fs next.interface next.first_open next.second_open own n a b k next.next;
-  apart = next.next.under.apart;
-  leads = λ names leads. subst (λ m. LeadsApart c (item_tree (tree_at ns) x) (item_tree (tree_at ns) y) m (n ∷ names)) (sym next.kind_is)
-      (leads_on c ns table x y next.es next.fs next.interface next.first_open next.second_open own n a b k next.next names leads);
-} where
-  own : IsOfKind c (item_tree (tree_at ns) y) (kind.Instance next.interface)
-  own = subst (λ m. IsOfKind c (item_tree (tree_at ns) y) m) next.kind_is of
-
 pub map_pushed : {A B : Type 0} (f : A → B) (xs : List A) (x : A) (ys : List B) → map f (xs ++ x ∷ []) ++ ys ≡ map f xs ++ f x ∷ ys
 map_pushed f [] x ys = refl
 map_pushed f (z ∷ xs) x ys = ap (λ l. f z ∷ l) (map_pushed f xs x ys)
-
-pub way_ends : (c : Collection) (ns : List Node) (x y : Item) (k : ItemKind) → AreAtEnd ns x y → (ItemsAgree ns x y → ⊥) → LeadsApart c (item_tree (tree_at ns) x) (item_tree (tree_at ns) y) k []
-way_ends c ns x y k (inl never) unlike = here (item_tree (tree_at ns) x) (item_tree (tree_at ns) y) k never unlike
-way_ends c ns x y k (inr agree) unlike = absurd (unlike agree)

@@ -7,6 +7,7 @@ pub mod Sizes
 pub mod Disagreeing
 pub mod Searching
 pub mod Leading
+pub mod Descending
 pub mod KeySets
 pub mod Reaching
 pub mod Resting

@@ -1,6 +1,7 @@
 pub mod Slots
 pub mod Apart
 pub mod Shapes
+pub mod Levels
 pub mod Reach
 pub mod ReachSteps
 pub mod Compared

@@ -1,5 +1,5 @@
 -- What items must be for a way to where they disagree. Private functions alone cite this.
-use Rattle.std.specs.Prelude.{ℕ, ◌≡◌, ◌<◌, ◌≤◌, List, ◌∷◌, ◌++◌, Some, slice_get, IsSome, ◌⊎◌}
+use Rattle.std.specs.Prelude.{ℕ, ◌≡◌, ◌<◌, ◌≤◌, List, ◌∷◌, ◌++◌, Some, slice_get, IsSome}
 use Rattle.std.specs.List.{AllByRecursion}
 use Rattle.std.specs.Ordering.{nat_cmp}
 use Rattle.std.specs.declared.cmp.Ordering.{Ordering}
@@ -11,10 +11,7 @@ use Rattle.wac_subtyping.specs.Called.{Called}
 use Rattle.wac_collection.specs.Collection.{Collection, HasInterface, interface_exports}
 use Rattle.wac_shapes.specs.declared.component.ItemKind.{ItemKind}
 use Rattle.wac_shapes.specs.declared.component.ItemKind.TheVariants as kind
-use Rattle.wac_shapes.specs.declared.component.InterfaceId.{InterfaceId}
-use Rattle.wac_entries.specs.Nodes.{Node, Item, item_tree, tree_at}
-use Rattle.wac_entries.specs.Agreement.{AreInstances}
-use Rattle.wac_agreement.specs.Slots.{exports_of}
+use Rattle.wac_entries.specs.Nodes.{Node, Item}
 use Rattle.wac_agreement.specs.Apart.{ItemsAgree}
 
 -- each instance, at each depth, is told by what it exports
@@ -48,20 +45,6 @@ pub record IsNextListed (ns : List Node) (es fs : List (Name × Item)) (listed :
   pub order : listed ≡ before ++ (n, k) ∷ after
   pub agree : AllByRecursion (λ e. AgreeUnder ns es fs e.0) before
   pub under : AreApartUnder ns es fs n a b
-
--- the first export of two instances that does not agree, in the order of a kind
-pub record IsNext (c : Collection) (ns : List Node) (x y : Item) (l : ItemKind) (n : Name) (a b : Item) (k : ItemKind) : Type 0 where
-  pub es : List (Name × Item)
-  pub fs : List (Name × Item)
-  pub interface : InterfaceId
-  pub first_open : exports_of ns x ≡ Some es
-  pub second_open : exports_of ns y ≡ Some fs
-  pub kind_is : l ≡ kind.Instance interface
-  pub next : IsNextListed ns es fs (interface_exports c interface) n a b k
-
--- the items are not both instances, or agree
-abbrev pub AreAtEnd : List Node → Item → Item → Type 0
-AreAtEnd ns x y = (AreInstances (item_tree (tree_at ns) x) (item_tree (tree_at ns) y) → ⊥) ⊎ ItemsAgree ns x y
 
 -- names in order, byte by byte
 abbrev pub compare : Name → Name → Ordering

@@ -1,30 +1,25 @@
 //! The way to where two items disagree.
-ghost use Rattle.std.specs.Prelude.{◌≡◌, ◌<◌, ◌↔◌, length, map, Some, IfOk, IsTrue, string_bytes};
+//!
+//! Exports are looked at one after another, in the order of the second's kind, and where both are instances theirs come next, so
+//! each pair is looked at once. The instances around one that is looked at wait in a list in place of recursion.
+ghost use Rattle.std.specs.Prelude.{◌≡◌, ◌<◌, ◌↔◌, length, map, None, IfOk, IsTrue, string_bytes};
 ghost use Rattle.std.specs.List.{AllByRecursion};
 ghost use Rattle.std.specs.Option.{MatchOption, option_map};
-ghost use Rattle.wac_shapes.specs.Name.{find_name};
+ghost use Rattle.wac_shapes.specs.Name.{find_name, option_case};
+ghost use Rattle.wac_entries.specs.Agreement.{AreInstances, LeadsApart};
 ghost use Rattle.wac_entries.specs.Nodes.{Sorted, type_of, item_tree, tree_at};
 ghost use Rattle.wac_entries.specs.NodeViews.{item_view, listed};
-ghost use Rattle.wac_entries.specs.Agreement.{LeadsApart};
 ghost use Rattle.wac_agreement.specs.Apart.{ItemsAgree};
-ghost use Rattle.wac_agreement.specs.Shapes.{AgreeUnder, AreApartUnder, AreAtEnd, IsNext, IsNextListed, IsOfKind, IsShaped};
+ghost use Rattle.wac_agreement.specs.Levels.{HasPassed, IsLevel, IsStart, Looks, name_of};
+ghost use Rattle.wac_agreement.specs.Shapes.{IsOfKind, IsShaped};
+ghost use Rattle.wac_agreement.specs.Slots.{exports_of};
+ghost use Rattle.wac_collection.specs.Collection.{Collection};
 
-use crate::agreement::first_disagreement;
 use crate::slots::exports;
 use std::alloc::{AllocError, Global};
 use std::cmp::Ordering;
-use wac_collection::{ItemKind, Named, Types};
+use wac_collection::{InterfaceId, ItemKind, Types};
 use wac_entries::nodes::{Item, Nodes};
-
-/// Whether two items agree.
-fn agree(alloc: Global, nodes: &Nodes, first: Item, second: Item) -> Result<bool, AllocError>
-    requires first { type_of (item_view first) < length nodes.now }
-    requires second { type_of (item_view second) < length nodes.now }
-    ensures { IfOk result (λ r. IsTrue r ↔ ItemsAgree nodes.now (item_view first) (item_view second)) }
-{
-    let apart = first_disagreement(alloc, nodes, &[first, second], &[0, 0])?;
-    Ok(apart.is_none())
-}
 
 /// What stands under a name in a sorted listing.
 fn find_export(exports: &[(String, Item)], name: &str) -> Option<Item>
@@ -45,99 +40,116 @@ fn find_export(exports: &[(String, Item)], name: &str) -> Option<Item>
     None
 }
 
-/// What both listings have under a name, where it does not agree.
-fn apart_under(
-    alloc: Global,
-    nodes: &Nodes,
-    first: &[(String, Item)],
-    second: &[(String, Item)],
-    name: &str,
-) -> Result<Option<(Item, Item)>, AllocError>
-    requires first_sorted { Sorted (listed first.now) }
-    requires second_sorted { Sorted (listed second.now) }
-    requires first_low { AllByRecursion (λ e. type_of e.1 < length nodes.now) (listed first.now) }
-    requires second_low { AllByRecursion (λ e. type_of e.1 < length nodes.now) (listed second.now) }
-    ensures { IfOk result (λ o. MatchOption o (AgreeUnder nodes.now (listed first.now) (listed second.now) name.now) (λ p. AreApartUnder nodes.now (listed first.now) (listed second.now) name.now (item_view p.0) (item_view p.1))) }
+/// Whether two items are one.
+fn is_one(first: Item, second: Item) -> bool
+    ensures { IsTrue result ↔ (item_view first ≡ item_view second) }
 {
-    let Some(earlier) = find_export(first, name) else {
-        return Ok(None);
-    };
-    let Some(later) = find_export(second, name) else {
-        return Ok(None);
-    };
-    if agree(alloc, nodes, earlier, later)? {
-        return Ok(None);
-    }
-    Ok(Some((earlier, later)))
+    first == second
 }
 
-/// An export of two instances.
-#[derive(Drop)]
-struct Step {
-    /// Its name.
-    name: String,
-    /// What the first has there.
-    first: Item,
-    /// What the second has there.
-    second: Item,
-    /// What kind it is of.
-    kind: ItemKind,
-}
-
-/// The first of the exports that are listed under which both have items that do not agree.
-fn next_listed(
-    alloc: Global,
-    nodes: &Nodes,
-    first: &[(String, Item)],
-    second: &[(String, Item)],
-    exports: &Named<ItemKind>,
-) -> Result<Option<Step>, AllocError>
-    requires first_sorted { Sorted (listed first.now) }
-    requires second_sorted { Sorted (listed second.now) }
-    requires first_low { AllByRecursion (λ e. type_of e.1 < length nodes.now) (listed first.now) }
-    requires second_low { AllByRecursion (λ e. type_of e.1 < length nodes.now) (listed second.now) }
-    ensures { IfOk result (λ o. MatchOption o (AllByRecursion (λ e. AgreeUnder nodes.now (listed first.now) (listed second.now) e.0) exports.now) (λ s. IsNextListed nodes.now (listed first.now) (listed second.now) exports.now (string_bytes s.name) (item_view s.first) (item_view s.second) s.kind)) }
-{
-    for i in 0..exports.len() {
-        let name = exports.name_at(i);
-        if let Some((earlier, later)) = apart_under(alloc, nodes, first, second, name)? {
-            return Ok(Some(Step {
-                name: String::from_str(alloc, name)?,
-                first: earlier,
-                second: later,
-                kind: *exports.value_at(i),
-            }));
-        }
-    }
-    Ok(None)
-}
-
-/// The first export of two instances that does not agree, in the order of the second's kind.
-fn next_apart(
-    alloc: Global,
-    types: &Types,
-    nodes: &Nodes,
-    first: Item,
-    second: Item,
-    kind: ItemKind,
-) -> Result<Option<Step>, AllocError>
-    requires first_low { type_of (item_view first) < length nodes.now }
-    requires second_low { type_of (item_view second) < length nodes.now }
-    requires shaped { IsShaped (item_tree (tree_at nodes.now) (item_view first)) }
-    requires of_kind { IsOfKind types.now (item_tree (tree_at nodes.now) (item_view second)) kind }
-    ensures { IfOk result (λ o. MatchOption o (AreAtEnd nodes.now (item_view first) (item_view second)) (λ s. IsNext types.now nodes.now (item_view first) (item_view second) kind (string_bytes s.name) (item_view s.first) (item_view s.second) s.kind)) }
+/// What an instance exports under a name.
+fn export_of(nodes: &Nodes, item: Item, name: &str) -> Option<Item>
+    requires { type_of (item_view item) < length nodes.now }
+    ensures { option_map item_view result ≡ option_case (exports_of nodes.now (item_view item)) None (λ es. find_name es name.now) }
 {
     nodes.table_law();
-    let Some(earlier) = exports(nodes, first) else {
-        return Ok(None);
-    };
-    let Some(later) = exports(nodes, second) else {
-        return Ok(None);
-    };
-    let ItemKind::Instance(id) = kind else {
-        return Ok(None);
-    };
-    next_listed(alloc, nodes, earlier, later, &types[id].exports)
+    find_export(exports(nodes, item)?, name)
+}
+
+/// Two instances, and how far their exports were looked at.
+#[derive(Clone, Copy)]
+struct Level {
+    /// The first.
+    first: Item,
+    /// The second.
+    second: Item,
+    /// The interface of the second.
+    interface: InterfaceId,
+    /// How many of the exports of that interface were looked at.
+    passed: usize,
+}
+
+/// What is found at the next export of two instances.
+#[derive(Clone, Copy)]
+enum Look {
+    /// There is none: they agree.
+    Done,
+    /// What both export there agrees, or one of them exports nothing there.
+    Agree,
+    /// Both export instances there.
+    Inside(Level),
+    /// What they export there does not agree, and is not two instances.
+    Apart,
+}
+
+impl Level {
+    /// Two items whose exports are to be looked at, where both are instances.
+    fn of(nodes: &Nodes, first: Item, second: Item, kind: ItemKind) -> Option<Level>
+        requires first_low { type_of (item_view first) < length nodes.now }
+        requires second_low { type_of (item_view second) < length nodes.now }
+        requires shaped { IsShaped (item_tree (tree_at nodes.now) (item_view first)) }
+        ensures { (c : Collection) → IsOfKind c (item_tree (tree_at nodes.now) (item_view second)) kind
+            → MatchOption result (AreInstances (item_tree (tree_at nodes.now) (item_view first)) (item_tree (tree_at nodes.now) (item_view second)) → ⊥) (IsStart c nodes.now first second kind) }
+    {
+        nodes.table_law();
+        let Some(_) = exports(nodes, first) else {
+            return None;
+        };
+        let Some(_) = exports(nodes, second) else {
+            return None;
+        };
+        let ItemKind::Instance(interface) = kind else {
+            return None;
+        };
+        Some(Level {
+            first,
+            second,
+            interface,
+            passed: 0,
+        })
+    }
+
+    /// Looks at the next export.
+    fn look(&mut self, types: &Types, nodes: &Nodes) -> Look
+        requires { IsLevel types.now nodes.now self.old }
+        ensures { Looks types.now nodes.now self.old self.new result }
+    {
+        nodes.table_law();
+        let listed = &types[self.interface].exports;
+        listed.law();
+        let position = self.passed;
+        if position == listed.len() {
+            return Look::Done;
+        }
+        self.passed = position + 1;
+        let (name, kind) = listed.entry_at(position);
+        let Some(first) = export_of(nodes, self.first, name) else {
+            return Look::Agree;
+        };
+        let Some(second) = export_of(nodes, self.second, name) else {
+            return Look::Agree;
+        };
+        if is_one(first, second) {
+            return Look::Agree;
+        }
+        match Level::of(nodes, first, second, *kind) {
+            Some(level) => Look::Inside(level),
+            None => Look::Apart,
+        }
+    }
+}
+
+/// The names of the exports that were looked at last.
+fn names(alloc: Global, types: &Types, levels: &[Level]) -> Result<Vec<String>, AllocError>
+    requires { AllByRecursion (HasPassed types.now) levels.now }
+    ensures { IfOk result (λ names. map string_bytes names.items ≡ map (name_of types.now) levels.now) }
+{
+    let mut names = Vec::new(alloc);
+    for level in levels {
+        let name = types[level.interface].exports.name_at(level.passed - 1);
+        names.push(String::from_str(alloc, name)?)?;
+    }
+    Ok(names)
 }
 
 /// The names of the exports that lead to the first disagreement of two items, in the order of the second's kind.
@@ -157,21 +169,28 @@ pub fn path_apart(
     ensures { IfOk result (λ names. LeadsApart types.now (item_tree (tree_at nodes.now) (item_view first)) (item_tree (tree_at nodes.now) (item_view second)) kind (map string_bytes names.items)) }
 {
     nodes.table_law();
-    let mut names = Vec::new(alloc);
-    let mut earlier = first;
-    let mut later = second;
-    let mut sort = kind;
-    while let Some(step) = next_apart(alloc, types, nodes, earlier, later, sort)? {
-        let Step {
-            name,
-            first,
-            second,
-            kind,
-        } = step;
-        names.push(name)?;
-        earlier = first;
-        later = second;
-        sort = kind;
+    types.law();
+    let mut levels = Vec::new(alloc);
+    let Some(mut level) = Level::of(nodes, first, second, kind) else {
+        return Ok(Vec::new(alloc));
+    };
+    loop {
+        match level.look(types, nodes) {
+            Look::Agree => {}
+            Look::Inside(inner) => {
+                levels.push(level)?;
+                level = inner;
+            }
+            Look::Done => {
+                let Some(outer) = levels.pop() else {
+                    unreachable!()
+                };
+                level = outer;
+            }
+            Look::Apart => {
+                levels.push(level)?;
+                return names(alloc, types, levels.as_slice());
+            }
+        }
     }
-    Ok(names)
 }

@@ -1,55 +1,123 @@
-use Rattle.std.proofs.Common.{◌∙◌, sym, ap, subst, List, [], ◌∷◌, ◌++◌, map, string_bytes, arith}
+use Rattle.std.proofs.Common.{◌≡◌, ◌-◌, List, [], ◌++◌, map, take, ap, sym, ◌∙◌, subst, string_bytes}
+use Rattle.std.specs.List.{AllByRecursion}
+use Rattle.std.specs.Option.{MatchOption}
 use Rattle.std.proofs.lemmas.List.{append-nil}
 use Rattle.wac_shapes.specs.Name.{Name}
-use Rattle.wac_entries.specs.Nodes.{item_tree, tree_at}
+use Rattle.wac_shapes.specs.declared.component.ItemKind.{ItemKind}
+use Rattle.wac_shapes.specs.declared.component.ItemKind.TheVariants as kind
+use Rattle.wac_entries.specs.Agreement.{AreInstances, LeadsApart, here}
+use Rattle.wac_entries.specs.Nodes.{Item, item_tree, tree_at}
 use Rattle.wac_entries.specs.NodeViews.{item_view}
-use Rattle.wac_entries.specs.Agreement.{LeadsApart}
-use Rattle.wac_agreement.specs.Shapes.{AreAtEnd, IsNext}
-use Rattle.wac_agreement.proofs.Leading.{match_some, match_none, GoesOn, goes_on, map_pushed, way_ends}
+use Rattle.wac_entries.specs.declared.nodes.Item.{Item as AnItem}
+use Rattle.wac_agreement.specs.Apart.{ItemsAgree}
+use Rattle.wac_agreement.specs.Levels.{AreLevels, HasPassed, IsStart, at_root, name_of, under}
+use Rattle.wac_agreement.specs.declared.apart.Level.{Level}
+use Rattle.wac_agreement.proofs.Descending.{back_at, last_level, less_agree, less_done, less_inside, no_level, way_found}
+use Rattle.wac_agreement.proofs.Leading.{if_ok, match_some}
 use Rattle.wac_agreement.proofs.apart.path_apart.Goals as goal
 
-pub loop-names-smaller : goal.loop-names-smaller
-loop-names-smaller c =
+pub returns-in_default : goal.returns-in_default
+returns-in_default c =
     let types = c.args.types.now in
     let ns = c.args.nodes.now in
-    let x = item_view c.loop-names.earlier in
-    let y = item_view c.loop-names.later in
-    let l = c.loop-names.sort in
-    let s = c.in-Some.step in
-    let next : IsNext types ns x y l (string_bytes s.name) (item_view s.first) (item_view s.second) s.kind =
-    match_some (AreAtEnd ns x y) (λ z. IsNext types ns x y l (string_bytes z.name) (item_view z.first) (item_view z.second) z.kind) c.in_ok-step.field-0 s c.in_ok-step.ensures c.in-Some.is in
-    let on : GoesOn types ns x y l (string_bytes s.name) (item_view s.first) (item_view s.second) s.kind =
-    goes_on types ns c.table_law.ensures x y l (string_bytes s.name) (item_view s.first) (item_view s.second) s.kind c.loop-names.invariant.shaped c.loop-names.invariant.of_kind next in
-    on.lower
+    let t = item_tree (tree_at ns) (item_view c.args.first) in
+    let u = item_tree (tree_at ns) (item_view c.args.second) in
+    let closed : AreInstances t u → ⊥ = subst (λ o. MatchOption o (AreInstances t u → ⊥) (IsStart types ns c.args.first c.args.second c.args.kind)) c.in_default.is (c.of.ensures types c.requires.of_kind) in
+    subst (λ zs. LeadsApart types t u c.args.kind (map string_bytes zs)) (sym c.new.ensures.items) (here t u c.args.kind closed c.requires.apart)
 
-pub loop-names-preserved : goal.loop-names-preserved
-loop-names-preserved c =
+pub loop-inner-init : goal.loop-inner-init
+loop-inner-init c =
     let types = c.args.types.now in
     let ns = c.args.nodes.now in
-    let x = item_view c.loop-names.earlier in
-    let y = item_view c.loop-names.later in
-    let l = c.loop-names.sort in
-    let s = c.in-Some.step in
-    let next : IsNext types ns x y l (string_bytes s.name) (item_view s.first) (item_view s.second) s.kind =
-    match_some (AreAtEnd ns x y) (λ z. IsNext types ns x y l (string_bytes z.name) (item_view z.first) (item_view z.second) z.kind) c.in_ok-step.field-0 s c.in_ok-step.ensures c.in-Some.is in
-    let on : GoesOn types ns x y l (string_bytes s.name) (item_view s.first) (item_view s.second) s.kind =
-    goes_on types ns c.table_law.ensures x y l (string_bytes s.name) (item_view s.first) (item_view s.second) s.kind c.loop-names.invariant.shaped c.loop-names.invariant.of_kind next in
+    let x = item_view c.args.first in
+    let y = item_view c.args.second in
+    let k = c.args.kind in
+    let l = c.in-Some.level in
+    let start : IsStart types ns c.args.first c.args.second k l =
+    match_some (AreInstances (item_tree (tree_at ns) x) (item_tree (tree_at ns) y) → ⊥) (IsStart types ns c.args.first c.args.second k) c.of.result l (c.of.ensures types c.requires.of_kind) c.in-Some.is in
+    let root : AreLevels types ns x y k [] x y (kind.Instance l.interface) = subst (λ (z : ItemKind). AreLevels types ns x y k [] x y z) start.kind_is at_root in
+    let second : AreLevels types ns x y k [] x (item_view l.second) (kind.Instance l.interface) = subst (λ (z : AnItem). AreLevels types ns x y k [] x (item_view z) (kind.Instance l.interface)) (sym start.second_is) root in
+    let both : AreLevels types ns x y k [] (item_view l.first) (item_view l.second) (kind.Instance l.interface) =
+    subst (λ (z : AnItem). AreLevels types ns x y k [] (item_view z) (item_view l.second) (kind.Instance l.interface)) (sym start.first_is) second in
+    record { levels = subst (λ (zs : List Level). AreLevels types ns x y k zs (item_view l.first) (item_view l.second) (kind.Instance l.interface)) (sym c.new-levels.ensures.items) both; level = start.level }
+
+pub loop-inner-smaller-in-Agree : goal.loop-inner-smaller-in-Agree
+loop-inner-smaller-in-Agree c = less_agree c.args.types.now c.loop-inner.levels.items c.loop-inner.level c.look.new.self c.in-Agree.ensures.0
+
+pub loop-inner-smaller-in-Inside : goal.loop-inner-smaller-in-Inside
+loop-inner-smaller-in-Inside c =
+    let found = c.in-Inside.ensures in
+    less_inside c.args.types.now c.law.ensures c.args.nodes.now c.loop-inner.levels.items c.push.new.self.items c.loop-inner.level c.look.new.self c.in-Inside.inner found.0 found.1.0 found.1.1.0.opened.held found.1.1.1 c.in_ok-push-in-Inside.ensures.items
+
+pub loop-inner-preserved-in-Inside : goal.loop-inner-preserved-in-Inside
+loop-inner-preserved-in-Inside c =
+    let types = c.args.types.now in
+    let ns = c.args.nodes.now in
+    let x = item_view c.args.first in
+    let y = item_view c.args.second in
+    let k = c.args.kind in
+    let ls = c.loop-inner.levels.items in
+    let m = c.look.new.self in
+    let inner = c.in-Inside.inner in
+    let found = c.in-Inside.ensures in
+    let rest : AreLevels types ns x y k ls (item_view m.first) (item_view m.second) (kind.Instance m.interface) =
+    subst (λ (z : Level). AreLevels types ns x y k ls (item_view z.first) (item_view z.second) (kind.Instance z.interface)) (sym found.0.is) c.loop-inner.invariant.levels in
     record {
-      first_low = omega (arith, on.lower, c.loop-names.invariant.first_low);
-      second_low = omega (arith, on.second_lower, c.loop-names.invariant.second_low);
-      shaped = on.shaped;
-      of_kind = on.of_kind;
-      apart = on.apart;
-      leads = λ names way. subst (λ (all : List Name). LeadsApart types (item_tree (tree_at ns) (item_view c.args.first)) (item_tree (tree_at ns) (item_view c.args.second)) c.args.kind all)
-          (sym (ap (λ zs. map string_bytes zs ++ names) c.in_ok-push.ensures.items ∙ map_pushed string_bytes c.loop-names.names.items s.name names)) (c.loop-names.invariant.leads (string_bytes s.name ∷ names) (on.leads names way));
+      levels = under c.push.new.self.items ls m (item_view inner.first) (item_view inner.second) (kind.Instance inner.interface) c.in_ok-push-in-Inside.ensures.items rest found.1.0;
+      level = found.1.1.0;
     }
 
-pub returns : goal.returns
-returns c =
-    let x = item_view c.loop-names.earlier in
-    let y = item_view c.loop-names.later in
-    let l = c.loop-names.sort in
-    let end : AreAtEnd c.args.nodes.now x y =
-    match_none (AreAtEnd c.args.nodes.now x y) (λ z. IsNext c.args.types.now c.args.nodes.now x y l (string_bytes z.name) (item_view z.first) (item_view z.second) z.kind) c.in_ok-step.field-0 c.in_ok-step.ensures c.in_default.not-Some in
-    let leads = c.loop-names.invariant.leads [] (way_ends c.args.types.now c.args.nodes.now x y l end c.loop-names.invariant.apart) in
-    subst (λ (names : List Name). LeadsApart c.args.types.now (item_tree (tree_at c.args.nodes.now) (item_view c.args.first)) (item_tree (tree_at c.args.nodes.now) (item_view c.args.second)) c.args.kind names) (append-nil (map string_bytes c.loop-names.names.items)) leads
+pub unreachable-requires : goal.unreachable-requires
+unreachable-requires c =
+    let ns = c.args.nodes.now in
+    let x = item_view c.args.first in
+    let y = item_view c.args.second in
+    let l = c.loop-inner.level in
+    let rest : c.pop.new.self.items ≡ [] = c.in_default-pop.ensures.rest ∙ ap (λ k. take (k - 1) c.loop-inner.levels.items) c.in_default-pop.ensures.cases.0 in
+    let none : c.loop-inner.levels.items ≡ [] = c.in_default-pop.ensures.items ∙ ap (λ (ls : List Level). ls ++ []) rest in
+    let (p, q) = no_level c.args.types.now ns c.table_law.ensures x y c.args.kind c.loop-inner.levels.items (item_view l.first) (item_view l.second) (kind.Instance l.interface) c.loop-inner.invariant.levels none in
+    c.requires.apart (subst (λ (z : Item). ItemsAgree ns z y) p (subst (λ (z : Item). ItemsAgree ns (item_view l.first) z) q c.in-Done.ensures))
+
+pub loop-inner-smaller : goal.loop-inner-smaller
+loop-inner-smaller c = less_done c.args.types.now c.pop.new.self.items c.loop-inner.levels.items c.in-Some-pop.outer c.loop-inner.level c.in-Some-pop.ensures.items
+
+pub loop-inner-preserved : goal.loop-inner-preserved
+loop-inner-preserved c =
+    let types = c.args.types.now in
+    let ns = c.args.nodes.now in
+    let l = c.loop-inner.level in
+    let outer = c.in-Some-pop.outer in
+    let (rest, over) = last_level types ns c.table_law.ensures (item_view c.args.first) (item_view c.args.second) c.args.kind c.loop-inner.levels.items c.pop.new.self.items outer (item_view l.first) (item_view l.second) (kind.Instance l.interface)
+    c.loop-inner.invariant.levels c.in-Some-pop.ensures.items in
+    record { levels = rest; level = back_at types ns c.table_law.ensures outer (item_view l.first) (item_view l.second) (kind.Instance l.interface) over c.in-Done.ensures }
+
+pub names-requires : goal.names-requires
+names-requires c =
+    let types = c.args.types.now in
+    let ns = c.args.nodes.now in
+    let x = item_view c.args.first in
+    let y = item_view c.args.second in
+    let k = c.args.kind in
+    let ls = c.loop-inner.levels.items in
+    let m = c.look.new.self in
+    let found = c.in-Apart.ensures in
+    let rest : AreLevels types ns x y k ls (item_view m.first) (item_view m.second) (kind.Instance m.interface) =
+    subst (λ (z : Level). AreLevels types ns x y k ls (item_view z.first) (item_view z.second) (kind.Instance z.interface)) (sym found.0.is) c.loop-inner.invariant.levels in
+    subst (λ (zs : List Level). AllByRecursion (HasPassed types) zs) (sym c.as_slice.ensures.value) (way_found types ns c.table_law.ensures x y k c.push-in-Apart.new.self.items ls m c.in_ok-push-in-Apart.ensures.items rest found.1).0
+
+pub returns-in-Apart : goal.returns-in-Apart
+returns-in-Apart c =
+    let types = c.args.types.now in
+    let ns = c.args.nodes.now in
+    let x = item_view c.args.first in
+    let y = item_view c.args.second in
+    let k = c.args.kind in
+    let ls = c.loop-inner.levels.items in
+    let all = c.push-in-Apart.new.self.items in
+    let m = c.look.new.self in
+    let found = c.in-Apart.ensures in
+    let rest : AreLevels types ns x y k ls (item_view m.first) (item_view m.second) (kind.Instance m.interface) =
+    subst (λ (z : Level). AreLevels types ns x y k ls (item_view z.first) (item_view z.second) (kind.Instance z.interface)) (sym found.0.is) c.loop-inner.invariant.levels in
+    let leads = (way_found types ns c.table_law.ensures x y k all ls m c.in_ok-push-in-Apart.ensures.items rest found.1).1 in
+    if_ok (λ names. map string_bytes names.items ≡ map (name_of types) c.as_slice.result.now) (λ names. LeadsApart types (item_tree (tree_at ns) x) (item_tree (tree_at ns) y) k (map string_bytes names.items)) c.names.result
+    (λ names e. subst (λ (zs : List Name). LeadsApart types (item_tree (tree_at ns) x) (item_tree (tree_at ns) y) k zs) (append-nil (map (name_of types) all) ∙ ap (map (name_of types)) (sym c.as_slice.ensures.value) ∙ sym e) leads) c.names.ensures
