@@ -9,5 +9,6 @@ pub mod RootPlaces
 pub mod UsedBefore
 pub mod ListedInOrder
 pub mod ListedExample
+pub mod NestedUsesExample
 pub mod UsedValues
 pub mod UsedResources

@@ -17,7 +17,8 @@ use Rattle.wac_collection.specs.declared.collection.Held.{Held}
 use Rattle.wac_entries.specs.Classes.{Entry, by_names, members}
 use Rattle.wac_terms.specs.Merge.{Merged, names_behind}
 use Rattle.wac_terms.proofs.Found.{no_some, some_same}
-use Rattle.wac_merge.specs.Listed.{AreListedInOrder, Unites, as_import, inside, interface_in, listed_by, united_interfaces}
+use Rattle.wac_merge.specs.Listed.{AreListedInOrder, Unites, as_import, inside, interface_in, united_interfaces}
+use Rattle.wac_uses.specs.United.{listed_by}
 
 -- a type item, a byte
 abbrev byte_type : Name → Name × ItemKind

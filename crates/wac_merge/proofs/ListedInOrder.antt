@@ -14,6 +14,7 @@ use Rattle.wac_shapes.specs.declared.component.ResourceId.{ResourceId}
 use Rattle.wac_shapes.specs.declared.component.UsedType.{UsedType}
 use Rattle.wac_shapes.specs.declared.component.ItemKind.{ItemKind}
 use Rattle.wac_shapes.specs.declared.component.ItemKind.TheVariants as kind
+use Rattle.wac_shapes.specs.declared.component.«Type».{«Type» as AnyType}
 use Rattle.wac_shapes.specs.declared.component.«Type».TheVariants as ty
 use Rattle.wac_collection.specs.Collection.{Collection, interface_exports, item_at}
 use Rattle.wac_subtyping.specs.Subtype.{IsSubtype}
@@ -33,12 +34,15 @@ use Rattle.wac_fitting.proofs.MergedBindingsClasses.{filter-has}
 use Rattle.wac_trees.proofs.UnionTreesOwn.{zip_none, zip_some}
 use Rattle.wac_trees.proofs.UnionTreesParts.{all_at, zip_map}
 use Rattle.wac_trees.proofs.UnionTreesWritten.{written_name, written_other, written_own}
-use Rattle.wac_uses.specs.Using.{IsKindUsing, IsWithUses, uses_among}
+use Rattle.wac_uses.specs.KeptUses.{instances}
+use Rattle.wac_uses.specs.United.{instances_of, listed_by}
+use Rattle.wac_uses.specs.Using.{IsKindUsing, IsUsing, uses_among}
 use Rattle.wac_uses.proofs.ClassFolds.{mapped_at}
+use Rattle.wac_uses.proofs.NestedBinds.{exports-named, found-using, using-instance, using-there}
 use Rattle.wac_unions.specs.MergedClasses.{class_roots, with_root}
 use Rattle.wac_unions.specs.OneId.{HasOneIdEach}
 use Rattle.wac_agreement.proofs.OrderLaws.{at_in, in_contains, order_each}
-use Rattle.wac_merge.specs.Listed.{AreListedInOrder, Unites, as_import, inside, instances_of, interface_in, listed_by, united_interfaces}
+use Rattle.wac_merge.specs.Listed.{AreListedInOrder, Unites, as_import, inside, interface_in, united_interfaces}
 use Rattle.wac_merge.proofs.OrderOnce.{order_only}
 use Rattle.wac_merge.proofs.UsedBefore.{canonical-class, instances-alike}
 
@@ -121,23 +125,58 @@ module _ (c m : Collection) (g : ResourceId → ResourceId) (o : Option Interfac
   from-interface (kind.Module y) h = absurd h
   from-interface (kind.Value v) h = absurd h
 
--- what became an instance with uses was one
-using-instance : (m : Collection) (uses : List (Name × ItemKind) → List (Name × UsedType)) (b : ItemKind) (w : InterfaceId) → IsKindUsing m uses b (kind.Instance w) → (i : InterfaceId) × (b ≡ kind.Instance i) × IsWithUses m i w uses
-using-instance m uses (kind.Instance i) w h = (i, refl, h)
-using-instance m uses (kind.TypeItem t) w h = absurd (false≢true (sym (ap is_instance h)))
-using-instance m uses (kind.Func f) w h = absurd (false≢true (sym (ap is_instance h)))
-using-instance m uses (kind.Component x) w h = absurd (false≢true (sym (ap is_instance h)))
-using-instance m uses (kind.Module y) w h = absurd (false≢true (sym (ap is_instance h)))
-using-instance m uses (kind.Value v) w h = absurd (false≢true (sym (ap is_instance h)))
+-- an interface stayed what it was
+using-interface : (c m : Collection) (uses : List InterfaceId → List (Name × ItemKind) → List (Name × UsedType)) (is : List InterfaceId) (b : ItemKind) (t : AnyType) → IsKindUsing c m uses is b (kind.TypeItem t) → b ≡ kind.TypeItem t
+using-interface c m uses is (kind.Instance i) t h = absurd (false≢true (ap is_instance h))
+using-interface c m uses is (kind.TypeItem s) t h = sym h
+using-interface c m uses is (kind.Func f) t h = sym h
+using-interface c m uses is (kind.Component x) t h = sym h
+using-interface c m uses is (kind.Module y) t h = sym h
+using-interface c m uses is (kind.Value v) t h = sym h
 
--- and an interface stayed what it was
-using-interface : (m : Collection) (uses : List (Name × ItemKind) → List (Name × UsedType)) (b : ItemKind) (w : InterfaceId) → IsKindUsing m uses b (kind.TypeItem (ty.Interface w)) → b ≡ kind.TypeItem (ty.Interface w)
-using-interface m uses (kind.Instance i) w h = absurd (false≢true (ap is_instance h))
-using-interface m uses (kind.TypeItem t) w h = sym h
-using-interface m uses (kind.Func f) w h = sym h
-using-interface m uses (kind.Component x) w h = sym h
-using-interface m uses (kind.Module y) w h = sym h
-using-interface m uses (kind.Value v) w h = sym h
+-- an interface is itself, or the same with uses
+abbrev pub IsItselfUsing : Collection → Collection → InterfaceId → InterfaceId → Type 0
+IsItselfUsing c m i w = (i ≡ w) ⊎ ((uses : List InterfaceId → List (Name × ItemKind) → List (Name × UsedType)) × (is : List InterfaceId) × IsUsing c m uses i w is)
+
+-- and so an item
+abbrev IsItemUsing : Collection → Collection → ItemKind → ItemKind → Type 0
+IsItemUsing c m k l = (k ≡ l) ⊎ ((uses : List InterfaceId → List (Name × ItemKind) → List (Name × UsedType)) × (is : List InterfaceId) × IsKindUsing c m uses is k l)
+
+item-type : (c m : Collection) (k : ItemKind) (t : AnyType) → IsItemUsing c m k (kind.TypeItem t) → k ≡ kind.TypeItem t
+item-type c m k t (inl same) = same
+item-type c m k t (inr (uses, is, h)) = using-interface c m uses is k t h
+
+item-instance : (c m : Collection) (k : ItemKind) (w : InterfaceId) → IsItemUsing c m k (kind.Instance w) → (i : InterfaceId) × (k ≡ kind.Instance i) × IsItselfUsing c m i w
+item-instance c m k w (inl same) = (w, same, inl refl)
+item-instance c m k w (inr (uses, is, h)) = let i = using-instance c m uses is k w h in (i.0, i.1, inr (uses, is, i.2))
+
+-- an interface in an item
+item-in : (c m : Collection) (k l : ItemKind) (w : InterfaceId) → IsItemUsing c m k l → interface_in l ≡ Some w → (i : InterfaceId) × (interface_in k ≡ Some i) × IsItselfUsing c m i w
+item-in c m k l w h inner = elim (in-kind l w inner) [
+  | inl is ↦ let i = item-instance c m k w (subst (IsItemUsing c m k) is h) in (i.0, ap interface_in i.1, i.2)
+  | inr is ↦ (w, ap interface_in (item-type c m k (ty.Interface w) (subst (IsItemUsing c m k) is h)), inl refl)
+]
+
+-- one interface lists what another does, with uses inside
+pub record IsListedAs (c m : Collection) (y it : Interface) : Type 0 where
+  pub names : map (λ (e : Name × ItemKind). e.0) it.exports ≡ map (λ (e : Name × ItemKind). e.0) y.exports
+  pub found : (n : Name) (l : ItemKind) → find_name it.exports n ≡ Some l → (k : ItemKind) × (find_name y.exports n ≡ Some k) × IsItemUsing c m k l
+
+listed-as : (c m : Collection) (i w : InterfaceId) → IsItselfUsing c m i w → (it : Interface) → item_at m.interfaces w.0 ≡ Some it → (y : Interface) × (item_at m.interfaces i.0 ≡ Some y) × IsListedAs c m y it
+listed-as c m i w (inl same) it at = (it, ap (λ (x : InterfaceId). item_at m.interfaces x.0) same ∙ at, record { names = refl; found = λ n l found. (l, found, inl refl) })
+listed-as c m i w (inr (uses, is, h)) it at =
+    let x = using-there c m uses i w is h in (
+      x.0,
+      x.2,
+      record {
+        names = sym (ap (λ o. map (λ (e : Name × ItemKind). e.0) (option_case o [] (λ (y : Interface). y.exports))) at)
+            ∙ (exports-named c m uses i w is h ∙ ap (λ o. map (λ (e : Name × ItemKind). e.0) (option_case o [] (λ (y : Interface). y.exports))) x.2);
+        found = λ n l found.
+            let f = found-using c m uses i w is it n l h at found in
+            let one : f.0 ≡ x.0 = one_some (item_at m.interfaces i.0) f.0 x.0 f.2 x.2 in
+            (f.1, ap (λ (y : Interface). find_name y.exports n) (sym one) ∙ f.3, inr (uses, instances_of (listed_by c is n), f.4));
+      },
+    )
 
 -- ---- the parts of unions
 
@@ -201,34 +240,45 @@ module _ (c : Collection) (es : List Entry) (m : Merged) (g : IsMerge by_names c
     pub parts : AllZip (IsPartOf h.ps) is union.parts.items
     pub bare : InterfaceId
     pub written : slice_get h.written.ws number ≡ Some bare
-    pub same : (it : Interface) → item_at m.types.interfaces w.0 ≡ Some it → (y : Interface) × (item_at m.types.interfaces bare.0 ≡ Some y) × (y.exports ≡ it.exports)
+    pub itself : IsItselfUsing c m.types bare w
 
   module _ (w : InterfaceId) (is : List InterfaceId) (a : IsUnionOf w is) (it : Interface) (at : item_at m.types.interfaces w.0 ≡ Some it) where
     abbrev pub IsExported : Name × Export → Name × ItemKind → Type 0
     IsExported = IsWrittenExport c m.types h.ps h.bs h.f h.written.ws a.number
 
-    pub exports-are : AllZip IsExported a.union.exports it.exports
+    -- what it listed before uses were added
+    pub before : (y : Interface) × (item_at m.types.interfaces (a.bare).0 ≡ Some y) × IsListedAs c m.types y it
+    before = listed-as c m.types a.bare w a.itself it at
+
+    abbrev pub bare-exports : List (Name × ItemKind)
+    bare-exports = (before.0).exports
+
+    pub exports-are : AllZip IsExported a.union.exports bare-exports
     exports-are =
         let x = h.written.written.written a.number a.union a.there in
-        let s = a.same it at in
         let bare : x.0 ≡ a.bare = one_some (slice_get h.written.ws a.number) x.0 a.bare x.2 a.written in
-        let one : x.1 ≡ s.0 = one_some (item_at m.types.interfaces (a.bare).0) x.1 s.0 (ap (λ (i : InterfaceId). item_at m.types.interfaces i.0) (sym bare) ∙ x.3) s.1 in
-        subst (AllZip IsExported a.union.exports) (ap (λ (y : Interface). y.exports) one ∙ s.2) x.6
+        let one : x.1 ≡ before.0 = one_some (item_at m.types.interfaces (a.bare).0) x.1 before.0 (ap (λ (i : InterfaceId). item_at m.types.interfaces i.0) (sym bare) ∙ x.3) before.1 in
+        subst (AllZip IsExported a.union.exports) (ap (λ (y : Interface). y.exports) one) x.6
+
+    -- type items are what they were
+    pub type-listed : (n : Name) (t : AnyType) → find_name it.exports n ≡ Some (kind.TypeItem t) → find_name bare-exports n ≡ Some (kind.TypeItem t)
+    type-listed n t found = let f = before.2.found n (kind.TypeItem t) found in f.1 ∙ ap Some (item-type c m.types f.0 t f.2)
 
     names-are : map (λ e. e.0) it.exports ≡ names_behind [] (map (interface_exports c) is)
     names-are =
-        sym (zip_map IsExported (λ e. e.0) (λ e. e.0) (λ x y z. z.0) a.union.exports it.exports exports-are)
+        before.2.names
+        ∙ (sym (zip_map IsExported (λ e. e.0) (λ e. e.0) (λ x y z. z.0) a.union.exports bare-exports exports-are)
         ∙ (h.unions.unions.ordered a.number a.union a.there
-        ∙ ap (names_behind []) (sym (zip_map (IsPartOf h.ps) (interface_exports c) (part_lists c h.ps) (part-exports c h.ps) is a.union.parts.items a.parts)))
+        ∙ ap (names_behind []) (sym (zip_map (IsPartOf h.ps) (interface_exports c) (part_lists c h.ps) (part-exports c h.ps) is a.union.parts.items a.parts))))
 
     -- so does one that it lists
     module _ (n : Name) (e : Export) (k : ItemKind) (listed : IsExport c h.us h.ps a.number n (listed_under c h.ps a.union.parts.items n) e) where
       pub first-is : listed_by c is n ≡ e.kind ∷ map (λ l. l.1) listed.more
       first-is = parts-list c h.ps n is a.union.parts.items a.parts ∙ ap (map (λ l. l.1)) listed.first
 
-      inner-of : (v : InterfaceId) (x : ℕ × InterfaceId) (xs : List (ℕ × InterfaceId)) → united (listed_under c h.ps a.union.parts.items n) ≡ x ∷ xs → written_at h.written.ws e.inner ≡ Some v
-          → united_interfaces (listed_by c is n) ≡ map (λ y. y.1) (x ∷ xs) → IsUnionOf v (united_interfaces (listed_by c is n))
-      inner-of v x xs all given lists =
+      inner-of : (v w : InterfaceId) → IsItselfUsing c m.types v w → (x : ℕ × InterfaceId) (xs : List (ℕ × InterfaceId)) → united (listed_under c h.ps a.union.parts.items n) ≡ x ∷ xs → written_at h.written.ws e.inner ≡ Some v
+          → united_interfaces (listed_by c is n) ≡ map (λ y. y.1) (x ∷ xs) → IsUnionOf w (united_interfaces (listed_by c is n))
+      inner-of v w itself x xs all given lists =
           let i : IsInner h.us h.ps a.number (x ∷ xs) e.inner = subst (λ ls. IsInner h.us h.ps a.number ls e.inner) all listed.inner in
           record {
             number = i.0;
@@ -237,25 +287,25 @@ module _ (c : Collection) (es : List Entry) (m : Merged) (g : IsMerge by_names c
             parts = subst (λ is. AllZip (IsPartOf h.ps) is (i.1).parts.items) (sym lists) (inner-parts c h.ps i.0 (x ∷ xs) (i.1).parts.items i.5);
             bare = v;
             written = ap (written_at h.written.ws) (sym i.2) ∙ given;
-            same = λ it at. (it, at, refl);
+            itself = itself;
           }
 
-      inner-instance : (v i : InterfaceId) → e.kind ≡ kind.Instance i → written_at h.written.ws e.inner ≡ Some v → IsUnionOf v (united_interfaces (listed_by c is n))
-      inner-instance v i is-kind given =
-          inner-of v (e.part, i) (instances_in listed.more) (ap united listed.first ∙ ap (λ z. united ((e.part, z) ∷ listed.more)) is-kind) given
+      inner-instance : (v w : InterfaceId) → IsItselfUsing c m.types v w → (i : InterfaceId) → e.kind ≡ kind.Instance i → written_at h.written.ws e.inner ≡ Some v → IsUnionOf w (united_interfaces (listed_by c is n))
+      inner-instance v w itself i is-kind given =
+          inner-of v w itself (e.part, i) (instances_in listed.more) (ap united listed.first ∙ ap (λ z. united ((e.part, z) ∷ listed.more)) is-kind) given
           (ap united_interfaces first-is ∙ (ap (λ z. united_interfaces (z ∷ map (λ l. l.1) listed.more)) is-kind ∙ ap (λ js. i ∷ js) (instances-in listed.more)))
 
-      inner-interface : (v i : InterfaceId) → e.kind ≡ kind.TypeItem (ty.Interface i) → written_at h.written.ws e.inner ≡ Some v → IsUnionOf v (united_interfaces (listed_by c is n))
-      inner-interface v i is-kind given =
-          inner-of v (e.part, i) [] (ap united listed.first ∙ ap (λ z. united ((e.part, z) ∷ listed.more)) is-kind) given
+      inner-interface : (v w : InterfaceId) → IsItselfUsing c m.types v w → (i : InterfaceId) → e.kind ≡ kind.TypeItem (ty.Interface i) → written_at h.written.ws e.inner ≡ Some v → IsUnionOf w (united_interfaces (listed_by c is n))
+      inner-interface v w itself i is-kind given =
+          inner-of v w itself (e.part, i) [] (ap united listed.first ∙ ap (λ z. united ((e.part, z) ∷ listed.more)) is-kind) given
           (ap united_interfaces first-is ∙ ap (λ z. united_interfaces (z ∷ map (λ l. l.1) listed.more)) is-kind)
 
-      inner-is : (v : InterfaceId) → interface_in k ≡ Some v → IsExported (n, e) (n, k) → IsUnionOf v (united_interfaces (listed_by c is n))
-      inner-is v inner w = by e.is_own refl where
+      inner-is : (v : InterfaceId) → interface_in k ≡ Some v → IsExported (n, e) (n, k) → (u : InterfaceId) → IsItselfUsing c m.types v u → IsUnionOf u (united_interfaces (listed_by c is n))
+      inner-is v inner w u itself = by e.is_own refl where
         none : (r : ResourceId) → k ≡ kind.TypeItem (ty.Resource r) → ⊥
         none r is-k = no_some v (sym (ap interface_in is-k) ∙ inner)
 
-        by : (b : Bool) → e.is_own ≡ b → IsUnionOf v (united_interfaces (listed_by c is n))
+        by : (b : Bool) → e.is_own ≡ b → IsUnionOf u (united_interfaces (listed_by c is n))
         by true own = let o = written_own c m.types h.us h.ps h.bs h.f h.written.ws a.number n n e k w own in absurd (none o.0 o.2)
         by false own =
             let o = written_other c m.types h.us h.ps h.bs h.f h.written.ws a.number n n e k w own in
@@ -263,17 +313,19 @@ module _ (c : Collection) (es : List Entry) (m : Merged) (g : IsMerge by_names c
             elim (in-kind k v inner) [
               | inl is-k ↦
                   let f = from-instance c m.types r (written_at h.written.ws e.inner) n v e.kind (subst (λ z. IsWrittenAs c m.types r (written_at h.written.ws e.inner) n e.kind z) is-k o) in
-                  inner-instance v f.0 f.1 f.2
+                  inner-instance v u itself f.0 f.1 f.2
               | inr is-k ↦
                   let f = from-interface c m.types r (written_at h.written.ws e.inner) n v e.kind (subst (λ z. IsWrittenAs c m.types r (written_at h.written.ws e.inner) n e.kind z) is-k o) in
-                  inner-interface v f.0 f.1 f.2
+                  inner-interface v u itself f.0 f.1 f.2
             ]
 
     inside-is : (n : Name) (k : ItemKind) (v : InterfaceId) → find_name it.exports n ≡ Some k → interface_in k ≡ Some v → IsUnionOf v (united_interfaces (listed_by c is n))
     inside-is n k v found inner =
-        let z = zip-back IsExported (written_name c m.types h.us h.ps h.bs h.f h.written.ws a.number) a.union.exports it.exports exports-are n k found in
+        let f = before.2.found n k found in
+        let i = item-in c m.types f.0 k v f.2 inner in
+        let z = zip-back IsExported (written_name c m.types h.us h.ps h.bs h.f h.written.ws a.number) a.union.exports bare-exports exports-are n f.0 f.1 in
         let x = MatchOption-at_some _ (λ e. IsExport c h.us h.ps a.number n (listed_under c h.ps a.union.parts.items n) e) z.0 z.1 (h.unions.unions.exported a.number a.union n a.there) in
-        inner-is n z.0 k x v inner z.2
+        inner-is n z.0 f.0 x i.0 i.1 z.2 v i.2
 
   -- ---- imports
 
@@ -288,7 +340,7 @@ module _ (c : Collection) (es : List Entry) (m : Merged) (g : IsMerge by_names c
     pub alike : members by_names es class ≡ members by_names es x.name
     pub first : Entry
     pub bare : slice_get h.bare p ≡ Some first
-    pub using : IsKindUsing m.types (uses_among by_names c es m.types (take p m.imports) first.name) first.kind x.kind
+    pub using : IsKindUsing c m.types (uses_among by_names c es m.types (take p m.imports)) (instances (members by_names es first.name)) first.kind x.kind
 
   pub of-class : (p : ℕ) (x : Entry) → slice_get m.imports p ≡ Some x → IsOfClass p x
   of-class p x at =
@@ -330,9 +382,8 @@ module _ (c : Collection) (es : List Entry) (m : Merged) (g : IsMerge by_names c
 
     -- the union of the class
     as-union : (w bare : InterfaceId) → slice_get h.written.ws o.number ≡ Some bare → class_roots es o.class ≡ united_interfaces kinds
-        → ((it : Interface) → item_at m.types.interfaces w.0 ≡ Some it → (y : Interface) × (item_at m.types.interfaces bare.0 ≡ Some y) × (y.exports ≡ it.exports))
-        → IsOfUnion w
-    as-union w bare written roots same =
+        → IsItselfUsing c m.types bare w → IsOfUnion w
+    as-union w bare written roots itself =
         let low = slice_get_within (class_names by_names es) o.number o.class o.known in
         let counted = h.unions.rooted.counted in
         let r = some-at h.unions.roots o.number (omega (arith, low, counted)) in
@@ -346,7 +397,7 @@ module _ (c : Collection) (es : List Entry) (m : Merged) (g : IsMerge by_names c
             parts = subst (λ is. AllZip (IsPartOf h.ps) is (u.0).parts.items) are (root-parts c h.ps o.number r.0 (u.0).parts.items u.2);
             bare = bare;
             written = written;
-            same = same;
+            itself = itself;
           },
           refl,
         )
@@ -360,13 +411,13 @@ module _ (c : Collection) (es : List Entry) (m : Merged) (g : IsMerge by_names c
 
     pub as-instance : (w : InterfaceId) → x.kind ≡ kind.Instance w → IsOfUnion w
     as-instance w is =
-        let uses = uses_among by_names c es m.types (take p m.imports) (o.first).name in
-        let b = using-instance m.types uses (o.first).kind w (subst (IsKindUsing m.types uses (o.first).kind) is o.using) in
+        let uses = uses_among by_names c es m.types (take p m.imports) in
+        let js = instances (members by_names es (o.first).name) in
+        let b = using-instance c m.types uses js (o.first).kind w (subst (IsKindUsing c m.types uses js (o.first).kind) is o.using) in
         let z = h.written.imported.each p o.number o.class o.first o.placed o.known o.bare in
         let given = from-given b.0 z.1 (whole_in h.f o.number) (subst (λ k. Became k z.1 (whole_in h.f o.number)) b.1 z.6) in
         let all = members-like true (ap is_instance is) in
-        as-union w b.0 given (all-united kinds [] all ∙ first-instances kinds all)
-        (λ it it-at. (b.2.interface, b.2.before, ap (λ (y : Interface). y.exports) (one_some (item_at m.types.interfaces w.0) _ it b.2.there it-at)))
+        as-union w b.0 given (all-united kinds [] all ∙ first-instances kinds all) (inr (uses, js, b.2))
 
     -- ---- type items
 
@@ -398,7 +449,10 @@ module _ (c : Collection) (es : List Entry) (m : Merged) (g : IsMerge by_names c
         plain = members-like false (ap is_instance is)
 
         bare : (o.first).kind ≡ kind.TypeItem (ty.Interface w)
-        bare = using-interface m.types (uses_among by_names c es m.types (take p m.imports) (o.first).name) (o.first).kind w (subst (IsKindUsing m.types (uses_among by_names c es m.types (take p m.imports) (o.first).name) (o.first).kind) is o.using)
+        bare =
+            let uses = uses_among by_names c es m.types (take p m.imports) in
+            let js = instances (members by_names es (o.first).name) in
+            using-interface c m.types uses js (o.first).kind (ty.Interface w) (subst (IsKindUsing c m.types uses js (o.first).kind) is o.using)
 
         by : (xs : List Entry) → members by_names es o.class ≡ xs → (j : ℕ) (y : Entry) → slice_get xs j ≡ Some y → IsOfUnion w
         by [] all j y y-at = absurd (no_some y y-at)
@@ -407,7 +461,7 @@ module _ (c : Collection) (es : List Entry) (m : Merged) (g : IsMerge by_names c
             let given = interface-given w e (whole_in h.f o.number) (subst (λ k. Became k e (whole_in h.f o.number)) bare f) in
             let lists : kinds ≡ kind.TypeItem (ty.Interface given.0) ∷ map (λ (y : Entry). y.kind) more = ap (map (λ (y : Entry). y.kind)) all ∙ ap (λ k. k ∷ map (λ (y : Entry). y.kind) more) given.1 in
             let rest : AreAll false (map (λ (y : Entry). y.kind) more) = λ l k k-at. plain (suc l) k (ap (λ (ks : List ItemKind). slice_get ks (suc l)) lists ∙ k-at) in
-            as-union w w given.2 (ap (fold with_root []) lists ∙ (one-united given.0 (map (λ (y : Entry). y.kind) more) rest ∙ sym (ap united_interfaces lists))) (λ it it-at. (it, it-at, refl))
+            as-union w w given.2 (ap (fold with_root []) lists ∙ (one-united given.0 (map (λ (y : Entry). y.kind) more) rest ∙ sym (ap united_interfaces lists))) (inl refl)
 
     import-is : (w : InterfaceId) → interface_in x.kind ≡ Some w → IsOfUnion w
     import-is w inner = elim (in-kind x.kind w inner) [

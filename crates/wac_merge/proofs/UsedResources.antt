@@ -32,12 +32,13 @@ use Rattle.wac_trees.proofs.UnionTreesOwn.{alias_resolved, end_alias, end_source
 use Rattle.wac_trees.proofs.UnionTreesParts.{contains_at}
 use Rattle.wac_trees.proofs.UnionTreesWritten.{written_name, written_other, written_own}
 use Rattle.wac_uses.specs.KeptUses.{of_interface}
+use Rattle.wac_uses.specs.United.{instances_of}
 use Rattle.wac_uses.proofs.ClassFolds.{mapped_at}
 use Rattle.wac_unions.specs.OneId.{HasOneIdEach}
 use Rattle.wac_unions.proofs.AssembledKinds.{the-instance}
-use Rattle.wac_merge.specs.Listed.{instances_of, united_interfaces}
+use Rattle.wac_merge.specs.Listed.{united_interfaces}
 use Rattle.wac_merge.specs.UsedResources.{BindsResource, ListsResource}
-use Rattle.wac_merge.proofs.ListedInOrder.{AreAll, IsPartOf, IsUnionOf, as-instance, exports-are, first-instances, first-is, members-like, of-class, zip-back}
+use Rattle.wac_merge.proofs.ListedInOrder.{AreAll, IsPartOf, IsUnionOf, as-instance, bare-exports, exports-are, first-instances, first-is, members-like, of-class, type-listed, zip-back}
 use Rattle.wac_merge.proofs.UsedBefore.{canonical-class}
 use Rattle.wac_merge.proofs.UsedValues.{held-interface}
 
@@ -102,7 +103,7 @@ module _ (c : Collection) (es : List Entry) (m : Merged) (well : IsWellFormed m.
 
       own-is : own_in h.f u.number n ≡ Some b
       own-is =
-          let z = zip-back BoundAs (written_name c m.types h.us h.ps h.bs h.f h.written.ws u.number) u.union.exports it.exports (exports-are c es m g h l.interface (united_interfaces bound-kinds) u it it-at) n (kind.TypeItem (ty.Resource b)) it-lists in
+          let z = zip-back BoundAs (written_name c m.types h.us h.ps h.bs h.f h.written.ws u.number) u.union.exports (bare-exports c es m g h l.interface (united_interfaces bound-kinds) u it it-at) (exports-are c es m g h l.interface (united_interfaces bound-kinds) u it it-at) n (kind.TypeItem (ty.Resource b)) (type-listed c es m g h l.interface (united_interfaces bound-kinds) u it it-at n (ty.Resource b) it-lists) in
           by z.0 z.2 (z.0).is_own refl
         where
           resource-of : ResourceId → ItemKind → ResourceId
@@ -210,7 +211,7 @@ module _ (c : Collection) (es : List Entry) (m : Merged) (well : IsWellFormed m.
           by : (number : ℕ) (class : Name) → slice_get (class_names by_names es) number ≡ Some class → members by_names es class ≡ members by_names es l.entry.name
               → (u : IsUnionOf c es m g h l.interface (united_interfaces kinds)) → u.number ≡ number → (it : Interface) → item_at m.types.interfaces l.interface.0 ≡ Some it → find_name it.exports n ≡ Some (kind.TypeItem (ty.Resource a)) → resolved m.types a ≡ b
           by number class known alike u placed it it-at it-lists =
-              let z = zip-back (IsWrittenExport c m.types h.ps h.bs h.f h.written.ws u.number) (written_name c m.types h.us h.ps h.bs h.f h.written.ws u.number) u.union.exports it.exports (exports-are c es m g h l.interface (united_interfaces kinds) u it it-at) n (kind.TypeItem (ty.Resource a)) it-lists in
+              let z = zip-back (IsWrittenExport c m.types h.ps h.bs h.f h.written.ws u.number) (written_name c m.types h.us h.ps h.bs h.f h.written.ws u.number) u.union.exports (bare-exports c es m g h l.interface (united_interfaces kinds) u it it-at) (exports-are c es m g h l.interface (united_interfaces kinds) u it it-at) n (kind.TypeItem (ty.Resource a)) (type-listed c es m g h l.interface (united_interfaces kinds) u it it-at n (ty.Resource a) it-lists) in
               let x = MatchOption-at_some _ (λ (y : Export). IsExport c h.us h.ps u.number n (listed_under c h.ps u.union.parts.items n) y) z.0 z.1 (h.unions.unions.exported u.number u.union n u.there) in
               let first = first-is c es m g h l.interface (united_interfaces kinds) u it it-at n z.0 (kind.TypeItem (ty.Resource a)) x in
               let is : (z.0).kind ≡ kind.TypeItem (ty.Resource l.first) = some_same (z.0).kind (kind.TypeItem (ty.Resource l.first)) (ap (λ (ks : List ItemKind). slice_get ks 0) (sym first ∙ l.listed)) in

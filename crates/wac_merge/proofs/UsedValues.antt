@@ -35,12 +35,13 @@ use Rattle.wac_trees.proofs.UnionTreesOwn.{found_place}
 use Rattle.wac_trees.proofs.UnionTreesParts.{at_contains, contains_at}
 use Rattle.wac_trees.proofs.UnionTreesWritten.{written_name, written_other, written_own}
 use Rattle.wac_uses.specs.KeptUses.{of_interface}
+use Rattle.wac_uses.specs.United.{instances_of, listed_by}
 use Rattle.wac_values.specs.NamedTypes.{ListsOne, named_type}
 use Rattle.wac_renaming.specs.Made.{other_name}
 use Rattle.wac_unions.specs.OneId.{Became, HasOneIdEach, another, at_end, in_union, kind_values}
-use Rattle.wac_merge.specs.Listed.{instances_of, listed_by, united_interfaces}
+use Rattle.wac_merge.specs.Listed.{united_interfaces}
 use Rattle.wac_merge.specs.UsedValues.{ListsDefinition}
-use Rattle.wac_merge.proofs.ListedInOrder.{AreAll, IsPartOf, IsUnionOf, as-instance, exports-are, first-instances, first-is, members-like, of-class, zip-back}
+use Rattle.wac_merge.proofs.ListedInOrder.{AreAll, IsPartOf, IsUnionOf, as-instance, bare-exports, before, exports-are, first-instances, first-is, members-like, of-class, type-listed, zip-back}
 
 -- ---- the ends of aliases
 
@@ -211,9 +212,9 @@ module _ (c : Collection) (es : List Entry) (m : Merged) (well : IsWellFormed c)
             let first = first-is c es m g h l.interface (united_interfaces kinds) u it it-at n e Item x in
             let w = l.each e.kind (contains_at (listed_by c (united_interfaces kinds) n) 0 e.kind (ap (λ (ks : List ItemKind). slice_get ks 0) first)) in
             let ends : value_resolved c v ≡ val.Defined w.0 = definition-is (value_resolved c v) w.0 (ap (listed_value c) (sym is) ∙ w.1) in
-            let place = same-place Exported (written_name c m.types h.us h.ps h.bs h.f h.written.ws u.number) u.union.exports it.exports (exports-are c es m g h l.interface (united_interfaces kinds) u it it-at) n e Item found it-lists in
-            let s = u.same it it-at in
-            let start : Mention v (val.Defined a) = in_union v (val.Defined a) u.number place.0 u.union u.bare s.0 (n, e) (n, Item) u.there u.written s.1 place.1 (ap (λ (xs : List (Name × ItemKind)). slice_get xs place.0) s.2 ∙ place.2)
+            let place = same-place Exported (written_name c m.types h.us h.ps h.bs h.f h.written.ws u.number) u.union.exports (bare-exports c es m g h l.interface (united_interfaces kinds) u it it-at) (exports-are c es m g h l.interface (united_interfaces kinds) u it it-at) n e Item found (type-listed c es m g h l.interface (united_interfaces kinds) u it it-at n (ty.Value (val.Defined a)) it-lists) in
+            let s = before c es m g h l.interface (united_interfaces kinds) u it it-at in
+            let start : Mention v (val.Defined a) = in_union v (val.Defined a) u.number place.0 u.union u.bare s.0 (n, e) (n, Item) u.there u.written s.1 place.1 place.2
             (0, ap (λ k. slice_get (kind_values c k) 0) is, refl) in
             let f = found_place (interface_exports c l.of) n l.item l.listed in
             let one = lists-one f.0 n l.item f.1 e w.0 d found w.1 l.definition in
@@ -236,7 +237,7 @@ module _ (c : Collection) (es : List Entry) (m : Merged) (well : IsWellFormed c)
     listed-once =
         let u = union-is in
         let it = held-interface m.types l.interface n Item l.merged in
-        let z = zip-back (IsWrittenExport c m.types h.ps h.bs h.f h.written.ws u.number) (written_name c m.types h.us h.ps h.bs h.f h.written.ws u.number) u.union.exports it.0.exports (exports-are c es m g h l.interface (united_interfaces kinds) u it.0 it.1) n Item it.2 in
+        let z = zip-back (IsWrittenExport c m.types h.ps h.bs h.f h.written.ws u.number) (written_name c m.types h.us h.ps h.bs h.f h.written.ws u.number) u.union.exports (bare-exports c es m g h l.interface (united_interfaces kinds) u it.0 it.1) (exports-are c es m g h l.interface (united_interfaces kinds) u it.0 it.1) n Item (type-listed c es m g h l.interface (united_interfaces kinds) u it.0 it.1 n (ty.Value (val.Defined a)) it.2) in
         from-export u it.0 it.1 it.2 z.0 z.1 z.2
 
   pub used-value : (p q : ℕ) (n : Name) (u : UsedType) (d a b : DefinedTypeId) (x : DefinedType) (lists : ListsDefinition c es m p n d a) (there : ListsDefinition c es m q (name_there n u) d b)

@@ -1,6 +1,6 @@
 -- What the interfaces of a finished merge list, at each depth: those of imports, of instances inside, and those that are type items.
 use Rattle.std.specs.Prelude.{ℕ, ◌≡◌, List, [], ◌∷◌, map, Option, Some, None, slice_get}
-use Rattle.wac_shapes.specs.Name.{Name, find_name, option_case}
+use Rattle.wac_shapes.specs.Name.{Name, find_name}
 use Rattle.wac_shapes.specs.declared.component.Interface.{Interface}
 use Rattle.wac_shapes.specs.declared.component.InterfaceId.{InterfaceId}
 use Rattle.wac_shapes.specs.declared.component.ItemKind.{ItemKind}
@@ -9,6 +9,7 @@ use Rattle.wac_shapes.specs.declared.component.«Type».TheVariants as ty
 use Rattle.wac_collection.specs.Collection.{Collection, interface_exports, item_at}
 use Rattle.wac_entries.specs.Classes.{Entry, NameRules, members}
 use Rattle.wac_terms.specs.Merge.{Merged, names_behind}
+use Rattle.wac_uses.specs.United.{instances_of, listed_by}
 
 -- the interface of an instance, or that a type item is
 abbrev pub interface_in : ItemKind → Option InterfaceId
@@ -16,22 +17,11 @@ interface_in (kind.Instance i) = Some i
 interface_in (kind.TypeItem (ty.Interface i)) = Some i
 interface_in k = None
 
--- the interfaces of the instances among items
-abbrev pub instances_of : List ItemKind → List InterfaceId
-instances_of [] = []
-instances_of (kind.Instance i ∷ ks) = i ∷ instances_of ks
-instances_of (k ∷ ks) = instances_of ks
-
 -- the interfaces that items under one name unite: those of all, where they are instances; the first, where they are type items
 abbrev pub united_interfaces : List ItemKind → List InterfaceId
 united_interfaces (kind.Instance i ∷ ks) = i ∷ instances_of ks
 united_interfaces (kind.TypeItem (ty.Interface i) ∷ ks) = i ∷ []
 united_interfaces ks = []
-
--- what interfaces list under a name, in their order
-abbrev pub listed_by : Collection → List InterfaceId → Name → List ItemKind
-listed_by c [] n = []
-listed_by c (i ∷ is) n = option_case (find_name (interface_exports c i) n) (listed_by c is n) (λ k. k ∷ listed_by c is n)
 
 -- An interface of a merge unites these of the entries, in their order: that of an import those of the members of its class; one that an interface of the merge lists under a name those which are listed under it in what that interface unites.
 pub data Unites (rules : NameRules) (c : Collection) (es : List Entry) (m : Merged) : InterfaceId → List InterfaceId → Type 0 where

@@ -17,8 +17,9 @@ use Rattle.wac_entries.specs.Binding.{binding_class}
 use Rattle.wac_entries.specs.Classes.{Entry, by_names, canonical, class_names, members}
 use Rattle.wac_terms.specs.Merge.{IsMerge, Merged}
 use Rattle.wac_uses.specs.KeptUses.{of_interface}
+use Rattle.wac_uses.specs.United.{listed_by}
 use Rattle.wac_unions.specs.OneId.{HasOneIdEach}
-use Rattle.wac_merge.specs.Listed.{listed_by, united_interfaces}
+use Rattle.wac_merge.specs.Listed.{united_interfaces}
 
 -- The first member of the class of an import that lists a name lists a resource there, at the end of its aliases, which no member has as its own; and the import, which is an instance, lists this alias there.
 pub record ListsResource (c : Collection) (es : List Entry) (m : Merged) (p : ℕ) (n : Name) (r a : ResourceId) : Type 0 where

@@ -15,8 +15,9 @@ use Rattle.wac_entries.specs.Classes.{Entry, by_names, members}
 use Rattle.wac_terms.specs.Merge.{IsMerge, Merged}
 use Rattle.wac_terms.specs.Values.{listed_value}
 use Rattle.wac_uses.specs.KeptUses.{of_interface}
+use Rattle.wac_uses.specs.United.{listed_by}
 use Rattle.wac_unions.specs.OneId.{HasOneIdEach}
-use Rattle.wac_merge.specs.Listed.{listed_by, united_interfaces}
+use Rattle.wac_merge.specs.Listed.{united_interfaces}
 
 -- A member of the class of an import lists a definition under a name, all members that list the name list definitions, and the import, which is an instance, lists this one there.
 pub record ListsDefinition (c : Collection) (es : List Entry) (m : Merged) (p : ℕ) (n : Name) (d a : DefinedTypeId) : Type 0 where

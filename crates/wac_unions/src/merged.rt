@@ -26,7 +26,7 @@ ghost use Rattle.wac_terms.specs.declared.parts.Part.{Part as APart};
 ghost use Rattle.wac_terms.specs.declared.parts.Union.{Union as AUnion};
 ghost use Rattle.wac_values.specs.NamedTypes.{AreClassed, AreNamedAlike, AreUnited, IsOneType};
 ghost use Rattle.wac_uses.specs.KeptUses.{KeepsUses};
-ghost use Rattle.wac_uses.specs.Using.{AreUsing, UsesNone};
+ghost use Rattle.wac_uses.specs.Using.{AreBareImports, AreUsing};
 ghost use Rattle.wac_names.specs.Reading.{read_track};
 ghost use Rattle.wac_names.specs.Views.{track_view};
 
@@ -472,7 +472,7 @@ impl Merged {
         requires asked { AreHeld types.now entries.now }
         requires held { AreHeld merged (import_entries bare.now) }
         requires named { (p : ℕ) (e : AnEntry) → slice_get (import_entries bare.now) p ≡ Some e → is_asked entries.now e.name ≡ true }
-        requires none { (p : ℕ) (e : AnEntry) → slice_get (import_entries bare.now) p ≡ Some e → UsesNone merged e.kind }
+        requires bare { AreBareImports merged (import_entries bare.now) }
         ensures extended { IfOk result (λ m. IsExtended merged m.types) }
         ensures using { IfOk result (λ m. AreUsing by_names types.now entries.now m.types (import_entries bare.now) m.imports) }
     {

@@ -168,7 +168,7 @@ module _ (c m : Collection) (wf : IsWellFormed c) (more : IsWellFormed m) (x : I
   own-same (kind.Module y) held = refl
   own-same (kind.Value v) held = refl
 
-  exports-same : (i : InterfaceId) → HasInterface c i → interface_exports m i ≡ interface_exports c i
+  pub exports-same : (i : InterfaceId) → HasInterface c i → interface_exports m i ≡ interface_exports c i
   exports-same i held = ap (λ o. option_case o [] (λ (y : Interface). y.exports)) (interface-same c m wf x i held)
 
   used-same : (n : Name) (u : UsedType) → HasInterface c u.interface → used_item m n u ≡ used_item c n u
@@ -236,17 +236,15 @@ interface-added c m it w at is =
     ∙ ap (λ j. item_at (c.interfaces ++ record { item = it; before = size c } ∷ []) j) at
     ∙ ap item_of (at-end c.interfaces (record { item = it; before = size c }))
 
--- an interface that was added with uses that it may have
-pub with-uses : (c m : Collection) → IsWellFormed c → IsKeptBy c m → (i w : InterfaceId) (it : Interface) (us : List (Name × UsedType)) → item_at c.interfaces i.0 ≡ Some it
-    → item_at m.interfaces w.0 ≡ Some (record { id = it.id; uses = us; exports = it.exports }) → MayHave c i us → IsWithUses m i w (λ listed. us)
-with-uses c m wf x i w it us at there may =
-    let held = exports_held c wf i it at in
-    record {
-      interface = it;
-      before = item-kept c m wf x i it at;
-      there = there;
-      own = λ r. own-still c m wf x us it.exports r held ∙ (may.own it r at ∙ sym (own-still c m wf x it.uses it.exports r held));
-    }
+-- an interface that was added with uses and items that it may have
+pub with-uses : (c m : Collection) → IsWellFormed c → IsKeptBy c m → (i w : InterfaceId) (it : Interface) (exports : List (Name × ItemKind)) (us : List (Name × UsedType)) → item_at c.interfaces i.0 ≡ Some it → holds_all c (kind_types exports) ≡ true
+    → item_at m.interfaces w.0 ≡ Some (record { id = it.id; uses = us; exports = exports }) → MayHave c i exports us → IsWithUses m i w exports us
+with-uses c m wf x i w it exports us at held there may = record {
+  interface = it;
+  before = item-kept c m wf x i it at;
+  there = there;
+  own = λ r. own-still c m wf x us exports r held ∙ (may.own it r at ∙ sym (own-still c m wf x it.uses it.exports r (exports_held c wf i it at)));
+}
 
 pub extended-none : (c : Collection) → IsExtended c c
 extended-none c = record {

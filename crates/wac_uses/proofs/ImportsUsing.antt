@@ -7,123 +7,65 @@ use Rattle.std.proofs.lemmas.Option.{slice_get_within}
 use Rattle.wac_shapes.specs.Name.{Name, find_name}
 use Rattle.wac_shapes.specs.Named.{NoNameTwice}
 use Rattle.wac_shapes.specs.Kinds.{kind_type}
-use Rattle.wac_shapes.specs.declared.component.Interface.{Interface}
 use Rattle.wac_shapes.specs.declared.component.InterfaceId.{InterfaceId}
 use Rattle.wac_shapes.specs.declared.component.UsedType.{UsedType}
 use Rattle.wac_shapes.specs.declared.component.ItemKind.{ItemKind}
 use Rattle.wac_shapes.specs.declared.component.ItemKind.TheVariants as kind
 use Rattle.wac_shapes.proofs.Names.{found_at, none_before, take_at}
-use Rattle.wac_collection.specs.Collection.{Collection, IsWellFormed, holds_type, item_at, item_of}
-use Rattle.wac_collection.specs.Bound.{own_name}
+use Rattle.wac_collection.specs.Collection.{Collection, IsWellFormed, holds_all, holds_type, kind_types}
 use Rattle.wac_subtyping.specs.TreeLaws.{IsKeptBy}
 use Rattle.wac_entries.specs.Bindings.{AreHeld}
 use Rattle.wac_entries.specs.Classes.{AreClasses, Entry, NameRules, by_names, class_names, members}
 use Rattle.wac_entries.proofs.Lists.{push-cases, some-at}
-use Rattle.wac_entries.proofs.Opening.{below}
-use Rattle.wac_entries.proofs.Places.{exports_held}
 use Rattle.wac_terms.specs.Merge.{import_entries}
 use Rattle.wac_terms.proofs.Alike.{members_alike}
-use Rattle.wac_terms.proofs.Found.{find_at, get_map, mapped_length, no_some, one_some, some_same}
+use Rattle.wac_terms.proofs.Found.{find_at, get_map, mapped_length, no_some, some_same}
 use Rattle.wac_uses.specs.KeptUses.{instances, uses_of}
-use Rattle.wac_uses.specs.Using.{AreUsers, AreUsing, IsKindUsing, IsWithUses, UsesNone, uses_among}
-use Rattle.wac_uses.proofs.Growing.{holds-kept, item-kept, own-still, uses-still}
+use Rattle.wac_uses.specs.Using.{AreUsers, AreUsing, IsKindUsing, uses_among}
+use Rattle.wac_uses.proofs.Growing.{holds-kept, uses-still}
+use Rattle.wac_uses.proofs.UsingGrows.{still-using, using-there}
 
 -- ---- one import
 
-pub other-kind : (m : Collection) (f : List (Name × ItemKind) → List (Name × UsedType)) (k : ItemKind) → ((i : InterfaceId) → k ≡ kind.Instance i → ⊥) → IsKindUsing m f k k
-other-kind m f (kind.Instance i) none = absurd (none i refl)
-other-kind m f (kind.TypeItem t) none = refl
-other-kind m f (kind.Func x) none = refl
-other-kind m f (kind.Component w) none = refl
-other-kind m f (kind.Module y) none = refl
-other-kind m f (kind.Value v) none = refl
+pub other-kind : (c m : Collection) (f : List InterfaceId → List (Name × ItemKind) → List (Name × UsedType)) (is : List InterfaceId) (k : ItemKind) → ((i : InterfaceId) → k ≡ kind.Instance i → ⊥) → IsKindUsing c m f is k k
+other-kind c m f is (kind.Instance i) none = absurd (none i refl)
+other-kind c m f is (kind.TypeItem t) none = refl
+other-kind c m f is (kind.Func x) none = refl
+other-kind c m f is (kind.Component w) none = refl
+other-kind c m f is (kind.Module y) none = refl
+other-kind c m f is (kind.Value v) none = refl
 
--- an interface that has nothing to use is itself with its uses
-pub with-none : (m : Collection) (i : InterfaceId) (it : Interface) (f : List (Name × ItemKind) → List (Name × UsedType)) → item_at m.interfaces i.0 ≡ Some it → it.uses ≡ [] → f it.exports ≡ [] → IsWithUses m i i f
-with-none m i it f at none nothing =
-    let same = none ∙ sym nothing in
-    record {
-      interface = it;
-      before = at;
-      there = at ∙ (λ j. Some (record { id = it.id; uses = same j; exports = it.exports }));
-      own = λ r. ap (λ l. own_name m l it.exports r) (sym same);
-    }
-
--- the uses are those that are kept
-pub with-those : (m : Collection) (i w : InterfaceId) (it : Interface) (us : List (Name × UsedType)) (f : List (Name × ItemKind) → List (Name × UsedType))
-    → item_at m.interfaces i.0 ≡ Some it → us ≡ f it.exports → IsWithUses m i w (λ listed. us) → IsWithUses m i w f
-with-those m i w it us f at is h =
-    let same : it ≡ h.interface = one_some (item_at m.interfaces i.0) it h.interface at h.before in
-    let those : us ≡ f h.interface.exports = is ∙ ap (λ (x : Interface). f x.exports) same in
-    record {
-      interface = h.interface;
-      before = h.before;
-      there = h.there ∙ (λ j. Some (record { id = h.interface.id; uses = those j; exports = h.interface.exports }));
-      own = λ r. ap (λ l. own_name m l h.interface.exports r) (sym those) ∙ h.own r;
-    }
-
-module _ (c m : Collection) (wf : IsWellFormed c) (more : IsWellFormed m) (x : IsKeptBy c m) where
-  -- it stays so
-  still-with : (i w : InterfaceId) (f g : List (Name × ItemKind) → List (Name × UsedType)) → ((it : Interface) → item_at c.interfaces i.0 ≡ Some it → f it.exports ≡ g it.exports) → IsWithUses c i w f → IsWithUses m i w g
-  still-with i w f g same h =
-      let it = h.interface in
-      let those = same it h.before in
-      let held = exports_held c wf i it h.before in
-      record {
-        interface = it;
-        before = item-kept c m wf x i it h.before;
-        there = item-kept c m wf x w (record { id = it.id; uses = f it.exports; exports = it.exports }) h.there ∙ (λ j. Some (record { id = it.id; uses = those j; exports = it.exports }));
-        own = λ r. ap (λ l. own_name m l it.exports r) (sym those) ∙ (own-still c m wf x (f it.exports) it.exports r held ∙ (h.own r ∙ sym (own-still c m wf x it.uses it.exports r held)));
-      }
-
-  still-kind : (f g : List (Name × ItemKind) → List (Name × UsedType)) → ((i : InterfaceId) (it : Interface) → item_at c.interfaces i.0 ≡ Some it → f it.exports ≡ g it.exports) → (k l : ItemKind) → IsKindUsing c f k l → IsKindUsing m g k l
-  still-kind f g same (kind.Instance i) (kind.Instance w) h = still-with i w f g (λ it at. same i it at) h
-  still-kind f g same (kind.Instance i) (kind.TypeItem t) h = h
-  still-kind f g same (kind.Instance i) (kind.Func y) h = h
-  still-kind f g same (kind.Instance i) (kind.Component w) h = h
-  still-kind f g same (kind.Instance i) (kind.Module y) h = h
-  still-kind f g same (kind.Instance i) (kind.Value v) h = h
-  still-kind f g same (kind.TypeItem t) l h = h
-  still-kind f g same (kind.Func y) l h = h
-  still-kind f g same (kind.Component w) l h = h
-  still-kind f g same (kind.Module y) l h = h
-  still-kind f g same (kind.Value v) l h = h
-
-  -- an instance that uses no other
-  pub none-still : (k : ItemKind) → holds_type c (kind_type k) ≡ true → UsesNone c k → UsesNone m k
-  none-still (kind.Instance i) held none = λ it at.
-      let h = some-at c.interfaces i.0 (below i.0 (length c.interfaces) held) in
-      let before : item_at c.interfaces i.0 ≡ Some h.0.item = ap item_of h.1 in
-      let same = one_some (item_at m.interfaces i.0) h.0.item it (item-kept c m wf x i h.0.item before) at in
-      subst (λ (y : Interface). y.uses ≡ []) same (none h.0.item before)
-  none-still (kind.TypeItem t) held none = tt
-  none-still (kind.Func y) held none = tt
-  none-still (kind.Component w) held none = tt
-  none-still (kind.Module y) held none = tt
-  none-still (kind.Value v) held none = tt
+module _ (d c m : Collection) (wf : IsWellFormed c) (more : IsWellFormed m) (x : IsKeptBy c m) where
+  still-kind : (f g : List InterfaceId → List (Name × ItemKind) → List (Name × UsedType)) → ((is : List InterfaceId) (exports : List (Name × ItemKind)) → holds_all c (kind_types exports) ≡ true → f is exports ≡ g is exports)
+      → (is : List InterfaceId) (k l : ItemKind) → IsKindUsing d c f is k l → IsKindUsing d m g is k l
+  still-kind f g same is (kind.Instance i) (kind.Instance w) h = still-using d c m wf x f g same i w is h
+  still-kind f g same is (kind.Instance i) (kind.TypeItem t) h = h
+  still-kind f g same is (kind.Instance i) (kind.Func y) h = h
+  still-kind f g same is (kind.Instance i) (kind.Component w) h = h
+  still-kind f g same is (kind.Instance i) (kind.Module y) h = h
+  still-kind f g same is (kind.Instance i) (kind.Value v) h = h
+  still-kind f g same is (kind.TypeItem t) l h = h
+  still-kind f g same is (kind.Func y) l h = h
+  still-kind f g same is (kind.Component w) l h = h
+  still-kind f g same is (kind.Module y) l h = h
+  still-kind f g same is (kind.Value v) l h = h
 
   pub still-held : (es : List Entry) → AreHeld c es → AreHeld m es
   still-held es held p e at = holds-kept c m wf x (kind_type e.kind) (held p e at)
 
 -- an instance with uses is held
-pub using-held : (m : Collection) (f : List (Name × ItemKind) → List (Name × UsedType)) (k l : ItemKind) → holds_type m (kind_type k) ≡ true → IsKindUsing m f k l → holds_type m (kind_type l) ≡ true
-using-held m f (kind.Instance i) (kind.Instance w) held h = by (slice_get m.interfaces w.0) refl h.there where
-  it : Interface
-  it = record { id = h.interface.id; uses = f h.interface.exports; exports = h.interface.exports }
-
-  by : (o : Option _) → slice_get m.interfaces w.0 ≡ o → item_of o ≡ Some it → holds_type m (kind_type (kind.Instance w)) ≡ true
-  by None at e = absurd (no_some it e)
-  by (Some y) at e = let low = slice_get_within m.interfaces w.0 y at in grind (arith, low)
-using-held m f (kind.Instance i) (kind.TypeItem t) held h = subst (λ (y : ItemKind). holds_type m (kind_type y) ≡ true) (sym h) held
-using-held m f (kind.Instance i) (kind.Func y) held h = subst (λ (y : ItemKind). holds_type m (kind_type y) ≡ true) (sym h) held
-using-held m f (kind.Instance i) (kind.Component w) held h = subst (λ (y : ItemKind). holds_type m (kind_type y) ≡ true) (sym h) held
-using-held m f (kind.Instance i) (kind.Module y) held h = subst (λ (y : ItemKind). holds_type m (kind_type y) ≡ true) (sym h) held
-using-held m f (kind.Instance i) (kind.Value v) held h = subst (λ (y : ItemKind). holds_type m (kind_type y) ≡ true) (sym h) held
-using-held m f (kind.TypeItem t) l held h = subst (λ (y : ItemKind). holds_type m (kind_type y) ≡ true) (sym h) held
-using-held m f (kind.Func y) l held h = subst (λ (y : ItemKind). holds_type m (kind_type y) ≡ true) (sym h) held
-using-held m f (kind.Component w) l held h = subst (λ (y : ItemKind). holds_type m (kind_type y) ≡ true) (sym h) held
-using-held m f (kind.Module y) l held h = subst (λ (y : ItemKind). holds_type m (kind_type y) ≡ true) (sym h) held
-using-held m f (kind.Value v) l held h = subst (λ (y : ItemKind). holds_type m (kind_type y) ≡ true) (sym h) held
+pub using-held : (c m : Collection) (f : List InterfaceId → List (Name × ItemKind) → List (Name × UsedType)) (is : List InterfaceId) (k l : ItemKind) → holds_type m (kind_type k) ≡ true → IsKindUsing c m f is k l → holds_type m (kind_type l) ≡ true
+using-held c m f is (kind.Instance i) (kind.Instance w) held h = let low = using-there c m f i w is h in grind (arith, low)
+using-held c m f is (kind.Instance i) (kind.TypeItem t) held h = subst (λ (y : ItemKind). holds_type m (kind_type y) ≡ true) (sym h) held
+using-held c m f is (kind.Instance i) (kind.Func y) held h = subst (λ (y : ItemKind). holds_type m (kind_type y) ≡ true) (sym h) held
+using-held c m f is (kind.Instance i) (kind.Component w) held h = subst (λ (y : ItemKind). holds_type m (kind_type y) ≡ true) (sym h) held
+using-held c m f is (kind.Instance i) (kind.Module y) held h = subst (λ (y : ItemKind). holds_type m (kind_type y) ≡ true) (sym h) held
+using-held c m f is (kind.Instance i) (kind.Value v) held h = subst (λ (y : ItemKind). holds_type m (kind_type y) ≡ true) (sym h) held
+using-held c m f is (kind.TypeItem t) l held h = subst (λ (y : ItemKind). holds_type m (kind_type y) ≡ true) (sym h) held
+using-held c m f is (kind.Func y) l held h = subst (λ (y : ItemKind). holds_type m (kind_type y) ≡ true) (sym h) held
+using-held c m f is (kind.Component w) l held h = subst (λ (y : ItemKind). holds_type m (kind_type y) ≡ true) (sym h) held
+using-held c m f is (kind.Module y) l held h = subst (λ (y : ItemKind). holds_type m (kind_type y) ≡ true) (sym h) held
+using-held c m f is (kind.Value v) l held h = subst (λ (y : ItemKind). holds_type m (kind_type y) ≡ true) (sym h) held
 
 -- ---- all
 
@@ -155,7 +97,7 @@ none-using rules c es m = record {
 
 -- one import more, while the collection grows
 pub using-more : (rules : NameRules) (c : Collection) (es : List Entry) (m more : Collection) → IsWellFormed m → IsWellFormed more → IsKeptBy m more → (bare imports : List Entry) (a b : Entry)
-    → AreHeld m imports → b.name ≡ a.name → IsKindUsing more (uses_among rules c es more imports a.name) a.kind b.kind → AreUsing rules c es m bare imports → AreUsing rules c es more (bare ++ a ∷ []) (imports ++ b ∷ [])
+    → AreHeld m imports → b.name ≡ a.name → IsKindUsing c more (uses_among rules c es more imports) (instances (members rules es a.name)) a.kind b.kind → AreUsing rules c es m bare imports → AreUsing rules c es more (bare ++ a ∷ []) (imports ++ b ∷ [])
 using-more rules c es m more wf also kept bare imports a b held name new are = record {
   counted = length-append imports (b ∷ []) ∙ (ap (λ n. n + 1) are.counted ∙ sym (length-append bare (a ∷ [])));
   names = λ p x y here there. elim (push-cases bare a p x here) [
@@ -182,22 +124,22 @@ using-more rules c es m more wf also kept bare imports a b held name new are = r
   last-name : (y : Entry) → y ≡ b → y.name ≡ b.name
   last-name y same = ap (λ (z : Entry). z.name) same
 
-  before : (p : ℕ) (x y : Entry) → p < length bare → IsKindUsing m (uses_among rules c es m (take p imports) x.name) x.kind y.kind → IsKindUsing more (uses_among rules c es more (take p (imports ++ b ∷ [])) x.name) x.kind y.kind
+  before : (p : ℕ) (x y : Entry) → p < length bare → IsKindUsing c m (uses_among rules c es m (take p imports)) (instances (members rules es x.name)) x.kind y.kind → IsKindUsing c more (uses_among rules c es more (take p (imports ++ b ∷ []))) (instances (members rules es x.name)) x.kind y.kind
   before p x y low h =
       let count = are.counted in
-      still-kind m more wf also kept (uses_among rules c es m (take p imports) x.name) (uses_among rules c es more (take p (imports ++ b ∷ [])) x.name)
-      (λ i it at. sym (ap (λ l. uses_among rules c es more l x.name it.exports) (take-push imports b p (omega (arith, low, count)))
-      ∙ uses-still m more wf also kept it.exports (exports_held m wf i it at) rules c es (take p imports) (held-part m imports p held) (uses_of c (instances (members rules es x.name)))))
-      x.kind y.kind h
+      still-kind c m more wf also kept (uses_among rules c es m (take p imports)) (uses_among rules c es more (take p (imports ++ b ∷ [])))
+      (λ is exports exports-held. sym (ap (λ l. uses_among rules c es more l is exports) (take-push imports b p (omega (arith, low, count)))
+      ∙ uses-still m more wf also kept exports exports-held rules c es (take p imports) (held-part m imports p held) (uses_of c is)))
+      (instances (members rules es x.name)) x.kind y.kind h
 
-  after : (p : ℕ) (x y : Entry) → p ≡ length bare → a ≡ x → y ≡ b → IsKindUsing more (uses_among rules c es more (take p (imports ++ b ∷ [])) x.name) x.kind y.kind
+  after : (p : ℕ) (x y : Entry) → p ≡ length bare → a ≡ x → y ≡ b → IsKindUsing c more (uses_among rules c es more (take p (imports ++ b ∷ []))) (instances (members rules es x.name)) x.kind y.kind
   after p x y end same is =
       let count = are.counted in
       let all : take p (imports ++ b ∷ []) ≡ imports =
       ap (λ n. take n (imports ++ b ∷ [])) (end ∙ sym count) ∙ (take-push imports b (length imports) (omega arith) ∙ take-whole imports) in
-      subst (λ (l : List Entry). IsKindUsing more (uses_among rules c es more l x.name) x.kind y.kind) (sym all)
-      (subst (λ (z : Entry). IsKindUsing more (uses_among rules c es more imports z.name) z.kind y.kind) same
-      (subst (λ (z : Entry). IsKindUsing more (uses_among rules c es more imports a.name) a.kind z.kind) (sym is) new))
+      subst (λ (l : List Entry). IsKindUsing c more (uses_among rules c es more l) (instances (members rules es x.name)) x.kind y.kind) (sym all)
+      (subst (λ (z : Entry). IsKindUsing c more (uses_among rules c es more imports) (instances (members rules es z.name)) z.kind y.kind) same
+      (subst (λ (z : Entry). IsKindUsing c more (uses_among rules c es more imports) (instances (members rules es a.name)) a.kind z.kind) (sym is) new))
 
 pub entries-push : (is : List (Name × ItemKind)) (n : Name) (k : ItemKind) → import_entries (is ++ (n, k) ∷ []) ≡ import_entries is ++ record { name = n; kind = k } ∷ []
 entries-push is n k = map-append (λ (e : Name × ItemKind). record { name = e.0; kind = e.1 }) is ((n, k) ∷ [])
@@ -236,7 +178,7 @@ unnamed rules c es m bare imports i n k once at are some = by (find_name imports
 
 -- one import more, as it is listed
 pub using-next : (rules : NameRules) (c : Collection) (es : List Entry) (m more : Collection) → IsWellFormed m → IsWellFormed more → IsKeptBy m more → (bare imports : List (Name × ItemKind)) (i : ℕ) (n : Name) (k l : ItemKind)
-    → slice_get bare i ≡ Some (n, k) → AreHeld m (import_entries imports) → IsKindUsing more (uses_among rules c es more (import_entries imports) n) k l
+    → slice_get bare i ≡ Some (n, k) → AreHeld m (import_entries imports) → IsKindUsing c more (uses_among rules c es more (import_entries imports)) (instances (members rules es n)) k l
     → AreUsing rules c es m (import_entries (take i bare)) (import_entries imports) → AreUsing rules c es more (import_entries (take (suc i) bare)) (import_entries (imports ++ (n, l) ∷ []))
 using-next rules c es m more wf also kept bare imports i n k l at held new are =
     let a : Entry = record { name = n; kind = k } in
@@ -251,7 +193,3 @@ held-push m es e held here p x at = elim (push-cases es e p x at) [
   | inl old ↦ held p x old
   | inr last ↦ subst (λ (y : Entry). holds_type m (kind_type y.kind) ≡ true) (sym last.1) here
 ]
-
-pub empty-list : {A : Type 0} (xs : List A) → length xs ≡ 0 → xs ≡ []
-empty-list [] h = refl
-empty-list (x ∷ xs) h = absurd (omega (arith, h))

@@ -3,6 +3,12 @@ pub mod Growing
 pub mod KeptUses
 pub mod FirstKept
 pub mod UsingRight
+pub mod Inside
+pub mod InnerUsers
+pub mod NestedAlike
+pub mod NestedBinds
+pub mod NestedKept
+pub mod UsingGrows
 pub mod ImportsUsing
 pub mod Alike
 pub mod AlikeMerges

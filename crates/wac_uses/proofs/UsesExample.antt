@@ -1,11 +1,12 @@
 -- A worked example: what the imports of a merge use, and what they may not.
-use Rattle.std.proofs.Common.{◌≡◌, ◌<◌, ℕ, zero, suc, Bool, true, false, List, [], ◌∷◌, take, slice_get, Option, Some, None, codes, refl, sym, ap, ◌∙◌, subst, arith}
-use Rattle.std.proofs.lemmas.Bool.{false≢true}
+use Rattle.std.proofs.Common.{◌≡◌, ◌<◌, ℕ, zero, suc, Bool, not, true, false, List, [], ◌∷◌, take, slice_get, Option, Some, None, codes, refl, sym, ap, ◌∙◌, subst, arith}
+use Rattle.std.specs.List.{list_all}
+use Rattle.std.proofs.lemmas.Bool.{and_parts, false≢true}
 use Rattle.semver.specs.Parse.{digits_from, scan}
 use Rattle.wac_names.specs.Text.{after, before, has}
 use Rattle.wac_names.specs.Track.{parts_piece, series}
 use Rattle.wac_names.specs.Reading.{is_interface_name, is_label, is_lower_label, is_package, read_track, read_version, version_piece}
-use Rattle.wac_shapes.specs.Name.{Name, option_case, same_name}
+use Rattle.wac_shapes.specs.Name.{Name, find_name, option_case, same_name}
 use Rattle.wac_shapes.specs.declared.component.Interface.{Interface}
 use Rattle.wac_shapes.specs.declared.component.InterfaceId.{InterfaceId}
 use Rattle.wac_shapes.specs.declared.component.ItemKind.{ItemKind}
@@ -16,10 +17,10 @@ use Rattle.wac_shapes.specs.declared.component.ValueType.TheVariants as val
 use Rattle.wac_shapes.specs.declared.component.«Type».TheVariants as ty
 use Rattle.wac_collection.specs.Collection.{Collection, item_at}
 use Rattle.wac_collection.specs.declared.collection.Held.{Held}
-use Rattle.wac_entries.specs.Classes.{Entry, by_names, members}
+use Rattle.wac_entries.specs.Classes.{Entry, by_names, is_instance, members}
 use Rattle.wac_terms.specs.Merge.{Merged}
-use Rattle.wac_terms.proofs.Found.{no_some, some_same}
-use Rattle.wac_uses.specs.KeptUses.{AreKept, IsFirstKept, KeepsUses, instances, uses_of}
+use Rattle.wac_terms.proofs.Found.{find_at, no_some, some_same}
+use Rattle.wac_uses.specs.KeptUses.{AreKept, IsFirstKept, KeepsUses, as_import, inside, instances, uses_of}
 use Rattle.wac_uses.specs.Using.{kept_uses}
 use Rattle.wac_uses.proofs.FirstKept.{kept-first}
 
@@ -82,9 +83,32 @@ second_uses : UsesKept 1 (instance (codes "a:b/b") 3) (second_interface (both 2)
 unfolding read_track read_version is_interface_name parts_piece version_piece series has before after is_label is_lower_label is_package digits_from scan
 second_uses = refl
 
--- both uses are kept, of what the first interface is imported as
-pub are_kept : KeepsUses by_names types asked (merge_using (both 2))
-are_kept p e i it at is there =
+-- no interface lists an instance
+no_instance : (i : ℕ) (it : Interface) (n : Name) (v : InterfaceId) → item_at (merge_using (both 2)).types.interfaces i ≡ Some it → find_name it.exports n ≡ Some (kind.Instance v) → ⊥
+no_instance i it n v at found = of_item i it at found where
+  in_list : (es : List (Name × ItemKind)) → list_all (λ e. not (is_instance e.1)) es ≡ true → find_name es n ≡ Some (kind.Instance v) → ⊥
+  in_list es plain found =
+      let w = find_at es n (kind.Instance v) found in
+      false≢true (all_pass es w.0 (n, kind.Instance v) plain w.1)
+    where
+      all_pass : (es : List (Name × ItemKind)) (j : ℕ) (e : Name × ItemKind) → list_all (λ e. not (is_instance e.1)) es ≡ true → slice_get es j ≡ Some e → not (is_instance e.1) ≡ true
+      all_pass [] j e all at = absurd (no_some e at)
+      all_pass (x ∷ es) zero e all at = subst (λ (y : Name × ItemKind). not (is_instance y.1) ≡ true) (some_same x e at) (and_parts (not (is_instance x.1)) (list_all (λ e. not (is_instance e.1)) es) all).0
+      all_pass (x ∷ es) (suc j) e all at = all_pass es j e (and_parts (not (is_instance x.1)) (list_all (λ e. not (is_instance e.1)) es) all).1 at
+
+  listed : (here it : Interface) → list_all (λ e. not (is_instance e.1)) here.exports ≡ true → Some here ≡ Some it → find_name it.exports n ≡ Some (kind.Instance v) → ⊥
+  listed here it plain same found = in_list here.exports plain (ap (λ (x : Interface). find_name x.exports n) (some_same here it same) ∙ found)
+
+  of_item : (i : ℕ) (it : Interface) → item_at (merge_using (both 2)).types.interfaces i ≡ Some it → find_name it.exports n ≡ Some (kind.Instance v) → ⊥
+  of_item zero it at found = listed (first_interface 0).item it refl at found
+  of_item (suc zero) it at found = listed (second_interface (both 0) 1).item it refl at found
+  of_item (suc (suc zero)) it at found = listed (first_interface 2).item it refl at found
+  of_item (suc (suc (suc zero))) it at found = listed (second_interface (both 2) 3).item it refl at found
+  of_item (suc (suc (suc (suc i)))) it at found = no_some it at
+
+import_kept : (p : ℕ) (e : Entry) (i : InterfaceId) (it : Interface) → slice_get (merge_using (both 2)).imports p ≡ Some e → e.kind ≡ kind.Instance i → item_at (merge_using (both 2)).types.interfaces i.0 ≡ Some it
+    → AreKept by_names types asked (merge_using (both 2)).types (take p (merge_using (both 2)).imports) it.exports (uses_of types (instances (members by_names asked e.name))) it.uses
+import_kept p e i it at is there =
     let m = merge_using (both 2) in
     let us = uses_of types (instances (members by_names asked e.name)) in
     subst (AreKept by_names types asked m.types (take p m.imports) it.exports us) (sym (same p at)) (kept-first by_names types asked m.types (take p m.imports) it.exports us) where
@@ -103,6 +127,11 @@ are_kept p e i it at is there =
       same (suc zero) at = that 1 (instance (codes "a:b/b") 3) (second_interface (both 2) 3).item (some_same (instance (codes "a:b/b") 3) e at) refl second_uses
       same (suc (suc p)) at = absurd (no_some e at)
 
+-- both uses are kept, of what the first interface is imported as
+pub are_kept : KeepsUses by_names types asked (merge_using (both 2))
+are_kept p w is it (as_import e _ at is_kind) there = import_kept p e w it at is_kind there
+are_kept p w is it (inside v _ js around n stands at found) there = absurd (no_instance v.0 around n w at found)
+
 -- a use under this name
 abbrev has_name : Name → Option (Name × UsedType) → Bool
 has_name n o = option_case o false (λ e. same_name e.0 n)
@@ -113,7 +142,7 @@ module _ (uses : List (Name × UsedType)) (keeps : KeepsUses by_names types aske
 
   second : AreKept by_names types asked (merge_using uses).types (take 1 (merge_using uses).imports) t_and_u (both 0) uses
   unfolding read_track read_version is_interface_name parts_piece version_piece series has before after is_label is_lower_label is_package digits_from scan
-  second = keeps 1 (instance (codes "a:b/b") 3) (record { 0 = 3 }) (second_interface uses 3).item refl refl refl
+  second = keeps 1 (record { 0 = 3 }) _ (second_interface uses 3).item (as_import (instance (codes "a:b/b") 3) (record { 0 = 3 }) refl refl) refl
 
   t_is : IsFirst 0 (codes "t") (used 2 None)
   unfolding read_track read_version is_interface_name parts_piece version_piece series has before after is_label is_lower_label is_package digits_from scan

@@ -5,6 +5,7 @@ use Rattle.std.proofs.lemmas.Bool.{and_from, and_parts, false≢true}
 use Rattle.std.proofs.lemmas.Option.{slice_get_within}
 use Rattle.wac_shapes.specs.Name.{Name, find_name, first_some, option_case}
 use Rattle.wac_shapes.specs.Named.{NoNameTwice}
+use Rattle.wac_shapes.specs.Kinds.{kind_type}
 use Rattle.wac_shapes.specs.declared.component.Interface.{Interface}
 use Rattle.wac_shapes.specs.declared.component.InterfaceId.{InterfaceId}
 use Rattle.wac_shapes.specs.declared.component.ResourceId.{ResourceId}
@@ -25,7 +26,7 @@ use Rattle.wac_entries.specs.Classes.{Entry, NameRules}
 use Rattle.wac_entries.proofs.Places.{exports_held}
 use Rattle.wac_terms.proofs.Found.{find_at, no_some, one_some}
 use Rattle.wac_uses.specs.KeptUses.{lists_resource}
-use Rattle.wac_uses.specs.Using.{MayHave, kept_uses, may_use}
+use Rattle.wac_uses.specs.Using.{AreAlike, IsAlike, MayHave, kept_uses, may_use, other_instance, same_item}
 use Rattle.wac_uses.proofs.KeptUses.{kept-may}
 
 -- ---- nothing stands against it
@@ -164,15 +165,57 @@ module _ (m : Collection) (listed : List (Name × ItemKind)) where
     pub own-same : NoNameTwice listed → (r : ResourceId) → own_name m us listed r ≡ own_name m [] listed r
     own-same once r = own-from listed r (λ j e at. find_name-at listed j e.0 e.1 once at)
 
--- an interface that uses no other may have the uses that are kept
-pub may-have : (rules : NameRules) (c : Collection) (es : List Entry) (m : Collection) (imports : List Entry) (us kept : List (Name × UsedType)) (i : InterfaceId) (it : Interface) → IsWellFormed m → IsSound m
-    → item_at m.interfaces i.0 ≡ Some it → it.uses ≡ [] → NoNameTwice it.exports → kept ≡ kept_uses rules c es m imports it.exports us → MayHave m i kept
-may-have rules c es m imports us kept i it wf sound at none once is =
-    let all : AllByRecursion (May m it.exports) kept = subst (AllByRecursion (May m it.exports)) (sym is) (kept-may rules c es m imports it.exports us) in
+-- ---- items of the same names
+
+-- they are held
+alike-held : (m : Collection) (xs ys : List (Name × ItemKind)) → AreAlike m xs ys → holds_all m (kind_types xs) ≡ true → holds_all m (kind_types ys) ≡ true
+alike-held m [] [] z held = refl
+alike-held m [] (y ∷ ys) z held = absurd z
+alike-held m (x ∷ xs) [] z held = absurd z
+alike-held m (x ∷ xs) (y ∷ ys) z held =
+    let parts = and_parts (holds_type m (kind_type x.1)) (holds_all m (kind_types xs)) held in
+    and_from (holds_type m (kind_type y.1)) (holds_all m (kind_types ys)) (here x y z.0 parts.0) (alike-held m xs ys z.1 parts.1) where
+      here : (x y : Name × ItemKind) → IsAlike m x y → holds_type m (kind_type x.1) ≡ true → holds_type m (kind_type y.1) ≡ true
+      here _ _ (same_item e) h = h
+      here _ _ (other_instance n k l there) h = grind (arith, there)
+
+-- own resources are listed under the same names
+alike-own : (m : Collection) (r : ResourceId) (xs ys : List (Name × ItemKind)) → AreAlike m xs ys → own_name m [] ys r ≡ own_name m [] xs r
+alike-own m r [] [] z = refl
+alike-own m r [] (y ∷ ys) z = absurd z
+alike-own m r (x ∷ xs) [] z = absurd z
+alike-own m r (x ∷ xs) (y ∷ ys) z = here x y z.0 (alike-own m r xs ys z.1) where
+  here : (x y : Name × ItemKind) → IsAlike m x y → own_name m [] ys r ≡ own_name m [] xs r → own_name m [] (y ∷ ys) r ≡ own_name m [] (x ∷ xs) r
+  here _ _ (same_item e) rest = (λ i. cond (lists_own m [] r e) (Some e.0) (rest i))
+  here _ _ (other_instance n k l there) rest = rest
+
+alike-named : (m : Collection) (xs ys : List (Name × ItemKind)) → AreAlike m xs ys → list_all (is_named_right m []) xs ≡ true → list_all (is_named_right m []) ys ≡ true
+alike-named m [] [] z named = refl
+alike-named m [] (y ∷ ys) z named = absurd z
+alike-named m (x ∷ xs) [] z named = absurd z
+alike-named m (x ∷ xs) (y ∷ ys) z named =
+    let parts = and_parts (is_named_right m [] x) (list_all (is_named_right m []) xs) named in
+    and_from (is_named_right m [] y) (list_all (is_named_right m []) ys) (here x y z.0 parts.0) (alike-named m xs ys z.1 parts.1) where
+      here : (x y : Name × ItemKind) → IsAlike m x y → is_named_right m [] x ≡ true → is_named_right m [] y ≡ true
+      here _ _ (same_item e) h = h
+      here _ _ (other_instance n k l there) h = refl
+
+pub all-alike : (m : Collection) (xs : List (Name × ItemKind)) → AreAlike m xs xs
+all-alike m [] = tt
+all-alike m (x ∷ xs) = (same_item x, all-alike m xs)
+
+-- an interface that uses no other may have the uses that are kept, with items of the same names
+pub may-have : (rules : NameRules) (c : Collection) (es : List Entry) (m : Collection) (imports : List Entry) (us kept : List (Name × UsedType)) (i : InterfaceId) (it : Interface) (exports : List (Name × ItemKind)) → IsWellFormed m → IsSound m
+    → item_at m.interfaces i.0 ≡ Some it → it.uses ≡ [] → AreAlike m it.exports exports → NoNameTwice exports → kept ≡ kept_uses rules c es m imports exports us → MayHave m i exports kept
+may-have rules c es m imports us kept i it exports wf sound at none alike once is =
+    let all : AllByRecursion (May m exports) kept = subst (AllByRecursion (May m exports)) (sym is) (kept-may rules c es m imports exports us) in
     let named : named_right m [] it.exports ≡ true = ap (λ l. named_right m l it.exports) (sym none) ∙ named-right m sound i it at in
     record {
-      right = λ x there. subst (λ (y : Interface). interface_fault m (record { id = y.id; uses = kept; exports = y.exports }) ≡ None) (one_some (item_at m.interfaces i.0) it x at there)
-          (using-right m it.exports it.id kept all (exports_held m wf i it at) named);
-      own = λ x r there. subst (λ (y : Interface). own_name m kept y.exports r ≡ own_name m y.uses y.exports r) (one_some (item_at m.interfaces i.0) it x at there)
-          (own-same m it.exports kept all once r ∙ ap (λ l. own_name m l it.exports r) (sym none));
+      right = λ x there. subst (λ (y : Interface). interface_fault m (record { id = y.id; uses = kept; exports = exports }) ≡ None) (one_some (item_at m.interfaces i.0) it x at there)
+          (using-right m exports it.id kept all (alike-held m it.exports exports alike (exports_held m wf i it at)) (alike-named m it.exports exports alike named));
+      own = λ x r there. subst (λ (y : Interface). own_name m kept exports r ≡ own_name m y.uses y.exports r) (one_some (item_at m.interfaces i.0) it x at there)
+          (own-same m exports kept all once r ∙ (alike-own m r it.exports exports alike ∙ ap (λ l. own_name m l it.exports r) (sym none)));
     }
+
+pub exports-alike : (m : Collection) (i : InterfaceId) (it : Interface) (exports : List (Name × ItemKind)) → IsWellFormed m → item_at m.interfaces i.0 ≡ Some it → AreAlike m it.exports exports → holds_all m (kind_types exports) ≡ true
+exports-alike m i it exports wf at alike = alike-held m it.exports exports alike (exports_held m wf i it at)

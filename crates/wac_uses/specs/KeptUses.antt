@@ -10,6 +10,7 @@ use Rattle.wac_collection.specs.Collection.{Collection, item_at}
 use Rattle.wac_collection.specs.Uses.{is_listed_as_used, is_there, is_used_by_id}
 use Rattle.wac_entries.specs.Classes.{Entry, NameRules, imported_as, members}
 use Rattle.wac_terms.specs.Merge.{Merged, import_under, listed_resource}
+use Rattle.wac_uses.specs.United.{instances_of, listed_by}
 
 -- the interface of an instance, behind which others stand
 abbrev pub with_instance : ItemKind → List InterfaceId → List InterfaceId
@@ -72,7 +73,13 @@ pub record AreKept (rules : NameRules) (c : Collection) (es : List Entry) (m : C
   pub ordered : (p q k l : ℕ) (n o : Name) (v w : UsedType) → slice_get kept p ≡ Some (n, v) → slice_get kept q ≡ Some (o, w)
       → IsFirstKept rules c es m imports listed us k n v → IsFirstKept rules c es m imports listed us l o w → p < q → k < l
 
--- An import that is an instance uses what the members of its class use, of the imports before it.
+-- An interface stands in the import at a position, as an instance at some depth, and is made of these: that of the import of those of its class's members, one inside of the instances that these list under its name.
+pub data StandsIn (rules : NameRules) (c : Collection) (es : List Entry) (m : Merged) (p : ℕ) : InterfaceId → List InterfaceId → Type 0 where
+  as_import : (e : Entry) (w : InterfaceId) → slice_get m.imports p ≡ Some e → e.kind ≡ kind.Instance w → StandsIn rules c es m p w (instances (members rules es e.name))
+  inside : (w v : InterfaceId) (is : List InterfaceId) (it : Interface) (n : Name) → StandsIn rules c es m p w is → item_at m.types.interfaces w.0 ≡ Some it → find_name it.exports n ≡ Some (kind.Instance v)
+      → StandsIn rules c es m p v (instances_of (listed_by c is n))
+
+-- An import that is an instance, and each instance inside, uses what the interfaces that it is made of use, of the imports before that import.
 abbrev pub KeepsUses : NameRules → Collection → List Entry → Merged → Type 0
-KeepsUses rules c es m = (p : ℕ) (e : Entry) (i : InterfaceId) (it : Interface) → slice_get m.imports p ≡ Some e → e.kind ≡ kind.Instance i → item_at m.types.interfaces i.0 ≡ Some it
-    → AreKept rules c es m.types (take p m.imports) it.exports (uses_of c (instances (members rules es e.name))) it.uses
+KeepsUses rules c es m = (p : ℕ) (w : InterfaceId) (is : List InterfaceId) (it : Interface) → StandsIn rules c es m p w is → item_at m.types.interfaces w.0 ≡ Some it
+    → AreKept rules c es m.types (take p m.imports) it.exports (uses_of c is) it.uses

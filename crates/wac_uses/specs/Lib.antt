@@ -1,2 +1,3 @@
 pub mod KeptUses
+pub mod United
 pub mod Using

@@ -1,25 +1,18 @@
 //! Imports of a merge with what they use.
-ghost use Rattle.std.specs.Prelude.{ℕ, ◌≡◌, ◌++◌, List, [], Some, length, map, slice_get, true, IfOk, OnOk};
-ghost use Rattle.wac_collection.specs.Collection.{HasInterface, holds_type, item_at};
-ghost use Rattle.wac_shapes.specs.Kinds.{kind_type};
-ghost use Rattle.wac_shapes.specs.declared.component.Interface.{Interface as AnInterface};
+ghost use Rattle.std.specs.Prelude.{ℕ, ◌≡◌, List, [], Some, length, map, slice_get, true, IfOk};
 ghost use Rattle.wac_shapes.specs.declared.component.InterfaceId.{InterfaceId as AnId};
-ghost use Rattle.wac_shapes.specs.declared.component.ItemKind.TheVariants as kind_of;
 ghost use Rattle.wac_entries.specs.Bindings.{AreHeld};
 ghost use Rattle.wac_entries.specs.Classes.{AreClasses, Entry as AnEntry, by_names, is_asked};
 ghost use Rattle.wac_terms.specs.Merge.{import_entries};
 ghost use Rattle.wac_terms.specs.Renaming.{IsExtended};
-ghost use Rattle.wac_uses.specs.KeptUses.{uses_of, with_instance};
-ghost use Rattle.wac_uses.specs.Using.{AreInterfaces, AreUsers, AreUsing, HasClasses, IsKindUsing, IsWithUses, MayHave, UsesNone, kept_uses};
+ghost use Rattle.wac_uses.specs.Using.{AreBare, AreBareImports, AreInterfaces, AreUsers, AreUsing, HasClasses, IsBareIn, IsKindUsing, uses_among};
 
-use crate::uses::{Asked, Place, copied, kept_uses};
+use crate::nested::{put_user, with_inner_uses};
+use crate::uses::Asked;
 use std::alloc::{AllocError, Global};
-use wac_collection::{
-    AddTypeError, Interface, InterfaceId, ItemKind, Named, ShapeError, Types, UsedType,
-};
+use wac_collection::{InterfaceId, ItemKind, Named, ShapeError, Types};
 use wac_entries::classes::Classes;
 use wac_entries::entry::Entry;
-use wac_subtyping::laws::growth_keeps_trees;
 
 /// No interface for each class.
 pub fn no_interfaces(alloc: Global, count: usize) -> Result<Vec<Vec<InterfaceId>>, AllocError>
@@ -31,16 +24,6 @@ pub fn no_interfaces(alloc: Global, count: usize) -> Result<Vec<Vec<InterfaceId>
         lists.push(Vec::new(alloc))?;
     }
     Ok(lists)
-}
-
-/// Puts the interface of an instance behind others.
-fn put_user(users: &mut Vec<InterfaceId>, kind: ItemKind) -> Result<(), AllocError>
-    ensures { OnOk result (users.new.items ≡ users.old.items ++ with_instance kind []) }
-{
-    if let ItemKind::Instance(id) = kind {
-        users.push(id)?;
-    }
-    Ok(())
 }
 
 /// The interfaces of the instances of each class.
@@ -60,62 +43,7 @@ fn class_users(
     Ok(users)
 }
 
-/// What an interface uses of imports, in place of what interfaces use.
-fn uses_at(
-    asked: &Asked<'_>,
-    merged: &Types,
-    imports: &Named<ItemKind>,
-    users: &[InterfaceId],
-    id: InterfaceId,
-) -> Result<Named<UsedType>, AllocError>
-    requires classes { HasClasses asked.now }
-    requires users { AreInterfaces asked.now.types.now users.now }
-    requires there { HasInterface merged.now id }
-    requires none { UsesNone merged.now (kind_of.Instance id) }
-    ensures uses { IfOk result (λ us. (it : AnInterface) → item_at merged.now.interfaces id.0 ≡ Some it → us ≡ kept_uses by_names asked.now.types.now asked.now.entries.now merged.now (import_entries imports.now) it.exports (uses_of asked.now.types.now users.now)) }
-    ensures right { IfOk result (MayHave merged.now id) }
-{
-    merged.law();
-    merged.uses_law();
-    let interface = &merged[id];
-    interface.exports.law();
-    let place = Place {
-        merged,
-        imports,
-        listed: &interface.exports,
-    };
-    kept_uses(asked, &place, users)
-}
-
-/// Adds an interface once more, with uses.
-fn add_using(
-    alloc: Global,
-    merged: &mut Types,
-    id: InterfaceId,
-    uses: Named<UsedType>,
-) -> Result<InterfaceId, AllocError>
-    requires there { HasInterface merged.old id }
-    requires right { MayHave merged.old id uses }
-    ensures extended { IsExtended merged.old merged.new }
-    ensures added { IfOk result (λ w. IsWithUses merged.new id w (λ listed. uses)) }
-{
-    merged.law();
-    growth_keeps_trees(merged);
-    let interface = &merged[id];
-    let text = copied(alloc, &interface.id)?;
-    let exports = interface.exports.copied(alloc)?;
-    match merged.add_interface(Interface {
-        id: text,
-        uses,
-        exports,
-    }) {
-        Ok(id) => Ok(id),
-        Err(AddTypeError::OutOfMemory) => Err(AllocError),
-        Err(_) => unreachable!(),
-    }
-}
-
-/// An import with what it uses of those before it.
+/// An import with what it and the instances inside use of those before it.
 fn with_uses(
     asked: &Asked<'_>,
     merged: &mut Types,
@@ -125,26 +53,19 @@ fn with_uses(
 ) -> Result<ItemKind, AllocError>
     requires classes { HasClasses asked.now }
     requires users { AreInterfaces asked.now.types.now users.now }
-    requires held { holds_type merged.old (kind_type kind) ≡ true }
     requires imports { AreHeld merged.old (import_entries imports.now) }
-    requires none { UsesNone merged.old kind }
+    requires bare { (ws : List AnId) × AreBare merged.old ws × IsBareIn ws kind }
     ensures extended { IsExtended merged.old merged.new }
-    ensures kind { IfOk result (IsKindUsing merged.new (λ listed. kept_uses by_names asked.now.types.now asked.now.entries.now merged.new (import_entries imports.now) listed (uses_of asked.now.types.now users.now)) kind) }
+    ensures kind { IfOk result (IsKindUsing asked.now.types.now merged.new (uses_among by_names asked.now.types.now asked.now.entries.now merged.new (import_entries imports.now)) users.now kind) }
 {
     let ItemKind::Instance(id) = kind else {
         return Ok(kind);
     };
-    merged.law();
-    let uses = uses_at(asked, merged, imports, users, id)?;
-    if uses.len() == 0 {
-        return Ok(kind);
-    }
-    let id = add_using(asked.alloc, merged, id, uses)?;
-    merged.law();
+    let id = with_inner_uses(asked, merged, imports, users, id)?;
     Ok(ItemKind::Instance(id))
 }
 
-/// Imports that use none of each other, each of a class of entries, with what they use.
+/// Imports that use none of each other, each of a class of entries, with what they and the instances inside use.
 pub fn imports_with_uses(
     asked: &Asked<'_>,
     merged: &mut Types,
@@ -154,7 +75,7 @@ pub fn imports_with_uses(
     requires asked { AreHeld asked.now.types.now asked.now.entries.now }
     requires held { AreHeld merged.old (import_entries bare.now) }
     requires named { (p : ℕ) (e : AnEntry) → slice_get (import_entries bare.now) p ≡ Some e → is_asked asked.now.entries.now e.name ≡ true }
-    requires none { (p : ℕ) (e : AnEntry) → slice_get (import_entries bare.now) p ≡ Some e → UsesNone merged.old e.kind }
+    requires bare { AreBareImports merged.old (import_entries bare.now) }
     ensures extended { IsExtended merged.old merged.new }
     ensures using { IfOk result (λ is. AreUsing by_names asked.now.types.now asked.now.entries.now merged.new (import_entries bare.now) (import_entries is)) }
 {

@@ -4,6 +4,7 @@
 #![tactic(auto)]
 
 pub mod imports;
+mod nested;
 mod uses;
 
 pub use uses::Asked;

@@ -11,11 +11,12 @@ use Rattle.wac_collection.specs.Collection.{holds_type}
 use Rattle.wac_entries.specs.Bindings.{AreHeld}
 use Rattle.wac_entries.specs.Classes.{by_names, members}
 use Rattle.wac_terms.specs.Merge.{import_entries}
-use Rattle.wac_uses.specs.KeptUses.{instances, uses_of}
-use Rattle.wac_uses.specs.Using.{AreUsing, IsKindUsing, kept_uses, uses_among}
+use Rattle.wac_uses.specs.KeptUses.{instances}
+use Rattle.wac_uses.specs.Using.{AreUsing, IsKindUsing, uses_among}
 use Rattle.wac_uses.proofs.Growing.{extended-twice, holds-kept}
 use Rattle.wac_uses.proofs.KeptUses.{members-held}
-use Rattle.wac_uses.proofs.ImportsUsing.{entries-push, entry-at, held-push, none-still, still-held, unnamed, users-at, using-held, using-next}
+use Rattle.wac_uses.proofs.ImportsUsing.{entries-push, entry-at, held-push, still-held, unnamed, users-at, using-held, using-next}
+use Rattle.wac_uses.proofs.UsingGrows.{bare-still}
 use Rattle.wac_uses.proofs.imports.imports_with_uses.Goals as goal
 
 pub unreachable-requires : goal.unreachable-requires
@@ -43,17 +44,11 @@ with_uses-requires-clause-users c j i at =
     let those : c.as_slice.result.now ≡ instances (members by_names a.entries.now n) = c.as_slice.ensures.value ∙ w.1 v (slice_get_read vs (length vs) c.in-Some.number v refl w.0 c.index.ensures) in
     members-held a.types.now a.entries.now n c.requires.asked j i (ap (λ l. slice_get l j) (sym those) ∙ at)
 
-pub with_uses-requires-clause-held : goal.with_uses-requires-clause-held
-with_uses-requires-clause-held c =
+pub with_uses-requires-clause-bare : goal.with_uses-requires-clause-bare
+with_uses-requires-clause-bare c =
+    let b = c.requires.bare in
     let k : ItemKind = c.entry_at.result.1.now in
-    holds-kept c.args.merged.now c.loop-i.merged c.law-2.ensures c.loop-i.invariant.extended.kept (kind_type k)
-    (c.requires.held c.loop-i.i _ (entry-at c.args.bare.now c.loop-i.i c.entry_at.result.0.now k c.entry_at.ensures))
-
-pub with_uses-requires-clause-none : goal.with_uses-requires-clause-none
-with_uses-requires-clause-none c =
-    let k : ItemKind = c.entry_at.result.1.now in
-    let at = entry-at c.args.bare.now c.loop-i.i c.entry_at.result.0.now k c.entry_at.ensures in
-    none-still c.args.merged.now c.loop-i.merged c.law-2.ensures c.law-in-loop-i.ensures c.loop-i.invariant.extended.kept k (c.requires.held c.loop-i.i _ at) (c.requires.none c.loop-i.i _ at)
+    (b.0, bare-still c.args.merged.now c.loop-i.merged c.law-2.ensures c.loop-i.invariant.extended.kept b.0 b.1, b.2 c.loop-i.i _ (entry-at c.args.bare.now c.loop-i.i c.entry_at.result.0.now k c.entry_at.ensures))
 
 pub returns-in_err-kind-clause-extended : goal.returns-in_err-kind-clause-extended
 returns-in_err-kind-clause-extended c = extended-twice c.args.merged.now c.loop-i.merged c.with_uses.new.merged c.law-2.ensures c.loop-i.invariant.extended c.with_uses.ensures.extended
@@ -83,15 +78,16 @@ loop-i-preserved c =
     let w = users-at t es cs.numbers.items cs.positions.items cs.names c.requires.classes vs c.in_ok-users.ensures n c.in-Some.number (sym c.in-Some.ensures) in
     let v : Vec InterfaceId Global = c.index.result.now in
     let those : c.as_slice.result.now ≡ instances (members by_names es n) = c.as_slice.ensures.value ∙ w.1 v (slice_get_read vs (length vs) c.in-Some.number v refl w.0 c.index.ensures) in
-    let kind : IsKindUsing new (uses_among by_names t es new (import_entries is) n) k l =
-    subst (λ (us : List InterfaceId). IsKindUsing new (λ listed. kept_uses by_names t es new (import_entries is) listed (uses_of t us)) k l) those c.in_ok-kind.ensures.kind in
+    let f = uses_among by_names t es new (import_entries is) in
+    let of = instances (members by_names es n) in
+    let kind : IsKindUsing t new f of k l = subst (λ (us : List InterfaceId). IsKindUsing t new f us k l) those c.in_ok-kind.ensures.kind in
     let kept = c.with_uses.ensures.extended.kept in
     let before = holds-kept c.args.merged.now now c.law-2.ensures c.loop-i.invariant.extended.kept (kind_type k) (c.requires.held c.loop-i.i _ (entry-at c.args.bare.now c.loop-i.i n k c.entry_at.ensures)) in
-    let here : holds_type new (kind_type l) ≡ true = using-held new (uses_among by_names t es new (import_entries is) n) k l (holds-kept now new c.law-in-loop-i.ensures kept (kind_type k) before) kind in
+    let here : holds_type new (kind_type l) ≡ true = using-held t new f of k l (holds-kept now new c.law-in-loop-i.ensures kept (kind_type k) before) kind in
     record {
       extended = extended-twice c.args.merged.now now new c.law-2.ensures c.loop-i.invariant.extended c.with_uses.ensures.extended;
       held = subst (λ (xs : List (Name × ItemKind)). AreHeld new (import_entries xs)) (sym c.in-Ok.ensures.inserted)
-          (subst (λ (xs : List _). AreHeld new xs) (sym (entries-push is n l)) (held-push new (import_entries is) _ (still-held now new c.law-in-loop-i.ensures c.law-in-loop-i-2.ensures kept (import_entries is) c.loop-i.invariant.held) here));
+          (subst (λ (xs : List _). AreHeld new xs) (sym (entries-push is n l)) (held-push new (import_entries is) _ (still-held t now new c.law-in-loop-i.ensures c.law-in-loop-i-2.ensures kept (import_entries is) c.loop-i.invariant.held) here));
       using = rw add-one (subst (λ (xs : List (Name × ItemKind)). AreUsing by_names t es new (import_entries (take (suc c.loop-i.i) c.args.bare.now)) (import_entries xs)) (sym c.in-Ok.ensures.inserted)
           (using-next by_names t es now new c.law-in-loop-i.ensures c.law-in-loop-i-2.ensures kept c.args.bare.now is c.loop-i.i n k l c.entry_at.ensures c.loop-i.invariant.held kind c.loop-i.invariant.using));
     }

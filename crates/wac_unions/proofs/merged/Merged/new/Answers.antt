@@ -8,7 +8,7 @@ use Rattle.wac_terms.specs.declared.parts.Union.{Union}
 use Rattle.wac_unions.proofs.Assembled.{AreDeep}
 use Rattle.wac_unions.proofs.AssembledBound.{bound-is}
 use Rattle.wac_unions.proofs.AssembledHeld.{imports-held}
-use Rattle.wac_unions.proofs.BareImports.{first-assembled, imports-asked, imports-none, still-assembled, still-once, using-binds}
+use Rattle.wac_unions.proofs.BareImports.{first-assembled, imports-asked, imports-bare, still-assembled, still-once, using-binds}
 use Rattle.wac_unions.proofs.AssembledMerge.{agreed-pairs, can-rename-all, merge-is}
 use Rattle.wac_shapes.specs.Kinds.{kind_type}
 use Rattle.wac_renaming.proofs.Extending.{still_holds}
@@ -73,8 +73,8 @@ using-requires-clause-named c =
     c.in_ok-unions.ensures.listed c.requires.bindings fresh c.requires.held (agreed-pairs t es c.requires.agreed) c.requires.written c.requires.each c.requires.once in
     imports-asked t m es u.roots us ps bs f w.ids w.ws c.args.order.now bare first
 
-pub using-requires-clause-none : goal.using-requires-clause-none
-using-requires-clause-none c =
+pub using-requires-clause-bare : goal.using-requires-clause-bare
+using-requires-clause-bare c =
     let t = c.args.types.now in
     let es = c.args.entries.now in
     let bs = c.args.bindings.now in
@@ -90,7 +90,7 @@ using-requires-clause-none c =
     let fresh : AreFresh t us bs f started = subst (λ (xs : List Union). AreFresh t xs bs f started) c.as_slice-2.ensures.value c.in_ok-fresh.ensures.fresh in
     let first = first-assembled t started m es us ps bs f c.args.order.now bare u w c.law.ensures c.law-2.ensures c.law-3.ensures c.uses_law.ensures begins c.write_imports.ensures.extended
     c.in_ok-unions.ensures.listed c.requires.bindings fresh c.requires.held (agreed-pairs t es c.requires.agreed) c.requires.written c.requires.each c.requires.once in
-    imports-none t m es u.roots us ps bs f w.ids w.ws c.args.order.now bare first
+    imports-bare t m es u.roots us ps bs f w.ids w.ws c.args.order.now bare first
 
 pub returns : goal.returns
 returns c =

@@ -1,0 +1,427 @@
+//! Interfaces inside an import, and the same with what they use.
+ghost use Rattle.std.specs.Prelude.{List, ℕ, ◌≡◌, ◌<◌, ◌++◌, ◌∷◌, [], Some, false, true, length, map, slice_get, IfOk, OnOk};
+ghost use Rattle.wac_collection.specs.Collection.{HasInterface, holds_all, interface_exports, item_at, kind_types};
+ghost use Rattle.wac_shapes.specs.declared.component.Interface.{Interface as AnInterface};
+ghost use Rattle.wac_shapes.specs.declared.component.InterfaceId.{InterfaceId as AnId};
+ghost use Rattle.wac_shapes.specs.declared.component.ItemKind.TheVariants as kind_of;
+ghost use Rattle.wac_entries.specs.Bindings.{AreHeld};
+ghost use Rattle.wac_entries.specs.Classes.{by_names};
+ghost use Rattle.wac_terms.specs.Merge.{import_entries};
+ghost use Rattle.wac_terms.specs.Renaming.{IsExtended};
+ghost use Rattle.wac_uses.specs.KeptUses.{with_instance};
+ghost use Rattle.wac_uses.specs.United.{instances_of};
+ghost use Rattle.wac_uses.specs.Using.{AreAlike, AreBare, AreInside, AreInterfaces, HasClasses, HaveListed, HaveMore, HaveUses, IsAmong, IsOpened, IsUsing, IsWithUses, MayHave, placed, placed_from, uses_among, with_users};
+
+use crate::imports::no_interfaces;
+use crate::uses::{Asked, Place, copied, kept_uses};
+use std::alloc::{AllocError, Global};
+use wac_collection::{
+    AddTypeError, Interface, InterfaceId, ItemKind, Named, ShapeError, Types, UsedType,
+};
+use wac_subtyping::laws::growth_keeps_trees;
+
+/// Puts the interface of an instance behind others.
+pub fn put_user(users: &mut Vec<InterfaceId>, kind: ItemKind) -> Result<(), AllocError>
+    ensures { OnOk result (users.new.items ≡ users.old.items ++ with_instance kind []) }
+{
+    if let ItemKind::Instance(id) = kind {
+        users.push(id)?;
+    }
+    Ok(())
+}
+
+/// Puts the interface of an instance into the list of its name, where these items have it.
+fn put_named(
+    lists: &mut Vec<Vec<InterfaceId>>,
+    listed: &Named<ItemKind>,
+    name: &str,
+    kind: ItemKind,
+) -> Result<(), AllocError>
+    requires { length lists.old.items ≡ length listed.now }
+    ensures { OnOk result (HaveMore listed.now ((name.now, kind) ∷ []) lists.old.items lists.new.items) }
+{
+    let ItemKind::Instance(id) = kind else {
+        return Ok(());
+    };
+    listed.law();
+    let Some((index, _)) = listed.get_full(name) else {
+        return Ok(());
+    };
+    lists[index].push(id)?;
+    Ok(())
+}
+
+/// Puts the interface of each instance among others into the list of its name, where these items have it.
+fn put_listed(
+    lists: &mut Vec<Vec<InterfaceId>>,
+    listed: &Named<ItemKind>,
+    others: &Named<ItemKind>,
+) -> Result<(), AllocError>
+    requires { length lists.old.items ≡ length listed.now }
+    ensures { OnOk result (HaveMore listed.now others.now lists.old.items lists.new.items) }
+{
+    others.law();
+    for i in 0..others.len() {
+        let (name, kind) = others.entry_at(i);
+        put_named(lists, listed, name, *kind)?;
+    }
+    Ok(())
+}
+
+/// For each of these items, the interfaces of the instances that interfaces list under its name.
+fn listed_users(
+    asked: &Asked<'_>,
+    users: &[InterfaceId],
+    listed: &Named<ItemKind>,
+) -> Result<Vec<Vec<InterfaceId>>, AllocError>
+    requires users { AreInterfaces asked.now.types.now users.now }
+    ensures { IfOk result (λ v. HaveListed asked.now.types.now users.now listed.now v.items) }
+{
+    let mut lists = no_interfaces(asked.alloc, listed.len())?;
+    for i in 0..users.len() {
+        put_listed(&mut lists, listed, &asked.types[users[i]].exports)?;
+    }
+    Ok(lists)
+}
+
+/// Interfaces inside one, which is the first; each stands before those of the instances that it lists.
+#[derive(Drop)]
+pub struct Inside {
+    /// The interfaces.
+    interfaces: Vec<InterfaceId>,
+    /// What each is made of.
+    users: Vec<Vec<InterfaceId>>,
+    /// Where the interface of each instance stands that it lists.
+    inner: Vec<Vec<usize>>,
+}
+
+impl Inside {
+    /// What is inside an interface that is made of these, without recursion.
+    fn new(
+        asked: &Asked<'_>,
+        merged: &Types,
+        users: &[InterfaceId],
+        id: InterfaceId,
+    ) -> Result<Inside, AllocError>
+        requires users { AreInterfaces asked.now.types.now users.now }
+        requires bare { (ws : List AnId) × AreBare merged.now ws × IsAmong ws id }
+        ensures inside { IfOk result (λ x. AreInside asked.now.types.now merged.now id users.now x.interfaces.items (map (λ v. v.items) x.users.items) (map (λ v. v.items) x.inner.items)) }
+        ensures all { IfOk result (λ x. length x.inner.items ≡ length x.interfaces.items) }
+    {
+        merged.law();
+        asked.types.law();
+        let mut inside = Inside {
+            interfaces: Vec::new(asked.alloc),
+            users: Vec::new(asked.alloc),
+            inner: Vec::new(asked.alloc),
+        };
+        let mut of = Vec::new(asked.alloc);
+        of.extend_from_slice(users)?;
+        inside.interfaces.push(id)?;
+        inside.users.push(of)?;
+        let mut position = 0;
+        while position < inside.interfaces.len() {
+            inside.open(asked, merged, position)?;
+            position += 1;
+        }
+        Ok(inside)
+    }
+
+    /// Puts the interfaces of the instances behind the others that the one at a position lists.
+    fn open(&mut self, asked: &Asked<'_>, merged: &Types, position: usize) -> Result<(), AllocError>
+        requires within { position < length self.old.interfaces.items }
+        requires counted { length self.old.users.items ≡ length self.old.interfaces.items }
+        requires there { (i : AnId) → slice_get self.old.interfaces.items position ≡ Some i → HasInterface merged.now i }
+        requires users { (is : List AnId) → slice_get (map (λ v. v.items) self.old.users.items) position ≡ Some is → AreInterfaces asked.now.types.now is }
+        ensures { OnOk result (IsOpened asked.now.types.now merged.now position self.old.interfaces.items (map (λ v. v.items) self.old.users.items) (map (λ v. v.items) self.old.inner.items) self.new.interfaces.items (map (λ v. v.items) self.new.users.items) (map (λ v. v.items) self.new.inner.items)) }
+    {
+        let listed = &merged[self.interfaces[position]].exports;
+        listed.law();
+        let lists = listed_users(asked, self.users[position].as_slice(), listed)?;
+        let mut places = Vec::new(asked.alloc);
+        for j in 0..listed.len() {
+            let (_, kind) = listed.entry_at(j);
+            places.push(self.interfaces.len())?;
+            self.put(asked.alloc, lists[j].as_slice(), *kind)?;
+        }
+        self.inner.push(places)?;
+        Ok(())
+    }
+
+    /// Puts the interface of an instance that is made of these behind the others.
+    fn put(
+        &mut self,
+        alloc: Global,
+        users: &[InterfaceId],
+        kind: ItemKind,
+    ) -> Result<(), AllocError>
+        ensures interfaces { OnOk result (self.new.interfaces.items ≡ self.old.interfaces.items ++ instances_of (kind ∷ [])) }
+        ensures users { OnOk result (map (λ v. v.items) self.new.users.items ≡ map (λ v. v.items) self.old.users.items ++ with_users kind users.now) }
+        ensures inner { self.new.inner ≡ self.old.inner }
+    {
+        let ItemKind::Instance(id) = kind else {
+            return Ok(());
+        };
+        let mut of = Vec::new(alloc);
+        of.extend_from_slice(users)?;
+        self.users.push(of)?;
+        self.interfaces.push(id)?;
+        Ok(())
+    }
+
+    /// The first interface with what it and those inside use of imports, from the innermost on.
+    fn using(
+        &self,
+        asked: &Asked<'_>,
+        merged: &mut Types,
+        imports: &Named<ItemKind>,
+    ) -> Result<InterfaceId, AllocError>
+        requires classes { HasClasses asked.now }
+        requires imports { AreHeld merged.old (import_entries imports.now) }
+        requires inside { (root : AnId) × (of : List AnId) × AreInside asked.now.types.now merged.old root of self.now.interfaces.items (map (λ v. v.items) self.now.users.items) (map (λ v. v.items) self.now.inner.items) }
+        requires all { length self.now.inner.items ≡ length self.now.interfaces.items }
+        ensures extended { IsExtended merged.old merged.new }
+        ensures using { IfOk result (λ w. (root : AnId) (of : List AnId) → slice_get self.now.interfaces.items 0 ≡ Some root → slice_get (map (λ v. v.items) self.now.users.items) 0 ≡ Some of → IsUsing asked.now.types.now merged.new (uses_among by_names asked.now.types.now asked.now.entries.now merged.new (import_entries imports.now)) root w of) }
+    {
+        merged.law();
+        let count = self.interfaces.len();
+        let mut done = Vec::new(asked.alloc);
+        done.extend_from_slice(self.interfaces.as_slice())?;
+        for back in 0..count {
+            let position = count - 1 - back;
+            merged.law();
+            let users = self.users[position].as_slice();
+            let places = self.inner[position].as_slice();
+            let id = self.interfaces[position];
+            let id = using_at(asked, merged, imports, users, id, places, done.as_slice())?;
+            merged.law();
+            done[position] = id;
+        }
+        Ok(done[0])
+    }
+}
+
+/// The interface that stands at the place of an item; its own where none does.
+fn placed_id(places: &[usize], done: &[InterfaceId], index: usize, id: InterfaceId) -> InterfaceId
+    ensures { kind_of.Instance result ≡ placed places.now done.now index (kind_of.Instance id) }
+{
+    let Some(place) = places.get(index) else {
+        return id;
+    };
+    let Some(using) = done.get(*place) else {
+        return id;
+    };
+    *using
+}
+
+/// An item in which an instance became that at its place.
+fn placed_item(places: &[usize], done: &[InterfaceId], index: usize, kind: ItemKind) -> ItemKind
+    ensures { result ≡ placed places.now done.now index kind }
+{
+    let ItemKind::Instance(id) = kind else {
+        return kind;
+    };
+    ItemKind::Instance(placed_id(places, done, index, id))
+}
+
+/// Whether an item stays what it is, where an instance becomes that at its place.
+fn is_same(places: &[usize], done: &[InterfaceId], index: usize, kind: ItemKind) -> bool
+    ensures { result ≡ true → placed places.now done.now index kind ≡ kind }
+{
+    let ItemKind::Instance(id) = kind else {
+        return true;
+    };
+    placed_id(places, done, index, id).0 == id.0
+}
+
+/// Whether an instance among items becomes another.
+fn is_changed(listed: &Named<ItemKind>, places: &[usize], done: &[InterfaceId]) -> bool
+    ensures { result ≡ false → placed_from places.now done.now 0 listed.now ≡ listed.now }
+{
+    for j in 0..listed.len() {
+        let (_, kind) = listed.entry_at(j);
+        if !is_same(places, done, j, *kind) {
+            return true;
+        }
+    }
+    false
+}
+
+/// Items in which each instance became that at its place.
+fn placed_items(
+    alloc: Global,
+    listed: &Named<ItemKind>,
+    places: &[usize],
+    done: &[InterfaceId],
+) -> Result<Named<ItemKind>, AllocError>
+    ensures { IfOk result (λ items. items ≡ placed_from places.now done.now 0 listed.now) }
+{
+    listed.law();
+    let mut items = Named::with_capacity(alloc, listed.len())?;
+    for j in 0..listed.len() {
+        let (name, kind) = listed.entry_at(j);
+        let item = placed_item(places, done, j, *kind);
+        match items.insert(alloc, name, item) {
+            Ok(()) => {}
+            Err(ShapeError::OutOfMemory) => return Err(AllocError),
+            Err(ShapeError::NameTwice) => unreachable!(),
+        }
+    }
+    Ok(items)
+}
+
+/// What an interface with these items uses of imports, in place of what interfaces use.
+fn uses_at(
+    asked: &Asked<'_>,
+    merged: &Types,
+    imports: &Named<ItemKind>,
+    users: &[InterfaceId],
+    listed: &Named<ItemKind>,
+) -> Result<Named<UsedType>, AllocError>
+    requires classes { HasClasses asked.now }
+    requires users { AreInterfaces asked.now.types.now users.now }
+    ensures { IfOk result (λ us. us ≡ uses_among by_names asked.now.types.now asked.now.entries.now merged.now (import_entries imports.now) users.now listed.now) }
+{
+    let place = Place {
+        merged,
+        imports,
+        listed,
+    };
+    kept_uses(asked, &place, users)
+}
+
+/// Adds an interface once more, with uses and items.
+fn add_using(
+    alloc: Global,
+    merged: &mut Types,
+    id: InterfaceId,
+    uses: Named<UsedType>,
+    exports: Named<ItemKind>,
+) -> Result<InterfaceId, AllocError>
+    requires there { HasInterface merged.old id }
+    requires right { MayHave merged.old id exports uses }
+    requires exports { holds_all merged.old (kind_types exports) ≡ true }
+    ensures extended { IsExtended merged.old merged.new }
+    ensures added { IfOk result (λ w. IsWithUses merged.new id w exports uses) }
+{
+    merged.law();
+    growth_keeps_trees(merged);
+    let text = copied(alloc, &merged[id].id)?;
+    match merged.add_interface(Interface {
+        id: text,
+        uses,
+        exports,
+    }) {
+        Ok(id) => Ok(id),
+        Err(AddTypeError::OutOfMemory) => Err(AllocError),
+        Err(_) => unreachable!(),
+    }
+}
+
+/// An interface with what it uses of imports, where none of the instances that it lists became another.
+fn using_here(
+    asked: &Asked<'_>,
+    merged: &mut Types,
+    imports: &Named<ItemKind>,
+    users: &[InterfaceId],
+    id: InterfaceId,
+) -> Result<InterfaceId, AllocError>
+    requires classes { HasClasses asked.now }
+    requires users { AreInterfaces asked.now.types.now users.now }
+    requires there { HasInterface merged.old id }
+    requires imports { AreHeld merged.old (import_entries imports.now) }
+    requires none { (it : AnInterface) → item_at merged.old.interfaces id.0 ≡ Some it → it.uses ≡ [] }
+    ensures extended { IsExtended merged.old merged.new }
+    ensures added { IfOk result (λ w. IsWithUses merged.new id w (interface_exports merged.old id) (uses_among by_names asked.now.types.now asked.now.entries.now merged.new (import_entries imports.now) users.now (interface_exports merged.old id))) }
+{
+    merged.law();
+    merged.uses_law();
+    let listed = &merged[id].exports;
+    listed.law();
+    let uses = uses_at(asked, merged, imports, users, listed)?;
+    if uses.len() == 0 {
+        return Ok(id);
+    }
+    let exports = listed.copied(asked.alloc)?;
+    let id = add_using(asked.alloc, merged, id, uses, exports)?;
+    merged.law();
+    Ok(id)
+}
+
+/// An interface with what it uses of imports, and with these items.
+fn using_with(
+    asked: &Asked<'_>,
+    merged: &mut Types,
+    imports: &Named<ItemKind>,
+    users: &[InterfaceId],
+    id: InterfaceId,
+    exports: Named<ItemKind>,
+) -> Result<InterfaceId, AllocError>
+    requires classes { HasClasses asked.now }
+    requires users { AreInterfaces asked.now.types.now users.now }
+    requires there { HasInterface merged.old id }
+    requires imports { AreHeld merged.old (import_entries imports.now) }
+    requires none { (it : AnInterface) → item_at merged.old.interfaces id.0 ≡ Some it → it.uses ≡ [] }
+    requires alike { AreAlike merged.old (interface_exports merged.old id) exports }
+    ensures extended { IsExtended merged.old merged.new }
+    ensures added { IfOk result (λ w. IsWithUses merged.new id w exports (uses_among by_names asked.now.types.now asked.now.entries.now merged.new (import_entries imports.now) users.now exports)) }
+{
+    merged.law();
+    merged.uses_law();
+    exports.law();
+    let uses = uses_at(asked, merged, imports, users, &exports)?;
+    let id = add_using(asked.alloc, merged, id, uses, exports)?;
+    merged.law();
+    Ok(id)
+}
+
+/// An interface with what it and the instances that it lists use of imports, which these do already.
+fn using_at(
+    asked: &Asked<'_>,
+    merged: &mut Types,
+    imports: &Named<ItemKind>,
+    users: &[InterfaceId],
+    id: InterfaceId,
+    places: &[usize],
+    done: &[InterfaceId],
+) -> Result<InterfaceId, AllocError>
+    requires classes { HasClasses asked.now }
+    requires users { AreInterfaces asked.now.types.now users.now }
+    requires there { HasInterface merged.old id }
+    requires imports { AreHeld merged.old (import_entries imports.now) }
+    requires none { (it : AnInterface) → item_at merged.old.interfaces id.0 ≡ Some it → it.uses ≡ [] }
+    requires inner { HaveUses asked.now.types.now merged.old (uses_among by_names asked.now.types.now asked.now.entries.now merged.old (import_entries imports.now)) users.now (interface_exports merged.old id) places.now done.now }
+    ensures extended { IsExtended merged.old merged.new }
+    ensures using { IfOk result (λ w. IsUsing asked.now.types.now merged.new (uses_among by_names asked.now.types.now asked.now.entries.now merged.new (import_entries imports.now)) id w users.now) }
+{
+    merged.law();
+    let listed = &merged[id].exports;
+    if is_changed(listed, places, done) {
+        let exports = placed_items(asked.alloc, listed, places, done)?;
+        let id = using_with(asked, merged, imports, users, id, exports)?;
+        merged.law();
+        return Ok(id);
+    }
+    let id = using_here(asked, merged, imports, users, id)?;
+    merged.law();
+    Ok(id)
+}
+
+/// An interface that is made of these, with what it and the instances inside use of imports.
+pub fn with_inner_uses(
+    asked: &Asked<'_>,
+    merged: &mut Types,
+    imports: &Named<ItemKind>,
+    users: &[InterfaceId],
+    id: InterfaceId,
+) -> Result<InterfaceId, AllocError>
+    requires classes { HasClasses asked.now }
+    requires users { AreInterfaces asked.now.types.now users.now }
+    requires imports { AreHeld merged.old (import_entries imports.now) }
+    requires bare { (ws : List AnId) × AreBare merged.old ws × IsAmong ws id }
+    ensures extended { IsExtended merged.old merged.new }
+    ensures using { IfOk result (λ w. IsUsing asked.now.types.now merged.new (uses_among by_names asked.now.types.now asked.now.entries.now merged.new (import_entries imports.now)) id w users.now) }
+{
+    let inside = Inside::new(asked, merged, users, id)?;
+    inside.using(asked, merged, imports)
+}
