@@ -1,5 +1,7 @@
-//! Tests of names of imports and exports, through what the crate of names makes public.
+//! Tests of names of imports and exports, and of which may stand together, through what their crates make public.
 #![tactic(auto)]
 
 #[cfg(test)]
 mod names;
+#[cfg(test)]
+mod validation;

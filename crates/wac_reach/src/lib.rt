@@ -3,7 +3,5 @@
 
 mod mentions;
 mod reached;
-#[cfg(test)]
-mod tests;
 
 pub use reached::{Reached, reach};

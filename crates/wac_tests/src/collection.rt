@@ -1,5 +1,6 @@
 use semver::Version;
 use std::alloc::Global;
+use std::fmt::{Debug, Display};
 use std::process::Abort;
 use wac_collection::*;
 
@@ -17,6 +18,18 @@ fn func(
 ) -> ItemKind {
     let func = FuncType::new(alloc, params, returned, false).expect(rt, "a function type");
     ItemKind::Func(types.add_func_type(func).expect(rt, "its id"))
+}
+
+// A value is displayed as this text.
+fn assert_displayed<T: Display + Drop>(rt: &(impl Abort + AllocGlobal), value: T, want: &str) {
+    let text = format!(in rt.alloc(); "{value}").expect(rt, "a text");
+    assert_eq!(rt; text.as_str(), want);
+}
+
+// A value is shown as this text to who debugs.
+fn assert_shown<T: Debug>(rt: &(impl Abort + AllocGlobal), value: &T, want: &str) {
+    let text = format!(in rt.alloc(); "{value:?}").expect(rt, "a text");
+    assert_eq!(rt; text.as_str(), want);
 }
 
 #[test]
@@ -45,6 +58,11 @@ fn a_name_inserted_twice_is_refused(rt: HostRuntime) {
     assert!(rt; named.insert(alloc, "y", BOOL) == Err(ShapeError::NameTwice));
     assert!(rt; named.insert(alloc, "z", BOOL).is_ok());
     assert!(rt; named.len() == 3);
+    assert_found(&rt, &named);
+}
+
+// The names `x`, `y` and `z`.
+fn assert_found(rt: &impl Abort, named: &Named<ValueType>) {
     assert!(rt; named.get("z").copied() == Some(BOOL));
     assert!(rt; matches!(named.get_full("y"), Some((1, _))));
     assert!(rt; named.get("w").is_none());
@@ -73,17 +91,14 @@ fn names_show_as_a_map(rt: HostRuntime) {
     let alloc = rt.alloc();
     let f = ItemKind::Func(FuncTypeId(0));
     let interface = exporting(&rt, alloc, "f", f);
-    let exports = &interface.exports;
-    let text = format!(in alloc; "{exports:?}").expect(&rt, "a text");
-    assert_eq!(rt; text.as_str(), "{\"f\": Func(FuncTypeId(0))}");
+    assert_shown(&rt, &interface.exports, "{\"f\": Func(FuncTypeId(0))}");
 }
 
 #[test]
 fn labels_show_as_a_list(rt: HostRuntime) {
     let alloc = rt.alloc();
     let cases = Enum::new(alloc, &["a", "b"]).expect(&rt, "an enumeration");
-    let text = format!(in alloc; "{cases:?}").expect(&rt, "a text");
-    assert_eq!(rt; text.as_str(), "Enum([\"a\", \"b\"])");
+    assert_shown(&rt, &cases, "Enum([\"a\", \"b\"])");
     assert!(rt; cases.0.iter().count() == 2);
 }
 
@@ -126,10 +141,10 @@ fn a_key_is_displayed_with_its_version(rt: HostRuntime) {
     let alloc = rt.alloc();
     let plain = key(&rt, alloc, None);
     let key = key(&rt, alloc, Some(&Version::new(1, 2, 3)));
-    let text = format!(in alloc; "{plain} {key}").expect(&rt, "a text");
-    assert_eq!(rt; text.as_str(), "n:p n:p@1.2.3");
     assert!(rt; plain < key);
     assert!(rt; plain != key);
+    assert_displayed(&rt, plain, "n:p");
+    assert_displayed(&rt, key, "n:p@1.2.3");
 }
 
 // An enumeration of one case, and an alias of a type.
@@ -173,11 +188,16 @@ fn user(
     types.add_interface(interface.expect(rt, "an interface"))
 }
 
-fn next_id(interfaces: &mut Interfaces) -> Option<InterfaceId> {
-    match interfaces.next() {
-        Some((id, _)) => Some(id),
-        None => None,
+// A collection holds these interfaces, in order.
+fn assert_interfaces(rt: &impl Abort, types: &Types, wanted: &[InterfaceId]) {
+    let mut interfaces = types.interfaces();
+    for want in wanted {
+        let Some((id, _)) = interfaces.next() else {
+            panic!(rt; "an interface is missing");
+        };
+        assert!(rt; id == *want);
     }
+    assert!(rt; interfaces.next().is_none());
 }
 
 #[test]
@@ -192,11 +212,7 @@ fn a_type_is_used_of_a_named_interface_that_has_it(rt: HostRuntime) {
     let missing = user(&rt, &mut types, alloc, ("t", j, Some("u")), t);
     assert!(rt; missing == Err(AddTypeError::UsedTypeMissing));
     let last = user(&rt, &mut types, alloc, ("t", j, None), t).expect(&rt, "an interface");
-    let mut interfaces = types.interfaces();
-    assert!(rt; next_id(&mut interfaces) == Some(first));
-    assert!(rt; next_id(&mut interfaces) == Some(j));
-    assert!(rt; next_id(&mut interfaces) == Some(last));
-    assert!(rt; next_id(&mut interfaces).is_none());
+    assert_interfaces(&rt, &types, &[first, j, last]);
 }
 
 // Each is used under its own name: the first has the type but no id, the second an id and a type of another name.
@@ -332,18 +348,28 @@ fn importing(rt: &impl Abort, alloc: Global, names: &[(&str, &str)]) -> ModuleTy
     module_type
 }
 
+// A core module has these imports, in order, each under its module's name and its own.
+pub fn assert_imports(rt: &impl Abort, module_type: &ModuleType, wanted: &[(&str, &str)]) {
+    let imports = &module_type.imports;
+    assert!(rt; imports.len() == wanted.len());
+    for ((name, _), want) in imports.iter().zip(wanted) {
+        assert!(rt; name == *want);
+    }
+}
+
+#[test]
+fn an_import_is_found_by_both_its_names(rt: HostRuntime) {
+    let given = importing(&rt, rt.alloc(), &[("m", "f"), ("n", "g"), ("m", "h")]);
+    assert!(rt; given.imports.get("m", "h").is_some());
+    assert!(rt; given.imports.get("n", "f").is_none());
+}
+
 // As the standard's binary format lists them: no module's imports are brought together.
 #[test]
 fn a_core_module_keeps_the_order_of_its_imports(rt: HostRuntime) {
     let alloc = rt.alloc();
-    let wanted = [("m", "f"), ("n", "g"), ("m", "h")];
-    let given = importing(&rt, alloc, &wanted);
-    assert!(rt; given.imports.len() == wanted.len());
-    for ((name, _), want) in given.imports.iter().zip(wanted) {
-        assert!(rt; name == want);
-    }
-    assert!(rt; given.imports.get("m", "h").is_some());
-    assert!(rt; given.imports.get("n", "f").is_none());
+    let given = importing(&rt, alloc, &[("m", "f"), ("n", "g"), ("m", "h")]);
+    assert_imports(&rt, &given, &[("m", "f"), ("n", "g"), ("m", "h")]);
     let copy = given.clone().expect(&rt, "a clone");
     assert!(rt; copy == given);
     let grouped = importing(&rt, alloc, &[("m", "f"), ("m", "h"), ("n", "g")]);
@@ -361,9 +387,8 @@ fn imports_show_as_a_map(rt: HostRuntime) {
     imports
         .insert(alloc, "m", "g", false)
         .expect(&rt, "an import");
-    let shown = format!(in alloc; "{imports:?}").expect(&rt, "a text");
     let want = "{(\"m\", \"f\"): true, (\"m\", \"g\"): false}";
-    assert_eq!(rt; shown.as_str(), want);
+    assert_shown(&rt, &imports, want);
 }
 
 // A tuple of two types.
@@ -396,31 +421,26 @@ fn a_clone_grows_on_its_own(rt: HostRuntime) {
     assert!(rt; !types.contains(g.ty()));
 }
 
-#[test]
-fn faults_of_an_adder_display_their_names(rt: HostRuntime) {
-    let faults = [
-        AddTypeError::NotHeld,
-        AddTypeError::UsedInterfaceUnnamed,
-        AddTypeError::UsedTypeMissing,
-        AddTypeError::UsedTypeDiffers,
-        AddTypeError::ResourceMisnamed,
-        AddTypeError::OutOfMemory,
-    ];
-    let names =
-        "NotHeld UsedInterfaceUnnamed UsedTypeMissing UsedTypeDiffers ResourceMisnamed OutOfMemory";
-    for (fault, want) in faults.iter().zip(names.split(' ')) {
-        let text = format!(in rt.alloc(); "{fault}").expect(&rt, "a text");
-        assert_eq!(rt; text.as_str(), want);
-    }
-}
+const ADD_FAULTS: &[(AddTypeError, &str)] = &[
+    (AddTypeError::NotHeld, "NotHeld"),
+    (AddTypeError::UsedInterfaceUnnamed, "UsedInterfaceUnnamed"),
+    (AddTypeError::UsedTypeMissing, "UsedTypeMissing"),
+    (AddTypeError::UsedTypeDiffers, "UsedTypeDiffers"),
+    (AddTypeError::ResourceMisnamed, "ResourceMisnamed"),
+    (AddTypeError::OutOfMemory, "OutOfMemory"),
+];
+
+const SHAPE_FAULTS: &[(ShapeError, &str)] = &[
+    (ShapeError::NameTwice, "NameTwice"),
+    (ShapeError::OutOfMemory, "OutOfMemory"),
+];
 
 #[test]
-fn faults_of_a_shape_display_their_names(rt: HostRuntime) {
-    for (fault, want) in [
-        (ShapeError::NameTwice, "NameTwice"),
-        (ShapeError::OutOfMemory, "OutOfMemory"),
-    ] {
-        let text = format!(in rt.alloc(); "{fault}").expect(&rt, "a text");
-        assert_eq!(rt; text.as_str(), want);
+fn faults_display_their_names(rt: HostRuntime) {
+    for (fault, want) in ADD_FAULTS {
+        assert_displayed(&rt, *fault, want);
+    }
+    for (fault, want) in SHAPE_FAULTS {
+        assert_displayed(&rt, *fault, want);
     }
 }

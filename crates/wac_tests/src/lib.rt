@@ -8,6 +8,8 @@ mod collection;
 #[cfg(test)]
 mod edges;
 #[cfg(test)]
+mod reach;
+#[cfg(test)]
 mod refused;
 #[cfg(test)]
 mod subtyping;

@@ -1,5 +1,6 @@
 //! Memory that is refused once. What was refused changed nothing, so the same call then answers as if it had not been.
 
+use crate::collection::assert_imports;
 use std::alloc::{AllocError, Global};
 use std::process::Abort;
 use wac_types::*;
@@ -79,32 +80,47 @@ fn module_type(alloc: Global) -> Result<ModuleType, Refusal> {
     Ok(module_type)
 }
 
+fn resource(types: &mut Types, alloc: Global) -> Result<Type, Refusal> {
+    let resource = Resource::new(alloc, "r")?;
+    Ok(Type::Resource(types.add_resource(resource)?))
+}
+
+fn func(types: &mut Types, alloc: Global) -> Result<Type, Refusal> {
+    let func = FuncType::new(alloc, &[("x", BOOL), ("y", BOOL)], Some(BOOL), false)?;
+    Ok(Type::Func(types.add_func_type(func)?))
+}
+
+fn record(types: &mut Types, alloc: Global) -> Result<Type, Refusal> {
+    let record = Record::new(alloc, &[("x", BOOL), ("y", BOOL)])?;
+    let id = types.add_defined_type(DefinedType::Record(record))?;
+    Ok(Type::Value(ValueType::Defined(id)))
+}
+
+fn interface(types: &mut Types, alloc: Global) -> Result<Type, Refusal> {
+    let exports = [("v", ItemKind::Value(BOOL))];
+    let interface = Interface::new(alloc, Some("n:p/i"), &exports)?;
+    Ok(Type::Interface(types.add_interface(interface)?))
+}
+
+fn world(types: &mut Types, alloc: Global) -> Result<Type, Refusal> {
+    let items = [("v", ItemKind::Value(BOOL))];
+    let world = World::new(alloc, Some("n:p/w"), &items, &items)?;
+    Ok(Type::World(types.add_world(world)?))
+}
+
+fn module(types: &mut Types, alloc: Global) -> Result<Type, Refusal> {
+    let module = module_type(alloc)?;
+    Ok(Type::Module(types.add_module_type(module)?))
+}
+
 fn add(types: &mut Types, alloc: Global, item: Item) -> Result<Type, Refusal> {
     match item {
-        Item::Resource => {
-            let resource = Resource::new(alloc, "r")?;
-            Ok(Type::Resource(types.add_resource(resource)?))
-        }
-        Item::Func => {
-            let func = FuncType::new(alloc, &[("x", BOOL), ("y", BOOL)], Some(BOOL), false)?;
-            Ok(Type::Func(types.add_func_type(func)?))
-        }
-        Item::Record => {
-            let record = DefinedType::Record(Record::new(alloc, &[("x", BOOL), ("y", BOOL)])?);
-            let id = types.add_defined_type(record)?;
-            Ok(Type::Value(ValueType::Defined(id)))
-        }
-        Item::Interface => {
-            let exports = [("v", ItemKind::Value(BOOL))];
-            let interface = Interface::new(alloc, Some("n:p/i"), &exports)?;
-            Ok(Type::Interface(types.add_interface(interface)?))
-        }
-        Item::World => {
-            let items = [("v", ItemKind::Value(BOOL))];
-            let world = World::new(alloc, Some("n:p/w"), &items, &items)?;
-            Ok(Type::World(types.add_world(world)?))
-        }
-        Item::Module => Ok(Type::Module(types.add_module_type(module_type(alloc)?)?)),
+        Item::Resource => resource(types, alloc),
+        Item::Func => func(types, alloc),
+        Item::Record => record(types, alloc),
+        Item::Interface => interface(types, alloc),
+        Item::World => world(types, alloc),
+        Item::Module => module(types, alloc),
     }
 }
 
@@ -124,6 +140,14 @@ fn adders_that_are_refused_change_nothing(rt: HostRuntime) {
     }
 }
 
+fn global() -> CoreExtern {
+    CoreExtern::Global {
+        val_type: CoreType::I32,
+        mutable: false,
+        shared: false,
+    }
+}
+
 // Imports a global under these names, once more where memory was refused.
 fn import(
     module_type: &mut ModuleType,
@@ -131,39 +155,25 @@ fn import(
     source: &str,
     name: &str,
 ) -> Result<(), ShapeError> {
-    let global = CoreExtern::Global {
-        val_type: CoreType::I32,
-        mutable: false,
-        shared: false,
-    };
-    match module_type.import(alloc, source, name, global) {
-        Err(ShapeError::OutOfMemory) => {
-            let global = CoreExtern::Global {
-                val_type: CoreType::I32,
-                mutable: false,
-                shared: false,
-            };
-            module_type.import(alloc, source, name, global)
-        }
+    match module_type.import(alloc, source, name, global()) {
+        Err(ShapeError::OutOfMemory) => module_type.import(alloc, source, name, global()),
         answer => answer,
     }
 }
+
+const WANTED: &[(&str, &str)] = &[("m", "f"), ("n", "g"), ("m", "h"), ("o", "f"), ("n", "f")];
 
 #[test]
 fn imports_that_are_refused_change_nothing(rt: HostRuntime) {
     let alloc = rt.alloc();
     let mut module_type = ModuleType::new(alloc);
-    let wanted = [("m", "f"), ("n", "g"), ("m", "h"), ("o", "f"), ("n", "f")];
-    for (source, name) in wanted {
+    for (source, name) in WANTED {
         let first = import(&mut module_type, alloc, source, name);
         assert!(rt; first == Ok(()));
         let second = import(&mut module_type, alloc, source, name);
         assert!(rt; second == Err(ShapeError::NameTwice));
     }
-    assert!(rt; module_type.imports.len() == wanted.len());
-    for ((given, _), want) in module_type.imports.iter().zip(wanted) {
-        assert!(rt; given == want);
-    }
+    assert_imports(&rt, &module_type, WANTED);
 }
 
 // A package of a new world that exports what it imports.

@@ -20,8 +20,6 @@ mod fault;
 mod keys;
 mod naming;
 mod outer;
-#[cfg(test)]
-mod tests;
 
 pub use fault::{ValidationError, ValidationFault};
 pub use outer::{one_answer, validate};

@@ -1,7 +1,7 @@
 //! Names that may stand together, and the first fault of others.
-use crate::{ValidationError, ValidationFault, validate};
-use std::alloc::{AllocError, Global};
-use std::test::Fail;
+use std::alloc::Global;
+use std::process::Abort;
+use wac_validation::{ValidationError, ValidationFault, validate};
 
 /// What is answered, with the names of a fault.
 #[derive(Clone, Copy, Debug, PartialEq, Eq)]
@@ -16,7 +16,7 @@ enum Answer<'a> {
 use Answer::{BadName, Clash, NotExportable, Valid};
 
 /// The imports, the exports, and what is answered.
-const TABLE: [(&str, &str, Answer<'static>); 39] = [
+const TABLE: &[(&str, &str, Answer<'static>)] = &[
     ("", "", Valid),
     ("a b", "c d", Valid),
     // which names clash
@@ -112,53 +112,62 @@ fn answered(alloc: Global, imports: &[&str], exports: &[&str]) -> Result<(), Val
 }
 
 /// Names that stand apart by spaces.
-fn names(alloc: Global, text: &str) -> Result<Vec<&str>, AllocError> {
-    text.split_whitespace().collect(alloc)
+fn names<'a>(rt: &(impl Abort + AllocGlobal), text: &'a str) -> Vec<&'a str> {
+    text.split_whitespace()
+        .collect(rt.alloc())
+        .expect(rt, "names")
 }
 
 #[test]
-fn examples(rt: HostRuntime) -> Result<(), Fail> {
+fn examples(rt: HostRuntime) {
     for (imports, exports, want) in TABLE {
-        let into = names(rt.alloc(), imports)?;
-        let out = names(rt.alloc(), exports)?;
+        let into = names(&rt, imports);
+        let out = names(&rt, exports);
         let answer = answered(rt.alloc(), &into, &out);
-        assert_eq!(rt; seen(&answer), want, "at {imports} and {exports}");
+        assert_eq!(rt; seen(&answer), *want, "at {imports} and {exports}");
     }
-    Ok(())
 }
 
-#[test]
-fn many_names(rt: HostRuntime) -> Result<(), Fail> {
+/// Names and their constructors.
+fn many(rt: &(impl Abort + AllocGlobal)) -> Vec<String> {
     let mut made = Vec::new(rt.alloc());
     for i in 0..1000u32 {
-        made.push(format!(in rt.alloc(); "n{i}")?)?;
-        made.push(format!(in rt.alloc(); "[constructor]n{i}")?)?;
+        let name = format!(in rt.alloc(); "n{i}").expect(rt, "a name");
+        made.push(name).expect(rt, "room for a name");
+        let name = format!(in rt.alloc(); "[constructor]n{i}").expect(rt, "a name");
+        made.push(name).expect(rt, "room for a name");
     }
+    made
+}
+
+#[test]
+fn many_names(rt: HostRuntime) {
+    let made = many(&rt);
     let mut texts = Vec::new(rt.alloc());
     for name in &made {
-        texts.push(name.as_str())?;
+        texts.push(name.as_str()).expect(&rt, "room for a text");
     }
     let valid = answered(rt.alloc(), &texts, &texts);
     assert_eq!(rt; seen(&valid), Answer::Valid);
-    texts.push("N7")?;
+    texts.push("N7").expect(&rt, "room for a text");
     let clash = answered(rt.alloc(), &[], &texts);
     assert_eq!(rt; seen(&clash), Answer::Clash("n7", "N7"));
-    Ok(())
 }
 
+const FAULTS: &[(&str, &str, &str)] = &[
+    ("1a", "", "BadName"),
+    ("a a", "", "Clash"),
+    ("", "url=<>", "NotExportable"),
+];
+
 #[test]
-fn faults_display_their_names(rt: HostRuntime) -> Result<(), Fail> {
-    for (imports, exports, want) in [
-        ("1a", "", "BadName"),
-        ("a a", "", "Clash"),
-        ("", "url=<>", "NotExportable"),
-    ] {
-        let into = names(rt.alloc(), imports)?;
-        let out = names(rt.alloc(), exports)?;
+fn faults_display_their_names(rt: HostRuntime) {
+    for (imports, exports, want) in FAULTS {
+        let into = names(&rt, imports);
+        let out = names(&rt, exports);
         if let Err(ValidationError::Fault { source }) = answered(rt.alloc(), &into, &out) {
-            let text = format!(in rt.alloc(); "{source}")?;
-            assert_eq!(rt; text.as_str(), want);
+            let text = format!(in rt.alloc(); "{source}").expect(&rt, "a text");
+            assert_eq!(rt; text.as_str(), *want);
         }
     }
-    Ok(())
 }
