@@ -7,7 +7,7 @@ use Rattle.wac_scopes.specs.declared.encodable.Encodable.{Encodable}
 use Rattle.wac_scopes.specs.declared.encodable.Encodable.TheVariants.{Builder, Instance, Component}
 use Rattle.wac_scopes.specs.declared.scope.Scope.{Scope}
 use Rattle.wac_scopes.specs.Contents.{IsRoot, items_of, count}
-use Rattle.wac_scopes.specs.Scoped.{type_index}
+use Rattle.wac_scopes.specs.Scoped.{type_index, listing}
 use Rattle.wac_scopes.specs.Rooted.{IsRightRoot, StaysRight}
 
 -- its indexes are those of its items
@@ -25,4 +25,4 @@ grown old new more is = ap (λ (s : Scope). items_of s.content) is
 -- and what is recorded is right as before
 pub stays_right : StaysRight → (c : Collection) (old new : Scope) (more : List Item) → IsRightRoot c old → Grows old new more → IsRightRoot c new
 stays_right law c old new more right is =
-    law c old new more right (subst (λ (s : Scope). IsRoot s.content) (sym is) tt) (grown old new more is) (λ a. ap (λ (s : Scope). type_index s a) is)
+    law c old new more right (subst (λ (s : Scope). IsRoot s.content) (sym is) tt) (grown old new more is) (λ a. ap (λ (s : Scope). type_index s a) is) (λ a. ap (λ (s : Scope). listing s a) is)

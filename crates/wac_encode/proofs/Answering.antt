@@ -2,6 +2,7 @@
 use Rattle.std.specs.Prelude.{ℕ, suc, ◌+◌, ◌<◌, ◌^◌, ◌≡◌, List, [], ◌∷◌, ◌++◌, Option, Some, None, slice_get, Ok, Err}
 use Rattle.std.specs.List.{AllZip}
 use Rattle.std.proofs.Common.{refl, ap, ◌∙◌, sym, subst, take, add-one}
+use Rattle.wac_shapes.specs.Name.{Name}
 use Rattle.wac_shapes.specs.declared.component.DefinedTypeId.{DefinedTypeId}
 use Rattle.wac_shapes.specs.declared.component.ValueType.{ValueType}
 use Rattle.wac_shapes.specs.declared.component.ValueType.TheVariants as val
@@ -10,22 +11,22 @@ use Rattle.wac_collection.specs.Collection.{Collection}
 use Rattle.wac_collection.specs.Aliases.{value_resolved}
 use Rattle.wac_binary.specs.Items.{value_def}
 use Rattle.wac_scopes.specs.declared.encodable.Encodable.{Encodable}
-use Rattle.wac_scopes.specs.Contents.{and_type, ContentFits}
+use Rattle.wac_scopes.specs.Contents.{and_type, and_alias_of, ContentFits}
 use Rattle.wac_scopes.specs.declared.scope.Scope.{Scope}
 use Rattle.wac_scopes.specs.declared.fault.EncodeFault.{EncodeFault}
 use Rattle.wac_scopes.specs.declared.fault.EncodeFault.TheVariants as fault
-use Rattle.wac_scopes.specs.Scoped.{IsAsBefore}
+use Rattle.wac_scopes.specs.Scoped.{listed_at, IsAsBefore}
 use Rattle.wac_scopes.specs.Laws.{StaysOnward}
 use Rattle.wac_encode.specs.declared.task.Task.{Task}
 use Rattle.wac_listing.specs.Made.{MadeOf, itself, part}
-use Rattle.wac_encode.specs.Written.{IsHandle, PartOf, IsRefused}
+use Rattle.wac_encode.specs.Written.{IsHandle, PartOf, IsLargeFrom, LargeOne, IsRefused}
 use Rattle.wac_encode.specs.Tasks.{IsReady, IsNext, IsMissing, IsStepRefused, Did, passed, put_off, IsUnderWay}
 use Rattle.wac_encode.proofs.Saying.{zip-more}
 use Rattle.wac_encode.proofs.Stacks.{writes-none, says-same}
 use Rattle.wac_encode.proofs.Stepping.{all-last}
 
 pub as-it-was : (s : Scope) → IsAsBefore s s
-as-it-was s = record { content = refl; types = λ a. refl }
+as-it-was s = record { content = refl; types = λ a. refl; listed = λ a. refl }
 
 -- loops over lists that go together
 
@@ -51,17 +52,27 @@ begins c stays d s tasks is ready = subst (λ (ts : List Task). IsUnderWay c d s
   covers = refl;
 })
 
+-- what does not fit still does not
+large-still : (c : Collection) (now new : Scope) (d : DefinedTypeId) → IsAsBefore now new → LargeOne c now d → LargeOne c new d
+large-still c now new d same h = subst (λ (l : Option (ℕ × Name)). IsLargeFrom l c new d) (sym (same.listed (ty.Value (val.Defined d)))) (by_place (listed_at now d) h)
+  where
+    by_place : (l : Option (ℕ × Name)) → IsLargeFrom l c now d → IsLargeFrom l c new d
+    by_place None k = record {
+      definition = k.definition;
+      found = k.found;
+      written = k.written;
+      says = says-same c now new k.definition k.written same k.says;
+      large = λ fits. k.large (subst (λ (x : Encodable). ContentFits (and_type x (value_def k.written))) same.content fits);
+    }
+    by_place (Some l) k = λ fits. k (subst (λ (x : Encodable). ContentFits (and_alias_of x l.0 l.1)) same.content fits)
+
 pub refused-so : (B : Type 0) (c : Collection) (d : DefinedTypeId) (old now new : Scope) (t : Task) (left : List Task) (e : EncodeFault) → IsUnderWay c d old now (left ++ t ∷ []) → IsAsBefore now new → IsStepRefused {A = Unit {0}} c now t (Err e) → IsRefused {A = B} c (PartOf c (val.Defined d)) new (Err e)
 refused-so B c d old now new t left (fault.Write f) w same h = (h.0, (value_resolved c h.1, part t.id h.2.0 t.next h.1 (all-last (λ (u : Task). MadeOf c (val.Defined d) (val.Defined u.id)) left t w.made) h.2.1 h.2.2, h.3))
 refused-so B c d old now new t left fault.TooLarge w same h = record {
   id = t.id;
   made = all-last (λ (u : Task). MadeOf c (val.Defined d) (val.Defined u.id)) left t w.made;
   unwritten = same.types (ty.Value (val.Defined t.id)) ∙ (all-last (IsReady c now) left t w.ready).unwritten;
-  definition = h.definition;
-  found = h.found;
-  written = h.written;
-  says = says-same c now new h.definition h.written same h.says;
-  large = λ fits. h.large (subst (λ (x : Encodable). ContentFits (and_type x (value_def h.written))) same.content fits);
+  large = large-still c now new t.id same h;
 }
 refused-so B c d old now new t left fault.OutOfMemory w same h = tt
 

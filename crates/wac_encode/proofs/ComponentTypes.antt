@@ -7,13 +7,12 @@ use Rattle.wac_shapes.specs.declared.component.Interface.{Interface}
 use Rattle.wac_shapes.specs.declared.component.InterfaceId.{InterfaceId}
 use Rattle.wac_shapes.specs.declared.component.«Type».{«Type» as AnyType}
 use Rattle.wac_shapes.specs.declared.component.«Type».TheVariants as ty
-use Rattle.wac_collection.specs.Tree.{exported, Tree, absent, component, instance_item}
+use Rattle.wac_collection.specs.Tree.{Tree, absent, component, instance_item}
 use Rattle.wac_collection.specs.Collection.{Collection, item_at}
 use Rattle.wac_collection.specs.Held.{items_under}
 use Rattle.wac_collection.specs.Bound.{Bindings, held_tree}
 use Rattle.wac_binary.specs.declared.sorts.Description.TheVariants as e
 use Rattle.wac_binary.specs.declared.sorts.Sort.TheVariants as sort
-use Rattle.wac_binary.specs.Fits.{DeclarationsFit}
 use Rattle.wac_binary.specs.HasMeaning.{IsFree}
 use Rattle.wac_binary.specs.Indexes.{space}
 use Rattle.wac_binary.specs.Items.{component_def, instance_def, Decl, decls, type_decl, export_decl, export_item}
@@ -29,7 +28,7 @@ use Rattle.wac_scopes.specs.Good.{Good, nothing_bound}
 use Rattle.wac_scopes.specs.Laws.{Adds, IsItsTree, StaysOnward}
 use Rattle.wac_scopes.specs.Listed.{declaring, OpensWorld, ClosesComponent}
 use Rattle.wac_scopes.specs.Rooted.{unbound, IsRightRoot, IsWrittenThere}
-use Rattle.wac_scopes.specs.Scoped.{type_index, at_index, recorded_type, opened, AddsInstance, AddsComponent, ListsInstanceOf, WritesUnlessTooLarge, FitsUnlessTooLarge}
+use Rattle.wac_scopes.specs.Scoped.{type_index, recorded_type, opened, AddsInstance, AddsComponent, ListsInstanceOf, WritesUnlessTooLarge, FitsUnlessTooLarge, listing, place}
 use Rattle.wac_encode.specs.Written.{GoesOn, WritesFor}
 use Rattle.wac_encode.specs.Listing.{lists_plain, SaysInterface, WritesInterface, IsInterfaceRefused}
 use Rattle.wac_encode.specs.Components.{HasId, held_under_id, component_tree, SaysComponent, under_id, WritesComponent, IsComponentRefused, EndsWithComponent}
@@ -39,6 +38,7 @@ use Rattle.wac_encode.proofs.Defining.{stands-there, at-root, defined-so, conten
 use Rattle.wac_encode.proofs.Imported.{still-root}
 use Rattle.wac_encode.proofs.Rows.{writes-type}
 use Rattle.wac_encode.proofs.Stacks.{writes-none}
+use Rattle.wac_scopes.proofs.Moved.{ap2}
 
 -- the id is one
 
@@ -63,16 +63,16 @@ one-item n t = fun_ext (λ q. refl)
 
 -- a component type in which nothing is written
 
-new-opened : (s : Scope) → s.content ≡ Component [] → ((a : AnyType) → type_index s a ≡ None) → opened s unbound ≡ unbound
-new-opened s empty none = let memo_same : recorded_type s ≡ (λ a. None) = fun_ext (λ a. ap at_index (none a)) in (λ i. record unbound { content = content_of (empty i); memo = memo_same i })
+new-opened : (s : Scope) → s.content ≡ Component [] → ((a : AnyType) → type_index s a ≡ None) → ((a : AnyType) → listing s a ≡ None) → opened s unbound ≡ unbound
+new-opened s empty none unlisted = let memo_same : recorded_type s ≡ (λ a. None) = fun_ext (λ a. ap2 place (none a) (unlisted a)) in (λ i. record unbound { content = content_of (empty i); memo = memo_same i })
 
 -- what is written into it says the interface under its id
 pub says-component : IsItsTree → OpensWorld → ClosesComponent → (c : Collection) (i : InterfaceId) (id : Name) (start mid new : Scope) (ds es : List Decl) (k j : ℕ)
-    → start.content ≡ Component [] → ((a : AnyType) → type_index start a ≡ None) → HasId c i id → SaysInterface c i ds → AddsInstance start mid i ds k → ListsInstanceOf mid new id k j → new.content ≡ Component es → SaysComponent c i es
-says-component tree opens closes c i id start mid new ds es k j empty none named says adds lists written m ms o os g =
+    → start.content ≡ Component [] → ((a : AnyType) → type_index start a ≡ None) → ((a : AnyType) → listing start a ≡ None) → HasId c i id → SaysInterface c i ds → AddsInstance start mid i ds k → ListsInstanceOf mid new id k j → new.content ≡ Component es → SaysComponent c i es
+says-component tree opens closes c i id start mid new ds es k j empty none unlisted named says adds lists written m ms o os g =
     let b : Bindings = nothing_bound in
     let world = opens c b in
-    let same : opened start unbound ≡ unbound = new-opened start empty none in
+    let same : opened start unbound ≡ unbound = new-opened start empty none unlisted in
     let begun : Good c (b ∷ []) (opened start unbound ∷ []) = subst (λ (p : Open). Good c (b ∷ []) (p ∷ [])) (sym same) world.0 in
     let held = says b [] (opened start unbound) [] begun in
     let a = adds c b [] unbound [] held.0 held.1 held.2 held.3 in
@@ -152,7 +152,7 @@ interface-defined there c old now new n i ds j k r says adds same index exports 
     let w = component-behind c old now i ds j says adds same in
     let is_root : IsRoot now.content = still-root old.content now.content w.types w.appended r.is_root in
     defined-so c (ty.Interface i) n 1 (MadeFor c (ty.Interface i)) old now new j k r w
-    (λ good means. stands-there there old now w.types j (component_tree c i) r.is_root w.appended (omega (arith, index)) (at-root now j (component_tree c i) is_root (adds c (nothing_bound ∷ []) unbound [] (component_tree c i) (says nothing_bound [] (opened old unbound) [] good)).1))
+    (λ good means. stands-there there c 1 (MadeFor c (ty.Interface i)) old now j (component_tree c i) r w (omega (arith, index)) (at-root now j (component_tree c i) is_root (adds c (nothing_bound ∷ []) unbound [] (component_tree c i) (says nothing_bound [] (opened old unbound) [] good)).1))
     (content-is now new (Builder (items_of now.content ++ export_item n sort.«Type» j ∷ [])) exports) answer
 
 pub interface-once : (c : Collection) (old now new : Scope) (n : Name) (i : InterfaceId) (j k : ℕ) → WritesFor c 1 (MadeFor c (ty.Interface i)) old now → EndsWithComponent c old now i j → new ≡ record now { content = Builder (items_of now.content ++ export_item n sort.«Type» j ∷ []) } → WritesOnce c (ty.Interface i) n old new k

@@ -33,10 +33,10 @@ use Rattle.wac_scopes.specs.Scopes.{Content, ContentHasMeaning, at_type, scope_o
 use Rattle.wac_scopes.specs.Good.{At, IsHeld, Good, nothing_bound}
 use Rattle.wac_scopes.specs.Laws.{IsItsEnd, IsItsTree, StaysOnward}
 use Rattle.wac_scopes.specs.Rooted.{unbound, IsRightRoot, StaysRight, MeansBefore, IsWrittenThere}
-use Rattle.wac_scopes.specs.Scoped.{type_index, value_index, at_index, opened, root_of, HasToo, IsAsBefore, AddsPrimitive, WritesUnlessTooLarge, FitsUnlessTooLarge}
+use Rattle.wac_scopes.specs.Scoped.{type_index, value_index, opened, root_of, HasToo, IsAsBefore, AddsPrimitive, WritesUnlessTooLarge, FitsUnlessTooLarge, listing}
 use Rattle.wac_scopes.proofs.Rooted.{content-of-root}
 use Rattle.wac_scopes.proofs.Values.{primitive-held}
-use Rattle.wac_encode.specs.Written.{PartOf, WritesFor, with_types, IsOfFunc, AddsHeldFunc, IsFuncFrom, IsFuncAt, IsRefused, IsFuncRefused}
+use Rattle.wac_encode.specs.Written.{PartOf, WritesFor, with_types, IsOfFunc, AddsHeldFunc, IsFuncFrom, IsFuncAt, IsRefused, IsFuncRefused, NewType, defined as as_defined, aliased, as_item, IsListedThere}
 use Rattle.wac_encode.specs.Listing.{NeededBy, own_types, SameRecords, PrimitiveDoesNotFit}
 use Rattle.wac_encode.specs.Importing.{IsImportedOnce, NamesImportedValue}
 use Rattle.wac_encode.specs.Defining.{defined_tree, WritesDefinition, item_of_type, MadeFor, IsDefinedAt, WritesOnce, IsDefinitionRefused}
@@ -45,10 +45,12 @@ use Rattle.wac_encode.proofs.Imported.{still-root}
 use Rattle.wac_encode.proofs.Listed.{held-at-end}
 use Rattle.wac_encode.proofs.Naming.{primitive-behind, primitive-described, definition-behind, definition-described}
 use Rattle.wac_encode.proofs.Stacks.{writes-none, same-index}
+use Rattle.wac_scopes.proofs.ScopedLaws.{recorded-at}
+use Rattle.std.specs.List.{AllByRecursion}
 
 -- the root behind which types are written
 
-items-with : (x : Encodable) (ys : List TypeDef) → IsRoot x → items_of (with_types x ys) ≡ items_of x ++ map type_item ys
+items-with : (x : Encodable) (ys : List NewType) → IsRoot x → items_of (with_types x ys) ≡ items_of x ++ map as_item ys
 items-with (Builder items) ys h = refl
 items-with (Instance ds) ys h = absurd h
 items-with (Component ds) ys h = absurd h
@@ -58,8 +60,20 @@ counted-root (Builder items) h = refl
 counted-root (Instance ds) h = absurd h
 counted-root (Component ds) h = absurd h
 
-items-added : (old now : Scope) (ys : List TypeDef) → IsRoot old.content → now.content ≡ with_types old.content ys → items_of now.content ≡ items_of old.content ++ map type_item ys
-items-added old now ys is_root appended = ap items_of appended ∙ items-with old.content ys is_root
+no-place : (l : ℕ × Name) → None ≡ Some l → ⊥
+no-place l h = cc
+
+-- where no instance lists a type, all are definitions
+definitions : (P : AnyType → Type 0) (s : Scope) → ((a : AnyType) → listing s a ≡ None) → (ys : List NewType) → AllByRecursion (IsListedThere P s) ys → (ts : List TypeDef) × (map as_item ys ≡ map type_item ts)
+definitions P s unlisted [] h = ([], refl)
+definitions P s unlisted (as_defined y ∷ ys) h = let r = definitions P s unlisted ys h.1 in (y ∷ r.0, ap (λ (es : List Item). type_item y ∷ es) r.1)
+definitions P s unlisted (aliased j n ∷ ys) h = absurd (no-place (j, n) (sym (unlisted (ty.Value (val.Defined h.0.0))) ∙ h.0.2))
+
+-- type definitions alone are added
+items-added : (c : Collection) (n : ℕ) (P : AnyType → Type 0) (old now : Scope) → IsRightRoot c old → WritesFor c n P old now → (ts : List TypeDef) × (items_of now.content ≡ items_of old.content ++ map type_item ts)
+items-added c n P old now r w =
+    let d = definitions P old r.unlisted w.types w.aliases in
+    (d.0, ap items_of w.appended ∙ items-with old.content w.types r.is_root ∙ ap (λ (es : List Item). items_of old.content ++ es) d.1)
 
 pub at-root : (s : Scope) (i : ℕ) (t : Tree) → IsRoot s.content → At ((env (opened s unbound) []).types) i t → At ((root_of s).scope.types) i t
 at-root s i t is_root at = subst (λ (x : Content). At ((scope_of x []).types) i t) (content-of-root s.content is_root) at
@@ -68,22 +82,22 @@ means-now : (c : Collection) (s : Scope) → IsRoot s.content → Good c (nothin
 means-now c s is_root g = subst (λ (x : Content). ContentHasMeaning x []) (content-of-root s.content is_root) g.0.meaning
 
 -- a type index that was added stands for the tree that it has
-pub stands-there : IsWrittenThere → (old now : Scope) (ys : List TypeDef) (i : ℕ) (t : Tree) → IsRoot old.content → now.content ≡ with_types old.content ys → count (space sort.«Type») old.content ≤ i → At ((root_of now).scope.types) i t → stands_for (root_of now) sort.«Type» i ≡ written t
-stands-there there old now ys i t is_root appended behind at =
-    let is : items_of now.content ≡ items_of old.content ++ map type_item ys = items-added old now ys is_root appended in
-    ap (λ (items : List Item). stands_for (meaning items) sort.«Type» i) is
-    ∙ there (items_of old.content) ys i t (subst (λ (n : ℕ). n ≤ i) (counted-root old.content is_root) behind) (subst (λ (items : List Item). At ((meaning items).scope.types) i t) is at)
+pub stands-there : IsWrittenThere → (c : Collection) (m : ℕ) (P : AnyType → Type 0) (old now : Scope) (i : ℕ) (t : Tree) → IsRightRoot c old → WritesFor c m P old now → count (space sort.«Type») old.content ≤ i → At ((root_of now).scope.types) i t → stands_for (root_of now) sort.«Type» i ≡ written t
+stands-there there c m P old now i t r w behind at =
+    let added = items-added c m P old now r w in
+    ap (λ (items : List Item). stands_for (meaning items) sort.«Type» i) added.1
+    ∙ there (items_of old.content) added.0 i t (subst (λ (n : ℕ). n ≤ i) (counted-root old.content r.is_root) behind) (subst (λ (items : List Item). At ((meaning items).scope.types) i t) added.1 at)
 
 -- and so for its type
-stands-new : IsWrittenThere → IsItsTree → (c : Collection) (old now : Scope) (ys : List TypeDef) (a : AnyType) (i : ℕ) (t : Tree) → IsRoot old.content → now.content ≡ with_types old.content ys → count (space sort.«Type») old.content ≤ i → IsHeld c nothing_bound a t → At ((root_of now).scope.types) i t
+stands-new : IsWrittenThere → IsItsTree → (c : Collection) (m : ℕ) (P : AnyType → Type 0) (old now : Scope) (a : AnyType) (i : ℕ) (t : Tree) → IsRightRoot c old → WritesFor c m P old now → count (space sort.«Type») old.content ≤ i → IsHeld c nothing_bound a t → At ((root_of now).scope.types) i t
     → stands_for (root_of now) sort.«Type» i ≡ written (held_tree c nothing_bound a)
-stands-new there tree c old now ys a i t is_root appended behind held at = stands-there there old now ys i t is_root appended behind at ∙ ap written (sym (tree c nothing_bound a t held))
+stands-new there tree c m P old now a i t r w behind held at = stands-there there c m P old now i t r w behind at ∙ ap written (sym (tree c nothing_bound a t held))
 
 -- one that is recorded, too
 stands-recorded : IsItsEnd → IsItsTree → (c : Collection) → IsWellFormed c → (s : Scope) (v : ValueType) (d : DefinedTypeId) (i : ℕ) → value_resolved c v ≡ val.Defined d → IsRightRoot c s → value_index s d ≡ Some i → HasMeaning (items_of s.content)
     → stands_for (root_of s) sort.«Type» i ≡ written (held_tree c nothing_bound (ty.Value v))
 stands-recorded end tree c wf s v d i is r at means =
-    let m = (r.right means).0.memo (ty.Value (val.Defined d)) (at_type i) (ap at_index at) in
+    let m = (r.right means).0.memo (ty.Value (val.Defined d)) (at_type i) (recorded-at s (ty.Value (val.Defined d)) i at) in
     r.written means (ty.Value (val.Defined d)) i at ∙ ap written (tree c nothing_bound (ty.Value (val.Defined d)) m.0 m.1 ∙ sym (tree c nothing_bound (ty.Value v) m.0 (held-at-end c wf end nothing_bound v (val.Defined d) m.0 is m.1)))
 
 -- the root stays right
@@ -91,6 +105,7 @@ stands-recorded end tree c wf s v d i is r at means =
 pub right-after : StaysRight → MeansBefore → IsWrittenThere → IsItsTree → (c : Collection) (n : ℕ) (P : AnyType → Type 0) (old new : Scope) → WritesFor c n P old new → IsRightRoot c old → IsRightRoot c new
 right-after stays before there tree c n P old new w r = record {
   is_root = is_root;
+  unlisted = λ a. w.listed a ∙ r.unlisted a;
   right = good;
   written = λ means a i h. by_old means a i h (type_index old a) refl;
 }
@@ -98,39 +113,40 @@ right-after stays before there tree c n P old new w r = record {
     is_root : IsRoot new.content
     is_root = still-root old.content new.content w.types w.appended r.is_root
 
-    is : items_of new.content ≡ items_of old.content ++ map type_item w.types
-    is = items-added old new w.types r.is_root w.appended
+    added : (ts : List TypeDef) × (items_of new.content ≡ items_of old.content ++ map type_item ts)
+    added = items-added c n P old new r w
 
     good : HasMeaning (items_of new.content) → Good c (nothing_bound ∷ []) (opened new unbound ∷ [])
-    good means = (w.onward nothing_bound [] unbound [] (r.right (before (items_of old.content) (map type_item w.types) (subst HasMeaning is means)))).0
+    good means = (w.onward nothing_bound [] unbound [] (r.right (before (items_of old.content) (map type_item added.0) (subst HasMeaning added.1 means)))).0
 
     mid : IsRightRoot c (record old { content = new.content })
-    mid = stays c old (record old { content = new.content }) (map type_item w.types) r is_root is (λ a. refl)
+    mid = stays c old (record old { content = new.content }) (map type_item added.0) r is_root added.1 (λ a. refl) (λ a. refl)
 
     by_old : HasMeaning (items_of new.content) → (a : AnyType) (i : ℕ) → type_index new a ≡ Some i → (o : Option ℕ) → type_index old a ≡ o → stands_for (root_of new) sort.«Type» i ≡ written (held_tree c nothing_bound a)
     by_old means a i h (Some j) e = subst (λ (k : ℕ). stands_for (root_of new) sort.«Type» k ≡ written (held_tree c nothing_bound a)) (same-index new a j i (w.kept a j e) h) (mid.written means a j e)
     by_old means a i h None e =
-        let m = (good means).0.memo a (at_type i) (ap at_index h) in
-        stands-new there tree c old new w.types a i m.0 r.is_root w.appended (w.later a i e h) m.1 (at-root new i m.0 is_root m.3)
+        let m = (good means).0.memo a (at_type i) (recorded-at new a i h) in
+        stands-new there tree c n P old new a i m.0 r w (w.later a i e h) m.1 (at-root new i m.0 is_root m.3)
 
 pub right-exported : StaysRight → (c : Collection) (now new : Scope) (n : Name) (i : ℕ) → new ≡ record now { content = Builder (items_of now.content ++ export_item n sort.«Type» i ∷ []) } → IsRightRoot c now → IsRightRoot c new
-right-exported stays c now new n i is r = subst (IsRightRoot c) (sym is) (stays c now (record now { content = Builder (items_of now.content ++ export_item n sort.«Type» i ∷ []) }) (export_item n sort.«Type» i ∷ []) r tt refl (λ a. refl))
+right-exported stays c now new n i is r = subst (IsRightRoot c) (sym is) (stays c now (record now { content = Builder (items_of now.content ++ export_item n sort.«Type» i ∷ []) }) (export_item n sort.«Type» i ∷ []) r tt refl (λ a. refl) (λ a. refl))
 
 pub right-same : (c : Collection) (old new : Scope) → new ≡ old → IsRightRoot c old → IsRightRoot c new
 right-same c old new is r = subst (IsRightRoot c) (sym is) r
 
 pub right-still : StaysRight → (c : Collection) (old new : Scope) → IsAsBefore old new → IsRightRoot c old → IsRightRoot c new
-right-still stays c old new h r = stays c old new [] r (subst IsRoot (sym h.content) r.is_root) (ap items_of h.content ∙ sym (append-nil (items_of old.content))) h.types
+right-still stays c old new h r = stays c old new [] r (subst IsRoot (sym h.content) r.is_root) (ap items_of h.content ∙ sym (append-nil (items_of old.content))) h.types h.listed
 
 -- what is written is the definition
 
 pub defined-so : (c : Collection) (t : AnyType) (n : Name) (m : ℕ) (P : AnyType → Type 0) (old now new : Scope) (i k : ℕ) → IsRightRoot c old → WritesFor c m P old now → (Good c (nothing_bound ∷ []) (opened old unbound ∷ []) → HasMeaning (items_of now.content) → stands_for (root_of now) sort.«Type» i ≡ written (defined_tree c t)) → new.content ≡ Builder (items_of now.content ++ export_item n sort.«Type» i ∷ []) → k ≡ count (space sort.«Type») now.content
     → WritesDefinition c t n old new k
 defined-so c t n m P old now new i k r w stands appended answer =
-    let is_root : IsRoot now.content = still-root old.content now.content w.types w.appended r.is_root in record {
-      types = w.types;
+    let is_root : IsRoot now.content = still-root old.content now.content w.types w.appended r.is_root in
+    let added = items-added c m P old now r w in record {
+      types = added.0;
       mid = items_of now.content;
-      added = items-added old now w.types r.is_root w.appended;
+      added = added.1;
       index = i;
       meant = λ means.
           let good : Good c (nothing_bound ∷ []) (opened old unbound ∷ []) = r.right means in
@@ -144,7 +160,7 @@ pub content-is : (now new : Scope) (x : Encodable) → new ≡ record now { cont
 content-is now new x is = ap (λ (s : Scope). s.content) is
 
 pub records-same : (now new : Scope) (x : Encodable) → new ≡ record now { content = x } → SameRecords now new
-records-same now new x is a = ap (λ (s : Scope). type_index s a) is
+records-same now new x is a = (ap (λ (s : Scope). type_index s a) is, ap (λ (s : Scope). listing s a) is)
 
 -- a primitive
 
@@ -154,7 +170,7 @@ primitive-defined there end tree c wf old now new n v p i k r is index adds same
     let w = primitive-behind c old now v p i is adds same in
     let is_root : IsRoot now.content = still-root old.content now.content w.types w.appended r.is_root in
     defined-so c (ty.Value v) n (own_types c (item_of_type (ty.Value v))) (NeededBy c (item_of_type (ty.Value v))) old now new i k r w
-    (λ good means. stands-new there tree c old now w.types (ty.Value v) i (primitive p) r.is_root w.appended (omega (arith, index)) (held-at-end c wf end nothing_bound v (val.Primitive p) (primitive p) is (primitive-held c nothing_bound p)) (at-root now i (primitive p) is_root (adds c nothing_bound [] unbound [] good).1))
+    (λ good means. stands-new there tree c (own_types c (item_of_type (ty.Value v))) (NeededBy c (item_of_type (ty.Value v))) old now (ty.Value v) i (primitive p) r w (omega (arith, index)) (held-at-end c wf end nothing_bound v (val.Primitive p) (primitive p) is (primitive-held c nothing_bound p)) (at-root now i (primitive p) is_root (adds c nothing_bound [] unbound [] good).1))
     (content-is now new (Builder (items_of now.content ++ export_item n sort.«Type» i ∷ [])) exports) answer
 
 pub primitive-once : (c : Collection) (old now new : Scope) (n : Name) (v : ValueType) (p : PrimitiveType) (i k : ℕ) → value_resolved c v ≡ val.Primitive p → AddsPrimitive old now p i → now ≡ record old { content = and_type old.content (value_def (primitive_def p)) } → new ≡ record now { content = Builder (items_of now.content ++ export_item n sort.«Type» i ∷ []) } → WritesOnce c (ty.Value v) n old new k

@@ -8,7 +8,7 @@ use Rattle.wac_collection.specs.Tree.{Tree, function_item}
 use Rattle.wac_collection.specs.Collection.{Collection}
 use Rattle.wac_binary.specs.Added.{imports_added}
 use Rattle.wac_binary.specs.declared.sorts.Description.TheVariants as e
-use Rattle.wac_binary.specs.Items.{TypeDef, Item, type_item}
+use Rattle.wac_binary.specs.Items.{Item, type_item}
 use Rattle.wac_binary.specs.Meaning.{import_at, meaning}
 use Rattle.wac_binary.specs.HasMeaning.{IsNew}
 use Rattle.wac_scopes.specs.declared.encodable.Encodable.{Encodable}
@@ -19,35 +19,39 @@ use Rattle.wac_scopes.specs.declared.fault.EncodeFault.TheVariants as fault
 use Rattle.wac_scopes.specs.Contents.{IsRoot, items_of, and_import, ContentFits}
 use Rattle.wac_scopes.specs.Scoped.{opened, root_of, IsNewInRoot, RootImportsFunction, WritesUnlessTooLarge}
 use Rattle.wac_scopes.specs.Laws.{Follows}
-use Rattle.wac_encode.specs.Written.{IsOfFunc, WritesFor, with_types, AddsHeldFunc, IsFuncAt, IsFuncRefused, ImportsHeldFunc, EndsWithImport, IsImportRefused}
+use Rattle.wac_encode.specs.Written.{IsOfFunc, WritesFor, with_types, AddsHeldFunc, IsFuncAt, IsFuncRefused, ImportsHeldFunc, EndsWithImport, IsImportRefused, NewType, defined, aliased, as_item}
 
 -- what one more item imports
 abbrev pub ListsOneMore : Type 0
 ListsOneMore = (items : List Item) (x : Item) → (meaning (items ++ x ∷ [])).imports ≡ (meaning items).imports ++ imports_added (meaning items) x
 
--- type definitions import nothing
+-- types import nothing
 
-types-import : ListsOneMore → (items : List Item) (ys : List TypeDef) → (meaning (items ++ map type_item ys)).imports ≡ (meaning items).imports
+one-import : ListsOneMore → (items : List Item) (y : NewType) → (meaning (items ++ as_item y ∷ [])).imports ≡ (meaning items).imports
+one-import law items (defined y) = law items (type_item y) ∙ append-nil (meaning items).imports
+one-import law items (aliased j n) = law items (as_item (aliased j n)) ∙ append-nil (meaning items).imports
+
+types-import : ListsOneMore → (items : List Item) (ys : List NewType) → (meaning (items ++ map as_item ys)).imports ≡ (meaning items).imports
 types-import law items [] = ap (λ (xs : List Item). (meaning xs).imports) (append-nil items)
 types-import law items (y ∷ ys) =
-    ap (λ (xs : List Item). (meaning xs).imports) (sym (append_assoc items (type_item y ∷ []) (map type_item ys)))
-    ∙ types-import law (items ++ type_item y ∷ []) ys ∙ law items (type_item y) ∙ append-nil (meaning items).imports
+    ap (λ (xs : List Item). (meaning xs).imports) (sym (append_assoc items (as_item y ∷ []) (map as_item ys)))
+    ∙ types-import law (items ++ as_item y ∷ []) ys ∙ one-import law items y
 
-pub same-imports : ListsOneMore → (x : Encodable) (ys : List TypeDef) → (meaning (items_of (with_types x ys))).imports ≡ (meaning (items_of x)).imports
+pub same-imports : ListsOneMore → (x : Encodable) (ys : List NewType) → (meaning (items_of (with_types x ys))).imports ≡ (meaning (items_of x)).imports
 same-imports law (Builder items) ys = types-import law items ys
 same-imports law (Instance ds) ys = refl
 same-imports law (Component ds) ys = refl
 
-with-types-root : (x : Encodable) (ys : List TypeDef) → IsRoot x → IsRoot (with_types x ys)
+with-types-root : (x : Encodable) (ys : List NewType) → IsRoot x → IsRoot (with_types x ys)
 with-types-root (Builder items) ys h = tt
 with-types-root (Instance ds) ys h = absurd h
 with-types-root (Component ds) ys h = absurd h
 
 -- and leave the root the root
-pub still-root : (x y : Encodable) (ys : List TypeDef) → y ≡ with_types x ys → IsRoot x → IsRoot y
+pub still-root : (x y : Encodable) (ys : List NewType) → y ≡ with_types x ys → IsRoot x → IsRoot y
 still-root x y ys is h = subst IsRoot (sym is) (with-types-root x ys h)
 
-pub imports-held : ListsOneMore → (c : Collection) → Follows → (old now new : Scope) (n : Name) (f : FuncTypeId) (i k : ℕ) (ys : List TypeDef) → now.content ≡ with_types old.content ys → AddsHeldFunc c old now f i → RootImportsFunction now new n i k → ImportsHeldFunc c old new n f k
+pub imports-held : ListsOneMore → (c : Collection) → Follows → (old now new : Scope) (n : Name) (f : FuncTypeId) (i k : ℕ) (ys : List NewType) → now.content ≡ with_types old.content ys → AddsHeldFunc c old now f i → RootImportsFunction now new n i k → ImportsHeldFunc c old new n f k
 imports-held law c follows old now new n f i k ys appended adds imports m ms o os g new_name =
     let a = adds m ms o os g in
     let same : (root_of now).imports ≡ (root_of old).imports = ap (λ (x : Encodable). (meaning (items_of x)).imports) appended ∙ same-imports law old.content ys in

@@ -1,9 +1,13 @@
 -- Items of held kinds are imported into the root.
-use Rattle.std.specs.Prelude.{ℕ, suc, ◌+◌, ◌<◌, ◌≡◌, List, [], ◌∷◌, ◌++◌, length, map, Option, Some, None, Err}
+use Rattle.wac_encode.proofs.Aliasing.{exports-listed}
+use Rattle.wac_scopes.specs.Instances.{ExportsEnd}
+use Rattle.std.specs.Prelude.{ℕ, suc, ◌+◌, ◌<◌, ◌≡◌, List, [], ◌∷◌, ◌++◌, length, map, Option, Some, None, Err, true, slice_get}
 use Rattle.std.proofs.Common.{refl, ap, ◌∙◌, sym, subst, arith, inl, inr}
-use Rattle.wac_shapes.specs.Name.{Name}
+use Rattle.wac_shapes.specs.Name.{Name, option_case}
+use Rattle.wac_shapes.specs.Named.{NoNameTwice}
 use Rattle.wac_shapes.specs.declared.component.DefinedTypeId.{DefinedTypeId}
 use Rattle.wac_shapes.specs.declared.component.FuncTypeId.{FuncTypeId}
+use Rattle.wac_shapes.specs.declared.component.Interface.{Interface}
 use Rattle.wac_shapes.specs.declared.component.InterfaceId.{InterfaceId}
 use Rattle.wac_shapes.specs.declared.component.ItemKind.{ItemKind}
 use Rattle.wac_shapes.specs.declared.component.ItemKind.TheVariants as kind
@@ -12,7 +16,7 @@ use Rattle.wac_shapes.specs.declared.component.ValueType.{ValueType}
 use Rattle.wac_shapes.specs.declared.component.ValueType.TheVariants as val
 use Rattle.wac_shapes.specs.declared.component.«Type».TheVariants as ty
 use Rattle.wac_collection.specs.Tree.{imported, Tree, position, primitive, type_equal, function_item, instance_item}
-use Rattle.wac_collection.specs.Collection.{Collection, IsWellFormed}
+use Rattle.wac_collection.specs.Collection.{Collection, IsWellFormed, item_at}
 use Rattle.wac_collection.specs.Aliases.{value_resolved}
 use Rattle.wac_collection.specs.Bound.{Bindings, held_tree, held_item}
 use Rattle.wac_binary.specs.declared.sorts.Description.{Description}
@@ -21,7 +25,7 @@ use Rattle.wac_binary.specs.declared.sorts.Sort.{Sort}
 use Rattle.wac_binary.specs.declared.sorts.Sort.TheVariants as sort
 use Rattle.wac_binary.specs.HasMeaning.{IsNew}
 use Rattle.wac_binary.specs.Indexes.{space}
-use Rattle.wac_binary.specs.Items.{TypeDef, value_def, primitive_def, instance_def, Decl, decls}
+use Rattle.wac_binary.specs.Items.{value_def, primitive_def, instance_def, Decl, decls}
 use Rattle.wac_binary.specs.Meaning.{import_at, meaning}
 use Rattle.wac_binary.specs.Unfold.{Scope as Env, Bound}
 use Rattle.wac_scopes.specs.declared.encodable.Encodable.{Encodable}
@@ -33,26 +37,27 @@ use Rattle.wac_scopes.specs.Contents.{content_of, items_of, IsRoot, and_type, an
 use Rattle.wac_scopes.specs.Scopes.{Open, Stack, envs, scope_of}
 use Rattle.wac_scopes.specs.Good.{At, Onward}
 use Rattle.wac_scopes.specs.Laws.{Follows, IsItsEnd, IsItsTree, IsRecorded, StaysOnward}
-use Rattle.wac_scopes.specs.Scoped.{type_index, value_index, at_index, opened, imported_at, root_of, IsNewInRoot, HasToo, IsAsBefore, IsAt, AddsPrimitive, AddsInstance, RootImports, RootImportsType, RootImportsValue, RootImportsFunction, RootImportsInstance, WritesUnlessTooLarge, FitsUnlessTooLarge}
+use Rattle.wac_scopes.specs.Scoped.{type_index, value_index, opened, imported_at, root_of, IsNewInRoot, HasToo, IsAsBefore, IsAt, AddsPrimitive, AddsInstance, RootImports, RootImportsType, RootImportsValue, RootImportsFunction, RootImportsListing, AlsoLists, WritesUnlessTooLarge, FitsUnlessTooLarge, listing}
 use Rattle.wac_scopes.proofs.Values.{primitive-held}
-use Rattle.wac_encode.specs.Written.{PartOf, WritesFor, with_types, IsOfFunc, AddsHeldFunc, IsFuncAt, IsRefused, IsFuncRefused}
-use Rattle.wac_encode.specs.Listing.{SaysInterface, WritesInterface, NeededBy, SameRecords, PrimitiveDoesNotFit, IsInterfaceRefused}
-use Rattle.wac_encode.specs.Importing.{next_place, AddsHeldInterface, ImportsHeld, IsInterfaceFrom, IsInterfaceAt, IsInstanceRefused, IsImportedAs, IsImportedOnce, NamesImportedValue, WritesImport, WritesTypesOf, IsItemNotImported, held_imports, ImportsOneMore}
+use Rattle.wac_encode.specs.Written.{PartOf, WritesFor, with_types, IsOfFunc, AddsHeldFunc, IsFuncAt, IsRefused, IsFuncRefused, NewType, defined}
+use Rattle.wac_encode.specs.Listing.{SaysInterface, WritesInterface, NeededBy, SameRecords, PrimitiveDoesNotFit, IsInterfaceRefused, lists_plain}
+use Rattle.wac_encode.specs.Importing.{next_place, AddsHeldInterface, ImportsHeld, IsInterfaceFrom, IsInterfaceAt, IsInstanceRefused, IsImportedAs, IsImportedOnce, NamesImportedValue, WritesImport, WritesTypesOf, IsItemNotImported, held_imports, ImportsOneMore, listed_definitions}
 use Rattle.wac_encode.proofs.Answering.{as-it-was}
 use Rattle.wac_encode.proofs.Imported.{ListsOneMore, same-imports, still-root}
 use Rattle.wac_encode.proofs.Listed.{held-at-end, value-is-type}
 use Rattle.wac_encode.proofs.Naming.{primitive-behind, primitive-described, definition-behind, definition-described}
 use Rattle.wac_encode.proofs.Stacks.{writes-none, writes-no-more, writes-recorded}
+use Rattle.wac_scopes.proofs.ScopedLaws.{recorded-at}
 
 -- what is imported behind types of it
 
-imports-since : ListsOneMore → (old now : Scope) (ys : List TypeDef) → now.content ≡ with_types old.content ys → (root_of now).imports ≡ (root_of old).imports
+imports-since : ListsOneMore → (old now : Scope) (ys : List NewType) → now.content ≡ with_types old.content ys → (root_of now).imports ≡ (root_of old).imports
 imports-since law old now ys appended = ap (λ (x : Encodable). (meaning (items_of x)).imports) appended ∙ same-imports law old.content ys
 
-still-new : ListsOneMore → (old now : Scope) (n : Name) (ys : List TypeDef) → now.content ≡ with_types old.content ys → IsNewInRoot old n → IsNewInRoot now n
+still-new : ListsOneMore → (old now : Scope) (n : Name) (ys : List NewType) → now.content ≡ with_types old.content ys → IsNewInRoot old n → IsNewInRoot now n
 still-new law old now n ys appended new_name = subst (λ (es : List (Name × Tree)). IsNew n (map (λ e. e.0) es)) (sym (imports-since law old now ys appended)) new_name
 
-imports-after : ListsOneMore → (c : Collection) → Follows → (ms : List Bindings) (old now new : Scope) (o : Open) (os : Stack) (t : Sort) (k : ℕ) (n : Name) (item : Tree) (ys : List TypeDef) → now.content ≡ with_types old.content ys → Onward c ms (opened old o ∷ os) (opened now o ∷ os) → RootImports c ms now new o os t k n item → RootImports c ms old new o os t k n item
+imports-after : ListsOneMore → (c : Collection) → Follows → (ms : List Bindings) (old now new : Scope) (o : Open) (os : Stack) (t : Sort) (k : ℕ) (n : Name) (item : Tree) (ys : List NewType) → now.content ≡ with_types old.content ys → Onward c ms (opened old o ∷ os) (opened now o ∷ os) → RootImports c ms now new o os t k n item → RootImports c ms old new o os t k n item
 imports-after law c follows ms old now new o os t k n item ys appended on r =
     let same : (root_of now).imports ≡ (root_of old).imports = imports-since law old now ys appended in record {
       onward = follows c ms (opened old o ∷ os) (opened now o ∷ os) (opened new o ∷ os) on r.onward;
@@ -70,7 +75,6 @@ as-held c ms old new o os t k n f a b same r = subst (λ (u : Tree). RootImports
 pub primitive-imported : ListsOneMore → (c : Collection) → IsWellFormed c → Follows → IsItsEnd → IsItsTree → (old now new : Scope) (n : Name) (v : ValueType) (p : PrimitiveType) (k j : ℕ) → value_resolved c v ≡ val.Primitive p → AddsPrimitive old now p k → now ≡ record old { content = and_type old.content (value_def (primitive_def p)) } → RootImportsType now new n k j → ImportsHeld c old new n (kind.TypeItem (ty.Value v)) j
 primitive-imported law c wf follows end tree old now new n v p k j is adds same imports m ms o os g free =
     let first = adds c m ms o os g in
-    let ys : List TypeDef = value_def (primitive_def p) ∷ [] in
     let w = primitive-behind c old now v p k is adds same in
     let l = imports c m ms o os (primitive p) first.0.0 (still-new law old now n w.types w.appended free) tt first.1 in
     let held : held_tree c m (ty.Value v) ≡ primitive p = tree c m (ty.Value v) (primitive p) (held-at-end c wf end m v (val.Primitive p) (primitive p) is (primitive-held c m p)) in
@@ -80,7 +84,7 @@ primitive-imported law c wf follows end tree old now new n v p k j is adds same 
 
 pub second-imported : (c : Collection) → IsWellFormed c → IsItsEnd → IsItsTree → IsRecorded → (old new : Scope) (n : Name) (v : ValueType) (d : DefinedTypeId) (k j : ℕ) → value_resolved c v ≡ val.Defined d → value_index old d ≡ Some k → RootImportsType old new n k j → ImportsHeld c old new n (kind.TypeItem (ty.Value v)) j
 second-imported c wf end tree recorded old new n v d k j is at imports m ms o os g free =
-    let r = recorded c m ms (opened old o) os (val.Defined d) k g (ap at_index at) in
+    let r = recorded c m ms (opened old o) os (val.Defined d) k g (recorded-at old (ty.Value (val.Defined d)) k at) in
     let l = imports c m ms o os r.0 g free (value-is-type r.0 r.2.1) r.2.0 in
     let held : held_tree c m (ty.Value v) ≡ r.0 = tree c m (ty.Value v) r.0 (held-at-end c wf end m v (val.Defined d) r.0 is r.1) in
     (as-held c (m ∷ ms) old new o os sort.«Type» j n type_equal r.0 (held_tree c m (ty.Value v)) held l.0, tt)
@@ -90,7 +94,7 @@ second-imported c wf end tree recorded old new n v d k j is at imports m ms o os
 pub first-imported : ListsOneMore → (c : Collection) → IsWellFormed c → Follows → IsItsEnd → IsItsTree → IsRecorded → (old now new : Scope) (n : Name) (v : ValueType) (d : DefinedTypeId) (k j : ℕ) → value_resolved c v ≡ val.Defined d → WritesFor c 0 (PartOf c (value_resolved c v)) old now → value_index now d ≡ Some k → RootImportsValue now new n d k j → ImportsHeld c old new n (kind.TypeItem (ty.Value v)) j
 first-imported law c wf follows end tree recorded old now new n v d k j is w at imports m ms o os g free =
     let first = w.onward m ms o os g in
-    let r = recorded c m ms (opened now o) os (val.Defined d) k first.0 (ap at_index at) in
+    let r = recorded c m ms (opened now o) os (val.Defined d) k first.0 (recorded-at now (ty.Value (val.Defined d)) k at) in
     let l = imports c m ms o os r.0 first.0 (still-new law old now n w.types w.appended free) r.1 r.2.1 r.2.0 in
     let held : held_tree c m (ty.Value v) ≡ r.0 = tree c m (ty.Value v) r.0 (held-at-end c wf end m v (val.Defined d) r.0 is r.1) in
     (as-held c (m ∷ ms) old new o os sort.«Type» j n type_equal r.0 (held_tree c m (ty.Value v)) held (imports-after law c follows (m ∷ ms) old now new o os sort.«Type» j n (type_equal r.0) w.types w.appended first l.0), tt)
@@ -122,7 +126,7 @@ adds-interface c old now i ds k says adds m ms o os g = let s = says m ms (opene
 
 pub instance-behind : (c : Collection) → Follows → StaysOnward → (old now : Scope) (i : InterfaceId) (ds : List Decl) (k : ℕ) → i.0 < length c.interfaces → type_index old (ty.Interface i) ≡ None → AddsHeldInterface c old now i k → HasToo old (ty.Interface i) k now → k ≡ count (space sort.«Type») old.content → now.content ≡ and_type old.content (instance_def (decls ds)) → WritesFor c 0 (NeededBy c (kind.Instance i)) old now
 instance-behind c follows stays old now i ds k held none adds too index is =
-    writes-recorded c follows 0 (NeededBy c (kind.Instance i)) old old now (ty.Interface i) k (instance_def (decls ds)) (writes-none c stays (NeededBy c (kind.Instance i)) old old (as-it-was old)) refl held none (λ m ms o os g. (adds m ms o os g).3.0) too index is
+    writes-recorded c follows 0 (NeededBy c (kind.Instance i)) old old now (ty.Interface i) k (defined (instance_def (decls ds))) (writes-none c stays (NeededBy c (kind.Instance i)) old old (as-it-was old)) refl tt tt held none (λ m ms o os g. (adds m ms o os g).3.0) too index is
 
 pub none-else : (o : Option ℕ) → ((k : ℕ) → o ≡ Some k → ⊥) → o ≡ None
 none-else None h = refl
@@ -135,12 +139,12 @@ interface-there c stays s i k at m ms o os g = let r = at c m ms o os g in (r.0,
 pub interface-at-there : (c : Collection) (s : Scope) (i : InterfaceId) (k : ℕ) → type_index s (ty.Interface i) ≡ Some k → IsInterfaceAt c s s i k
 interface-at-there c s i k at = subst (λ (o : Option ℕ). IsInterfaceFrom o c s s i k) (sym at) (refl, refl)
 
-pub instance-imported : ListsOneMore → (c : Collection) → Follows → IsItsTree → (old now new : Scope) (n : Name) (i : InterfaceId) (j k : ℕ) → IsRoot now.content → WritesFor c 0 (NeededBy c (kind.Instance i)) old now → AddsHeldInterface c old now i j → new ≡ record now { content = and_import now.content n (e.Instance j) } → RootImportsInstance now new n j k → ImportsHeld c old new n (kind.Instance i) k
-instance-imported law c follows tree old now new n i j k is_root w adds is imports m ms o os g free =
+pub instance-imported : ListsOneMore → ExportsEnd → (c : Collection) → IsWellFormed c → Follows → IsItsTree → (old now new : Scope) (n : Name) (i : InterfaceId) (it : Interface) (j k : ℕ) (es : List (DefinedTypeId × Name)) → item_at c.interfaces i.0 ≡ Some it → lists_plain c i ≡ true → NoNameTwice it.exports → es ≡ listed_definitions c it.exports → IsRoot now.content → WritesFor c 0 (NeededBy c (kind.Instance i)) old now → AddsHeldInterface c old now i j → new.content ≡ and_import now.content n (e.Instance j) → RootImportsListing now new n j es k → ImportsHeld c old new n (kind.Instance i) k
+instance-imported law ends c wf follows tree old now new n i it j k es found plain once listed is_root w adds is imports m ms o os g free =
     let a = adds m ms o os g in
-    let r = imports c m ms o os a.0 a.3.0.0 (still-new law old now n w.types w.appended free) a.2 a.3.1 in
+    let r = imports c m ms o os a.0 a.3.0.0 (still-new law old now n w.types w.appended free) a.2 a.3.1 (λ p x at. exports-listed ends c wf m i it (imported_at a.0 (items_of now.content)) found plain once a.1 p x (subst (λ (ds : List (DefinedTypeId × Name)). slice_get ds p ≡ Some x) listed at)) in
     let held : held_tree c m (ty.Interface i) ≡ a.0 = tree c m (ty.Interface i) a.0 a.1 in
-    let new_root : IsRoot new.content = subst (λ (z : Scope). IsRoot z.content) (sym is) (root-imported now.content n (e.Instance j) is_root) in
+    let new_root : IsRoot new.content = subst IsRoot (sym is) (root-imported now.content n (e.Instance j) is_root) in
     let bound : Bound = record { type = held_tree c m (ty.Interface i); side = imported; path = next_place old } in
     let is_bound : imported_at a.0 (items_of now.content) ≡ bound = (λ q. record { type = sym held q; side = imported; path = position (length (imports-since law old now w.types w.appended q)) ∷ [] }) in (
       as-held c (m ∷ ms) old new o os sort.Instance k n instance_item a.0 (held_tree c m (ty.Interface i)) held (imports-after law c follows (m ∷ ms) old now new o os sort.Instance k n (instance_item a.0) w.types w.appended a.3.0 r.0),
@@ -150,7 +154,7 @@ instance-imported law c follows tree old now new n i j k is_root w adds is impor
 -- what is written
 
 same-records : (old new : Scope) (n : Name) (d : Description) → new ≡ record old { content = and_import old.content n d } → SameRecords old new
-same-records old new n d is k = ap (λ (s : Scope). type_index s k) is
+same-records old new n d is k = (ap (λ (s : Scope). type_index s k) is, ap (λ (s : Scope). listing s k) is)
 
 imported-so : (old new : Scope) (n : Name) (d : Description) → new ≡ record old { content = and_import old.content n d } → new.content ≡ and_import old.content n d
 imported-so old new n d is = ap (λ (s : Scope). s.content) is
@@ -202,15 +206,15 @@ function-written c old now new n f k j w adds there imports index = record {
 pub ends-with-interface : (c : Collection) (old now : Scope) (i : InterfaceId) (ds : List Decl) (k : ℕ) → type_index old (ty.Interface i) ≡ None → WritesInterface c i ds → now.content ≡ and_type old.content (instance_def (decls ds)) → HasToo old (ty.Interface i) k now → k ≡ count (space sort.«Type») old.content → IsInterfaceAt c old now i k
 ends-with-interface c old now i ds k none written appended too index = subst (λ (o : Option ℕ). IsInterfaceFrom o c old now i k) (sym none) (record { declarations = ds; written = written; appended = appended; recorded = too; index = index })
 
-pub instance-written : (c : Collection) (old now new : Scope) (n : Name) (i : InterfaceId) (k j : ℕ) → WritesFor c 0 (NeededBy c (kind.Instance i)) old now → IsInterfaceAt c old now i k → new ≡ record now { content = and_import now.content n (e.Instance k) } → j ≡ count (space sort.Instance) now.content → WritesImport c old new n (kind.Instance i) j
-instance-written c old now new n i k j w there imports index = record {
+pub instance-written : (c : Collection) (old now new : Scope) (n : Name) (i : InterfaceId) (it : Interface) (k j : ℕ) (es : List (DefinedTypeId × Name)) → item_at c.interfaces i.0 ≡ Some it → es ≡ listed_definitions c it.exports → WritesFor c 0 (NeededBy c (kind.Instance i)) old now → IsInterfaceAt c old now i k → new.content ≡ and_import now.content n (e.Instance k) → AlsoLists now j es new → j ≡ count (space sort.Instance) now.content → WritesImport c old new n (kind.Instance i) j
+instance-written c old now new n i it k j es found listed w there imports lists index = record {
   now = now;
   behind = w;
   description = e.Instance k;
   described = there;
-  appended = imported-so now new n (e.Instance k) imports;
+  appended = imports;
   index = index;
-  named = same-records now new n (e.Instance k) imports;
+  named = subst (λ (ds : List (DefinedTypeId × Name)). AlsoLists now j ds new) (listed ∙ ap (λ (x : Option Interface). listed_definitions c (option_case x [] (λ y. y.exports))) (sym found)) lists;
 }
 
 -- the root stays the root
@@ -228,6 +232,9 @@ nothing-of c stays item old new same = (0, subst (λ (s : Scope). WritesFor c 0 
 
 pub types-of : (c : Collection) (item : ItemKind) (types : ℕ) (old now new : Scope) → WritesFor c types (NeededBy c item) old now → new ≡ now → WritesTypesOf c item old new
 types-of c item types old now new w same = (types, subst (λ (s : Scope). WritesFor c types (NeededBy c item) old s) (sym same) w)
+
+pub at-most : (c : Collection) → Follows → StaysOnward → (item : ItemKind) (old now new : Scope) → WritesFor c 0 (NeededBy c item) old now → IsAsBefore now new → WritesTypesOf c item old new
+at-most c follows stays item old now new w same = (0, writes-no-more c follows stays (NeededBy c item) old now new w same)
 
 pub first-at-most : (c : Collection) → Follows → StaysOnward → (old now new : Scope) (v : ValueType) → WritesFor c 0 (PartOf c (value_resolved c v)) old now → IsAsBefore now new → WritesTypesOf c (kind.TypeItem (ty.Value v)) old new
 first-at-most c follows stays old now new v w same = (0, writes-no-more c follows stays (PartOf c (value_resolved c v)) old now new w same)

@@ -9,6 +9,7 @@ pub mod Imported
 pub mod Ordered
 pub mod Listed
 pub mod Naming
+pub mod Aliasing
 pub mod Importing
 pub mod Plain
 pub mod Together

@@ -33,11 +33,13 @@ use Rattle.wac_scopes.specs.Scopes.{Open, Stack, env, envs, opening}
 use Rattle.wac_scopes.specs.Good.{Keeps, IsHeld, Good, Onward, top}
 use Rattle.wac_scopes.specs.Laws.{IsItsEnd, IsRecorded}
 use Rattle.wac_scopes.specs.Listed.{IsUnder, IsNewName, Lists, AreListed, has_own, declaring, ListsOneMore, ListsInAnyOrder, OpensInterface, ClosesInstance, HoldsInterface}
-use Rattle.wac_scopes.specs.Scoped.{value_index, at_index, recorded_type, opened, AddsPrimitive, ListsType, ListsValue, ListsFunction}
+use Rattle.wac_scopes.specs.Scoped.{value_index, recorded_type, opened, AddsPrimitive, ListsType, ListsValue, ListsFunction, place}
 use Rattle.wac_scopes.proofs.Values.{primitive-held}
-use Rattle.wac_encode.specs.Written.{GoesOn, with_types, AddsHeldFunc}
+use Rattle.wac_encode.specs.Written.{GoesOn, with_types, AddsHeldFunc, NewType, defined, aliased, as_decl}
 use Rattle.wac_encode.specs.Listing.{SaysInterface, WritesItem, WritesItems, IsEmpty, IsItemRefused, IsStopped}
 use Rattle.wac_encode.specs.Items.{ListsHeld, CanClose, HasListed}
+use Rattle.wac_scopes.proofs.Moved.{ap2}
+use Rattle.wac_scopes.proofs.ScopedLaws.{recorded-at}
 
 keeps-both : (a b d : Env) → Keeps a b → Keeps b d → Keeps a d
 keeps-both a b d p q = record {
@@ -74,14 +76,14 @@ held-at-end c wf end m v w t is held = end c wf m v t (subst (λ (u : ValueType)
 pub first-listed : (c : Collection) → IsWellFormed c → IsItsEnd → IsRecorded → (old now new : Scope) (n : Name) (v : ValueType) (d : DefinedTypeId) (k j : ℕ) → value_resolved c v ≡ val.Defined d → GoesOn c old now → value_index now d ≡ Some k → ListsValue now new n d k j → ListsHeld c old new n (kind.TypeItem (ty.Value v))
 first-listed c wf end recorded old now new n v d k j is on at lists m ms o os g free =
     let first = on m ms o os g in
-    let r = recorded c m ms (opened now o) os (val.Defined d) k first.0 (ap at_index at) in
+    let r = recorded c m ms (opened now o) os (val.Defined d) k first.0 (recorded-at now (ty.Value (val.Defined d)) k at) in
     let l = lists c m ms o os r.0 first.0 (free-after c m ms old now o os n first free) r.1 r.2.1 r.2.0 in
     (type_equal r.0, (refl, held-at-end c wf end m v (val.Defined d) r.0 is r.1), lists-after c m ms old now new o os n (type_equal r.0) first l.0)
 
 -- another of one that has a name
 pub second-listed : (c : Collection) → IsWellFormed c → IsItsEnd → IsRecorded → (old new : Scope) (n : Name) (v : ValueType) (d : DefinedTypeId) (k j : ℕ) → value_resolved c v ≡ val.Defined d → value_index old d ≡ Some k → ListsType old new n k j → ListsHeld c old new n (kind.TypeItem (ty.Value v))
 second-listed c wf end recorded old new n v d k j is at lists m ms o os g free =
-    let r = recorded c m ms (opened old o) os (val.Defined d) k g (ap at_index at) in
+    let r = recorded c m ms (opened old o) os (val.Defined d) k g (recorded-at old (ty.Value (val.Defined d)) k at) in
     let l = lists c m ms o os r.0 g free (value-is-type r.0 r.2.1) r.2.0 in
     (type_equal r.0, (refl, held-at-end c wf end m v (val.Defined d) r.0 is r.1), l.0)
 
@@ -113,17 +115,18 @@ listed-more c more it old new es n k had item missing ms st g =
 none-listed : (c : Collection) → OpensInterface → (it : Interface) (s : Scope) → IsEmpty s → HasListed c it s []
 none-listed c opens it s empty ms st g =
     let o : Open = opening (has_own c it) in
-    let memo_same : recorded_type s ≡ (λ a. None) = fun_ext (λ a. ap at_index (empty.types a)) in
+    let memo_same : recorded_type s ≡ (λ a. None) = fun_ext (λ a. ap2 place (empty.types a) (empty.listed a)) in
     let same : opened s o ≡ o = (λ i. record o { content = content_of (empty.content i); memo = memo_same i }) in
     subst (λ (p : Open). Good c (inside_interface c it (top ms) ∷ ms) (p ∷ st) × AreListed c (inside_interface c it (top ms)) exported [] ((env p (envs st)).exports)) (sym same) (opens c ms st it g)
 
 -- nothing is imported
 
-types-import-nothing : (ys : List TypeDef) (n : Name) (d : Description) → ImportNothing (decls (map type_decl ys ++ export_decl n d ∷ []))
+types-import-nothing : (ys : List NewType) (n : Name) (d : Description) → ImportNothing (decls (map as_decl ys ++ export_decl n d ∷ []))
 types-import-nothing [] n d = tt
-types-import-nothing (y ∷ ys) n d = types-import-nothing ys n d
+types-import-nothing (defined y ∷ ys) n d = types-import-nothing ys n d
+types-import-nothing (aliased j m ∷ ys) n d = types-import-nothing ys n d
 
-import-nothing-more : (ds : List Decl) (ys : List TypeDef) (n : Name) (d : Description) → ImportNothing (decls ds) → ImportNothing (decls ((ds ++ map type_decl ys) ++ export_decl n d ∷ []))
+import-nothing-more : (ds : List Decl) (ys : List NewType) (n : Name) (d : Description) → ImportNothing (decls ds) → ImportNothing (decls ((ds ++ map as_decl ys) ++ export_decl n d ∷ []))
 import-nothing-more [] ys n d h = types-import-nothing ys n d
 import-nothing-more (import_decl m x ∷ ds) ys n d h = absurd h
 import-nothing-more (core_type_decl x ∷ ds) ys n d h = import-nothing-more ds ys n d h
@@ -131,7 +134,7 @@ import-nothing-more (type_decl x ∷ ds) ys n d h = import-nothing-more ds ys n 
 import-nothing-more (alias_decl x ∷ ds) ys n d h = import-nothing-more ds ys n d h
 import-nothing-more (export_decl m x ∷ ds) ys n d h = import-nothing-more ds ys n d h
 
-closes-more : (x : Encodable) (ys : List TypeDef) (n : Name) (d : Description) → CanClose x → CanClose (and_export (with_types x ys) n d)
+closes-more : (x : Encodable) (ys : List NewType) (n : Name) (d : Description) → CanClose x → CanClose (and_export (with_types x ys) n d)
 closes-more (Builder items) ys n d h = absurd h
 closes-more (Instance ds) ys n d h = import-nothing-more ds ys n d h
 closes-more (Component ds) ys n d h = absurd h
@@ -146,13 +149,13 @@ closes-open (Builder items) h = absurd h
 closes-open (Instance ds) h = tt
 closes-open (Component ds) h = absurd h
 
-with-types-open : (x : Encodable) (ys : List TypeDef) → IsOpenType x → IsOpenType (with_types x ys)
+with-types-open : (x : Encodable) (ys : List NewType) → IsOpenType x → IsOpenType (with_types x ys)
 with-types-open (Builder items) ys h = absurd h
 with-types-open (Instance ds) ys h = tt
 with-types-open (Component ds) ys h = tt
 
 -- and stays so as types are written
-pub still-open : (x y : Encodable) (ys : List TypeDef) → y ≡ with_types x ys → IsOpenType x → IsOpenType y
+pub still-open : (x y : Encodable) (ys : List NewType) → y ≡ with_types x ys → IsOpenType x → IsOpenType y
 still-open x y ys is h = subst IsOpenType (sym is) (with-types-open x ys h)
 
 and-type-open : (x : Encodable) (y : TypeDef) → IsOpenType x → IsOpenType (and_type x y)

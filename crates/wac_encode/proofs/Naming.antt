@@ -23,7 +23,7 @@ use Rattle.wac_scopes.specs.declared.fault.WriteFault.TheVariants as write
 use Rattle.wac_scopes.specs.declared.scope.Scope.{Scope}
 use Rattle.wac_scopes.specs.Contents.{and_type, and_export, ContentFits}
 use Rattle.wac_scopes.specs.Laws.{StaysOnward}
-use Rattle.wac_scopes.specs.Scoped.{type_index, value_index, by_index, in_use, HasToo, AddsPrimitive, ListsValue, WritesUnlessTooLarge, FitsUnlessTooLarge}
+use Rattle.wac_scopes.specs.Scoped.{type_index, value_index, by_index, in_use, HasToo, AddsPrimitive, ListsValue, WritesUnlessTooLarge, FitsUnlessTooLarge, listing}
 use Rattle.wac_listing.specs.Made.{itself}
 use Rattle.wac_encode.specs.Written.{PartOf, WritesFor, HasHandle, IsHandle, IsByRecord, IsRefused, IsOfFunc, AddsHeldFunc, IsFuncAt, IsFuncRefused}
 use Rattle.wac_encode.specs.Listing.{NeededBy, own_types, one_if_primitive, IsListedAt, IsDescribed, SameRecords, IsNamedOnce, NamesValue, WritesItem, PrimitiveDoesNotFit, IsItemRefused}
@@ -35,7 +35,7 @@ abbrev with_export : Scope → Name → Description → Scope
 with_export s n d = record s { content = and_export s.content n d }
 
 same-records : (old new : Scope) (n : Name) (d : Description) → new ≡ with_export old n d → SameRecords old new
-same-records old new n d is k = ap (λ (s : Scope). type_index s k) is
+same-records old new n d is k = (ap (λ (s : Scope). type_index s k) is, ap (λ (s : Scope). listing s k) is)
 
 declared-so : (old new : Scope) (n : Name) (d : Description) → new ≡ with_export old n d → new.content ≡ and_export old.content n d
 declared-so old new n d is = ap (λ (s : Scope). s.content) is

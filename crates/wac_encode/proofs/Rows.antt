@@ -31,10 +31,10 @@ use Rattle.wac_scopes.specs.Parts.{Is, IsWrittenFunc}
 use Rattle.wac_scopes.specs.declared.scope.Scope.{Scope}
 use Rattle.wac_scopes.specs.declared.fault.EncodeFault.{EncodeFault}
 use Rattle.wac_scopes.specs.declared.fault.EncodeFault.TheVariants as fault
-use Rattle.wac_scopes.specs.Scoped.{type_index, value_index, by_index, in_use, opened, HasToo, IsAsBefore, IsAt, AddsFunc, FitsUnlessTooLarge}
+use Rattle.wac_scopes.specs.Scoped.{type_index, listing, value_index, by_index, in_use, opened, HasToo, IsAsBefore, IsAt, AddsFunc, FitsUnlessTooLarge}
 use Rattle.wac_scopes.specs.Laws.{Follows, StaysOnward}
 use Rattle.wac_listing.specs.Made.{MadeOf, OneIsMadeOf}
-use Rattle.wac_encode.specs.Written.{Says, MaybeSays, IsByRecord, MaybeByRecord, GoesOn, IsKnown, unwritten, OfValue, PartOf, PartOfOne, WritesFor, IsRefused, values_of, IsOfFunc, AddsHeldFunc, IsFuncByRecord, IsFuncFrom, IsFuncAt, FuncDoesNotFit, IsFuncRefused}
+use Rattle.wac_encode.specs.Written.{Says, MaybeSays, IsByRecord, MaybeByRecord, GoesOn, IsKnown, defined, unwritten, OfValue, PartOf, PartOfOne, WritesFor, IsRefused, values_of, IsOfFunc, AddsHeldFunc, IsFuncByRecord, IsFuncFrom, IsFuncAt, FuncDoesNotFit, IsFuncRefused}
 use Rattle.wac_encode.specs.Tasks.{FieldSays}
 use Rattle.wac_encode.proofs.Saying.{maybe-is, zip-map}
 use Rattle.wac_encode.proofs.Counting.{unwritten-same}
@@ -104,10 +104,6 @@ refused-as A B c P Q s fault.TooLarge ok h = record {
   id = h.id;
   made = ok _ h.made;
   unwritten = h.unwritten;
-  definition = h.definition;
-  found = h.found;
-  written = h.written;
-  says = h.says;
   large = h.large;
 }
 refused-as A B c P Q s fault.OutOfMemory ok h = tt
@@ -183,11 +179,14 @@ func-by-record c s x a ys y z r = (zip-map (FieldSays c s) (λ e u. (u.0 ≡ e.0
 pub writes-type : (c : Collection) (P : AnyType → Type 0) (old new : Scope) (y : TypeDef) → new ≡ record old { content = and_type old.content y } → GoesOn c old new → WritesFor c 1 P old new
 writes-type c P old new y is on = record {
   onward = on;
-  types = y ∷ [];
+  types = defined y ∷ [];
   appended = ap (λ (s : Scope). s.content) is ∙ one-type old.content y;
   kept = λ a i h. ap (λ (s : Scope). type_index s a) is ∙ h;
   needed = λ a i none some. let both : None ≡ Some i = sym none ∙ sym (ap (λ (s : Scope). type_index s a) is) ∙ some in cc;
   later = λ a i none some. let both : None ≡ Some i = sym none ∙ sym (ap (λ (s : Scope). type_index s a) is) ∙ some in cc;
+  sources = λ a i none some. let both : None ≡ Some i = sym none ∙ sym (ap (λ (s : Scope). type_index s a) is) ∙ some in cc;
+  aliases = (tt, tt);
+  listed = λ a. ap (λ (s : Scope). listing s a) is;
   once = let same : unwritten c new ≡ unwritten c old = unwritten-same c old new (λ a. ap (λ (s : Scope). type_index s a) is) in omega (arith, same);
 }
 
@@ -234,7 +233,7 @@ pub put-adds : (c : Collection) → IsWellFormed c → (old new : Scope) (f : Fu
 put-adds c wf old new f x ys y k at z r adds = adds-held c wf old new f x (func_def x.is_async (named ys) y) k at (func-says c old x x.is_async ys y refl z r) adds
 
 pub put-writes : (c : Collection) → Follows → StaysOnward → (old new : Scope) (f : FuncTypeId) (y : TypeDef) (k : ℕ) → f.0 < length c.funcs → type_index old (ty.Func f) ≡ None → HasToo old (ty.Func f) k new → k ≡ count (space sort.«Type») old.content → new.content ≡ and_type old.content y → AddsHeldFunc c old new f k → WritesFor c 0 (IsOfFunc c f) old new
-put-writes c follows stays old new f y k held none too index is adds = writes-recorded c follows 0 (IsOfFunc c f) old old new (ty.Func f) k y (writes-none c stays (IsOfFunc c f) old old (as-it-was old)) refl held none (func-onward c old new f k adds) too index is
+put-writes c follows stays old new f y k held none too index is adds = writes-recorded c follows 0 (IsOfFunc c f) old old new (ty.Func f) k (defined y) (writes-none c stays (IsOfFunc c f) old old (as-it-was old)) refl tt tt held none (func-onward c old new f k adds) too index is
 
 -- as long as value types alone are written, it is not recorded
 pub still-unwritten : (c : Collection) (n : ℕ) (P : ValueType → Type 0) (old new : Scope) (f : FuncTypeId) → WritesFor c n (OfValue P) old new → type_index old (ty.Func f) ≡ None → type_index new (ty.Func f) ≡ None

@@ -1,8 +1,9 @@
 -- Good stacks go on as definitions are written.
-use Rattle.std.specs.Prelude.{ℕ, suc, ◌+◌, ◌<◌, ◌≤◌, ◌≡◌, cond, Bool, true, false, List, [], ◌∷◌, ◌++◌, length, map, Option, Some, None, Err}
+use Rattle.std.specs.Prelude.{ℕ, zero, suc, ◌+◌, ◌<◌, ◌≤◌, ◌≡◌, cond, Bool, true, false, List, [], ◌∷◌, ◌++◌, length, map, Option, Some, None, IsSome, slice_get, Err}
+use Rattle.std.specs.List.{AllByRecursion}
 use Rattle.std.proofs.Common.{refl, ap, ◌∙◌, sym, subst, arith, length-append, zero-add}
-use Rattle.std.proofs.Math.Path.{fun_ext}
 use Rattle.std.proofs.lemmas.List.{append-nil, append_assoc}
+use Rattle.wac_shapes.specs.Name.{Name}
 use Rattle.wac_shapes.specs.declared.component.DefinedType.{DefinedType}
 use Rattle.wac_shapes.specs.declared.component.DefinedTypeId.{DefinedTypeId}
 use Rattle.wac_shapes.specs.declared.component.ValueType.{ValueType}
@@ -15,27 +16,28 @@ use Rattle.wac_collection.proofs.Ids.{same_type-true, same_item-refl}
 use Rattle.wac_collection.specs.Collection.{Collection, IsWellFormed, item_at}
 use Rattle.wac_binary.specs.declared.sorts.Sort.TheVariants as sort
 use Rattle.wac_binary.specs.Indexes.{space, indexes, declared}
-use Rattle.wac_binary.specs.Items.{ValueDef, TypeDef, Decl, type_decl, Item, type_item, value_def}
+use Rattle.wac_binary.specs.Items.{ValueDef, TypeDef, Decl, Item, value_def}
 use Rattle.wac_scopes.specs.declared.encodable.Encodable.{Encodable}
 use Rattle.wac_scopes.specs.declared.encodable.Encodable.TheVariants.{Builder, Instance, Component}
 use Rattle.wac_scopes.specs.declared.fault.EncodeFault.{EncodeFault}
 use Rattle.wac_scopes.specs.declared.fault.EncodeFault.TheVariants as fault
 use Rattle.wac_scopes.specs.declared.scope.Scope.{Scope}
-use Rattle.wac_scopes.specs.Contents.{content_of, and_type, count, ContentFits}
+use Rattle.wac_scopes.specs.Contents.{content_of, and_type, and_alias_of, count, ContentFits}
 use Rattle.wac_scopes.specs.Scopes.{Open, env, envs}
 use Rattle.wac_scopes.specs.Good.{Good, Onward}
 use Rattle.wac_scopes.specs.Parts.{IsWritten}
-use Rattle.wac_scopes.specs.Scoped.{type_index, value_index, at_index, recorded_type, opened, IsAsBefore, HasToo, AddsValue, WritesUnlessTooLarge, FitsUnlessTooLarge, RecordsUnlessTooLarge}
+use Rattle.wac_scopes.specs.Scoped.{type_index, value_index, listed_at, listing, opened, IsAsBefore, HasToo, AddsValue, AliasesValue, AliasFits, WritesUnlessTooLarge, FitsUnlessTooLarge, RecordsUnlessTooLarge}
 use Rattle.wac_scopes.specs.Laws.{Follows, StaysOnward}
-use Rattle.wac_encode.specs.Written.{OfValue, SaysDefinition, GoesOn, WritesFor, unwritten, with_types}
-use Rattle.wac_encode.specs.Tasks.{WritesOne, IsOneRefused}
+use Rattle.wac_encode.specs.Written.{OfValue, SaysDefinition, GoesOn, NewType, defined, aliased, as_item, as_decl, with_types, IsWrittenAs, IsWrittenAt, IsListedThere, WritesFor, unwritten, IsLargeFrom}
+use Rattle.wac_encode.specs.Tasks.{and_new, WritesOne, IsOneRefused}
+use Rattle.wac_scopes.proofs.ScopedLaws.{recorded-same}
 use Rattle.wac_encode.proofs.Counting.{IsCounted, unwritten-same, unwritten-less}
 
 pub opened-same : (old new : Scope) → IsAsBefore old new → (o : Open) → opened new o ≡ opened old o
-opened-same old new h o = let memo_same : recorded_type new ≡ recorded_type old = fun_ext (λ a. ap at_index (h.types a)) in (λ i. record o { content = content_of (h.content i); memo = memo_same i })
+opened-same old new h o = let memo_same = recorded-same old new h.types h.listed in (λ i. record o { content = content_of (h.content i); memo = memo_same i })
 
 pub as-equal : (old new : Scope) → new ≡ old → IsAsBefore old new
-as-equal old new is = record { content = ap (λ (s : Scope). s.content) is; types = λ k. ap (λ (s : Scope). type_index s k) is }
+as-equal old new is = record { content = ap (λ (s : Scope). s.content) is; types = λ k. ap (λ (s : Scope). type_index s k) is; listed = λ k. ap (λ (s : Scope). listing s k) is }
 
 pub goes-on-same : (c : Collection) → StaysOnward → (old new : Scope) → IsAsBefore old new → GoesOn c old new
 goes-on-same c stays old new h m ms o os g = subst (λ (p : Open). Onward c (m ∷ ms) (opened old o ∷ os) (p ∷ os)) (sym (opened-same old new h o)) (stays c (m ∷ ms) (opened old o ∷ os) g)
@@ -43,19 +45,31 @@ goes-on-same c stays old new h m ms o os g = subst (λ (p : Open). Onward c (m �
 pub goes-on-twice : (c : Collection) → Follows → (a b d : Scope) → GoesOn c a b → GoesOn c b d → GoesOn c a d
 goes-on-twice c follows a b d p q m ms o os g = let first = p m ms o os g in follows c (m ∷ ms) (opened a o ∷ os) (opened b o ∷ os) (opened d o ∷ os) first (q m ms o os first.0)
 
-pub writes-one : (c : Collection) → IsWellFormed c → (old new : Scope) (d : DefinedTypeId) (x : DefinedType) (y : ValueDef) (k : ℕ) → item_at c.defined d.0 ≡ Some x → SaysDefinition c old x y → AddsValue old new d y k → HasToo old (ty.Value (val.Defined d)) k new → new.content ≡ and_type old.content (value_def y) → k ≡ count (space sort.«Type») old.content → WritesOne c old new d
-writes-one c wf old new d x y k at says adds too appended index = record {
+pub writes-one : (c : Collection) → IsWellFormed c → (old new : Scope) (d : DefinedTypeId) (x : DefinedType) (y : ValueDef) (k : ℕ) → listed_at old d ≡ None → item_at c.defined d.0 ≡ Some x → SaysDefinition c old x y → AddsValue old new d y k → HasToo old (ty.Value (val.Defined d)) k new → new.content ≡ and_type old.content (value_def y) → k ≡ count (space sort.«Type») old.content → WritesOne c old new d
+writes-one c wf old new d x y k unlisted at says adds too appended index = record {
   onward = λ m ms o os g. (adds c wf m ms o os x g at (says m ms o os g)).3.0;
   index = k;
   recorded = too;
   next = index;
-  definition = value_def y;
+  type = defined (value_def y);
+  source = subst (λ (l : Option (ℕ × Name)). IsWrittenAs l (defined (value_def y))) (sym unlisted) tt;
   appended = appended;
 }
 
--- type definitions behind others
+pub writes-alias : (c : Collection) (old new : Scope) (d : DefinedTypeId) (k j : ℕ) (n : Name) → listed_at old d ≡ Some (j, n) → AliasesValue old new d k → HasToo old (ty.Value (val.Defined d)) k new → new.content ≡ and_alias_of old.content j n → k ≡ count (space sort.«Type») old.content → WritesOne c old new d
+writes-alias c old new d k j n there adds too appended index = record {
+  onward = λ m ms o os g. (adds c m ms o os g).3.0;
+  index = k;
+  recorded = too;
+  next = index;
+  type = aliased j n;
+  source = subst (λ (l : Option (ℕ × Name)). IsWrittenAs l (aliased j n)) (sym there) refl;
+  appended = appended;
+}
 
-pub one-longer : (ys : List TypeDef) (y : TypeDef) → length (ys ++ y ∷ []) ≡ suc (length ys)
+-- types behind others
+
+pub one-longer : (ys : List NewType) (y : NewType) → length (ys ++ y ∷ []) ≡ suc (length ys)
 one-longer ys y = omega (arith, length-append ys (y ∷ []))
 
 mapped-more : {A B : Type 0} (f : A → B) (xs : List B) (ys zs : List A) → (xs ++ map f ys) ++ map f zs ≡ xs ++ map f (ys ++ zs)
@@ -70,42 +84,91 @@ none-behind (Builder items) = ap Builder (sym (append-nil items))
 none-behind (Instance ds) = ap Instance (sym (append-nil ds))
 none-behind (Component ds) = ap Component (sym (append-nil ds))
 
-pub one-behind : (x : Encodable) (ys : List TypeDef) (y : TypeDef) → and_type (with_types x ys) y ≡ with_types x (ys ++ y ∷ [])
-one-behind (Builder items) ys y = ap Builder (mapped-more type_item items ys (y ∷ []))
-one-behind (Instance ds) ys y = ap Instance (mapped-more type_decl ds ys (y ∷ []))
-one-behind (Component ds) ys y = ap Component (mapped-more type_decl ds ys (y ∷ []))
+pub one-behind : (x : Encodable) (ys : List NewType) (y : NewType) → and_new (with_types x ys) y ≡ with_types x (ys ++ y ∷ [])
+one-behind (Builder items) ys (defined y) = ap Builder (mapped-more as_item items ys (defined y ∷ []))
+one-behind (Builder items) ys (aliased j n) = ap Builder (mapped-more as_item items ys (aliased j n ∷ []))
+one-behind (Instance ds) ys (defined y) = ap Instance (mapped-more as_decl ds ys (defined y ∷ []))
+one-behind (Instance ds) ys (aliased j n) = ap Instance (mapped-more as_decl ds ys (aliased j n ∷ []))
+one-behind (Component ds) ys (defined y) = ap Component (mapped-more as_decl ds ys (defined y ∷ []))
+one-behind (Component ds) ys (aliased j n) = ap Component (mapped-more as_decl ds ys (aliased j n ∷ []))
 
-pub one-type : (x : Encodable) (y : TypeDef) → and_type x y ≡ with_types x (y ∷ [])
+pub one-type : (x : Encodable) (y : TypeDef) → and_type x y ≡ with_types x (defined y ∷ [])
 one-type (Builder items) y = refl
 one-type (Instance ds) y = refl
 one-type (Component ds) y = refl
 
-pub all-behind : (x : Encodable) (ys zs : List TypeDef) → with_types (with_types x ys) zs ≡ with_types x (ys ++ zs)
-all-behind (Builder items) ys zs = ap Builder (mapped-more type_item items ys zs)
-all-behind (Instance ds) ys zs = ap Instance (mapped-more type_decl ds ys zs)
-all-behind (Component ds) ys zs = ap Component (mapped-more type_decl ds ys zs)
+pub all-behind : (x : Encodable) (ys zs : List NewType) → with_types (with_types x ys) zs ≡ with_types x (ys ++ zs)
+all-behind (Builder items) ys zs = ap Builder (mapped-more as_item items ys zs)
+all-behind (Instance ds) ys zs = ap Instance (mapped-more as_decl ds ys zs)
+all-behind (Component ds) ys zs = ap Component (mapped-more as_decl ds ys zs)
 
--- no type index is lost
+-- each is one type index more
 
-indexes-more : (k : ℕ) (xs ys : List Item) → indexes k xs ≤ indexes k (xs ++ ys)
-indexes-more k [] ys = omega arith
-indexes-more k (x ∷ xs) ys = let rest : indexes k xs ≤ indexes k (xs ++ ys) = indexes-more k xs ys in omega (arith, rest)
+items-counted : (ys : List NewType) → indexes (space sort.«Type») (map as_item ys) ≡ length ys
+items-counted [] = refl
+items-counted (defined y ∷ ys) = let rest : indexes (space sort.«Type») (map as_item ys) ≡ length ys = items-counted ys in omega (arith, rest)
+items-counted (aliased j n ∷ ys) = let rest : indexes (space sort.«Type») (map as_item ys) ≡ length ys = items-counted ys in omega (arith, rest)
 
-declared-more : (k : ℕ) (ds es : List Decl) → declared k ds ≤ declared k (ds ++ es)
-declared-more k [] es = omega arith
-declared-more k (d ∷ ds) es = let rest : declared k ds ≤ declared k (ds ++ es) = declared-more k ds es in omega (arith, rest)
+decls-counted : (ys : List NewType) → declared (space sort.«Type») (map as_decl ys) ≡ length ys
+decls-counted [] = refl
+decls-counted (defined y ∷ ys) = let rest : declared (space sort.«Type») (map as_decl ys) ≡ length ys = decls-counted ys in omega (arith, rest)
+decls-counted (aliased j n ∷ ys) = let rest : declared (space sort.«Type») (map as_decl ys) ≡ length ys = decls-counted ys in omega (arith, rest)
 
-pub types-more : (x : Encodable) (ys : List TypeDef) → count (space sort.«Type») x ≤ count (space sort.«Type») (with_types x ys)
-types-more (Builder items) ys = indexes-more (space sort.«Type») items (map type_item ys)
-types-more (Instance ds) ys = declared-more (space sort.«Type») ds (map type_decl ys)
-types-more (Component ds) ys = declared-more (space sort.«Type») ds (map type_decl ys)
+indexes-more : (xs : List Item) (ys : List NewType) → indexes (space sort.«Type») (xs ++ map as_item ys) ≡ indexes (space sort.«Type») xs + length ys
+indexes-more [] ys = let rest : indexes (space sort.«Type») (map as_item ys) ≡ length ys = items-counted ys in omega (arith, rest)
+indexes-more (x ∷ xs) ys = let rest : indexes (space sort.«Type») (xs ++ map as_item ys) ≡ indexes (space sort.«Type») xs + length ys = indexes-more xs ys in omega (arith, rest)
+
+declared-more : (ds : List Decl) (ys : List NewType) → declared (space sort.«Type») (ds ++ map as_decl ys) ≡ declared (space sort.«Type») ds + length ys
+declared-more [] ys = let rest : declared (space sort.«Type») (map as_decl ys) ≡ length ys = decls-counted ys in omega (arith, rest)
+declared-more (d ∷ ds) ys = let rest : declared (space sort.«Type») (ds ++ map as_decl ys) ≡ declared (space sort.«Type») ds + length ys = declared-more ds ys in omega (arith, rest)
+
+types-more : (x : Encodable) (ys : List NewType) → count (space sort.«Type») (with_types x ys) ≡ count (space sort.«Type») x + length ys
+types-more (Builder items) ys = indexes-more items ys
+types-more (Instance ds) ys = declared-more ds ys
+types-more (Component ds) ys = declared-more ds ys
+
+counted-now : (x y : Encodable) (ys : List NewType) → y ≡ with_types x ys → count (space sort.«Type») y ≡ count (space sort.«Type») x + length ys
+counted-now x y ys is = ap (count (space sort.«Type»)) is ∙ types-more x ys
 
 -- an index that is not below what was written since was not below what was written before
-pub still-later : (x y : Encodable) (ys : List TypeDef) (i : ℕ) → y ≡ with_types x ys → count (space sort.«Type») y ≤ i → count (space sort.«Type») x ≤ i
+pub still-later : (x y : Encodable) (ys : List NewType) (i : ℕ) → y ≡ with_types x ys → count (space sort.«Type») y ≤ i → count (space sort.«Type») x ≤ i
 still-later x y ys i is behind =
-    let more : count (space sort.«Type») x ≤ count (space sort.«Type») (with_types x ys) = types-more x ys in
-    let same : count (space sort.«Type») y ≡ count (space sort.«Type») (with_types x ys) = ap (count (space sort.«Type»)) is in
-    omega (arith, more, same, behind)
+    let more : count (space sort.«Type») y ≡ count (space sort.«Type») x + length ys = counted-now x y ys is in
+    omega (arith, more, behind)
+
+-- the types at positions of lists in a row
+
+in-front : (xs ys : List NewType) (p : ℕ) (y : NewType) → slice_get xs p ≡ Some y → slice_get (xs ++ ys) p ≡ Some y
+in-front [] ys p y at = let none_some : None ≡ Some y = at in cc
+in-front (x ∷ xs) ys zero y at = at
+in-front (x ∷ xs) ys (suc p) y at = in-front xs ys p y at
+
+in-back : (xs ys : List NewType) (p : ℕ) (y : NewType) → slice_get ys p ≡ Some y → slice_get (xs ++ ys) (length xs + p) ≡ Some y
+in-back [] ys p y at = ap (slice_get ys) (zero-add p) ∙ at
+in-back (x ∷ xs) ys p y at = ap (slice_get (x ∷ (xs ++ ys))) (one-further (length xs) p) ∙ in-back xs ys p y at
+  where
+    one-further : (a b : ℕ) → suc a + b ≡ suc (a + b)
+    one-further a b = omega arith
+
+written-front : (k : ℕ) (xs ys : List NewType) (i : ℕ) (l : Option (ℕ × Name)) → IsWrittenAt k xs i l → IsWrittenAt k (xs ++ ys) i l
+written-front k xs ys i l w = (w.0, w.1, w.2, in-front xs ys w.0 w.2 w.3, w.4)
+
+written-back : (k m : ℕ) (xs ys : List NewType) (i : ℕ) (l : Option (ℕ × Name)) → m ≡ k + length xs → IsWrittenAt m ys i l → IsWrittenAt k (xs ++ ys) i l
+written-back k m xs ys i l same w = (length xs + w.0, (let here : i ≡ m + w.0 = w.1 in omega (arith, here, same)), w.2, in-back xs ys w.0 w.2 w.3, w.4)
+
+-- what is aliased is needed
+
+one-listed : (P Q : AnyType → Type 0) (old now : Scope) → ((a : AnyType) → P a → Q a) → ((a : AnyType) → listing now a ≡ listing old a) → (y : NewType) → IsListedThere P now y → IsListedThere Q old y
+one-listed P Q old now ok same (defined y) h = tt
+one-listed P Q old now ok same (aliased j n) h = (h.0, ok (ty.Value (val.Defined h.0)) h.1, sym (same (ty.Value (val.Defined h.0))) ∙ h.2)
+
+all-listed : (P Q : AnyType → Type 0) (old now : Scope) → ((a : AnyType) → P a → Q a) → ((a : AnyType) → listing now a ≡ listing old a) → (ys : List NewType) → AllByRecursion (IsListedThere P now) ys → AllByRecursion (IsListedThere Q old) ys
+all-listed P Q old now ok same [] h = tt
+all-listed P Q old now ok same (y ∷ ys) h = (one-listed P Q old now ok same y h.0, all-listed P Q old now ok same ys h.1)
+
+all-in-row : (P : NewType → Type 0) (xs ys : List NewType) → AllByRecursion P xs → AllByRecursion P ys → AllByRecursion P (xs ++ ys)
+all-in-row P [] ys a b = b
+all-in-row P (x ∷ xs) ys a b = (a.0, all-in-row P xs ys a.1 b)
 
 pub same-index : (s : Scope) (a : AnyType) (i j : ℕ) → type_index s a ≡ Some i → type_index s a ≡ Some j → i ≡ j
 same-index s a i j one two = let both : Some i ≡ Some j = sym one ∙ two in cc
@@ -119,6 +182,9 @@ writes-none c stays P old new h = record {
   kept = λ a i e. h.types a ∙ e;
   needed = λ a i none some. let both : None ≡ Some i = sym none ∙ sym (h.types a) ∙ some in cc;
   later = λ a i none some. let both : None ≡ Some i = sym none ∙ sym (h.types a) ∙ some in cc;
+  sources = λ a i none some. let both : None ≡ Some i = sym none ∙ sym (h.types a) ∙ some in cc;
+  aliases = tt;
+  listed = h.listed;
   once = let n : unwritten c new ≡ unwritten c old = unwritten-same c old new h.types in omega (arith, n);
 }
 
@@ -142,14 +208,17 @@ pub recorded-there : (a : AnyType) (i : ℕ) (old new : Scope) → HasToo old a 
 recorded-there a i old new too = too.types a ∙ ap (λ (b : Bool). cond b (Some i) (type_index old a)) (same_item-refl (kind.TypeItem a))
 
 -- one type more, which is needed
-pub writes-recorded : (c : Collection) → Follows → (n : ℕ) (P : AnyType → Type 0) (old now new : Scope) (a : AnyType) (k : ℕ) (y : TypeDef) → WritesFor c n P old now → P a → IsCounted c a → type_index now a ≡ None → GoesOn c now new → HasToo now a k new → k ≡ count (space sort.«Type») now.content → new.content ≡ and_type now.content y → WritesFor c n P old new
-writes-recorded c follows n P old now new a k y w made held none on too next appended = record {
+pub writes-recorded : (c : Collection) → Follows → (n : ℕ) (P : AnyType → Type 0) (old now new : Scope) (a : AnyType) (k : ℕ) (y : NewType) → WritesFor c n P old now → P a → IsWrittenAs (listing now a) y → IsListedThere P now y → IsCounted c a → type_index now a ≡ None → GoesOn c now new → HasToo now a k new → k ≡ count (space sort.«Type») now.content → new.content ≡ and_new now.content y → WritesFor c n P old new
+writes-recorded c follows n P old now new a k y w made source there held none on too next appended = record {
   onward = goes-on-twice c follows old now new w.onward on;
   types = w.types ++ y ∷ [];
-  appended = appended ∙ ap (λ (x : Encodable). and_type x y) w.appended ∙ one-behind old.content w.types y;
+  appended = appended ∙ ap (λ (x : Encodable). and_new x y) w.appended ∙ one-behind old.content w.types y;
   kept = λ e i h. recorded-now a k now new too e i none (w.kept e i h);
   needed = λ e i h some. by_now e i h some (type_index now e) refl;
   later = λ e i h some. later_now e i h some (type_index now e) refl;
+  sources = λ e i h some. source_now e i h some (type_index now e) refl;
+  aliases = all-in-row (IsListedThere P old) w.types (y ∷ []) w.aliases (one-listed P P old now (λ e h. h) w.listed y there, tt);
+  listed = λ e. too.listed e ∙ w.listed e;
   once = let less : suc (unwritten c new) ≡ unwritten c now = unwritten-less c now new a k held none too in let before : length w.types + unwritten c now ≡ n + unwritten c old = w.once in omega (arith, less, one-longer w.types y, before);
 }
   where
@@ -164,8 +233,25 @@ writes-recorded c follows n P old now new a k y w made held none on too next app
         subst (λ (m : ℕ). count (space sort.«Type») old.content ≤ m) (sym (index ∙ next)) (still-later old.content now.content w.types (count (space sort.«Type») now.content) w.appended (omega arith))
     later_now e i h some (Some j) is = subst (λ (m : ℕ). count (space sort.«Type») old.content ≤ m) (same-index new e j i (recorded-now a k now new too e j none is) some) (w.later e j h is)
 
+    source_now : (e : AnyType) (i : ℕ) → type_index old e ≡ None → type_index new e ≡ Some i → (o : Option ℕ) → type_index now e ≡ o → IsWrittenAt (count (space sort.«Type») old.content) (w.types ++ y ∷ []) i (listing old e)
+    source_now e i h some None is =
+        let same : a ≡ e = new-is a k now new too e i is some in
+        let index : i ≡ k = same-index new e i k some (subst (λ (u : AnyType). type_index new u ≡ Some k) same (recorded-there a k now new too)) in
+        let counted : count (space sort.«Type») now.content ≡ count (space sort.«Type») old.content + length w.types = counted-now old.content now.content w.types w.appended in
+        written-back (count (space sort.«Type») old.content) (count (space sort.«Type») now.content) w.types (y ∷ []) i (listing old e) counted
+        (0, omega (arith, index, next), y, refl, subst (λ (u : AnyType). IsWrittenAs (listing old u) y) same (subst (λ (l : Option (ℕ × Name)). IsWrittenAs l y) (w.listed a) source))
+    source_now e i h some (Some j) is = written-front (count (space sort.«Type») old.content) w.types (y ∷ []) i (listing old e) (subst (λ (m : ℕ). IsWrittenAt (count (space sort.«Type») old.content) w.types m (listing old e)) (same-index new e j i (recorded-now a k now new too e j none is) some) (w.sources e j h is))
+
 pub writes-more : (c : Collection) → Follows → (n : ℕ) (P : AnyType → Type 0) (old now new : Scope) (d : DefinedTypeId) → WritesFor c n P old now → P (ty.Value (val.Defined d)) → d.0 < length c.defined → value_index now d ≡ None → WritesOne c now new d → WritesFor c n P old new
-writes-more c follows n P old now new d w made held none one = writes-recorded c follows n P old now new (ty.Value (val.Defined d)) one.index one.definition w made held none one.onward one.recorded one.next one.appended
+writes-more c follows n P old now new d w made held none one = writes-recorded c follows n P old now new (ty.Value (val.Defined d)) one.index one.type w made one.source (there one.type one.source) held none one.onward one.recorded one.next one.appended
+  where
+    by_place : (l : Option (ℕ × Name)) → listed_at now d ≡ l → (j : ℕ) (m : Name) → IsWrittenAs l (aliased j m) → IsListedThere P now (aliased j m)
+    by_place (Some l) is j m s = (d, made, is ∙ ap (λ (x : ℕ × Name). Some x) s)
+    by_place None is j m s = absurd s
+
+    there : (y : NewType) → IsWrittenAs (listed_at now d) y → IsListedThere P now y
+    there (defined y) s = tt
+    there (aliased j m) s = by_place (listed_at now d) refl j m s
 
 -- one after the other, for what both need
 pub writes-then : (c : Collection) → Follows → (k n : ℕ) (P Q : AnyType → Type 0) (old now new : Scope) → WritesFor c k P old now → WritesFor c n Q now new → (R : AnyType → Type 0) → ((a : AnyType) → P a → R a) → ((a : AnyType) → Q a → R a) → WritesFor c (k + n) R old new
@@ -176,6 +262,9 @@ writes-then c follows k n P Q old now new w u R p q = record {
   kept = λ e i h. u.kept e i (w.kept e i h);
   needed = λ e i none some. by_now e i none some (type_index now e) refl;
   later = λ e i none some. later_now e i none some (type_index now e) refl;
+  sources = λ e i none some. source_now e i none some (type_index now e) refl;
+  aliases = all-in-row (IsListedThere R old) w.types u.types (all-listed P R old old p (λ e. refl) w.types w.aliases) (all-listed Q R old now q w.listed u.types u.aliases);
+  listed = λ e. u.listed e ∙ w.listed e;
   once = let one : length w.types + unwritten c now ≡ k + unwritten c old = w.once in let two : length u.types + unwritten c new ≡ n + unwritten c now = u.once in omega (arith, one, two, length-append w.types u.types);
 }
   where
@@ -186,6 +275,10 @@ writes-then c follows k n P Q old now new w u R p q = record {
     later_now : (e : AnyType) (i : ℕ) → type_index old e ≡ None → type_index new e ≡ Some i → (o : Option ℕ) → type_index now e ≡ o → count (space sort.«Type») old.content ≤ i
     later_now e i none some None is = still-later old.content now.content w.types i w.appended (u.later e i is some)
     later_now e i none some (Some j) is = subst (λ (m : ℕ). count (space sort.«Type») old.content ≤ m) (same-index new e j i (u.kept e j is) some) (w.later e j none is)
+
+    source_now : (e : AnyType) (i : ℕ) → type_index old e ≡ None → type_index new e ≡ Some i → (o : Option ℕ) → type_index now e ≡ o → IsWrittenAt (count (space sort.«Type») old.content) (w.types ++ u.types) i (listing old e)
+    source_now e i none some None is = subst (λ (l : Option (ℕ × Name)). IsWrittenAt (count (space sort.«Type») old.content) (w.types ++ u.types) i l) (w.listed e) (written-back (count (space sort.«Type») old.content) (count (space sort.«Type») now.content) w.types u.types i (listing now e) (counted-now old.content now.content w.types w.appended) (u.sources e i is some))
+    source_now e i none some (Some j) is = written-front (count (space sort.«Type») old.content) w.types u.types i (listing old e) (subst (λ (m : ℕ). IsWrittenAt (count (space sort.«Type») old.content) w.types m (listing old e)) (same-index new e j i (u.kept e j is) some) (w.sources e j none is))
 
 pub writes-behind : (c : Collection) → Follows → (n : ℕ) (P : AnyType → Type 0) (old now new : Scope) → WritesFor c 0 P old now → WritesFor c n P now new → WritesFor c n P old new
 writes-behind c follows n P old now new w u = subst (λ (k : ℕ). WritesFor c k P old new) (zero-add n) (writes-then c follows 0 n P P old now new w u P (λ v m. m) (λ v m. m))
@@ -203,6 +296,9 @@ writes-as c n P Q old new ok w = record {
   kept = w.kept;
   needed = λ e i none some. ok e (w.needed e i none some);
   later = w.later;
+  sources = w.sources;
+  aliases = all-listed P Q old old ok (λ e. refl) w.types w.aliases;
+  listed = w.listed;
   once = w.once;
 }
 
@@ -225,10 +321,20 @@ recorded-so A (Builder items) fits f h = h
 recorded-so A (Instance ds) fits f h = exactly-so A fits f h
 recorded-so A (Component ds) fits f h = h
 
-pub one-refused : (A B : Type 0) (c : Collection) (s : Scope) (d : DefinedTypeId) (x : DefinedType) (y : ValueDef) (f : EncodeFault) → item_at c.defined d.0 ≡ Some x → SaysDefinition c s x y → RecordsUnlessTooLarge {A = A} s.content (Err f) (ContentFits (and_type s.content (value_def y))) → IsOneRefused {A = B} c s d (Err f)
-one-refused A B c s d x y f at says h = by_fault f (recorded-so A s.content (ContentFits (and_type s.content (value_def y))) f h)
+pub one-refused : (A B : Type 0) (c : Collection) (s : Scope) (d : DefinedTypeId) (x : DefinedType) (y : ValueDef) (f : EncodeFault) → listed_at s d ≡ None → item_at c.defined d.0 ≡ Some x → SaysDefinition c s x y → RecordsUnlessTooLarge {A = A} s.content (Err f) (ContentFits (and_type s.content (value_def y))) → IsOneRefused {A = B} c s d (Err f)
+one-refused A B c s d x y f unlisted at says h = by_fault f (recorded-so A s.content (ContentFits (and_type s.content (value_def y))) f h)
   where
     by_fault : (g : EncodeFault) → FitsUnlessTooLarge {A = A} (Err g) (ContentFits (and_type s.content (value_def y))) → IsOneRefused {A = B} c s d (Err g)
     by_fault (fault.Write w) k = absurd k
-    by_fault fault.TooLarge k = record { definition = x; found = at; written = y; says = says; large = k }
+    by_fault fault.TooLarge k = subst (λ (l : Option (ℕ × Name)). IsLargeFrom l c s d) (sym unlisted) (record { definition = x; found = at; written = y; says = says; large = k })
     by_fault fault.OutOfMemory k = tt
+
+pub alias-refused : (A B : Type 0) (c : Collection) (s : Scope) (d : DefinedTypeId) (j : ℕ) (n : Name) (f : EncodeFault) → listed_at s d ≡ Some (j, n) → FitsUnlessTooLarge {A = A} (Err f) (AliasFits s d) → IsOneRefused {A = B} c s d (Err f)
+alias-refused A B c s d j n (fault.Write g) there h = absurd h
+alias-refused A B c s d j n fault.TooLarge there h = subst (λ (l : Option (ℕ × Name)). IsLargeFrom l c s d) (sym there) (λ fits. h (λ i m is. let both : Some (j, n) ≡ Some (i, m) = sym there ∙ is in let same : (j, n) ≡ (i, m) = cc in subst (λ (l : ℕ × Name). ContentFits (and_alias_of s.content l.0 l.1)) same fits))
+alias-refused A B c s d j n fault.OutOfMemory there h = tt
+
+-- where an instance lists it
+pub is-there : (o : Option (ℕ × Name)) → IsSome o → (l : ℕ × Name) × (o ≡ Some l)
+is-there (Some l) h = (l, refl)
+is-there None h = let both : false ≡ true = h in cc

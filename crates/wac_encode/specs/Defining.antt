@@ -24,8 +24,8 @@ use Rattle.wac_scopes.specs.declared.scope.Scope.{Scope}
 use Rattle.wac_scopes.specs.Contents.{items_of}
 use Rattle.wac_scopes.specs.Good.{nothing_bound}
 use Rattle.wac_encode.specs.Written.{WritesFor, HasHandle, AddsHeldFunc, IsFuncAt}
-use Rattle.wac_encode.specs.Listing.{lists_plain, NeededBy, own_types, IsListedAt, TypeDoesNotFit, IsInterfaceRefused}
-use Rattle.wac_encode.specs.Importing.{NamesImport}
+use Rattle.wac_encode.specs.Listing.{lists_plain, NeededBy, own_types, IsListedAt, SameRecords, TypeDoesNotFit, IsInterfaceRefused}
+use Rattle.wac_encode.specs.Importing.{NamesImportedValue}
 use Rattle.wac_encode.specs.Components.{HasId, component_tree, IsComponentRefused, EndsWithComponent, ComponentDoesNotFit}
 
 -- whether a type is one that is defined so far: an interface has an id, and its items are of sorts that are written
@@ -78,6 +78,11 @@ IsDefinedAt c old now (ty.Func f) i = AddsHeldFunc c old now f i × IsFuncAt c f
 IsDefinedAt c old now (ty.Interface i) k = EndsWithComponent c old now i k
 IsDefinedAt c old now t i = ⊥
 
+-- a definition that was not recorded before is recorded at the export's own index
+abbrev pub NamesDefinition : Collection → Scope → Scope → Scope → AnyType → ℕ → Type 0
+NamesDefinition c old now new (ty.Value v) k = NamesImportedValue old now new (value_resolved c v) k
+NamesDefinition c old now new t k = SameRecords now new
+
 -- From old to new, a type is defined at index k: what it is made of is written first, once, where it is not written yet; and a definition
 -- that was not recorded before is recorded at the export's own index.
 pub record WritesOnce (c : Collection) (t : AnyType) (n : Name) (old new : Scope) (k : ℕ) : Type 0 where
@@ -86,7 +91,7 @@ pub record WritesOnce (c : Collection) (t : AnyType) (n : Name) (old new : Scope
   pub index : ℕ
   pub defined : IsDefinedAt c old now t index
   pub appended : new.content ≡ Builder (items_of now.content ++ export_item n sort.«Type» index ∷ [])
-  pub named : NamesImport c old now new (item_of_type t) k
+  pub named : NamesDefinition c old now new t k
 
 -- the export does not fit behind what is written
 abbrev pub NameDoesNotFit : Collection → AnyType → Name → Scope → Scope → Type 0

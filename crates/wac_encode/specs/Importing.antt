@@ -1,6 +1,6 @@
 -- What the writer of imports writes.
 use Rattle.std.specs.Prelude.{ℕ, suc, ◌≡◌, ◌⊎◌, Bool, true, false, List, [], ◌∷◌, ◌++◌, length, Option, Some, None, Result, Ok, Err}
-use Rattle.wac_shapes.specs.Name.{Name}
+use Rattle.wac_shapes.specs.Name.{Name, option_case}
 use Rattle.wac_shapes.specs.declared.component.DefinedTypeId.{DefinedTypeId}
 use Rattle.wac_shapes.specs.declared.component.InterfaceId.{InterfaceId}
 use Rattle.wac_shapes.specs.declared.component.ItemKind.{ItemKind}
@@ -9,7 +9,7 @@ use Rattle.wac_shapes.specs.declared.component.ValueType.{ValueType}
 use Rattle.wac_shapes.specs.declared.component.ValueType.TheVariants as val
 use Rattle.wac_shapes.specs.declared.component.«Type».TheVariants as ty
 use Rattle.wac_collection.specs.Tree.{imported, Place, position, Tree}
-use Rattle.wac_collection.specs.Collection.{Collection}
+use Rattle.wac_collection.specs.Collection.{Collection, interface_exports}
 use Rattle.wac_collection.specs.Aliases.{value_resolved}
 use Rattle.wac_collection.specs.Bound.{Bindings, held_tree, held_item}
 use Rattle.wac_binary.specs.HasMeaning.{IsInstance}
@@ -28,7 +28,7 @@ use Rattle.wac_scopes.specs.Contents.{and_type, and_import, count, ContentFits}
 use Rattle.wac_scopes.specs.Scopes.{Open, Stack}
 use Rattle.wac_scopes.specs.Good.{At, IsHeld, Good}
 use Rattle.wac_scopes.specs.Laws.{Adds}
-use Rattle.wac_scopes.specs.Scoped.{type_index, value_index, HasToo, opened, root_of, IsNewInRoot, RootImports}
+use Rattle.wac_scopes.specs.Scoped.{type_index, value_index, HasToo, AlsoLists, opened, root_of, IsNewInRoot, RootImports}
 use Rattle.wac_encode.specs.Written.{PartOf, WritesFor, HasHandle, IsOfFunc}
 use Rattle.wac_encode.specs.Listing.{lists_plain, WritesInterface, NeededBy, own_types, IsDescribed, SameRecords, TypeDoesNotFit, IsInterfaceRefused}
 
@@ -102,8 +102,25 @@ abbrev pub NamesImportedValue : Scope → Scope → Scope → ValueType → ℕ 
 NamesImportedValue old now new (val.Defined d) k = IsImportedOnce (value_index old d) now new d k
 NamesImportedValue old now new v k = SameRecords now new
 
+-- the definition of a value type
+abbrev pub definition_of : ValueType → Option DefinedTypeId
+definition_of (val.Defined d) = Some d
+definition_of v = None
+
+-- the definition that a type item lists: that at which its aliases end
+abbrev pub listed_definition : Collection → ItemKind → Option DefinedTypeId
+listed_definition c (kind.TypeItem (ty.Value v)) = definition_of (value_resolved c v)
+listed_definition c k = None
+
+-- the definitions that items list, each with its name, the last first
+abbrev pub listed_definitions : Collection → List (Name × ItemKind) → List (DefinedTypeId × Name)
+listed_definitions c [] = []
+listed_definitions c (e ∷ es) = listed_definitions c es ++ option_case (listed_definition c e.1) [] (λ d. (d, e.0) ∷ [])
+
+-- and what an imported instance lists is aliased from it from then on
 abbrev pub NamesImport : Collection → Scope → Scope → Scope → ItemKind → ℕ → Type 0
 NamesImport c old now new (kind.TypeItem (ty.Value v)) k = NamesImportedValue old now new (value_resolved c v) k
+NamesImport c old now new (kind.Instance i) k = AlsoLists now k (listed_definitions c (interface_exports c i)) new
 NamesImport c old now new item k = SameRecords now new
 
 -- From old to new, an item is imported, at index k: what it is made of is written first, once, where it is not written yet.

@@ -29,7 +29,7 @@ use Rattle.wac_scopes.specs.Contents.{and_type, and_export, ContentFits}
 use Rattle.wac_scopes.specs.Scopes.{Open, Stack, next_type, with_def}
 use Rattle.wac_scopes.specs.Good.{IsHeld, Good}
 use Rattle.wac_scopes.specs.Laws.{Adds}
-use Rattle.wac_scopes.specs.Scoped.{type_index, value_index, HasToo, AddsPrimitive, ListsValue}
+use Rattle.wac_scopes.specs.Scoped.{type_index, value_index, listing, HasToo, AddsPrimitive, ListsValue}
 use Rattle.wac_listing.specs.Order.{is_type, AreOrdered}
 use Rattle.wac_encode.specs.Written.{PartOf, WritesFor, HasHandle, DoesNotFit, IsOfFunc, AddsHeldFunc, IsFuncAt, FuncDoesNotFit}
 
@@ -96,9 +96,9 @@ IsDescribed c old now (kind.TypeItem (ty.Value v)) (e.Equal i) = IsListedAt old 
 IsDescribed c old now (kind.Func f) (e.Func i) = AddsHeldFunc c old now f i × IsFuncAt c f old now i
 IsDescribed c old now k d = ⊥
 
--- the same is recorded
+-- the same is recorded, and instances list the same
 abbrev pub SameRecords : Scope → Scope → Type 0
-SameRecords old new = (a : AnyType) → type_index new a ≡ type_index old a
+SameRecords old new = (a : AnyType) → (type_index new a ≡ type_index old a) × (listing new a ≡ listing old a)
 
 -- a definition that was not written before is recorded at the item's own index, and so written by its name from then on
 abbrev pub IsNamedOnce : Option ℕ → Scope → Scope → Name → DefinedTypeId → Type 0
@@ -127,10 +127,11 @@ abbrev pub WritesItems : Collection → Scope → List (Name × ItemKind) → Sc
 WritesItems c old [] new = new ≡ old
 WritesItems c old (e ∷ es) new = (now : Scope) × WritesItem c old now e.0 e.1 × WritesItems c now es new
 
--- an instance type in which nothing is written, and nothing recorded
+-- an instance type in which nothing is written, nothing recorded, and no instance lists a type
 pub record IsEmpty (s : Scope) : Type 0 where
   pub content : s.content ≡ Instance []
   pub types : (a : AnyType) → type_index s a ≡ None
+  pub listed : (a : AnyType) → listing s a ≡ None
 
 -- the declarations list exactly the items of the interface, in order
 pub record WritesInterface (c : Collection) (i : InterfaceId) (ds : List Decl) : Type 0 where

@@ -14,16 +14,16 @@ use Rattle.wac_collection.specs.Aliases.{target_of, value_resolved}
 use Rattle.wac_binary.specs.declared.types.ComponentValType.{ComponentValType}
 use Rattle.wac_binary.specs.declared.sorts.Sort.TheVariants as sort
 use Rattle.wac_binary.specs.Indexes.{space}
-use Rattle.wac_binary.specs.Items.{ValueDef, TypeDef, value_def}
+use Rattle.wac_scopes.specs.declared.encodable.Encodable.{Encodable}
 use Rattle.wac_scopes.specs.declared.scope.Scope.{Scope}
 use Rattle.wac_scopes.specs.declared.fault.EncodeFault.{EncodeFault}
 use Rattle.wac_scopes.specs.declared.fault.EncodeFault.TheVariants as fault
 use Rattle.wac_scopes.specs.declared.fault.WriteFault.TheVariants as write
-use Rattle.wac_scopes.specs.Contents.{and_type, count, ContentFits}
-use Rattle.wac_scopes.specs.Scoped.{value_index, HasToo}
+use Rattle.wac_scopes.specs.Contents.{and_type, and_alias_of, count}
+use Rattle.wac_scopes.specs.Scoped.{value_index, listed_at, HasToo}
 use Rattle.wac_encode.specs.declared.task.Task.{Task}
 use Rattle.wac_listing.specs.Made.{MadeOf, parts}
-use Rattle.wac_encode.specs.Written.{Says, MaybeSays, SaysDefinition, GoesOn, IsByRecord, IsKnown, IsHandle, PartOf, WritesFor}
+use Rattle.wac_encode.specs.Written.{Says, MaybeSays, GoesOn, IsByRecord, IsKnown, IsHandle, PartOf, NewType, defined, aliased, IsWrittenAs, WritesFor, LargeOne}
 
 -- a field and a case as they are written
 abbrev pub FieldSays : Collection → Scope → Name × ValueType → Bor (List ℕ) × ComponentValType → Type 0
@@ -70,22 +70,20 @@ abbrev pub IsKnownPart : Collection → Scope → Option ValueType → Type 0
 IsKnownPart c s None = Unit {0}
 IsKnownPart c s (Some v) = IsKnown c s v
 
--- one more definition is written and recorded
+-- behind what is written, a type more
+abbrev pub and_new : Encodable → NewType → Encodable
+and_new x (defined y) = and_type x y
+and_new x (aliased j n) = and_alias_of x j n
+
+-- one more definition is written, or aliased where an instance lists it, and recorded
 pub record WritesOne (c : Collection) (old new : Scope) (d : DefinedTypeId) : Type 0 where
   pub onward : GoesOn c old new
   pub index : ℕ
   pub recorded : HasToo old (ty.Value (val.Defined d)) index new
   pub next : index ≡ count (space sort.«Type») old.content
-  pub definition : TypeDef
-  pub appended : new.content ≡ and_type old.content definition
-
--- the definition does not fit behind what is written
-pub record LargeOne (c : Collection) (s : Scope) (d : DefinedTypeId) : Type 0 where
-  pub definition : DefinedType
-  pub found : item_at c.defined d.0 ≡ Some definition
-  pub written : ValueDef
-  pub says : SaysDefinition c s definition written
-  pub large : ContentFits (and_type s.content (value_def written)) → ⊥
+  pub type : NewType
+  pub source : IsWrittenAs (listed_at old d) type
+  pub appended : new.content ≡ and_new old.content type
 
 -- what stands where one definition is refused
 abbrev pub IsOneRefused : {A : Type 0} → Collection → Scope → DefinedTypeId → Result A EncodeFault → Type 0

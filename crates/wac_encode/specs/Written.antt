@@ -1,6 +1,6 @@
 -- What the writers of value types and function types do to an open scope.
-use Rattle.std.specs.Prelude.{ℕ, zero, suc, ◌+◌, ◌≤◌, ◌≡◌, ◌⊎◌, List, [], ◌∷◌, ◌++◌, length, map, Option, Some, None, IsSome, Result, Ok, Err}
-use Rattle.std.specs.List.{AllZip}
+use Rattle.std.specs.Prelude.{ℕ, zero, suc, ◌+◌, ◌≤◌, ◌≡◌, ◌⊎◌, List, [], ◌∷◌, ◌++◌, length, map, Option, Some, None, IsSome, slice_get, Result, Ok, Err}
+use Rattle.std.specs.List.{AllZip, AllByRecursion}
 use Rattle.wac_shapes.specs.Name.{Name, option_case}
 use Rattle.wac_shapes.specs.declared.component.DefinedType.{DefinedType}
 use Rattle.wac_shapes.specs.declared.component.DefinedTypeId.{DefinedTypeId}
@@ -19,19 +19,19 @@ use Rattle.wac_binary.specs.declared.sorts.Description.TheVariants as e
 use Rattle.wac_binary.specs.declared.sorts.Sort.TheVariants as sort
 use Rattle.wac_binary.specs.HasMeaning.{IsFunction}
 use Rattle.wac_binary.specs.Indexes.{space}
-use Rattle.wac_binary.specs.Items.{ValueDef, TypeDef, func_def, type_decl, type_item, value_def}
+use Rattle.wac_binary.specs.Items.{ValueDef, TypeDef, func_def, value_def, export_alias, Decl, type_decl, alias_decl, Item, type_item, alias_item}
 use Rattle.wac_scopes.specs.declared.encodable.Encodable.{Encodable}
 use Rattle.wac_scopes.specs.declared.encodable.Encodable.TheVariants.{Builder, Instance, Component}
 use Rattle.wac_scopes.specs.declared.scope.Scope.{Scope}
 use Rattle.wac_scopes.specs.declared.fault.EncodeFault.{EncodeFault}
 use Rattle.wac_scopes.specs.declared.fault.EncodeFault.TheVariants as fault
 use Rattle.wac_scopes.specs.declared.fault.WriteFault.TheVariants as write
-use Rattle.wac_scopes.specs.Contents.{and_type, and_import, count, ContentFits}
+use Rattle.wac_scopes.specs.Contents.{and_type, and_alias_of, and_import, count, ContentFits}
 use Rattle.wac_scopes.specs.Scopes.{Open, Stack, env, envs}
 use Rattle.wac_scopes.specs.Good.{IsHeld, Good, Onward}
 use Rattle.wac_scopes.specs.Laws.{Adds}
 use Rattle.wac_scopes.specs.Parts.{Is, IsWritten, IsWrittenFunc}
-use Rattle.wac_scopes.specs.Scoped.{type_index, value_index, in_use, opened, IsNewInRoot, RootImports}
+use Rattle.wac_scopes.specs.Scoped.{type_index, value_index, listed_at, listing, in_use, opened, IsNewInRoot, RootImports}
 use Rattle.wac_listing.specs.Made.{MadeOf, OneIsMadeOf}
 
 -- the value type in use is the held one, in each good stack in which the scope is the innermost
@@ -92,18 +92,47 @@ PartOf c v = OfValue (MadeOf c v)
 abbrev pub PartOfOne : Collection → List ValueType → AnyType → Type 0
 PartOfOne c vs = OfValue (OneIsMadeOf c vs)
 
--- type definitions are written behind what was
-abbrev pub with_types : Encodable → List TypeDef → Encodable
-with_types (Builder items) ys = Builder (items ++ map type_item ys)
-with_types (Instance ds) ys = Instance (ds ++ map type_decl ys)
-with_types (Component ds) ys = Component (ds ++ map type_decl ys)
+-- a type that is written: a definition, or an alias of an instance's export
+pub data NewType : Type 0 where
+  defined : TypeDef → NewType
+  aliased : (instance : ℕ) → Name → NewType
+
+-- as an item, and as a declaration
+abbrev pub as_item : NewType → Item
+as_item (defined t) = type_item t
+as_item (aliased j n) = alias_item (export_alias sort.«Type» j n)
+
+abbrev pub as_decl : NewType → Decl
+as_decl (defined t) = type_decl t
+as_decl (aliased j n) = alias_decl (export_alias sort.«Type» j n)
+
+-- types are written behind what was
+abbrev pub with_types : Encodable → List NewType → Encodable
+with_types (Builder items) ys = Builder (items ++ map as_item ys)
+with_types (Instance ds) ys = Instance (ds ++ map as_decl ys)
+with_types (Component ds) ys = Component (ds ++ map as_decl ys)
+
+-- what an instance lists is aliased from it, at its place there; all else is defined
+abbrev pub IsWrittenAs : Option (ℕ × Name) → NewType → Type 0
+IsWrittenAs None (defined t) = Unit {0}
+IsWrittenAs (Some l) (aliased j n) = l ≡ (j, n)
+IsWrittenAs l y = ⊥
+
+-- index i is that of one of the types that are written behind so many, which is written so
+abbrev pub IsWrittenAt : ℕ → List NewType → ℕ → Option (ℕ × Name) → Type 0
+IsWrittenAt k ys i l = (p : ℕ) × (i ≡ k + p) × (y : NewType) × (slice_get ys p ≡ Some y) × IsWrittenAs l y
+
+-- what is aliased is needed, and an instance lists it there
+abbrev pub IsListedThere : (AnyType → Type 0) → Scope → NewType → Type 0
+IsListedThere Needed s (defined t) = Unit {0}
+IsListedThere Needed s (aliased j n) = (d : DefinedTypeId) × Needed (ty.Value (val.Defined d)) × (listed_at s d ≡ Some (j, n))
 
 -- From old to new, while types that are needed were written, and so many that are not recorded.
 pub record WritesFor (c : Collection) (n : ℕ) (Needed : AnyType → Type 0) (old new : Scope) : Type 0 where
   -- good stacks go onward
   pub onward : GoesOn c old new
-  -- type definitions are written, and nothing else is
-  pub types : List TypeDef
+  -- types are written, and nothing else is
+  pub types : List NewType
   pub appended : new.content ≡ with_types old.content types
   -- what was written is written where it was
   pub kept : (a : AnyType) (i : ℕ) → type_index old a ≡ Some i → type_index new a ≡ Some i
@@ -111,19 +140,36 @@ pub record WritesFor (c : Collection) (n : ℕ) (Needed : AnyType → Type 0) (o
   pub needed : (a : AnyType) (i : ℕ) → type_index old a ≡ None → type_index new a ≡ Some i → Needed a
   -- and stands behind what was written
   pub later : (a : AnyType) (i : ℕ) → type_index old a ≡ None → type_index new a ≡ Some i → count (space sort.«Type») old.content ≤ i
+  -- and what an instance lists is aliased from it, all else defined
+  pub sources : (a : AnyType) (i : ℕ) → type_index old a ≡ None → type_index new a ≡ Some i → IsWrittenAt (count (space sort.«Type») old.content) types i (listing old a)
+  pub aliases : AllByRecursion (IsListedThere Needed old) types
+  -- instances list what they listed
+  pub listed : (a : AnyType) → listing new a ≡ listing old a
   -- and is written once
   pub once : length types + unwritten c new ≡ n + unwritten c old
+
+-- a definition does not fit behind what is written
+pub record LargeDefinition (c : Collection) (s : Scope) (d : DefinedTypeId) : Type 0 where
+  pub definition : DefinedType
+  pub found : item_at c.defined d.0 ≡ Some definition
+  pub written : ValueDef
+  pub says : SaysDefinition c s definition written
+  pub large : ContentFits (and_type s.content (value_def written)) → ⊥
+
+-- where an instance lists it, the alias does not
+abbrev pub IsLargeFrom : Option (ℕ × Name) → Collection → Scope → DefinedTypeId → Type 0
+IsLargeFrom None c s d = LargeDefinition c s d
+IsLargeFrom (Some l) c s d = ContentFits (and_alias_of s.content l.0 l.1) → ⊥
+
+abbrev pub LargeOne : Collection → Scope → DefinedTypeId → Type 0
+LargeOne c s d = IsLargeFrom (listed_at s d) c s d
 
 -- a definition that is needed is not written, and does not fit behind what is
 pub record DoesNotFit (c : Collection) (Needed : AnyType → Type 0) (s : Scope) : Type 0 where
   pub id : DefinedTypeId
   pub made : Needed (ty.Value (val.Defined id))
   pub unwritten : value_index s id ≡ None
-  pub definition : DefinedType
-  pub found : item_at c.defined id.0 ≡ Some definition
-  pub written : ValueDef
-  pub says : SaysDefinition c s definition written
-  pub large : ContentFits (and_type s.content (value_def written)) → ⊥
+  pub large : LargeOne c s id
 
 abbrev pub IsHandle : ValueType → Type 0
 IsHandle (val.Own r) = Unit {0}

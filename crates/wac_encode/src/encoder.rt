@@ -1,7 +1,8 @@
 //! The writer of value types.
 //!
 //! A definition whose parts are not written yet waits in a list of tasks, below its parts, so that no chain of definitions is
-//! too long. Each definition is written once in a scope, behind its parts, the first mentioned first.
+//! too long. Each definition is written once in a scope, behind its parts, the first mentioned first; one that an imported instance lists is
+//! aliased from that instance in its place.
 
 ghost use Rattle.std.specs.Prelude.{◌≡◌, ◌<◌, true, ℕ, List, Option, None, Some, IsSome, IfOk, OnOk, OnErr, length, slice_get};
 ghost use Rattle.std.specs.List.{AllZip};
@@ -10,7 +11,7 @@ ghost use Rattle.wac_shapes.specs.declared.component.ValueType.{ValueType as Any
 ghost use Rattle.wac_collection.specs.Collection.{HasDefined, holds_value, item_at};
 ghost use Rattle.wac_collection.specs.Aliases.{target_of, value_resolved};
 ghost use Rattle.wac_binary.specs.Views.{defined_of};
-ghost use Rattle.wac_scopes.specs.Scoped.{IsAsBefore, value_index};
+ghost use Rattle.wac_scopes.specs.Scoped.{IsAsBefore, listed_at, value_index};
 ghost use Rattle.wac_encode.specs.Written.{Says, MaybeSays, SaysDefinition, IsByRecord, IsKnown, PartOf, WritesFor, IsRefused};
 ghost use Rattle.wac_encode.specs.Tasks.{IsReady, Did, WritesOne, AllKnown, FieldSays, CaseSays, IsText, IsPlain, IsOneRefused, IsMissing, IsStepRefused};
 ghost use Rattle.wac_shapes.specs.declared.component.DefinedType.{DefinedType as AnyDefined};
@@ -158,6 +159,7 @@ impl<'a> TypeEncoder<'a> {
         definition: &DefinedType<'_>,
     ) -> Result<(), EncodeFault>
         requires found { item_at self.now.types.now.defined id.0 ≡ Some held.now }
+        requires unlisted { listed_at scope.old id ≡ None }
         requires says { SaysDefinition self.now.types.now scope.old held.now (defined_of definition.now) }
         ensures wrote { OnOk result (WritesOne self.now.types.now scope.old scope.new id) }
         ensures refused { OnErr result (IsAsBefore scope.old scope.new) }
@@ -172,6 +174,7 @@ impl<'a> TypeEncoder<'a> {
     fn define(&self, scope: &mut Scope, id: DefinedTypeId) -> Result<(), EncodeFault>
         requires held { HasDefined self.now.types.now id }
         requires plain { target_of self.now.types.now (val.Defined id) ≡ None }
+        requires unlisted { listed_at scope.old id ≡ None }
         requires known { (x : AnyDefined) → item_at self.now.types.now.defined id.0 ≡ Some x → AllKnown self.now.types.now scope.old x }
         ensures wrote { OnOk result (WritesOne self.now.types.now scope.old scope.new id) }
         ensures refused { OnErr result (IsAsBefore scope.old scope.new) }
@@ -207,6 +210,18 @@ impl<'a> TypeEncoder<'a> {
         }
     }
 
+    /// Aliases a definition from the instance that lists it.
+    fn alias(&self, scope: &mut Scope, id: DefinedTypeId) -> Result<(), EncodeFault>
+        requires unwritten { value_index scope.old id ≡ None }
+        requires listed { IsSome (listed_at scope.old id) }
+        ensures wrote { OnOk result (WritesOne self.now.types.now scope.old scope.new id) }
+        ensures refused { OnErr result (IsAsBefore scope.old scope.new) }
+        ensures fault { IsOneRefused self.now.types.now scope.old id result }
+    {
+        scope.alias_value(id)?;
+        Ok(())
+    }
+
     /// What of a part is not written: its definition. None where it is known, or holds nothing.
     ///
     /// Answers `UnboundResource` for a handle.
@@ -233,7 +248,7 @@ impl<'a> TypeEncoder<'a> {
         }
     }
 
-    /// Does a step of a task: writes its definition where all parts are written; else looks at the next part, and puts the task off
+    /// Does a step of a task: aliases its definition where an instance lists it; writes it where all parts are written; else looks at the next part, and puts the task off
     /// behind that part's definition where it is not written.
     fn step(&self, scope: &mut Scope, task: Task, tasks: &mut Vec<Task>) -> Result<(), EncodeFault>
         requires { IsReady self.now.types.now scope.old task }
@@ -241,6 +256,9 @@ impl<'a> TypeEncoder<'a> {
         ensures refused { OnErr result (IsAsBefore scope.old scope.new) }
         ensures fault { IsStepRefused self.now.types.now scope.old task result }
     {
+        if scope.is_listed(task.id) {
+            return self.alias(scope, task.id);
+        }
         let Some(part) = part_at(&self.types[task.id], task.next) else {
             return self.define(scope, task.id);
         };
@@ -276,7 +294,8 @@ impl<'a> TypeEncoder<'a> {
     }
 
     /// Writes a held value type, and answers the value type in use that says it. What is written in the scope is not written again;
-    /// all else that it is made of is written once, each behind its parts. What stood in the scope and around it stands.
+    /// what an imported instance lists is aliased from it, the first that does; all else that it is made of is written once, each behind its
+    /// parts. What stood in the scope and around it stands.
     ///
     /// Answers `UnboundResource` where it is made of a handle, whose resource this scope does not bind; `TooLarge` where what is
     /// written next does not fit; `OutOfMemory` where memory was refused. Then some of its definitions may stand, each whole.

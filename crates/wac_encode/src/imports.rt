@@ -11,14 +11,15 @@ ghost use Rattle.wac_scopes.specs.Contents.{IsRoot};
 ghost use Rattle.wac_scopes.specs.Scoped.{value_index};
 ghost use Rattle.wac_encode.specs.Written.{WritesFor, IsOfFunc, ImportsHeldFunc, EndsWithImport, IsImportRefused};
 ghost use Rattle.wac_encode.specs.Listing.{NeededBy, lists_plain};
-ghost use Rattle.wac_encode.specs.Importing.{is_importable as importable, AddsHeldInterface, IsInterfaceAt, IsInstanceRefused, ImportsHeld, WritesImport, WritesTypesOf, IsItemNotImported, ImportsIfThere, WritesImportIfThere, ImportsOneMore};
+ghost use Rattle.wac_encode.specs.Importing.{is_importable as importable, listed_definition, listed_definitions, AddsHeldInterface, IsInterfaceAt, IsInstanceRefused, ImportsHeld, WritesImport, WritesTypesOf, IsItemNotImported, ImportsIfThere, WritesImportIfThere, ImportsOneMore};
 
 use crate::encoder::TypeEncoder;
+use std::alloc::AllocError;
 use wac_binary::{ComponentValType, listed_law};
 use wac_collection::{
-    DefinedTypeId, FuncTypeId, InterfaceId, ItemKind, PrimitiveType, Type, ValueType,
+    DefinedTypeId, FuncTypeId, InterfaceId, ItemKind, Named, PrimitiveType, Text, Type, ValueType,
 };
-use wac_scopes::{EncodeFault, Scope, WriteFault, alias_law, step_law, still_law};
+use wac_scopes::{EncodeFault, Scope, WriteFault, alias_law, instance_law, step_law, still_law};
 
 impl<'a> TypeEncoder<'a> {
     /// Imports a function of a held function type into the root, and answers the function's index. Its type is written before, as
@@ -197,7 +198,41 @@ impl<'a> TypeEncoder<'a> {
         Ok(index)
     }
 
-    /// Writes an interface as an instance type, and imports an instance of it.
+    /// The definition that a type item lists, aliases followed to the end.
+    fn listed_definition(&self, item: ItemKind) -> Option<DefinedTypeId>
+        ensures { result ≡ listed_definition self.now.types.now item }
+    {
+        match item {
+            ItemKind::TypeItem(Type::Value(value)) => match self.types.resolve_value_type(value) {
+                ValueType::Defined(id) => Some(id),
+                _ => None,
+            },
+            _ => None,
+        }
+    }
+
+    /// The definitions that items list, each with its name, the last first.
+    fn listed_definitions(
+        &self,
+        items: &Named<ItemKind>,
+    ) -> Result<Vec<(DefinedTypeId, Text)>, AllocError>
+        ensures { IfOk result (λ ds. ds.items ≡ listed_definitions self.now.types.now items.now) }
+    {
+        let alloc = self.types.allocator();
+        let mut definitions = Vec::new(alloc);
+        let mut i = items.len();
+        while i > 0 {
+            i -= 1;
+            let (name, item) = items.entry_at(i);
+            if let Some(id) = self.listed_definition(*item) {
+                definitions.push((id, Text::new(alloc, name)?))?;
+            }
+        }
+        Ok(definitions)
+    }
+
+    /// Writes an interface as an instance type, and imports an instance of it, from which the definitions that it lists are aliased from then
+    /// on.
     fn import_instance(
         &self,
         root: &mut Scope,
@@ -215,8 +250,13 @@ impl<'a> TypeEncoder<'a> {
         listed_law();
         step_law();
         still_law();
+        instance_law();
+        self.types.law();
+        let held = &self.types[interface];
+        held.exports.law();
         let index = self.instance(root, interface)?;
-        let import = root.import_instance(name, index)?;
+        let definitions = self.listed_definitions(&held.exports)?;
+        let import = root.import_listing(name, index, definitions)?;
         Ok(import)
     }
 
@@ -257,8 +297,8 @@ impl<'a> TypeEncoder<'a> {
     }
 
     /// Imports an item of a held kind into the root, behind the other imports, and answers the import's index of its sort. Its types
-    /// are written before, once, where they are not written yet. What stood in the root stands. A definition that a type item imports
-    /// is written by the first such item's index.
+    /// are written before, once, where they are not written yet, and what an instance lists that was imported before is aliased from it. What
+    /// stood in the root stands. A definition that a type item imports is written by the first such item's index.
     ///
     /// Answers none, and writes nothing, exactly where the item is of a sort that is not imported yet: a type item of a resource, of a
     /// function type, of an interface or of a world, an interface that has an item that is not written yet, a component, or a core

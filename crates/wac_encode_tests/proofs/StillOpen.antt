@@ -3,13 +3,13 @@ use Rattle.std.specs.Prelude.{◌≡◌, List}
 use Rattle.std.proofs.Common.{sym, subst}
 use Rattle.wac_shapes.specs.Name.{Name}
 use Rattle.wac_binary.specs.declared.sorts.Description.{Description}
-use Rattle.wac_binary.specs.Items.{TypeDef, ModuleDecl}
+use Rattle.wac_binary.specs.Items.{ModuleDecl}
 use Rattle.wac_scopes.specs.declared.encodable.Encodable.{Encodable}
 use Rattle.wac_scopes.specs.declared.encodable.Encodable.TheVariants.{Builder, Instance, Component}
 use Rattle.wac_scopes.specs.Contents.{IsRoot, IsOpenType, and_core_module, and_export, and_import}
-use Rattle.wac_encode.specs.Written.{with_types}
+use Rattle.wac_encode.specs.Written.{NewType, with_types}
 
-types-kept : (x : Encodable) (ys : List TypeDef) → IsOpenType x → IsOpenType (with_types x ys)
+types-kept : (x : Encodable) (ys : List NewType) → IsOpenType x → IsOpenType (with_types x ys)
 types-kept (Builder items) ys h = absurd h
 types-kept (Instance ds) ys h = tt
 types-kept (Component ds) ys h = tt
@@ -19,7 +19,7 @@ export-kept (Builder items) n d h = absurd h
 export-kept (Instance ds) n d h = tt
 export-kept (Component ds) n d h = tt
 
-root-types-kept : (x : Encodable) (ys : List TypeDef) → IsRoot x → IsRoot (with_types x ys)
+root-types-kept : (x : Encodable) (ys : List NewType) → IsRoot x → IsRoot (with_types x ys)
 root-types-kept (Builder items) ys h = tt
 root-types-kept (Instance ds) ys h = absurd h
 root-types-kept (Component ds) ys h = absurd h
@@ -34,13 +34,13 @@ module-kept (Builder items) ds h = tt
 module-kept (Instance es) ds h = absurd h
 module-kept (Component es) ds h = absurd h
 
-pub still-type : (x y : Encodable) (ys : List TypeDef) → y ≡ with_types x ys → IsOpenType x → IsOpenType y
+pub still-type : (x y : Encodable) (ys : List NewType) → y ≡ with_types x ys → IsOpenType x → IsOpenType y
 still-type x y ys is h = subst IsOpenType (sym is) (types-kept x ys h)
 
 pub type-behind-export : (x y : Encodable) (n : Name) (d : Description) → y ≡ and_export x n d → IsOpenType x → IsOpenType y
 type-behind-export x y n d is h = subst IsOpenType (sym is) (export-kept x n d h)
 
-pub still-root : (x y : Encodable) (ys : List TypeDef) → y ≡ with_types x ys → IsRoot x → IsRoot y
+pub still-root : (x y : Encodable) (ys : List NewType) → y ≡ with_types x ys → IsRoot x → IsRoot y
 still-root x y ys is h = subst IsRoot (sym is) (root-types-kept x ys h)
 
 pub root-behind-import : (x y : Encodable) (n : Name) (d : Description) → y ≡ and_import x n d → IsRoot x → IsRoot y

@@ -16,9 +16,21 @@ const ITEMS: &[u8] = &[
     0x01, 0x40, 0x01, 0x01, 0x78, 0x01, 0x01, 0x00, // a function type over the item's own index
     0x04, 0x00, 0x01, 0x66, 0x01, 0x02, // a function
     0x0a, 0x0a, 0x01, 0x00, 0x05, 0x6e, 0x3a, 0x70, 0x2f, 0x69, 0x05, 0x00, // an instance of it
-    0x07, 0x05, 0x01, 0x6d, 0x01, 0x01, 0x61, // the enum at the root
+    0x06, 0x06, 0x01, 0x03, 0x00, 0x00, 0x01, 0x74, // an alias of its type item
     0x0a, 0x07, 0x01, 0x00, 0x01, 0x74, 0x03, 0x00, 0x01, // a type item that equals it
     0x07, 0x08, 0x01, 0x40, 0x01, 0x01, 0x78, 0x02, 0x01, 0x00, // a function type over the item's own index
+    0x0a, 0x06, 0x01, 0x00, 0x01, 0x66, 0x01, 0x03, // a function
+];
+
+const LISTED: &[u8] = &[
+    0x00, 0x61, 0x73, 0x6d, 0x0d, 0x00, 0x01, 0x00, // the preamble
+    0x07, 0x0f, 0x01, 0x42, 0x02, // an instance type of two declarations
+    0x01, 0x6d, 0x01, 0x01, 0x61, // the enum
+    0x04, 0x00, 0x01, 0x74, 0x03, 0x00, 0x00, // a type item that equals it
+    0x0a, 0x0a, 0x01, 0x00, 0x05, 0x6e, 0x3a, 0x70, 0x2f, 0x69, 0x05, 0x00, // an instance of it
+    0x06, 0x06, 0x01, 0x03, 0x00, 0x00, 0x01, 0x74, // an alias of its type item
+    0x07, 0x0a, 0x02, 0x70, 0x01, // a list of it
+    0x40, 0x01, 0x01, 0x78, 0x02, 0x00, 0x01, // a function type over the list and the alias
     0x0a, 0x06, 0x01, 0x00, 0x01, 0x66, 0x01, 0x03, // a function
 ];
 
@@ -75,7 +87,7 @@ fn assert_imported(rt: &impl Abort, types: &Types, items: &[(&str, ItemKind)], w
     assert!(rt; bytes.as_slice() == want);
 }
 
-// An interface as an instance, then a type item, and a function, which takes the item's index. Nothing of the interface is used at the root.
+// An interface as an instance, then a type item, which the instance lists, and a function, which takes the item's index.
 #[test]
 fn imports_each_kind(rt: HostRuntime) {
     let alloc = rt.alloc();
@@ -95,6 +107,25 @@ fn imports_each_kind(rt: HostRuntime) {
     );
     let items = [("n:p/i", ItemKind::Instance(i)), t, f];
     assert_imported(&rt, &types, &items, ITEMS);
+}
+
+// What an instance lists that was imported before is aliased from it, once, under the first of its names; what is made of it is written.
+#[test]
+fn imports_from_an_instance(rt: HostRuntime) {
+    let alloc = rt.alloc();
+    let mut types = Types::new(alloc);
+    let x = enumeration(&rt, &mut types, "a");
+    let alias = defined(&rt, &mut types, DefinedType::Alias(x));
+    let list = defined(&rt, &mut types, DefinedType::List(alias));
+    let f = function(
+        &rt,
+        &mut types,
+        FuncType::new(alloc, &[("x", list)], Some(x), false),
+    );
+    let t = ("t", ItemKind::TypeItem(Type::Value(x)));
+    let i = interface(&rt, &mut types, Interface::new(alloc, Some("n:p/i"), &[t]));
+    let items = [("n:p/i", ItemKind::Instance(i)), ("f", ItemKind::Func(f))];
+    assert_imported(&rt, &types, &items, LISTED);
 }
 
 // A primitive has a definition of its own; a second name of a list equals the first.

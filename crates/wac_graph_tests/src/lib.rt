@@ -4,6 +4,8 @@
 #![tactic(auto)]
 
 #[cfg(test)]
+mod aliased;
+#[cfg(test)]
 mod bench;
 #[cfg(test)]
 mod defining;

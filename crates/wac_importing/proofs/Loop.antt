@@ -24,7 +24,7 @@ use Rattle.wac_binary.specs.declared.sorts.Sort.TheVariants as sort
 use Rattle.wac_modules.specs.Declarations.{declarations_of}
 use Rattle.wac_binary.specs.declared.sorts.Description.{Description}
 use Rattle.wac_binary.specs.declared.sorts.Description.TheVariants as e
-use Rattle.wac_binary.specs.Items.{Item, TypeDef, core_type, type_item, import_item}
+use Rattle.wac_binary.specs.Items.{Item, core_type, import_item}
 use Rattle.wac_binary.specs.Indexes.{space, described_sort, indexes}
 use Rattle.wac_binary.specs.Meaning.{meaning}
 use Rattle.wac_binary.specs.HasMeaning.{HasMeaning, IsNew}
@@ -35,8 +35,8 @@ use Rattle.wac_scopes.specs.Contents.{IsRoot, items_of, content_of, and_import, 
 use Rattle.wac_scopes.specs.Scopes.{Open, root, ContentHasMeaning, opening}
 use Rattle.wac_scopes.specs.Good.{Good}
 use Rattle.wac_scopes.specs.Inside.{StartsRoot}
-use Rattle.wac_scopes.specs.Scoped.{opened, recorded_type, at_index, type_index, IsNewInRoot, root_of}
-use Rattle.wac_encode.specs.Written.{with_types}
+use Rattle.wac_scopes.specs.Scoped.{opened, place, recorded_type, type_index, listing, IsNewInRoot, root_of}
+use Rattle.wac_encode.specs.Written.{NewType, defined, aliased, as_item, with_types}
 use Rattle.wac_encode.specs.Importing.{ImportsHeld, WritesImport, IsImportedAs}
 use Rattle.wac_meaning.specs.Means.{sort_of_kind}
 use Rattle.wac_meaning.specs.Beginning.{Places, Begins}
@@ -62,9 +62,9 @@ pub record IsBegun (m : Merged) (i : ℕ) (s : Scope) (places : Places) : Type 0
   pub sorts : AreOfSorts m places
 
 -- ---- none yet
-pub begun : (m : Merged) → StartsRoot → (s : Scope) → s.content ≡ Builder [] → ((a : AnyType) → type_index s a ≡ None) → IsBegun m 0 s []
-begun m starts s is none =
-    let memo_same : recorded_type s ≡ (λ a. None) = fun_ext (λ a. ap at_index (none a)) in
+pub begun : (m : Merged) → StartsRoot → (s : Scope) → s.content ≡ Builder [] → ((a : AnyType) → type_index s a ≡ None) → ((a : AnyType) → listing s a ≡ None) → IsBegun m 0 s []
+begun m starts s is none unlisted =
+    let memo_same : recorded_type s ≡ (λ a. None) = fun_ext (λ a. (λ j. place (none a j) (unlisted a j))) in
     let same : opened s start ≡ record start { content = root [] } = (λ i. record start { content = content_of (is i); memo = memo_same i }) in
     record {
       is_root = subst IsRoot (sym is) tt;
@@ -133,12 +133,13 @@ record Brings (old new : Scope) (n : Name) (item : ItemKind) (k : ℕ) : Type 0 
   content : new.content ≡ Builder ((items_of old.content ++ more) ++ import_item n description ∷ [])
   place : ◌≡◌ {A = Sort × ℕ} (described_sort description, indexes (space (described_sort description)) (items_of old.content ++ more)) (sort_of_kind item, k)
 
-all_types : (types : List TypeDef) → AllByRecursion IsQuiet (map type_item types)
+all_types : (types : List NewType) → AllByRecursion IsQuiet (map as_item types)
 all_types [] = tt
-all_types (x ∷ types) = (tt, all_types types)
+all_types (defined x ∷ types) = (tt, all_types types)
+all_types (aliased j n ∷ types) = (tt, all_types types)
 
-written_items : (old mid new : Encodable) (types : List TypeDef) (n : Name) (d : Description) → IsRoot old → mid ≡ with_types old types → new ≡ and_import mid n d
-    → (new ≡ Builder ((items_of old ++ map type_item types) ++ import_item n d ∷ [])) × (count (space (described_sort d)) mid ≡ indexes (space (described_sort d)) (items_of old ++ map type_item types))
+written_items : (old mid new : Encodable) (types : List NewType) (n : Name) (d : Description) → IsRoot old → mid ≡ with_types old types → new ≡ and_import mid n d
+    → (new ≡ Builder ((items_of old ++ map as_item types) ++ import_item n d ∷ [])) × (count (space (described_sort d)) mid ≡ indexes (space (described_sort d)) (items_of old ++ map as_item types))
 written_items (Builder items) mid new types n d is a b = (b ∙ ap (λ x. and_import x n d) a, ap (count (space (described_sort d))) a)
 written_items (Instance ds) mid new types n d is a b = absurd is
 written_items (Component ds) mid new types n d is a b = absurd is
@@ -147,7 +148,7 @@ by_types : (c : Collection) (old new : Scope) (n : Name) (item : ItemKind) (k : 
 by_types c old new n item k is_root w =
     let (content, index) = written_items old.content w.now.content new.content w.behind.types n w.description is_root w.behind.appended w.appended in
     record {
-      more = map type_item w.behind.types;
+      more = map as_item w.behind.types;
       quiet = all_types w.behind.types;
       description = w.description;
       content = content;

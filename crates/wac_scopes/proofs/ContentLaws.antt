@@ -7,21 +7,26 @@ use Rattle.wac_collection.specs.Collection.{Collection}
 use Rattle.wac_collection.specs.Bound.{Bindings}
 use Rattle.wac_binary.specs.declared.sorts.Description.TheVariants as e
 use Rattle.wac_binary.specs.declared.sorts.Sort.TheVariants as s
-use Rattle.wac_binary.specs.Items.{TypeDef, ModuleDecl}
+use Rattle.wac_binary.specs.Items.{TypeDef, ModuleDecl, export_alias}
 use Rattle.wac_binary.specs.Indexes.{space, core_types}
 use Rattle.wac_binary.specs.HasMeaning.{IsType, IsFunction, IsInstance}
 use Rattle.wac_scopes.specs.declared.encodable.Encodable.{Encodable}
 use Rattle.wac_scopes.specs.declared.encodable.Encodable.TheVariants.{Builder, Instance, Component}
-use Rattle.wac_scopes.specs.Scopes.{Open, Stack, env, envs, type_count, and_def}
+use Rattle.wac_scopes.specs.Scopes.{Open, Stack, env, envs, type_count, and_def, and_alias}
 use Rattle.wac_scopes.specs.Good.{At, Good}
 use Rattle.wac_scopes.specs.Modules.{and_module, module_count}
 use Rattle.wac_scopes.specs.Listed.{Lists, IsNewName, ListsEqual, ListsFunc, ListsInstance}
-use Rattle.wac_scopes.specs.Contents.{content_of, IsOpenType, and_type, and_core_module, and_export, count}
+use Rattle.wac_scopes.specs.Contents.{content_of, IsOpenType, and_type, and_alias_of, and_core_module, and_export, count}
 
 pub content-and-type : (x : Encodable) (t : TypeDef) → content_of (and_type x t) ≡ and_def t (content_of x)
 content-and-type (Builder items) t = refl
 content-and-type (Instance ds) t = refl
 content-and-type (Component ds) t = refl
+
+pub content-and-alias : (x : Encodable) (j : ℕ) (n : Name) → content_of (and_alias_of x j n) ≡ and_alias (export_alias s.Type j n) (content_of x)
+content-and-alias (Builder items) j n = refl
+content-and-alias (Instance ds) j n = refl
+content-and-alias (Component ds) j n = refl
 
 pub content-and-module : (x : Encodable) (t : List ModuleDecl) → content_of (and_core_module x t) ≡ and_module t (content_of x)
 content-and-module (Builder items) t = refl

@@ -1,6 +1,9 @@
 -- What the root of the code imports.
-use Rattle.std.specs.Prelude.{ℕ, ◌≡◌, cond, true, false, List, [], ◌∷◌, ◌++◌, length, Some, if◌then◌else◌}
-use Rattle.std.proofs.Common.{refl, ap, ◌∙◌, sym, subst}
+use Rattle.std.proofs.Math.Path.{fun_ext}
+use Rattle.std.proofs.lemmas.List.{append-nil, append_assoc}
+use Rattle.std.specs.HashMap.{spare}
+use Rattle.std.specs.Prelude.{ℕ, suc, ◌≤◌, ◌≡◌, ◌⊎◌, cond, nat_eq, Bool, true, false, List, [], ◌∷◌, ◌++◌, length, slice_get, Option, Some, None, is_some, if◌then◌else◌, ◌<◌, ◌+◌}
+use Rattle.std.proofs.Common.{refl, ap, ◌∙◌, sym, subst, arith, inl, inr, length-append}
 use Rattle.wac_shapes.specs.Name.{Name}
 use Rattle.wac_shapes.specs.declared.component.DefinedTypeId.{DefinedTypeId}
 use Rattle.wac_shapes.specs.declared.component.ValueType.TheVariants as val
@@ -17,19 +20,21 @@ use Rattle.wac_binary.specs.Items.{Item}
 use Rattle.wac_binary.specs.Indexes.{space}
 use Rattle.wac_binary.specs.HasMeaning.{IsType, IsFunction, IsInstance, IsModule}
 use Rattle.wac_binary.specs.Meaning.{import_at, stands_for, meaning}
+use Rattle.wac_binary.specs.Unfold.{Scope as Env, Bound}
 use Rattle.wac_scopes.specs.declared.encodable.Encodable.{Encodable}
 use Rattle.wac_scopes.specs.declared.encodable.Encodable.TheVariants.{Builder, Instance, Component}
 use Rattle.wac_scopes.specs.declared.scope.Scope.{Scope}
 use Rattle.wac_scopes.specs.Contents.{content_of, items_of, IsRoot, and_import, count}
-use Rattle.wac_scopes.specs.Scopes.{at_type, Open, Stack, env, envs, remember_at}
-use Rattle.wac_scopes.specs.Good.{At, Good, top, Onward}
-use Rattle.wac_scopes.specs.Instances.{holding, IsNewImport, ImportsInstance, ImportsType, ImportsFunc, ImportsModule, ListsImport}
-use Rattle.wac_scopes.specs.Scoped.{type_index, recorded_type, opened, imported_at, RootImports, RootImportsType, RootImportsValue, RootImportsFunction, RootImportsInstance, RootImportsModule}
+use Rattle.wac_scopes.specs.Scopes.{Where, at_type, at_export, Open, Stack, env, envs, remember_at}
+use Rattle.wac_scopes.specs.Good.{At, Stands, IsHeld, IsOf, Good, GoodScope, top, Onward}
+use Rattle.wac_scopes.specs.Instances.{Exports, holding, IsNewImport, ImportsInstance, ImportsType, ImportsFunc, ImportsModule, ListsImport}
+use Rattle.wac_scopes.specs.Scoped.{type_index, listed_at, listing, place, recorded_type, first_of, listed_by, listed_too, HasToo, IsAsBefore, AlsoLists, opened, imported_at, RootImportsListing, RootImports, RootImportsType, RootImportsValue, RootImportsFunction, RootImportsInstance, RootImportsModule}
 use Rattle.wac_scopes.proofs.ContentLaws.{filled}
 use Rattle.wac_scopes.proofs.Grow.{at-type_at}
 use Rattle.wac_scopes.proofs.Meant.{value-type}
-use Rattle.wac_scopes.proofs.ScopedLaws.{recorded-too}
-use Rattle.wac_scopes.proofs.Steps.{good-remember_at}
+use Rattle.wac_scopes.proofs.Moved.{ap2}
+use Rattle.wac_scopes.proofs.ScopedLaws.{recorded-at, recorded-same, recorded-too}
+use Rattle.wac_scopes.proofs.Steps.{good-recorded, good-remember_at, some-equal}
 
 -- nothing stands around the root
 alone : (P : List Bindings → Stack → Type 0) (c : Collection) (m : Bindings) (ms : List Bindings) (items : List Item) (o : Open) (os : Stack) → Good c (m ∷ ms) (holding items o ∷ os) → (Good c (m ∷ []) (holding items o ∷ []) → P [] []) → P ms os
@@ -107,7 +112,7 @@ imports-function old x n i k law lists is_root index appended c m ms o os t g ne
     let into : ImportsFunctionIn old.content x n i k = subst (λ (z : Encodable). ImportsFunctionIn old.content z n i k) (sym appended) (subst (λ (j : ℕ). ImportsFunctionIn old.content (and_import old.content n (e.Func i)) n i j) (sym index) (function-in law lists old.content n i is_root)) in
     as-imports c (m ∷ ms) old x o os s.Func k n (function_item t) (into c m ms (record o { memo = recorded_type old }) os t g new fun at)
 
-pub imports-value : (old new : Scope) (n : Name) (d : DefinedTypeId) (i k : ℕ) → ImportsType → ListsImport → IsRoot old.content → k ≡ count (space s.Type) old.content → new.content ≡ and_import old.content n (e.Equal i) → ((b : AnyType) → type_index new b ≡ cond (same_type b (ty.Value (val.Defined d))) (Some k) (type_index old b)) → RootImportsValue old new n d i k
+pub imports-value : (old new : Scope) (n : Name) (d : DefinedTypeId) (i k : ℕ) → ImportsType → ListsImport → IsRoot old.content → k ≡ count (space s.Type) old.content → new.content ≡ and_import old.content n (e.Equal i) → HasToo old (ty.Value (val.Defined d)) k new → RootImportsValue old new n d i k
 imports-value old new n d i k law lists is_root index appended too c m ms o os t g fresh_name held value at =
     let named_ : Open = opened (record old { content = new.content }) o in
     let r = imports-type-item old new.content n i k law lists is_root index appended c m ms o os t g fresh_name (value-type t value) at in
@@ -128,3 +133,137 @@ imports-instance-item old x n i k law lists is_root index appended c m ms o os t
     let into : ImportsInstanceIn old.content x n i k = subst (λ (z : Encodable). ImportsInstanceIn old.content z n i k) (sym appended) (subst (λ (j : ℕ). ImportsInstanceIn old.content (and_import old.content n (e.Instance i)) n i j) (sym index) (instance-in law lists old.content n i is_root)) in
     let r = into c m ms (record o { memo = recorded_type old }) os t g new inst at in
     (as-imports c (m ∷ ms) old x o os s.Instance k n (instance_item t) r.0, r.1)
+
+-- what an instance lists
+
+abbrev make_id : ℕ → DefinedTypeId
+make_id n = record { 0 = n }
+
+same-id : (a b : DefinedTypeId) → nat_eq a.0 b.0 ≡ true → a ≡ b
+same-id a b h = let same : a.0 ≡ b.0 = grind arith in ap make_id same
+
+-- a definition is listed where it was, or is among those that the instance exports
+listed-there : (c : Collection) (m : Bindings) (b : Bound) (k : ℕ) (at : DefinedTypeId → Option (ℕ × Name)) (d : DefinedTypeId) (l : ℕ × Name) (es : List (DefinedTypeId × Name)) → ((p : ℕ) (e : DefinedTypeId × Name) → slice_get es p ≡ Some e → Exports c m b e.0 e.1) → listed_too k es at d ≡ Some l → (at d ≡ Some l) ⊎ ((l.0 ≡ k) × Exports c m b d l.1)
+listed-there c m b k at d l [] exports h = inl h
+listed-there c m b k at d l (e ∷ es) exports h = by_rest (λ is. listed-there c m b k at d l es (λ p y there. exports (suc p) y there) is) (listed_too k es at d) refl h
+  where
+    by_id : (z : Bool) → nat_eq e.0.0 d.0 ≡ z → cond z (Some (k, e.1)) None ≡ Some l → (l.0 ≡ k) × Exports c m b d l.1
+    by_id true same is =
+        let pair : (k, e.1) ≡ l = some-equal (k, e.1) l is in
+        (ap (λ (x : ℕ × Name). x.0) (sym pair), subst (Exports c m b d) (ap (λ (x : ℕ × Name). x.1) pair) (subst (λ (x : DefinedTypeId). Exports c m b x e.1) (same-id e.0 d same) (exports 0 e refl)))
+    by_id false same is = let no_some : None ≡ Some l = is in cc
+
+    by_rest : (listed_too k es at d ≡ Some l → (at d ≡ Some l) ⊎ ((l.0 ≡ k) × Exports c m b d l.1)) → (o : Option (ℕ × Name)) → listed_too k es at d ≡ o → first_of o (listed_by k e d) ≡ Some l → (at d ≡ Some l) ⊎ ((l.0 ≡ k) × Exports c m b d l.1)
+    by_rest rest (Some x) is found = rest (is ∙ found)
+    by_rest rest None is found = inr (by_id (nat_eq e.0.0 d.0) refl found)
+
+-- what is recorded then stands there
+listed-stands : (c : Collection) (m : Bindings) (out : List Env) (mid new : Scope) (o : Open) (b : Bound) (k : ℕ) (es : List (DefinedTypeId × Name)) → ((a : AnyType) (w : Where) → recorded_type mid a ≡ Some w → (t : Tree) × IsHeld c m a t × IsOf a t × Stands (env (opened mid o) out) t w) → At ((env (opened mid o) out).instances) k b → ((p : ℕ) (e : DefinedTypeId × Name) → slice_get es p ≡ Some e → Exports c m b e.0 e.1) → AlsoLists mid k es new
+    → (a : AnyType) (w : Where) → recorded_type new a ≡ Some w → (t : Tree) × IsHeld c m a t × IsOf a t × Stands (env (opened mid o) out) t w
+listed-stands c m out mid new o b k es memo at exports lists a w h = by_index (type_index mid a) refl (sym (ap (λ (x : Option ℕ). place x (listing new a)) (lists.types a)) ∙ h)
+  where
+    by_list : (u : AnyType) (l : ℕ × Name) → type_index mid u ≡ None → listing new u ≡ Some l → (t : Tree) × IsHeld c m u t × IsOf u t × Stands (env (opened mid o) out) t (at_export l.0 l.1)
+    by_list (ty.Value (val.Defined d)) l none is = by_place (listed-there c m b k (listed_at mid) d l es exports (sym (lists.listed d) ∙ is))
+      where
+        by_place : (listed_at mid d ≡ Some l) ⊎ ((l.0 ≡ k) × Exports c m b d l.1) → (t : Tree) × IsHeld c m (ty.Value (val.Defined d)) t × IsOf (ty.Value (val.Defined d)) t × Stands (env (opened mid o) out) t (at_export l.0 l.1)
+        by_place (inl was) = memo (ty.Value (val.Defined d)) (at_export l.0 l.1) (ap2 place none was)
+        by_place (inr (same, x)) = (x.0, x.1, x.2, subst (λ (j : ℕ). Stands (env (opened mid o) out) x.0 (at_export j l.1)) (sym same) (b, at, x.3))
+    by_list (ty.Value (val.Primitive p)) l none is = let no_some : None ≡ Some l = is in cc
+    by_list (ty.Value (val.Own r)) l none is = let no_some : None ≡ Some l = is in cc
+    by_list (ty.Value (val.Borrow r)) l none is = let no_some : None ≡ Some l = is in cc
+    by_list (ty.Func f) l none is = let no_some : None ≡ Some l = is in cc
+    by_list (ty.Interface i) l none is = let no_some : None ≡ Some l = is in cc
+    by_list (ty.Resource r) l none is = let no_some : None ≡ Some l = is in cc
+    by_list (ty.World i) l none is = let no_some : None ≡ Some l = is in cc
+    by_list (ty.Module i) l none is = let no_some : None ≡ Some l = is in cc
+
+    by_index : (x : Option ℕ) → type_index mid a ≡ x → place x (listing new a) ≡ Some w → (t : Tree) × IsHeld c m a t × IsOf a t × Stands (env (opened mid o) out) t w
+    by_index (Some i) is found = memo a w (recorded-at mid a i is ∙ found)
+    by_index None is found = by_listing (listing new a) refl found
+      where
+        by_listing : (l : Option (ℕ × Name)) → listing new a ≡ l → place None l ≡ Some w → (t : Tree) × IsHeld c m a t × IsOf a t × Stands (env (opened mid o) out) t w
+        by_listing None there found = let no_some : None ≡ Some w = found in cc
+        by_listing (Some l) there found = subst (λ (z : Where). (t : Tree) × IsHeld c m a t × IsOf a t × Stands (env (opened mid o) out) t z) (some-equal (at_export l.0 l.1) w found) (by_list a l is there)
+
+pub imports-listing : (old roomy mid new : Scope) (n : Name) (i k : ℕ) (es : List (DefinedTypeId × Name)) → IsAsBefore old roomy → RootImportsInstance roomy mid n i k → new.content ≡ mid.content → AlsoLists mid k es new → RootImportsListing old new n i es k
+imports-listing old roomy mid new n i k es same imports kept lists c m ms o os t g free inst at exports =
+    let was : opened roomy o ≡ opened old o = (let memo_is : recorded_type roomy ≡ recorded_type old = recorded-same old roomy same.types same.listed in λ j. record o { content = content_of (same.content j); memo = memo_is j }) in
+    let r = imports c m ms o os t (subst (λ (z : Open). Good c (m ∷ ms) (z ∷ os)) (sym was) g) (subst (λ (x : Encodable). IsNewImport (items_of x) n) (sym same.content) free) inst (subst (λ (z : Open). At ((env z (envs os)).types) i t) (sym was) at) in
+    let bound : At ((env (opened mid o) (envs os)).instances) k (imported_at t (items_of old.content)) = subst (λ (x : Encodable). At ((env (opened mid o) (envs os)).instances) k (imported_at t (items_of x))) same.content r.1 in
+    let mid_good : GoodScope c m (top ms) (opened mid o) (envs os) = r.0.onward.0.0 in
+    let there = listed-stands c m (envs os) mid new o (imported_at t (items_of old.content)) k es mid_good.memo bound exports lists in
+    let now : Open = record (opened mid o) { memo = recorded_type new } in
+    let new_is : opened new o ≡ now = (λ j. record o { content = content_of (kept j); memo = recorded_type new }) in
+    let on : Onward c (m ∷ ms) (opened roomy o ∷ os) (now ∷ os) = ((good-recorded c m (top ms) (opened mid o) (envs os) (recorded_type new) mid_good there, r.0.onward.0.1), r.0.onward.1) in (
+      record {
+        onward = subst (λ (z : Open). Onward c (m ∷ ms) (z ∷ os) (opened new o ∷ os)) was (subst (λ (z : Open). Onward c (m ∷ ms) (opened roomy o ∷ os) (z ∷ os)) (sym new_is) on);
+        listed = ap (λ (x : Encodable). (meaning (items_of x)).imports) kept ∙ r.0.listed ∙ ap (λ (x : Encodable). (meaning (items_of x)).imports ++ (n, instance_item t) ∷ []) same.content;
+        stands = ap (λ (x : Encodable). stands_for (meaning (items_of x)) s.Instance k) kept ∙ r.0.stands ∙ ap (λ (x : Encodable). import_at (length (meaning (items_of x)).imports)) same.content;
+      },
+      subst (λ (z : Open). At ((env z (envs os)).instances) k (imported_at t (items_of old.content))) (sym new_is) bound,
+    )
+
+-- the list of what is listed
+
+first-alone : (l : Option (ℕ × Name)) → first_of l None ≡ l
+first-alone None = refl
+first-alone (Some x) = refl
+
+-- one more, unless it is listed
+pub lists-one-more : (old now new : Scope) (k : ℕ) (e : DefinedTypeId × Name) (es : List (DefinedTypeId × Name)) → AlsoLists old k es now → AlsoLists now k (e ∷ []) new → AlsoLists old k (e ∷ es) new
+lists-one-more old now new k e es w u = record { types = λ a. u.types a ∙ w.types a; listed = λ d. u.listed d ∙ ap (λ (l : Option (ℕ × Name)). first_of l (listed_by k e d)) (w.listed d) }
+
+pub lists-already : (s : Scope) (k : ℕ) (e : DefinedTypeId × Name) → is_some (listed_at s e.0) ≡ true → AlsoLists s k (e ∷ []) s
+lists-already s k e there = record { types = λ a. refl; listed = λ d. by_id d (nat_eq e.0.0 d.0) refl }
+  where
+    by_some : (l m : Option (ℕ × Name)) → is_some l ≡ true → l ≡ first_of l m
+    by_some (Some x) m h = refl
+    by_some None m h = let both : false ≡ true = h in cc
+
+    by_id : (d : DefinedTypeId) (z : Bool) → nat_eq e.0.0 d.0 ≡ z → listed_at s d ≡ first_of (listed_at s d) (cond z (Some (k, e.1)) None)
+    by_id d true same = by_some (listed_at s d) (Some (k, e.1)) (subst (λ (x : DefinedTypeId). is_some (listed_at s x) ≡ true) (same-id e.0 d same) there)
+    by_id d false same = sym (first-alone (listed_at s d))
+
+pub lists-new : (old new : Scope) (k : ℕ) (d : DefinedTypeId) (n : Name) → listed_at old d ≡ None → ((a : AnyType) → type_index new a ≡ type_index old a) → ((j : DefinedTypeId) → listed_at new j ≡ cond (nat_eq d.0 j.0) (Some (k, n)) (listed_at old j)) → AlsoLists old k ((d, n) ∷ []) new
+lists-new old new k d n none types too = record { types = types; listed = λ j. too j ∙ by_id j (nat_eq d.0 j.0) refl }
+  where
+    by_id : (j : DefinedTypeId) (z : Bool) → nat_eq d.0 j.0 ≡ z → cond z (Some (k, n)) (listed_at old j) ≡ first_of (listed_at old j) (cond z (Some (k, n)) None)
+    by_id j true same = ap (λ (l : Option (ℕ × Name)). first_of l (Some (k, n))) (sym none ∙ ap (listed_at old) (same-id d j same))
+    by_id j false same = sym (first-alone (listed_at old j))
+
+-- between two of them: those that were taken are listed, and there is room for those that are left
+pub record IsListing (old : Scope) (k : ℕ) (all left : List (DefinedTypeId × Name)) (now : Scope) : Type 0 where
+  pub taken : List (DefinedTypeId × Name)
+  pub split : all ≡ left ++ taken
+  pub lists : AlsoLists old k taken now
+  pub kept : now.content ≡ old.content
+  pub room : length left ≤ spare now.listed
+
+pub listing-starts : (s : Scope) (k : ℕ) (all : List (DefinedTypeId × Name)) → length all ≤ spare s.listed → IsListing s k all all s
+listing-starts s k all room = record { taken = []; split = sym (append-nil all); lists = record { types = λ a. refl; listed = λ d. refl }; kept = refl; room = room }
+
+pub listing-further : (old now new : Scope) (k : ℕ) (all left : List (DefinedTypeId × Name)) (e : DefinedTypeId × Name) → IsListing old k all (left ++ e ∷ []) now → AlsoLists now k (e ∷ []) new → new.content ≡ now.content → spare now.listed ≤ spare new.listed + 1 → IsListing old k all left new
+listing-further old now new k all left e w u kept room = record {
+  taken = e ∷ w.taken;
+  split = w.split ∙ append_assoc left (e ∷ []) w.taken;
+  lists = lists-one-more old now new k e w.taken w.lists u;
+  kept = kept ∙ w.kept;
+  room = let before : length (left ++ e ∷ []) ≤ spare now.listed = w.room in omega (arith, before, room, length-append left (e ∷ []));
+}
+
+pub room-for-one : (old now : Scope) (k : ℕ) (all left : List (DefinedTypeId × Name)) (e : DefinedTypeId × Name) → IsListing old k all (left ++ e ∷ []) now → 0 < spare now.listed
+room-for-one old now k all left e w = let before : length (left ++ e ∷ []) ≤ spare now.listed = w.room in omega (arith, before, length-append left (e ∷ []))
+
+pub listing-ends : (old now : Scope) (k : ℕ) (all : List (DefinedTypeId × Name)) → IsListing old k all [] now → AlsoLists old k all now × (now.content ≡ old.content)
+listing-ends old now k all w = (subst (λ (es : List (DefinedTypeId × Name)). AlsoLists old k es now) (sym w.split) w.lists, w.kept)
+
+-- after room was made and the instance was imported
+pub lists-since : (old roomy mid new : Scope) (k : ℕ) (es : List (DefinedTypeId × Name)) → IsAsBefore old roomy → ((a : AnyType) → type_index mid a ≡ type_index roomy a) → ((d : DefinedTypeId) → listed_at mid d ≡ listed_at roomy d) → AlsoLists mid k es new → AlsoLists old k es new
+lists-since old roomy mid new k es same types listed lists = record {
+  types = λ a. lists.types a ∙ types a ∙ same.types a;
+  listed = λ d. lists.listed d ∙ ap (λ (at : DefinedTypeId → Option (ℕ × Name)). listed_too k es at d) (fun_ext (λ j. listed j ∙ same.listed (ty.Value (val.Defined j))));
+}
+
+pub none-listed : (o : Option (ℕ × Name)) → is_some o ≡ false → o ≡ None
+none-listed None h = refl
+none-listed (Some l) h = let both : true ≡ false = h in cc

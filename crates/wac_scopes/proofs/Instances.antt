@@ -1,6 +1,6 @@
 -- What an instance in scope binds and has.
 use Rattle.std.specs.Prelude.{ℕ, zero, suc, ◌≡◌, ◌==◌, ◌&&◌, Bool, true, false, not, List, [], ◌∷◌, ◌++◌, length, Option, Some, None, is_some, is_none, slice_get, if◌then◌else◌}
-use Rattle.std.proofs.Common.{refl, ap, ◌∙◌, sym}
+use Rattle.std.proofs.Common.{refl, ap, ◌∙◌, sym, subst}
 use Rattle.std.proofs.Math.Path.{fun_ext}
 use Rattle.std.proofs.lemmas.Bool.{eqb-true}
 use Rattle.wac_shapes.specs.Name.{Name, same_name, find_name, option_case}
@@ -17,11 +17,12 @@ use Rattle.wac_collection.specs.Tree.{Side, imported, exported, Place, named, Le
 use Rattle.wac_collection.specs.Collection.{Collection, IsWellFormed, item_at}
 use Rattle.wac_collection.specs.Held.{source_of, resolved_in, resolved, item_tree, interface_tree}
 use Rattle.wac_collection.specs.Bound.{Bindings, is_alias, own_name, inside_interface, is_here, binds_here, by_place, held_tree}
-use Rattle.wac_binary.specs.Unfold.{Scope, bound_type}
+use Rattle.wac_binary.specs.Unfold.{Scope, Bound, bound_type}
 use Rattle.wac_scopes.specs.Scopes.{at_export, env, envs, bind_at, remember_at, name_at}
 use Rattle.wac_scopes.specs.Good.{Stands, IsHeld, Carries, top}
-use Rattle.wac_scopes.specs.Instances.{BindsInstance, Stood, BindsOwn, HasExported, HeldFurtherIn, CalledInside, NamesType}
+use Rattle.wac_scopes.specs.Instances.{BindsInstance, Stood, BindsOwn, HasExported, ExportsEnd, HeldFurtherIn, CalledInside, NamesType}
 use Rattle.wac_scopes.specs.Listed.{FreshInInterface, CallsOwn}
+use Rattle.wac_scopes.proofs.Aliases.{end-held}
 use Rattle.wac_scopes.proofs.HeldValues.{holds-value}
 use Rattle.wac_scopes.proofs.Grow.{kept-refl}
 use Rattle.wac_scopes.proofs.Steps.{good-bind_at, good-remember_at, good-name_at, top-onward}
@@ -126,15 +127,33 @@ far-value c wf m m' i it side path f listed b x natural v n found =
     inner : held_tree c (inside_interface c it m') (ty.Value v) ≡ moved (inside f) (held_tree c (inside_interface c it m) (ty.Value v))
     inner = ap type_in (sym (item m') ∙ ap (λ (t : Tree). items_in t n) (sym (interface-step c wf i it listed m') ∙ natural f m' x ∙ ap (moved f) (interface-step c wf i it listed m)) ∙ ap (moved (inside f)) (item m))
 
+-- a value type that an interface exports, where an instance of it is so bound
+exported-held : (c : Collection) → IsWellFormed c → (m : Bindings) (i : InterfaceId) (it : Interface) (b : Bound) (v : ValueType) (n : Name) → item_at c.interfaces i.0 ≡ Some it → IsHeld c m (ty.Interface i) b.type → BindsInstance c it b.side b.path m → find_name it.exports n ≡ Some (kind.TypeItem (ty.Value v)) → IsHeld c m (ty.Value v) (held_tree c m (ty.Value v))
+exported-held c wf m i it b v n listed type binds f k m' x = far-value c wf m m' i it b.side b.path k listed binds x (λ y z q. type y z q ∙ ap (moved y) (sym (held-here c m (ty.Interface i) b.type type))) v n f
+
+exported-tree : (c : Collection) → IsWellFormed c → (m : Bindings) (i : InterfaceId) (it : Interface) (b : Bound) (v : ValueType) (n : Name) → item_at c.interfaces i.0 ≡ Some it → IsHeld c m (ty.Interface i) b.type → BindsInstance c it b.side b.path m → find_name it.exports n ≡ Some (kind.TypeItem (ty.Value v)) → bound_type b.side (b.path ++ named n ∷ []) (taken_from b.side b.path (items_in b.type n)) ≡ held_tree c m (ty.Value v)
+exported-tree c wf m i it b v n listed type binds f =
+    ap (λ (u : Tree). bound_type b.side (b.path ++ named n ∷ []) (taken_from b.side b.path u)) (ap (λ (t : Tree). items_in t n) (sym (held-here c m (ty.Interface i) b.type type) ∙ interface-step c wf i it listed m) ∙ listed-item c m it n (kind.TypeItem (ty.Value v)) f)
+    ∙ held-taken c it b.side b.path m binds (ty.Value v)
+
 pub has-exported : HasExported
 has-exported c wf m ms o os i it j v n g h b f holds =
     (held, stands, top-onward c m ms o (remember_at (ty.Value v) (at_export j n) o) os g (good-remember_at c m (top ms) o (envs os) (ty.Value v) (at_export j n) (held_tree c m (ty.Value v)) g.0 held (holds-value c wf m v (held_tree c m (ty.Value v)) holds held) stands) (kept-refl (env o (envs os))))
   where
     held : IsHeld c m (ty.Value v) (held_tree c m (ty.Value v))
-    held k m' x = far-value c wf m m' i it h.bound.side h.bound.path k h.listed b x (λ y z q. h.type y z q ∙ ap (moved y) (sym (held-here c m (ty.Interface i) h.bound.type h.type))) v n f
+    held = exported-held c wf m i it h.bound v n h.listed h.type b f
 
     stands : Stands (env o (envs os)) (held_tree c m (ty.Value v)) (at_export j n)
-    stands = (h.bound, h.at, ap (λ (u : Tree). bound_type h.bound.side (h.bound.path ++ named n ∷ []) (taken_from h.bound.side h.bound.path u)) (stood-item c wf m (env o (envs os)) i it j h n (kind.TypeItem (ty.Value v)) f) ∙ held-taken c it h.bound.side h.bound.path m b (ty.Value v))
+    stands = (h.bound, h.at, exported-tree c wf m i it h.bound v n h.listed h.type b f)
+
+pub exports-end : ExportsEnd
+exports-end c wf m i it b v d n listed type binds f holds is =
+    let held = exported-held c wf m i it b v n listed type binds f in (
+      held_tree c m (ty.Value v),
+      subst (λ (w : ValueType). IsHeld c m (ty.Value w) (held_tree c m (ty.Value v))) is (end-held c wf m v (held_tree c m (ty.Value v)) held),
+      holds-value c wf m v (held_tree c m (ty.Value v)) holds held,
+      exported-tree c wf m i it b v n listed type binds f,
+    )
 
 pub held-further-in : HeldFurtherIn
 held-further-in c far m k a t x h f m' y = h (λ l. f (out_by k l)) m' (λ r l e. y r (out_by k l) (x r l e)) ∙ sym (moved-moved t f (out_by k) (λ l. f (out_by k l)) refl)

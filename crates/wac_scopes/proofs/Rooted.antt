@@ -1,7 +1,6 @@
 -- A root into which definitions are written beside other items.
 use Rattle.std.specs.Prelude.{ℕ, zero, suc, ◌≡◌, ◌≤◌, ◌<◌, cond, Bool, true, false, List, [], ◌∷◌, ◌++◌, length, map, Some, None, if◌then◌else◌}
 use Rattle.std.proofs.Common.{refl, ap, ◌∙◌, sym, subst, arith}
-use Rattle.std.proofs.Math.Path.{fun_ext}
 use Rattle.std.proofs.lemmas.List.{append-nil, append_assoc}
 use Rattle.wac_shapes.specs.Name.{Name}
 use Rattle.wac_shapes.specs.declared.component.DefinedTypeId.{DefinedTypeId}
@@ -27,10 +26,11 @@ use Rattle.wac_scopes.specs.Scopes.{Content, root, ContentHasMeaning, at_type, O
 use Rattle.wac_scopes.specs.Good.{At, Good, nothing_bound, top}
 use Rattle.wac_scopes.specs.Instances.{holding}
 use Rattle.wac_scopes.specs.Inside.{RootGoesOn}
-use Rattle.wac_scopes.specs.Scoped.{type_index, value_index, at_index, recorded_type, opened, root_of}
+use Rattle.wac_scopes.specs.Scoped.{type_index, place, recorded_type, HasToo, opened, root_of}
 use Rattle.wac_scopes.specs.Rooted.{unbound, IsRightRoot, BeginsRight, StaysRight, MeansBefore, IsWrittenThere, ExportsRight}
 use Rattle.wac_scopes.proofs.Grow.{at-last, at-type_at}
-use Rattle.wac_scopes.proofs.ScopedLaws.{recorded-too}
+use Rattle.wac_scopes.proofs.Moved.{ap2}
+use Rattle.wac_scopes.proofs.ScopedLaws.{recorded-at, recorded-same, recorded-too}
 use Rattle.wac_scopes.proofs.Steps.{good-remember_at}
 
 -- what the laws of items say of one more, of earlier ones, and of two lists in a row
@@ -99,19 +99,17 @@ content-of-root (Builder items) h = refl
 content-of-root (Instance ds) h = absurd h
 content-of-root (Component ds) h = absurd h
 
-same-recorded : (old new : Scope) → ((a : AnyType) → type_index new a ≡ type_index old a) → recorded_type new ≡ recorded_type old
-same-recorded old new same = fun_ext (λ a. ap at_index (same a))
-
 pub begins-right : BeginsRight
-begins-right c s is_root none = record {
+begins-right c s is_root none unlisted = record {
   is_root = is_root;
+  unlisted = unlisted;
   right = λ means. (
     record {
       meaning = subst (λ (x : Content). ContentHasMeaning x []) (sym (content-of-root s.content is_root)) means;
       bottom = λ items e. refl;
       binds = λ r w f. let no_some : None ≡ Some w = f in cc;
       unbound = λ r b f p. let both : true ≡ false = b in cc;
-      memo = λ a w f. let no_some : None ≡ Some w = sym (ap at_index (none a)) ∙ f in cc;
+      memo = λ a w f. let no_some : None ≡ Some w = sym (ap2 place (none a) (unlisted a)) ∙ f in cc;
       named = λ n a w f. let no_some : None ≡ Some (a, w) = f in cc;
     },
     tt,
@@ -120,15 +118,16 @@ begins-right c s is_root none = record {
 }
 
 pub stays-right : RootGoesOn → Counted → Earlier → StaysRight
-stays-right goes_on counted earlier c old new more r is_root added same = record {
+stays-right goes_on counted earlier c old new more r is_root added same listed = record {
   is_root = is_root;
+  unlisted = λ a. listed a ∙ r.unlisted a;
   right = λ means.
       let all : HasMeaning (items_of old.content ++ more) = subst HasMeaning added means in
       let good : Good c (nothing_bound ∷ []) (opened old unbound ∷ []) = r.right (means-before (items_of old.content) more all) in
       let held_open : Good c (nothing_bound ∷ []) (holding (items_of old.content) (opened old unbound) ∷ []) = subst (λ (o : Open). Good c (nothing_bound ∷ []) (o ∷ [])) (λ i. record (opened old unbound) { content = (content-of-root old.content r.is_root) i }) good in
       let on = goes_on c nothing_bound (items_of old.content) more (opened old unbound) held_open all in
       let content_is : content_of new.content ≡ root (items_of old.content ++ more) = content-of-root new.content is_root ∙ ap root added in
-      let memo_is : recorded_type new ≡ recorded_type old = same-recorded old new same in
+      let memo_is : recorded_type new ≡ recorded_type old = recorded-same old new same listed in
       let new_is : opened new unbound ≡ holding (items_of old.content ++ more) (opened old unbound) = (λ i. record unbound { content = content_is i; memo = memo_is i }) in
       subst (λ (o : Open). Good c (nothing_bound ∷ []) (o ∷ [])) (sym new_is) on.0;
   written = λ means a i h.
@@ -161,7 +160,7 @@ count-of-root (Instance ds) h = absurd h
 count-of-root (Component ds) h = absurd h
 
 pub exports-right : StaysRight → OneMore → TypesCounted → NewExport → (old new : Scope) (n : Name) (d : DefinedTypeId) (i k : ℕ) → k ≡ count (space sort.Type) old.content → new.content ≡ Builder (items_of old.content ++ export_item n sort.Type i ∷ [])
-    → ((b : AnyType) → type_index new b ≡ cond (same_type b (ty.Value (val.Defined d))) (Some k) (type_index old b)) → ExportsRight old new d i
+    → HasToo old (ty.Value (val.Defined d)) k new → ExportsRight old new d i
 exports-right stays one_more types_counted new_export old new n d i k index appended too c r at =
     subst (IsRightRoot c) (λ j. record new { content = sym appended j }) there
   where
@@ -176,7 +175,7 @@ exports-right stays one_more types_counted new_export old new n d i k index appe
     mid = record old { content = Builder more }
 
     mid_right : IsRightRoot c mid
-    mid_right = stays c old mid (export_item n sort.Type i ∷ []) r tt refl (λ e. refl)
+    mid_right = stays c old mid (export_item n sort.Type i ∷ []) r tt refl (λ e. refl) (λ e. refl)
 
     index_is : k ≡ indexes (space sort.Type) items
     index_is = index ∙ count-of-root old.content r.is_root
@@ -189,21 +188,22 @@ exports-right stays one_more types_counted new_export old new n d i k index appe
 
     good : HasMeaning more → Good c (nothing_bound ∷ []) (remember_at (ty.Value (val.Defined d)) (at_type k) (opened mid unbound) ∷ [])
     good means =
-        let was = (r.right (means-before items (export_item n sort.Type i ∷ []) means)).0.memo (ty.Value (val.Defined d)) (at_type i) (ap at_index at) in
+        let was = (r.right (means-before items (export_item n sort.Type i ∷ []) means)).0.memo (ty.Value (val.Defined d)) (at_type i) (recorded-at old (ty.Value (val.Defined d)) i at) in
         let there_before : At ((meaning items).scope.types) i was.0 = subst (λ (x : Content). At ((scope_of x []).types) i was.0) (content-of-root old.content r.is_root) was.3 in
         let there_now : At ((meaning more).scope.types) k was.0 = subst (λ (j : ℕ). At ((meaning more).scope.types) j was.0) (sym index_is) (exported-at one_more types_counted items n i was.0 there_before) in
         (good-remember_at c nothing_bound (top []) (opened mid unbound) [] (ty.Value (val.Defined d)) (at_type k) was.0 (mid_right.right means).0 was.1 was.2 there_now, tt)
 
     written_now : HasMeaning more → (e : AnyType) (j : ℕ) → type_index new e ≡ Some j → (b : Bool) → same_type e (ty.Value (val.Defined d)) ≡ b → stands_for (meaning more) sort.Type j ≡ written (held_tree c nothing_bound e)
-    written_now means e j h false other = mid_right.written means e j (sym (too e ∙ ap (λ (b : Bool). cond b (Some k) (type_index old e)) other) ∙ h)
+    written_now means e j h false other = mid_right.written means e j (sym (too.types e ∙ ap (λ (b : Bool). cond b (Some k) (type_index old e)) other) ∙ h)
     written_now means e j h true same =
-        let some : Some k ≡ Some j = sym (too e ∙ ap (λ (b : Bool). cond b (Some k) (type_index old e)) same) ∙ h in
+        let some : Some k ≡ Some j = sym (too.types e ∙ ap (λ (b : Bool). cond b (Some k) (type_index old e)) same) ∙ h in
         let is : k ≡ j = cc in
         ap (λ (m : ℕ). stands_for (meaning more) sort.Type m) (sym is ∙ index_is) ∙ new_export items n i ∙ r.written (means-before items (export_item n sort.Type i ∷ []) means) (ty.Value (val.Defined d)) i at ∙ ap (λ (u : AnyType). written (held_tree c nothing_bound u)) (sym (same_type-true e (ty.Value (val.Defined d)) same))
 
     there : IsRightRoot c (exported old new n i)
     there = record {
       is_root = tt;
+      unlisted = λ e. too.listed e ∙ r.unlisted e;
       right = λ means. subst (λ (o : Open). Good c (nothing_bound ∷ []) (o ∷ [])) (sym new_is) (good means);
       written = λ means e j h. written_now means e j h (same_type e (ty.Value (val.Defined d))) refl;
     }

@@ -1,5 +1,9 @@
 -- What a scope that is written in the code says of a stack of open scopes, by the laws of steps.
-use Rattle.std.specs.Prelude.{ℕ, ◌≡◌, ◌==◌, cond, nat_eq, Bool, true, false, List, ◌∷◌, Option, Some, if◌then◌else◌}
+use Rattle.wac_scopes.specs.Faults.{encode_fault}
+use Rattle.wac_binary.specs.declared.fault.BinaryFault.{BinaryFault}
+use Rattle.wac_binary.specs.declared.fault.BinaryFault.TheVariants as binary
+use Rattle.wac_binary.specs.Fits.{TooLargeUnless}
+use Rattle.std.specs.Prelude.{ℕ, ◌≡◌, ◌==◌, cond, nat_eq, Bool, true, false, List, ◌∷◌, Option, Some, if◌then◌else◌, None, Err}
 use Rattle.std.proofs.Common.{refl, ap, ◌∙◌, sym, subst, arith}
 use Rattle.std.proofs.Math.Path.{fun_ext}
 use Rattle.wac_shapes.specs.Name.{Name}
@@ -18,37 +22,50 @@ use Rattle.wac_collection.specs.Uses.{same_type}
 use Rattle.wac_binary.specs.declared.types.ComponentValType.TheVariants.{Primitive, Index}
 use Rattle.wac_binary.specs.declared.sorts.Sort.TheVariants as s
 use Rattle.wac_binary.specs.declared.sorts.Description.TheVariants as e
-use Rattle.wac_binary.specs.Items.{ValueDef, TypeDef, ModuleDecl, Decl, decls, value_def, primitive_def, instance_def}
+use Rattle.wac_binary.specs.Items.{ValueDef, TypeDef, ModuleDecl, Decl, decls, value_def, primitive_def, instance_def, export_alias}
 use Rattle.wac_binary.specs.Indexes.{space, core_types}
 use Rattle.wac_binary.specs.Unfold.{module_tree}
 use Rattle.wac_scopes.specs.declared.encodable.Encodable.{Encodable}
 use Rattle.wac_scopes.specs.declared.scope.Scope.{Scope}
-use Rattle.wac_scopes.specs.Contents.{content_of, IsOpenType, and_type, and_core_module, and_export, count}
-use Rattle.wac_scopes.specs.Scopes.{at_type, Open, Stack, env, envs, next_type, and_def, with_def, remember_at}
+use Rattle.wac_scopes.specs.Contents.{content_of, IsOpenType, and_type, and_alias_of, and_core_module, and_export, count, ContentFits}
+use Rattle.wac_scopes.specs.Scopes.{at_type, at_export, Open, Stack, env, envs, next_type, and_def, and_alias, with_def, with_alias_of, remember_at}
 use Rattle.wac_scopes.specs.Good.{At, IsHeld, IsOf, Onward, top}
-use Rattle.wac_scopes.specs.Laws.{Adds, DefinesValue, DefinesFunc, DefinesPrimitive, IsRecorded, StandsRecorded}
+use Rattle.wac_scopes.specs.Laws.{Adds, DefinesValue, DefinesFunc, DefinesPrimitive, SettlesValue, IsRecorded, StandsRecorded}
 use Rattle.wac_scopes.specs.Listed.{Lists, ListsEqual, ListsFunc, ListsInstance}
 use Rattle.wac_scopes.specs.Modules.{and_module, module_count, with_module, DefinesModule}
-use Rattle.wac_scopes.specs.Scoped.{type_index, value_index, at_index, recorded_type, opened, IsThere, IsAt, AddsValue, AddsFunc, AddsPrimitive, AddsInstance, AddsClosed, AddsModule, ListsType, ListsValue, ListsFunction, ListsInstanceOf}
-use Rattle.wac_scopes.proofs.ContentLaws.{content-and-type, content-and-module, types-counted, modules-counted, lists-type-in, lists-function-in, lists-instance-in}
+use Rattle.wac_scopes.specs.Scoped.{type_index, value_index, listed_at, listed_type, listing, place, recorded_type, opened, HasToo, IsThere, IsAt, AliasesValue, AddsValue, AddsFunc, AddsPrimitive, AddsInstance, AddsClosed, AddsModule, ListsType, ListsValue, ListsFunction, ListsInstanceOf, AliasFits, FitsUnlessTooLarge}
+use Rattle.wac_scopes.proofs.ContentLaws.{content-and-type, content-and-alias, content-and-module, types-counted, modules-counted, lists-type-in, lists-function-in, lists-instance-in}
 use Rattle.wac_scopes.proofs.Meant.{value-type}
-use Rattle.wac_scopes.proofs.Steps.{good-remember_at}
+use Rattle.wac_scopes.proofs.Moved.{ap2}
+use Rattle.wac_scopes.proofs.Steps.{good-remember_at, some-equal}
 use Rattle.wac_scopes.proofs.Values.{primitive-held}
 
 same-number : (a b : ℕ) → nat_eq a b ≡ (b == a)
 same-number a b = grind arith
 
 -- what is recorded after one more type
-pub recorded-too : (old new : Scope) (a : AnyType) (k : ℕ) → ((b : AnyType) → type_index new b ≡ cond (same_type b a) (Some k) (type_index old b)) → recorded_type new ≡ (λ b. if same_type b a then Some (at_type k) else recorded_type old b)
-recorded-too old new a k too = fun_ext (λ b. ap at_index (too b) ∙ by_case (same_type b a) (type_index old b))
+pub recorded-too : (old new : Scope) (a : AnyType) (k : ℕ) → HasToo old a k new → recorded_type new ≡ (λ b. if same_type b a then Some (at_type k) else recorded_type old b)
+recorded-too old new a k too = fun_ext (λ b. ap2 place (too.types b) (too.listed b) ∙ by_case (same_type b a) (type_index old b) (listing old b))
   where
-    by_case : (z : Bool) (o : Option ℕ) → at_index (cond z (Some k) o) ≡ (if z then Some (at_type k) else at_index o)
-    by_case true o = refl
-    by_case false o = refl
+    by_case : (z : Bool) (o : Option ℕ) (l : Option (ℕ × Name)) → place (cond z (Some k) o) l ≡ (if z then Some (at_type k) else place o l)
+    by_case true o l = refl
+    by_case false o l = refl
 
 -- one more type after room was made for it
-pub recorded-more : (old roomy new : Scope) (a : AnyType) (k : ℕ) → ((b : AnyType) → type_index roomy b ≡ type_index old b) → ((b : AnyType) → type_index new b ≡ cond (same_type b a) (Some k) (type_index roomy b)) → (b : AnyType) → type_index new b ≡ cond (same_type b a) (Some k) (type_index old b)
-recorded-more old roomy new a k same too b = too b ∙ ap (cond (same_type b a) (Some k)) (same b)
+pub recorded-more : (old roomy new : Scope) (a : AnyType) (k : ℕ) → ((b : AnyType) → type_index roomy b ≡ type_index old b) → ((b : AnyType) → listing roomy b ≡ listing old b) → ((b : AnyType) → type_index new b ≡ cond (same_type b a) (Some k) (type_index roomy b)) → ((b : AnyType) → listing new b ≡ listing roomy b) → HasToo old a k new
+recorded-more old roomy new a k same listed too still = record { types = λ b. too b ∙ ap (cond (same_type b a) (Some k)) (same b); listed = λ b. still b ∙ listed b }
+
+-- where a type is recorded at an index
+pub recorded-at : (s : Scope) (a : AnyType) (i : ℕ) → type_index s a ≡ Some i → recorded_type s a ≡ Some (at_type i)
+recorded-at s a i is = ap (λ (o : Option ℕ). place o (listing s a)) is
+
+-- the same is recorded, and the same listed
+pub recorded-same : (old new : Scope) → ((a : AnyType) → type_index new a ≡ type_index old a) → ((a : AnyType) → listing new a ≡ listing old a) → recorded_type new ≡ recorded_type old
+recorded-same old new types listed = fun_ext (λ a. ap2 place (types a) (listed a))
+
+-- definitions are listed where they were
+pub listing-same : (old new : Scope) → ((d : DefinedTypeId) → listed_at new d ≡ listed_at old d) → (a : AnyType) → listing new a ≡ listing old a
+listing-same old new same a = ap (λ (at : DefinedTypeId → Option (ℕ × Name)). listed_type at a) (fun_ext same)
 
 -- the same is recorded where each map records the same
 pub same-types : (old new : Scope) → ((d : DefinedTypeId) → value_index new d ≡ value_index old d) → ((f : FuncTypeId) → type_index new (ty.Func f) ≡ type_index old (ty.Func f)) → ((i : InterfaceId) → type_index new (ty.Interface i) ≡ type_index old (ty.Interface i)) → (a : AnyType) → type_index new a ≡ type_index old a
@@ -98,14 +115,14 @@ interface-too old new i k values funcs too (ty.World w) = refl
 interface-too old new i k values funcs too (ty.Module m) = refl
 
 -- one type definition more, recorded
-opened-recorded : (old new : Scope) (a : AnyType) (y : TypeDef) (k : ℕ) → new.content ≡ and_type old.content y → ((b : AnyType) → type_index new b ≡ cond (same_type b a) (Some k) (type_index old b)) → (o : Open) → opened new o ≡ remember_at a (at_type k) (with_def y (opened old o))
+opened-recorded : (old new : Scope) (a : AnyType) (y : TypeDef) (k : ℕ) → new.content ≡ and_type old.content y → HasToo old a k new → (o : Open) → opened new o ≡ remember_at a (at_type k) (with_def y (opened old o))
 opened-recorded old new a y k appended too o =
     let memo_same : recorded_type new ≡ (λ b. if same_type b a then Some (at_type k) else recorded_type old b) = recorded-too old new a k too in
     let content_same : content_of new.content ≡ and_def y (content_of old.content) = ap content_of appended ∙ content-and-type old.content y in
     (λ i. record o { content = content_same i; memo = memo_same i })
 
 -- what stands at a new index may be recorded there
-adds-recorded : (old new : Scope) (a : AnyType) (y : TypeDef) (k : ℕ) → k ≡ count (space s.Type) old.content → new.content ≡ and_type old.content y → ((b : AnyType) → type_index new b ≡ cond (same_type b a) (Some k) (type_index old b)) → (c : Collection) (m : Bindings) (ms : List Bindings) (o : Open) (os : Stack) (t : Tree) → IsHeld c m a t → IsOf a t → Adds c (m ∷ ms) (opened old o ∷ os) (with_def y (opened old o) ∷ os) (next_type (opened old o)) t → Adds c (m ∷ ms) (opened old o ∷ os) (opened new o ∷ os) k t
+adds-recorded : (old new : Scope) (a : AnyType) (y : TypeDef) (k : ℕ) → k ≡ count (space s.Type) old.content → new.content ≡ and_type old.content y → HasToo old a k new → (c : Collection) (m : Bindings) (ms : List Bindings) (o : Open) (os : Stack) (t : Tree) → IsHeld c m a t → IsOf a t → Adds c (m ∷ ms) (opened old o ∷ os) (with_def y (opened old o) ∷ os) (next_type (opened old o)) t → Adds c (m ∷ ms) (opened old o ∷ os) (opened new o ∷ os) k t
 adds-recorded old new a y k index appended too c m ms o os t held sort adds =
     let next : k ≡ next_type (opened old o) = index ∙ types-counted old.content in
     let q : Open = with_def y (opened old o) in
@@ -113,22 +130,41 @@ adds-recorded old new a y k index appended too c m ms o os t held sort adds =
     subst (λ (z : Open). Adds c (m ∷ ms) (opened old o ∷ os) (z ∷ os) k t) (sym (opened-recorded old new a y k appended too o))
     (((good-remember_at c m (top ms) q (envs os) a (at_type k) t there.0.0.0 held sort there.1, there.0.0.1), there.0.1), there.1)
 
-pub adds-value : (old new : Scope) (d : DefinedTypeId) (y : ValueDef) (k : ℕ) → DefinesValue → k ≡ count (space s.Type) old.content → new.content ≡ and_type old.content (value_def y) → ((b : AnyType) → type_index new b ≡ cond (same_type b (ty.Value (val.Defined d))) (Some k) (type_index old b)) → AddsValue old new d y k
+pub adds-value : (old new : Scope) (d : DefinedTypeId) (y : ValueDef) (k : ℕ) → DefinesValue → k ≡ count (space s.Type) old.content → new.content ≡ and_type old.content (value_def y) → HasToo old (ty.Value (val.Defined d)) k new → AddsValue old new d y k
 adds-value old new d y k law index appended too c wf m ms o os x g at w =
     let r = law c wf m ms (opened old o) os d x y g at w in
     let next : k ≡ next_type (opened old o) = index ∙ types-counted old.content in
     (r.0, r.1, r.2, subst (λ (z : Open). Adds c (m ∷ ms) (opened old o ∷ os) (z ∷ os) k r.0) (sym (opened-recorded old new (ty.Value (val.Defined d)) (value_def y) k appended too o)) (subst (λ (i : ℕ). Adds c (m ∷ ms) (opened old o ∷ os) (remember_at (ty.Value (val.Defined d)) (at_type i) (with_def (value_def y) (opened old o)) ∷ os) i r.0) (sym next) r.3))
 
+-- an alias of what an instance lists
+pub aliases-value : (old new : Scope) (d : DefinedTypeId) (k j : ℕ) (n : Name) → SettlesValue → value_index old d ≡ None → listed_at old d ≡ Some (j, n) → k ≡ count (space s.Type) old.content → new.content ≡ and_alias_of old.content j n → HasToo old (ty.Value (val.Defined d)) k new → AliasesValue old new d k
+aliases-value old new d k j n law none listed index appended too c m ms o os g =
+    let there = g.0.memo (ty.Value (val.Defined d)) (at_export j n) (ap2 place none listed) in
+    let r = law c m ms (opened old o) os (val.Defined d) j n there.0 g there.1 there.2 there.3 in
+    let next : k ≡ next_type (opened old o) = index ∙ types-counted old.content in
+    let memo_same : recorded_type new ≡ (λ b. if same_type b (ty.Value (val.Defined d)) then Some (at_type k) else recorded_type old b) = recorded-too old new (ty.Value (val.Defined d)) k too in
+    let content_same : content_of new.content ≡ and_alias (export_alias s.Type j n) (content_of old.content) = ap content_of appended ∙ content-and-alias old.content j n in
+    let same : opened new o ≡ remember_at (ty.Value (val.Defined d)) (at_type k) (with_alias_of (export_alias s.Type j n) (opened old o)) = (λ i. record o { content = content_same i; memo = memo_same i }) in
+    (there.0, there.1, there.2, subst (λ (z : Open). Adds c (m ∷ ms) (opened old o ∷ os) (z ∷ os) k there.0) (sym same) (subst (λ (i : ℕ). Adds c (m ∷ ms) (opened old o ∷ os) (remember_at (ty.Value (val.Defined d)) (at_type i) (with_alias_of (export_alias s.Type j n) (opened old o)) ∷ os) i there.0) (sym next) r))
+
+pub alias-large : (A B : Type 0) (old : Scope) (d : DefinedTypeId) (j : ℕ) (n : Name) (x : Encodable) (f : BinaryFault) → listed_at old d ≡ Some (j, n) → x ≡ old.content → TooLargeUnless {T = A} (Err f) (ContentFits (and_alias_of x j n)) → FitsUnlessTooLarge {A = B} (Err (encode_fault f)) (AliasFits old d)
+alias-large A B old d j n x binary.TooLarge there same h = λ fits. h (subst (λ (y : Encodable). ContentFits (and_alias_of y j n)) (sym same) (fits j n there))
+alias-large A B old d j n x binary.OutOfMemory there same h = tt
+
+-- it is listed at one place
+pub same-place : (s : Scope) (d : DefinedTypeId) (l m : ℕ × Name) → listed_at s d ≡ Some l → listed_at s d ≡ Some m → l ≡ m
+same-place s d l m a b = some-equal l m (sym a ∙ b)
+
 -- one type definition more, of which nothing is recorded
 opened-and-type : (old : Scope) (x : Encodable) (y : TypeDef) → x ≡ and_type old.content y → (o : Open) → opened (record old { content = x }) o ≡ with_def y (opened old o)
 opened-and-type old x y appended o = let content_same : content_of x ≡ and_def y (content_of old.content) = ap content_of appended ∙ content-and-type old.content y in (λ i. record o { content = content_same i; memo = recorded_type old })
 
-pub adds-func : (old new : Scope) (f : FuncTypeId) (y : TypeDef) (k : ℕ) → DefinesFunc → k ≡ count (space s.Type) old.content → new.content ≡ and_type old.content y → ((b : AnyType) → type_index new b ≡ cond (same_type b (ty.Func f)) (Some k) (type_index old b)) → AddsFunc old new f y k
+pub adds-func : (old new : Scope) (f : FuncTypeId) (y : TypeDef) (k : ℕ) → DefinesFunc → k ≡ count (space s.Type) old.content → new.content ≡ and_type old.content y → HasToo old (ty.Func f) k new → AddsFunc old new f y k
 adds-func old new f y k law index appended too c wf m ms o os v g at w =
     let r = law c wf m ms (opened old o) os f v y g at w in
     (r.0, r.1, r.2, adds-recorded old new (ty.Func f) y k index appended too c m ms o os r.0 r.1 r.2 r.3)
 
-pub adds-instance : (old new : Scope) (i : InterfaceId) (ds : List Decl) (k : ℕ) → k ≡ count (space s.Type) old.content → new.content ≡ and_type old.content (instance_def (decls ds)) → ((b : AnyType) → type_index new b ≡ cond (same_type b (ty.Interface i)) (Some k) (type_index old b)) → AddsInstance old new i ds k
+pub adds-instance : (old new : Scope) (i : InterfaceId) (ds : List Decl) (k : ℕ) → k ≡ count (space s.Type) old.content → new.content ≡ and_type old.content (instance_def (decls ds)) → HasToo old (ty.Interface i) k new → AddsInstance old new i ds k
 adds-instance old new i ds k index appended too c m ms o os t held inst adds = adds-recorded old new (ty.Interface i) (instance_def (decls ds)) k index appended too c m ms o os t held inst adds
 
 pub adds-primitive : (old : Scope) (x : Encodable) (p : PrimitiveType) (k : ℕ) → DefinesPrimitive → k ≡ count (space s.Type) old.content → x ≡ and_type old.content (value_def (primitive_def p)) → AddsPrimitive old (record old { content = x }) p k
@@ -161,7 +197,7 @@ lists-function old x n i law in_type appended c m ms o os t = lists-function-in 
 pub lists-instance-of : (old : Scope) (x : Encodable) (n : Name) (i k : ℕ) → ListsInstance → IsOpenType old.content → k ≡ count (space s.Instance) old.content → x ≡ and_export old.content n (e.Instance i) → ListsInstanceOf old (record old { content = x }) n i k
 lists-instance-of old x n i k law in_type index appended c m ms o os t = lists-instance-in law old.content x n i k in_type index appended c m ms (record o { memo = recorded_type old }) os t
 
-pub lists-value : (old new : Scope) (n : Name) (d : DefinedTypeId) (i k : ℕ) → ListsEqual → IsOpenType old.content → k ≡ count (space s.Type) old.content → new.content ≡ and_export old.content n (e.Equal i) → ((b : AnyType) → type_index new b ≡ cond (same_type b (ty.Value (val.Defined d))) (Some k) (type_index old b)) → ListsValue old new n d i k
+pub lists-value : (old new : Scope) (n : Name) (d : DefinedTypeId) (i k : ℕ) → ListsEqual → IsOpenType old.content → k ≡ count (space s.Type) old.content → new.content ≡ and_export old.content n (e.Equal i) → HasToo old (ty.Value (val.Defined d)) k new → ListsValue old new n d i k
 lists-value old new n d i k law in_type index appended too c m ms o os t g free held value at =
     let named_ : Open = opened (record old { content = new.content }) o in
     let r = lists-type old new.content n i k law in_type index appended c m ms o os t g free (value-type t value) at in
@@ -181,7 +217,7 @@ pub there-primitive : (scope : Scope) (v : ValueType) (p : PrimitiveType) → v 
 there-primitive scope v p is = subst (λ (u : ValueType). IsThere scope u (Primitive p)) (sym is) (λ c m ms o os g. (primitive p, primitive-held c m p, refl))
 
 pub there-index : (scope : Scope) (v : ValueType) (d : DefinedTypeId) (i : ℕ) → v ≡ val.Defined d → IsRecorded → value_index scope d ≡ Some i → IsThere scope v (Index i)
-there-index scope v d i of_defined law is = subst (λ (u : ValueType). IsThere scope u (Index i)) (sym of_defined) (λ c m ms o os g. law c m ms (opened scope o) os (val.Defined d) i g (ap at_index is))
+there-index scope v d i of_defined law is = subst (λ (u : ValueType). IsThere scope u (Index i)) (sym of_defined) (λ c m ms o os g. law c m ms (opened scope o) os (val.Defined d) i g (recorded-at scope (ty.Value (val.Defined d)) i is))
 
 pub at-recorded : (scope : Scope) (a : AnyType) (k : ℕ) → StandsRecorded → type_index scope a ≡ Some k → IsAt scope a k
-at-recorded scope a k law is = λ c m ms o os g. law c m ms (opened scope o) os a k g (ap at_index is)
+at-recorded scope a k law is = λ c m ms o os g. law c m ms (opened scope o) os a k g (recorded-at scope a k is)

@@ -1,5 +1,5 @@
 -- What one more type index, or one more record, keeps.
-use Rattle.std.specs.Prelude.{ℕ, suc, ◌≡◌, ◌==◌, Bool, true, false, List, [], ◌∷◌, ◌++◌, Some, None, if◌then◌else◌}
+use Rattle.std.specs.Prelude.{ℕ, suc, ◌≡◌, ◌==◌, Bool, true, false, List, [], ◌∷◌, ◌++◌, Some, None, if◌then◌else◌, Option}
 use Rattle.std.proofs.Common.{refl, ap, ◌∙◌, sym, subst}
 use Rattle.std.proofs.lemmas.Bool.{eqb-true}
 use Rattle.wac_shapes.specs.Name.{Name, same_name}
@@ -63,6 +63,17 @@ good-remember_at c m mo o out a w t h held sort at = record {
     found : (b : AnyType) (p : Where) (z : Bool) → same_type b a ≡ z → (if z then Some w else o.memo b) ≡ Some p → (x : Tree) × IsHeld c m b x × IsOf b x × Stands (env o out) x p
     found b p true e f = let same : b ≡ a = same_type-true b a e in (t, subst (λ (x : AnyType). IsHeld c m x t) (sym same) held, subst (λ (x : AnyType). IsOf x t) (sym same) sort, subst (Stands (env o out) t) (some-equal w p f) at)
     found b p false e f = h.memo b p f
+
+-- recording other types
+pub good-recorded : (c : Collection) (m mo : Bindings) (o : Open) (out : List Scope) (f : AnyType → Option Where) → GoodScope c m mo o out → ((a : AnyType) (w : Where) → f a ≡ Some w → (t : Tree) × IsHeld c m a t × IsOf a t × Stands (env o out) t w) → GoodScope c m mo (record o { memo = f }) out
+good-recorded c m mo o out f h there = record {
+  meaning = h.meaning;
+  bottom = h.bottom;
+  binds = h.binds;
+  unbound = h.unbound;
+  memo = there;
+  named = h.named;
+}
 
 -- recording a type under a name
 pub good-name_at : (c : Collection) (m mo : Bindings) (o : Open) (out : List Scope) (n : Name) (a : AnyType) (w : Where) (t : Tree) → GoodScope c m mo o out → IsHeld c m a t → Stands (env o out) t w → GoodScope c m mo (name_at n a w o) out

@@ -107,6 +107,10 @@ defined-held c wf m e d x y at w f m' k = defined-step c wf d x at m' ∙ writte
 pub alias-held : (c : Collection) → IsWellFormed c → (m : Bindings) (d : DefinedTypeId) (v : ValueType) (t : Tree) → item_at c.defined d.0 ≡ Some (def.Alias v) → IsHeld c m (ty.Value v) t → IsHeld c m (ty.Value (val.Defined d)) t
 alias-held c wf m d v t at h f m' k = defined-step c wf d (def.Alias v) at m' ∙ h f m' k
 
+-- and what it names is what the alias is
+pub alias-end : (c : Collection) → IsWellFormed c → (m : Bindings) (d : DefinedTypeId) (v : ValueType) (t : Tree) → item_at c.defined d.0 ≡ Some (def.Alias v) → IsHeld c m (ty.Value (val.Defined d)) t → IsHeld c m (ty.Value v) t
+alias-end c wf m d v t at h f m' k = sym (defined-step c wf d (def.Alias v) at m') ∙ h f m' k
+
 -- a function type that is written so is held
 pub func-held : (c : Collection) → IsWellFormed c → (m : Bindings) (e : Scope) (out : List Scope) (f : FuncTypeId) (x : FuncType) (d : TypeDef) → item_at c.funcs f.0 ≡ Some x → IsWrittenFunc c m e x d → IsHeld c m (ty.Func f) (tree_of d e out)
 func-held c wf m e out f x (func_def is_async xs y) at w g m' k =

@@ -2,7 +2,8 @@
 use Rattle.std.specs.Prelude.{ℕ, List, [], ◌∷◌, ◌++◌}
 use Rattle.wac_shapes.specs.Name.{Name}
 use Rattle.wac_binary.specs.declared.sorts.Description.{Description}
-use Rattle.wac_binary.specs.Items.{TypeDef, ModuleDecl, core_type_decl, type_decl, export_decl, Item, core_type, type_item, import_item}
+use Rattle.wac_binary.specs.declared.sorts.Sort.TheVariants as s
+use Rattle.wac_binary.specs.Items.{TypeDef, ModuleDecl, core_type_decl, type_decl, export_decl, export_alias, alias_decl, Item, core_type, type_item, alias_item, import_item}
 use Rattle.wac_binary.specs.Indexes.{indexes, declared}
 use Rattle.wac_binary.specs.Fits.{Fits, DeclarationsFit}
 use Rattle.wac_scopes.specs.declared.encodable.Encodable.{Encodable}
@@ -37,6 +38,12 @@ abbrev pub and_type : Encodable → TypeDef → Encodable
 and_type (Builder items) t = Builder (items ++ type_item t ∷ [])
 and_type (Instance ds) t = Instance (ds ++ type_decl t ∷ [])
 and_type (Component ds) t = Component (ds ++ type_decl t ∷ [])
+
+-- one alias more, of a type that an instance exports
+abbrev pub and_alias_of : Encodable → (instance : ℕ) → Name → Encodable
+and_alias_of (Builder items) j n = Builder (items ++ alias_item (export_alias s.Type j n) ∷ [])
+and_alias_of (Instance ds) j n = Instance (ds ++ alias_decl (export_alias s.Type j n) ∷ [])
+and_alias_of (Component ds) j n = Component (ds ++ alias_decl (export_alias s.Type j n) ∷ [])
 
 -- one core module type more
 abbrev pub and_core_module : Encodable → List ModuleDecl → Encodable

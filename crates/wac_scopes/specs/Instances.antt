@@ -4,18 +4,21 @@ use Rattle.wac_shapes.specs.Name.{Name, find_name, option_case}
 use Rattle.wac_shapes.specs.declared.component.ResourceId.{ResourceId}
 use Rattle.wac_shapes.specs.declared.component.InterfaceId.{InterfaceId}
 use Rattle.wac_shapes.specs.declared.component.Interface.{Interface}
+use Rattle.wac_shapes.specs.declared.component.DefinedTypeId.{DefinedTypeId}
 use Rattle.wac_shapes.specs.declared.component.ValueType.{ValueType}
+use Rattle.wac_shapes.specs.declared.component.ValueType.TheVariants as val
 use Rattle.wac_shapes.specs.declared.component.«Type».{«Type» as AnyType}
 use Rattle.wac_shapes.specs.declared.component.«Type».TheVariants as ty
 use Rattle.wac_shapes.specs.declared.component.ItemKind.TheVariants as kind
-use Rattle.wac_collection.specs.Tree.{Side, imported, Place, position, named, Tree, resource, out_by, seen_from}
+use Rattle.wac_collection.specs.Tree.{Side, imported, Place, position, named, Tree, resource, out_by, seen_from, taken_from, items_in}
 use Rattle.wac_collection.specs.Collection.{Collection, IsWellFormed, item_at, holds_value}
+use Rattle.wac_collection.specs.Aliases.{value_resolved}
 use Rattle.wac_collection.specs.Bound.{Bindings, own_name, inside_interface, held_tree}
 use Rattle.wac_binary.specs.declared.sorts.Description.{Description}
 use Rattle.wac_binary.specs.declared.sorts.Description.TheVariants as e
 use Rattle.wac_binary.specs.Indexes.{space, described_sort, indexes}
 use Rattle.wac_binary.specs.Items.{Item, import_item}
-use Rattle.wac_binary.specs.Unfold.{Scope, Bound, described_item}
+use Rattle.wac_binary.specs.Unfold.{Scope, Bound, bound_type, described_item}
 use Rattle.wac_binary.specs.Meaning.{import_at, stands_for, meaning}
 use Rattle.wac_binary.specs.HasMeaning.{IsValue, IsType, IsFunction, IsInstance, IsModule, IsNew}
 use Rattle.wac_scopes.specs.Scopes.{root, Where, at_type, at_export, Open, Stack, env, envs, next_type, next_instance, bind_at, remember_at, name_at}
@@ -49,6 +52,17 @@ HasExported = (c : Collection) → IsWellFormed c → (m : Bindings) (ms : List 
     → BindsInstance c it h.bound.side h.bound.path m → find_name it.exports n ≡ Some (kind.TypeItem (ty.Value v)) → holds_value c v ≡ true
     → IsHeld c m (ty.Value v) (held_tree c m (ty.Value v)) × Stands (env o (envs os)) (held_tree c m (ty.Value v)) (at_export j n)
     × Onward c (m ∷ ms) (o ∷ os) (remember_at (ty.Value v) (at_export j n) o ∷ os)
+
+-- an instance that is so bound exports under this name what the definition is held as, a value type
+abbrev pub Exports : Collection → Bindings → Bound → DefinedTypeId → Name → Type 0
+Exports c m b d n = (t : Tree) × IsHeld c m (ty.Value (val.Defined d)) t × IsValue t × (bound_type b.side (b.path ++ named n ∷ []) (taken_from b.side b.path (items_in b.type n)) ≡ t)
+
+-- and so it exports the definition at which the aliases of such a value type end
+abbrev pub ExportsEnd : Type 0
+ExportsEnd = (c : Collection) → IsWellFormed c → (m : Bindings) (i : InterfaceId) (it : Interface) (b : Bound) (v : ValueType) (d : DefinedTypeId) (n : Name)
+    → item_at c.interfaces i.0 ≡ Some it → IsHeld c m (ty.Interface i) b.type → BindsInstance c it b.side b.path m
+    → find_name it.exports n ≡ Some (kind.TypeItem (ty.Value v)) → holds_value c v ≡ true → value_resolved c v ≡ val.Defined d
+    → Exports c m b d n
 
 -- what is held as a value type is one
 abbrev pub HoldsValue : Type 0

@@ -14,27 +14,29 @@ use Rattle.wac_scopes.specs.declared.scope.Scope.{Scope}
 use Rattle.wac_scopes.specs.Contents.{IsRoot, items_of}
 use Rattle.wac_scopes.specs.Scopes.{Open, opening}
 use Rattle.wac_scopes.specs.Good.{At, Good, nothing_bound}
-use Rattle.wac_scopes.specs.Scoped.{type_index, value_index, opened, root_of}
+use Rattle.wac_scopes.specs.Scoped.{type_index, value_index, listing, opened, root_of}
 
 -- nothing is recorded
 abbrev pub unbound : Open
 unbound = opening (λ r. false)
 
--- a root where nothing is bound, alone: as far as what is written has a meaning, what is recorded is right, and is written there
+-- a root where nothing is bound, alone, in which no instance lists a type: as far as what is written has a meaning, what is recorded is right,
+-- and is written there
 pub record IsRightRoot (c : Collection) (s : Scope) : Type 0 where
   pub is_root : IsRoot s.content
+  pub unlisted : (a : AnyType) → listing s a ≡ None
   pub right : HasMeaning (items_of s.content) → Good c (nothing_bound ∷ []) (opened s unbound ∷ [])
   pub written : HasMeaning (items_of s.content) → (a : AnyType) (i : ℕ) → type_index s a ≡ Some i
       → stands_for (root_of s) sort.Type i ≡ written (held_tree c nothing_bound a)
 
 -- a root in which nothing is recorded is such, whatever its items are
 abbrev pub BeginsRight : Type 0
-BeginsRight = (c : Collection) (s : Scope) → IsRoot s.content → ((a : AnyType) → type_index s a ≡ None) → IsRightRoot c s
+BeginsRight = (c : Collection) (s : Scope) → IsRoot s.content → ((a : AnyType) → type_index s a ≡ None) → ((a : AnyType) → listing s a ≡ None) → IsRightRoot c s
 
 -- and stays such as items are added and nothing is recorded
 abbrev pub StaysRight : Type 0
 StaysRight = (c : Collection) (old new : Scope) (more : List Item) → IsRightRoot c old → IsRoot new.content → items_of new.content ≡ items_of old.content ++ more
-    → ((a : AnyType) → type_index new a ≡ type_index old a) → IsRightRoot c new
+    → ((a : AnyType) → type_index new a ≡ type_index old a) → ((a : AnyType) → listing new a ≡ listing old a) → IsRightRoot c new
 
 -- items that have a meaning have one without the last of them
 abbrev pub MeansBefore : Type 0

@@ -1,5 +1,5 @@
 -- What a scope that is written in the code says of a stack of open scopes, whatever else is recorded there and around it.
-use Rattle.std.specs.Prelude.{ℕ, ◌≡◌, cond, nat_eq, List, [], ◌∷◌, ◌++◌, length, Option, Some, None, Result, Ok, Err}
+use Rattle.std.specs.Prelude.{ℕ, ◌≡◌, cond, nat_eq, List, [], ◌∷◌, ◌++◌, length, Option, Some, None, slice_get, Result, Ok, Err}
 use Rattle.wac_shapes.specs.Name.{Name}
 use Rattle.wac_shapes.specs.declared.component.PrimitiveType.{PrimitiveType}
 use Rattle.std.specs.HashMap.{get}
@@ -28,14 +28,15 @@ use Rattle.wac_scopes.specs.declared.encodable.Encodable.{Encodable}
 use Rattle.wac_scopes.specs.declared.encodable.Encodable.TheVariants.{Builder, Instance, Component}
 use Rattle.wac_scopes.specs.declared.fault.EncodeFault.{EncodeFault}
 use Rattle.wac_scopes.specs.declared.fault.EncodeFault.TheVariants as fault
+use Rattle.wac_scopes.specs.declared.scope.Listed.{Listed}
 use Rattle.wac_scopes.specs.declared.scope.Scope.{Scope}
-use Rattle.wac_scopes.specs.Contents.{content_of, items_of}
-use Rattle.wac_scopes.specs.Scopes.{Where, at_type, Open, Stack, env, envs, next_type, with_def}
+use Rattle.wac_scopes.specs.Contents.{content_of, items_of, and_alias_of, ContentFits}
+use Rattle.wac_scopes.specs.Scopes.{Where, at_type, at_export, Open, Stack, env, envs, next_type, with_def}
 use Rattle.wac_scopes.specs.Good.{At, IsHeld, IsOf, Good, Onward}
 use Rattle.wac_scopes.specs.Parts.{Is, IsWritten, IsWrittenFunc}
 use Rattle.wac_scopes.specs.Laws.{Adds}
 use Rattle.wac_scopes.specs.Listed.{IsNewName, Lists}
-use Rattle.wac_scopes.specs.Instances.{IsNewImport, position_of}
+use Rattle.wac_scopes.specs.Instances.{Exports, IsNewImport, position_of}
 
 -- the type index of a definition, a function type or an interface, where it is written
 abbrev pub type_index : Scope → AnyType → Option ℕ
@@ -47,12 +48,30 @@ type_index s a = None
 abbrev pub value_index : Scope → DefinedTypeId → Option ℕ
 value_index s d = type_index s (ty.Value (val.Defined d))
 
-abbrev pub at_index : Option ℕ → Option Where
-at_index None = None
-at_index (Some i) = Some (at_type i)
+-- where an instance lists a definition as a type item: the instance's index, and the name of its export
+abbrev pub place_of : Option Listed → Option (ℕ × Name)
+place_of None = None
+place_of (Some l) = Some (l.instance, l.name)
+
+abbrev pub listed_at : Scope → DefinedTypeId → Option (ℕ × Name)
+listed_at s d = place_of (get (λ a b. nat_eq a.0 b.0) s.listed d)
+
+-- and so of any type, where definitions are listed there
+abbrev pub listed_type : (DefinedTypeId → Option (ℕ × Name)) → AnyType → Option (ℕ × Name)
+listed_type at (ty.Value (val.Defined d)) = at d
+listed_type at a = None
+
+abbrev pub listing : Scope → AnyType → Option (ℕ × Name)
+listing s a = listed_type (listed_at s) a
+
+-- at its type index; or else as the export of an instance that lists it
+abbrev pub place : Option ℕ → Option (ℕ × Name) → Option Where
+place (Some i) l = Some (at_type i)
+place None (Some l) = Some (at_export l.0 l.1)
+place None None = None
 
 abbrev pub recorded_type : Scope → AnyType → Option Where
-recorded_type s a = at_index (type_index s a)
+recorded_type s a = place (type_index s a) (listing s a)
 
 -- the value type in use that says a held one
 abbrev pub by_index : Option ℕ → Option ComponentValType
@@ -82,14 +101,35 @@ abbrev pub IsAt : Scope → AnyType → ℕ → Type 0
 IsAt s a k = (c : Collection) (m : Bindings) (ms : List Bindings) (o : Open) (os : Stack)
     → Good c (m ∷ ms) (opened s o ∷ os) → (t : Tree) × IsHeld c m a t × IsOf a t × At ((env (opened s o) (envs os)).types) k t
 
--- with one more type at an index
+-- with one more type at an index; instances list what they listed
 pub record HasToo (old : Scope) (a : AnyType) (i : ℕ) (new : Scope) : Type 0 where
   pub types : (b : AnyType) → type_index new b ≡ cond (same_type b a) (Some i) (type_index old b)
+  pub listed : (b : AnyType) → listing new b ≡ listing old b
 
 -- the same is written, and the same recorded
 pub record IsAsBefore (old new : Scope) : Type 0 where
   pub content : new.content ≡ old.content
   pub types : (a : AnyType) → type_index new a ≡ type_index old a
+  pub listed : (a : AnyType) → listing new a ≡ listing old a
+
+-- the first of two that is there
+abbrev pub first_of : Option (ℕ × Name) → Option (ℕ × Name) → Option (ℕ × Name)
+first_of (Some l) m = Some l
+first_of None m = m
+
+-- an instance lists the definition under this name
+abbrev pub listed_by : ℕ → DefinedTypeId × Name → DefinedTypeId → Option (ℕ × Name)
+listed_by k e d = cond (nat_eq e.0.0 d.0) (Some (k, e.1)) None
+
+-- where definitions are listed that were listed there, once an instance lists these too, the last of them first: the first place stays
+abbrev pub listed_too : ℕ → List (DefinedTypeId × Name) → (DefinedTypeId → Option (ℕ × Name)) → DefinedTypeId → Option (ℕ × Name)
+listed_too k [] at d = at d
+listed_too k (e ∷ es) at d = first_of (listed_too k es at d) (listed_by k e d)
+
+-- with what an instance lists more
+pub record AlsoLists (old : Scope) (k : ℕ) (es : List (DefinedTypeId × Name)) (new : Scope) : Type 0 where
+  pub types : (a : AnyType) → type_index new a ≡ type_index old a
+  pub listed : (d : DefinedTypeId) → listed_at new d ≡ listed_too k es (listed_at old) d
 
 -- where the definition that is written says the held one, index k is the held value type, and each good stack goes onward
 abbrev pub AddsValue : Scope → Scope → DefinedTypeId → ValueDef → ℕ → Type 0
@@ -102,6 +142,19 @@ abbrev pub AddsFunc : Scope → Scope → FuncTypeId → TypeDef → ℕ → Typ
 AddsFunc old new f y k = (c : Collection) → IsWellFormed c → (m : Bindings) (ms : List Bindings) (o : Open) (os : Stack) (x : FuncType)
     → Good c (m ∷ ms) (opened old o ∷ os) → item_at c.funcs f.0 ≡ Some x → IsWrittenFunc c m (env (opened old o) (envs os)) x y
     → (t : Tree) × IsHeld c m (ty.Func f) t × IsFunction t × Adds c (m ∷ ms) (opened old o ∷ os) (opened new o ∷ os) k t
+
+-- where an instance lists the definition, index k is the held value type, and each good stack goes onward
+abbrev pub AliasesValue : Scope → Scope → DefinedTypeId → ℕ → Type 0
+AliasesValue old new d k = (c : Collection) (m : Bindings) (ms : List Bindings) (o : Open) (os : Stack)
+    → Good c (m ∷ ms) (opened old o ∷ os) → (t : Tree) × IsHeld c m (ty.Value (val.Defined d)) t × IsValue t × Adds c (m ∷ ms) (opened old o ∷ os) (opened new o ∷ os) k t
+
+-- the alias of the instance's export that lists the definition is written
+abbrev pub IsAliased : Scope → DefinedTypeId → Encodable → Type 0
+IsAliased old d content = (j : ℕ) (n : Name) → listed_at old d ≡ Some (j, n) → content ≡ and_alias_of old.content j n
+
+-- it fits behind what is written
+abbrev pub AliasFits : Scope → DefinedTypeId → Type 0
+AliasFits s d = (j : ℕ) (n : Name) → listed_at s d ≡ Some (j, n) → ContentFits (and_alias_of s.content j n)
 
 -- index k is the primitive type, and each good stack goes onward
 abbrev pub AddsPrimitive : Scope → Scope → PrimitiveType → ℕ → Type 0
@@ -193,6 +246,13 @@ imported_at t items = record { type = t; side = imported; path = position_of ite
 abbrev pub RootImportsInstance : Scope → Scope → Name → ℕ → ℕ → Type 0
 RootImportsInstance old new n i k = (c : Collection) (m : Bindings) (ms : List Bindings) (o : Open) (os : Stack) (t : Tree)
     → Good c (m ∷ ms) (opened old o ∷ os) → IsNewInRoot old n → IsInstance t → At ((env (opened old o) (envs os)).types) i t
+    → RootImports c (m ∷ ms) old new o os s.Instance k n (instance_item t) × At ((env (opened new o) (envs os)).instances) k (imported_at t (items_of old.content))
+
+-- the same, where the instance exports these definitions as the held value types
+abbrev pub RootImportsListing : Scope → Scope → Name → ℕ → List (DefinedTypeId × Name) → ℕ → Type 0
+RootImportsListing old new n i es k = (c : Collection) (m : Bindings) (ms : List Bindings) (o : Open) (os : Stack) (t : Tree)
+    → Good c (m ∷ ms) (opened old o ∷ os) → IsNewInRoot old n → IsInstance t → At ((env (opened old o) (envs os)).types) i t
+    → ((p : ℕ) (e : DefinedTypeId × Name) → slice_get es p ≡ Some e → Exports c m (imported_at t (items_of old.content)) e.0 e.1)
     → RootImports c (m ∷ ms) old new o os s.Instance k n (instance_item t) × At ((env (opened new o) (envs os)).instances) k (imported_at t (items_of old.content))
 
 -- and a core module of the core module type at index i

@@ -7,13 +7,13 @@ ghost use Rattle.wac_binary.specs.Indexes.{space, core_types, described_sort};
 ghost use Rattle.wac_binary.specs.declared.sorts.Description.TheVariants as e;
 ghost use Rattle.wac_binary.specs.Items.{value_def, component_def, instance_def, decls};
 ghost use Rattle.wac_binary.specs.Views.{defined_of, func_of};
-ghost use Rattle.wac_scopes.specs.Contents.{IsRoot, IsOpenType, and_type, and_core_module, and_export, and_import, count, ContentFits};
+ghost use Rattle.wac_scopes.specs.Contents.{IsRoot, IsOpenType, and_type, and_alias_of, and_core_module, and_export, and_import, count, ContentFits};
 ghost use Rattle.wac_scopes.specs.Scoped.{RecordsUnlessTooLarge};
 
 use crate::fault::EncodeFault;
 use wac_binary::{
     BinaryFault, ComponentBuilder, ComponentType, DefinedType, Description, FuncType, InstanceType,
-    ModuleType,
+    ModuleType, Sort,
 };
 
 /// What is being written in a scope: a component, or a type that is open.
@@ -85,6 +85,20 @@ impl Encodable {
             Encodable::Builder(content) => content.func_type(f),
             Encodable::Instance(content) => content.func_type(f),
             Encodable::Component(content) => content.func_type(f),
+        }
+    }
+
+    /// Writes an alias of a type that an instance exports, and answers its type index.
+    pub(crate) fn alias_of(&mut self, instance: u32, name: &str) -> Result<u32, BinaryFault>
+        ensures index { IfOk result (λ i. i ≡ count (space s.Type) self.old) }
+        ensures appended { OnOk result (self.new ≡ and_alias_of self.old instance name.now) }
+        ensures refused { OnErr result (self.new ≡ self.old) }
+        ensures too_large { TooLargeUnless result (ContentFits (and_alias_of self.old instance name.now)) }
+    {
+        match self {
+            Encodable::Builder(content) => content.alias_export(Sort::Type, instance, name),
+            Encodable::Instance(content) => content.alias_export(Sort::Type, instance, name),
+            Encodable::Component(content) => content.alias_export(Sort::Type, instance, name),
         }
     }
 

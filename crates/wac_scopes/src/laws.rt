@@ -2,7 +2,7 @@
 
 ghost use Rattle.wac_scopes.specs.Laws.{DefinesValue, DefinesFunc, DefinesPrimitive, DefinesHandles, Reaches, BringsResource, BringsType, SettlesResource, SettlesValue, GoesOnAround, Follows, StaysIs, IsRecorded, StandsRecorded, IsItsTree, IsItsEnd, StaysOnward};
 ghost use Rattle.wac_scopes.specs.Listed.{ListsEqual, ListsFresh, ListsFunc, ListsComponent, ListsModule, ListsInstance, ListsOneMore, ListsInAnyOrder, OpensInterface, ClosesInstance, HoldsInterface, OpensWorld, TurnsToExports, ClosesComponent, HoldsWorld, FreshInInterface, CallsOwn};
-ghost use Rattle.wac_scopes.specs.Instances.{BindsOwn, HasExported, HeldFurtherIn, CalledInside, HoldsValue, NamesType, ImportsInstance, ImportsType, ImportsFresh, ImportsFunc, ImportsModule, ListsImport};
+ghost use Rattle.wac_scopes.specs.Instances.{BindsOwn, HasExported, ExportsEnd, HeldFurtherIn, CalledInside, HoldsValue, NamesType, ImportsInstance, ImportsType, ImportsFresh, ImportsFunc, ImportsModule, ListsImport};
 ghost use Rattle.wac_scopes.specs.Inside.{ByStep, ByItem, ByBoth, KeepsIs, SettlesThere, HasIndexHere, HasIndexAround, StartsRoot, RootGoesOn, RootBindsMore};
 ghost use Rattle.wac_scopes.specs.Beside.{GoesOnBeside};
 ghost use Rattle.wac_scopes.specs.Reads.{Reads};
@@ -75,6 +75,7 @@ pub fn closing_law()
 pub fn instance_law()
     ensures binds_own { BindsOwn }
     ensures has_exported { HasExported }
+    ensures exports_end { ExportsEnd }
     ensures held_further_in { HeldFurtherIn }
     ensures called_inside { CalledInside }
     ensures names_type { NamesType }

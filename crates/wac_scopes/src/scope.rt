@@ -1,6 +1,6 @@
 //! An open scope: what is written there, and where types stand among it.
 
-ghost use Rattle.std.specs.Prelude.{◌≡◌, ◌<◌, ◌++◌, ◌∷◌, [], IfOk, OnOk, OnErr, IfSome, None};
+ghost use Rattle.std.specs.Prelude.{◌≡◌, ◌<◌, ◌≤◌, ◌+◌, ◌++◌, ◌∷◌, [], length, IfOk, OnOk, OnErr, IfSome, IsSome, None, is_some};
 ghost use Rattle.std.specs.HashMap.{spare};
 ghost use Rattle.wac_shapes.specs.declared.component.ValueType.TheVariants as val;
 ghost use Rattle.wac_shapes.specs.declared.component.«Type».{«Type» as AnyType};
@@ -13,7 +13,7 @@ ghost use Rattle.wac_binary.specs.Indexes.{space};
 ghost use Rattle.wac_binary.specs.Views.{arguments_of, defined_of, func_of};
 ghost use Rattle.wac_scopes.specs.declared.encodable.Encodable.TheVariants.{Builder};
 ghost use Rattle.wac_scopes.specs.Contents.{IsRoot, IsOpenType, and_type, and_core_module, and_export, and_import, count, items_of, ContentFits};
-ghost use Rattle.wac_scopes.specs.Scoped.{IfThere, IsThere, AddsValue, AddsFunc, AddsPrimitive, AddsInstance, AddsComponent, AddsModule, ListsType, ListsValue, ListsFunction, ListsInstanceOf, RootImportsType, RootImportsValue, RootImportsFunction, RootImportsInstance, RootImportsModule, HasToo, IsAsBefore, IsAt, type_index, in_use, WritesUnlessTooLarge, FitsUnlessTooLarge, RecordsUnlessTooLarge};
+ghost use Rattle.wac_scopes.specs.Scoped.{IfThere, IsThere, AddsValue, AddsFunc, AddsPrimitive, AddsInstance, AddsComponent, AddsModule, ListsType, ListsValue, ListsFunction, ListsInstanceOf, RootImportsType, RootImportsValue, RootImportsFunction, RootImportsInstance, RootImportsModule, RootImportsListing, HasToo, IsAsBefore, AlsoLists, AliasesValue, IsAliased, AliasFits, IsAt, type_index, value_index, listed_at, listing, in_use, WritesUnlessTooLarge, FitsUnlessTooLarge, RecordsUnlessTooLarge};
 ghost use Rattle.wac_scopes.specs.Rooted.{ExportsRight};
 
 use crate::encodable::Encodable;
@@ -25,9 +25,19 @@ use wac_binary::{
     BinaryFault, ComponentType, ComponentValType, DefinedType, Description, FuncType, InstanceType,
     ModuleType, Sort,
 };
-use wac_collection::{DefinedTypeId, FuncTypeId, InterfaceId, PrimitiveType, ValueType};
+use wac_collection::{DefinedTypeId, FuncTypeId, InterfaceId, PrimitiveType, Text, ValueType};
 
-/// An open scope: the root of a component, or a type that is being written; with the types that are written there, each once.
+/// Where an instance lists a type.
+#[derive(Drop)]
+struct Listed {
+    /// The instance's index.
+    instance: u32,
+    /// The name of the type item.
+    name: Text,
+}
+
+/// An open scope: the root of a component, or a type that is being written; with the types that are written there, each once, and those that
+/// instances list.
 pub struct Scope {
     /// What is written.
     content: Encodable,
@@ -37,6 +47,8 @@ pub struct Scope {
     funcs: HashMap<FuncTypeId, u32>,
     /// That of the instance type of each interface.
     interfaces: HashMap<InterfaceId, u32>,
+    /// Where an imported instance lists each definition that one lists, the first of them.
+    listed: HashMap<DefinedTypeId, Listed>,
 }
 
 /// What is written is let go of here, and not anew at each place where a scope goes out of scope.
@@ -47,6 +59,7 @@ impl Drop for Scope {
             values: _,
             funcs: _,
             interfaces: _,
+            listed: _,
         } = self;
     }
 }
@@ -56,12 +69,14 @@ impl Scope {
     pub fn new(alloc: Global, content: Encodable) -> Scope
         ensures content { result.content ≡ content }
         ensures types { (a : AnyType) → type_index result a ≡ None }
+        ensures listed { (a : AnyType) → listing result a ≡ None }
     {
         Scope {
             content,
             values: HashMap::new(alloc),
             funcs: HashMap::new(alloc),
             interfaces: HashMap::new(alloc),
+            listed: HashMap::new(alloc),
         }
     }
 
@@ -128,6 +143,40 @@ impl Scope {
             return Err(self.content.refusal_of_type(definition));
         }
         let index = self.content.defined_type(definition)?;
+        self.record_value(id, index);
+        Ok(index)
+    }
+
+    /// Whether an imported instance lists a definition.
+    pub fn is_listed(&self, id: DefinedTypeId) -> bool
+        ensures { result ≡ is_some (listed_at self.now id) }
+    {
+        self.listed.contains_key(&id)
+    }
+
+    /// Writes an alias of the type item under which an imported instance lists a definition, the first that does, and records the definition
+    /// at the alias. Answers its type index.
+    ///
+    /// Answers `TooLarge` where what is written would not fit, and `OutOfMemory` where memory was refused, be it before it is known
+    /// whether it fits. Then nothing is written or recorded.
+    pub fn alias_value(&mut self, id: DefinedTypeId) -> Result<u32, EncodeFault>
+        requires unwritten { value_index self.old id ≡ None }
+        requires listed { IsSome (listed_at self.old id) }
+        ensures index { IfOk result (λ k. k ≡ count (space s.Type) self.old.content) }
+        ensures stands { IfOk result (λ k. AliasesValue self.old self.new id k) }
+        ensures recorded { IfOk result (λ k. HasToo self.old (ty.Value (val.Defined id)) k self.new) }
+        ensures appended { OnOk result (IsAliased self.old id self.new.content) }
+        ensures refused { OnErr result (IsAsBefore self.old self.new) }
+        ensures too_large { FitsUnlessTooLarge result (AliasFits self.old id) }
+    {
+        step_law();
+        self.make_room()?;
+        let Some(listed) = self.listed.get(&id) else {
+            unreachable!()
+        };
+        let index = self
+            .content
+            .alias_of(listed.instance, listed.name.as_str())?;
         self.record_value(id, index);
         Ok(index)
     }
@@ -431,6 +480,67 @@ impl Scope {
         Ok(instance)
     }
 
+    /// The same of an instance that lists these definitions as type items, each under its name: those that no instance listed before are
+    /// from now on aliased from this one, the last under its name where one stands here twice.
+    ///
+    /// Answers `TooLarge` where what is written would not fit, and `OutOfMemory` where memory was refused, be it before it is known
+    /// whether it fits. Then nothing is written or recorded.
+    pub fn import_listing(
+        &mut self,
+        name: &str,
+        index: u32,
+        definitions: Vec<(DefinedTypeId, Text)>,
+    ) -> Result<u32, EncodeFault>
+        requires { IsRoot self.old.content }
+        ensures index { IfOk result (λ k. k ≡ count (space s.Instance) self.old.content) }
+        ensures stands { IfOk result (λ k. RootImportsListing self.old self.new name.now index definitions.items k) }
+        ensures listed { IfOk result (λ k. AlsoLists self.old k definitions.items self.new) }
+        ensures appended { OnOk result (self.new.content ≡ and_import self.old.content name.now (e.Instance index)) }
+        ensures refused { OnErr result (IsAsBefore self.old self.new) }
+        ensures too_large { FitsUnlessTooLarge result (ContentFits (and_import self.old.content name.now (e.Instance index))) }
+    {
+        root_law();
+        self.make_listed_room(definitions.len())?;
+        let instance = self.import_instance(name, index)?;
+        self.list(instance, definitions);
+        Ok(instance)
+    }
+
+    /// Makes room to record where so many definitions more are listed.
+    fn make_listed_room(&mut self, count: usize) -> Result<(), AllocError>
+        ensures same { IsAsBefore self.old self.new }
+        ensures room { OnOk result (count ≤ spare self.new.listed) }
+    {
+        self.listed.reserve(count)
+    }
+
+    /// Records that an instance lists definitions, those that no other lists. There is room for them.
+    fn list(&mut self, instance: u32, mut definitions: Vec<(DefinedTypeId, Text)>)
+        requires { length definitions.items ≤ spare self.old.listed }
+        ensures listed { AlsoLists self.old instance definitions.items self.new }
+        ensures kept { self.new.content ≡ self.old.content }
+    {
+        while let Some((id, name)) = definitions.pop() {
+            if !self.is_listed(id) {
+                self.list_one(instance, id, name);
+            }
+        }
+    }
+
+    /// Records that an instance lists a definition. There is room for it.
+    fn list_one(&mut self, instance: u32, id: DefinedTypeId, name: Text)
+        requires room { 0 < spare self.old.listed }
+        requires new { listed_at self.old id ≡ None }
+        ensures listed { AlsoLists self.old instance ((id, name) ∷ []) self.new }
+        ensures kept { self.new.content ≡ self.old.content }
+        ensures room { spare self.old.listed ≤ spare self.new.listed + 1 }
+    {
+        match self.listed.insert(id, Listed { instance, name }) {
+            Ok(_) => {}
+            Err(_) => unreachable!(),
+        }
+    }
+
     /// Imports a core module of the core module type at an index, into the root. Answers the module's index.
     ///
     /// Answers `TooLarge` exactly where what is written would not fit, and `OutOfMemory` where memory was refused; then it has
@@ -564,6 +674,7 @@ impl Scope {
             values: _,
             funcs: _,
             interfaces: _,
+            listed: _,
         } = self;
         content
     }

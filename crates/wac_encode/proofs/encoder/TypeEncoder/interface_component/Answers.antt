@@ -39,7 +39,7 @@ pub returns-clause-says : goal.returns-clause-says
 returns-clause-says c =
     let t = c.args.self.now.types.now in
     says-component c.step_law.ensures.is_its_tree c.closing_law.ensures.opens_world c.closing_law.ensures.closes_component t c.args.interface c.args.id.now c.new-scope.result c.define_instance.new.self c.export_instance.new.self c.in-Some.declarations c.component_type.result c.in_ok-index.index c.in_ok-export_instance.field-0
-    (c.new-scope.ensures.content ∙ ap Component c.new.ensures) c.new-scope.ensures.types c.requires.id (subst (SaysIfThere t c.args.interface) c.in-Some.is c.in_ok-declarations.ensures.says) c.in_ok-index.ensures.stands c.in_ok-export_instance.ensures.stands (sym c.into_content.ensures ∙ c.component_type.ensures)
+    (c.new-scope.ensures.content ∙ ap Component c.new.ensures) c.new-scope.ensures.types c.new-scope.ensures.listed c.requires.id (subst (SaysIfThere t c.args.interface) c.in-Some.is c.in_ok-declarations.ensures.says) c.in_ok-index.ensures.stands c.in_ok-export_instance.ensures.stands (sym c.into_content.ensures ∙ c.component_type.ensures)
 
 pub returns-clause-written : goal.returns-clause-written
 returns-clause-written c =

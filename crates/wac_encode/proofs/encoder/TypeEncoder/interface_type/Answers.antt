@@ -33,7 +33,7 @@ returns-in_err-items-clause-fault c =
     let t = c.args.self.now.types.now in
     let p = err_from_is_err_and c.from_residual-in_err-items.result c.from_residual-in_err-items.ensures.1 in
     let ordered = taken-as t c.index-held.result.now.exports c.in_ok-order.order.items c.as_slice.result.now c.as_slice.ensures.value (c.in_ok-order.ensures c.index-held.result.now c.index-held.ensures) in
-    rw (p.1, p.2) (refused-whole (Unit {0}) (Option (List Decl)) t c.args.interface c.index-held.result.now (named_pairs c.as_slice.result.now) c.new-scope.result c.in_err-items.field-0.0 c.index-held.ensures ordered (record { content = c.new-scope.ensures.content ∙ ap Instance c.new.ensures; types = c.new-scope.ensures.types }) c.in_err-items.ensures.fault)
+    rw (p.1, p.2) (refused-whole (Unit {0}) (Option (List Decl)) t c.args.interface c.index-held.result.now (named_pairs c.as_slice.result.now) c.new-scope.result c.in_err-items.field-0.0 c.index-held.ensures ordered (record { content = c.new-scope.ensures.content ∙ ap Instance c.new.ensures; types = c.new-scope.ensures.types; listed = c.new-scope.ensures.listed }) c.in_err-items.ensures.fault)
 
 pub returns-clause-says : goal.returns-clause-says
 returns-clause-says c =
@@ -47,7 +47,7 @@ pub returns-clause-written : goal.returns-clause-written
 returns-clause-written c =
     let t = c.args.self.now.types.now in
     let ordered = taken-as t c.index-held.result.now.exports c.in_ok-order.order.items c.as_slice.result.now c.as_slice.ensures.value (c.in_ok-order.ensures c.index-held.result.now c.index-held.ensures) in
-    written-whole t c.args.interface c.index-held.result.now (named_pairs c.as_slice.result.now) c.new-scope.result c.items.new.scope c.instance_type-declarations.result c.index-held.ensures ordered (record { content = c.new-scope.ensures.content ∙ ap Instance c.new.ensures; types = c.new-scope.ensures.types }) c.in_ok-items.ensures.wrote (written-content c.items.new.scope.content c.into_content.result c.instance_type-declarations.result c.into_content.ensures c.instance_type-declarations.ensures)
+    written-whole t c.args.interface c.index-held.result.now (named_pairs c.as_slice.result.now) c.new-scope.result c.items.new.scope c.instance_type-declarations.result c.index-held.ensures ordered (record { content = c.new-scope.ensures.content ∙ ap Instance c.new.ensures; types = c.new-scope.ensures.types; listed = c.new-scope.ensures.listed }) c.in_ok-items.ensures.wrote (written-content c.items.new.scope.content c.into_content.result c.instance_type-declarations.result c.into_content.ensures c.instance_type-declarations.ensures)
 
 pub returns-in_err-order-clause-none : goal.returns-in_err-order-clause-none
 returns-in_err-order-clause-none c =

@@ -1,4 +1,3 @@
-use Rattle.std.specs.Prelude.{◌≡◌}
 use Rattle.std.proofs.Common.{sym, ◌∙◌}
 use Rattle.wac_encode.proofs.ComponentTypes.{interface-definable}
 use Rattle.wac_encode.proofs.encoder.TypeEncoder.is_definable.Goals as goal

@@ -5,7 +5,8 @@ use Rattle.wac_collection.specs.Aliases.{value_resolved}
 use Rattle.wac_binary.specs.declared.types.ComponentValType.{ComponentValType}
 use Rattle.wac_encode.specs.Written.{PartOf, PartOfOne}
 use Rattle.wac_encode.proofs.Rows.{one-of, refused-as}
-use Rattle.wac_encode.proofs.Stacks.{writes-as}
+use Rattle.wac_encode.proofs.Stacks.{writes-none, writes-as}
+use Rattle.wac_encode.proofs.Answering.{as-it-was}
 use Rattle.wac_encode.proofs.encoder.TypeEncoder.write_optional.Goals as goal
 
 pub returns-in_err-value_type-in-Some-clause-written : goal.returns-in_err-value_type-in-Some-clause-written
@@ -24,3 +25,6 @@ pub returns-in_ok-value_type-in-Some-clause-written : goal.returns-in_ok-value_t
 returns-in_ok-value_type-in-Some-clause-written c =
     let t = c.args.self.now.types.now in
     writes-as t 0 (PartOf t (value_resolved t c.in-Some.value)) (PartOfOne t (and_maybe c.args.value [])) c.args.scope.now c.value_type.new.scope (one-of t c.args.value c.in-Some.value c.in-Some.is) c.in_ok-value_type-in-Some.ensures.written
+
+pub returns-in-None-clause-written : goal.returns-in-None-clause-written
+returns-in-None-clause-written c = writes-none c.args.self.now.types.now c.still_law.ensures (PartOfOne c.args.self.now.types.now (and_maybe c.args.value [])) c.args.scope.now c.args.scope.now (as-it-was c.args.scope.now)

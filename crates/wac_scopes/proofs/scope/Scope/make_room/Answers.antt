@@ -3,4 +3,4 @@ use Rattle.wac_scopes.proofs.ScopedLaws.{same-types}
 use Rattle.wac_scopes.proofs.scope.Scope.make_room.Goals as goal
 
 pub returns-clause-same : goal.returns-clause-same
-returns-clause-same c = record { content = refl; types = same-types c.args.self.now (record c.args.self.now { values = c.reserve.new.self }) c.reserve.ensures.entries.2 (λ f. refl) (λ i. refl) }
+returns-clause-same c = record { content = refl; types = same-types c.args.self.now (record c.args.self.now { values = c.reserve.new.self }) c.reserve.ensures.entries.2 (λ f. refl) (λ i. refl); listed = λ a. refl }
