@@ -8,6 +8,8 @@ mod listed;
 #[cfg(test)]
 mod merging;
 #[cfg(test)]
+mod nested_uses;
+#[cfg(test)]
 mod one_type;
 #[cfg(test)]
 mod uses;

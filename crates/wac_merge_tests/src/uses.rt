@@ -16,14 +16,14 @@ fn resource(rt: &impl Abort, types: &mut Types, alloc: Global, name: &str) -> It
 }
 
 // A type item of a new enumeration.
-fn enumeration(rt: &impl Abort, types: &mut Types, alloc: Global) -> ItemKind {
+pub(crate) fn enumeration(rt: &impl Abort, types: &mut Types, alloc: Global) -> ItemKind {
     let cases = DefinedType::Enum(Enum::new(alloc, &["a"]).expect(rt, "an enumeration"));
     let id = types.add_defined_type(cases).expect(rt, "its id");
     ItemKind::TypeItem(Type::Value(ValueType::Defined(id)))
 }
 
 // An interface that uses and exports these.
-fn interface(
+pub(crate) fn interface(
     rt: &impl Abort,
     types: &mut Types,
     alloc: Global,
@@ -38,7 +38,7 @@ fn interface(
 }
 
 // The interface of an import, an instance.
-fn imported(rt: &impl Abort, merged: &TypeAggregator, import: &str) -> InterfaceId
+pub(crate) fn imported(rt: &impl Abort, merged: &TypeAggregator, import: &str) -> InterfaceId
     requires { merged.now.is_finished ≡ true }
 {
     match merged.imports().get(import) {

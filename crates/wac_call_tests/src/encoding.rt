@@ -1,12 +1,10 @@
+// What `encode` answers, and what a graph asks for and holds, after calls.
 use super::bench::Call::{
     Alias, Export, Exported, Import, Instantiate, Name, Named, Register, Set, Source, Unexport,
     Unset,
 };
-use super::bench::Item::{
-    Empty, Exporting, ExportingTelling, Instance, Other, Plain, Telling, Using,
-};
+use super::bench::Item::{Empty, Exporting, ExportingTelling, Other, Plain, Telling, Using};
 use super::bench::{Bench, Call};
-use std::process::Abort;
 use wac_graph::{EncodeOptions, Processor};
 
 const NOT_YET: &str = "the graph holds something that is not written yet";
@@ -35,7 +33,7 @@ const TWICE: &[(Call<'static>, &str)] = &[
 
 // The function `a` of the instance `i` that an instance exports.
 const NESTED: &[(Call<'static>, &str)] = &[
-    (Register("my:package", &[], &[("i", Instance)]), ""),
+    (Register("my:package", &[], &[("i", Exporting("a"))]), ""),
     (Instantiate(0), "0"),
     (Alias(0, "i"), "1"),
     (Alias(1, "a"), "2"),
@@ -209,7 +207,7 @@ const NAMES: &[(Call<'static>, &str)] = &[
         "import name `x` already exists in the graph",
     ),
     (Import("1a", Plain), "import name `1a` is not valid"),
-    (Import("unlocked-dep=<a:b>", Instance), "1"),
+    (Import("unlocked-dep=<a:b>", Exporting("a")), "1"),
     (Export(0, "url=<u>"), "export name `url=<u>` is not valid"),
     (
         Export(0, "unlocked-dep=<a:b>"),
@@ -223,7 +221,7 @@ const NAMES: &[(Call<'static>, &str)] = &[
 const ASKED: &[(Call<'static>, &str)] = &[
     (Import("x", Plain), "0"),
     (
-        Register("my:package", &[("a", Plain), ("b", Instance)], &[]),
+        Register("my:package", &[("a", Plain), ("b", Exporting("a"))], &[]),
         "",
     ),
     (Instantiate(0), "1"),
@@ -293,271 +291,170 @@ const TITLES: &[(Call<'static>, &str)] = &[
     (Export(1, "x"), ""),
 ];
 
-// A graph on which these calls were made.
-fn called(rt: &(impl Abort + AllocGlobal), calls: &[(Call<'_>, &str)]) -> Bench {
-    let mut bench = Bench::new(rt.alloc());
-    bench.calls(rt, calls);
-    bench
-}
-
-// After the calls `encode` answers these bytes, or is refused with this text.
-fn assert_encoded(rt: &(impl Abort + AllocGlobal), calls: &[(Call<'_>, &str)], want: &str) {
-    assert_encoded_with(rt, calls, EncodeOptions::default(), want);
-}
-
-// The same with these options.
-fn assert_encoded_with(
-    rt: &(impl Abort + AllocGlobal),
-    calls: &[(Call<'_>, &str)],
-    options: EncodeOptions<'_>,
-    want: &str,
-) {
-    assert_eq!(rt; called(rt, calls).encoded(rt, options).as_str(), want);
-}
-
-// After the calls the refusal of `encode` names this cause.
-fn assert_refused(rt: &(impl Abort + AllocGlobal), calls: &[(Call<'_>, &str)], want: &str) {
-    assert_eq!(rt; called(rt, calls).refused(rt).as_str(), want);
-}
-
-// After the calls the node at a place is this.
-fn assert_described(
-    rt: &(impl Abort + AllocGlobal),
-    calls: &[(Call<'_>, &str)],
-    place: usize,
-    want: &str,
-) {
-    assert_eq!(rt; called(rt, calls).described(rt, place).as_str(), want);
-}
-
-// After the calls the graph asks for these imports.
-fn assert_asked(rt: &(impl Abort + AllocGlobal), calls: &[(Call<'_>, &str)], want: &str) {
-    assert_eq!(rt; called(rt, calls).asked(rt).as_str(), want);
-}
-
-#[test]
-fn an_alias_is_exported(rt: HostRuntime) {
-    assert_encoded(
-        &rt,
+// Calls, and the bytes that `encode` answers after them, or the text of its refusal.
+const ENCODED: &[(&[(Call<'static>, &str)], &str)] = &[
+    (
         EXPORTED,
         "0061736d0d00010004080061736d0d00010005040100000006060101000001610b0701000178010000",
-    );
-}
-
-#[test]
-fn a_package_is_instantiated_twice(rt: HostRuntime) {
-    assert_encoded(
-        &rt,
+    ),
+    (
         TWICE,
         "0061736d0d00010004080061736d0d000100050702000000000000",
-    );
-}
-
-#[test]
-fn an_export_of_an_exported_instance_is_reached(rt: HostRuntime) {
-    assert_encoded(
-        &rt,
+    ),
+    (
         NESTED,
         "0061736d0d00010004080061736d0d000100050401000000060b0205000001690100010161",
-    );
-}
-
-#[test]
-fn refused_calls_leave_the_graph(rt: HostRuntime) {
-    assert_encoded(
-        &rt,
+    ),
+    // Refused calls leave the graph.
+    (
         REFUSALS,
         "0061736d0d00010004080061736d0d0001000504010000000606010100000161",
-    );
-}
-
-#[test]
-fn an_argument_is_not_set(rt: HostRuntime) {
-    let calls = UNSET;
-    assert_encoded(
-        &rt,
-        calls,
+    ),
+    (
+        UNSET,
         "0061736d0d000100070501400001000a0601000162010004080061736d0d00010005080100000101620100",
-    );
-    assert_refused(&rt, calls, "");
-}
-
-#[test]
-fn a_package_is_given_its_own_function(rt: HostRuntime) {
-    let calls = CYCLE;
-    assert_encoded(&rt, calls, CONTAINS_CYCLE);
-    assert_refused(&rt, calls, "0");
-}
-
-#[test]
-fn an_instance_is_its_own_argument(rt: HostRuntime) {
-    let calls = OWN_ARGUMENT;
-    assert_encoded(&rt, calls, CONTAINS_CYCLE);
-    assert_refused(&rt, calls, "0");
-}
-
-#[test]
-fn two_instances_are_each_others_arguments(rt: HostRuntime) {
-    let calls = RING;
-    assert_encoded(&rt, calls, CONTAINS_CYCLE);
-    assert_refused(&rt, calls, "1");
-}
-
-#[test]
-fn an_unset_argument_has_the_name_of_an_import(rt: HostRuntime) {
-    let calls = CONFLICT;
-    assert_encoded(&rt, calls, IMPORT_CONFLICT);
-    assert_refused(&rt, calls, "0, 1, my:package, x");
-}
-
-#[test]
-fn a_cycle_is_named_before_a_conflict(rt: HostRuntime) {
-    let calls = CONFLICT_AND_CYCLE;
-    assert_encoded(&rt, calls, CONTAINS_CYCLE);
-    assert_refused(&rt, calls, "2");
-}
-
-#[test]
-fn functions_of_one_name_differ(rt: HostRuntime) {
-    assert_refused(&rt, IMPLICIT_MERGE, "x, 0, 1, Disagree ``");
-}
-
-#[test]
-fn exports_of_one_name_differ(rt: HostRuntime) {
-    assert_refused(&rt, EXPORT_MERGE, "a:b/c@0.2.2, 1, 2, Disagree `g`");
-}
-
-#[test]
-fn an_import_differs_from_what_a_package_asks_for(rt: HostRuntime) {
-    assert_refused(&rt, EXPLICIT_MERGE, "a:b/c@0.2.1, 1, 0");
-}
-
-#[test]
-fn imports_use_each_other(rt: HostRuntime) {
-    assert_refused(&rt, IMPORT_CIRCLE, "a:b/y@1.1.0");
-}
-
-#[test]
-fn arguments_are_checked(rt: HostRuntime) {
-    assert_encoded(
-        &rt,
+    ),
+    (CYCLE, CONTAINS_CYCLE),
+    (OWN_ARGUMENT, CONTAINS_CYCLE),
+    (RING, CONTAINS_CYCLE),
+    (CONFLICT, IMPORT_CONFLICT),
+    // A cycle is named before a conflict.
+    (CONFLICT_AND_CYCLE, CONTAINS_CYCLE),
+    (
         ARGUMENTS,
         "0061736d0d000100070801400101707f01000a0601000163010004080061736d0d000100050401000000060601010000016104080061736d0d000100050c0100010201620101016301000606010100010164",
-    );
-}
-
-// An instance is imported before a function.
-#[test]
-fn names_are_checked(rt: HostRuntime) {
-    assert_encoded(
-        &rt,
+    ),
+    // An instance is imported before a function.
+    (
         NAMES,
         "0061736d0d000100070e01420201400001000400016101000a17010012756e6c6f636b65642d6465703d3c613a623e0500070501400001000a060100017801010b0701000178010000",
-    );
+    ),
+    (
+        UNEXPORTED,
+        "0061736d0d00010004080061736d0d000100050a030000000000000000000b0d02000163050100000164050200",
+    ),
+    (
+        TITLED,
+        "0061736d0d00010004080061736d0d00010005040100000000160e636f6d706f6e656e742d6e616d650105050100016e",
+    ),
+    // Nodes are named by sort and index.
+    (
+        TITLES,
+        "0061736d0d00010004080061736d0d00010005040100000006060101000001610504010000000b0701000178010000001f0e636f6d706f6e656e742d6e616d6501040101000001080502000161010162",
+    ),
+];
+
+// Calls, and the cause that the refusal of `encode` names after them; none where bytes are answered.
+const REFUSED: &[(&[(Call<'static>, &str)], &str)] = &[
+    (UNSET, ""),
+    (CYCLE, "0"),
+    (OWN_ARGUMENT, "0"),
+    (RING, "1"),
+    (CONFLICT, "0, 1, my:package, x"),
+    (CONFLICT_AND_CYCLE, "2"),
+    (IMPLICIT_MERGE, "x, 0, 1, Disagree ``"),
+    (EXPORT_MERGE, "a:b/c@0.2.2, 1, 2, Disagree `g`"),
+    (EXPLICIT_MERGE, "a:b/c@0.2.1, 1, 0"),
+    (IMPORT_CIRCLE, "a:b/y@1.1.0"),
+];
+
+// Calls, and the imports that the graph asks for after them, in order.
+const ASKS: &[(&[(Call<'static>, &str)], &str)] = &[
+    (TAKEN, "b: function; "),
+    (
+        ASKED,
+        "b: instance; a: function; b: instance; x: function, 0; ",
+    ),
+];
+
+// Calls, a node and what it is after them.
+const DESCRIBED: &[(&[(Call<'static>, &str)], usize, &str)] = &[
+    (
+        EXPORTED,
+        0,
+        "instantiation, instance, my:package1, no name, no name",
+    ),
+    (EXPORTED, 1, "alias, function, my:package1, no name, x"),
+    (NAMES, 0, "import, function, no package, x, x"),
+];
+
+#[test]
+fn graphs_are_encoded(rt: HostRuntime) {
+    for (calls, want) in ENCODED {
+        let answer = Bench::called(&rt, calls).encoded(&rt, EncodeOptions::default());
+        assert_eq!(rt; answer.as_str(), *want);
+    }
+}
+
+#[test]
+fn refusals_name_their_cause(rt: HostRuntime) {
+    for (calls, want) in REFUSED {
+        assert_eq!(rt; Bench::called(&rt, calls).refused(&rt).as_str(), *want);
+    }
+}
+
+#[test]
+fn imports_are_asked_for_in_order(rt: HostRuntime) {
+    for (calls, want) in ASKS {
+        assert_eq!(rt; Bench::called(&rt, calls).asked(&rt).as_str(), *want);
+    }
+}
+
+#[test]
+fn ids_give_nodes_and_packages(rt: HostRuntime) {
+    for (calls, place, want) in DESCRIBED {
+        let described = Bench::called(&rt, calls).described(&rt, *place);
+        assert_eq!(rt; described.as_str(), *want);
+    }
+}
+
+#[test]
+fn names_give_nodes(rt: HostRuntime) {
+    let bench = Bench::called(&rt, EXPORTED);
+    assert!(rt; bench.exports(1, "x"));
+    assert!(rt; !bench.exports(1, "a"));
+    let bench = Bench::called(&rt, NAMES);
+    assert!(rt; bench.imports(&rt, 0, "x"));
+    assert!(rt; bench.imports(&rt, 1, "unlocked-dep=<a:b>"));
 }
 
 #[test]
 fn options_that_are_not_served_yet(rt: HostRuntime) {
-    let calls = EXPORTED;
     let plain = EncodeOptions::default();
     assert!(rt; plain.define_components && plain.validate && plain.processor.is_none());
     let imported = EncodeOptions {
         define_components: false,
         ..plain
     };
-    assert_encoded_with(&rt, calls, imported, NOT_YET);
+    let answer = Bench::called(&rt, EXPORTED).encoded(&rt, imported);
+    assert_eq!(rt; answer.as_str(), NOT_YET);
 }
 
-#[test]
-fn an_argument_that_is_taken_away_is_asked_for(rt: HostRuntime) {
-    assert_asked(&rt, TAKEN, "b: function; ");
-}
-
-#[test]
-fn exports_that_are_left(rt: HostRuntime) {
-    assert_encoded(
-        &rt,
-        UNEXPORTED,
-        "0061736d0d00010004080061736d0d000100050a030000000000000000000b0d02000163050100000164050200",
-    );
-}
-
-#[test]
-fn a_node_is_named(rt: HostRuntime) {
-    assert_encoded(
-        &rt,
+// Calls, and the bytes that `encode` answers after them where it is told a processor.
+const PROCESSED: &[(&[(Call<'static>, &str)], &str)] = &[
+    (
+        &[],
+        "0061736d0d000100001d0970726f647563657273010c70726f6365737365642d62790101780131",
+    ),
+    // Names are written before the processor.
+    (
         TITLED,
-        "0061736d0d00010004080061736d0d00010005040100000000160e636f6d706f6e656e742d6e616d650105050100016e",
-    );
-}
-
-#[test]
-fn nodes_are_named_by_sort_and_index(rt: HostRuntime) {
-    assert_encoded(
-        &rt,
-        TITLES,
-        "0061736d0d00010004080061736d0d00010005040100000006060101000001610504010000000b0701000178010000001f0e636f6d706f6e656e742d6e616d6501040101000001080502000161010162",
-    );
-}
-
-#[test]
-fn names_are_written_before_the_processor(rt: HostRuntime) {
-    let processor = Some(Processor {
-        name: "x",
-        version: "1",
-    });
-    let options = EncodeOptions {
-        processor,
-        ..EncodeOptions::default()
-    };
-    assert_encoded_with(
-        &rt,
-        TITLED,
-        options,
         "0061736d0d00010004080061736d0d00010005040100000000160e636f6d706f6e656e742d6e616d650105050100016e001d0970726f647563657273010c70726f6365737365642d62790101780131",
-    );
-}
+    ),
+];
 
 #[test]
 fn a_processor_is_named_last(rt: HostRuntime) {
-    let processor = Some(Processor {
-        name: "x",
-        version: "1",
-    });
-    let options = EncodeOptions {
-        processor,
-        ..EncodeOptions::default()
-    };
-    assert_encoded_with(
-        &rt,
-        &[],
-        options,
-        "0061736d0d000100001d0970726f647563657273010c70726f6365737365642d62790101780131",
-    );
-}
-
-#[test]
-fn ids_give_nodes_and_packages(rt: HostRuntime) {
-    let calls = EXPORTED;
-    let instance = "instantiation, instance, my:package1, no name, no name";
-    assert_described(&rt, calls, 0, instance);
-    assert_described(&rt, calls, 1, "alias, function, my:package1, no name, x");
-    let bench = called(&rt, calls);
-    assert!(rt; bench.exports(1, "x"));
-    assert!(rt; !bench.exports(1, "a"));
-}
-
-#[test]
-fn ids_give_imports(rt: HostRuntime) {
-    let calls = NAMES;
-    assert_described(&rt, calls, 0, "import, function, no package, x, x");
-    let bench = called(&rt, calls);
-    assert!(rt; bench.imports(&rt, 0, "x"));
-    assert!(rt; bench.imports(&rt, 1, "unlocked-dep=<a:b>"));
-}
-
-#[test]
-fn imports_are_asked_for_in_order(rt: HostRuntime) {
-    let want = "b: instance; a: function; b: instance; x: function, 0; ";
-    assert_asked(&rt, ASKED, want);
+    for (calls, want) in PROCESSED {
+        let processor = Some(Processor {
+            name: "x",
+            version: "1",
+        });
+        let options = EncodeOptions {
+            processor,
+            ..EncodeOptions::default()
+        };
+        let answer = Bench::called(&rt, calls).encoded(&rt, options);
+        assert_eq!(rt; answer.as_str(), *want);
+    }
 }

@@ -86,6 +86,13 @@ const ARGUMENT: &[(Call<'static>, &str)] = &[
     (Satisfied(2), "0"),
 ];
 
+// Calls, and the packages that are listed after them.
+const LISTED: &[(&[(Call<'static>, &str)], &str)] = &[
+    // A freed slot is used again, that which was freed last first.
+    (SLOTS, "0: my:third; 1: my:second; "),
+    (LAST, "0: my:third; 1: my:sixth; 2: my:fifth; "),
+];
+
 #[test]
 fn nodes_and_exports_go_with_their_package(rt: HostRuntime) {
     Bench::new(rt.alloc()).calls(&rt, PACKAGE);
@@ -93,29 +100,15 @@ fn nodes_and_exports_go_with_their_package(rt: HostRuntime) {
 
 #[test]
 fn a_freed_slot_is_used_again(rt: HostRuntime) {
-    let mut bench = Bench::new(rt.alloc());
-    bench.calls(&rt, SLOTS);
-    assert_eq!(rt;
-        bench.listed_packages(&rt).as_str(),
-        "0: my:third; 1: my:second; "
-    );
-}
-
-#[test]
-fn the_slot_freed_last_is_used_first(rt: HostRuntime) {
-    let mut bench = Bench::new(rt.alloc());
-    bench.calls(&rt, LAST);
-    assert_eq!(rt;
-        bench.listed_packages(&rt).as_str(),
-        "0: my:third; 1: my:sixth; 2: my:fifth; "
-    );
+    for (calls, want) in LISTED {
+        let packages = Bench::called(&rt, calls).listed_packages(&rt);
+        assert_eq!(rt; packages.as_str(), *want);
+    }
 }
 
 #[test]
 fn the_other_exports_keep_their_order(rt: HostRuntime) {
-    let mut bench = Bench::new(rt.alloc());
-    bench.calls(&rt, EXPORTS);
-    let answer = bench.encoded(&rt, EncodeOptions::default());
+    let answer = Bench::called(&rt, EXPORTS).encoded(&rt, EncodeOptions::default());
     assert_eq!(rt;
         answer.as_str(),
         "0061736d0d00010004080061736d0d0001000507020000000000000b0d02000162050000000164050100"
@@ -124,7 +117,6 @@ fn the_other_exports_keep_their_order(rt: HostRuntime) {
 
 #[test]
 fn an_argument_of_the_package_is_asked_for(rt: HostRuntime) {
-    let mut bench = Bench::new(rt.alloc());
-    bench.calls(&rt, ARGUMENT);
-    assert_eq!(rt; bench.asked(&rt).as_str(), "b: function; ");
+    let asked = Bench::called(&rt, ARGUMENT).asked(&rt);
+    assert_eq!(rt; asked.as_str(), "b: function; ");
 }

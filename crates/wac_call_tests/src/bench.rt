@@ -1,16 +1,20 @@
 // Calls on a graph as the rows of a table, each with what it answers.
-use crate::parts::{empty_instance, encode, function, register};
 use std::alloc::{AllocError, Global};
 use std::fmt::Display;
 use std::process::Abort;
 use wac_graph::types::{
     CoreExtern, CoreFuncType, DefinedType, Enum, FuncType, Interface, ItemKind, ModuleType,
-    PrimitiveType, Type, ValueType,
+    PrimitiveType, Type, ValueType, World,
 };
 use wac_graph::{
     CompositionGraph, EncodeError, EncodeOptions, MergeFault, NodeId, NodeKind, PackageId,
     ValidationFault,
 };
+
+const BOOL: ValueType = ValueType::Primitive(PrimitiveType::Bool);
+
+// A component with nothing in it: the eight bytes of the preamble alone.
+const EMPTY_COMPONENT: [u8; 8] = [0x00, 0x61, 0x73, 0x6d, 0x0d, 0x00, 0x01, 0x00];
 
 // What a package imports or exports.
 #[derive(Clone, Copy)]
@@ -21,8 +25,6 @@ pub enum Item {
     Other,
     // A function without parameters that gives a bool.
     Telling,
-    // An instance that exports the function `a`.
-    Instance,
     // An instance that exports a function of this name, without parameters and result.
     Exporting(&'static str),
     // An instance that exports a function of this name, without parameters, that gives a bool.
@@ -101,26 +103,26 @@ fn is_refused(answer: &str) -> bool {
     answer == "out of memory" || answer == "OutOfMemory" || answer == "memory allocation failed"
 }
 
-fn other(rt: &impl Abort, alloc: Global, graph: &mut CompositionGraph) -> ItemKind {
-    let params = [("p", ValueType::Primitive(PrimitiveType::Bool))];
-    let function = FuncType::new(alloc, &params, None, false).expect(rt, "a function type");
-    ItemKind::Func(graph.add_func_type(function).expect(rt, "its id"))
-}
-
-fn telling(rt: &impl Abort, alloc: Global, graph: &mut CompositionGraph) -> ItemKind {
-    let result = Some(ValueType::Primitive(PrimitiveType::Bool));
-    let function = FuncType::new(alloc, &[], result, false).expect(rt, "a function type");
-    ItemKind::Func(graph.add_func_type(function).expect(rt, "its id"))
-}
-
-fn exporting(
+// A function type.
+fn function(
     rt: &impl Abort,
     alloc: Global,
     graph: &mut CompositionGraph,
-    name: &str,
-    item: ItemKind,
+    params: &[(&str, ValueType)],
+    returned: Option<ValueType>,
 ) -> ItemKind {
-    let interface = Interface::new(alloc, None, &[(name, item)]).expect(rt, "an interface");
+    let function = FuncType::new(alloc, params, returned, false).expect(rt, "a function type");
+    ItemKind::Func(graph.add_func_type(function).expect(rt, "its id"))
+}
+
+// An instance type.
+fn instance(
+    rt: &impl Abort,
+    alloc: Global,
+    graph: &mut CompositionGraph,
+    items: &[(&str, ItemKind)],
+) -> ItemKind {
+    let interface = Interface::new(alloc, None, items).expect(rt, "an interface");
     ItemKind::Instance(graph.add_interface(interface).expect(rt, "its id"))
 }
 
@@ -180,25 +182,28 @@ impl Bench {
         }
     }
 
+    // A graph on which these calls were made.
+    pub fn called(rt: &(impl Abort + AllocGlobal), rows: &[(Call<'_>, &str)]) -> Bench {
+        let mut bench = Bench::new(rt.alloc());
+        bench.calls(rt, rows);
+        bench
+    }
+
     fn kind(&mut self, rt: &impl Abort, item: Item) -> ItemKind {
         let (alloc, graph) = (self.alloc, &mut self.graph);
         match item {
-            Item::Plain => function(rt, alloc, graph),
-            Item::Other => other(rt, alloc, graph),
-            Item::Telling => telling(rt, alloc, graph),
-            Item::Instance => {
-                let item = function(rt, alloc, graph);
-                exporting(rt, alloc, graph, "a", item)
-            }
+            Item::Plain => function(rt, alloc, graph, &[], None),
+            Item::Other => function(rt, alloc, graph, &[("p", BOOL)], None),
+            Item::Telling => function(rt, alloc, graph, &[], Some(BOOL)),
             Item::Exporting(name) => {
-                let item = function(rt, alloc, graph);
-                exporting(rt, alloc, graph, name, item)
+                let item = function(rt, alloc, graph, &[], None);
+                instance(rt, alloc, graph, &[(name, item)])
             }
             Item::ExportingTelling(name) => {
-                let item = telling(rt, alloc, graph);
-                exporting(rt, alloc, graph, name, item)
+                let item = function(rt, alloc, graph, &[], Some(BOOL));
+                instance(rt, alloc, graph, &[(name, item)])
             }
-            Item::Empty => empty_instance(rt, alloc, graph),
+            Item::Empty => instance(rt, alloc, graph, &[]),
             Item::Module => core_module(rt, alloc, graph),
             Item::Using(id, name, used) => using_instance(rt, alloc, graph, id, name, used),
         }
@@ -226,7 +231,11 @@ impl Bench {
     ) -> String {
         let imports = self.kinds(rt, imports);
         let exports = self.kinds(rt, exports);
-        match register(rt, self.alloc, &mut self.graph, name, &imports, &exports) {
+        let world = World::new(self.alloc, None, &imports, &exports).expect(rt, "a world");
+        let world = self.graph.add_world(world).expect(rt, "its id");
+        let bytes = Vec::from_array(self.alloc, EMPTY_COMPONENT).expect(rt, "bytes");
+        let package = self.graph.new_package(name, None, bytes, world);
+        match self.graph.register_package(package.expect(rt, "a package")) {
             Ok(id) => {
                 self.packages.push(id).expect(rt, "room for a package");
                 String::new(self.alloc)
@@ -425,9 +434,17 @@ impl Bench {
         }
     }
 
+    // What `encode` answers; asked once more where memory was refused.
+    fn encode(&self, options: EncodeOptions<'_>) -> Result<Vec<u8>, EncodeError> {
+        match self.graph.encode(options) {
+            Err(EncodeError::OutOfMemory) => self.graph.encode(options),
+            answer => answer,
+        }
+    }
+
     // The bytes in hexadecimal, or the error's text.
     pub fn encoded(&self, rt: &impl Abort, options: EncodeOptions<'_>) -> String {
-        match encode(&self.graph, options) {
+        match self.encode(options) {
             Ok(bytes) => hex::encode(self.alloc, &bytes).expect(rt, "a text"),
             Err(error) => shown(rt, self.alloc, error),
         }
@@ -461,7 +478,7 @@ impl Bench {
     // that cannot be merged, the nodes that ask for it and the export that differs, or one of a circle, or names.
     pub fn refused(&self, rt: &impl Abort) -> String {
         let alloc = self.alloc;
-        let text = match encode(&self.graph, EncodeOptions::default()) {
+        let text = match self.encode(EncodeOptions::default()) {
             Err(EncodeError::GraphContainsCycle { node }) => format!(in alloc; "{node}"),
             Err(
                 EncodeError::ImplicitImportConflict {

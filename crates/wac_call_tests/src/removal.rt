@@ -3,7 +3,7 @@ use super::bench::Call::{
     Alias, Export, Exported, Has, Import, Instantiate, Register, Remove, Satisfied, Set, Unexport,
     Unset,
 };
-use super::bench::Item::{Empty, Instance, Plain};
+use super::bench::Item::{Empty, Exporting, Plain};
 use super::bench::{Bench, Call};
 use wac_graph::EncodeOptions;
 
@@ -53,7 +53,7 @@ const ARGUMENT: &[(Call<'static>, &str)] = &[
 
 // An instance goes with its aliases, and with theirs.
 const BEHIND: &[(Call<'static>, &str)] = &[
-    (Register("my:package1", &[], &[("i", Instance)]), ""),
+    (Register("my:package1", &[], &[("i", Exporting("a"))]), ""),
     (Register("my:package2", &[("b", Plain)], &[]), ""),
     (Instantiate(0), "0"),
     (Alias(0, "i"), "1"),
@@ -130,44 +130,37 @@ fn what_is_taken_away_takes_no_memory(rt: HostRuntime) {
     Bench::new(rt.alloc()).calls(&rt, TAKEN);
 }
 
+// The number of a removed node comes next, and the name of a removed import is free.
 #[test]
-fn the_number_of_a_removed_node_comes_next(rt: HostRuntime) {
-    Bench::new(rt.alloc()).calls(&rt, NUMBERS);
+fn numbers_and_names_are_used_again(rt: HostRuntime) {
+    for calls in [NUMBERS, IMPORT] {
+        Bench::new(rt.alloc()).calls(&rt, calls);
+    }
 }
 
 #[test]
 fn exports_go_with_their_node(rt: HostRuntime) {
-    let mut bench = Bench::new(rt.alloc());
-    bench.calls(&rt, EXPORTS);
-    let answer = bench.encoded(&rt, EncodeOptions::default());
+    let answer = Bench::called(&rt, EXPORTS).encoded(&rt, EncodeOptions::default());
     assert_eq!(rt;
         answer.as_str(),
         "0061736d0d00010004080061736d0d0001000507020000000000000b0d02000164050100000163050000"
     );
 }
 
-#[test]
-fn an_argument_that_is_removed_is_asked_for(rt: HostRuntime) {
-    let mut bench = Bench::new(rt.alloc());
-    bench.calls(&rt, ARGUMENT);
-    assert_eq!(rt; bench.asked(&rt).as_str(), "b: function; b: function; ");
-}
+// Calls, and the imports that the graph asks for after them: an argument that is removed, or whose instance is.
+const ASKS: &[(&[(Call<'static>, &str)], &str)] = &[
+    (ARGUMENT, "b: function; b: function; "),
+    (BEHIND, "b: function; "),
+];
 
 #[test]
-fn aliases_go_with_their_instance(rt: HostRuntime) {
-    let mut bench = Bench::new(rt.alloc());
-    bench.calls(&rt, BEHIND);
-    assert_eq!(rt; bench.asked(&rt).as_str(), "b: function; ");
-}
-
-#[test]
-fn the_name_of_a_removed_import_is_free(rt: HostRuntime) {
-    Bench::new(rt.alloc()).calls(&rt, IMPORT);
+fn arguments_that_are_removed_are_asked_for(rt: HostRuntime) {
+    for (calls, want) in ASKS {
+        assert_eq!(rt; Bench::called(&rt, calls).asked(&rt).as_str(), *want);
+    }
 }
 
 #[test]
 fn a_cycle_is_named_after_a_removal(rt: HostRuntime) {
-    let mut bench = Bench::new(rt.alloc());
-    bench.calls(&rt, RING);
-    assert_eq!(rt; bench.refused(&rt).as_str(), "1");
+    assert_eq!(rt; Bench::called(&rt, RING).refused(&rt).as_str(), "1");
 }

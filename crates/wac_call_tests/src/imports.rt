@@ -1,0 +1,221 @@
+// What a composition imports: import nodes, and arguments that are not set.
+use super::bench::Call::{Export, Import, Instantiate, Name, Register, Set, Unset};
+use super::bench::Item::{Empty, Exporting, Module, Plain, Using};
+use super::bench::{Bench, Call};
+use std::process::Abort;
+use wac_graph::EncodeOptions;
+
+const PREAMBLE: &str = "0061736d0d000100";
+
+// A package's component, which has no items.
+const COMPONENT: &str = "04080061736d0d000100";
+
+// A function that is imported, exported and named.
+const PASSED: &[(Call<'static>, &str)] = &[
+    (Import("x", Plain), "0"),
+    (Export(0, "y"), ""),
+    (Name(0, "n"), ""),
+];
+
+// An instantiation that is given an import node, and an argument that is not set; what is not set is imported first.
+const GIVEN: &[(Call<'static>, &str)] = &[
+    (Import("x", Plain), "0"),
+    (
+        Register("my:package", &[("b", Plain), ("c", Plain)], &[]),
+        "",
+    ),
+    (Instantiate(0), "1"),
+    (Set(1, "b", 0), ""),
+];
+
+// Two instances of one package ask for one import; an argument of the second was taken away.
+const TWICE: &[(Call<'static>, &str)] = &[
+    (Register("my:package", &[("b", Plain)], &[]), ""),
+    (Register("my:giver", &[], &[]), ""),
+    (Import("x", Plain), "0"),
+    (Instantiate(0), "1"),
+    (Instantiate(0), "2"),
+    (Set(2, "b", 0), ""),
+    (Unset(2, "b", 0), ""),
+];
+
+// Two versions of one interface, and a third of another track.
+const VERSIONS: &[(Call<'static>, &str)] = &[
+    (
+        Register("my:first", &[("a:b/c@0.2.0", Exporting("f"))], &[]),
+        "",
+    ),
+    (
+        Register("my:second", &[("a:b/c@0.2.3", Exporting("g"))], &[]),
+        "",
+    ),
+    (Instantiate(0), "0"),
+    (Instantiate(1), "1"),
+];
+
+const TRACK: &[(Call<'static>, &str)] = &[
+    (
+        Register("my:third", &[("a:b/c@0.3.0", Exporting("h"))], &[]),
+        "",
+    ),
+    (Instantiate(2), "2"),
+];
+
+// Import nodes that are two versions of one interface have one index, which the lower node names.
+const NAMED: &[(Call<'static>, &str)] = &[
+    (Import("a:b/c@0.2.0", Empty), "0"),
+    (Import("a:b/c@0.2.3", Empty), "1"),
+    (Name(1, "q"), ""),
+    (Name(0, "p"), ""),
+];
+
+// An interface that lists a type that it uses.
+const USING: &[(Call<'static>, &str)] = &[(Import("n:p/i", Using("n:p/i", "t", "n:p/j")), "0")];
+
+// A core module that is imported.
+const MODULE: &[(Call<'static>, &str)] = &[(Import("k", Module), "0")];
+
+// A core module that is an argument which is not set.
+const ASKED_MODULE: &[(Call<'static>, &str)] = &[
+    (Register("my:package", &[("k", Module)], &[]), ""),
+    (Instantiate(0), "0"),
+];
+
+// An instantiation that takes an imported core module.
+const GIVEN_MODULE: &[(Call<'static>, &str)] = &[
+    (Import("x", Module), "0"),
+    (Register("my:package", &[("k", Module)], &[]), ""),
+    (Instantiate(0), "1"),
+    (Set(1, "k", 0), ""),
+];
+
+// The type of that core module.
+const MODULE_TYPE: &str = "03140150030160000000016d01660000030165020001";
+
+// Calls, and the sections that `encode` answers behind the preamble after them.
+const SECTIONS: &[(&[(Call<'static>, &str)], &[&str])] = &[
+    (
+        PASSED,
+        &[
+            "07050140000100",
+            "0a06010001780100",
+            "0b0701000179010000",
+            "00160e636f6d706f6e656e742d6e616d650105010100016e",
+        ],
+    ),
+    // What is not set is imported.
+    (
+        GIVEN,
+        &[
+            "07050140000100",
+            "0a06010001630100",
+            "07050140000100",
+            "0a06010001780101",
+            COMPONENT,
+            "050c010000020162010101630100",
+        ],
+    ),
+    (
+        TWICE,
+        &[
+            "07050140000100",
+            "0a06010001620100",
+            "07050140000100",
+            "0a06010001780101",
+            COMPONENT,
+            "050f020000010162010000000101620100",
+        ],
+    ),
+    (
+        NAMED,
+        &[
+            "0703014200",
+            "0a1001000b613a622f6340302e322e330500",
+            "00160e636f6d706f6e656e742d6e616d6501050501000170",
+        ],
+    ),
+    (MODULE, &[MODULE_TYPE, "0a070100016b001100"]),
+    (
+        ASKED_MODULE,
+        &[
+            MODULE_TYPE,
+            "0a070100016b001100",
+            COMPONENT,
+            "050901000001016b001100",
+        ],
+    ),
+    (
+        GIVEN_MODULE,
+        &[
+            MODULE_TYPE,
+            "0a0701000178001100",
+            COMPONENT,
+            "050901000001016b001100",
+        ],
+    ),
+    // The interface that is used is imported before; the enum is written in each of both, which list it.
+    (
+        USING,
+        &[
+            "070f014202016d01016104000174030000",
+            "0a0a0100056e3a702f6a0500",
+            "070f014202016d01016104000174030000",
+            "0a0a0100056e3a702f690501",
+        ],
+    ),
+];
+
+// A text is the preamble and these sections.
+fn assert_joined(rt: &(impl Abort + AllocGlobal), answer: String, want: &[&str]) {
+    let want = want.concat(rt.alloc()).expect(rt, "a text");
+    let sections = answer.as_str().strip_prefix(PREAMBLE);
+    assert!(rt; sections == Some(want.as_str()), "{answer}");
+}
+
+#[test]
+fn imports_are_written(rt: HostRuntime) {
+    for (calls, want) in SECTIONS {
+        let answer = Bench::called(&rt, calls).encoded(&rt, EncodeOptions::default());
+        assert_joined(&rt, answer, want);
+    }
+}
+
+// The components of the two versions, and their instances.
+const INSTANCES: &str =
+    "04080061736d0d0001000512010000010b613a622f6340302e322e30050004080061736d0d0001000512010001010b613a622f6340302e322e330500";
+
+#[test]
+fn versions_of_an_interface_are_one_import(rt: HostRuntime) {
+    let mut bench = Bench::new(rt.alloc());
+    bench.calls(&rt, VERSIONS);
+    let both =
+        "0719014204014000010004000166010001400001000400016701010a1001000b613a622f6340302e322e330500";
+    let answer = bench.encoded(&rt, EncodeOptions::default());
+    assert_joined(&rt, answer, &[both, INSTANCES]);
+    bench.calls(&rt, TRACK);
+    let other = "070e01420201400001000400016801000a1001000b613a622f6340302e332e300501";
+    let answer = bench.encoded(&rt, EncodeOptions::default());
+    let last = "0512010002010b613a622f6340302e332e300501";
+    assert_joined(&rt, answer, &[both, other, INSTANCES, COMPONENT, last]);
+}
+
+// Names of imports clash where their labels differ in case alone.
+#[test]
+fn names_of_imports_that_clash(rt: HostRuntime) {
+    let alloc = rt.alloc();
+    let rows = [("a", "A", "Clash `a`, `A`"), ("a", "[constructor]a", "")];
+    for (first, second, want) in rows {
+        let mut bench = Bench::new(alloc);
+        bench.calls(&rt, &[(Import(first, Plain), "0")]);
+        bench.calls(&rt, &[(Import(second, Plain), "1")]);
+        assert_eq!(rt; bench.refused(&rt).as_str(), want, "{second}");
+        let unchecked = EncodeOptions {
+            validate: false,
+            ..EncodeOptions::default()
+        };
+        assert!(rt;
+            bench.encoded(&rt, unchecked).as_str().starts_with(PREAMBLE),
+            "{second}"
+        );
+    }
+}

@@ -1,0 +1,46 @@
+// Types that more than one import is of, and that are written once.
+use crate::parts::{encode, function, import};
+use std::process::Abort;
+use wac_graph::{CompositionGraph, EncodeOptions};
+
+const PREAMBLE: &str = "0061736d0d000100";
+
+// The type of a function without parameters and result, and imports of two functions of it.
+const TWO_OF_ONE_TYPE: &[&str] = &["07050140000100", "0a0b02", "0001780100", "0001790100"];
+
+// What `encode` answers for a graph is the preamble and these parts, in hexadecimal.
+fn assert_parts(rt: &(impl Abort + AllocGlobal), graph: &CompositionGraph, want: &[&str]) {
+    let bytes = encode(graph, EncodeOptions::default()).expect(rt, "bytes");
+    let text = hex::encode(rt.alloc(), &bytes).expect(rt, "a text");
+    let want = want.concat(rt.alloc()).expect(rt, "a text");
+    let items = text.as_str().strip_prefix(PREAMBLE);
+    assert!(rt; items == Some(want.as_str()), "{text}");
+}
+
+#[test]
+fn import_nodes_of_one_function_type_share_it(rt: HostRuntime) {
+    let alloc = rt.alloc();
+    let mut graph = CompositionGraph::new(alloc);
+    let function = function(&rt, alloc, &mut graph);
+    import(&rt, &mut graph, "x", function);
+    import(&rt, &mut graph, "y", function);
+    assert_parts(&rt, &graph, TWO_OF_ONE_TYPE);
+}
+
+// Types with two ids stay two, as they are in the graph.
+#[test]
+fn function_types_of_two_ids_stay_two(rt: HostRuntime) {
+    let alloc = rt.alloc();
+    let mut graph = CompositionGraph::new(alloc);
+    let first = function(&rt, alloc, &mut graph);
+    let second = function(&rt, alloc, &mut graph);
+    import(&rt, &mut graph, "x", first);
+    import(&rt, &mut graph, "y", second);
+    let want = [
+        "07050140000100",
+        "0a06010001780100",
+        "07050140000100",
+        "0a06010001790101",
+    ];
+    assert_parts(&rt, &graph, &want);
+}
