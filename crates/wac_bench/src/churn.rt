@@ -1,7 +1,9 @@
 //! How long it takes to remove nodes of a graph with many exports and to make them again: half of the nodes, ten times.
 
-use crate::graphs::{alias, export, instantiate, one, pass, plain, refused, register, unvalidated};
-use crate::times::{ROUNDS, Times, print_power_of_ten, print_times};
+use crate::graphs::{
+    alias, empty, encode_all, export, instantiate, one, pass, plain, refused, register,
+};
+use crate::growth::{self, Costs, ROUNDS, Size};
 use anyhow::Result;
 use std::alloc::Global;
 use std::time::{Duration, Instant};
@@ -24,23 +26,6 @@ struct Triple {
 struct Parts {
     provider: PackageId,
     consumer: PackageId,
-}
-
-/// How long a graph took to make, its nodes to remove and make again, and the graph to encode; and how many bytes that gave.
-#[derive(Clone, Copy)]
-struct Round {
-    made: Duration,
-    turned: Duration,
-    encoded: Duration,
-    length: usize,
-}
-
-/// How long each of these took.
-#[derive(Clone, Copy)]
-struct Costs {
-    made: Times,
-    turned: Times,
-    encoded: Times,
 }
 
 /// Registers a package with the export `a` and one with the import `b`, of one function type.
@@ -109,19 +94,6 @@ fn turn(
     Some(())
 }
 
-/// Does so some times; none where a call is refused.
-fn turns(
-    graph: &mut CompositionGraph,
-    parts: Parts,
-    names: &[String],
-    triples: &mut [Triple],
-) -> Option<()> {
-    for _ in 0..TURNS {
-        turn(graph, parts, names, triples)?;
-    }
-    Some(())
-}
-
 /// Makes a triple for each name.
 fn triples(
     alloc: Global,
@@ -145,58 +117,73 @@ fn names(alloc: Global, count: u64) -> Result<Vec<String>> {
     Ok(names)
 }
 
-/// Makes a triple for each name, and removes half of them and makes them again some times.
+/// Makes the triples of each graph.
+fn make_all(
+    alloc: Global,
+    graphs: &mut [CompositionGraph],
+    parts: &[Parts],
+    names: &[String],
+) -> Result<Vec<Vec<Triple>>> {
+    let mut all = Vec::new(alloc);
+    for (graph, parts) in graphs.iter_mut().zip(parts) {
+        all.push(triples(alloc, graph, *parts, names)?)?;
+    }
+    Ok(all)
+}
+
+/// Removes every other triple of each graph and makes it again.
+fn turn_all(
+    graphs: &mut [CompositionGraph],
+    parts: &[Parts],
+    names: &[String],
+    all: &mut [Vec<Triple>],
+) -> Result<()> {
+    for ((graph, parts), triples) in graphs.iter_mut().zip(parts).zip(all.iter_mut()) {
+        refused(turn(graph, *parts, names, triples))?;
+    }
+    Ok(())
+}
+
+/// Does so some times.
+fn turns(
+    graphs: &mut [CompositionGraph],
+    parts: &[Parts],
+    names: &[String],
+    all: &mut [Vec<Triple>],
+) -> Result<()> {
+    for _ in 0..TURNS {
+        turn_all(graphs, parts, names, all)?;
+    }
+    Ok(())
+}
+
+/// Registers the packages in each graph.
+fn prepare_all(alloc: Global, graphs: &mut [CompositionGraph]) -> Result<Vec<Parts>> {
+    let mut all = Vec::new(alloc);
+    for graph in graphs.iter_mut() {
+        all.push(register_parts(alloc, graph)?)?;
+    }
+    Ok(all)
+}
+
+/// Makes a triple for each name in each of these graphs with packages, removes half of them and makes them again some times, and
+/// encodes each graph; each step in all graphs before the next.
 fn timed(
     rt: &HostRuntime,
-    graph: &mut CompositionGraph,
-    parts: Parts,
+    graphs: &mut [CompositionGraph],
+    written: &mut Vec<Vec<u8>>,
+    parts: &[Parts],
     names: &[String],
-) -> Result<Round> {
+) -> Result<Costs> {
     let start = Instant::now(rt)?;
-    let mut triples = triples(rt.alloc(), graph, parts, names)?;
+    let mut all = make_all(rt.alloc(), graphs, parts, names)?;
     let made = start.elapsed(rt)?;
     let start = Instant::now(rt)?;
-    refused(turns(graph, parts, names, &mut triples))?;
+    turns(graphs, parts, names, &mut all)?;
     let turned = start.elapsed(rt)?;
     let start = Instant::now(rt)?;
-    let length = graph.encode(unvalidated())?.len();
+    encode_all(graphs, written)?;
     let encoded = start.elapsed(rt)?;
-    Ok(Round {
-        made,
-        turned,
-        encoded,
-        length,
-    })
-}
-
-/// Does it in a new graph.
-fn measured_once(rt: &HostRuntime, count: u64) -> Result<Round> {
-    let mut graph = CompositionGraph::new(rt.alloc());
-    let parts = register_parts(rt.alloc(), &mut graph)?;
-    let names = names(rt.alloc(), count)?;
-    timed(rt, &mut graph, parts, &names)
-}
-
-/// Measures so many triples, and prints how long each part takes; counts are of nodes, made or removed and made again.
-fn measured(rt: &HostRuntime, count: u32) -> Result<Costs> {
-    let mut making = Vec::new(rt.alloc());
-    let mut turning = Vec::new(rt.alloc());
-    let mut encoding = Vec::new(rt.alloc());
-    for _ in 0..ROUNDS {
-        let round = measured_once(rt, u64::from(count))?;
-        making.push(round.made)?;
-        turning.push(round.turned)?;
-        encoding.push(round.encoded)?;
-    }
-    let made = Times::of(making)?;
-    let turned = Times::of(turning)?;
-    let encoded = Times::of(encoding)?;
-    let nodes = 3 * u64::from(count);
-    let turned_nodes = TURNS * nodes / 2;
-    println!(rt; "churn {nodes}:")?;
-    print_times(rt, "  made", nodes, made)?;
-    print_times(rt, "  removed and made again", turned_nodes, turned)?;
-    print_times(rt, "  encoded", nodes, encoded)?;
     Ok(Costs {
         made,
         turned,
@@ -204,25 +191,52 @@ fn measured(rt: &HostRuntime, count: u32) -> Result<Costs> {
     })
 }
 
-/// Prints by which powers of the count the times grow to ten times it.
-fn print_growth(rt: &HostRuntime, first: Costs, last: Costs) -> Result<()> {
-    print_power_of_ten(rt, "  making", first.made, last.made)?;
-    print_power_of_ten(rt, "  removing and making again", first.turned, last.turned)?;
-    print_power_of_ten(rt, "  encoding", first.encoded, last.encoded)
+/// Does so with these empty graphs.
+fn prepared(
+    rt: &HostRuntime,
+    graphs: &mut [CompositionGraph],
+    written: &mut Vec<Vec<u8>>,
+    count: u64,
+) -> Result<Costs> {
+    let names = names(rt.alloc(), count)?;
+    let parts = prepare_all(rt.alloc(), graphs)?;
+    timed(rt, graphs, written, &parts, &names)
+}
+
+/// How long one of so many graphs of so many triples takes.
+fn costs(rt: &HostRuntime, parts: u32, graphs: u32) -> Result<Costs> {
+    let mut written = Vec::new(rt.alloc());
+    let mut made = empty(rt.alloc(), graphs)?;
+    let costs = prepared(rt, &mut made, &mut written, u64::from(parts))?;
+    Ok(costs.of_one(graphs))
 }
 
 /// Removes a few and makes them again, and prints how many bytes the graph has.
 pub fn show(rt: &HostRuntime) -> Result<()> {
-    let length = measured_once(rt, 10)?.length;
+    let mut written = Vec::new(rt.alloc());
+    let mut made = empty(rt.alloc(), 1)?;
+    let _costs = prepared(rt, &mut made, &mut written, 10)?;
+    let length = written.first().map_or(0, Vec::len);
     println!(rt; "10 triples of which half were removed and made again: {length} bytes")?;
     Ok(())
 }
 
+/// Times each size in turn, and prints how the times grow.
+fn measure_sizes(rt: &HostRuntime, how: &str, sizes: &mut [Size]) -> Result<()> {
+    for _ in 0..ROUNDS {
+        for size in sizes.iter_mut() {
+            let costs = costs(rt, size.parts, size.graphs)?;
+            size.take(costs);
+        }
+    }
+    growth::print(rt, "churn of triples", how, sizes)
+}
+
 /// Measures it, and prints how the times grow.
 pub fn measure(rt: &HostRuntime) -> Result<()> {
-    let few = measured(rt, 1_000)?;
-    let more = measured(rt, 10_000)?;
-    print_growth(rt, few, more)?;
-    let many = measured(rt, 100_000)?;
-    print_growth(rt, more, many)
+    let counts = [1_000, 10_000, 100_000];
+    let mut sizes = growth::alone(rt.alloc(), &counts)?;
+    measure_sizes(rt, "alone", &mut sizes)?;
+    let mut sizes = growth::in_equal_memory(rt.alloc(), &counts)?;
+    measure_sizes(rt, "in equal memory", &mut sizes)
 }

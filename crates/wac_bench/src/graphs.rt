@@ -5,9 +5,9 @@
 ghost use Rattle.std.specs.Prelude.{◌≡◌, IfOk, IsSome};
 ghost use Rattle.wac_nodes.specs.Graph.{package_at};
 
-use crate::times::{ROUNDS, Times, print_power_of_ten, print_times};
+use crate::growth::{self, Costs, ROUNDS, Size};
 use anyhow::{Result, bail};
-use std::alloc::Global;
+use std::alloc::{AllocError, Global};
 use std::time::{Duration, Instant};
 use wac_graph::types::{DefinedType, FuncType, ItemKind, Named, PrimitiveType, ValueType, World};
 use wac_graph::{CompositionGraph, EncodeOptions, NodeId, PackageId, plug};
@@ -26,21 +26,6 @@ pub enum Sort {
     Aliases,
     Plug,
     Shared,
-}
-
-/// How long a graph took to make and to encode.
-#[derive(Clone, Copy)]
-struct Costs {
-    made: Times,
-    encoded: Times,
-}
-
-/// One graph: how long it took to make and to encode, and how many bytes that gave.
-#[derive(Clone, Copy)]
-struct Round {
-    made: Duration,
-    encoded: Duration,
-    length: usize,
 }
 
 /// Adds a function type without parameters and result.
@@ -319,6 +304,14 @@ fn plugged(alloc: Global, graph: &mut CompositionGraph) -> Result<()> {
     Ok(plug(graph, plugs, socket)?)
 }
 
+/// The names of which graphs of a sort are made.
+fn names(alloc: Global, sort: Sort, count: u64) -> Result<Vec<String>> {
+    match sort {
+        Sort::Chain | Sort::Fan | Sort::Shared => Ok(Vec::new(alloc)),
+        Sort::Aliases | Sort::Plug => function_names(alloc, count),
+    }
+}
+
 /// Makes what is not timed: the packages of aliases and plugs.
 fn prepare(
     alloc: Global,
@@ -356,53 +349,87 @@ pub fn unvalidated<'a>() -> EncodeOptions<'a> {
     options
 }
 
-/// Makes a graph and encodes it.
-fn timed(rt: &HostRuntime, graph: &mut CompositionGraph, sort: Sort, count: u64) -> Result<Round> {
-    let names = match sort {
-        Sort::Chain | Sort::Fan | Sort::Shared => Vec::new(rt.alloc()),
-        Sort::Aliases | Sort::Plug => function_names(rt.alloc(), count)?,
-    };
-    prepare(rt.alloc(), graph, sort, &names)?;
+/// Makes what is not timed of each graph.
+fn prepare_all(
+    alloc: Global,
+    graphs: &mut [CompositionGraph],
+    sort: Sort,
+    names: &[String],
+) -> Result<()> {
+    for graph in graphs.iter_mut() {
+        prepare(alloc, graph, sort, names)?;
+    }
+    Ok(())
+}
+
+/// Makes what is timed of each graph.
+fn make_all(
+    alloc: Global,
+    graphs: &mut [CompositionGraph],
+    sort: Sort,
+    count: u64,
+    names: &[String],
+) -> Result<()> {
+    for graph in graphs.iter_mut() {
+        make(alloc, graph, sort, count, names)?;
+    }
+    Ok(())
+}
+
+/// Encodes each graph, and keeps the bytes.
+pub fn encode_all(graphs: &[CompositionGraph], written: &mut Vec<Vec<u8>>) -> Result<()> {
+    for graph in graphs {
+        written.push(graph.encode(unvalidated())?)?;
+    }
+    Ok(())
+}
+
+/// So many empty graphs.
+pub fn empty(alloc: Global, count: u32) -> Result<Vec<CompositionGraph>, AllocError> {
+    let mut graphs = Vec::new(alloc);
+    for _ in 0..count {
+        graphs.push(CompositionGraph::new(alloc))?;
+    }
+    Ok(graphs)
+}
+
+/// Makes graphs of a sort of these empty ones, one after another, and encodes each; while all of them stand.
+fn timed(
+    rt: &HostRuntime,
+    graphs: &mut [CompositionGraph],
+    written: &mut Vec<Vec<u8>>,
+    sort: Sort,
+    count: u64,
+) -> Result<Costs> {
+    let names = names(rt.alloc(), sort, count)?;
+    prepare_all(rt.alloc(), graphs, sort, &names)?;
     let start = Instant::now(rt)?;
-    make(rt.alloc(), graph, sort, count, &names)?;
+    make_all(rt.alloc(), graphs, sort, count, &names)?;
     let made = start.elapsed(rt)?;
     let start = Instant::now(rt)?;
-    let length = graph.encode(unvalidated())?.len();
+    encode_all(graphs, written)?;
     let encoded = start.elapsed(rt)?;
-    Ok(Round {
+    Ok(Costs {
         made,
+        turned: Duration::ZERO,
         encoded,
-        length,
     })
 }
 
-/// Makes a new graph and encodes it.
-fn measured_once(rt: &HostRuntime, sort: Sort, count: u64) -> Result<Round> {
-    let mut graph = CompositionGraph::new(rt.alloc());
-    timed(rt, &mut graph, sort, count)
+/// How long one of so many graphs of so many parts takes.
+fn costs(rt: &HostRuntime, sort: Sort, parts: u32, graphs: u32) -> Result<Costs> {
+    let mut written = Vec::new(rt.alloc());
+    let mut made = empty(rt.alloc(), graphs)?;
+    let costs = timed(rt, &mut made, &mut written, sort, u64::from(parts))?;
+    Ok(costs.of_one(graphs))
 }
 
-/// Makes a graph of so many parts and encodes it, and prints how long each takes.
-fn measured(rt: &HostRuntime, what: &str, sort: Sort, count: u64) -> Result<Costs> {
-    let mut making = Vec::new(rt.alloc());
-    let mut encoding = Vec::new(rt.alloc());
-    for _ in 0..ROUNDS {
-        let round = measured_once(rt, sort, count)?;
-        making.push(round.made)?;
-        encoding.push(round.encoded)?;
-    }
-    let made = Times::of(making)?;
-    let encoded = Times::of(encoding)?;
-    println!(rt; "{what} {count}:")?;
-    print_times(rt, "  made", count, made)?;
-    print_times(rt, "  encoded", count, encoded)?;
-    Ok(Costs { made, encoded })
-}
-
-/// Prints by which powers of the count the times grow to ten times it.
-fn print_growth(rt: &HostRuntime, first: Costs, last: Costs) -> Result<()> {
-    print_power_of_ten(rt, "  making", first.made, last.made)?;
-    print_power_of_ten(rt, "  encoding", first.encoded, last.encoded)
+/// How many bytes a graph of so many parts is encoded to.
+fn length(rt: &HostRuntime, sort: Sort, count: u64) -> Result<usize> {
+    let mut written = Vec::new(rt.alloc());
+    let mut made = empty(rt.alloc(), 1)?;
+    let _costs = timed(rt, &mut made, &mut written, sort, count)?;
+    Ok(written.first().map_or(0, Vec::len))
 }
 
 /// The word of a sort.
@@ -416,29 +443,41 @@ fn word(sort: Sort) -> &'static str {
     }
 }
 
+/// The counts at which a sort is measured.
+fn counts(sort: Sort) -> &'static [u32] {
+    match sort {
+        Sort::Chain | Sort::Fan | Sort::Shared => &[1_000, 10_000, 100_000],
+        Sort::Aliases | Sort::Plug => &[1_000, 10_000],
+    }
+}
+
 /// Makes a few of each and prints how many bytes they have.
 pub fn show(rt: &HostRuntime) -> Result<()> {
-    let chain = measured_once(rt, Sort::Chain, 10)?.length;
-    let fan = measured_once(rt, Sort::Fan, 10)?.length;
-    let plug = measured_once(rt, Sort::Plug, 10)?.length;
-    let shared = measured_once(rt, Sort::Shared, 40)?.length;
+    let chain = length(rt, Sort::Chain, 10)?;
+    let fan = length(rt, Sort::Fan, 10)?;
+    let plug = length(rt, Sort::Plug, 10)?;
+    let shared = length(rt, Sort::Shared, 40)?;
     println!(rt;
         "a chain of 10: {chain} bytes, a fan of 10: {fan} bytes, a plug with 10 functions: {plug} bytes, tuples 40 deep: {shared} bytes"
     )?;
     Ok(())
 }
 
+/// Times each size in turn, and prints how the times grow.
+fn measure_sizes(rt: &HostRuntime, sort: Sort, how: &str, sizes: &mut [Size]) -> Result<()> {
+    for _ in 0..ROUNDS {
+        for size in sizes.iter_mut() {
+            let costs = costs(rt, sort, size.parts, size.graphs)?;
+            size.take(costs);
+        }
+    }
+    growth::print(rt, word(sort), how, sizes)
+}
+
 /// Measures graphs of a sort, and prints how the times grow.
 pub fn measure(rt: &HostRuntime, sort: Sort) -> Result<()> {
-    let what = word(sort);
-    let few = measured(rt, what, sort, 1_000)?;
-    let more = measured(rt, what, sort, 10_000)?;
-    print_growth(rt, few, more)?;
-    match sort {
-        Sort::Chain | Sort::Fan | Sort::Shared => {
-            let many = measured(rt, what, sort, 100_000)?;
-            print_growth(rt, more, many)
-        }
-        Sort::Aliases | Sort::Plug => Ok(()),
-    }
+    let mut sizes = growth::alone(rt.alloc(), counts(sort))?;
+    measure_sizes(rt, sort, "alone", &mut sizes)?;
+    let mut sizes = growth::in_equal_memory(rt.alloc(), counts(sort))?;
+    measure_sizes(rt, sort, "in equal memory", &mut sizes)
 }

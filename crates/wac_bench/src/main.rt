@@ -1,13 +1,14 @@
 //! Measures how long calls of the libraries take: `names` reads names, `comparing` adds and compares items, `merging` merges
 //! imports, `writing` writes components; `chain`, `fan`, `aliases`, `plug` and `shared` make graphs and encode them, `churn`
 //! removes nodes and makes them again, and `wide` adds types. With such a word it takes a workload at some counts and prints its
-//! times and by which power of the count they grow; without one it does a little of each and prints no time. Another word ends it
-//! with status 2.
+//! times and by which power of the count they grow, of graphs both alone and in equal memory; without one it does a little of
+//! each and prints no time. Another word ends it with status 2.
 #![tactic(auto)]
 
 mod churn;
 mod comparing;
 mod graphs;
+mod growth;
 mod merging;
 mod names;
 mod times;

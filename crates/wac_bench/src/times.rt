@@ -62,8 +62,13 @@ pub fn print_power(rt: &HostRuntime, what: &str, first: Times, last: Times) -> R
 }
 
 /// Prints by which power of the count the time grows, where `last` was of ten times the count of `first`.
-pub fn print_power_of_ten(rt: &HostRuntime, what: &str, first: Times, last: Times) -> Result<()> {
-    print_tenths(rt, what, power_in_tenths(first.least, last.least, OF_TEN))
+pub fn print_power_of_ten(
+    rt: &HostRuntime,
+    what: &str,
+    first: Duration,
+    last: Duration,
+) -> Result<()> {
+    print_tenths(rt, what, power_in_tenths(first, last, OF_TEN))
 }
 
 /// Prints a power in tenths.

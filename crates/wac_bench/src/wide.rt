@@ -144,7 +144,7 @@ pub fn show(rt: &HostRuntime) -> Result<()> {
 pub fn measure(rt: &HostRuntime) -> Result<()> {
     let few = measured(rt, 100)?;
     let more = measured(rt, 1_000)?;
-    print_power_of_ten(rt, "wide", few, more)?;
+    print_power_of_ten(rt, "wide", few.least, more.least)?;
     let many = measured(rt, 10_000)?;
-    print_power_of_ten(rt, "wide", more, many)
+    print_power_of_ten(rt, "wide", more.least, many.least)
 }
