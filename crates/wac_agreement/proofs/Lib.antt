@@ -23,6 +23,5 @@ pub mod RestCircles
 pub mod OrderLaws
 pub mod OrderSteps
 pub mod OrderPlaces
-pub mod OrderGroups
 pub mod Agreeing
 pub mod Picking

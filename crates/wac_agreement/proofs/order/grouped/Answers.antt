@@ -4,7 +4,7 @@ use Rattle.wac_shapes.specs.declared.component.ItemKind.{ItemKind}
 use Rattle.wac_shapes.specs.declared.component.ItemKind.TheVariants as kind
 use Rattle.wac_entries.specs.Classes.{Entry}
 use Rattle.wac_entries.proofs.Lists.{some-at}
-use Rattle.wac_agreement.proofs.OrderGroups.{IsOther, grouping_new, grouping_same, is_other, where_of}
+use Rattle.wac_terms.proofs.OrderGroups.{IsOther, grouping_new, grouping_same, is_other, where_of}
 use Rattle.wac_agreement.proofs.order.grouped.Goals.{in-Instance+in_ok-push-in-Instance, in-TypeItem+in_ok-push-in-TypeItem, in_default+in_ok-push-in_default}
 use Rattle.wac_agreement.proofs.order.grouped.Goals as goal
 

@@ -1,4 +1,4 @@
-use Rattle.wac_agreement.proofs.OrderGroups.{IsGrouping}
+use Rattle.wac_terms.proofs.OrderGroups.{IsGrouping}
 use Rattle.wac_agreement.proofs.order.grouped.Given as goal
 
 abbrev pub invariant-loop-i : goal.invariant-loop-i
