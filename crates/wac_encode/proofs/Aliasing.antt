@@ -20,8 +20,8 @@ use Rattle.wac_collection.specs.Aliases.{value_resolved}
 use Rattle.wac_collection.specs.Bound.{Bindings, own_name}
 use Rattle.wac_collection.specs.Collection.{Collection, IsWellFormed, item_at}
 use Rattle.wac_binary.specs.Unfold.{Bound}
-use Rattle.wac_scopes.specs.Good.{IsHeld}
-use Rattle.wac_scopes.specs.Instances.{Exports, ExportsEnd, BindsInstance}
+use Rattle.wac_stacks.specs.Good.{IsHeld}
+use Rattle.wac_stacks.specs.Instances.{Exports, ExportsEnd, BindsInstance}
 use Rattle.wac_encode.specs.Importing.{definition_of, listed_definition, listed_definitions}
 use Rattle.wac_encode.specs.Listing.{are_plain, lists_plain}
 use Rattle.wac_encode.proofs.Plain.{plain-of, held-items}

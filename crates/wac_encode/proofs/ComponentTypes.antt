@@ -23,10 +23,10 @@ use Rattle.wac_scopes.specs.declared.fault.EncodeFault.{EncodeFault}
 use Rattle.wac_scopes.specs.declared.fault.EncodeFault.TheVariants as fault
 use Rattle.wac_scopes.specs.declared.scope.Scope.{Scope}
 use Rattle.wac_scopes.specs.Contents.{IsRoot, content_of, items_of, and_type, and_export, count, ContentFits}
-use Rattle.wac_scopes.specs.Scopes.{Open, env, next_type, with_def}
-use Rattle.wac_scopes.specs.Good.{Good, nothing_bound}
-use Rattle.wac_scopes.specs.Laws.{Adds, IsItsTree, StaysOnward}
-use Rattle.wac_scopes.specs.Listed.{declaring, OpensWorld, ClosesComponent}
+use Rattle.wac_stacks.specs.Scopes.{Open, env, next_type, with_def}
+use Rattle.wac_stacks.specs.Good.{Good, nothing_bound}
+use Rattle.wac_stacks.specs.Laws.{Adds, IsItsTree, StaysOnward}
+use Rattle.wac_stacks.specs.Listed.{declaring, OpensWorld, ClosesComponent}
 use Rattle.wac_scopes.specs.Rooted.{unbound, IsRightRoot, IsWrittenThere}
 use Rattle.wac_scopes.specs.Scoped.{type_index, recorded_type, opened, AddsInstance, AddsComponent, ListsInstanceOf, WritesUnlessTooLarge, FitsUnlessTooLarge, listing, place}
 use Rattle.wac_encode.specs.Written.{GoesOn, WritesFor}
@@ -38,7 +38,7 @@ use Rattle.wac_encode.proofs.Defining.{stands-there, at-root, defined-so, conten
 use Rattle.wac_encode.proofs.Imported.{still-root}
 use Rattle.wac_encode.proofs.Rows.{writes-type}
 use Rattle.wac_encode.proofs.Stacks.{writes-none}
-use Rattle.wac_scopes.proofs.Moved.{ap2}
+use Rattle.wac_stacks.proofs.Moved.{ap2}
 
 -- the id is one
 

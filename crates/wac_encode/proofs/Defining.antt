@@ -29,13 +29,13 @@ use Rattle.wac_scopes.specs.declared.fault.EncodeFault.TheVariants as fault
 use Rattle.wac_scopes.specs.declared.scope.Scope.{Scope}
 use Rattle.wac_scopes.specs.Contents.{IsRoot, items_of, and_type, count, ContentFits}
 use Rattle.wac_scopes.specs.Faults.{encode_fault}
-use Rattle.wac_scopes.specs.Scopes.{Content, ContentHasMeaning, at_type, scope_of, env}
-use Rattle.wac_scopes.specs.Good.{At, IsHeld, Good, nothing_bound}
-use Rattle.wac_scopes.specs.Laws.{IsItsEnd, IsItsTree, StaysOnward}
+use Rattle.wac_stacks.specs.Scopes.{Content, ContentHasMeaning, at_type, scope_of, env}
+use Rattle.wac_stacks.specs.Good.{At, IsHeld, Good, nothing_bound}
+use Rattle.wac_stacks.specs.Laws.{IsItsEnd, IsItsTree, StaysOnward}
 use Rattle.wac_scopes.specs.Rooted.{unbound, IsRightRoot, StaysRight, MeansBefore, IsWrittenThere}
 use Rattle.wac_scopes.specs.Scoped.{type_index, value_index, opened, root_of, HasToo, IsAsBefore, AddsPrimitive, WritesUnlessTooLarge, FitsUnlessTooLarge, listing}
 use Rattle.wac_scopes.proofs.Rooted.{content-of-root}
-use Rattle.wac_scopes.proofs.Values.{primitive-held}
+use Rattle.wac_stacks.proofs.Values.{primitive-held}
 use Rattle.wac_encode.specs.Written.{PartOf, WritesFor, with_types, IsOfFunc, AddsHeldFunc, IsFuncFrom, IsFuncAt, IsRefused, IsFuncRefused, NewType, defined as as_defined, aliased, as_item, IsListedThere}
 use Rattle.wac_encode.specs.Listing.{NeededBy, own_types, SameRecords, PrimitiveDoesNotFit}
 use Rattle.wac_encode.specs.Importing.{IsImportedOnce, NamesImportedValue}

@@ -18,7 +18,7 @@ use Rattle.wac_scopes.specs.declared.fault.EncodeFault.{EncodeFault}
 use Rattle.wac_scopes.specs.declared.fault.EncodeFault.TheVariants as fault
 use Rattle.wac_scopes.specs.Contents.{IsRoot, items_of, and_import, ContentFits}
 use Rattle.wac_scopes.specs.Scoped.{opened, root_of, IsNewInRoot, RootImportsFunction, WritesUnlessTooLarge}
-use Rattle.wac_scopes.specs.Laws.{Follows}
+use Rattle.wac_stacks.specs.Laws.{Follows}
 use Rattle.wac_encode.specs.Written.{IsOfFunc, WritesFor, with_types, AddsHeldFunc, IsFuncAt, IsFuncRefused, ImportsHeldFunc, EndsWithImport, IsImportRefused, NewType, defined, aliased, as_item}
 
 -- what one more item imports

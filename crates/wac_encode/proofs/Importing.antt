@@ -1,6 +1,6 @@
 -- Items of held kinds are imported into the root.
 use Rattle.wac_encode.proofs.Aliasing.{exports-listed}
-use Rattle.wac_scopes.specs.Instances.{ExportsEnd}
+use Rattle.wac_stacks.specs.Instances.{ExportsEnd}
 use Rattle.std.specs.Prelude.{ℕ, suc, ◌+◌, ◌<◌, ◌≡◌, List, [], ◌∷◌, ◌++◌, length, map, Option, Some, None, Err, true, slice_get}
 use Rattle.std.proofs.Common.{refl, ap, ◌∙◌, sym, subst, arith, inl, inr}
 use Rattle.wac_shapes.specs.Name.{Name, option_case}
@@ -34,11 +34,11 @@ use Rattle.wac_scopes.specs.declared.fault.EncodeFault.{EncodeFault}
 use Rattle.wac_scopes.specs.declared.fault.EncodeFault.TheVariants as fault
 use Rattle.wac_scopes.specs.declared.scope.Scope.{Scope}
 use Rattle.wac_scopes.specs.Contents.{content_of, items_of, IsRoot, and_type, and_import, count, ContentFits}
-use Rattle.wac_scopes.specs.Scopes.{Open, Stack, envs, scope_of}
-use Rattle.wac_scopes.specs.Good.{At, Onward}
-use Rattle.wac_scopes.specs.Laws.{Follows, IsItsEnd, IsItsTree, IsRecorded, StaysOnward}
+use Rattle.wac_stacks.specs.Scopes.{Open, Stack, envs, scope_of}
+use Rattle.wac_stacks.specs.Good.{At, Onward}
+use Rattle.wac_stacks.specs.Laws.{Follows, IsItsEnd, IsItsTree, IsRecorded, StaysOnward}
 use Rattle.wac_scopes.specs.Scoped.{type_index, value_index, opened, imported_at, root_of, IsNewInRoot, HasToo, IsAsBefore, IsAt, AddsPrimitive, AddsInstance, RootImports, RootImportsType, RootImportsValue, RootImportsFunction, RootImportsListing, AlsoLists, WritesUnlessTooLarge, FitsUnlessTooLarge, listing}
-use Rattle.wac_scopes.proofs.Values.{primitive-held}
+use Rattle.wac_stacks.proofs.Values.{primitive-held}
 use Rattle.wac_encode.specs.Written.{PartOf, WritesFor, with_types, IsOfFunc, AddsHeldFunc, IsFuncAt, IsRefused, IsFuncRefused, NewType, defined}
 use Rattle.wac_encode.specs.Listing.{SaysInterface, WritesInterface, NeededBy, SameRecords, PrimitiveDoesNotFit, IsInterfaceRefused, lists_plain}
 use Rattle.wac_encode.specs.Importing.{next_place, AddsHeldInterface, ImportsHeld, IsInterfaceFrom, IsInterfaceAt, IsInstanceRefused, IsImportedAs, IsImportedOnce, NamesImportedValue, WritesImport, WritesTypesOf, IsItemNotImported, held_imports, ImportsOneMore, listed_definitions}

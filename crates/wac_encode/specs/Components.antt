@@ -19,9 +19,9 @@ use Rattle.wac_scopes.specs.declared.fault.EncodeFault.{EncodeFault}
 use Rattle.wac_scopes.specs.declared.fault.EncodeFault.TheVariants as fault
 use Rattle.wac_scopes.specs.declared.scope.Scope.{Scope}
 use Rattle.wac_scopes.specs.Contents.{and_type, count, ContentFits}
-use Rattle.wac_scopes.specs.Scopes.{Open, Stack, next_type, with_def}
-use Rattle.wac_scopes.specs.Good.{Good, nothing_bound}
-use Rattle.wac_scopes.specs.Laws.{Adds}
+use Rattle.wac_stacks.specs.Scopes.{Open, Stack, next_type, with_def}
+use Rattle.wac_stacks.specs.Good.{Good, nothing_bound}
+use Rattle.wac_stacks.specs.Laws.{Adds}
 use Rattle.wac_encode.specs.Listing.{WritesInterface, IsInterfaceRefused}
 
 -- the interface has this id

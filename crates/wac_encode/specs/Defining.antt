@@ -22,7 +22,7 @@ use Rattle.wac_scopes.specs.declared.fault.WriteFault.{WriteFault}
 use Rattle.wac_scopes.specs.declared.fault.WriteFault.TheVariants as write
 use Rattle.wac_scopes.specs.declared.scope.Scope.{Scope}
 use Rattle.wac_scopes.specs.Contents.{items_of}
-use Rattle.wac_scopes.specs.Good.{nothing_bound}
+use Rattle.wac_stacks.specs.Good.{nothing_bound}
 use Rattle.wac_encode.specs.Written.{WritesFor, HasHandle, AddsHeldFunc, IsFuncAt}
 use Rattle.wac_encode.specs.Listing.{lists_plain, NeededBy, own_types, IsListedAt, SameRecords, TypeDoesNotFit, IsInterfaceRefused}
 use Rattle.wac_encode.specs.Importing.{NamesImportedValue}

@@ -25,9 +25,9 @@ use Rattle.wac_scopes.specs.declared.fault.EncodeFault.TheVariants as fault
 use Rattle.wac_scopes.specs.declared.fault.WriteFault.{WriteFault}
 use Rattle.wac_scopes.specs.declared.fault.WriteFault.TheVariants as write
 use Rattle.wac_scopes.specs.Contents.{and_type, and_import, count, ContentFits}
-use Rattle.wac_scopes.specs.Scopes.{Open, Stack}
-use Rattle.wac_scopes.specs.Good.{At, IsHeld, Good}
-use Rattle.wac_scopes.specs.Laws.{Adds}
+use Rattle.wac_stacks.specs.Scopes.{Open, Stack}
+use Rattle.wac_stacks.specs.Good.{At, IsHeld, Good}
+use Rattle.wac_stacks.specs.Laws.{Adds}
 use Rattle.wac_scopes.specs.Scoped.{type_index, value_index, HasToo, AlsoLists, opened, root_of, IsNewInRoot, RootImports}
 use Rattle.wac_encode.specs.Written.{PartOf, WritesFor, HasHandle, IsOfFunc}
 use Rattle.wac_encode.specs.Listing.{lists_plain, WritesInterface, NeededBy, own_types, IsDescribed, SameRecords, TypeDoesNotFit, IsInterfaceRefused}

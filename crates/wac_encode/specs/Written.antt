@@ -27,10 +27,10 @@ use Rattle.wac_scopes.specs.declared.fault.EncodeFault.{EncodeFault}
 use Rattle.wac_scopes.specs.declared.fault.EncodeFault.TheVariants as fault
 use Rattle.wac_scopes.specs.declared.fault.WriteFault.TheVariants as write
 use Rattle.wac_scopes.specs.Contents.{and_type, and_alias_of, and_import, count, ContentFits}
-use Rattle.wac_scopes.specs.Scopes.{Open, Stack, env, envs}
-use Rattle.wac_scopes.specs.Good.{IsHeld, Good, Onward}
-use Rattle.wac_scopes.specs.Laws.{Adds}
-use Rattle.wac_scopes.specs.Parts.{Is, IsWritten, IsWrittenFunc}
+use Rattle.wac_stacks.specs.Scopes.{Open, Stack, env, envs}
+use Rattle.wac_stacks.specs.Good.{IsHeld, Good, Onward}
+use Rattle.wac_stacks.specs.Laws.{Adds}
+use Rattle.wac_stacks.specs.Parts.{Is, IsWritten, IsWrittenFunc}
 use Rattle.wac_scopes.specs.Scoped.{type_index, value_index, listed_at, listing, in_use, opened, IsNewInRoot, RootImports}
 use Rattle.wac_listing.specs.Made.{MadeOf, OneIsMadeOf}
 

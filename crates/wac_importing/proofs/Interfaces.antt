@@ -13,7 +13,7 @@ use Rattle.wac_collection.specs.Collection.{Collection, IsWellFormed, item_at, i
 use Rattle.wac_collection.specs.Held.{items_under}
 use Rattle.wac_collection.specs.Bound.{Bindings, first_bound, held_tree}
 use Rattle.wac_scopes.specs.declared.fault.WriteFault.{WriteFault}
-use Rattle.wac_scopes.specs.Good.{nothing_bound}
+use Rattle.wac_stacks.specs.Good.{nothing_bound}
 use Rattle.wac_encode.specs.Components.{held_under_id, component_tree}
 use Rattle.wac_encode.specs.Defining.{IsDefinitionFault}
 use Rattle.wac_encode.specs.Defining.{IsDefinable as IsWritable}

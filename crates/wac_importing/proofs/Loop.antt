@@ -32,9 +32,9 @@ use Rattle.wac_scopes.specs.declared.encodable.Encodable.{Encodable}
 use Rattle.wac_scopes.specs.declared.encodable.Encodable.TheVariants.{Builder, Instance, Component}
 use Rattle.wac_scopes.specs.declared.scope.Scope.{Scope}
 use Rattle.wac_scopes.specs.Contents.{IsRoot, items_of, content_of, and_import, count}
-use Rattle.wac_scopes.specs.Scopes.{Open, root, ContentHasMeaning, opening}
-use Rattle.wac_scopes.specs.Good.{Good}
-use Rattle.wac_scopes.specs.Inside.{StartsRoot}
+use Rattle.wac_stacks.specs.Scopes.{Open, root, ContentHasMeaning, opening}
+use Rattle.wac_stacks.specs.Good.{Good}
+use Rattle.wac_stacks.specs.Inside.{StartsRoot}
 use Rattle.wac_scopes.specs.Scoped.{opened, place, recorded_type, type_index, listing, IsNewInRoot, root_of}
 use Rattle.wac_encode.specs.Written.{NewType, defined, aliased, as_item, with_types}
 use Rattle.wac_encode.specs.Importing.{ImportsHeld, WritesImport, IsImportedAs}
