@@ -23,7 +23,7 @@ use Rattle.wac_scopes.specs.Contents.{IsRoot, items_of, and_core_module, and_imp
 use Rattle.wac_stacks.specs.Laws.{Follows}
 use Rattle.wac_stacks.specs.Modules.{HoldsModule}
 use Rattle.wac_scopes.specs.Scoped.{opened, root_of, IsNewInRoot, AddsModule, RootImportsModule}
-use Rattle.wac_encode.specs.Importing.{ImportsHeld}
+use Rattle.wac_root.specs.Importing.{ImportsHeld}
 use Rattle.wac_meaning.proofs.MeaningLemmas.{meaning-push, indexes-push}
 use Rattle.wac_importing.specs.Modules.{WritesModule}
 
