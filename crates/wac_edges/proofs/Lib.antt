@@ -12,3 +12,4 @@ pub mod FindLemmas
 pub mod SetLemmas
 pub mod AliasLemmas
 pub mod RisingLemmas
+pub mod CountLemmas

@@ -1,7 +1,6 @@
 -- What the counts of the edges from those that are left say.
-use Rattle.std.specs.Global.{Global}
-use Rattle.std.proofs.Common.{◌≡◌, ℕ, zero, suc, ◌+◌, ◌-◌, ◌<◌, ◌≤◌, Bool, true, false, not, ◌&&◌, List, [], ◌∷◌, length, drop, Some, refl, ap, sym, ◌∙◌, ◌⊎◌, inl, inr, subst, arith, add-one, drop-cons, eqb}
-use Rattle.std.specs.Prelude.{Vec, ◌==◌, slice_get, slice_set, slice_index, ◌↔◌}
+use Rattle.std.proofs.Common.{◌≡◌, ℕ, zero, suc, ◌+◌, ◌-◌, ◌<◌, ◌≤◌, Bool, true, false, not, ◌&&◌, List, [], ◌∷◌, length, refl, ap, sym, ◌∙◌, ◌⊎◌, inl, inr, arith, eqb}
+use Rattle.std.specs.Prelude.{◌==◌, slice_set, slice_index}
 use Rattle.std.specs.BinaryHeap.{IsUpperBound}
 use Rattle.std.specs.Ordering.{nat_cmp, is_lt}
 use Rattle.std.specs.declared.cmp.Reverse.{Reverse}
@@ -14,104 +13,12 @@ use Rattle.std.proofs.lemmas.Bool.{cases_eq, eqb-true, cases_lt, eq-eqb, ne_eqb,
 use Rattle.std.proofs.lemmas.Cmp.{ranked}
 use Rattle.wac_edges.specs.declared.node.NodeId.{NodeId}
 use Rattle.wac_edges.specs.Edge.{is_left, node_number, IsBlocked, IsFree}
-use Rattle.wac_cycles.specs.Numbers.{Has}
-use Rattle.wac_edges.specs.Order.{Edges, IsEdge, IsLowestReady, IsStuck}
-use Rattle.wac_edges.specs.Ready.{occurs, incoming, AreCounted, IsListed, is_left_with, is_set, one, stands}
-use Rattle.wac_cycles.proofs.Numbers.{has_head, has_tail, has_split}
+use Rattle.wac_edges.specs.declared.edges.Edge.{Edge}
+use Rattle.wac_edges.specs.Order.{Edges, IsLowestReady, IsStuck}
+use Rattle.wac_edges.specs.Ready.{leading, leads_to, incoming, AreCounted, is_left_with, is_set, one, stands}
+use Rattle.wac_edges.proofs.CountLemmas.{incoming_none, incoming_some}
 use Rattle.wac_edges.proofs.OrderLemmas.{flag_after}
 use Rattle.wac_edges.proofs.CycleLemmas.{within}
-
--- ---- how often a number stands in a list
-occurs_same : (q k : ℕ) (ks : List ℕ) → q ≡ k → occurs (k ∷ ks) q ≡ 1 + occurs ks q
-occurs_same q k ks e = rw (eq-eqb q k e) refl
-
-occurs_other : (q k : ℕ) (ks : List ℕ) → (q ≡ k → ⊥) → occurs (k ∷ ks) q ≡ occurs ks q
-occurs_other q k ks other = rw (ne_eqb q k other) (omega arith)
-
-occurs_more : (q k : ℕ) (ks : List ℕ) → occurs ks q ≤ occurs (k ∷ ks) q
-occurs_more q k ks = elim (cases_eq q k) [
-  | inl e ↦ let one = occurs_same q k ks e in omega arith
-  | inr other ↦ let none = occurs_other q k ks other in omega arith
-]
-
-pub has_occurs : (ks : List ℕ) (q : ℕ) → Has ks q → 0 < occurs ks q
-has_occurs [] q h = cc
-has_occurs (k ∷ ks) q h = split (has_split q k ks h) (λ r. has_occurs ks q r) where
-  split : (q ≡ k) ⊎ Has ks q → (Has ks q → 0 < occurs ks q) → 0 < occurs (k ∷ ks) q
-  split (inl e) _ = let one = occurs_same q k ks e in omega arith
-  split (inr r) more = let some = more r in let also = occurs_more q k ks in omega arith
-
-pub occurs_has : (ks : List ℕ) (q : ℕ) → 0 < occurs ks q → Has ks q
-occurs_has [] q h = absurd (omega arith)
-occurs_has (k ∷ ks) q h = split (cases_eq q k) (λ r. occurs_has ks q r) where
-  split : (q ≡ k) ⊎ (q ≡ k → ⊥) → (0 < occurs ks q → Has ks q) → Has (k ∷ ks) q
-  split (inl e) _ = has_head q k ks e
-  split (inr other) more = has_tail q k ks (more (let none = occurs_other q k ks other in omega arith))
-
--- ---- how many edges lead to a number from those that are left
-pub incoming_none : (flags : List Bool) (sets : List (Vec ℕ Global)) (b : ℕ) → incoming flags sets b ≡ 0 → (a : ℕ) → is_set flags a ≡ true → IsListed sets a b → ⊥
-incoming_none [] sets b none a here step = cc
-incoming_none (true ∷ flags) [] b none a here (s, at, has) = cc
-incoming_none (false ∷ flags) [] b none a here (s, at, has) = cc
-incoming_none (true ∷ flags) (s ∷ sets) b none zero here (t, at, has) =
-    let same : s ≡ t = cc in
-    let some = has_occurs s.items b (subst (λ (x : Vec ℕ Global). Has x.items b) (sym same) has) in
-    omega arith
-incoming_none (false ∷ flags) (s ∷ sets) b none zero here step = cc
-incoming_none (true ∷ flags) (s ∷ sets) b none (suc a) here step = incoming_none flags sets b (omega arith) a here step
-incoming_none (false ∷ flags) (s ∷ sets) b none (suc a) here step = incoming_none flags sets b none a here step
-
-pub incoming_some : (flags : List Bool) (sets : List (Vec ℕ Global)) (b : ℕ) → 0 < incoming flags sets b → (a : ℕ) × (is_set flags a ≡ true) × IsListed sets a b
-incoming_some [] sets b some = absurd (omega arith)
-incoming_some (true ∷ flags) [] b some = absurd (omega arith)
-incoming_some (false ∷ flags) [] b some = absurd (omega arith)
-incoming_some (true ∷ flags) (s ∷ sets) b some = split (cases_lt 0 (occurs s.items b)) (λ r. incoming_some flags sets b r) where
-  split : (0 < occurs s.items b) ⊎ (occurs s.items b ≤ 0) → (0 < incoming flags sets b → (a : ℕ) × (is_set flags a ≡ true) × IsListed sets a b) → (a : ℕ) × (is_set (true ∷ flags) a ≡ true) × IsListed (s ∷ sets) a b
-  split (inl h) _ = (zero, refl, (s, refl, occurs_has s.items b h))
-  split (inr none) more = let (a, here, step) = more (omega arith) in (suc a, here, step)
-incoming_some (false ∷ flags) (s ∷ sets) b some = let (a, here, step) = incoming_some flags sets b some in (suc a, here, step)
-
--- those from one that is written are taken away
-pub incoming_written : (flags : List Bool) (sets : List (Vec ℕ Global)) (n : ℕ) (s : Vec ℕ Global) (b : ℕ) → is_set flags n ≡ true → slice_get sets n ≡ Some s → incoming flags sets b ≡ occurs s.items b + incoming (slice_set flags n false) sets b
-incoming_written [] sets n s b here at = cc
-incoming_written (true ∷ flags) [] n s b here at = cc
-incoming_written (false ∷ flags) [] n s b here at = cc
-incoming_written (true ∷ flags) (t ∷ sets) zero s b here at = let same : t ≡ s = cc in ap (λ (x : Vec ℕ Global). occurs x.items b + incoming flags sets b) same
-incoming_written (false ∷ flags) (t ∷ sets) zero s b here at = cc
-incoming_written (true ∷ flags) (t ∷ sets) (suc n) s b here at = let rest = incoming_written flags sets n s b here at in omega arith
-incoming_written (false ∷ flags) (t ∷ sets) (suc n) s b here at = incoming_written flags sets n s b here at
-
--- those from the first that is not counted yet
-incoming_more : (flags : List Bool) (sets : List (Vec ℕ Global)) (a : ℕ) (s : Vec ℕ Global) (b : ℕ) → is_set flags a ≡ true → slice_get sets a ≡ Some s → incoming (drop a flags) (drop a sets) b ≡ occurs s.items b + incoming (drop (suc a) flags) (drop (suc a) sets) b
-incoming_more [] sets a s b here at = cc
-incoming_more (f ∷ flags) [] a s b here at = cc
-incoming_more (true ∷ flags) (t ∷ sets) zero s b here at = let same : t ≡ s = cc in ap (λ (x : Vec ℕ Global). occurs x.items b + incoming flags sets b) same
-incoming_more (false ∷ flags) (t ∷ sets) zero s b here at = cc
-incoming_more (f ∷ flags) (t ∷ sets) (suc a) s b here at = incoming_more flags sets a s b here at
-
-incoming_skip : (flags : List Bool) (sets : List (Vec ℕ Global)) (a b : ℕ) → a < length flags → a < length sets → is_set flags a ≡ false → incoming (drop a flags) (drop a sets) b ≡ incoming (drop (suc a) flags) (drop (suc a) sets) b
-incoming_skip [] sets a b low also gone = absurd (omega arith)
-incoming_skip (f ∷ flags) [] a b low also gone = absurd (omega arith)
-incoming_skip (true ∷ flags) (t ∷ sets) zero b low also gone = cc
-incoming_skip (false ∷ flags) (t ∷ sets) zero b low also gone = refl
-incoming_skip (f ∷ flags) (t ∷ sets) (suc a) b low also gone = incoming_skip flags sets a b (omega arith) (omega arith) gone
-
-pub incoming_more_yes : (flags : List Bool) (sets : List (Vec ℕ Global)) (a : ℕ) (s : Vec ℕ Global) (b : ℕ) → is_set flags a ≡ true → slice_get sets a ≡ Some s → incoming (drop a flags) (drop a sets) b ≡ occurs s.items b + incoming (drop (a + 1) flags) (drop (a + 1) sets) b
-incoming_more_yes flags sets a s b here at = rw (add-one a) (incoming_more flags sets a s b here at)
-
-pub incoming_more_no : (flags : List Bool) (sets : List (Vec ℕ Global)) (a b : ℕ) → a < length flags → a < length sets → is_set flags a ≡ false → incoming (drop a flags) (drop a sets) b ≡ incoming (drop (a + 1) flags) (drop (a + 1) sets) b
-incoming_more_no flags sets a b low also gone = rw (add-one a) (incoming_skip flags sets a b low also gone)
-
--- ---- counts
--- the counts once one is written
-pub counted_next : (flags : List Bool) (sets : List (Vec ℕ Global)) (old new : List ℕ) (n : ℕ) (s : Vec ℕ Global) → is_set flags n ≡ true → slice_get sets n ≡ Some s → length new ≡ length old → AreCounted flags sets old
-    → ((b : ℕ) → b < length old → slice_index new b ≡ slice_index old b - occurs s.items b) → AreCounted (slice_set flags n false) sets new
-counted_next flags sets old new n s here at long counted away b low =
-    let small : b < length old = omega (arith, long) in
-    let was : slice_index old b ≡ incoming flags sets b = counted b small in
-    let now : slice_index new b ≡ slice_index old b - occurs s.items b = away b small in
-    let both = incoming_written flags sets n s b here at in
-    omega arith
 
 -- ---- the numbers that are ready
 eqb_same : (q b : ℕ) → q ≡ b → one (q == b) ≡ 1
@@ -176,30 +83,24 @@ taken : (counts : List ℕ) (a q : ℕ) → (q ≡ a → ⊥) → slice_index (s
 taken counts a q other = get_or-set_other counts a q (slice_index counts a - 1) 0 other
 
 -- the edges that are still to be taken away, once one more is
-pub released_next : (counts ts : List ℕ) (i q : ℕ) → i < length ts → q < length counts → slice_index (slice_set counts (slice_index ts i) (slice_index counts (slice_index ts i) - 1)) q - occurs (drop (i + 1) ts) q ≡ slice_index counts q - occurs (drop i ts) q
-released_next counts ts i q low small = split (cases_eq q k) where
+pub released_next : (counts : List ℕ) (e : Edge) (es : List Edge) (q : ℕ) → q < length counts → slice_index (slice_set counts e.target.0 (slice_index counts e.target.0 - 1)) q - leading es q ≡ slice_index counts q - leading (e ∷ es) q
+released_next counts e es q small = split (cases_eq q e.target.0) where
   k : ℕ
-  k = slice_index ts i
+  k = e.target.0
 
   less : List ℕ
   less = slice_set counts k (slice_index counts k - 1)
 
-  rest : List ℕ
-  rest = drop (i + 1) ts
+  whole : leading (e ∷ es) q ≡ one (q == k) + leading es q
+  whole = sum_by-cons (λ e. one (leads_to q e)) e es
 
-  cons : drop i ts ≡ k ∷ rest
-  cons = rw (add-one i) (drop-cons ts i 0 low)
-
-  whole : occurs (drop i ts) q ≡ occurs (k ∷ rest) q
-  whole = ap (λ (xs : List ℕ). occurs xs q) cons
-
-  split : (q ≡ k) ⊎ (q ≡ k → ⊥) → slice_index less q - occurs rest q ≡ slice_index counts q - occurs (drop i ts) q
-  split (inl e) =
-      let single = occurs_same q k rest e in
-      let at : slice_index less q ≡ slice_index counts k - 1 = ap (slice_index less) e ∙ get_or-set_same counts k (slice_index counts k - 1) 0 (omega (arith, e)) in
-      let was : slice_index counts q ≡ slice_index counts k = ap (slice_index counts) e in
+  split : (q ≡ k) ⊎ (q ≡ k → ⊥) → slice_index less q - leading es q ≡ slice_index counts q - leading (e ∷ es) q
+  split (inl same) =
+      let single = eqb_same q k same in
+      let at : slice_index less q ≡ slice_index counts k - 1 = ap (slice_index less) same ∙ get_or-set_same counts k (slice_index counts k - 1) 0 (omega (arith, same)) in
+      let was : slice_index counts q ≡ slice_index counts k = ap (slice_index counts) same in
       omega (arith, whole, single, at, was)
-  split (inr other) = let none = occurs_other q k rest other in let at = taken counts k q other in omega (arith, whole, none, at)
+  split (inr other) = let none = eqb_other q k other in let at = taken counts k q other in omega (arith, whole, none, at)
 
 pub released_yes : (old new : List (Reverse ℕ)) (flags : List Bool) (counts : List ℕ) (a : ℕ) → a < length counts → is_left_with flags counts 1 a ≡ true → ((q : ℕ) → stands new q ≡ one (q == a) + stands old q) → ((q : ℕ) → stands old q ≡ one (is_left_with flags counts 0 q))
     → (q : ℕ) → stands new q ≡ one (is_left_with flags (slice_set counts a (slice_index counts a - 1)) 0 q)
@@ -294,21 +195,19 @@ ready_next old new flags counts n was fewer q = split (cases_eq q n) where
       let old' = was q in
       omega arith
 
-module _ (edges : Edges) (flags : List Bool) (sets : List (Vec ℕ Global)) (counts : List ℕ) (ready : List (Reverse ℕ)) (nodes : ℕ) (steps : (a b : ℕ) → IsListed sets a b ↔ ((a < nodes) × IsEdge edges (node_number a) (node_number b))) (flags_long : length flags ≡ nodes) (counts_long : length counts ≡ nodes) (counted : AreCounted flags sets counts) (are : (q : ℕ) → stands ready q ≡ one (is_left_with flags counts 0 q)) where
-  count_is : (n : ℕ) → is_set flags n ≡ true → slice_index counts n ≡ incoming flags sets n
-  count_is n here = let low = within flags n here in counted n (omega (arith, low, flags_long, counts_long))
+module _ (edges : Edges) (flags : List Bool) (counts : List ℕ) (ready : List (Reverse ℕ)) (long : length counts ≡ length flags) (counted : AreCounted flags edges counts) (are : (q : ℕ) → stands ready q ≡ one (is_left_with flags counts 0 q)) where
+  count_is : (n : ℕ) → is_set flags n ≡ true → slice_index counts n ≡ incoming flags counted.0 n
+  count_is n here = let low = within flags n here in counted.2 n (omega (arith, low, long))
 
   zero_free : (n : NodeId) → is_left flags n ≡ true → slice_index counts n.0 ≡ 0 → IsFree edges (is_left flags) n
   zero_free n here none e stands leads = false_from_ne_true (is_left flags e.source) (λ from.
-      let low = within flags e.source.0 from in
-      incoming_none flags sets n.0 (sym (count_is n.0 here) ∙ none) e.source.0 from ((steps e.source.0 n.0).1 (omega (arith, low, flags_long), (e, stands, refl, leads))))
+      incoming_none flags counted.0 n.0 (sym (count_is n.0 here) ∙ none) e ((counted.1.all e).1 stands) (ap (λ (k : NodeId). k.0) (sym leads)) from)
 
   more_blocked : (m : NodeId) → is_left flags m ≡ true → (slice_index counts m.0 ≡ 0 → ⊥) → IsBlocked edges (is_left flags) m
   more_blocked m here some =
       let count = count_is m.0 here in
-      let (a, from, step) = incoming_some flags sets m.0 (positive (incoming flags sets m.0) (λ none. some (count ∙ none))) in
-      let (e, stands, leaves, leads) = ((steps a m.0).0 step).1 in
-      (e, stands, leads, ap (is_left flags) leaves ∙ from) where
+      let (e, w, leads, from) = incoming_some flags counted.0 m.0 (positive (incoming flags counted.0 m.0) (λ none. some (count ∙ none))) in
+      (e, (counted.1.all e).0 w, ap node_number (sym leads), from) where
         positive : (k : ℕ) → (k ≡ 0 → ⊥) → 0 < k
         positive zero h = absurd (h refl)
         positive (suc k) h = omega arith

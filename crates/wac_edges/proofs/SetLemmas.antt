@@ -26,7 +26,7 @@ from_slot (None ∷ slots) (suc k) e h = from_slot slots k e h
 from_slot (Some r ∷ slots) zero e h = (0, omega arith, cc)
 from_slot (Some r ∷ slots) (suc k) e h = Contains-cons r.edge e (all_edges slots) (from_slot slots k e h)
 
-to_slot : (slots : List (Option Record)) (e : Edge) → Contains (all_edges slots) e → (k : ℕ) × (option_map (λ (r : Record). r.edge) (slice_index_or slots k None) ≡ Some e)
+pub to_slot : (slots : List (Option Record)) (e : Edge) → Contains (all_edges slots) e → (k : ℕ) × (option_map (λ (r : Record). r.edge) (slice_index_or slots k None) ≡ Some e)
 to_slot [] e (i, within, _) = absurd (omega arith)
 to_slot (None ∷ slots) e w = let (k, at) = to_slot slots e w in (suc k, at)
 to_slot (Some r ∷ slots) e w = elim (Contains-cons_cases r.edge e (all_edges slots) w) [

@@ -1,7 +1,6 @@
 -- The nodes to which edges lead, in sets and in lists, and that cycles of edges are those of steps between numbers.
-use Rattle.std.proofs.Common.{◌≡◌, ℕ, zero, suc, ◌+◌, ◌<◌, true, List, [], ◌∷◌, ◌++◌, length, ap, sym, ◌∙◌, refl, subst, ◌⊎◌, inl, inr, arith}
-use Rattle.std.specs.Global.{Global}
-use Rattle.std.specs.Prelude.{◌↔◌, Vec}
+use Rattle.std.proofs.Common.{◌≡◌, ℕ, ◌+◌, ◌<◌, true, List, [], ◌∷◌, ◌++◌, length, ap, sym, ◌∙◌, subst, ◌⊎◌, inl, inr, arith}
+use Rattle.std.specs.Prelude.{◌↔◌}
 use Rattle.std.specs.BTreeSet.{BTreeSet}
 use Rattle.std.specs.FinSet as set
 use Rattle.std.proofs.lemmas.Bool.{cases_eq}
@@ -13,9 +12,6 @@ use Rattle.wac_edges.specs.Edge.{node_number}
 use Rattle.wac_cycles.specs.Cycles.{IsStep, AreWithin, LeadsBack, HasNoCycle, HasLowestOnCycle, Path, step, further}
 use Rattle.wac_edges.specs.Order.{Edges, IsEdge, Leads, IsOnCycle, IsAcyclic, IsLowestOnCycle}
 use Rattle.wac_edges.specs.Ends.{AreAt, LeadsTo}
-use Rattle.wac_edges.specs.Ready.{IsListed}
-use Rattle.wac_cycles.specs.Numbers.{Has}
-use Rattle.wac_cycles.proofs.Numbers.{has_front, has_last, has_either}
 use Rattle.wac_edges.proofs.ReachLemmas.{cycle_target}
 
 -- no step leads from no edge
@@ -67,38 +63,6 @@ leads_push given e b = (to, from) where
   from : LeadsTo given (node_number b) ⊎ (b ≡ e.target.0) → LeadsTo (given ++ e ∷ []) (node_number b)
   from (inl (x, w, leads)) = (x, Contains-append_left given (e ∷ []) x w, leads)
   from (inr same) = (e, Contains-push given e, ap node_number (sym same))
-
--- the target of one more edge
-pub has_push : (ts : List ℕ) (given : List Edge) (e : Edge) (b : ℕ) → Has ts b ↔ LeadsTo given (node_number b) → Has (ts ++ e.target.0 ∷ []) b ↔ LeadsTo (given ++ e ∷ []) (node_number b)
-has_push ts given e b was = (λ h. to (has_either ts e.target.0 b h), λ l. from ((leads_push given e b).0 l)) where
-  to : Has ts b ⊎ (b ≡ e.target.0) → LeadsTo (given ++ e ∷ []) (node_number b)
-  to (inl h) = (leads_push given e b).1 (inl (was.0 h))
-  to (inr same) = (leads_push given e b).1 (inr same)
-
-  from : LeadsTo given (node_number b) ⊎ (b ≡ e.target.0) → Has (ts ++ e.target.0 ∷ []) b
-  from (inl l) = has_front ts e.target.0 b (was.1 l)
-  from (inr same) = subst (Has (ts ++ e.target.0 ∷ [])) (sym same) (has_last ts e.target.0)
-
-listed_to : (lists : List (Vec ℕ Global)) (ts : Vec ℕ Global) (n b : ℕ) → IsListed (lists ++ ts ∷ []) n b → IsListed lists n b ⊎ ((n ≡ length lists) × Has ts.items b)
-listed_to [] ts zero b (l, at, has) = let same : ts ≡ l = cc in inr (refl, subst (λ (x : Vec ℕ Global). Has x.items b) (sym same) has)
-listed_to [] ts (suc n) b (l, at, has) = cc
-listed_to (x ∷ xs) ts zero b l = inl l
-listed_to (x ∷ xs) ts (suc n) b l = split (listed_to xs ts n b l) where
-  split : IsListed xs n b ⊎ ((n ≡ length xs) × Has ts.items b) → IsListed (x ∷ xs) (suc n) b ⊎ ((suc n ≡ length (x ∷ xs)) × Has ts.items b)
-  split (inl s) = inl s
-  split (inr (same, has)) = inr (ap suc same, has)
-
-listed_from : (lists : List (Vec ℕ Global)) (ts : Vec ℕ Global) (n b : ℕ) → IsListed lists n b ⊎ ((n ≡ length lists) × Has ts.items b) → IsListed (lists ++ ts ∷ []) n b
-listed_from [] ts n b (inl (l, at, has)) = cc
-listed_from [] ts n b (inr (same, has)) = subst (λ (k : ℕ). IsListed (ts ∷ []) k b) (sym same) (ts, refl, has)
-listed_from (x ∷ xs) ts zero b (inl l) = l
-listed_from (x ∷ xs) ts zero b (inr (same, has)) = absurd (omega (arith, same))
-listed_from (x ∷ xs) ts (suc n) b (inl l) = listed_from xs ts n b (inl l)
-listed_from (x ∷ xs) ts (suc n) b (inr (same, has)) = listed_from xs ts n b (inr (omega (arith, same), has))
-
--- one more list
-pub listed_push : (lists : List (Vec ℕ Global)) (ts : Vec ℕ Global) (a n b : ℕ) → length lists ≡ a → IsListed (lists ++ ts ∷ []) n b ↔ (IsListed lists n b ⊎ ((n ≡ a) × Has ts.items b))
-listed_push lists ts a n b long = subst (λ (k : ℕ). IsListed (lists ++ ts ∷ []) n b ↔ (IsListed lists n b ⊎ ((n ≡ k) × Has ts.items b))) long (listed_to lists ts n b, listed_from lists ts n b)
 
 -- the edges out of a node lead where its edges in the set do
 pub leads_at : (edges : Edges) (a : NodeId) (es : List Edge) → AreAt edges a Outgoing es → (b : NodeId) → LeadsTo es b ↔ IsEdge edges a b

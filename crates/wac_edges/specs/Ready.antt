@@ -1,13 +1,12 @@
 -- How the next node to be written is found: the edges to each node from those that are left are counted. Private functions alone cite this.
 use Rattle.std.specs.Global.{Global}
-use Rattle.std.specs.Prelude.{ℕ, ◌≡◌, ◌<◌, ◌+◌, ◌==◌, ◌&&◌, Bool, true, false, if◌then◌else◌, List, [], ◌∷◌, Some, Vec, length, slice_get, slice_index, slice_index_or}
+use Rattle.std.specs.Prelude.{ℕ, ◌≡◌, ◌≢◌, ◌↔◌, ◌<◌, ◌==◌, ◌&&◌, Bool, true, false, List, Contains, AllPairs, length, slice_index, slice_index_or}
 use Rattle.std.specs.BinaryHeap.{heap_items, IsHeap}
 use Rattle.std.specs.List.{sum_by}
 use Rattle.std.specs.Ordering.{nat_cmp}
 use Rattle.std.specs.declared.cmp.Reverse.{Reverse}
 use Rattle.std.specs.declared.collections.BinaryHeap.{BinaryHeap}
 use Rattle.std.specs.FinSet as set
-use Rattle.wac_cycles.specs.Numbers.{Has}
 use Rattle.wac_edges.specs.declared.edges.Edge.{Edge}
 use Rattle.wac_edges.specs.Order.{Edges}
 
@@ -15,33 +14,39 @@ use Rattle.wac_edges.specs.Order.{Edges}
 abbrev pub is_set : List Bool → ℕ → Bool
 is_set flags n = slice_index_or flags n false
 
--- how often a number stands among these
-abbrev pub occurs : List ℕ → ℕ → ℕ
-occurs [] q = 0
-occurs (k ∷ ks) q = (if q == k then 1 else 0) + occurs ks q
-
--- b is among the targets that are listed of a
-abbrev pub IsListed : List (Vec ℕ Global) → ℕ → ℕ → Type 0
-IsListed targets a b = (ts : Vec ℕ Global) × (slice_get targets a ≡ Some ts) × Has ts.items b
-
--- how many edges lead to b from those that are left
-abbrev pub incoming : List Bool → List (Vec ℕ Global) → ℕ → ℕ
-incoming (true ∷ flags) (ts ∷ targets) b = occurs ts.items b + incoming flags targets b
-incoming (false ∷ flags) (ts ∷ targets) b = incoming flags targets b
-incoming _ _ b = 0
-
--- each count is that of the edges from those that are left
-abbrev pub AreCounted : List Bool → List (Vec ℕ Global) → List ℕ → Type 0
-AreCounted flags targets counts = (b : ℕ) → b < length counts → slice_index counts b ≡ incoming flags targets b
-
--- is the number left, and has it this count
-abbrev pub is_left_with : List Bool → List ℕ → ℕ → ℕ → Bool
-is_left_with flags counts count b = is_set flags b && (slice_index counts b == count)
-
 -- one where something is so, else none
 abbrev pub one : Bool → ℕ
 one true = 1
 one false = 0
+
+-- the edges of the set, each once
+pub record AreAll (edges : Edges) (es : List Edge) : Type 0 where
+  pub all : (e : Edge) → Contains es e ↔ (set.contains edges e ≡ true)
+  pub once : AllPairs (λ a b. a ≢ b) es
+
+-- leads the edge to b
+abbrev pub leads_to : ℕ → Edge → Bool
+leads_to b e = b == e.target.0
+
+-- leads the edge to b from a node that is left
+abbrev pub leads_from : List Bool → ℕ → Edge → Bool
+leads_from flags b e = is_set flags e.source.0 && leads_to b e
+
+-- how many of these edges lead to b
+abbrev pub leading : List Edge → ℕ → ℕ
+leading es b = sum_by (λ e. one (leads_to b e)) es
+
+-- how many of these edges lead to b from those that are left
+abbrev pub incoming : List Bool → List Edge → ℕ → ℕ
+incoming flags es b = sum_by (λ e. one (leads_from flags b e)) es
+
+-- each count is that of the edges from those that are left
+abbrev pub AreCounted : List Bool → Edges → List ℕ → Type 0
+AreCounted flags edges counts = (es : List Edge) × AreAll edges es × ((b : ℕ) → b < length counts → slice_index counts b ≡ incoming flags es b)
+
+-- is the number left, and has it this count
+abbrev pub is_left_with : List Bool → List ℕ → ℕ → ℕ → Bool
+is_left_with flags counts count b = is_set flags b && (slice_index counts b == count)
 
 -- how often a number stands among these
 abbrev pub stands : List (Reverse ℕ) → ℕ → ℕ

@@ -1,5 +1,5 @@
 //! Labelled edges between nodes.
-ghost use Rattle.std.specs.Prelude.{◌≡◌, ◌<◌, ◌↔◌, ◌⊎◌, ℕ, true, false, OnOk, OnErr, IfOk, IfSome, IfNone, MatchOption, length};
+ghost use Rattle.std.specs.Prelude.{◌≡◌, ◌<◌, ◌+◌, ◌↔◌, ◌⊎◌, ℕ, true, false, OnOk, OnErr, IfOk, IfSome, IfNone, MatchOption, length, slice_index};
 ghost use Rattle.std.specs.Bool.{OnTrue, OnFalse};
 ghost use Rattle.std.specs.FinSet as set;
 ghost use Rattle.wac_edges.specs.declared.edges.Edge.{Edge as AnEdge};
@@ -8,8 +8,7 @@ ghost use Rattle.wac_edges.specs.Edge.{node_number, edge_cmp, alias_edge, argume
 ghost use Rattle.wac_edges.specs.Ends.{at_end, AreAt, HasLabel, LeadsTo};
 ghost use Rattle.wac_edges.specs.Order.{IsAcyclic, IsEdge, IsLowestOnCycle};
 ghost use Rattle.wac_cycles.specs.Cycles.{IsStep};
-ghost use Rattle.wac_cycles.specs.Numbers.{Has};
-ghost use Rattle.wac_edges.specs.Ready.{IsListed, AllRise};
+ghost use Rattle.wac_edges.specs.Ready.{AllRise, AreCounted, leads_from, one};
 
 use crate::aliases::{first_alias, forget_alias, is_crowded, mark, note, note_all};
 use crate::node::NodeId;
@@ -296,32 +295,33 @@ impl Edges {
         Ok(targets)
     }
 
-    /// For each of the first so many nodes, those to which edges lead from it, one for each edge.
-    pub(crate) fn listed_targets(
-        &self,
-        alloc: Global,
-        nodes: usize,
-    ) -> Result<Vec<Vec<usize>>, AllocError>
-        ensures counted { IfOk result (λ v. length v.items ≡ nodes) }
-        ensures listed { IfOk result (λ v. (a b : ℕ) → (IsListed v.items a b ↔ ((a < nodes) × IsEdge self.now (node_number a) (node_number b)))) }
+    /// For each of so many nodes as flags are given, how many edges lead to it from those that are left.
+    pub(crate) fn counts(&self, alloc: Global, left: &[bool]) -> Result<Vec<usize>, AllocError>
+        ensures long { IfOk result (λ v. length v.items ≡ length left.now) }
+        ensures counted { IfOk result (λ v. AreCounted left.now self.now v.items) }
     {
-        let mut targets = Vec::new(alloc);
-        for a in 0..nodes {
-            targets.push(targets_of(alloc, self.walk(NodeId(a), End::Outgoing))?)?;
+        let mut counts = vec![in alloc; 0; left.len()]?;
+        for (_, record) in self.records.iter() {
+            count(&mut counts, left, record.edge)?;
         }
-        Ok(targets)
+        Ok(counts)
     }
 }
 
-/// The nodes to which some edges lead, one for each edge.
-fn targets_of(alloc: Global, walk: Walk<'_>) -> Result<Vec<usize>, AllocError>
-    ensures { IfOk result (λ v. (b : ℕ) → (Has v.items b ↔ LeadsTo walk.entry.left (node_number b))) }
+/// Counts an edge to its target, if it leads from a node that is left and there is a count of its target.
+fn count(counts: &mut [usize], left: &[bool], edge: Edge) -> Result<(), AllocError>
+    ensures { OnOk result ((b : ℕ) → b < length counts.old → slice_index counts.new b ≡ one (leads_from left.now b edge) + slice_index counts.old b) }
 {
-    let mut targets = Vec::new(alloc);
-    for edge in walk {
-        targets.push(edge.target.0)?;
+    let source = edge.source.0;
+    let target = edge.target.0;
+    if source < left.len() && left[source] && target < counts.len() {
+        // No memory holds so many edges.
+        let Some(more) = counts[target].checked_add(1) else {
+            return Err(AllocError);
+        };
+        counts[target] = more;
     }
-    Ok(targets)
+    Ok(())
 }
 
 /// Adds steps from a node to those to which some edges lead.

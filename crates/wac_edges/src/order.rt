@@ -1,65 +1,17 @@
 //! The order in which nodes are written.
-ghost use Rattle.std.specs.Prelude.{◌≡◌, ℕ, ◌<◌, ◌≤◌, ◌+◌, ◌-◌, ◌^◌, ◌↔◌, Bool, true, false, List, [], ◌∷◌, ◌++◌, length, slice_index, slice_set, IfOk, OnOk, IfSome, IfNone, MatchOption};
+ghost use Rattle.std.specs.Prelude.{◌≡◌, ℕ, ◌<◌, ◌-◌, true, false, length, slice_index, slice_set, IfOk, OnOk, IfSome, IfNone};
 ghost use Rattle.wac_edges.specs.Edge.{is_left};
 ghost use Rattle.wac_edges.specs.declared.node.NodeId.{NodeId as AnId};
 ghost use Rattle.std.specs.Bool.{OnTrue, OnFalse};
 ghost use Rattle.wac_edges.specs.Order.{Edges, Writes, IsOnCycle};
-ghost use Rattle.wac_edges.specs.Ready.{occurs, AreCounted, AreReady, AllRise, is_left_with, is_set};
+ghost use Rattle.wac_edges.specs.Ready.{leading, AreReady, AllRise, is_left_with, is_set};
 
-use crate::edges::Edges;
+use crate::edges::{Edges, End};
 use crate::node::NodeId;
+use crate::walk::Walk;
 use std::alloc::{AllocError, Global};
 use std::cmp::Reverse;
 use std::collections::BinaryHeap;
-
-/// Counts an edge to a number, if there is a count of it.
-fn count_one(counts: &mut [usize], b: usize) -> Result<(), AllocError>
-    ensures { OnOk result (counts.new ≡ slice_set counts.old b (slice_index counts.old b + 1)) }
-{
-    if b < counts.len() {
-        // No memory holds so many edges.
-        let Some(count) = counts[b].checked_add(1) else {
-            return Err(AllocError);
-        };
-        counts[b] = count;
-    }
-    Ok(())
-}
-
-/// Counts the edges to some numbers.
-fn count(targets: &[usize], counts: &mut [usize]) -> Result<(), AllocError>
-    ensures { OnOk result ((b : ℕ) → b < length counts.old → slice_index counts.new b ≡ slice_index counts.old b + occurs targets.now b) }
-{
-    for b in targets {
-        count_one(counts, *b)?;
-    }
-    Ok(())
-}
-
-/// Counts the edges from those that are left, over counts that are zero.
-fn count_all(targets: &[Vec<usize>], left: &[bool], counts: &mut [usize]) -> Result<(), AllocError>
-    requires long { length left.now ≡ length targets.now }
-    requires none { (b : ℕ) → slice_index counts.old b ≡ 0 }
-    ensures { OnOk result (AreCounted left.now targets.now counts.new) }
-{
-    for a in 0..targets.len() {
-        if left[a] {
-            count(&targets[a], counts)?;
-        }
-    }
-    Ok(())
-}
-
-/// For each number, how many edges lead to it from those that are left.
-fn counts(alloc: Global, targets: &[Vec<usize>], left: &[bool]) -> Result<Vec<usize>, AllocError>
-    requires { length left.now ≡ length targets.now }
-    ensures long { IfOk result (λ v. length v.items ≡ length targets.now) }
-    ensures counted { IfOk result (λ v. AreCounted left.now targets.now v.items) }
-{
-    let mut counts = vec![in alloc; 0; targets.len()]?;
-    count_all(targets, left, &mut counts)?;
-    Ok(counts)
-}
 
 /// Whether a number is left and has this count.
 fn is_left_with(left: &[bool], counts: &[usize], b: usize, count: usize) -> bool
@@ -109,20 +61,20 @@ fn release_one(
     Ok(())
 }
 
-/// Takes the edges to some numbers away. Those that are left and to which no edge is left are ready.
+/// Takes some edges away. Those that are left and to which no edge is left are ready.
 fn release(
-    targets: &[usize],
+    walk: Walk<'_>,
     left: &[bool],
     counts: &mut [usize],
     ready: &mut BinaryHeap<Reverse<usize>>,
 ) -> Result<(), AllocError>
     requires long { length counts.old ≡ length left.now }
     requires ready { AreReady ready.old left.now counts.old }
-    ensures counted { OnOk result ((b : ℕ) → b < length counts.old → slice_index counts.new b ≡ slice_index counts.old b - occurs targets.now b) }
+    ensures counted { OnOk result ((b : ℕ) → b < length counts.old → slice_index counts.new b ≡ slice_index counts.old b - leading walk.entry.left b) }
     ensures ready { OnOk result (AreReady ready.new left.now counts.new) }
 {
-    for b in targets {
-        release_one(*b, left, counts, ready)?;
+    for edge in walk {
+        release_one(edge.target.0, left, counts, ready)?;
     }
     Ok(())
 }
@@ -144,7 +96,7 @@ fn is_done(left: &[bool]) -> bool
 fn rising(alloc: Global, left: &[bool]) -> Result<Vec<NodeId>, AllocError>
     ensures { IfOk result (λ ns. (edges : Edges) → AllRise edges → Writes edges (is_left left.now) ns.items) }
 {
-    let mut ids = Vec::new(alloc);
+    let mut ids = Vec::with_capacity(alloc, left.len())?;
     for n in 0..left.len() {
         if left[n] {
             ids.push(NodeId(n))?;
@@ -179,16 +131,15 @@ fn order_by_counts(
     ensures cycle { IfOk result (λ o. IfNone o ((n : AnId) × IsOnCycle edges.now n)) }
 {
     let mut left = left;
-    let targets = edges.listed_targets(alloc, left.len())?;
-    let mut counts = counts(alloc, targets.as_slice(), left.as_slice())?;
+    let mut counts = edges.counts(alloc, left.as_slice())?;
     let mut ready = free(alloc, left.as_slice(), counts.as_slice())?;
-    let mut written = Vec::new(alloc);
+    let mut written = Vec::with_capacity(alloc, left.len())?;
     while let Some(lowest) = ready.pop() {
         let n = lowest.0;
         written.push(NodeId(n))?;
         left[n] = false;
         release(
-            &targets[n],
+            edges.walk(NodeId(n), End::Outgoing),
             left.as_slice(),
             counts.as_mut_slice(),
             &mut ready,

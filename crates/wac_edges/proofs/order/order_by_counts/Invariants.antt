@@ -9,9 +9,8 @@ use Rattle.wac_edges.proofs.order.order_by_counts.Given as goal
 abbrev pub invariant-loop-lowest : goal.invariant-loop-lowest
 invariant-loop-lowest l = record {
   later : (ns : List NodeId) → Writes l.edges (is_left l.left.items) ns → Writes l.edges (is_left l.fn.left.items) (l.written.items ++ ns);
-  left_long : length l.left.items ≡ length l.targets.items;
-  counts_long : length l.counts.items ≡ length l.targets.items;
-  counted : AreCounted l.left.items l.targets.items l.counts.items;
+  long : length l.counts.items ≡ length l.left.items;
+  counted : AreCounted l.left.items l.edges l.counts.items;
   ready : AreReady l.ready l.left.items l.counts.items;
 }
 

@@ -6,7 +6,7 @@ use Rattle.wac_edges.proofs.order.rising.Goals as goal
 use Rattle.wac_edges.proofs.order.rising.Goals.{then-left-n+in_ok-push, else-left-n}
 
 pub loop-n-init : goal.loop-n-init
-loop-n-init c = λ edges rising ns writes. rw c.new-ids.ensures.items (subst (λ left. Writes edges left ns) (left_all c.args.left.now) writes)
+loop-n-init c = λ edges rising ns writes. rw c.in_ok-ids.ensures.items (subst (λ left. Writes edges left ns) (left_all c.args.left.now) writes)
 
 pub loop-n-preserved : goal.loop-n-preserved
 loop-n-preserved c = elim c.if-left-n.branch [
