@@ -1,6 +1,6 @@
 -- What the counts of the edges from those that are left say.
 use Rattle.std.proofs.Common.{◌≡◌, ℕ, zero, suc, ◌+◌, ◌-◌, ◌<◌, ◌≤◌, Bool, true, false, not, ◌&&◌, List, [], ◌∷◌, length, refl, ap, sym, ◌∙◌, ◌⊎◌, inl, inr, arith, eqb}
-use Rattle.std.specs.Prelude.{◌==◌, slice_set, slice_index}
+use Rattle.std.specs.Prelude.{◌==◌, nat_lt, slice_set, slice_index}
 use Rattle.std.specs.BinaryHeap.{IsUpperBound}
 use Rattle.std.specs.Ordering.{nat_cmp, is_lt}
 use Rattle.std.specs.declared.cmp.Reverse.{Reverse}
@@ -9,13 +9,13 @@ use Rattle.std.specs.declared.cmp.Ordering.TheVariants.{Less, Equal, Greater}
 use Rattle.std.proofs.Math.Bool.{and-true}
 use Rattle.std.proofs.lemmas.List.{get_or-set_same, get_or-set_other}
 use Rattle.std.proofs.lemmas.List.Sums.{sum_by-cons}
-use Rattle.std.proofs.lemmas.Bool.{cases_eq, eqb-true, cases_lt, eq-eqb, ne_eqb, false_from_ne_true}
+use Rattle.std.proofs.lemmas.Bool.{cases_eq, eqb-true, cases_lt, eq-eqb, lt-ltb, ltb-true, ne_eqb, false_from_ne_true}
 use Rattle.std.proofs.lemmas.Cmp.{ranked}
 use Rattle.wac_edges.specs.declared.node.NodeId.{NodeId}
 use Rattle.wac_edges.specs.Edge.{is_left, node_number, IsBlocked, IsFree}
 use Rattle.wac_edges.specs.declared.edges.Edge.{Edge}
 use Rattle.wac_edges.specs.Order.{Edges, IsLowestReady, IsStuck}
-use Rattle.wac_edges.specs.Ready.{leading, leads_to, incoming, AreCounted, is_left_with, is_set, one, stands}
+use Rattle.wac_edges.specs.Ready.{leading, leads_to, incoming, AreCounted, IsLowestFree, is_left_with, is_set, one, stands}
 use Rattle.wac_edges.proofs.CountLemmas.{incoming_none, incoming_some}
 use Rattle.wac_edges.proofs.OrderLemmas.{flag_after}
 use Rattle.wac_edges.proofs.CycleLemmas.{within}
@@ -55,29 +55,6 @@ at_count flags counts count b h = let (left, same) = and_split (is_set flags b) 
 with_count : (flags : List Bool) (counts : List ℕ) (count b : ℕ) → is_set flags b ≡ true → slice_index counts b ≡ count → is_left_with flags counts count b ≡ true
 with_count flags counts count b left same = and_both (is_set flags b) (eqb (slice_index counts b) count) left (eq-eqb (slice_index counts b) count same)
 
--- one more that is ready, of those below it
-pub free_yes : (old new : List (Reverse ℕ)) (flags : List Bool) (counts : List ℕ) (a : ℕ) → is_left_with flags counts 0 a ≡ true → ((q : ℕ) → stands new q ≡ one (q == a) + stands old q) → ((q : ℕ) → q < a → stands old q ≡ one (is_left_with flags counts 0 q)) → ((q : ℕ) → a ≤ q → stands old q ≡ 0)
-    → ((q : ℕ) → q < a + 1 → stands new q ≡ one (is_left_with flags counts 0 q)) × ((q : ℕ) → a + 1 ≤ q → stands new q ≡ 0)
-free_yes old new flags counts a here more below above = (λ q low. split q low (cases_eq q a), λ q high. let none = eqb_other q a (λ (e : q ≡ a). omega arith) in let was = above q (omega arith) in let is = more q in omega arith) where
-  split : (q : ℕ) → q < a + 1 → (q ≡ a) ⊎ (q ≡ a → ⊥) → stands new q ≡ one (is_left_with flags counts 0 q)
-  split q low (inl e) =
-      let yes : one (is_left_with flags counts 0 q) ≡ 1 = one_true (is_left_with flags counts 0 q) (ap (is_left_with flags counts 0) e ∙ here) in
-      let same = eqb_same q a e in
-      let none = above q (omega arith) in
-      let is = more q in
-      omega arith
-  split q low (inr other) = let no = eqb_other q a other in let was = below q (omega arith) in let is = more q in omega arith
-
-pub free_no : (old : List (Reverse ℕ)) (flags : List Bool) (counts : List ℕ) (a : ℕ) → is_left_with flags counts 0 a ≡ false → ((q : ℕ) → q < a → stands old q ≡ one (is_left_with flags counts 0 q)) → ((q : ℕ) → a ≤ q → stands old q ≡ 0)
-    → (q : ℕ) → q < a + 1 → stands old q ≡ one (is_left_with flags counts 0 q)
-free_no old flags counts a none below above q low = split (cases_eq q a) where
-  split : (q ≡ a) ⊎ (q ≡ a → ⊥) → stands old q ≡ one (is_left_with flags counts 0 q)
-  split (inl e) =
-      let no : one (is_left_with flags counts 0 q) ≡ 0 = one_false (is_left_with flags counts 0 q) (ap (is_left_with flags counts 0) e ∙ none) in
-      let was = above q (omega arith) in
-      omega arith
-  split (inr other) = below q (omega arith)
-
 -- an edge to a number is taken away
 taken : (counts : List ℕ) (a q : ℕ) → (q ≡ a → ⊥) → slice_index (slice_set counts a (slice_index counts a - 1)) q ≡ slice_index counts q
 taken counts a q other = get_or-set_other counts a q (slice_index counts a - 1) 0 other
@@ -102,46 +79,54 @@ released_next counts e es q small = split (cases_eq q e.target.0) where
       omega (arith, whole, single, at, was)
   split (inr other) = let none = eqb_other q k other in let at = taken counts k q other in omega (arith, whole, none, at)
 
-pub released_yes : (old new : List (Reverse ℕ)) (flags : List Bool) (counts : List ℕ) (a : ℕ) → a < length counts → is_left_with flags counts 1 a ≡ true → ((q : ℕ) → stands new q ≡ one (q == a) + stands old q) → ((q : ℕ) → stands old q ≡ one (is_left_with flags counts 0 q))
-    → (q : ℕ) → stands new q ≡ one (is_left_with flags (slice_set counts a (slice_index counts a - 1)) 0 q)
-released_yes old new flags counts a low here more was q = split (cases_eq q a) where
+-- the numbers that are ready once an edge to one of them is taken away
+pub released_yes : (below : ℕ → Bool) (old new : List (Reverse ℕ)) (flags : List Bool) (counts : List ℕ) (a : ℕ) → a < length counts → (below a && is_left_with flags counts 1 a) ≡ true → ((q : ℕ) → stands new q ≡ one (q == a) + stands old q) → ((q : ℕ) → stands old q ≡ one (below q && is_left_with flags counts 0 q))
+    → (q : ℕ) → stands new q ≡ one (below q && is_left_with flags (slice_set counts a (slice_index counts a - 1)) 0 q)
+released_yes below old new flags counts a low both more was q = split (cases_eq q a) where
   counts' : List ℕ
   counts' = slice_set counts a (slice_index counts a - 1)
 
-  split : (q ≡ a) ⊎ (q ≡ a → ⊥) → stands new q ≡ one (is_left_with flags counts' 0 q)
+  under : below a ≡ true
+  under = (and_split (below a) (is_left_with flags counts 1 a) both).0
+
+  here : is_left_with flags counts 1 a ≡ true
+  here = (and_split (below a) (is_left_with flags counts 1 a) both).1
+
+  split : (q ≡ a) ⊎ (q ≡ a → ⊥) → stands new q ≡ one (below q && is_left_with flags counts' 0 q)
   split (inl e) =
       let (left, single) = at_count flags counts 1 a here in
       let gone : slice_index counts' a ≡ 0 = get_or-set_same counts a (slice_index counts a - 1) 0 low ∙ omega arith in
-      let yes : one (is_left_with flags counts' 0 q) ≡ 1 = one_true (is_left_with flags counts' 0 q) (ap (is_left_with flags counts' 0) e ∙ with_count flags counts' 0 a left gone) in
+      let yes : one (below q && is_left_with flags counts' 0 q) ≡ 1 = one_true (below q && is_left_with flags counts' 0 q) (ap (λ (k : ℕ). below k && is_left_with flags counts' 0 k) e ∙ and_both (below a) (is_left_with flags counts' 0 a) under (with_count flags counts' 0 a left gone)) in
       let same = eqb_same q a e in
-      let not : one (is_left_with flags counts 0 q) ≡ 0 = one_false (is_left_with flags counts 0 q) (false_from_ne_true (is_left_with flags counts 0 q) (λ h. let zero' = (at_count flags counts 0 q h).1 in let at : slice_index counts q ≡ slice_index counts a = ap (slice_index counts) e in absurd (omega arith))) in
+      let not : one (below q && is_left_with flags counts 0 q) ≡ 0 = one_false (below q && is_left_with flags counts 0 q) (false_from_ne_true (below q && is_left_with flags counts 0 q) (λ h. let zero' = (at_count flags counts 0 q (and_split (below q) (is_left_with flags counts 0 q) h).1).1 in let at : slice_index counts q ≡ slice_index counts a = ap (slice_index counts) e in absurd (omega arith))) in
       let is = more q in
       let old' = was q in
       omega arith
   split (inr other) =
       let no = eqb_other q a other in
       let is = more q in
-      let same : one (is_left_with flags counts' 0 q) ≡ one (is_left_with flags counts 0 q) = ap (λ (k : ℕ). one (is_set flags q && eqb k 0)) (taken counts a q other) in
+      let same : one (below q && is_left_with flags counts' 0 q) ≡ one (below q && is_left_with flags counts 0 q) = ap (λ (k : ℕ). one (below q && (is_set flags q && eqb k 0))) (taken counts a q other) in
       let old' = was q in
       omega arith
 
-pub released_no : (old : List (Reverse ℕ)) (flags : List Bool) (counts : List ℕ) (a : ℕ) → a < length counts → is_left_with flags counts 1 a ≡ false → ((q : ℕ) → stands old q ≡ one (is_left_with flags counts 0 q))
-    → (q : ℕ) → stands old q ≡ one (is_left_with flags (slice_set counts a (slice_index counts a - 1)) 0 q)
-released_no old flags counts a low here was q = was q ∙ ap one (split (cases_eq q a)) where
+pub released_no : (below : ℕ → Bool) (old : List (Reverse ℕ)) (flags : List Bool) (counts : List ℕ) (a : ℕ) → a < length counts → (below a && is_left_with flags counts 1 a) ≡ false → ((q : ℕ) → stands old q ≡ one (below q && is_left_with flags counts 0 q))
+    → (q : ℕ) → stands old q ≡ one (below q && is_left_with flags (slice_set counts a (slice_index counts a - 1)) 0 q)
+released_no below old flags counts a low here was q = was q ∙ ap one (split (cases_eq q a)) where
   counts' : List ℕ
   counts' = slice_set counts a (slice_index counts a - 1)
 
-  both : (f : Bool) (k : ℕ) → (f && eqb k 1) ≡ false → (f && eqb k 0) ≡ (f && eqb (k - 1) 0)
-  both false k h = refl
-  both true zero h = refl
-  both true (suc zero) h = cc
-  both true (suc (suc k)) h = ne_eqb (suc (suc k)) 0 (λ (e : suc (suc k) ≡ 0). omega arith) ∙ sym (ne_eqb (suc (suc k) - 1) 0 (λ (e : suc (suc k) - 1 ≡ 0). omega arith))
+  both : (u f : Bool) (k : ℕ) → (u && (f && eqb k 1)) ≡ false → (u && (f && eqb k 0)) ≡ (u && (f && eqb (k - 1) 0))
+  both false f k h = refl
+  both true false k h = refl
+  both true true zero h = refl
+  both true true (suc zero) h = cc
+  both true true (suc (suc k)) h = ne_eqb (suc (suc k)) 0 (λ (e : suc (suc k) ≡ 0). omega arith) ∙ sym (ne_eqb (suc (suc k) - 1) 0 (λ (e : suc (suc k) - 1 ≡ 0). omega arith))
 
-  split : (q ≡ a) ⊎ (q ≡ a → ⊥) → is_left_with flags counts 0 q ≡ is_left_with flags counts' 0 q
+  split : (q ≡ a) ⊎ (q ≡ a → ⊥) → (below q && is_left_with flags counts 0 q) ≡ (below q && is_left_with flags counts' 0 q)
   split (inl e) =
       let put : slice_index counts' a ≡ slice_index counts a - 1 = get_or-set_same counts a (slice_index counts a - 1) 0 low in
-      ap (is_left_with flags counts 0) e ∙ both (is_set flags a) (slice_index counts a) here ∙ ap (λ (k : ℕ). is_set flags a && eqb k 0) (sym put) ∙ ap (is_left_with flags counts' 0) (sym e)
-  split (inr other) = ap (λ (k : ℕ). is_set flags q && eqb k 0) (sym (taken counts a q other))
+      ap (λ (k : ℕ). below k && is_left_with flags counts 0 k) e ∙ both (below a) (is_set flags a) (slice_index counts a) here ∙ ap (λ (k : ℕ). below a && (is_set flags a && eqb k 0)) (sym put) ∙ ap (λ (k : ℕ). below k && is_left_with flags counts' 0 k) (sym e)
+  split (inr other) = ap (λ (k : ℕ). below q && (is_set flags q && eqb k 0)) (sym (taken counts a q other))
 
 -- ---- the node that is written next
 no_lower : (rs : List (Reverse ℕ)) (r : Reverse ℕ) → IsUpperBound (λ x y. nat_cmp y.0 x.0) r rs → (q : ℕ) → 0 < stands rs q → r.0 ≤ q
@@ -160,42 +145,98 @@ no_lower (x ∷ rs) r (first, rest) q h = split (cases_eq q x.0) (λ more. no_lo
   split (inl e) _ = let above = high (cases_lt x.0 r.0) in omega arith
   split (inr other) more = more (let all = sum_by-cons (λ (r : Reverse ℕ). one (q == r.0)) x rs in let none = eqb_other q x.0 other in omega arith)
 
-pub popped_some : (old new : List (Reverse ℕ)) (n : ℕ) → ((q : ℕ) → stands new q + one (q == n) ≡ stands old q) → 0 < stands old n
-popped_some old new n fewer = let is = fewer n in let same = eqb_same n n refl in omega arith
-
 pub none_of : (rs : List (Reverse ℕ)) → length rs ≡ 0 → rs ≡ []
 none_of [] h = refl
 none_of (r ∷ rs) h = absurd (omega arith)
 
--- the rest of those that are ready once one is written
-pub ready_next : (old new : List (Reverse ℕ)) (flags : List Bool) (counts : List ℕ) (n : ℕ) → ((q : ℕ) → stands old q ≡ one (is_left_with flags counts 0 q)) → ((q : ℕ) → stands new q + one (q == n) ≡ stands old q)
-    → (q : ℕ) → stands new q ≡ one (is_left_with (slice_set flags n false) counts 0 q)
-ready_next old new flags counts n was fewer q = split (cases_eq q n) where
-  after : is_set (slice_set flags n false) q ≡ (is_set flags q && not (eqb q n))
-  after = flag_after flags n q
+-- the one that was taken stood there
+popped_some : (old new : List (Reverse ℕ)) (n : ℕ) → ((q : ℕ) → stands new q + one (q == n) ≡ stands old q) → 0 < stands old n
+popped_some old new n fewer = let is = fewer n in let same = eqb_same n n refl in omega arith
 
+-- what is left with a count once a number is left no more
+left_after : (flags : List Bool) (counts : List ℕ) (count n q : ℕ) → (q ≡ n → ⊥) → is_left_with (slice_set flags n false) counts count q ≡ is_left_with flags counts count q
+left_after flags counts count n q other =
+    let kept : is_set (slice_set flags n false) q ≡ is_set flags q = flag_after flags n q ∙ ap (λ (b : Bool). is_set flags q && not b) (ne_eqb q n other) ∙ and-true (is_set flags q) in
+    ap (λ (b : Bool). b && eqb (slice_index counts q) count) kept
+
+gone_after : (flags : List Bool) (counts : List ℕ) (count n q : ℕ) → q ≡ n → is_left_with (slice_set flags n false) counts count q ≡ false
+gone_after flags counts count n q e =
+    let gone : is_set (slice_set flags n false) q ≡ false = flag_after flags n q ∙ ap (λ (b : Bool). is_set flags q && not b) (eq-eqb q n e) ∙ and_false (is_set flags q) in
+    ap (λ (b : Bool). b && eqb (slice_index counts q) count) gone
+
+-- the rest of those that are ready once one is taken
+ready_next : (below : ℕ → Bool) (old new : List (Reverse ℕ)) (flags : List Bool) (counts : List ℕ) (n : ℕ) → ((q : ℕ) → stands old q ≡ one (below q && is_left_with flags counts 0 q)) → ((q : ℕ) → stands new q + one (q == n) ≡ stands old q)
+    → (q : ℕ) → stands new q ≡ one (below q && is_left_with (slice_set flags n false) counts 0 q)
+ready_next below old new flags counts n was fewer q = split (cases_eq q n) where
   most : (b : Bool) → one b ≤ 1
   most true = omega arith
   most false = omega arith
 
-  split : (q ≡ n) ⊎ (q ≡ n → ⊥) → stands new q ≡ one (is_left_with (slice_set flags n false) counts 0 q)
+  split : (q ≡ n) ⊎ (q ≡ n → ⊥) → stands new q ≡ one (below q && is_left_with (slice_set flags n false) counts 0 q)
   split (inl e) =
-      let gone : is_set (slice_set flags n false) q ≡ false = after ∙ ap (λ (b : Bool). is_set flags q && not b) (eq-eqb q n e) ∙ and_false (is_set flags q) in
-      let none : one (is_left_with (slice_set flags n false) counts 0 q) ≡ 0 = ap (λ (b : Bool). one (b && eqb (slice_index counts q) 0)) gone in
+      let none : one (below q && is_left_with (slice_set flags n false) counts 0 q) ≡ 0 = one_false (below q && is_left_with (slice_set flags n false) counts 0 q) (ap (λ (b : Bool). below q && b) (gone_after flags counts 0 n q e) ∙ and_false (below q)) in
       let same = eqb_same q n e in
-      let once = most (is_left_with flags counts 0 q) in
+      let once = most (below q && is_left_with flags counts 0 q) in
       let is = fewer q in
       let old' = was q in
       omega arith
   split (inr other) =
-      let kept : is_set (slice_set flags n false) q ≡ is_set flags q = after ∙ ap (λ (b : Bool). is_set flags q && not b) (ne_eqb q n other) ∙ and-true (is_set flags q) in
-      let same : one (is_left_with (slice_set flags n false) counts 0 q) ≡ one (is_left_with flags counts 0 q) = ap (λ (b : Bool). one (b && eqb (slice_index counts q) 0)) kept in
+      let same : one (below q && is_left_with (slice_set flags n false) counts 0 q) ≡ one (below q && is_left_with flags counts 0 q) = ap (λ (b : Bool). one (below q && b)) (left_after flags counts 0 n q other) in
       let no = eqb_other q n other in
       let is = fewer q in
       let old' = was q in
       omega arith
 
-module _ (edges : Edges) (flags : List Bool) (counts : List ℕ) (ready : List (Reverse ℕ)) (long : length counts ≡ length flags) (counted : AreCounted flags edges counts) (are : (q : ℕ) → stands ready q ≡ one (is_left_with flags counts 0 q)) where
+module _ (flags : List Bool) (counts : List ℕ) (bound : ℕ) (old : List (Reverse ℕ)) (are : (q : ℕ) → stands old q ≡ one (nat_lt q bound && is_left_with flags counts 0 q)) where
+  -- the one that is taken from the heap is the lowest
+  pub popped_lowest : (new : List (Reverse ℕ)) (r : Reverse ℕ) → IsUpperBound (λ x y. nat_cmp y.0 x.0) r old → ((q : ℕ) → stands new q + one (q == r.0) ≡ stands old q) → IsLowestFree flags counts r.0
+  popped_lowest new r least fewer =
+      let some : 0 < stands old r.0 = popped_some old new r.0 fewer in
+      let (low, here) = and_split (nat_lt r.0 bound) (is_left_with flags counts 0 r.0) (one_some (nat_lt r.0 bound && is_left_with flags counts 0 r.0) (let is = are r.0 in omega (arith, is, some))) in
+      let under : r.0 < bound = ltb-true r.0 bound low in
+      record {
+        here = here;
+        lower = λ m small. false_from_ne_true (is_left_with flags counts 0 m) (λ free.
+            let both : one (nat_lt m bound && is_left_with flags counts 0 m) ≡ 1 = one_true (nat_lt m bound && is_left_with flags counts 0 m) (and_both (nat_lt m bound) (is_left_with flags counts 0 m) (lt-ltb m bound (omega (arith, small, under))) free) in
+            let is = are m in
+            let high : r.0 ≤ m = no_lower old r least m (omega (arith, is, both)) in
+            absurd (omega (arith, high, small)));
+      }
+
+  pub popped_rest : (new : List (Reverse ℕ)) (r : Reverse ℕ) → ((q : ℕ) → stands new q + one (q == r.0) ≡ stands old q) → (q : ℕ) → stands new q ≡ one (nat_lt q bound && is_left_with (slice_set flags r.0 false) counts 0 q)
+  popped_rest new r fewer = ready_next (λ q. nat_lt q bound) old new flags counts r.0 are fewer
+
+  -- no number below the bound is ready where the heap has none
+  pub none_below : length old ≡ 0 → (m : ℕ) → m < bound → is_left_with flags counts 0 m ≡ false
+  none_below empty m small = false_from_ne_true (is_left_with flags counts 0 m) (λ free.
+      let both : one (nat_lt m bound && is_left_with flags counts 0 m) ≡ 1 = one_true (nat_lt m bound && is_left_with flags counts 0 m) (and_both (nat_lt m bound) (is_left_with flags counts 0 m) (lt-ltb m bound small) free) in
+      let none : stands old m ≡ 0 = ap (λ (rs : List (Reverse ℕ)). stands rs m) (none_of old empty) in
+      let is = are m in
+      absurd (omega (arith, is, both, none)))
+
+-- behind the one that is found there is none below the new bound
+pub found_rest : (flags : List Bool) (counts : List ℕ) (rs : List (Reverse ℕ)) (n : ℕ) → length rs ≡ 0 → ((m : ℕ) → m < n → is_left_with flags counts 0 m ≡ false) → (q : ℕ) → stands rs q ≡ one (nat_lt q (n + 1) && is_left_with (slice_set flags n false) counts 0 q)
+found_rest flags counts rs n empty lower q = ap (λ (rs : List (Reverse ℕ)). stands rs q) (none_of rs empty) ∙ sym (one_false (nat_lt q (n + 1) && is_left_with (slice_set flags n false) counts 0 q) (false_from_ne_true (nat_lt q (n + 1) && is_left_with (slice_set flags n false) counts 0 q) (λ h.
+    let (low, free) = and_split (nat_lt q (n + 1)) (is_left_with (slice_set flags n false) counts 0 q) h in
+    split (ltb-true q (n + 1) low) free (cases_eq q n)))) where
+      clash : (b : Bool) → b ≡ true → b ≡ false → ⊥
+      clash true h k = cc
+      clash false h k = cc
+
+      split : q < n + 1 → is_left_with (slice_set flags n false) counts 0 q ≡ true → (q ≡ n) ⊎ (q ≡ n → ⊥) → ⊥
+      split low free (inl e) = clash (is_left_with (slice_set flags n false) counts 0 q) free (gone_after flags counts 0 n q e)
+      split low free (inr other) = clash (is_left_with flags counts 0 q) (sym (left_after flags counts 0 n q other) ∙ free) (lower q (below q n low other)) where
+        below : (q n : ℕ) → q < n + 1 → (q ≡ n → ⊥) → q < n
+        below q n low other = elim (cases_lt q n) [ inl h ↦ h | inr h ↦ absurd (other (omega (arith, low, h))) ]
+
+pub free_here : (flags : List Bool) (counts : List ℕ) (n : ℕ) → IsLowestFree flags counts n → is_set flags n ≡ true
+free_here flags counts n lowest = (at_count flags counts 0 n lowest.here).0
+
+-- a number that is not left has no count
+pub not_left : (flags : List Bool) (counts : List ℕ) (n : ℕ) → length flags ≤ n → is_left_with flags counts 0 n ≡ false
+not_left flags counts n far = false_from_ne_true (is_left_with flags counts 0 n) (λ free. let low = within flags n (at_count flags counts 0 n free).0 in absurd (omega (arith, low, far)))
+
+module _ (edges : Edges) (flags : List Bool) (counts : List ℕ) (long : length counts ≡ length flags) (counted : AreCounted flags edges counts) where
   count_is : (n : ℕ) → is_set flags n ≡ true → slice_index counts n ≡ incoming flags counted.0 n
   count_is n here = let low = within flags n here in counted.2 n (omega (arith, low, long))
 
@@ -203,30 +244,28 @@ module _ (edges : Edges) (flags : List Bool) (counts : List ℕ) (ready : List (
   zero_free n here none e stands leads = false_from_ne_true (is_left flags e.source) (λ from.
       incoming_none flags counted.0 n.0 (sym (count_is n.0 here) ∙ none) e ((counted.1.all e).1 stands) (ap (λ (k : NodeId). k.0) (sym leads)) from)
 
-  more_blocked : (m : NodeId) → is_left flags m ≡ true → (slice_index counts m.0 ≡ 0 → ⊥) → IsBlocked edges (is_left flags) m
+  more_blocked : (m : NodeId) → is_left flags m ≡ true → is_left_with flags counts 0 m.0 ≡ false → IsBlocked edges (is_left flags) m
   more_blocked m here some =
       let count = count_is m.0 here in
-      let (e, w, leads, from) = incoming_some flags counted.0 m.0 (positive (incoming flags counted.0 m.0) (λ none. some (count ∙ none))) in
+      let (e, w, leads, from) = incoming_some flags counted.0 m.0 (positive (incoming flags counted.0 m.0) (λ none. clash (is_left_with flags counts 0 m.0) (with_count flags counts 0 m.0 here (count ∙ none)) some)) in
       (e, (counted.1.all e).0 w, ap node_number (sym leads), from) where
         positive : (k : ℕ) → (k ≡ 0 → ⊥) → 0 < k
         positive zero h = absurd (h refl)
         positive (suc k) h = omega arith
 
-  there : (m : ℕ) → is_set flags m ≡ true → slice_index counts m ≡ 0 → 0 < stands ready m
-  there m left none = let yes = one_true (is_left_with flags counts 0 m) (with_count flags counts 0 m left none) in let is = are m in omega arith
+        clash : (b : Bool) → b ≡ true → b ≡ false → ⊥
+        clash true h k = cc
+        clash false h k = cc
 
-  -- those that stand there are left and have no edge
-  pub are_left : (n : ℕ) → 0 < stands ready n → (is_set flags n ≡ true) × (slice_index counts n ≡ 0)
-  are_left n some = at_count flags counts 0 n (one_some (is_left_with flags counts 0 n) (let is = are n in omega arith))
-
-  pub lowest_ready : (r : Reverse ℕ) → 0 < stands ready r.0 → IsUpperBound (λ x y. nat_cmp y.0 x.0) r ready → IsLowestReady edges (is_left flags) (node_number r.0)
-  lowest_ready r some least =
-      let (here, none) = are_left r.0 some in
+  -- the lowest number that is left and whose count is zero is the node that is written next
+  pub lowest_ready : (n : ℕ) → IsLowestFree flags counts n → IsLowestReady edges (is_left flags) (node_number n)
+  lowest_ready n lowest =
+      let (here, none) = at_count flags counts 0 n lowest.here in
       record {
         here = here;
-        free = zero_free (node_number r.0) here none;
-        lower = λ m small left. more_blocked m left (λ zero. let high : r.0 ≤ m.0 = no_lower ready r least m.0 (there m.0 left zero) in omega (arith, high, small));
+        free = zero_free (node_number n) here none;
+        lower = λ m small left. more_blocked m left (lowest.lower m.0 small);
       }
 
-  pub stuck : ready ≡ [] → IsStuck edges (is_left flags)
-  stuck empty m here = more_blocked m here (λ none. let some : 0 < stands ready m.0 = there m.0 here none in let no : stands ready m.0 ≡ 0 = ap (λ (rs : List (Reverse ℕ)). stands rs m.0) empty in omega arith)
+  pub stuck : ((n : ℕ) → is_left_with flags counts 0 n ≡ false) → IsStuck edges (is_left flags)
+  stuck none m here = more_blocked m here (none m.0)

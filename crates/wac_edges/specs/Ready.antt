@@ -1,6 +1,6 @@
 -- How the next node to be written is found: the edges to each node from those that are left are counted. Private functions alone cite this.
 use Rattle.std.specs.Global.{Global}
-use Rattle.std.specs.Prelude.{ℕ, ◌≡◌, ◌≢◌, ◌↔◌, ◌<◌, ◌==◌, ◌&&◌, Bool, true, false, List, Contains, AllPairs, length, slice_index, slice_index_or}
+use Rattle.std.specs.Prelude.{ℕ, ◌≡◌, ◌≢◌, ◌↔◌, ◌<◌, ◌==◌, ◌&&◌, Bool, true, false, List, Contains, AllPairs, nat_lt, length, slice_index, slice_index_or}
 use Rattle.std.specs.BinaryHeap.{heap_items, IsHeap}
 use Rattle.std.specs.List.{sum_by}
 use Rattle.std.specs.Ordering.{nat_cmp}
@@ -52,9 +52,14 @@ is_left_with flags counts count b = is_set flags b && (slice_index counts b == c
 abbrev pub stands : List (Reverse ℕ) → ℕ → ℕ
 stands rs b = sum_by (λ r. one (b == r.0)) rs
 
--- the heap has the numbers that are left and whose count is zero, each once
-abbrev pub AreReady : BinaryHeap (Reverse ℕ) Global → List Bool → List ℕ → Type 0
-AreReady ready flags counts = IsHeap (λ x y. nat_cmp y.0 x.0) (heap_items ready) × ((b : ℕ) → stands (heap_items ready) b ≡ one (is_left_with flags counts 0 b))
+-- the heap has the numbers below a bound that are left and whose count is zero, each once
+abbrev pub AreReady : BinaryHeap (Reverse ℕ) Global → ℕ → List Bool → List ℕ → Type 0
+AreReady ready bound flags counts = IsHeap (λ x y. nat_cmp y.0 x.0) (heap_items ready) × ((b : ℕ) → stands (heap_items ready) b ≡ one (nat_lt b bound && is_left_with flags counts 0 b))
+
+-- the number is the lowest that is left and whose count is zero
+pub record IsLowestFree (flags : List Bool) (counts : List ℕ) (n : ℕ) : Type 0 where
+  pub here : is_left_with flags counts 0 n ≡ true
+  pub lower : (m : ℕ) → m < n → is_left_with flags counts 0 m ≡ false
 
 -- each edge leads to a node of a higher number
 abbrev pub AllRise : Edges → Type 0

@@ -1,10 +1,10 @@
 //! The order in which nodes are written.
-ghost use Rattle.std.specs.Prelude.{◌≡◌, ℕ, ◌<◌, ◌-◌, true, false, length, slice_index, slice_set, IfOk, OnOk, IfSome, IfNone};
+ghost use Rattle.std.specs.Prelude.{◌≡◌, ℕ, ◌<◌, ◌-◌, ◌&&◌, nat_lt, true, false, length, slice_index, slice_set, IfOk, OnOk, IfSome, IfNone};
 ghost use Rattle.wac_edges.specs.Edge.{is_left};
 ghost use Rattle.wac_edges.specs.declared.node.NodeId.{NodeId as AnId};
 ghost use Rattle.std.specs.Bool.{OnTrue, OnFalse};
 ghost use Rattle.wac_edges.specs.Order.{Edges, Writes, IsOnCycle};
-ghost use Rattle.wac_edges.specs.Ready.{leading, AreReady, AllRise, is_left_with, is_set};
+ghost use Rattle.wac_edges.specs.Ready.{leading, AreReady, AllRise, IsLowestFree, is_left_with, is_set};
 
 use crate::edges::{Edges, End};
 use crate::node::NodeId;
@@ -22,38 +22,57 @@ fn is_left_with(left: &[bool], counts: &[usize], b: usize, count: usize) -> bool
     left[b] && counts[b] == count
 }
 
-/// The numbers that are left and whose count is zero, the lowest first.
-fn free(
-    alloc: Global,
-    left: &[bool],
-    counts: &[usize],
-) -> Result<BinaryHeap<Reverse<usize>>, AllocError>
-    requires { length counts.now ≡ length left.now }
-    ensures { IfOk result (λ heap. AreReady heap left.now counts.now) }
+/// Whether a number below a bound is left and one edge to it is.
+fn is_freed(left: &[bool], counts: &[usize], bound: usize, b: usize) -> bool
+    requires long { length counts.now ≡ length left.now }
+    requires small { b < length left.now }
+    ensures { result ≡ (nat_lt b bound && is_left_with left.now counts.now 1 b) }
 {
-    let mut ready = BinaryHeap::new(alloc);
-    for b in 0..left.len() {
-        if is_left_with(left, counts, b, 0) {
-            ready.push(Reverse(b))?;
-        }
-    }
-    Ok(ready)
+    b < bound && is_left_with(left, counts, b, 1)
 }
 
-/// Takes an edge to a number away. If it is left and no other edge to it is, it is ready.
+/// Takes the lowest number that is left and whose count is zero. Those below a bound stand in a heap; where there is none, the
+/// others are looked through from there on, and the bound rises behind the one that is found.
+fn next_ready(
+    ready: &mut BinaryHeap<Reverse<usize>>,
+    bound: &mut usize,
+    left: &[bool],
+    counts: &[usize],
+) -> Option<usize>
+    requires long { length counts.now ≡ length left.now }
+    requires ready { AreReady ready.old bound.old left.now counts.now }
+    ensures small { IfSome result (λ n. n < length left.now) }
+    ensures lowest { IfSome result (IsLowestFree left.now counts.now) }
+    ensures rest { IfSome result (λ n. AreReady ready.new bound.new (slice_set left.now n false) counts.now) }
+    ensures none { IfNone result ((n : ℕ) → is_left_with left.now counts.now 0 n ≡ false) }
+{
+    if let Some(lowest) = ready.pop() {
+        return Some(lowest.0);
+    }
+    for n in *bound..left.len() {
+        if is_left_with(left, counts, n, 0) {
+            *bound = n + 1;
+            return Some(n);
+        }
+    }
+    None
+}
+
+/// Takes an edge to a number away. If it is below a bound and left and no other edge to it is, it is ready.
 fn release_one(
     b: usize,
+    bound: usize,
     left: &[bool],
     counts: &mut [usize],
     ready: &mut BinaryHeap<Reverse<usize>>,
 ) -> Result<(), AllocError>
     requires long { length counts.old ≡ length left.now }
-    requires ready { AreReady ready.old left.now counts.old }
+    requires ready { AreReady ready.old bound left.now counts.old }
     ensures counted { OnOk result (counts.new ≡ slice_set counts.old b (slice_index counts.old b - 1)) }
-    ensures ready { OnOk result (AreReady ready.new left.now counts.new) }
+    ensures ready { OnOk result (AreReady ready.new bound left.now counts.new) }
 {
     if b < counts.len() {
-        if is_left_with(left, counts, b, 1) {
+        if is_freed(left, counts, bound, b) {
             ready.push(Reverse(b))?;
         }
         counts[b] = counts[b].saturating_sub(1);
@@ -61,20 +80,21 @@ fn release_one(
     Ok(())
 }
 
-/// Takes some edges away. Those that are left and to which no edge is left are ready.
+/// Takes some edges away. Those below a bound that are left and to which no edge is left are ready.
 fn release(
     walk: Walk<'_>,
+    bound: usize,
     left: &[bool],
     counts: &mut [usize],
     ready: &mut BinaryHeap<Reverse<usize>>,
 ) -> Result<(), AllocError>
     requires long { length counts.old ≡ length left.now }
-    requires ready { AreReady ready.old left.now counts.old }
+    requires ready { AreReady ready.old bound left.now counts.old }
     ensures counted { OnOk result ((b : ℕ) → b < length counts.old → slice_index counts.new b ≡ slice_index counts.old b - leading walk.entry.left b) }
-    ensures ready { OnOk result (AreReady ready.new left.now counts.new) }
+    ensures ready { OnOk result (AreReady ready.new bound left.now counts.new) }
 {
     for edge in walk {
-        release_one(edge.target.0, left, counts, ready)?;
+        release_one(edge.target.0, bound, left, counts, ready)?;
     }
     Ok(())
 }
@@ -132,14 +152,15 @@ fn order_by_counts(
 {
     let mut left = left;
     let mut counts = edges.counts(alloc, left.as_slice())?;
-    let mut ready = free(alloc, left.as_slice(), counts.as_slice())?;
+    let mut ready = BinaryHeap::new(alloc);
+    let mut bound = 0;
     let mut written = Vec::with_capacity(alloc, left.len())?;
-    while let Some(lowest) = ready.pop() {
-        let n = lowest.0;
+    while let Some(n) = next_ready(&mut ready, &mut bound, left.as_slice(), counts.as_slice()) {
         written.push(NodeId(n))?;
         left[n] = false;
         release(
             edges.walk(NodeId(n), End::Outgoing),
+            bound,
             left.as_slice(),
             counts.as_mut_slice(),
             &mut ready,
