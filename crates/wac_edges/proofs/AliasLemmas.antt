@@ -1,20 +1,26 @@
 -- Aliases that are noted.
-use Rattle.std.proofs.Common.{◌≡◌, ◌≢◌, eqb, ◌↔◌, ◌⊎◌, ℕ, ◌<◌, Bool, true, false, cond, List, [], ◌∷◌, Option, Some, None, refl, sym, ap, ◌∙◌, subst, inl, inr, arith}
+use Rattle.std.proofs.Common.{◌≡◌, ◌≢◌, eqb, ◌↔◌, ◌⊎◌, ℕ, ◌<◌, ◌||◌, Bool, true, false, cond, List, [], ◌∷◌, Option, Some, None, refl, sym, ap, ◌∙◌, subst, inl, inr, arith}
 use Rattle.std.specs.List.{list_any}
 use Rattle.std.specs.BTreeSet.{BTreeSet, contains, IsKeyRangeOf, IsKeyInRange}
 use Rattle.std.specs.BTreeMap.Range.{IsLeBy}
 use Rattle.std.specs.declared.ops.Bound.TheVariants.{Included, Unbounded}
-use Rattle.std.specs.Prelude.{slice_get, IfSome, IfNone}
+use Rattle.std.specs.Prelude.{◌==◌, is_some, slice_get, IfSome, IfNone}
 use Rattle.std.specs.BTreeMap.{is_at}
 use Rattle.std.specs.declared.cmp.Ordering.{Ordering}
 use Rattle.std.specs.declared.cmp.Ordering.TheVariants.{Less, Equal, Greater}
 use Rattle.std.specs.Ordering.{nat_cmp, ordering_then, is_gt, is_eq, MatchOrdering}
 use Rattle.std.specs.Cmp.{ranks, tied_itself}
-use Rattle.std.proofs.lemmas.Bool.{false_from_ne_true, cases_Bool, eqb-true}
+use Rattle.std.proofs.lemmas.Bool.{and_parts, false_from_ne_true, cases_Bool, eq-eqb, eqb-true, or_cases}
 use Rattle.std.proofs.lemmas.Bool.Decides.{nat_tests}
 use Rattle.std.proofs.lemmas.Cmp.{nat_cmp_total}
 use Rattle.std.proofs.lemmas.Map.Lookups.{exact_unsigned}
 use Rattle.std.specs.FinSet as set
+use Rattle.std.specs.HashMap as hash
+use Rattle.std.specs.HashMap.{HashMap}
+use Rattle.std.specs.Map.{lookup}
+use Rattle.std.specs.declared.hash.BuildHasherDefault.{BuildHasherDefault}
+use Rattle.std.specs.declared.hash.FoldHasher.{FoldHasher}
+use Rattle.wac_edges.specs.declared.aliases.Aliases.{Aliases}
 use Rattle.slab.specs.Slab.{Slab, get}
 use Rattle.wac_edges.specs.declared.records.Record.{Record}
 use Rattle.wac_edges.specs.Order.{Edges}
@@ -27,7 +33,7 @@ use Rattle.std.proofs.Common.{◌++◌, length, take, drop, map, Contains}
 use Rattle.std.proofs.Math.Seq.{take-append_seam}
 use Rattle.wac_edges.specs.declared.records.Firsts.{Firsts}
 use Rattle.wac_edges.specs.Records.{Table, HasEdge, AreListed, edge_at, list_at, first_at}
-use Rattle.wac_edges.specs.Aliases.{triple_cmp, is_noted, is_crowded, AreNoted}
+use Rattle.wac_edges.specs.Aliases.{triple_cmp, pair_eq, is_number, is_first, is_among, is_noted, is_crowded, AreNoted}
 use Rattle.wac_edges.specs.declared.edges.End.TheVariants.{Outgoing}
 use Rattle.slab.proofs.SlabLemmas.{Contains-cons, Contains-cons_cases}
 use Rattle.wac_edges.proofs.EdgeLemmas.{same_node}
@@ -79,22 +85,22 @@ module _ (old new : BTreeSet (ℕ × ℕ × ℕ)) (edge : Edge) (position : ℕ)
   its_edge : tied ≡ true → alias_edge source target i ≡ edge
   its_edge h = let (s, p, t) = triple_parts edge.source.0 position edge.target.0 source.0 i target.0 h in the_edge edge position source target i is s p t
 
-  pub noted_more : is_noted new source i target ≡ cond tied true (is_noted old source i target) → (is_noted new source i target ≡ true) ↔ ((is_noted old source i target ≡ true) ⊎ (alias_edge source target i ≡ edge))
+  pub noted_more : is_among new source i target ≡ cond tied true (is_among old source i target) → (is_among new source i target ≡ true) ↔ ((is_among old source i target ≡ true) ⊎ (alias_edge source target i ≡ edge))
   noted_more now = split tied refl now where
-    split : (b : Bool) → tied ≡ b → is_noted new source i target ≡ cond b true (is_noted old source i target) → (is_noted new source i target ≡ true) ↔ ((is_noted old source i target ≡ true) ⊎ (alias_edge source target i ≡ edge))
+    split : (b : Bool) → tied ≡ b → is_among new source i target ≡ cond b true (is_among old source i target) → (is_among new source i target ≡ true) ↔ ((is_among old source i target ≡ true) ⊎ (alias_edge source target i ≡ edge))
     split true same h = (λ _. inr (its_edge same), λ _. h)
     split false differ h = (λ w. inl (sym h ∙ w), λ w. elim w [ inl was ↦ h ∙ was | inr here ↦ absurd (clash here) ]) where
       clash : alias_edge source target i ≡ edge → ⊥
       clash here = let wrong : true ≡ false = sym (is_the_triple edge position source target i is here) ∙ differ in cc
 
-  pub noted_less : is_noted new source i target ≡ cond tied false (is_noted old source i target) → (is_noted new source i target ≡ true) ↔ ((is_noted old source i target ≡ true) × (alias_edge source target i ≡ edge → ⊥))
+  pub noted_less : is_among new source i target ≡ cond tied false (is_among old source i target) → (is_among new source i target ≡ true) ↔ ((is_among old source i target ≡ true) × (alias_edge source target i ≡ edge → ⊥))
   noted_less now = split tied refl now where
-    split : (b : Bool) → tied ≡ b → is_noted new source i target ≡ cond b false (is_noted old source i target) → (is_noted new source i target ≡ true) ↔ ((is_noted old source i target ≡ true) × (alias_edge source target i ≡ edge → ⊥))
+    split : (b : Bool) → tied ≡ b → is_among new source i target ≡ cond b false (is_among old source i target) → (is_among new source i target ≡ true) ↔ ((is_among old source i target ≡ true) × (alias_edge source target i ≡ edge → ⊥))
     split true same h = (λ w. absurd (let wrong : false ≡ true = sym h ∙ w in cc), λ w. absurd (w.1 (its_edge same)))
     split false differ h = (λ w. (sym h ∙ w, λ here. let wrong : true ≡ false = sym (is_the_triple edge position source target i is here) ∙ differ in cc), λ w. h ∙ w.0)
 
 -- an edge of another label is none of an alias
-module _ (s : BTreeSet (ℕ × ℕ × ℕ)) (edge : Edge) (other : (position : ℕ) → edge.label ≡ Alias position → ⊥) (source target : NodeId) (i : ℕ) where
+module _ (s : Aliases) (edge : Edge) (other : (position : ℕ) → edge.label ≡ Alias position → ⊥) (source target : NodeId) (i : ℕ) where
   none_here : alias_edge source target i ≡ edge → ⊥
   none_here here = other i (ap (λ (e : Edge). e.label) (sym here))
 
@@ -104,8 +110,147 @@ module _ (s : BTreeSet (ℕ × ℕ × ℕ)) (edge : Edge) (other : (position : �
   pub noted_still : (is_noted s source i target ≡ true) ↔ ((is_noted s source i target ≡ true) × (alias_edge source target i ≡ edge → ⊥))
   noted_still = (λ w. (w, none_here), λ w. w.0)
 
-pub noted_kept : (old new : BTreeSet (ℕ × ℕ × ℕ)) → new.keys ≡ old.keys → (source target : NodeId) (i : ℕ) → is_noted new source i target ≡ is_noted old source i target
-noted_kept old new same source target i = ap (λ ks. list_any (is_at (triple_cmp (source.0, i, target.0))) ks) same
+-- ---- aliases that were noted first
+pair_parts : (a b x y : ℕ) → pair_eq (a, b) (x, y) ≡ true → (a ≡ x) × (b ≡ y)
+pair_parts a b x y h = let (p, q) = and_parts (a == x) (b == y) h in (eqb-true a x p, eqb-true b y q)
+
+pair_itself : (a b x y : ℕ) → a ≡ x → b ≡ y → pair_eq (a, b) (x, y) ≡ true
+pair_itself a b x y p q = rw (eq-eqb a x p, eq-eqb b y q) refl
+
+number_is : (k : ℕ) (o : Option ℕ) → is_number k o ≡ true → o ≡ Some k
+number_is k None h = cc
+number_is k (Some x) h = ap (λ (n : ℕ). Some n) (eqb-true x k h)
+
+the_number : (k : ℕ) (o : Option ℕ) → o ≡ Some k → is_number k o ≡ true
+the_number k o h = ap (is_number k) h ∙ eq-eqb k k refl
+
+pub no_first : (o : Option ℕ) → is_some o ≡ false → o ≡ None
+no_first None h = refl
+no_first (Some x) h = cc
+
+or_left : (a b : Bool) → a ≡ true → (a || b) ≡ true
+or_left true b h = refl
+or_left false b h = cc
+
+or_right : (a b : Bool) → b ≡ true → (a || b) ≡ true
+or_right true b h = refl
+or_right false b h = h
+
+clash : (b : Bool) → b ≡ true → b ≡ false → ⊥
+clash true h k = cc
+clash false h k = cc
+
+-- one more among the others, or among the first ones
+more_others : (a b c : Bool) (E : Type 0) → (c ≡ true) ↔ ((b ≡ true) ⊎ E) → ((a || c) ≡ true) ↔ (((a || b) ≡ true) ⊎ E)
+more_others true b c E h = (λ _. inl refl, λ _. refl)
+more_others false b c E h = h
+
+more_firsts : (a b c : Bool) (E : Type 0) → (c ≡ true) ↔ ((a ≡ true) ⊎ E) → ((c || b) ≡ true) ↔ (((a || b) ≡ true) ⊎ E)
+more_firsts a b c E h = (to, from) where
+  was : (a ≡ true) ⊎ E → ((a || b) ≡ true) ⊎ E
+  was (inl w) = inl (or_left a b w)
+  was (inr e) = inr e
+
+  to : (c || b) ≡ true → ((a || b) ≡ true) ⊎ E
+  to w = elim (or_cases c b w) [ inl x ↦ was (h.0 x) | inr y ↦ inl (or_right a b y) ]
+
+  from : ((a || b) ≡ true) ⊎ E → (c || b) ≡ true
+  from (inl w) = elim (or_cases a b w) [ inl x ↦ or_left c b (h.1 (inl x)) | inr y ↦ or_right c b y ]
+  from (inr e) = or_left c b (h.1 (inr e))
+
+-- one less among both
+less_both : (a b c d : Bool) (N : Type 0) → (c ≡ true) ↔ ((a ≡ true) × N) → (d ≡ true) ↔ ((b ≡ true) × N) → ((c || d) ≡ true) ↔ (((a || b) ≡ true) × N)
+less_both a b c d N h k = (to, from) where
+  to : (c || d) ≡ true → ((a || b) ≡ true) × N
+  to w = elim (or_cases c d w) [ inl x ↦ (or_left a b (h.0 x).0, (h.0 x).1) | inr y ↦ (or_right a b (k.0 y).0, (k.0 y).1) ]
+
+  from : ((a || b) ≡ true) × N → (c || d) ≡ true
+  from (w, n) = elim (or_cases a b w) [ inl x ↦ or_left c d (h.1 (x, n)) | inr y ↦ or_right c d (k.1 (y, n)) ]
+
+module _ (old new : Aliases) (edge : Edge) (position : ℕ) (is : edge.label ≡ Alias position) (source target : NodeId) (i : ℕ) where
+  abbrev paired : Bool
+  paired = pair_eq (edge.source.0, position) (source.0, i)
+
+  edge_parts : alias_edge source target i ≡ edge → (edge.source.0 ≡ source.0) × (position ≡ i) × (edge.target.0 ≡ target.0)
+  edge_parts same = (
+    ap (λ (e : Edge). e.source.0) (sym same),
+    same_position position i (sym is ∙ ap (λ (e : Edge). e.label) (sym same)),
+    ap (λ (e : Edge). e.target.0) (sym same),
+  )
+
+  pairs : alias_edge source target i ≡ edge → paired ≡ true
+  pairs same = let (s, p, t) = edge_parts same in pair_itself edge.source.0 position source.0 i s p
+
+  -- what is at the edge's place is at the place of the node
+  moved : (a : Aliases) → paired ≡ true → hash.get pair_eq a.firsts (source.0, i) ≡ hash.get pair_eq a.firsts (edge.source.0, position)
+  moved a h = let (s, p) = pair_parts edge.source.0 position source.0 i h in λ j. hash.get pair_eq a.firsts (sym s j, sym p j)
+
+  is_edge : paired ≡ true → edge.target.0 ≡ target.0 → alias_edge source target i ≡ edge
+  is_edge h t = let (s, p) = pair_parts edge.source.0 position source.0 i h in the_edge edge position source target i is s p t
+
+  first_more : hash.get pair_eq old.firsts (edge.source.0, position) ≡ None → hash.get pair_eq new.firsts (source.0, i) ≡ cond paired (Some edge.target.0) (hash.get pair_eq old.firsts (source.0, i)) → (is_first new source i target ≡ true) ↔ ((is_first old source i target ≡ true) ⊎ (alias_edge source target i ≡ edge))
+  first_more none now = split paired refl now where
+    split : (b : Bool) → paired ≡ b → hash.get pair_eq new.firsts (source.0, i) ≡ cond b (Some edge.target.0) (hash.get pair_eq old.firsts (source.0, i)) → (is_first new source i target ≡ true) ↔ ((is_first old source i target ≡ true) ⊎ (alias_edge source target i ≡ edge))
+    split true h put = (to, from) where
+      to : is_first new source i target ≡ true → (is_first old source i target ≡ true) ⊎ (alias_edge source target i ≡ edge)
+      to w = let same : Some edge.target.0 ≡ Some target.0 = sym put ∙ number_is target.0 _ w in inr (is_edge h (cc))
+
+      from : (is_first old source i target ≡ true) ⊎ (alias_edge source target i ≡ edge) → is_first new source i target ≡ true
+      from (inl was) = let wrong : None ≡ Some target.0 = sym none ∙ sym (moved old h) ∙ number_is target.0 _ was in absurd (cc)
+      from (inr same) = the_number target.0 _ (put ∙ ap (λ (n : ℕ). Some n) (edge_parts same).2)
+    split false h put = (λ w. inl (ap (is_number target.0) (sym put) ∙ w), λ w. elim w [ inl was ↦ ap (is_number target.0) put ∙ was | inr same ↦ absurd (clash paired (pairs same) h) ])
+
+  -- one that was noted first is struck out
+  first_less : is_number edge.target.0 (hash.get pair_eq old.firsts (edge.source.0, position)) ≡ true → hash.get pair_eq new.firsts (source.0, i) ≡ cond paired None (hash.get pair_eq old.firsts (source.0, i)) → (is_first new source i target ≡ true) ↔ ((is_first old source i target ≡ true) × (alias_edge source target i ≡ edge → ⊥))
+  first_less there now = split paired refl now where
+    split : (b : Bool) → paired ≡ b → hash.get pair_eq new.firsts (source.0, i) ≡ cond b None (hash.get pair_eq old.firsts (source.0, i)) → (is_first new source i target ≡ true) ↔ ((is_first old source i target ≡ true) × (alias_edge source target i ≡ edge → ⊥))
+    split true h gone = (to, from) where
+      to : is_first new source i target ≡ true → (is_first old source i target ≡ true) × (alias_edge source target i ≡ edge → ⊥)
+      to w = let wrong : None ≡ Some target.0 = sym gone ∙ number_is target.0 _ w in absurd (cc)
+
+      from : (is_first old source i target ≡ true) × (alias_edge source target i ≡ edge → ⊥) → is_first new source i target ≡ true
+      from (was, other) =
+          let both : Some edge.target.0 ≡ Some target.0 = sym (number_is edge.target.0 _ there) ∙ sym (moved old h) ∙ number_is target.0 _ was in
+          absurd (other (is_edge h (cc)))
+    split false h kept = (λ w. (ap (is_number target.0) (sym kept) ∙ w, λ same. clash paired (pairs same) h), λ w. ap (is_number target.0) kept ∙ w.0)
+
+  -- or it was not the first
+  first_same : is_number edge.target.0 (hash.get pair_eq old.firsts (edge.source.0, position)) ≡ false → (is_first old source i target ≡ true) ↔ ((is_first old source i target ≡ true) × (alias_edge source target i ≡ edge → ⊥))
+  first_same differ = (λ w. (w, other w), λ w. w.0) where
+    other : is_first old source i target ≡ true → alias_edge source target i ≡ edge → ⊥
+    other w same =
+        let at : hash.get pair_eq old.firsts (edge.source.0, position) ≡ Some target.0 = sym (moved old (pairs same)) ∙ number_is target.0 _ w in
+        clash (is_number edge.target.0 (hash.get pair_eq old.firsts (edge.source.0, position))) (the_number edge.target.0 _ (at ∙ ap (λ (n : ℕ). Some n) (sym (edge_parts same).2))) differ
+
+  -- ---- an edge is noted
+  pub noted_first : new.others ≡ old.others → hash.get pair_eq old.firsts (edge.source.0, position) ≡ None → hash.get pair_eq new.firsts (source.0, i) ≡ cond paired (Some edge.target.0) (hash.get pair_eq old.firsts (source.0, i)) → (is_noted new source i target ≡ true) ↔ ((is_noted old source i target ≡ true) ⊎ (alias_edge source target i ≡ edge))
+  noted_first others none now =
+      subst (λ (s : BTreeSet (ℕ × ℕ × ℕ)). ((is_first new source i target || is_among s source i target) ≡ true) ↔ ((is_noted old source i target ≡ true) ⊎ (alias_edge source target i ≡ edge))) (sym others)
+      (more_firsts (is_first old source i target) (is_among old.others source i target) (is_first new source i target) (alias_edge source target i ≡ edge) (first_more none now))
+
+  -- an edge is struck out
+  pub struck_first : is_number edge.target.0 (hash.get pair_eq old.firsts (edge.source.0, position)) ≡ true → hash.get pair_eq new.firsts (source.0, i) ≡ cond paired None (hash.get pair_eq old.firsts (source.0, i)) → (is_among new.others source i target ≡ true) ↔ ((is_among old.others source i target ≡ true) × (alias_edge source target i ≡ edge → ⊥))
+      → (is_noted new source i target ≡ true) ↔ ((is_noted old source i target ≡ true) × (alias_edge source target i ≡ edge → ⊥))
+  struck_first there now others = less_both (is_first old source i target) (is_among old.others source i target) (is_first new source i target) (is_among new.others source i target) (alias_edge source target i ≡ edge → ⊥) (first_less there now) others
+
+  pub struck_other : is_number edge.target.0 (hash.get pair_eq old.firsts (edge.source.0, position)) ≡ false → new.firsts ≡ old.firsts → (is_among new.others source i target ≡ true) ↔ ((is_among old.others source i target ≡ true) × (alias_edge source target i ≡ edge → ⊥))
+      → (is_noted new source i target ≡ true) ↔ ((is_noted old source i target ≡ true) × (alias_edge source target i ≡ edge → ⊥))
+  struck_other differ same others = less_both (is_first old source i target) (is_among old.others source i target) (is_first new source i target) (is_among new.others source i target) (alias_edge source target i ≡ edge → ⊥)
+      (subst (λ (m : HashMap (ℕ × ℕ) ℕ (BuildHasherDefault FoldHasher)). (is_number target.0 (hash.get pair_eq m (source.0, i)) ≡ true) ↔ ((is_first old source i target ≡ true) × (alias_edge source target i ≡ edge → ⊥))) (sym same) (first_same differ)) others
+
+-- another one is noted
+pub noted_other : (old new : Aliases) (edge : Edge) (source target : NodeId) (i : ℕ) → new.firsts ≡ old.firsts → (is_among new.others source i target ≡ true) ↔ ((is_among old.others source i target ≡ true) ⊎ (alias_edge source target i ≡ edge))
+    → (is_noted new source i target ≡ true) ↔ ((is_noted old source i target ≡ true) ⊎ (alias_edge source target i ≡ edge))
+noted_other old new edge source target i same others =
+    subst (λ (m : HashMap (ℕ × ℕ) ℕ (BuildHasherDefault FoldHasher)). ((is_number target.0 (hash.get pair_eq m (source.0, i)) || is_among new.others source i target) ≡ true) ↔ ((is_noted old source i target ≡ true) ⊎ (alias_edge source target i ≡ edge))) (sym same)
+    (more_others (is_first old source i target) (is_among old.others source i target) (is_among new.others source i target) (alias_edge source target i ≡ edge) others)
+
+-- the same are noted where the same stand in both
+pub noted_kept : (old new : Aliases) → new.firsts.entries ≡ old.firsts.entries → new.others.keys ≡ old.others.keys → (source target : NodeId) (i : ℕ) → is_noted new source i target ≡ is_noted old source i target
+noted_kept old new firsts others source target i = λ j. is_number target.0 (lookup (pair_eq (source.0, i)) (firsts j)) || list_any (is_at (triple_cmp (source.0, i, target.0))) (others j)
+
+pub noted_empty : (a : Aliases) → a.firsts.entries ≡ [] → a.others.keys ≡ [] → (source target : NodeId) (i : ℕ) → is_noted a source i target ≡ false
+noted_empty a firsts others source target i = λ j. is_number target.0 (lookup (pair_eq (source.0, i)) (firsts j)) || list_any (is_at (triple_cmp (source.0, i, target.0))) (others j)
 
 -- ---- the first of those of an export
 -- what stands between two triples of the same two numbers has them too
@@ -135,17 +280,17 @@ begins s p t = rw (tied_itself nat_cmp_total s, tied_itself nat_cmp_total p) (at
 
 -- where the first has other numbers, none has these
 pub none_of : (aliases : BTreeSet (ℕ × ℕ × ℕ)) (s p : ℕ) (k : ℕ × ℕ × ℕ) → is_gt (triple_cmp (s, p, 0) k) ≡ false → ((q : ℕ × ℕ × ℕ) → is_gt (triple_cmp (s, p, 0) q) ≡ false → contains triple_cmp aliases q ≡ true → is_gt (triple_cmp k q) ≡ false)
-    → ((k.0 ≡ s) → (k.1 ≡ p) → ⊥) → (target : NodeId) → is_noted aliases (node_number s) p target ≡ false
-none_of aliases s p k from least other target = false_from_ne_true (is_noted aliases (node_number s) p target) wrong where
-  wrong : is_noted aliases (node_number s) p target ≡ true → ⊥
+    → ((k.0 ≡ s) → (k.1 ≡ p) → ⊥) → (target : NodeId) → is_among aliases (node_number s) p target ≡ false
+none_of aliases s p k from least other target = false_from_ne_true (is_among aliases (node_number s) p target) wrong where
+  wrong : is_among aliases (node_number s) p target ≡ true → ⊥
   wrong there =
       let (one, two) = between s p k.0 k.1 k.2 target.0 from (least (s, p, target.0) (begins s p target.0) there) in
       other one two
 
-pub none_at : (aliases : BTreeSet (ℕ × ℕ × ℕ)) (s p : ℕ) (r : List (ℕ × ℕ × ℕ)) → IsKeyRangeOf triple_cmp (Included (s, p, 0)) Unbounded aliases r → r ≡ [] → (target : NodeId) → is_noted aliases (node_number s) p target ≡ false
+pub none_at : (aliases : BTreeSet (ℕ × ℕ × ℕ)) (s p : ℕ) (r : List (ℕ × ℕ × ℕ)) → IsKeyRangeOf triple_cmp (Included (s, p, 0)) Unbounded aliases r → r ≡ [] → (target : NodeId) → is_among aliases (node_number s) p target ≡ false
 none_at aliases s p r range empty target = range.5 empty (s, p, target.0) (begins s p target.0, tt)
 
-pub none_first : (aliases : BTreeSet (ℕ × ℕ × ℕ)) (s p : ℕ) (r rest : List (ℕ × ℕ × ℕ)) (k : ℕ × ℕ × ℕ) → IsKeyRangeOf triple_cmp (Included (s, p, 0)) Unbounded aliases r → r ≡ k ∷ rest → (k.0 ≡ s → k.1 ≡ p → ⊥) → (target : NodeId) → is_noted aliases (node_number s) p target ≡ false
+pub none_first : (aliases : BTreeSet (ℕ × ℕ × ℕ)) (s p : ℕ) (r rest : List (ℕ × ℕ × ℕ)) (k : ℕ × ℕ × ℕ) → IsKeyRangeOf triple_cmp (Included (s, p, 0)) Unbounded aliases r → r ≡ k ∷ rest → (k.0 ≡ s → k.1 ≡ p → ⊥) → (target : NodeId) → is_among aliases (node_number s) p target ≡ false
 none_first aliases s p r rest k range is other =
     let first : IsKeyInRange triple_cmp (Included (s, p, 0)) Unbounded aliases k = subst (λ (l : List (ℕ × ℕ × ℕ)). IfSome (slice_get l 0) (IsKeyInRange triple_cmp (Included (s, p, 0)) Unbounded aliases)) is range.1 in
     none_of aliases s p k first.0.0 (λ q from there. subst (λ (l : List (ℕ × ℕ × ℕ)). IfSome (slice_get l 0) (λ x. IsLeBy triple_cmp x q)) is (range.2 q (from, tt) there)) other
@@ -155,7 +300,7 @@ if_none None p = p
 if_none (Some x) p = tt
 
 -- ---- an edge of a crowded node
-module _ (crowded : List Bool) (old new : BTreeSet (ℕ × ℕ × ℕ)) (edge : Edge) (source target : NodeId) (i : ℕ) where
+module _ (crowded : List Bool) (old new : Aliases) (edge : Edge) (source target : NodeId) (i : ℕ) where
   from_crowded : alias_edge source target i ≡ edge → is_crowded crowded source ≡ is_crowded crowded edge.source
   from_crowded same = ap (λ (e : Edge). is_crowded crowded e.source) same
 
@@ -174,13 +319,13 @@ module _ (crowded : List Bool) (old new : BTreeSet (ℕ × ℕ × ℕ)) (edge : 
 
 -- ---- some edges, one after another
 -- of all of these edges those are noted that are not left
-pub record AreNoting (all left : List Edge) (old now : BTreeSet (ℕ × ℕ × ℕ)) : Type 0 where
+pub record AreNoting (all left : List Edge) (old now : Aliases) : Type 0 where
   pub within : (e : Edge) → Contains left e → Contains all e
   pub more : (source target : NodeId) (i : ℕ) → is_noted now source i target ≡ true → (is_noted old source i target ≡ true) ⊎ Contains all (alias_edge source target i)
   pub kept : (source target : NodeId) (i : ℕ) → is_noted old source i target ≡ true → is_noted now source i target ≡ true
   pub done : (source target : NodeId) (i : ℕ) → Contains all (alias_edge source target i) → Contains left (alias_edge source target i) ⊎ (is_noted now source i target ≡ true)
 
-pub noting_start : (all left : List Edge) (aliases : BTreeSet (ℕ × ℕ × ℕ)) → left ≡ all → AreNoting all left aliases aliases
+pub noting_start : (all left : List Edge) (aliases : Aliases) → left ≡ all → AreNoting all left aliases aliases
 noting_start all left aliases is = record {
   within = λ e w. subst (λ (l : List Edge). Contains l e) is w;
   more = λ source target i w. inl w;
@@ -188,7 +333,7 @@ noting_start all left aliases is = record {
   done = λ source target i w. inl (subst (λ (l : List Edge). Contains l (alias_edge source target i)) (sym is) w);
 }
 
-pub noting_next : (all left rest : List Edge) (edge : Edge) (old now new : BTreeSet (ℕ × ℕ × ℕ)) → left ≡ edge ∷ rest → AreNoting all left old now
+pub noting_next : (all left rest : List Edge) (edge : Edge) (old now new : Aliases) → left ≡ edge ∷ rest → AreNoting all left old now
     → ((source target : NodeId) (i : ℕ) → (is_noted new source i target ≡ true) ↔ ((is_noted now source i target ≡ true) ⊎ (alias_edge source target i ≡ edge))) → AreNoting all rest old new
 noting_next all left rest edge old now new is a step = record {
   within = λ e w. a.within e (subst (λ (l : List Edge). Contains l e) (sym is) (Contains-cons edge e rest w));
@@ -206,7 +351,7 @@ noting_next all left rest edge old now new is a step = record {
   ];
 }
 
-pub noting_done : (all left : List Edge) (old now : BTreeSet (ℕ × ℕ × ℕ)) → left ≡ [] → AreNoting all left old now → (source target : NodeId) (i : ℕ) → Contains all (alias_edge source target i) → is_noted now source i target ≡ true
+pub noting_done : (all left : List Edge) (old now : Aliases) → left ≡ [] → AreNoting all left old now → (source target : NodeId) (i : ℕ) → Contains all (alias_edge source target i) → is_noted now source i target ≡ true
 noting_done all left old now is a source target i w = elim (a.done source target i w) [
   | inl there ↦ absurd (let (k, within, _) = subst (λ (l : List Edge). Contains l (alias_edge source target i)) is there in omega arith)
   | inr noted ↦ noted
@@ -220,7 +365,7 @@ crowded_more crowded then node others source many = elim (cases_Bool (eqb source
 ]
 
 -- ---- the notes of a table
-pub noted_with : (crowded marks : List Bool) → marks ≡ crowded → (old new : BTreeSet (ℕ × ℕ × ℕ)) (t u : Table) (edge : Edge) → AreNoted crowded old t
+pub noted_with : (crowded marks : List Bool) → marks ≡ crowded → (old new : Aliases) (t u : Table) (edge : Edge) → AreNoted crowded old t
     → ((source target : NodeId) (i : ℕ) → (is_noted new source i target ≡ true) ↔ ((is_noted old source i target ≡ true) ⊎ ((is_crowded marks source ≡ true) × (alias_edge source target i ≡ edge))))
     → ((e : Edge) → HasEdge u e ↔ (HasEdge t e ⊎ (e ≡ edge))) → AreNoted crowded new u
 noted_with crowded marks read old new t u edge noted now edges = record {
@@ -228,7 +373,7 @@ noted_with crowded marks read old new t u edge noted now edges = record {
   all = λ source target i many h. (now source target i).1 (elim ((edges (alias_edge source target i)).0 h) [ inl was ↦ inl (noted.all source target i many was) | inr same ↦ inr (ap (λ l. is_crowded l source) read ∙ many, same) ]);
 }
 
-pub noted_without : (crowded : List Bool) (old new : BTreeSet (ℕ × ℕ × ℕ)) (t u : Table) (edge : Edge) (key : ℕ) → edge_at t key ≡ Some edge → AreNoted crowded old t
+pub noted_without : (crowded : List Bool) (old new : Aliases) (t u : Table) (edge : Edge) (key : ℕ) → edge_at t key ≡ Some edge → AreNoted crowded old t
     → ((source target : NodeId) (i : ℕ) → (is_noted new source i target ≡ true) ↔ ((is_noted old source i target ≡ true) × (alias_edge source target i ≡ edge → ⊥)))
     → ((e : Edge) → HasEdge u e ↔ (HasEdge t e × (edge_at t key ≡ Some e → ⊥))) → AreNoted crowded new u
 noted_without crowded old new t u edge key at noted now edges = record {
@@ -240,26 +385,26 @@ noted_without crowded old new t u edge key at noted now edges = record {
       (now source target i).1 (noted.all source target i many was, λ same. other (at ∙ ap (λ (e : Edge). Some e) (sym same)));
 }
 
-pub noted_as : (crowded : List Bool) (old new : BTreeSet (ℕ × ℕ × ℕ)) (t : Table) → AreNoted crowded old t → ((source target : NodeId) (i : ℕ) → is_noted new source i target ≡ is_noted old source i target) → AreNoted crowded new t
+pub noted_as : (crowded : List Bool) (old new : Aliases) (t : Table) → AreNoted crowded old t → ((source target : NodeId) (i : ℕ) → is_noted new source i target ≡ is_noted old source i target) → AreNoted crowded new t
 noted_as crowded old new t noted same = record {
   sound = λ source target i w. noted.sound source target i (sym (same source target i) ∙ w);
   all = λ source target i many h. same source target i ∙ noted.all source target i many h;
 }
 
-pub noted_with_same : (crowded then : List Bool) (old new : BTreeSet (ℕ × ℕ × ℕ)) (t : Table) → ((n : NodeId) → is_crowded then n ≡ is_crowded crowded n) → AreNoted crowded old t → ((source target : NodeId) (i : ℕ) → is_noted new source i target ≡ is_noted old source i target) → AreNoted then new t
+pub noted_with_same : (crowded then : List Bool) (old new : Aliases) (t : Table) → ((n : NodeId) → is_crowded then n ≡ is_crowded crowded n) → AreNoted crowded old t → ((source target : NodeId) (i : ℕ) → is_noted new source i target ≡ is_noted old source i target) → AreNoted then new t
 noted_with_same crowded then old new t numbers noted same = record {
   sound = λ source target i w. noted.sound source target i (sym (same source target i) ∙ w);
   all = λ source target i many h. same source target i ∙ noted.all source target i (sym (numbers source) ∙ many) h;
 }
 
-pub noted_none : (s : Slab Record) (crowded : List Bool) (aliases : BTreeSet (ℕ × ℕ × ℕ)) → s.slots ≡ [] → crowded ≡ [] → aliases.keys ≡ [] → AreNoted crowded aliases (get s)
+pub noted_none : (s : Slab Record) (crowded : List Bool) (aliases : Aliases) → s.slots ≡ [] → crowded ≡ [] → ((source target : NodeId) (i : ℕ) → is_noted aliases source i target ≡ false) → AreNoted crowded aliases (get s)
 noted_none s crowded aliases empty few none = record {
-  sound = λ source target i w. let wrong : false ≡ true = sym (ap (λ ks. list_any (is_at (triple_cmp (source.0, i, target.0))) ks) none) ∙ w in cc;
+  sound = λ source target i w. absurd (clash (is_noted aliases source i target) w (none source target i));
   all = λ source target i many h. let wrong : false ≡ true = sym (ap (λ (l : List Bool). is_crowded l source) few) ∙ many in cc;
 }
 
 -- ---- the aliases of one node more
-module _ (s : Slab Record) (firsts : List Firsts) (listed : AreListed (get s) firsts) (crowded : List Bool) (old new : BTreeSet (ℕ × ℕ × ℕ)) (noted : AreNoted crowded old (get s)) (node : NodeId) (es : List Edge)
+module _ (s : Slab Record) (firsts : List Firsts) (listed : AreListed (get s) firsts) (crowded : List Bool) (old new : Aliases) (noted : AreNoted crowded old (get s)) (node : NodeId) (es : List Edge)
     (at : es ≡ map (λ (x : ℕ × Edge). x.1) (list_at s Outgoing (first_at Outgoing firsts node.0)))
     (more : (source target : NodeId) (i : ℕ) → is_noted new source i target ≡ true → (is_noted old source i target ≡ true) ⊎ Contains es (alias_edge source target i))
     (kept : (source target : NodeId) (i : ℕ) → is_noted old source i target ≡ true → is_noted new source i target ≡ true) where
@@ -285,7 +430,7 @@ module _ (s : Slab Record) (firsts : List Firsts) (listed : AreListed (get s) fi
   }
 
 -- ---- the alias that a look-up answers
-module _ (s : Slab Record) (crowded : List Bool) (aliases : BTreeSet (ℕ × ℕ × ℕ)) (edges : Edges) (noted : AreNoted crowded aliases (get s)) (shown : the_set s ≡ edges) (source : NodeId) (i : ℕ) where
+module _ (s : Slab Record) (crowded : List Bool) (aliases : Aliases) (edges : Edges) (noted : AreNoted crowded aliases (get s)) (shown : the_set s ≡ edges) (source : NodeId) (i : ℕ) where
   pub alias_found : (target : ℕ) → is_noted aliases source i (node_number target) ≡ true → set.contains edges (alias_edge source (node_number target) i) ≡ true
   alias_found target there = ap (λ (v : Edges). set.contains v (alias_edge source (node_number target) i)) (sym shown) ∙ of_table s (alias_edge source (node_number target) i) (noted.sound source (node_number target) i there)
 

@@ -1,8 +1,10 @@
 -- The aliases of exports, noted by source, position and target. Private functions alone cite this.
-use Rattle.std.specs.Prelude.{ℕ, ◌≡◌, Bool, true, false, List, Some, None, slice_get}
+use Rattle.std.specs.Prelude.{ℕ, ◌≡◌, ◌==◌, ◌&&◌, ◌||◌, Bool, true, false, List, Option, Some, None, slice_get}
 use Rattle.std.specs.BTreeSet.{BTreeSet, contains}
+use Rattle.std.specs.HashMap.{get}
 use Rattle.std.specs.declared.cmp.Ordering.{Ordering}
 use Rattle.std.specs.Ordering.{nat_cmp, ordering_then}
+use Rattle.wac_edges.specs.declared.aliases.Aliases.{Aliases}
 use Rattle.wac_edges.specs.declared.node.NodeId.{NodeId}
 use Rattle.wac_edges.specs.Edge.{alias_edge}
 use Rattle.wac_edges.specs.Records.{Table, HasEdge}
@@ -11,15 +13,36 @@ use Rattle.wac_edges.specs.Records.{Table, HasEdge}
 abbrev pub triple_cmp : ℕ × ℕ × ℕ → ℕ × ℕ × ℕ → Ordering
 triple_cmp x y = ordering_then (ordering_then (nat_cmp x.0 y.0) (nat_cmp x.1 y.1)) (nat_cmp x.2 y.2)
 
+-- both numbers are equal
+abbrev pub pair_eq : ℕ × ℕ → ℕ × ℕ → Bool
+pair_eq x y = (x.0 == y.0) && (x.1 == y.1)
+
+-- whether there is a number, and it is this one
+abbrev pub is_number : ℕ → Option ℕ → Bool
+is_number k None = false
+is_number k (Some x) = x == k
+
+-- whether the node is the alias of the source's export at this position that was noted first
+abbrev pub is_first : Aliases → NodeId → ℕ → NodeId → Bool
+is_first a source i target = is_number target.0 (get pair_eq a.firsts (source.0, i))
+
+-- whether the node is among the others that are noted
+abbrev pub is_among : BTreeSet (ℕ × ℕ × ℕ) → NodeId → ℕ → NodeId → Bool
+is_among s source i target = contains triple_cmp s (source.0, i, target.0)
+
 -- whether the node is noted as an alias of the source's export at this position
-abbrev pub is_noted : BTreeSet (ℕ × ℕ × ℕ) → NodeId → ℕ → NodeId → Bool
-is_noted s source i target = contains triple_cmp s (source.0, i, target.0)
+abbrev pub is_noted : Aliases → NodeId → ℕ → NodeId → Bool
+is_noted a source i target = is_first a source i target || is_among a.others source i target
+
+-- the same nodes are noted
+abbrev pub AreAlike : Aliases → Aliases → Type 0
+AreAlike a b = (source target : NodeId) (i : ℕ) → is_noted b source i target ≡ is_noted a source i target
 
 -- whether the node is marked as one whose aliases are noted
 abbrev pub is_crowded : List Bool → NodeId → Bool
 is_crowded crowded n = elim (slice_get crowded n.0) as (λ _. Bool) [ None ↦ false | Some marked ↦ marked ]
 
 -- an alias that is noted is one whose edge a record has, and of a crowded node all of these are noted
-pub record AreNoted (crowded : List Bool) (s : BTreeSet (ℕ × ℕ × ℕ)) (t : Table) : Type 0 where
+pub record AreNoted (crowded : List Bool) (s : Aliases) (t : Table) : Type 0 where
   pub sound : (source target : NodeId) (i : ℕ) → is_noted s source i target ≡ true → HasEdge t (alias_edge source target i)
   pub all : (source target : NodeId) (i : ℕ) → is_crowded crowded source ≡ true → HasEdge t (alias_edge source target i) → is_noted s source i target ≡ true

@@ -10,7 +10,7 @@ ghost use Rattle.wac_edges.specs.Order.{IsAcyclic, IsEdge, IsLowestOnCycle};
 ghost use Rattle.wac_cycles.specs.Cycles.{IsStep};
 ghost use Rattle.wac_edges.specs.Ready.{AllRise, AreCounted, leads_from, one};
 
-use crate::aliases::{first_alias, forget_alias, is_crowded, mark, note, note_all};
+use crate::aliases::{Aliases, first_alias, forget_alias, is_crowded, mark, note, note_all};
 use crate::node::NodeId;
 use crate::records::{Firsts, MOST, Record, all_rise, find, make_firsts, put, take};
 use crate::walk::{Walk, records_at};
@@ -74,8 +74,8 @@ pub struct Edges {
     firsts: Vec<Firsts>,
     // Marks the numbers of the nodes from which more edges led, once, than are looked through.
     crowded: Vec<bool>,
-    // Of each alias of one of these the numbers of its source, of the export's position, and of the alias.
-    aliases: BTreeSet<(usize, usize, usize)>,
+    // The aliases of exports of these.
+    aliases: Aliases,
 }
 
 /// So many edges from a node are looked through for an alias.
@@ -126,7 +126,7 @@ impl Edges {
             records: Slab::new(alloc),
             firsts: Vec::new(alloc),
             crowded: Vec::new(alloc),
-            aliases: BTreeSet::new(alloc),
+            aliases: Aliases::new(alloc),
         }
     }
 
@@ -217,7 +217,7 @@ impl Edges {
     }
 
     /// The alias of an instance's export at this position. This looks through the edges from the instance where they are few, and
-    /// takes as many steps as the logarithm of how many aliases there are where they are many.
+    /// asks a map where they are many.
     pub fn alias(&self, source: NodeId, position: usize) -> Option<NodeId>
         ensures some { IfSome result (λ target. set.contains self.now (alias_edge source target position) ≡ true) }
         ensures none { IfNone result ((target : AnId) → set.contains self.now (alias_edge source target position) ≡ false) }

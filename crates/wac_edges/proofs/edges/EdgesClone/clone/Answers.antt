@@ -6,7 +6,7 @@ use Rattle.slab.specs.Slab.{IsSlotClone, get}
 use Rattle.wac_edges.specs.Edge.{edge_cmp}
 use Rattle.wac_edges.specs.Aliases.{is_crowded}
 use Rattle.wac_edges.specs.Records.{all_edges}
-use Rattle.wac_edges.proofs.AliasLemmas.{noted_with_same, noted_kept}
+use Rattle.wac_edges.proofs.AliasLemmas.{noted_with_same}
 use Rattle.wac_edges.proofs.edges.EdgesClone.clone.Goals as goal
 
 -- a slot whose value is the same is the same
@@ -22,9 +22,8 @@ pub invariant_of-result : goal.invariant_of-result
 invariant_of-result c =
     let records = same_slots _ _ c.in_ok-records.ensures.cases.slots in
     let firsts = same_from_all_zip (λ a b. b ≡ a) _ _ c.in_ok-firsts.ensures.cases.0 (λ x y r. r) in
-    let keys = same_from_all_zip _ _ _ c.in_ok-aliases.ensures.cases (λ x y r. λ i. (r.0 i, r.1 i, r.2 i)) in
     let marks = same_from_all_zip (λ a b. b ≡ a) _ _ c.in_ok-crowded.ensures.cases.0 (λ x y r. r) in
-    rw (records, firsts) (c.self.invariant.0, noted_with_same c.self.inside.crowded.items c.in_ok-crowded.crowded.items c.self.inside.aliases c.in_ok-aliases.aliases (get c.self.inside.records) (λ n. ap (λ l. is_crowded l n) marks) c.self.invariant.1 (noted_kept c.self.inside.aliases c.in_ok-aliases.aliases keys))
+    rw (records, firsts) (c.self.invariant.0, noted_with_same c.self.inside.crowded.items c.in_ok-crowded.crowded.items c.self.inside.aliases c.in_ok-aliases.aliases (get c.self.inside.records) (λ n. ap (λ l. is_crowded l n) marks) c.self.invariant.1 c.in_ok-aliases.ensures.cases)
 
 pub returns : goal.returns
 returns c =

@@ -1,6 +1,6 @@
 use Rattle.wac_edges.proofs.AliasLemmas.{none_at, none_first, if_none}
-use Rattle.wac_edges.proofs.aliases.first_alias.Goals as goal
-use Rattle.wac_edges.proofs.aliases.first_alias.Goals.{else-number-source-via-then-number-source+else-i-position, else-number-source-via-else-number-source}
+use Rattle.wac_edges.proofs.aliases.lowest_among.Goals as goal
+use Rattle.wac_edges.proofs.aliases.lowest_among.Goals.{else-number-source-via-then-number-source+else-i-position, else-number-source-via-else-number-source}
 
 pub returns-in_err-number-clause-none : goal.returns-in_err-number-clause-none
 returns-in_err-number-clause-none c = if_none c.from_residual.result (none_at c.args.aliases.now c.args.source c.args.position c.range-noted.result (c.range-noted.ensures.in_range tt) c.in_err-number.ensures.steps.0)
