@@ -28,6 +28,7 @@ use wac_entries::classes::Classes;
 use wac_entries::entry::Entry;
 use wac_entries::naming::bound_in;
 use wac_entries::nodes::{Item, Nodes};
+use wac_entries::outward::outward_in;
 use wac_entries::scopes::{Opener, Scopes};
 
 /// What the item of an entry is compared as, from around its scopes.
@@ -70,14 +71,18 @@ fn entry_item(
     ensures item { IfOk result (λ x. (name : Name) → slice_get (class_names by_names entries.now) class ≡ Some name → IsItemOf nodes.new types.now entries.now name kind (item_view x)) }
 {
     let scopes = Scopes::new(alloc, types, kind)?;
-    let bound = bound_in(alloc, types, &scopes)?;
+    let found = bound_in(alloc, types, &scopes)?;
+    let bound = found.as_slice();
+    let ways = outward_in(alloc, &scopes, bound)?;
+    let outward = ways.as_slice();
     let calls = Calls {
         entries,
         bindings,
         class,
         kind,
         scopes: &scopes,
-        bound: bound.as_slice(),
+        bound,
+        outward,
         scope: None,
     };
     let source = Source {

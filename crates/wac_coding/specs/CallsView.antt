@@ -12,6 +12,7 @@ use Rattle.wac_entries.specs.Agreement.{called_in_class}
 use Rattle.wac_entries.specs.Bindings.{AreBindings}
 use Rattle.wac_entries.specs.Scopes.{AreScopes, called_in, called_in_root, opened_by}
 use Rattle.wac_entries.specs.Walking.{AreBound}
+use Rattle.wac_entries.specs.Ways.{AreOutward}
 
 -- what resources are called in a scope of an entry of a class, and around its outermost scopes
 abbrev pub names_of : Collection → List Entry → Name → ItemKind → List Scope → Option ℕ → Names Called
@@ -27,11 +28,12 @@ abbrev pub IsScopeOf : ℕ → Option ℕ → Type 0
 IsScopeOf n None = Unit {0}
 IsScopeOf n (Some i) = i < n
 
--- the class is one of the entries, the bindings are theirs, the scopes are those of the item, with what each binds
+-- the class is one of the entries, the bindings are theirs, the scopes are those of the item, with what each binds and the way out of each
 pub record AreNamed (c : Collection) (s : Calls) : Type 0 where
   pub name : Name
   pub class : slice_get (class_names by_names s.entries.now) s.class ≡ Some name
   pub bindings : AreBindings c s.entries.now s.bindings.now
   pub scopes : AreScopes c (opened_by s.kind) s.scopes.now
   pub bound : AreBound c s.scopes.now s.bound.now
+  pub outward : AreOutward s.scopes.now s.bound.now s.outward.now
   pub within : IsScopeOf (length s.scopes.now) s.scope

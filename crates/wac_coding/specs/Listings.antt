@@ -17,7 +17,7 @@ use Rattle.wac_entries.specs.Scopes.{listed_in, opened, opened_by}
 
 -- in another scope of the same entry
 abbrev pub at_scope : Calls → ℕ → Calls
-at_scope s i = record { entries = s.entries; bindings = s.bindings; class = s.class; kind = s.kind; scopes = s.scopes; bound = s.bound; scope = Some i }
+at_scope s i = record { entries = s.entries; bindings = s.bindings; class = s.class; kind = s.kind; scopes = s.scopes; bound = s.bound; outward = s.outward; scope = Some i }
 
 -- the scopes that an item opens where it is listed stand at a position and behind it
 abbrev pub OpensAt : Calls → ItemKind → ℕ → Type 0

@@ -13,6 +13,7 @@ use wac_entries::bound::Bound;
 use wac_entries::called::Called;
 use wac_entries::entry::Entry;
 use wac_entries::naming::{called, called_outside};
+use wac_entries::outward::Outward;
 use wac_entries::scopes::Scopes;
 
 /// What resources are called in a scope of an entry of a class.
@@ -30,6 +31,8 @@ pub struct Calls<'a> {
     pub scopes: &'a Scopes,
     /// What each of them binds.
     pub bound: &'a [Bound],
+    /// The next one on the way out of each of them.
+    pub outward: &'a [Option<Outward>],
     /// The scope; around the outermost ones, where there is none.
     pub scope: Option<usize>,
 }
@@ -52,6 +55,7 @@ impl<'a> Calls<'a> {
                 types,
                 self.scopes,
                 self.bound,
+                self.outward,
                 self.bindings,
                 self.class,
                 self.kind,

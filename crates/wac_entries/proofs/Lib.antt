@@ -13,6 +13,7 @@ pub mod NodeAdding
 pub mod Opening
 pub mod ScopeLaws
 pub mod Walking
+pub mod Ways
 pub mod Places
 pub mod ClassPaths
 pub mod TaskOpenings

@@ -18,15 +18,18 @@ use Rattle.wac_shapes.specs.declared.component.ItemKind.TheVariants as kind
 use Rattle.wac_entries.specs.declared.scopes.Opener.{Opener}
 use Rattle.wac_entries.specs.declared.scopes.Opener.TheVariants as opener
 use Rattle.wac_entries.specs.declared.scopes.Scope.{Scope}
+use Rattle.wac_entries.specs.declared.outward.Outward.{Outward}
+use Rattle.wac_entries.specs.Ways.{LeadsOut}
 use Rattle.wac_entries.specs.Classes.{Entry, by_names, is_instance}
 use Rattle.wac_entries.specs.Binding.{class_binds, binding_class}
 use Rattle.wac_entries.specs.Agreement.{called_outside, called_in_class, called_inside}
-use Rattle.wac_entries.specs.Scopes.{opener_type, opened_by, binds, IsBelow, ComesFrom, AreScopes, called_in, called_in_root}
+use Rattle.wac_entries.specs.Scopes.{opener_type, opened_by, binds, ComesFrom, AreScopes, called_in, called_in_root}
 use Rattle.wac_entries.specs.Places.{find_resource, leaf_at}
 use Rattle.wac_entries.specs.Walking.{AreBound, out_by, IsOut, past}
 use Rattle.wac_shapes.proofs.Names.{take_at}
 use Rattle.wac_entries.proofs.Lists.{push-cases}
 use Rattle.wac_entries.proofs.Opening.{there}
+use Rattle.wac_entries.proofs.Ways.{behind-below, near-out, called-out, out-again}
 use Rattle.wac_entries.proofs.ScopeLaws.{called-at-root, called-inside}
 
 some-same : {A : Type 0} (x y : A) → Some x ≡ Some y → x ≡ y
@@ -54,11 +57,6 @@ module _ (c : Collection) (wf : IsWellFormed c) where
 
 -- ---- how far out
 
-out-one : (n : ℕ) (x : Called) → out_by n (one_out x) ≡ out_by (n + 1) x
-out-one n (bound_at l name) = let e : suc l.out + n ≡ l.out + (n + 1) = omega arith in ap (λ k. bound_at (record { out = k; side = l.side; path = l.path }) name) e
-out-one n (of_class k path name) = refl
-out-one n (itself r name) = refl
-
 out-none : (x : Called) → x ≡ out_by 0 x
 out-none (bound_at l name) = let e : l.out ≡ l.out + 0 = omega arith in ap (λ k. bound_at (record { out = k; side = l.side; path = l.path }) name) e
 out-none (of_class k path name) = refl
@@ -67,10 +65,6 @@ out-none (itself r name) = refl
 kept : (o : Option Called) → o ≡ option_map (out_by 0) o
 kept None = refl
 kept (Some x) = ap (λ y. Some y) (out-none x)
-
-around-none : (n : ℕ) (o : Option Called) → option_map (out_by n) (option_case o None (λ x. Some (one_out x))) ≡ option_map (out_by (n + 1)) o
-around-none n None = refl
-around-none n (Some x) = ap (λ y. Some y) (out-one n x)
 
 module _ (c : Collection) (r : ResourceId) where
   out-past : (n : ℕ) (instance : Bool) (p : Option (List Place)) (f : Option (ℕ × List Place)) → out_by n (past c r instance 0 p f) ≡ past c r instance n p f
@@ -148,15 +142,22 @@ module _ (c : Collection) (r : ResourceId) where
   walk-start ss start = record { near = omega arith; same = λ root. kept (called_in c root ss start r) }
 
   module _ (k : ItemKind) (ss : List Scope) (are : AreScopes c (opened_by k) ss) (start out position : ℕ) (s : Scope) (at : slice_get ss position ≡ Some s) (was : IsOut c ss start out position r) where
-    pub walk-on : (p : ℕ) → s.parent ≡ Some p → binds c s.opener r ≡ None → IsOut c ss start (out + 1) p r
-    walk-on p outer none =
-        let below : p < position = subst (IsBelow position) outer (are.around position s at) in
+    pub walk-out : (bs : List (List (ResourceId × Leaf))) (w : Outward) → AreBound c ss bs → LeadsOut ss bs s.parent (Some w) → binds c s.opener r ≡ None → IsOut c ss start (out + w.out) w.position r
+    walk-out bs w bound way none =
+        let step = near-out ss bs are.around s.parent (Some w) way w refl in
+        let below = behind-below position s.parent (are.around position s at) in
         record {
-          near = omega (arith, below, was.near);
+          near = omega (arith, step.near, below, was.near);
           same = λ root. was.same root
-              ∙ (ap (λ o. option_map (out_by out) o) (called-inside c (opened_by k) ss are root position p s r at outer ∙ ap (λ h. or_around c h (called_in c root ss p) r) none)
-              ∙ around-none out (called_in c root ss p r));
+              ∙ (ap (λ o. option_map (out_by out) o) (called-out c (opened_by k) ss are bs bound r root position s w at way none)
+              ∙ out-again out w.out (called_in c root ss w.position r));
         }
+
+    pub walk-nearer : (bs : List (List (ResourceId × Leaf))) (w : Outward) → LeadsOut ss bs s.parent (Some w) → w.position < position
+    walk-nearer bs w way =
+        let step = near-out ss bs are.around s.parent (Some w) way w refl in
+        let below = behind-below position s.parent (are.around position s at) in
+        omega (arith, step.far, step.near, below)
 
     module _ (es : List Entry) (name : Name) where
       abbrev root : Opener → Names Called

@@ -10,4 +10,5 @@ pub mod NodeViews
 pub mod Places
 pub mod Bindings
 pub mod Walking
+pub mod Ways
 pub mod Tasks

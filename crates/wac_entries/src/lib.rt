@@ -10,5 +10,6 @@ pub mod classes;
 pub mod entry;
 pub mod naming;
 pub mod nodes;
+pub mod outward;
 pub mod scopes;
 pub mod tasks;

@@ -10,12 +10,14 @@ ghost use Rattle.wac_entries.specs.CalledViews.{called_view, path_view};
 ghost use Rattle.wac_entries.specs.Classes.{by_names, class_names, is_instance};
 ghost use Rattle.wac_entries.specs.Classes as classes;
 ghost use Rattle.wac_entries.specs.Opening.{IsHeldAt};
+ghost use Rattle.wac_entries.specs.Ways.{AreOutward};
 ghost use Rattle.wac_entries.specs.Scopes.{AreScopes, called_in, called_in_root, opened_by};
 ghost use Rattle.wac_entries.specs.Walking.{AreBound, past};
 
 use crate::bindings::Bindings;
 use crate::bound::Bound;
 use crate::called::{Called, Side};
+use crate::outward::Outward;
 use crate::scopes::Scopes;
 use std::alloc::{AllocError, Global};
 use wac_collection::{ItemKind, ResourceId, Types};
@@ -85,6 +87,7 @@ pub fn called(
     types: &Types,
     scopes: &Scopes,
     bound: &[Bound],
+    outward: &[Option<Outward>],
     bindings: &Bindings,
     class: usize,
     kind: ItemKind,
@@ -93,6 +96,7 @@ pub fn called(
 ) -> Result<Called, AllocError>
     requires scopes { AreScopes types.now (opened_by kind) scopes.now }
     requires bound { AreBound types.now scopes.now bound.now }
+    requires outward { AreOutward scopes.now bound.now outward.now }
     requires within { scope < length scopes.now }
     requires held { HasResource types.now resource }
     ensures { IfOk result (λ x. (es : List classes.Entry) (name : Name) → AreBindings types.now es bindings.now → slice_get (class_names by_names es) class ≡ Some name
@@ -100,19 +104,20 @@ pub fn called(
 {
     types.law();
     let resource = types.resolve_resource(resource);
+    let _ = scopes;
     let mut position = scope;
     let mut out = 0;
-    'outward: loop {
+    'walk: loop {
         if let Some(place) = bound[position].place(resource) {
             let path = copied(alloc, place.path.as_slice())?;
             let name = own_name(alloc, types, resource)?;
             return Ok(Called::Bound(out, place.side, path, name));
         }
-        let Some(parent) = scopes.scope(position).parent else {
+        let Some(next) = outward[position] else {
             return past_scopes(alloc, types, bindings, class, kind, out, resource);
         };
-        position = parent;
-        out += 1;
+        position = next.position;
+        out += next.out;
     }
 }
 

@@ -1,8 +1,18 @@
-use Rattle.std.proofs.Common.{sym, subst}
+use Rattle.std.proofs.Common.{ap, length, List, Option, sym, subst, ◌∙◌}
+use Rattle.wac_collection.specs.Tree.{Leaf}
+use Rattle.wac_shapes.specs.declared.component.ResourceId.{ResourceId}
+use Rattle.wac_entries.specs.declared.outward.Outward.{Outward}
 use Rattle.wac_entries.specs.Classes.{by_names, class_names}
 use Rattle.wac_entries.specs.Walking.{AreBound}
+use Rattle.wac_entries.specs.Ways.{AreOutward}
 use Rattle.wac_entries.proofs.Lists.{some-at}
 use Rattle.wac_agreement.proofs.compared.entry_item.Goals as goal
+
+pub outward_in-requires-clause-around : goal.outward_in-requires-clause-around
+outward_in-requires-clause-around c = c.in_ok-scopes.ensures.around
+
+pub outward_in-requires-clause-counted : goal.outward_in-requires-clause-counted
+outward_in-requires-clause-counted c = ap (λ (bs : List (List (ResourceId × Leaf))). length bs) c.as_slice-bound.ensures.value ∙ c.in_ok-found.ensures.counted
 
 pub source_item-requires-clause-named : goal.source_item-requires-clause-named
 source_item-requires-clause-named c =
@@ -12,6 +22,7 @@ source_item-requires-clause-named c =
       class = w.1;
       bindings = c.requires.bindings;
       scopes = c.in_ok-scopes.ensures;
-      bound = subst (λ bs. AreBound c.args.types.now c.in_ok-scopes.scopes bs) (sym c.as_slice.ensures.value) c.in_ok-bound.ensures;
+      bound = subst (λ bs. AreBound c.args.types.now c.in_ok-scopes.scopes bs) (sym c.as_slice-bound.ensures.value) c.in_ok-found.ensures;
+      outward = subst (λ (ws : List (Option Outward)). AreOutward c.in_ok-scopes.scopes c.as_slice-bound.result.now ws) (sym c.as_slice-outward.ensures.value) c.in_ok-ways.ensures;
       within = tt;
     }

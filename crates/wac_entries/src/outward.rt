@@ -1,0 +1,63 @@
+//! The way out of a scope, past those around it that bind nothing.
+ghost use Rattle.std.specs.Prelude.{ℕ, ◌≡◌, ◌<◌, ◌≤◌, length, Some, IfOk, slice_get};
+ghost use Rattle.wac_entries.specs.declared.scopes.Scope.{Scope as AScope};
+ghost use Rattle.wac_entries.specs.Scopes.{IsBelow};
+ghost use Rattle.wac_entries.specs.Ways.{AreOutward, HaveWays, LeadsOut};
+
+use crate::bound::Bound;
+use crate::scopes::Scopes;
+use std::alloc::{AllocError, Global};
+
+/// The next scope on the way out of another: the nearest around it that binds something, else the outermost.
+#[derive(Clone, Copy)]
+pub struct Outward {
+    /// Its position.
+    pub position: usize,
+    /// How many scopes out it is.
+    pub out: usize,
+}
+
+/// The next scope on the way out of the one at a position, where it is known for those before it.
+fn way_out(
+    scopes: &Scopes,
+    bound: &[Bound],
+    outward: &[Option<Outward>],
+    position: usize,
+) -> Option<Outward>
+    requires around { (i : ℕ) (s : AScope) → slice_get scopes.now i ≡ Some s → IsBelow i s.parent }
+    requires counted { length bound.now ≡ length scopes.now }
+    requires within { position < length scopes.now }
+    requires known { position ≤ length outward.now }
+    requires ways { HaveWays scopes.now bound.now outward.now }
+    ensures { (s : AScope) → slice_get scopes.now position ≡ Some s → LeadsOut scopes.now bound.now s.parent result }
+{
+    let parent = scopes.scope(position).parent?;
+    match outward[parent] {
+        Some(next) if bound[parent].len() == 0 => Some(Outward {
+            position: next.position,
+            out: next.out + 1,
+        }),
+        _ => Some(Outward {
+            position: parent,
+            out: 1,
+        }),
+    }
+}
+
+/// For each of the scopes of an item the next one on the way out of it.
+pub fn outward_in(
+    alloc: Global,
+    scopes: &Scopes,
+    bound: &[Bound],
+) -> Result<Vec<Option<Outward>>, AllocError>
+    requires around { (i : ℕ) (s : AScope) → slice_get scopes.now i ≡ Some s → IsBelow i s.parent }
+    requires counted { length bound.now ≡ length scopes.now }
+    ensures { IfOk result (λ outward. AreOutward scopes.now bound.now outward.items) }
+{
+    let mut outward = Vec::with_capacity(alloc, scopes.len())?;
+    for position in 0..scopes.len() {
+        let way = way_out(scopes, bound, outward.as_slice(), position);
+        outward.push(way)?;
+    }
+    Ok(outward)
+}
