@@ -71,6 +71,8 @@ IsInterface i a = ⊥
 -- what an item is made of
 abbrev pub NeededBy : Collection → ItemKind → AnyType → Type 0
 NeededBy c (kind.TypeItem (ty.Value v)) = PartOf c (value_resolved c v)
+NeededBy c (kind.TypeItem (ty.Func f)) = IsOfFunc c f
+NeededBy c (kind.TypeItem (ty.Interface i)) = IsInterface i
 NeededBy c (kind.Func f) = IsOfFunc c f
 NeededBy c (kind.Instance i) = IsInterface i
 NeededBy c k = λ a. ⊥

@@ -52,6 +52,25 @@ const FUNCTIONS: &[u8] = &[
     0x00, 0x01, 0x79, 0x01, 0x00, // another
 ];
 
+const FUNCTION_TYPES: &[u8] = &[
+    0x00, 0x61, 0x73, 0x6d, 0x0d, 0x00, 0x01, 0x00, // the preamble
+    0x07, 0x08, 0x01, 0x40, 0x01, 0x01, 0x78, 0x7d, 0x01, 0x00, // a function type
+    0x0a, 0x12, 0x03, // three imports
+    0x00, 0x01, 0x78, 0x03, 0x00, 0x00, // a type item that equals it
+    0x00, 0x01, 0x79, 0x03, 0x00, 0x00, // another
+    0x00, 0x01, 0x7a, 0x01, 0x00, // a function of it
+];
+
+const INTERFACE_TYPES: &[u8] = &[
+    0x00, 0x61, 0x73, 0x6d, 0x0d, 0x00, 0x01, 0x00, // the preamble
+    0x07, 0x11, 0x01, 0x42, 0x02, // an instance type of two declarations
+    0x01, 0x40, 0x01, 0x01, 0x78, 0x7d, 0x01, 0x00, // a function type
+    0x04, 0x00, 0x01, 0x66, 0x01, 0x00, // a function of it
+    0x0a, 0x0c, 0x02, // two imports
+    0x00, 0x01, 0x61, 0x03, 0x00, 0x00, // a type item that equals it
+    0x00, 0x01, 0x62, 0x05, 0x00, // an instance of it
+];
+
 const INSTANCES: &[u8] = &[
     0x00, 0x61, 0x73, 0x6d, 0x0d, 0x00, 0x01, 0x00, // the preamble
     0x07, 0x17, 0x01, 0x42, 0x03, // an instance type of three declarations
@@ -164,6 +183,29 @@ fn imports_once(rt: HostRuntime) {
     );
     let i = ItemKind::Instance(i);
     assert_imported(&rt, &types, &[("a", i), ("b", i)], INSTANCES);
+}
+
+// Type items of a function type and of an interface equal the type that is written once, whose index a function and an instance take too.
+#[test]
+fn imports_types(rt: HostRuntime) {
+    let alloc = rt.alloc();
+    let mut types = Types::new(alloc);
+    let byte = ValueType::Primitive(PrimitiveType::U8);
+    let f = function(
+        &rt,
+        &mut types,
+        FuncType::new(alloc, &[("x", byte)], None, false),
+    );
+    let t = ItemKind::TypeItem(Type::Func(f));
+    let f = ItemKind::Func(f);
+    let items = [("x", t), ("y", t), ("z", f)];
+    assert_imported(&rt, &types, &items, FUNCTION_TYPES);
+    let i = interface(&rt, &mut types, Interface::new(alloc, None, &[("f", f)]));
+    let items = [
+        ("a", ItemKind::TypeItem(Type::Interface(i))),
+        ("b", ItemKind::Instance(i)),
+    ];
+    assert_imported(&rt, &types, &items, INTERFACE_TYPES);
 }
 
 // What is not imported yet gives none; what can't be imported is refused.

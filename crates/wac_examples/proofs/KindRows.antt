@@ -80,22 +80,42 @@ pub function_of_a_handle : IsImportableKind types of_handle → ⊥
 unfolding type_tree
 function_of_a_handle h = h.0 0
 
--- a type item of a list of bytes is imported, and one of a function type is not
+-- a type item of a list of bytes is imported, and so is one of the type of a function of a number; one of a function of a handle is not, nor one of
+-- a resource
 pub list_is_imported : IsImportableKind types (kind.TypeItem (ty.Value (val.Defined (record { 0 = 0 }))))
 unfolding type_tree
 list_is_imported = tt
 
-pub function_type_is_not : IsImportableKind types (kind.TypeItem (ty.Func (record { 0 = 0 }))) → ⊥
+pub function_type_is_imported : IsImportableKind types (kind.TypeItem (ty.Func (record { 0 = 0 })))
 unfolding type_tree
-function_type_is_not h = h
+function_type_is_imported = (byte_parts, tt)
 
--- an instance of functions of numbers is imported; one that holds an instance, or a function of a handle, is not
-pub instance_is_imported : IsImportableKind types (instance_of 0)
+pub type_of_a_function_of_a_handle : IsImportableKind types (kind.TypeItem (ty.Func (record { 0 = 1 }))) → ⊥
 unfolding type_tree
-instance_is_imported n = by_name (same_name n (codes "f")) refl where
+type_of_a_function_of_a_handle h = h.0 0
+
+pub resource_is_not : IsImportableKind types (kind.TypeItem (ty.Resource (record { 0 = 0 }))) → ⊥
+unfolding type_tree
+resource_is_not h = h
+
+-- an instance of functions of numbers is imported, and so is its type; one that holds an instance, or a function of a handle, is not, nor is its type
+one_function : (n : Name) → IsPlainWhereThere {L = Name} (if same_name n (codes "f") then function_item (function false (codes "x" ∷ []) (part_at (primitive prim.U8 ∷ [])) absent) else absent)
+one_function n = by_name (same_name n (codes "f")) refl where
   by_name : (b : Bool) → same_name n (codes "f") ≡ b → IsPlainWhereThere {L = Name} (if b then function_item (function false (codes "x" ∷ []) (part_at (primitive prim.U8 ∷ [])) absent) else absent)
   by_name true is = (byte_parts, tt)
   by_name false is = tt
+
+pub instance_is_imported : IsImportableKind types (instance_of 0)
+unfolding type_tree
+instance_is_imported n = one_function n
+
+pub interface_type_is_imported : IsImportableKind types (interface_at 0)
+unfolding type_tree
+interface_type_is_imported n = one_function n
+
+pub nested_interface_type_is_not : IsImportableKind types (interface_at 3) → ⊥
+unfolding type_tree
+nested_interface_type_is_not h = h (codes "i")
 
 pub nested_instance_is_not : IsImportableKind types (instance_of 3) → ⊥
 unfolding type_tree

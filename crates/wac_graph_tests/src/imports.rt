@@ -114,6 +114,37 @@ fn a_type_is_imported_before_a_function_over_it(rt: HostRuntime) {
     );
 }
 
+// A function type as a type item: what it takes is written in it, and another such import has the same type.
+#[test]
+fn a_function_type_is_imported(rt: HostRuntime) {
+    let mut graph = CompositionGraph::new(rt.alloc());
+    let byte = ValueType::Primitive(PrimitiveType::U8);
+    let ty = taking(&rt, &mut graph, byte).ty();
+    import(&rt, &mut graph, "t", ItemKind::TypeItem(ty));
+    import(&rt, &mut graph, "u", ItemKind::TypeItem(ty));
+    assert_joined(
+        &rt,
+        encoded(&rt, &graph),
+        &["070801400101787d0100", "0a0d02000174030000000175030000"],
+    );
+}
+
+// An interface as a type item: the instance type, and no instance.
+#[test]
+fn the_type_of_an_instance_is_imported(rt: HostRuntime) {
+    let alloc = rt.alloc();
+    let mut graph = CompositionGraph::new(alloc);
+    let function = function(&rt, alloc, &mut graph);
+    let interface = Interface::new(alloc, None, &[("f", function)]);
+    let ty = instance(&rt, &mut graph, interface).ty();
+    import(&rt, &mut graph, "i", ItemKind::TypeItem(ty));
+    assert_joined(
+        &rt,
+        encoded(&rt, &graph),
+        &["070e0142020140000100040001660100", "0a0701000169030000"],
+    );
+}
+
 // Tuples of which each holds the one before twice, forty deep: each is written once.
 #[test]
 fn a_shared_type_is_written_once(rt: HostRuntime) {
@@ -152,5 +183,16 @@ fn an_instance_in_an_instance_is_not_imported_yet(rt: HostRuntime) {
     let outer = Interface::new(alloc, None, &[("i", inner), ("f", other)]);
     let outer = instance(&rt, &mut graph, outer);
     import(&rt, &mut graph, "o", outer);
+    assert_eq!(rt; encoded(&rt, &graph).as_str(), NOT_YET);
+}
+
+// Nor is a function type that takes a handle, as a type item.
+#[test]
+fn a_function_type_over_a_handle_is_not_imported_yet(rt: HostRuntime) {
+    let mut graph = CompositionGraph::new(rt.alloc());
+    let resource = Resource::new(rt.alloc(), "r").expect(&rt, "a resource");
+    let resource = graph.add_resource(resource).expect(&rt, "its id");
+    let ty = taking(&rt, &mut graph, ValueType::Own(resource)).ty();
+    import(&rt, &mut graph, "t", ItemKind::TypeItem(ty));
     assert_eq!(rt; encoded(&rt, &graph).as_str(), NOT_YET);
 }

@@ -109,10 +109,31 @@ module _ {L : Type 0} where
   module_below a b (Sub.component_items x y s) h = absurd h
   module_below a b (Sub.module_items x y s) h = absurd h
 
+  -- a type item, which is one both ways
+  above : (a b : TypeTree L) → Sub a b → b ≢ absent → IsPlainWhereThere a → IsPlainItem b
+  above a b (Sub.same _ q) n h = where_plain a n h
+  above a b (Sub.type_items x y s t) n h = let P : TypeTree L → Type 0 = λ z. IsPlainItem (type_equal z) in subst P (plain_sub x y (plain_tree x (plain_free x h)) s) h
+  above a b (Sub.instances xs ys f) n h = absurd h
+  above a b (Sub.components xi xe yi ye f g) n h = absurd h
+  above a b (Sub.modules xi yi xe ye f g) n h = absurd h
+  above a b (Sub.instance_items x y s) n h = absurd h
+  above a b (Sub.component_items x y s) n h = absurd h
+  above a b (Sub.module_items x y s) n h = absurd h
+
+  type_above : (a b : TypeTree L) → Sub a b → IsImportable (type_equal a) → IsImportable (type_equal b)
+  type_above a b (Sub.same _ q) h = h
+  type_above a b (Sub.instances xs ys f) h = λ n. plain_where (ys n) (λ there. above (xs n) (ys n) (f n there) there (h n))
+  type_above a b (Sub.components xi xe yi ye f g) h = absurd h
+  type_above a b (Sub.modules xi yi xe ye f g) h = absurd h
+  type_above a b (Sub.type_items x y s t) h = absurd h
+  type_above a b (Sub.instance_items x y s) h = absurd h
+  type_above a b (Sub.component_items x y s) h = absurd h
+  type_above a b (Sub.module_items x y s) h = absurd h
+
   -- what is no instance
   other_below : (a b : TypeTree L) → Sub a b → ((x : TypeTree L) → a ≡ instance_item x → ⊥) → IsImportable b → IsImportable a
   other_below a b (Sub.same _ q) n h = h
-  other_below a b (Sub.type_items x y s t) n h = below (type_equal x) (type_equal y) (Sub.type_items x y s t) h
+  other_below a b (Sub.type_items x y s t) n h = type_above y x t h
   other_below a b (Sub.instance_items x y s) n h = absurd (n x refl)
   other_below a b (Sub.instances xs ys f) n h = absurd h
   other_below a b (Sub.components xi xe yi ye f g) n h = absurd h

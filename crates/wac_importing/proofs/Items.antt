@@ -1,5 +1,5 @@
 -- Which items are plain, and which are imported so far.
-use Rattle.std.proofs.Common.{◌≡◌, ℕ, zero, suc, Bool, true, false, cond, List, [], ◌∷◌, refl, ap, ◌∙◌, sym, subst, Option, Some, None}
+use Rattle.std.proofs.Common.{◌≡◌, ℕ, zero, suc, Bool, true, false, cond, List, [], ◌∷◌, refl, ap, ◌∙◌, sym, subst, Option, Some, None, ◌⊎◌, inl, inr}
 use Rattle.std.specs.Prelude.{slice_get}
 use Rattle.wac_shapes.specs.Name.{Name, same_name, find_name, option_case}
 use Rattle.wac_shapes.specs.Named.{NoNameTwice}
@@ -20,8 +20,10 @@ use Rattle.wac_collection.specs.declared.collection.Held.{Held}
 use Rattle.wac_collection.specs.Tree.{TypeTree, absent, resource, function, instance, type_equal, instance_item, module_item}
 use Rattle.wac_collection.specs.Collection.{Collection, IsWellFormed, AddedBefore, size, holds_type, item_at, item_of, interface_exports}
 use Rattle.wac_collection.specs.Held.{resolved, func_tree, interface_tree, module_tree, of_held, unfolded}
-use Rattle.wac_subtyping.specs.Subtype.{by_name, resource_names, type_tree, kind_tree, listed_in}
+use Rattle.wac_subtyping.specs.Subtype.{IsPlain, by_name, resource_names, type_tree, kind_tree, listed_in}
 use Rattle.wac_subtyping.proofs.Unfolding.{type_before, unfolded_step, type_step, held_item}
+use Rattle.wac_types.proofs.Subtyping.{func_plain}
+use Rattle.wac_types.proofs.Values.{value_plain as value_tree_plain}
 use Rattle.wac_meaning.specs.Importable.{HasNoHandle, IsPlainItem, IsPlainWhereThere, IsImportable, IsImportableKind, IsDefinable, IsDefinableKind}
 use Rattle.wac_importing.specs.Looked.{IsOfValues, ArePlain, ListsPlain}
 use Rattle.wac_importing.proofs.Handles.{plain_free, plain_reached, reached_none}
@@ -74,6 +76,12 @@ exports_are c i it at = ap (λ o. option_case o [] (λ (x : Interface). x.export
 pub instance_importable : (c : Collection) → IsWellFormed c → (i : InterfaceId) (it : Interface) → holds_type c (ty.Interface i) ≡ true → item_at c.interfaces i.0 ≡ Some it → ArePlain c it.exports → IsImportableKind c (kind.Instance i)
 instance_importable c wf i it held at all = subst (λ t. IsImportable (instance_item t)) (sym (interface_is c wf i it held at)) (all_there c it.exports all)
 
+interface_importable : (c : Collection) → IsWellFormed c → (i : InterfaceId) (it : Interface) → holds_type c (ty.Interface i) ≡ true → item_at c.interfaces i.0 ≡ Some it → ArePlain c it.exports → IsImportableKind c (kind.TypeItem (ty.Interface i))
+interface_importable c wf i it held at all = subst (λ t. IsImportable (type_equal t)) (sym (interface_is c wf i it held at)) (all_there c it.exports all)
+
+pub importable_interface : (c : Collection) → IsWellFormed c → (i : InterfaceId) (it : Interface) → holds_type c (ty.Interface i) ≡ true → item_at c.interfaces i.0 ≡ Some it → NoNameTwice it.exports → IsImportableKind c (kind.TypeItem (ty.Interface i)) → ArePlain c it.exports
+importable_interface c wf i it held at once h = there_all c it.exports once (subst (λ t. IsImportable (type_equal t)) (interface_is c wf i it held at) h)
+
 pub importable_instance : (c : Collection) → IsWellFormed c → (i : InterfaceId) (it : Interface) → holds_type c (ty.Interface i) ≡ true → item_at c.interfaces i.0 ≡ Some it → NoNameTwice it.exports → IsImportableKind c (kind.Instance i) → ArePlain c it.exports
 importable_instance c wf i it held at once h = there_all c it.exports once (subst (λ t. IsImportable (instance_item t)) (interface_is c wf i it held at) h)
 
@@ -90,20 +98,55 @@ module_importable c wf m held = subst (λ (t : TypeTree Name). IsImportable (mod
   by None b = absurd b
   by (Some h) b = tt
 
+-- a type item that is plain, and one of a function type without handles
+plain_importable : {L : Type 0} (t : TypeTree L) → IsPlainItem (type_equal t) → IsImportable (type_equal t)
+plain_importable absent h = absurd h
+plain_importable (function is_async names params result) h = absurd h
+plain_importable (instance items) h = absurd h
+plain_importable t h = h
+
+func_importable : (c : Collection) → IsWellFormed c → (f : FuncTypeId) → holds_type c (ty.Func f) ≡ true → HasNoHandle (type_tree c (ty.Func f)) → IsImportableKind c (kind.TypeItem (ty.Func f))
+func_importable c wf f held free =
+    let steps = type_step c wf (ty.Func f) held in
+    subst (λ (t : TypeTree Name). IsImportable (type_equal t)) (sym steps) (by (slice_get c.funcs f.0) (type_before c wf (ty.Func f) held) (subst HasNoHandle steps free)) where
+      tree : FuncType → TypeTree Name
+      tree x = func_tree (λ v. unfolded by_name c (resource_names c) (ty.Value v)) x
+
+      by : (o : Option (Held FuncType)) → AddedBefore (size c) o → HasNoHandle (of_held tree o) → IsImportable (type_equal (of_held tree o))
+      by None b h = absurd b
+      by (Some x) b h = h
+
 -- what lists plain items is imported so far
 pub lists_importable : (c : Collection) → IsWellFormed c → (k : ItemKind) → holds_type c (kind_type k) ≡ true → ListsPlain c k → IsImportableKind c k
 lists_importable c wf (kind.Instance i) held all =
     let (it, at) = interface_there c wf i held in
     instance_importable c wf i it held at (subst (ArePlain c) (exports_are c i it at) all)
-lists_importable c wf (kind.TypeItem a) held h = h
+lists_importable c wf (kind.TypeItem (ty.Interface i)) held all =
+    let (it, at) = interface_there c wf i held in
+    interface_importable c wf i it held at (subst (ArePlain c) (exports_are c i it at) all)
+lists_importable c wf (kind.TypeItem (ty.Func f)) held h = func_importable c wf f held h
+lists_importable c wf (kind.TypeItem a) held h = plain_importable (type_tree c a) h
 lists_importable c wf (kind.Func f) held h = h
 lists_importable c wf (kind.Component w) held h = h
 lists_importable c wf (kind.Module m) held h = module_importable c wf m held
 lists_importable c wf (kind.Value v) held h = h
 
+-- a value type or a function type
+pub is_of_values : (a : AnyType) → ((v : ValueType) × (a ≡ ty.Value v)) ⊎ ((f : FuncTypeId) × (a ≡ ty.Func f)) → IsOfValues a
+is_of_values a (inl h) = subst IsOfValues (sym h.1) tt
+is_of_values a (inr h) = subst IsOfValues (sym h.1) tt
+
+pub not_of_values : (a : AnyType) → ((v : ValueType) → a ≡ ty.Value v → ⊥) → ((f : FuncTypeId) → a ≡ ty.Func f → ⊥) → IsOfValues a → ⊥
+not_of_values (ty.Value v) value func of = value v refl
+not_of_values (ty.Func f) value func of = func f refl
+not_of_values a value func of = of
+
 -- a type item of another sort is not
 abbrev TypePlain : TypeTree Name → Type 0
 TypePlain t = IsPlainItem (type_equal t)
+
+abbrev TypeImportable : TypeTree Name → Type 0
+TypeImportable t = IsImportable (type_equal t)
 
 abbrev TypeDefinable : TypeTree Name → Type 0
 TypeDefinable t = IsDefinable (type_equal t)
@@ -124,6 +167,15 @@ type_not_plain c wf (ty.Func f) held other h = held_none TypePlain (λ h. h) _ (
 type_not_plain c wf (ty.Interface i) held other h = held_none TypePlain (λ h. h) _ (λ x h. h) (slice_get c.interfaces i.0) (subst TypePlain (type_step c wf (ty.Interface i) held) h)
 type_not_plain c wf (ty.World w) held other h = held_none TypePlain (λ h. h) _ (λ x h. h) (slice_get c.worlds w.0) (subst TypePlain (type_step c wf (ty.World w) held) h)
 type_not_plain c wf (ty.Module m) held other h = held_none TypePlain (λ h. h) _ (λ x h. h) (slice_get c.modules m.0) (subst TypePlain (type_step c wf (ty.Module m) held) h)
+
+-- nor is one of another sort imported so far, interfaces aside
+pub type_not_importable : (c : Collection) → IsWellFormed c → (a : AnyType) → holds_type c a ≡ true → (IsOfValues a → ⊥) → ((i : InterfaceId) → a ≡ ty.Interface i → ⊥) → IsImportableKind c (kind.TypeItem a) → ⊥
+type_not_importable c wf (ty.Value v) held other apart h = other tt
+type_not_importable c wf (ty.Resource r) held other apart h = named_none TypeImportable (λ h. h) (λ n h. h) (resource_names c (resolved c r)) (subst TypeImportable (type_step c wf (ty.Resource r) held) h)
+type_not_importable c wf (ty.Func f) held other apart h = other tt
+type_not_importable c wf (ty.Interface i) held other apart h = apart i refl
+type_not_importable c wf (ty.World w) held other apart h = held_none TypeImportable (λ h. h) _ (λ x h. h) (slice_get c.worlds w.0) (subst TypeImportable (type_step c wf (ty.World w) held) h)
+type_not_importable c wf (ty.Module m) held other apart h = held_none TypeImportable (λ h. h) _ (λ x h. h) (slice_get c.modules m.0) (subst TypeImportable (type_step c wf (ty.Module m) held) h)
 
 -- nor is one of another sort defined so far, interfaces aside
 pub type_not_definable : (c : Collection) → IsWellFormed c → (a : AnyType) → holds_type c a ≡ true → (IsOfValues a → ⊥) → ((i : InterfaceId) → a ≡ ty.Interface i → ⊥) → IsDefinableKind c (kind.TypeItem a) → ⊥
@@ -174,7 +226,18 @@ values_free c (ty.Value v) of h = definable_free (type_tree c (ty.Value v)) h
 values_free c (ty.Func f) of h = definable_free (type_tree c (ty.Func f)) h
 values_free c a of h = absurd of
 
--- an interface that is imported so far lists plain items
-pub importable_lists : (c : Collection) → IsWellFormed c → (k : ItemKind) (i : InterfaceId) (it : Interface) → k ≡ kind.Instance i → holds_type c (kind_type k) ≡ true → item_at c.interfaces i.0 ≡ Some it → NoNameTwice it.exports → IsImportableKind c k → ArePlain c it.exports
-importable_lists c wf k i it is held at once h =
-    importable_instance c wf i it (subst (λ (x : ItemKind). holds_type c (kind_type x) ≡ true) is held) at once (subst (IsImportableKind c) is h)
+-- a value type and a function type without handles are imported so far as type items, and no others of these
+pub free_lists : (c : Collection) → IsWellFormed c → (a : AnyType) → IsOfValues a → holds_type c a ≡ true → HasNoHandle (type_tree c a) → ListsPlain c (kind.TypeItem a)
+free_lists c wf (ty.Value v) of held free = value_plain c wf (ty.Value v) v refl held free
+free_lists c wf (ty.Func f) of held free = free
+free_lists c wf a of held free = absurd of
+
+importable_free : {L : Type 0} (t : TypeTree L) → IsPlain t → IsImportable (type_equal t) → HasNoHandle t
+importable_free absent p h = absurd h
+importable_free (instance items) p h = absurd p
+importable_free t p h = h
+
+pub values_importable : (c : Collection) (a : AnyType) → IsOfValues a → IsImportableKind c (kind.TypeItem a) → HasNoHandle (type_tree c a)
+values_importable c (ty.Value v) of h = importable_free (type_tree c (ty.Value v)) (value_tree_plain c v) h
+values_importable c (ty.Func f) of h = importable_free (type_tree c (ty.Func f)) (func_plain c f) h
+values_importable c a of h = absurd of

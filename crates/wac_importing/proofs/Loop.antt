@@ -122,6 +122,8 @@ length_from m p (e ∷ es) = ap suc (length_from m (suc p) es)
 sort_is : (c : Collection) (old now : Scope) (item : ItemKind) (d : Description) → IsImportedAs c old now item d → described_sort d ≡ sort_of_kind item
 sort_is c old now (kind.Instance i) (e.Instance j) h = refl
 sort_is c old now (kind.TypeItem (ty.Value v)) (e.Equal i) h = refl
+sort_is c old now (kind.TypeItem (ty.Func f)) (e.Equal i) h = refl
+sort_is c old now (kind.TypeItem (ty.Interface j)) (e.Equal i) h = refl
 sort_is c old now (kind.Func f) (e.Func i) h = refl
 sort_is c old now item d h = absurd h
 

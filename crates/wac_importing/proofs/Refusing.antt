@@ -84,8 +84,8 @@ module _ (c : Collection) (wf : IsWellFormed c) where
   is_written (kind.Instance i) held plain other = lists i plain
   is_written (kind.TypeItem (ty.Value v)) held plain other = refl
   is_written (kind.TypeItem (ty.Resource r)) held plain other = of_value (ty.Resource r) _ held plain (λ v e. cc)
-  is_written (kind.TypeItem (ty.Func f)) held plain other = of_value (ty.Func f) _ held plain (λ v e. cc)
-  is_written (kind.TypeItem (ty.Interface i)) held plain other = of_value (ty.Interface i) _ held plain (λ v e. cc)
+  is_written (kind.TypeItem (ty.Func f)) held plain other = refl
+  is_written (kind.TypeItem (ty.Interface i)) held plain other = lists i plain
   is_written (kind.TypeItem (ty.World w)) held plain other = of_value (ty.World w) _ held plain (λ v e. cc)
   is_written (kind.TypeItem (ty.Module m)) held plain other = refl
   is_written (kind.Func f) held plain other = refl
@@ -109,6 +109,8 @@ module _ (c : Collection) (wf : IsWellFormed c) where
   no_fault (kind.Instance i) held plain f h = instance_fault i plain f h
   no_fault (kind.TypeItem (ty.Value v)) held plain f h = value_needs_none c wf v held (plain_free (type_tree c (ty.Value v)) plain) h.1
   no_fault (kind.Func g) held plain f h = func_needs_none c wf g held plain h.1
+  no_fault (kind.TypeItem (ty.Func g)) held plain f h = func_needs_none c wf g held plain h.1
+  no_fault (kind.TypeItem (ty.Interface i)) held plain f h = instance_fault i plain f h
   no_fault (kind.TypeItem (ty.Module m)) held plain f h = of_value (ty.Module m) _ held plain (λ v e. cc)
   no_fault (kind.Value v) held plain f h = absurd plain
   no_fault (kind.TypeItem a) held plain f h = absurd h

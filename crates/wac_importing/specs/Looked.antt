@@ -8,8 +8,8 @@ use Rattle.wac_shapes.specs.declared.component.«Type».{«Type» as AnyType}
 use Rattle.wac_shapes.specs.declared.component.«Type».TheVariants as ty
 use Rattle.wac_collection.specs.Collection.{Collection, interface_exports}
 use Rattle.wac_reach.specs.Reach.{IsIn}
-use Rattle.wac_subtyping.specs.Subtype.{kind_tree}
-use Rattle.wac_meaning.specs.Importable.{IsPlainItem, IsImportableKind}
+use Rattle.wac_subtyping.specs.Subtype.{type_tree, kind_tree}
+use Rattle.wac_meaning.specs.Importable.{HasNoHandle, IsPlainItem, IsImportableKind}
 
 -- a value type or a function type
 abbrev pub IsOfValues : AnyType → Type 0
@@ -25,9 +25,11 @@ HasNoResource ts = (r : ResourceId) → IsIn (ty.Resource r) ts → ⊥
 abbrev pub ArePlain : Collection → List (Name × ItemKind) → Type 0
 ArePlain c es = (i : ℕ) (e : Name × ItemKind) → slice_get es i ≡ Some e → IsPlainItem (kind_tree c e.1)
 
--- an item is plain, an instance that lists plain ones, or a core module
+-- an item is plain, an instance that lists plain ones or its type, the type of a function without a resource in it, or a core module
 abbrev pub ListsPlain : Collection → ItemKind → Type 0
 ListsPlain c (kind.Instance i) = ArePlain c (interface_exports c i)
+ListsPlain c (kind.TypeItem (ty.Interface i)) = ArePlain c (interface_exports c i)
+ListsPlain c (kind.TypeItem (ty.Func f)) = HasNoHandle (type_tree c (ty.Func f))
 ListsPlain c (kind.Module m) = Unit {0}
 ListsPlain c k = IsPlainItem (kind_tree c k)
 

@@ -88,7 +88,36 @@ fn are_plain(types: &Types, items: &Named<ItemKind>) -> Result<bool, AllocError>
     Ok(true)
 }
 
-/// Whether a held item is plain, an instance that lists plain ones, or a core module.
+/// Whether a held interface lists plain items alone, so that an instance of it and its type are imported so far.
+fn has_plain_items(types: &Types, interface: InterfaceId) -> Result<bool, AllocError>
+    requires { holds_type types.now (ty.Interface interface) ≡ true }
+    ensures plain { result ≡ Answers true → ListsPlain types.now (kind.Instance interface) }
+    ensures not { result ≡ Answers false → IsImportableKind types.now (kind.Instance interface) → ⊥ }
+    ensures not_type { result ≡ Answers false → IsImportableKind types.now (kind.TypeItem (ty.Interface interface)) → ⊥ }
+{
+    types.law();
+    let exports = &types[interface].exports;
+    exports.law();
+    are_plain(types, exports)
+}
+
+/// Whether a held type as an item lists plain ones: a value type or a function type that is made of no handle, or an interface that lists
+/// plain items alone.
+fn is_importable_type(types: &Types, ty: Type) -> Result<bool, AllocError>
+    requires { holds_type types.now ty ≡ true }
+    ensures plain { result ≡ Answers true → ListsPlain types.now (kind.TypeItem ty) }
+    ensures not { result ≡ Answers false → IsImportableKind types.now (kind.TypeItem ty) → ⊥ }
+{
+    types.law();
+    match ty {
+        Type::Value(_) | Type::Func(_) => has_no_handle(types, ty),
+        Type::Interface(interface) => has_plain_items(types, interface),
+        _ => Ok(false),
+    }
+}
+
+/// Whether a held item is plain, an instance that lists plain ones or its type, the type of a function that is made of no handle, or a core
+/// module.
 fn lists_plain(types: &Types, item: ItemKind) -> Result<bool, AllocError>
     requires { holds_type types.now (kind_type item) ≡ true }
     ensures plain { result ≡ Answers true → ListsPlain types.now item }
@@ -96,18 +125,16 @@ fn lists_plain(types: &Types, item: ItemKind) -> Result<bool, AllocError>
 {
     types.law();
     match item {
-        ItemKind::Instance(id) => {
-            let exports = &types[id].exports;
-            exports.law();
-            are_plain(types, exports)
-        }
+        ItemKind::Instance(id) => has_plain_items(types, id),
+        ItemKind::TypeItem(ty) => is_importable_type(types, ty),
         ItemKind::Module(_) => Ok(true),
         _ => is_plain(types, item),
     }
 }
 
-/// Whether a held item is imported so far: it is a core module, or it is a function, a type item of a value type or an instance of such
-/// items, and made of no handle. Answers `AllocError` where memory ran out. Linear in what each of its items reaches.
+/// Whether a held item is imported so far: it is a core module, or it is a function, a type item of a value type or of a function type, an
+/// instance of functions and type items of value types, or the type of such an instance, and made of no handle. Answers `AllocError` where
+/// memory ran out. Linear in what each of its items reaches.
 pub fn is_importable(types: &Types, item: ItemKind) -> Result<bool, AllocError>
     requires { holds_type types.now (kind_type item) ≡ true }
     ensures importable { result ≡ Answers true → IsImportableKind types.now item }

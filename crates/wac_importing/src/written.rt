@@ -40,8 +40,9 @@ pub struct WrittenImports {
 /// Writes the imports of a finished merge, in order, each under its name, behind the types that it is made of, each of which is
 /// written once.
 ///
-/// Answers none exactly where an import is not importable so far: it is no core module, no function, no type item of a value type and
-/// no instance of such items, or it is made of a handle; memory may be refused before that is known. Answers `TooLarge` where an import does not
+/// Answers none exactly where an import is not importable so far: it is no core module, no function, no type item of a value type, a
+/// function type or an interface, and no instance, or one of an interface that lists other items than functions and value types, or it is
+/// made of a handle; memory may be refused before that is known. Answers `TooLarge` where an import does not
 /// fit behind those before it; `OutOfMemory` where memory was refused.
 pub fn write_imports(
     alloc: Global,

@@ -41,8 +41,10 @@ abbrev pub IsPlainWhereThere : {L : Type 0} → TypeTree L → Type 0
 IsPlainWhereThere absent = Unit {0}
 IsPlainWhereThere t = IsPlainItem t
 
--- an item that is imported so far: a plain one, an instance of such, or a core module
+-- an item that is imported so far: a plain one, an instance of such or its type, the type of a function without a resource in it, or a core module
 abbrev pub IsImportable : {L : Type 0} → TypeTree L → Type 0
+IsImportable (type_equal (function is_async names params result)) = HasNoHandle (function is_async names params result)
+IsImportable (type_equal (instance items)) = (n : Name) → IsPlainWhereThere (items n)
 IsImportable (instance_item (instance items)) = (n : Name) → IsPlainWhereThere (items n)
 IsImportable (module_item (module_of imports exports)) = Unit {0}
 IsImportable t = IsPlainItem t

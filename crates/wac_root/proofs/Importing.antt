@@ -15,7 +15,7 @@ use Rattle.wac_shapes.specs.declared.component.PrimitiveType.{PrimitiveType}
 use Rattle.wac_shapes.specs.declared.component.ValueType.{ValueType}
 use Rattle.wac_shapes.specs.declared.component.ValueType.TheVariants as val
 use Rattle.wac_shapes.specs.declared.component.«Type».TheVariants as ty
-use Rattle.wac_collection.specs.Tree.{imported, Tree, position, primitive, type_equal, function_item, instance_item}
+use Rattle.wac_collection.specs.Tree.{imported, Tree, position, primitive, function, instance, type_equal, function_item, instance_item}
 use Rattle.wac_collection.specs.Collection.{Collection, IsWellFormed, item_at}
 use Rattle.wac_collection.specs.Aliases.{value_resolved}
 use Rattle.wac_collection.specs.Bound.{Bindings, held_tree, held_item}
@@ -23,7 +23,7 @@ use Rattle.wac_binary.specs.declared.sorts.Description.{Description}
 use Rattle.wac_binary.specs.declared.sorts.Description.TheVariants as e
 use Rattle.wac_binary.specs.declared.sorts.Sort.{Sort}
 use Rattle.wac_binary.specs.declared.sorts.Sort.TheVariants as sort
-use Rattle.wac_binary.specs.HasMeaning.{IsNew}
+use Rattle.wac_binary.specs.HasMeaning.{IsFunction, IsInstance, IsType, IsNew}
 use Rattle.wac_binary.specs.Indexes.{space}
 use Rattle.wac_binary.specs.Items.{value_def, primitive_def, instance_def, Decl, decls}
 use Rattle.wac_binary.specs.Meaning.{import_at, meaning}
@@ -106,6 +106,28 @@ function-imported law c follows tree old now new n f i k w adds imports m ms o o
     let a = adds m ms o os g in
     let r = imports c m ms o os a.0 a.3.0.0 (still-new law old now n w.types w.appended free) a.2 a.3.1 in
     (as-held c (m ∷ ms) old new o os sort.Func k n function_item a.0 (held_tree c m (ty.Func f)) (tree c m (ty.Func f) a.0 a.1) (imports-after law c follows (m ∷ ms) old now new o os sort.Func k n (function_item a.0) w.types w.appended a.3.0 r), tt)
+
+-- a type that is no value type, as a type item
+
+function-is-type : (t : Tree) → IsFunction t → IsType t
+function-is-type (function a names params result) h = tt
+function-is-type t h = absurd h
+
+instance-is-type : (t : Tree) → IsInstance t → IsType t
+instance-is-type (instance exports) h = tt
+instance-is-type t h = absurd h
+
+pub function-type-imported : ListsOneMore → (c : Collection) → Follows → IsItsTree → (old now new : Scope) (n : Name) (f : FuncTypeId) (i k : ℕ) → WritesFor c 0 (IsOfFunc c f) old now → AddsHeldFunc c old now f i → RootImportsType now new n i k → ImportsHeld c old new n (kind.TypeItem (ty.Func f)) k
+function-type-imported law c follows tree old now new n f i k w adds imports m ms o os g free =
+    let a = adds m ms o os g in
+    let r = imports c m ms o os a.0 a.3.0.0 (still-new law old now n w.types w.appended free) (function-is-type a.0 a.2) a.3.1 in
+    (as-held c (m ∷ ms) old new o os sort.«Type» k n type_equal a.0 (held_tree c m (ty.Func f)) (tree c m (ty.Func f) a.0 a.1) (imports-after law c follows (m ∷ ms) old now new o os sort.«Type» k n (type_equal a.0) w.types w.appended a.3.0 r.0), tt)
+
+pub interface-type-imported : ListsOneMore → (c : Collection) → Follows → IsItsTree → (old now new : Scope) (n : Name) (i : InterfaceId) (j k : ℕ) → WritesFor c 0 (NeededBy c (kind.Instance i)) old now → AddsHeldInterface c old now i j → RootImportsType now new n j k → ImportsHeld c old new n (kind.TypeItem (ty.Interface i)) k
+interface-type-imported law c follows tree old now new n i j k w adds imports m ms o os g free =
+    let a = adds m ms o os g in
+    let r = imports c m ms o os a.0 a.3.0.0 (still-new law old now n w.types w.appended free) (instance-is-type a.0 a.2) a.3.1 in
+    (as-held c (m ∷ ms) old new o os sort.«Type» k n type_equal a.0 (held_tree c m (ty.Interface i)) (tree c m (ty.Interface i) a.0 a.1) (imports-after law c follows (m ∷ ms) old now new o os sort.«Type» k n (type_equal a.0) w.types w.appended a.3.0 r.0), tt)
 
 -- an instance
 
@@ -203,6 +225,28 @@ function-written c old now new n f k j w adds there imports index = record {
   named = same-records now new n (e.Func k) imports;
 }
 
+pub function-type-written : (c : Collection) (old now new : Scope) (n : Name) (f : FuncTypeId) (k j : ℕ) → WritesFor c 0 (IsOfFunc c f) old now → AddsHeldFunc c old now f k → IsFuncAt c f old now k → new ≡ record now { content = and_import now.content n (e.Equal k) } → j ≡ count (space sort.«Type») now.content → WritesImport c old new n (kind.TypeItem (ty.Func f)) j
+function-type-written c old now new n f k j w adds there imports index = record {
+  now = now;
+  behind = w;
+  description = e.Equal k;
+  described = (adds, there);
+  appended = imported-so now new n (e.Equal k) imports;
+  index = index;
+  named = same-records now new n (e.Equal k) imports;
+}
+
+pub interface-type-written : (c : Collection) (old now new : Scope) (n : Name) (i : InterfaceId) (k j : ℕ) → WritesFor c 0 (NeededBy c (kind.Instance i)) old now → IsInterfaceAt c old now i k → new ≡ record now { content = and_import now.content n (e.Equal k) } → j ≡ count (space sort.«Type») now.content → WritesImport c old new n (kind.TypeItem (ty.Interface i)) j
+interface-type-written c old now new n i k j w there imports index = record {
+  now = now;
+  behind = w;
+  description = e.Equal k;
+  described = there;
+  appended = imported-so now new n (e.Equal k) imports;
+  index = index;
+  named = same-records now new n (e.Equal k) imports;
+}
+
 pub ends-with-interface : (c : Collection) (old now : Scope) (i : InterfaceId) (ds : List Decl) (k : ℕ) → type_index old (ty.Interface i) ≡ None → WritesInterface c i ds → now.content ≡ and_type old.content (instance_def (decls ds)) → HasToo old (ty.Interface i) k now → k ≡ count (space sort.«Type») old.content → IsInterfaceAt c old now i k
 ends-with-interface c old now i ds k none written appended too index = subst (λ (o : Option ℕ). IsInterfaceFrom o c old now i k) (sym none) (record { declarations = ds; written = written; appended = appended; recorded = too; index = index })
 
@@ -275,6 +319,16 @@ pub instance-not-imported : (A B : Type 0) (c : Collection) → StaysOnward → 
 instance-not-imported A B c stays old n i (fault.Write g) h = h
 instance-not-imported A B c stays old n i fault.TooLarge h = record { scope = old; types = 0; behind = writes-none c stays (NeededBy c (kind.Instance i)) old old (as-it-was old); large = inl h }
 instance-not-imported A B c stays old n i fault.OutOfMemory h = tt
+
+pub function-type-not-imported : (A B : Type 0) (c : Collection) (old now : Scope) (n : Name) (g : FuncTypeId) (f : EncodeFault) → WritesFor c 0 (IsOfFunc c g) old now → IsFuncRefused {A = A} c g now (Err f) → IsItemNotImported {A = B} c n (kind.TypeItem (ty.Func g)) old (Err f)
+function-type-not-imported A B c old now n g (fault.Write h) w refused = refused
+function-type-not-imported A B c old now n g fault.TooLarge w refused = record { scope = now; types = 0; behind = w; large = inl refused }
+function-type-not-imported A B c old now n g fault.OutOfMemory w refused = tt
+
+pub interface-type-not-imported : (A B : Type 0) (c : Collection) → StaysOnward → (old : Scope) (n : Name) (i : InterfaceId) (f : EncodeFault) → IsInstanceRefused {A = A} c i old (Err f) → IsItemNotImported {A = B} c n (kind.TypeItem (ty.Interface i)) old (Err f)
+interface-type-not-imported A B c stays old n i (fault.Write g) h = h
+interface-type-not-imported A B c stays old n i fault.TooLarge h = record { scope = old; types = 0; behind = writes-none c stays (NeededBy c (kind.Instance i)) old old (as-it-was old); large = inl h }
+interface-type-not-imported A B c stays old n i fault.OutOfMemory h = tt
 
 -- where the import does not fit
 pub import-too-large : (A B : Type 0) (c : Collection) (old now : Scope) (n : Name) (item : ItemKind) (types : ℕ) (d : Description) (f : EncodeFault) → WritesFor c types (NeededBy c item) old now → IsImportedAs c old now item d → FitsUnlessTooLarge {A = A} (Err f) (ContentFits (and_import now.content n d)) → IsItemNotImported {A = B} c n item old (Err f)

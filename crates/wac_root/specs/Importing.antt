@@ -30,7 +30,7 @@ use Rattle.wac_stacks.specs.Scopes.{Open, Stack}
 use Rattle.wac_stacks.specs.Good.{At, IsHeld, Good}
 use Rattle.wac_stacks.specs.Laws.{Adds}
 use Rattle.wac_scopes.specs.Scoped.{type_index, value_index, HasToo, AlsoLists, opened, root_of, IsNewInRoot, RootImports}
-use Rattle.wac_encode.specs.Written.{PartOf, WritesFor, HasHandle, IsOfFunc, IsFuncAt, IsFuncRefused}
+use Rattle.wac_encode.specs.Written.{PartOf, WritesFor, HasHandle, IsOfFunc, AddsHeldFunc, IsFuncAt, IsFuncRefused}
 use Rattle.wac_encode.specs.Listing.{lists_plain, WritesInterface, NeededBy, own_types, IsDescribed, SameRecords, TypeDoesNotFit, IsInterfaceRefused}
 
 -- a function of the held function type is imported under a name that is new, in each stack that was good with the root as the innermost; index k is that import
@@ -51,10 +51,12 @@ abbrev pub IsImportRefused : {A : Type 0} → Collection → FuncTypeId → Name
 IsImportRefused c f n s (Err fault.TooLarge) = IsFuncRefused {A = ℕ} c f s (Err fault.TooLarge) ⊎ ((i : ℕ) × (ContentFits (and_import s.content n (e.Func i)) → ⊥))
 IsImportRefused c f n s r = IsFuncRefused c f s r
 
--- whether an item is of a sort that the root imports so far, or that it cannot import: not yet are type items of resources, function types,
--- interfaces and worlds, interfaces with an item that is not written yet, components and core modules
+-- whether an item is of a sort that the root imports so far, or that it cannot import: not yet are type items of resources and worlds,
+-- interfaces with an item that is not written yet, be it as instances or as type items, components and core modules
 abbrev pub is_importable : Collection → ItemKind → Bool
 is_importable c (kind.TypeItem (ty.Value v)) = true
+is_importable c (kind.TypeItem (ty.Func f)) = true
+is_importable c (kind.TypeItem (ty.Interface i)) = lists_plain c i
 is_importable c (kind.TypeItem (ty.Module m)) = true
 is_importable c (kind.TypeItem t) = false
 is_importable c (kind.Func f) = true
@@ -110,6 +112,8 @@ IsInterfaceAt c old now i j = IsInterfaceFrom (type_index old (ty.Interface i)) 
 -- what an import is described by, where its types were written since old
 abbrev pub IsImportedAs : Collection → Scope → Scope → ItemKind → Description → Type 0
 IsImportedAs c old now (kind.Instance i) (e.Instance j) = IsInterfaceAt c old now i j
+IsImportedAs c old now (kind.TypeItem (ty.Interface i)) (e.Equal j) = IsInterfaceAt c old now i j
+IsImportedAs c old now (kind.TypeItem (ty.Func f)) (e.Equal j) = AddsHeldFunc c old now f j × IsFuncAt c f old now j
 IsImportedAs c old now item d = IsDescribed c old now item d
 
 -- a definition that was not written before is recorded at the import's own index, and so written by its name from then on
@@ -167,6 +171,8 @@ IsInstanceRefused c i s r = IsInterfaceRefused c i r
 
 abbrev pub ImportedTypeDoesNotFit : Collection → ItemKind → Scope → Type 0
 ImportedTypeDoesNotFit c (kind.Instance i) s = IsInterfaceRefused {A = Unit {0}} c i (Err fault.TooLarge) ⊎ InstanceDoesNotFit c i s
+ImportedTypeDoesNotFit c (kind.TypeItem (ty.Interface i)) s = IsInterfaceRefused {A = Unit {0}} c i (Err fault.TooLarge) ⊎ InstanceDoesNotFit c i s
+ImportedTypeDoesNotFit c (kind.TypeItem (ty.Func f)) s = TypeDoesNotFit c (kind.Func f) s
 ImportedTypeDoesNotFit c item s = TypeDoesNotFit c item s
 
 -- the import itself does not
@@ -184,8 +190,10 @@ pub record ImportedDoesNotFit (c : Collection) (n : Name) (item : ItemKind) (old
 abbrev pub IsImportFault : Collection → ItemKind → WriteFault → Type 0
 IsImportFault c (kind.TypeItem (ty.Value v)) f = (f ≡ write.UnboundResource) × HasHandle (PartOf c (value_resolved c v))
 IsImportFault c (kind.Func g) f = (f ≡ write.UnboundResource) × HasHandle (IsOfFunc c g)
+IsImportFault c (kind.TypeItem (ty.Func g)) f = (f ≡ write.UnboundResource) × HasHandle (IsOfFunc c g)
 IsImportFault c (kind.TypeItem (ty.Module m)) f = f ≡ write.ModuleAsType
 IsImportFault c (kind.Instance i) f = IsInterfaceRefused {A = Unit {0}} c i (Err (fault.Write f))
+IsImportFault c (kind.TypeItem (ty.Interface i)) f = IsInterfaceRefused {A = Unit {0}} c i (Err (fault.Write f))
 IsImportFault c (kind.Value v) f = f ≡ write.ValueItem
 IsImportFault c item f = ⊥
 

@@ -261,13 +261,58 @@ impl<'a> RootEncoder<'a> {
         Ok(import)
     }
 
+    /// Writes a function type, and imports it as a type item. It is still written by the index that it has.
+    fn import_function_type(
+        &self,
+        root: &mut Scope,
+        name: &str,
+        func: FuncTypeId,
+    ) -> Result<u32, EncodeFault>
+        requires held { HasFunc self.now.types.now func }
+        requires root { IsRoot root.old.content }
+        ensures imports { IfOk result (ImportsHeld self.now.types.now root.old root.new name.now (kind.TypeItem (ty.Func func))) }
+        ensures wrote { IfOk result (WritesImport self.now.types.now root.old root.new name.now (kind.TypeItem (ty.Func func))) }
+        ensures refused { OnErr result (WritesTypesOf self.now.types.now (kind.TypeItem (ty.Func func)) root.old root.new) }
+        ensures fault { IsItemNotImported self.now.types.now name.now (kind.TypeItem (ty.Func func)) root.old result }
+    {
+        listed_law();
+        step_law();
+        let index = self.func(root, func)?;
+        let import = root.import_type(name, index)?;
+        Ok(import)
+    }
+
+    /// Writes an interface as an instance type, and imports that as a type item. It is still written by the index that it has.
+    fn import_interface_type(
+        &self,
+        root: &mut Scope,
+        name: &str,
+        interface: InterfaceId,
+    ) -> Result<u32, EncodeFault>
+        requires held { HasInterface self.now.types.now interface }
+        requires plain { lists_plain self.now.types.now interface ≡ true }
+        requires root { IsRoot root.old.content }
+        ensures imports { IfOk result (ImportsHeld self.now.types.now root.old root.new name.now (kind.TypeItem (ty.Interface interface))) }
+        ensures wrote { IfOk result (WritesImport self.now.types.now root.old root.new name.now (kind.TypeItem (ty.Interface interface))) }
+        ensures refused { OnErr result (WritesTypesOf self.now.types.now (kind.TypeItem (ty.Interface interface)) root.old root.new) }
+        ensures fault { IsItemNotImported self.now.types.now name.now (kind.TypeItem (ty.Interface interface)) root.old result }
+    {
+        listed_law();
+        step_law();
+        still_law();
+        let index = self.instance(root, interface)?;
+        let import = root.import_type(name, index)?;
+        Ok(import)
+    }
+
     /// Whether an item is of a sort that the root imports so far, or that it cannot import.
     fn is_importable(&self, item: ItemKind) -> bool
         requires { holds_type self.now.types.now (kind_type item) ≡ true }
         ensures { result ≡ importable self.now.types.now item }
     {
         match item {
-            ItemKind::TypeItem(Type::Value(_) | Type::Module(_)) => true,
+            ItemKind::TypeItem(Type::Value(_) | Type::Func(_) | Type::Module(_)) => true,
+            ItemKind::TypeItem(Type::Interface(id)) => self.lists_plain(id),
             ItemKind::TypeItem(_) | ItemKind::Component(_) | ItemKind::Module(_) => false,
             ItemKind::Func(_) | ItemKind::Value(_) => true,
             ItemKind::Instance(id) => self.lists_plain(id),
@@ -287,6 +332,10 @@ impl<'a> RootEncoder<'a> {
         still_law();
         match item {
             ItemKind::TypeItem(Type::Value(value)) => self.import_value(root, name, value),
+            ItemKind::TypeItem(Type::Func(func)) => self.import_function_type(root, name, func),
+            ItemKind::TypeItem(Type::Interface(interface)) => {
+                self.import_interface_type(root, name, interface)
+            }
             ItemKind::Func(func) => self.import_function(root, name, func),
             ItemKind::Instance(interface) => self.import_instance(root, name, interface),
             ItemKind::TypeItem(Type::Module(_)) => {
@@ -299,10 +348,11 @@ impl<'a> RootEncoder<'a> {
 
     /// Imports an item of a held kind into the root, behind the other imports, and answers the import's index of its sort. Its types
     /// are written before, once, where they are not written yet, and what an instance lists that was imported before is aliased from it. What
-    /// stood in the root stands. A definition that a type item imports is written by the first such item's index.
+    /// stood in the root stands. A definition that a type item imports is written by the first such item's index; a function type and an
+    /// interface are still written by the index of their own type.
     ///
-    /// Answers none, and writes nothing, exactly where the item is of a sort that is not imported yet: a type item of a resource, of a
-    /// function type, of an interface or of a world, an interface that has an item that is not written yet, a component, or a core
+    /// Answers none, and writes nothing, exactly where the item is of a sort that is not imported yet: a type item of a resource or of a
+    /// world, an instance or a type item of an interface that has an item that is not written yet, a component, or a core
     /// module. Answers `UnboundResource` for an item that is made of a handle, `ModuleAsType` for a type item of a core module
     /// type, `ValueItem` for a value, what `interface_type` answers where it refuses the interface, and `TooLarge` where what is written
     /// next does not fit; `OutOfMemory` where memory was refused. Then some of its types may stand, each whole.

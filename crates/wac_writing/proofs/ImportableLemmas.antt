@@ -1,5 +1,5 @@
 -- What is importable stays so where it offers less.
-use Rattle.std.proofs.Common.{◌≡◌, Bool, true, false, refl, ap, sym, subst}
+use Rattle.std.proofs.Common.{◌≡◌, ◌≢◌, Bool, true, false, refl, ap, sym, subst}
 use Rattle.wac_shapes.specs.Name.{Name}
 use Rattle.wac_collection.specs.Tree.{TypeTree, absent, type_equal, instance_item, module_item}
 use Rattle.wac_subtyping.specs.Subtype.{Sub}
@@ -35,20 +35,34 @@ plain_item a b (Sub.component_items _ _ s) h = absurd h
 plain_item a b (Sub.module_items _ _ s) h = absurd h
 
 -- an instance that exports less
-plain_instance : {L : Type 0} (a b : TypeTree L) → Sub a b → IsImportable (instance_item a) → IsImportable (instance_item b)
-plain_instance a b (Sub.same _ p) h = h
-plain_instance {L} a b (Sub.instances xs ys f) h = λ n. split n (is_absent (ys n)) refl where
-  split : (n : Name) → (e : Bool) → is_absent (ys n) ≡ e → IsPlainWhereThere (ys n)
-  split n true is = subst (λ (t : TypeTree L). IsPlainWhereThere t) (sym (absent_of (ys n) is)) tt
-  split n false is = plain_item (xs n) (ys n) (f n (λ none. two (ap is_absent none) is)) (h n) where
+exports_less : {L : Type 0} (xs ys : Name → TypeTree L) → ((n : Name) → ys n ≢ absent → Sub (xs n) (ys n)) → ((n : Name) → IsPlainWhereThere (xs n)) → (n : Name) → IsPlainWhereThere (ys n)
+exports_less {L} xs ys f h n = split (is_absent (ys n)) refl where
+  split : (e : Bool) → is_absent (ys n) ≡ e → IsPlainWhereThere (ys n)
+  split true is = subst (λ (t : TypeTree L). IsPlainWhereThere t) (sym (absent_of (ys n) is)) tt
+  split false is = plain_item (xs n) (ys n) (f n (λ none. two (ap is_absent none) is)) (h n) where
     two : {e : Bool} → e ≡ true → e ≡ false → ⊥
     two p q = cc
+
+plain_instance : {L : Type 0} (a b : TypeTree L) → Sub a b → IsImportable (instance_item a) → IsImportable (instance_item b)
+plain_instance a b (Sub.same _ p) h = h
+plain_instance a b (Sub.instances xs ys f) h = exports_less xs ys f h
 plain_instance a b (Sub.components _ _ _ _ f g) h = absurd h
 plain_instance a b (Sub.modules _ _ _ _ f g) h = absurd h
 plain_instance a b (Sub.type_items _ _ s t) h = absurd h
 plain_instance a b (Sub.instance_items _ _ s) h = absurd h
 plain_instance a b (Sub.component_items _ _ s) h = absurd h
 plain_instance a b (Sub.module_items _ _ s) h = absurd h
+
+-- a type item
+type_super : {L : Type 0} (a b : TypeTree L) → Sub a b → IsImportable (type_equal a) → IsImportable (type_equal b)
+type_super a b (Sub.same _ p) h = h
+type_super a b (Sub.instances xs ys f) h = exports_less xs ys f h
+type_super a b (Sub.components _ _ _ _ f g) h = absurd h
+type_super a b (Sub.modules _ _ _ _ f g) h = absurd h
+type_super a b (Sub.type_items _ _ s t) h = absurd h
+type_super a b (Sub.instance_items _ _ s) h = absurd h
+type_super a b (Sub.component_items _ _ s) h = absurd h
+type_super a b (Sub.module_items _ _ s) h = absurd h
 
 -- a core module that is a supertype
 module_super : {L : Type 0} (a b : TypeTree L) → Sub a b → IsImportable (module_item a) → IsImportable (module_item b)
@@ -66,7 +80,7 @@ importable_super a b (Sub.same _ p) h = h
 importable_super a b (Sub.instances _ _ f) h = absurd h
 importable_super a b (Sub.components _ _ _ _ f g) h = absurd h
 importable_super a b (Sub.modules _ _ _ _ f g) h = absurd h
-importable_super a b (Sub.type_items c d s t) h = plain_type c d s h
+importable_super a b (Sub.type_items c d s t) h = type_super c d s h
 importable_super a b (Sub.instance_items c d s) h = plain_instance c d s h
 importable_super a b (Sub.component_items _ _ s) h = absurd h
 importable_super a b (Sub.module_items c d s) h = module_super c d s h

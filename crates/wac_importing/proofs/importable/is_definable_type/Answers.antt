@@ -1,22 +1,9 @@
-use Rattle.std.proofs.Common.{◌≡◌, refl, sym, subst, ◌⊎◌, inl, inr}
-use Rattle.wac_shapes.specs.declared.component.FuncTypeId.{FuncTypeId}
+use Rattle.std.proofs.Common.{sym, subst}
 use Rattle.wac_shapes.specs.declared.component.ItemKind.TheVariants as kind
-use Rattle.wac_shapes.specs.declared.component.ValueType.{ValueType}
 use Rattle.wac_shapes.specs.declared.component.«Type».{«Type» as AnyType}
-use Rattle.wac_shapes.specs.declared.component.«Type».TheVariants as ty
 use Rattle.wac_meaning.specs.Importable.{IsDefinableKind}
-use Rattle.wac_importing.specs.Looked.{IsOfValues}
-use Rattle.wac_importing.proofs.Items.{type_not_definable, free_definable, values_free}
+use Rattle.wac_importing.proofs.Items.{is_of_values, not_of_values, type_not_definable, free_definable, values_free}
 use Rattle.wac_importing.proofs.importable.is_definable_type.Goals as goal
-
-is_of_values : (a : AnyType) → ((v : ValueType) × (a ≡ ty.Value v)) ⊎ ((f : FuncTypeId) × (a ≡ ty.Func f)) → IsOfValues a
-is_of_values a (inl h) = subst IsOfValues (sym h.1) tt
-is_of_values a (inr h) = subst IsOfValues (sym h.1) tt
-
-not_of_values : (a : AnyType) → ((v : ValueType) → a ≡ ty.Value v → ⊥) → ((f : FuncTypeId) → a ≡ ty.Func f → ⊥) → IsOfValues a → ⊥
-not_of_values (ty.Value v) value func of = value v refl
-not_of_values (ty.Func f) value func of = func f refl
-not_of_values a value func of = of
 
 pub has_no_handle-requires-clause-of_values : goal.has_no_handle-requires-clause-of_values
 has_no_handle-requires-clause-of_values c = is_of_values c.args.ty c.in-Value.is

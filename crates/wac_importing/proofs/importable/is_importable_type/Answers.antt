@@ -1,0 +1,25 @@
+use Rattle.std.proofs.Common.{sym, subst}
+use Rattle.wac_shapes.specs.declared.component.ItemKind.TheVariants as kind
+use Rattle.wac_shapes.specs.declared.component.«Type».{«Type» as AnyType}
+use Rattle.wac_meaning.specs.Importable.{IsImportableKind}
+use Rattle.wac_importing.specs.Looked.{ListsPlain}
+use Rattle.wac_importing.proofs.Items.{is_of_values, not_of_values, type_not_importable, free_lists, values_importable}
+use Rattle.wac_importing.proofs.importable.is_importable_type.Goals as goal
+
+pub has_no_handle-requires-clause-of_values : goal.has_no_handle-requires-clause-of_values
+has_no_handle-requires-clause-of_values c = is_of_values c.args.ty c.in-Value.is
+
+pub returns-in-Value-clause-plain : goal.returns-in-Value-clause-plain
+returns-in-Value-clause-plain c h = free_lists c.args.types.now c.law.ensures c.args.ty (is_of_values c.args.ty c.in-Value.is) c.requires (c.has_no_handle.ensures.none h)
+
+pub returns-in-Value-clause-not : goal.returns-in-Value-clause-not
+returns-in-Value-clause-not c h so = c.has_no_handle.ensures.some h (values_importable c.args.types.now c.args.ty (is_of_values c.args.ty c.in-Value.is) so)
+
+pub returns-in_default : goal.returns-in_default
+returns-in_default c = record { plain = λ h. cc; not = λ h. type_not_importable c.args.types.now c.law.ensures c.args.ty c.requires (not_of_values c.args.ty c.in_default.not-Value c.in_default.not-Func) c.in_default.not-Interface }
+
+pub returns-in-Interface-clause-plain : goal.returns-in-Interface-clause-plain
+returns-in-Interface-clause-plain c h = subst (λ (a : AnyType). ListsPlain c.args.types.now (kind.TypeItem a)) (sym c.in-Interface.is) (c.has_plain_items.ensures.plain h)
+
+pub returns-in-Interface-clause-not : goal.returns-in-Interface-clause-not
+returns-in-Interface-clause-not c h so = c.has_plain_items.ensures.not_type h (subst (λ (a : AnyType). IsImportableKind c.args.types.now (kind.TypeItem a)) c.in-Interface.is so)
