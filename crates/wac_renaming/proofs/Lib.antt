@@ -3,6 +3,7 @@ pub mod MadeForms
 pub mod RenamingShapes
 pub mod RenamingTrees
 pub mod RenamingLoops
+pub mod Outlines
 pub mod OneIds
 pub mod RenamingMemo
 pub mod RenamingTasks

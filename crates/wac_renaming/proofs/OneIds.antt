@@ -21,6 +21,7 @@ use Rattle.wac_renaming.specs.RenamingSteps.{CasesGoTogether, FieldsGoTogether, 
 use Rattle.wac_renaming.specs.declared.made.Made.{Made}
 use Rattle.wac_renaming.specs.declared.renamer.Renaming.{Renaming}
 use Rattle.wac_renaming.proofs.Extending.{kept_item}
+use Rattle.wac_renaming.proofs.Outlines.{func_outlined}
 
 -- ---- the values of definitions of one shape, and of function types, beside each other
 module _ (R : ValueType → ValueType → Type 0) where
@@ -92,9 +93,9 @@ module _ (c : Collection) (t : NamedTypes) (old new : Made) (stay : StayMade old
   still_func_for f x g (k, p, q, r, is) = (k, p, q, r, stay (func_form k) g.0 is)
 
   pub still_of : (v w : ValueType) → IsMadeOf c t old v w → IsMadeOf c t new v w
-  still_of v w (plain _ _ none) = plain v w none
+  still_of v w (plain _ _ none itself) = plain v w none itself
   still_of v w (alias _ _ d end y p at other h) = alias v w d end y p at other (still_of (val.Defined end) w h)
-  still_of v w (anew _ _ d e y x p q at none made parts) = anew v w d e y x p q at none (still_for _ x e made) (λ i a b g h. still_of a b (parts i a b g h))
+  still_of v w (anew _ _ d e y x p q at none made out parts) = anew v w d e y x p q at none (still_for _ x e made) out (λ i a b g h. still_of a b (parts i a b g h))
 
   module _ (m more : Collection) (x : IsExtended m more) where
     pub still_func_of : (f g : FuncTypeId) → IsFuncMadeOf c m t old f g → IsFuncMadeOf c more t new f g
@@ -103,6 +104,7 @@ module _ (c : Collection) (t : NamedTypes) (old new : Made) (stay : StayMade old
       after = r.after;
       is = r.is;
       became = kept_item m.funcs more.funcs x.kept.funcs g.0 r.after r.became;
+      outlined = r.outlined;
       values = λ i a b p q. still_of a b (r.values i a b p q);
       once = still_func_for f r.after g r.once;
     }
@@ -121,12 +123,13 @@ module _ (c : Collection) (t : NamedTypes) (old new : Made) (stay : StayMade old
 
 -- what a function type mentions was made where its parameters and its result were
 pub func_once : (s : Renaming) (m more : Collection) (made new : Made) (stay : StayMade made new) (f g : FuncTypeId) (x y : FuncType) → item_at s.types.now.funcs f.0 ≡ Some x → item_at more.funcs g.0 ≡ Some y → IsFuncMadeFor new f y g
-    → FieldsGoTogether (IsRenamedIn s m made) x.params y.params → GoTogether (IsRenamedIn s m made) x.result y.result → IsFuncMadeOf s.types.now more s.became.now.named.now new f g
-func_once s m more made new stay f g x y at there once fields result = record {
+    → FieldsGoTogether (IsRenamedIn s m made) x.params y.params → GoTogether (IsRenamedIn s m made) x.result y.result → y.is_async ≡ x.is_async → IsFuncMadeOf s.types.now more s.became.now.named.now new f g
+func_once s m more made new stay f g x y at there once fields result async = record {
   before = x;
   after = y;
   is = at;
   became = there;
+  outlined = func_outlined (IsRenamedIn s m made) x y fields result async;
   values = λ i a b p q. still_of s.types.now s.became.now.named.now made new stay a b (func_pairs (IsRenamedIn s m made) x y fields result i a b p q).1;
   once = once;
 }

@@ -42,6 +42,7 @@ use Rattle.wac_unions.specs.OneId.{AreMadeOnce}
 use Rattle.wac_unions.proofs.Assembled.{AreAssembled}
 use Rattle.wac_unions.proofs.AssembledMerge.{still-written-all}
 use Rattle.wac_unions.proofs.ImportKinds.{still-kind}
+use Rattle.wac_unions.proofs.Sharing.{still-shared}
 use Rattle.wac_unions.proofs.OneIds.{still-union-made}
 use Rattle.wac_uses.specs.Using.{AreBareImports, AreUsing, IsAmong, IsBareIn}
 use Rattle.wac_uses.proofs.AlikeMerges.{using-bound}
@@ -91,6 +92,7 @@ module _ (c m more : Collection) (x : IsExtended m more) (wf : IsWellFormed m) (
       written = still-written-all c m more x us ps bs f o.written.ids o.written.ws o.written.written;
       imported = still-imports o.written.ws o.written.imported;
     };
+    shared = still-shared c m more x us ps o.written.ids o.written.ws o.shared;
     unions = λ u y w at there. still-union-made c m more x t o.made o.made (λ g e is. is) y w (o.unions u y w at there);
     imported = λ p k q e y at_p at_k at_q at_y. still_kind_of c t o.made o.made (λ g d is. is) m more x e.kind y.kind (o.imported p k q e y at_p at_k at_q at_y);
   }

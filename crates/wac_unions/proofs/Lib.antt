@@ -1,9 +1,13 @@
 pub mod WritingItems
 pub mod WritingUnions
+pub mod Sharing
+pub mod SharedWrites
 pub mod OneIds
+pub mod MadeAlike
 pub mod ImportKinds
 pub mod Assembled
 pub mod AssembledKinds
+pub mod OneInterface
 pub mod AssembledLists
 pub mod AssembledItemsFirst
 pub mod AssembledItems

@@ -137,7 +137,7 @@ module _ (c m : Collection) (t : NamedTypes) (made : Made) where
   kind-made (kind.TypeItem (ty.Func f)) l a b h beside = absurd h
   kind-made k l a b h (i, p, q) = cc p
 
-  items-at : (es : List (Name × Export)) (ks : List (Name × ItemKind)) (i : ℕ) (e : Name × Export) (k : Name × ItemKind) → AreItemsMadeOf c m t made es ks → slice_get es i ≡ Some e → slice_get ks i ≡ Some k → IsKindMadeOf c m t made e.1.kind k.1
+  pub items-at : (es : List (Name × Export)) (ks : List (Name × ItemKind)) (i : ℕ) (e : Name × Export) (k : Name × ItemKind) → AreItemsMadeOf c m t made es ks → slice_get es i ≡ Some e → slice_get ks i ≡ Some k → IsKindMadeOf c m t made e.1.kind k.1
   items-at [] ks i e k h p q = cc p
   items-at (a ∷ es) [] i e k h p q = cc q
   items-at (a ∷ es) (b ∷ ks) zero e k h p q = subst (λ (z : Name × Export). IsKindMadeOf c m t made z.1.kind k.1) (one-some a e p) (subst (λ (z : Name × ItemKind). IsKindMadeOf c m t made a.1.kind z.1) (one-some b k q) h.0)
@@ -151,12 +151,12 @@ module _ (c m : Collection) (t : NamedTypes) (made : Made) where
 
   -- what became of the end of a definition's other names
   made-end : (v w : ValueType) (d end : DefinedTypeId) → v ≡ val.Defined d → another c d ≡ Some end → IsMadeOf c t made v w → IsMadeOf c t made (val.Defined end) w
-  made-end v w d end is other (plain _ _ none) = cc (ap definition (sym is) ∙ none)
+  made-end v w d end is other (plain _ _ none _) = cc (ap definition (sym is) ∙ none)
   made-end v w d end is other (alias _ _ k e y p at o h) =
       let same : d ≡ k = same-id d k (ap definition (sym is) ∙ p) in
       let ends : e ≡ end = same-id e end (sym o ∙ sym (another-is k y at) ∙ ap (another c) (sym same) ∙ other) in
       subst (λ (z : DefinedTypeId). IsMadeOf c t made (val.Defined z) w) ends h
-  made-end v w d end is other (anew _ _ k e y x p q at o f parts) =
+  made-end v w d end is other (anew _ _ k e y x p q at o f _ parts) =
       let same : d ≡ k = same-id d k (ap definition (sym is) ∙ p) in
       cc (sym other ∙ ap (another c) same ∙ another-is k y at ∙ o)
 
@@ -169,11 +169,11 @@ module _ (c m : Collection) (t : NamedTypes) (made : Made) where
     parts : (a b : ValueType) → AreBeside (defined_values before) (defined_values after) a b → IsMadeOf c t made a b
 
   made-anew : (v w : ValueType) (d e : DefinedTypeId) → v ≡ val.Defined d → w ≡ val.Defined e → another c d ≡ None → IsMadeOf c t made v w → IsAnew d e
-  made-anew v w d e is became none (plain _ _ nothing) = cc (ap definition (sym is) ∙ nothing)
+  made-anew v w d e is became none (plain _ _ nothing _) = cc (ap definition (sym is) ∙ nothing)
   made-anew v w d e is became none (alias _ _ k end y p at o h) =
       let same : d ≡ k = same-id d k (ap definition (sym is) ∙ p) in
       cc (sym none ∙ ap (another c) same ∙ another-is k y at ∙ o)
-  made-anew v w d e is became none (anew _ _ k f y x p q at o for parts) =
+  made-anew v w d e is became none (anew _ _ k f y x p q at o for _ parts) =
       let same : k ≡ d = sym (same-id d k (ap definition (sym is) ∙ p)) in
       let ids : f ≡ e = sym (same-id e f (ap definition (sym became) ∙ q)) in
       record {

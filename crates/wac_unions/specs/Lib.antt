@@ -1,5 +1,7 @@
 pub mod MergedClasses
 pub mod WritingSteps
+pub mod SharedUnions
+pub mod OneInterface
 pub mod OneId
 pub mod BoundNames
 pub mod MergedScope

@@ -1,8 +1,10 @@
--- One id for one named type.
+-- One id for one named type, for one function type and for one plain interface.
 use Rattle.std.specs.Prelude.{ℕ, ◌≡◌, ◌↔◌, List, [], ◌∷◌, Option, Some, None, slice_get}
 use Rattle.wac_shapes.specs.Name.{Name, option_case}
 use Rattle.wac_shapes.specs.declared.component.DefinedType.{DefinedType}
 use Rattle.wac_shapes.specs.declared.component.DefinedTypeId.{DefinedTypeId}
+use Rattle.wac_shapes.specs.declared.component.FuncType.{FuncType}
+use Rattle.wac_shapes.specs.declared.component.FuncTypeId.{FuncTypeId}
 use Rattle.wac_shapes.specs.declared.component.Interface.{Interface}
 use Rattle.wac_shapes.specs.declared.component.InterfaceId.{InterfaceId}
 use Rattle.wac_shapes.specs.declared.component.ItemKind.{ItemKind}
@@ -26,6 +28,8 @@ use Rattle.wac_values.specs.declared.named.NamedTypes.{NamedTypes}
 use Rattle.wac_renaming.specs.Made.{AreMade, other_name}
 use Rattle.wac_renaming.specs.declared.made.Made.{Made}
 use Rattle.wac_unions.specs.MergedClasses.{AreClassUnions, AreWrittenImports}
+use Rattle.wac_unions.specs.OneInterface.{AreOfOneInterface}
+use Rattle.wac_unions.specs.SharedUnions.{AreSharedUnions}
 use Rattle.wac_unions.specs.WritingSteps.{AreImportsMadeOf, AreUnionsMadeOf}
 
 -- the value types that an item mentions
@@ -54,16 +58,30 @@ pub data Became (c m : Collection) (es imports : List Entry) (us : List Union) (
   in_definition : (v w : ValueType) (d e : DefinedTypeId) (y x : DefinedType) → Became c m es imports us ws positions order (val.Defined d) (val.Defined e) → another c d ≡ None → item_at c.defined d.0 ≡ Some y → item_at m.defined e.0 ≡ Some x
       → AreBeside (defined_values y) (defined_values x) v w → Became c m es imports us ws positions order v w
 
--- the merged types are those that were made, each once for the named type that it is
+-- the function type of an item, and of a type item
+abbrev pub func_of : ItemKind → Option FuncTypeId
+func_of (kind.Func f) = Some f
+func_of (kind.TypeItem (ty.Func f)) = Some f
+func_of k = None
+
+-- A function type, and what it became: in what stands under a name of a union, and in the entry at the position of a class.
+pub data FuncBecame (c m : Collection) (es imports : List Entry) (us : List Union) (ws : List InterfaceId) (positions order : List ℕ) : FuncTypeId → FuncTypeId → Type 0 where
+  under_name : (f g : FuncTypeId) (u i : ℕ) (x : Union) (y : InterfaceId) (it : Interface) (e : Name × Export) (k : Name × ItemKind) → slice_get us u ≡ Some x → slice_get ws u ≡ Some y → item_at m.interfaces y.0 ≡ Some it
+      → slice_get x.exports i ≡ Some e → slice_get it.exports i ≡ Some k → func_of e.1.kind ≡ Some f → func_of k.1 ≡ Some g → FuncBecame c m es imports us ws positions order f g
+  of_entry : (f g : FuncTypeId) (p k q : ℕ) (e x : Entry) → slice_get order p ≡ Some k → slice_get positions k ≡ Some q → slice_get es q ≡ Some e → slice_get imports p ≡ Some x → func_of e.kind ≡ Some f → func_of x.kind ≡ Some g
+      → FuncBecame c m es imports us ws positions order f g
+
+-- the merged types are those that were made, each once for the named type that it is, and the merged interfaces are shared
 pub record AreMadeOnce (c m : Collection) (es : List Entry) (us : List Union) (ps : List Part) (bs : ClassBindings) (f : Fresh) (t : NamedTypes) (positions order : List ℕ) (imports : List Entry) : Type 0 where
   pub made : Made
   pub are : AreMade m made
   pub written : AreWrittenImports c m es us ps bs f order imports
+  pub shared : AreSharedUnions c m us ps written.ids written.ws
   pub unions : AreUnionsMadeOf c m t made us written.ws
   pub imported : AreImportsMadeOf c m t made es positions order imports
 
 -- The unions of what entries list, what classes bind, the new resources, and the interfaces and imports that all became in written order, before uses were added. What stands under one name of one union is one named type, and so are the entries of one class; no others are.
--- Two mentions with equal definitions in the merged collection have one id exactly where they are one named type, or stand under no name both.
+-- Two mentions with equal definitions in the merged collection have one id exactly where they are one named type, or stand under no name both. One function type that became the same twice has one id there, and one plain interface that is alone what classes are.
 pub record HasOneIdEach (c : Collection) (es : List Entry) (m : Merged) : Type 0 where
   pub us : List Union
   pub ps : List Part
@@ -89,3 +107,6 @@ pub record HasOneIdEach (c : Collection) (es : List Entry) (m : Merged) : Type 0
       → another c d ≡ None → another c e ≡ None → named_type t d ≡ named_type t e → item_at m.types.defined a.0 ≡ Some x → item_at m.types.defined b.0 ≡ Some x → a ≡ b
   pub apart : (d e a : DefinedTypeId) → Became c m.types es bare us written.ws positions order (val.Defined d) (val.Defined a) → Became c m.types es bare us written.ws positions order (val.Defined e) (val.Defined a)
       → another c d ≡ None → another c e ≡ None → named_type t d ≡ named_type t e
+  pub one_func : (f g h : FuncTypeId) (x : FuncType) → FuncBecame c m.types es bare us written.ws positions order f g → FuncBecame c m.types es bare us written.ws positions order f h
+      → item_at m.types.funcs g.0 ≡ Some x → item_at m.types.funcs h.0 ≡ Some x → g ≡ h
+  pub one_interface : AreOfOneInterface c es order m

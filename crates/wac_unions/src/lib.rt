@@ -5,4 +5,5 @@
 
 pub mod bound;
 pub mod merged;
+mod shared;
 mod writing;

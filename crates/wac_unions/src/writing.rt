@@ -1,10 +1,8 @@
 //! Unions as interfaces of a merged collection.
-ghost use Rattle.std.specs.Prelude.{◌+◌, ◌≡◌, List, [], length, map, string_bytes, true, Some, IfOk, OnOk, slice_get};
-ghost use Rattle.std.specs.List.{list_all};
+ghost use Rattle.std.specs.Prelude.{◌+◌, ◌<◌, ◌≡◌, List, length, map, string_bytes, true, Some, IfOk, IfSome, OnOk, slice_get};
 ghost use Rattle.std.specs.Option.{option_map};
-ghost use Rattle.wac_collection.specs.Collection.{Collection, HasResource, holds_all, holds_type, item_at, kind_types};
+ghost use Rattle.wac_collection.specs.Collection.{Collection, HasInterface, HasResource, holds_type};
 ghost use Rattle.wac_shapes.specs.Kinds.{kind_type};
-ghost use Rattle.wac_collection.specs.Uses.{is_named_right};
 ghost use Rattle.wac_shapes.specs.declared.component.InterfaceId.{InterfaceId as AnId};
 ghost use Rattle.wac_shapes.specs.declared.component.ItemKind.TheVariants as kind_of;
 ghost use Rattle.wac_terms.specs.Became.{AreFresh};
@@ -13,10 +11,12 @@ ghost use Rattle.wac_renaming.specs.RenamedTypes.{AreRenamed, CanRename, CanRena
 ghost use Rattle.wac_terms.specs.Renaming.{IsExtended};
 ghost use Rattle.wac_terms.specs.Unions.{AreUnions};
 ghost use Rattle.wac_terms.specs.Writing.{AreWritten, IsAliasOf, IsGiven, IsWrittenAs};
+ghost use Rattle.wac_unions.specs.SharedUnions.{AreSharedUnions, IsAloneIn, Shares, first_in};
 ghost use Rattle.wac_unions.specs.WritingSteps.{AreItemsMadeOf, AreRenamedIn, AreUnionsMadeOf, IsUnionMadeOf, AreWrittenItems, CanWrite, HasExport, IsBehind, IsFoundIn, IsWrittenItem, IsWrittenUnion};
 ghost use Rattle.wac_renaming.specs.declared.became.Became.{Became as ABecame};
 ghost use Rattle.wac_terms.specs.declared.parts.Union.{Union as AUnion};
 
+use crate::shared::Shared;
 use std::alloc::{AllocError, Global};
 use wac_collection::{
     AddTypeError, Interface, InterfaceId, ItemKind, Named, Resource, ResourceId, ShapeError, Text,
@@ -238,25 +238,21 @@ fn copied(alloc: Global, text: &Option<String>) -> Result<Option<Text>, AllocErr
     }
 }
 
-/// Adds an interface that uses no other.
-fn add_interface(
-    alloc: Global,
-    merged: &mut Types,
-    id: Option<Text>,
-    exports: Named<ItemKind>,
-) -> Result<InterfaceId, AllocError>
-    requires held { holds_all merged.old (kind_types exports) ≡ true }
-    requires named { list_all (is_named_right merged.old []) exports ≡ true }
-    ensures extended { IsExtended merged.old merged.new }
-    ensures added { IfOk result (λ w. item_at merged.new.interfaces w.0 ≡ Some (record { id = id; uses = []; exports = exports })) }
+/// The interface that a union is alone, where it has this id.
+fn alone(types: &Types, unions: &Unions, union: usize, id: &Option<Text>) -> Option<InterfaceId>
+    requires unions { (roots : List (List AnId)) × AreUnions types.now roots unions.now.unions.items unions.now.parts.items }
+    requires within { union < length unions.now.unions.items }
+    ensures is { IfSome result (λ i. (x : AUnion) → slice_get unions.now.unions.items union ≡ Some x → IsAloneIn types.now unions.now.parts.items id.now x.parts.items i) }
+    ensures all { (x : AUnion) (i : AnId) → slice_get unions.now.unions.items union ≡ Some x → IsAloneIn types.now unions.now.parts.items id.now x.parts.items i → result ≡ Some i }
 {
-    growth_keeps_trees(merged);
-    let uses = Named::new(alloc);
-    match merged.add_interface(Interface { id, uses, exports }) {
-        Ok(id) => Ok(id),
-        Err(AddTypeError::OutOfMemory) => Err(AllocError),
-        Err(_) => unreachable!(),
+    let [part] = unions.unions[union].parts.as_slice() else {
+        return None;
+    };
+    let interface = unions.parts[*part].interface;
+    if types[interface].id != *id {
+        return None;
     }
+    Some(interface)
 }
 
 /// Writes a union as an interface, after those behind it.
@@ -264,6 +260,7 @@ fn write_union<'a>(
     alloc: Global,
     merged: &mut Types,
     renamed: &mut Renamed,
+    shared: &mut Shared,
     types: &'a Types,
     unions: &Unions,
     became: &'a Became<'a>,
@@ -272,9 +269,12 @@ fn write_union<'a>(
     id: &Option<String>,
 ) -> Result<InterfaceId, AllocError>
     requires writing { CanWrite types.now merged.old unions.now.unions.items became.now written.now union }
+    requires parts { became.now.parts.now ≡ unions.now.parts.items }
     requires made { AreMade merged.old renamed.old.made }
+    requires there { (i v : AnId) → first_in shared.old i ≡ Some v → HasInterface merged.old v }
     ensures extended { IsExtended merged.old merged.new }
     ensures made { OnOk result (AreMade merged.new renamed.new.made) }
+    ensures shared { IfOk result (λ w. (x : AUnion) → slice_get unions.now.unions.items union ≡ Some x → Shares (IsAloneIn types.now unions.now.parts.items (option_map string_bytes id.now) x.parts.items) merged.old merged.new (first_in shared.old) (first_in shared.new) w) }
     ensures written { IfOk result (λ w. (x : AUnion) → slice_get unions.now.unions.items union ≡ Some x → IsWrittenUnion types.now merged.new became.now (length unions.now.unions.items) written.now union x (option_map string_bytes id.now) w) }
     ensures once { IfOk result (λ w. (x : AUnion) → slice_get unions.now.unions.items union ≡ Some x → IsUnionMadeOf types.now merged.new became.now.named.now renamed.new.made x w) }
     ensures stay { OnOk result (StayMade renamed.old.made renamed.new.made) }
@@ -283,7 +283,9 @@ fn write_union<'a>(
         alloc, merged, renamed, types, unions, became, written, union,
     )?;
     let id = copied(alloc, id)?;
-    add_interface(alloc, merged, id, exports)
+    let source = alone(types, unions, union, &id);
+    let uses = Named::new(alloc);
+    shared.write(merged, source, Interface { id, uses, exports })
 }
 
 /// Writes unions as interfaces behind what is there, each under the id that is given for it, from the last to the first.
@@ -305,11 +307,13 @@ pub fn write_unions<'a>(
     ensures extended { IsExtended merged.old merged.new }
     ensures made { OnOk result (AreMade merged.new renamed.new.made) }
     ensures written { IfOk result (λ ws. AreWritten types.now merged.new unions.now.unions.items unions.now.parts.items became.now.bindings.now became.now.fresh.now (map (option_map string_bytes) ids.now) ws.items) }
+    ensures shared { IfOk result (λ ws. AreSharedUnions types.now merged.new unions.now.unions.items unions.now.parts.items (map (option_map string_bytes) ids.now) ws.items) }
     ensures once { IfOk result (λ ws. AreUnionsMadeOf types.now merged.new became.now.named.now renamed.new.made unions.now.unions.items ws.items) }
     ensures stay { OnOk result (StayMade renamed.old.made renamed.new.made) }
 {
     merged.law();
     let count = unions.unions.len();
+    let mut shared = Shared::new(alloc);
     let mut written = Vec::new(alloc);
     for done in 0..count {
         let union = count - 1 - done;
@@ -318,6 +322,7 @@ pub fn write_unions<'a>(
             alloc,
             merged,
             renamed,
+            &mut shared,
             types,
             unions,
             became,

@@ -21,8 +21,8 @@ use Rattle.wac_terms.specs.Merge.{import_entries}
 use Rattle.wac_terms.proofs.Alike.{members_alike}
 use Rattle.wac_terms.proofs.Found.{find_at, get_map, mapped_length, no_some, some_same}
 use Rattle.wac_uses.specs.KeptUses.{instances, uses_of}
-use Rattle.wac_uses.specs.Using.{AreUsers, AreUsing, IsKindUsing, uses_among}
-use Rattle.wac_uses.proofs.Growing.{holds-kept, uses-still}
+use Rattle.wac_uses.specs.Using.{AreUsers, AreUsing, IsKindUsing, StaysBare, uses_among}
+use Rattle.wac_uses.proofs.Growing.{holds-kept, item-kept, uses-still}
 use Rattle.wac_uses.proofs.UsingGrows.{still-using, using-there}
 
 -- ---- one import
@@ -52,6 +52,15 @@ module _ (d c m : Collection) (wf : IsWellFormed c) (more : IsWellFormed m) (x :
 
   pub still-held : (es : List Entry) → AreHeld c es → AreHeld m es
   still-held es held p e at = holds-kept c m wf x (kind_type e.kind) (held p e at)
+
+-- an item that stays what it is still does
+still-stays : (c m more : Collection) → IsWellFormed m → IsKeptBy m more → (is : List InterfaceId) (k l : ItemKind) → StaysBare c m is k l → StaysBare c more is k l
+still-stays c m more wf kept is (kind.Instance i) l h = λ none plain. h none (λ it at. plain it (item-kept m more wf kept i it at))
+still-stays c m more wf kept is (kind.TypeItem t) l h = tt
+still-stays c m more wf kept is (kind.Func f) l h = tt
+still-stays c m more wf kept is (kind.Component w) l h = tt
+still-stays c m more wf kept is (kind.Module y) l h = tt
+still-stays c m more wf kept is (kind.Value v) l h = tt
 
 -- an instance with uses is held
 pub using-held : (c m : Collection) (f : List InterfaceId → List (Name × ItemKind) → List (Name × UsedType)) (is : List InterfaceId) (k l : ItemKind) → holds_type m (kind_type k) ≡ true → IsKindUsing c m f is k l → holds_type m (kind_type l) ≡ true
@@ -93,12 +102,14 @@ none-using rules c es m = record {
   counted = refl;
   names = λ p a b here there. absurd (no_some a here);
   kinds = λ p a b here there. absurd (no_some a here);
+  stay = λ p a b here there. absurd (no_some a here);
 }
 
 -- one import more, while the collection grows
 pub using-more : (rules : NameRules) (c : Collection) (es : List Entry) (m more : Collection) → IsWellFormed m → IsWellFormed more → IsKeptBy m more → (bare imports : List Entry) (a b : Entry)
-    → AreHeld m imports → b.name ≡ a.name → IsKindUsing c more (uses_among rules c es more imports) (instances (members rules es a.name)) a.kind b.kind → AreUsing rules c es m bare imports → AreUsing rules c es more (bare ++ a ∷ []) (imports ++ b ∷ [])
-using-more rules c es m more wf also kept bare imports a b held name new are = record {
+    → AreHeld m imports → b.name ≡ a.name → IsKindUsing c more (uses_among rules c es more imports) (instances (members rules es a.name)) a.kind b.kind
+    → StaysBare c more (instances (members rules es a.name)) a.kind b.kind → AreUsing rules c es m bare imports → AreUsing rules c es more (bare ++ a ∷ []) (imports ++ b ∷ [])
+using-more rules c es m more wf also kept bare imports a b held name new stays are = record {
   counted = length-append imports (b ∷ []) ∙ (ap (λ n. n + 1) are.counted ∙ sym (length-append bare (a ∷ [])));
   names = λ p x y here there. elim (push-cases bare a p x here) [
     | inl old ↦ are.names p x y old (earlier p y (slice_get_within bare p x old) there)
@@ -107,6 +118,12 @@ using-more rules c es m more wf also kept bare imports a b held name new are = r
   kinds = λ p x y here there. elim (push-cases bare a p x here) [
     | inl old ↦ before p x y (slice_get_within bare p x old) (are.kinds p x y old (earlier p y (slice_get_within bare p x old) there))
     | inr last ↦ after p x y last.0 (sym last.1) (latest p y last.0 there)
+  ];
+  stay = λ p x y here there. elim (push-cases bare a p x here) [
+    | inl old ↦ still-stays c m more wf kept (instances (members rules es x.name)) x.kind y.kind (are.stay p x y old (earlier p y (slice_get_within bare p x old) there))
+    | inr last ↦
+        subst (λ (z : Entry). StaysBare c more (instances (members rules es z.name)) z.kind y.kind) (sym last.1)
+        (subst (λ (z : Entry). StaysBare c more (instances (members rules es a.name)) a.kind z.kind) (sym (latest p y last.0 there)) stays)
   ];
 } where
   earlier : (p : ℕ) (y : Entry) → p < length bare → slice_get (imports ++ b ∷ []) p ≡ Some y → slice_get imports p ≡ Some y
@@ -179,14 +196,14 @@ unnamed rules c es m bare imports i n k once at are some = by (find_name imports
 -- one import more, as it is listed
 pub using-next : (rules : NameRules) (c : Collection) (es : List Entry) (m more : Collection) → IsWellFormed m → IsWellFormed more → IsKeptBy m more → (bare imports : List (Name × ItemKind)) (i : ℕ) (n : Name) (k l : ItemKind)
     → slice_get bare i ≡ Some (n, k) → AreHeld m (import_entries imports) → IsKindUsing c more (uses_among rules c es more (import_entries imports)) (instances (members rules es n)) k l
-    → AreUsing rules c es m (import_entries (take i bare)) (import_entries imports) → AreUsing rules c es more (import_entries (take (suc i) bare)) (import_entries (imports ++ (n, l) ∷ []))
-using-next rules c es m more wf also kept bare imports i n k l at held new are =
+    → StaysBare c more (instances (members rules es n)) k l → AreUsing rules c es m (import_entries (take i bare)) (import_entries imports) → AreUsing rules c es more (import_entries (take (suc i) bare)) (import_entries (imports ++ (n, l) ∷ []))
+using-next rules c es m more wf also kept bare imports i n k l at held new stays are =
     let a : Entry = record { name = n; kind = k } in
     let b : Entry = record { name = n; kind = l } in
     let one : import_entries (take (suc i) bare) ≡ import_entries (take i bare) ++ a ∷ [] = ap import_entries (take_at bare i (n, k) at) ∙ entries-push (take i bare) n k in
     subst (λ (xs : List Entry). AreUsing rules c es more xs (import_entries (imports ++ (n, l) ∷ []))) (sym one)
     (subst (λ (xs : List Entry). AreUsing rules c es more (import_entries (take i bare) ++ a ∷ []) xs) (sym (entries-push imports n l))
-    (using-more rules c es m more wf also kept (import_entries (take i bare)) (import_entries imports) a b held refl new are))
+    (using-more rules c es m more wf also kept (import_entries (take i bare)) (import_entries imports) a b held refl new stays are))
 
 pub held-push : (m : Collection) (es : List Entry) (e : Entry) → AreHeld m es → holds_type m (kind_type e.kind) ≡ true → AreHeld m (es ++ e ∷ [])
 held-push m es e held here p x at = elim (push-cases es e p x at) [

@@ -8,6 +8,7 @@ pub mod InnerUsers
 pub mod NestedAlike
 pub mod NestedBinds
 pub mod NestedKept
+pub mod StaysBare
 pub mod UsingGrows
 pub mod ImportsUsing
 pub mod Alike

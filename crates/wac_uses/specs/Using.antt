@@ -1,7 +1,7 @@
 -- Imports whose interfaces use no other, and the same with what they use. Private functions alone cite this.
 use Rattle.std.specs.Prelude.{ℕ, zero, suc, ◌+◌, ◌<◌, ◌≤◌, ◌≡◌, ◌&&◌, Bool, true, false, not, is_some, if◌then◌else◌, List, [], ◌∷◌, ◌++◌, fold, length, map, take, Option, Some, None, Vec, slice_get}
 use Rattle.std.specs.Global.{Global}
-use Rattle.std.specs.List.{AllZip}
+use Rattle.std.specs.List.{AllZip, list_any}
 use Rattle.wac_shapes.specs.Name.{Name, find_name, option_case}
 use Rattle.wac_shapes.specs.Named.{NoNameTwice}
 use Rattle.wac_shapes.specs.declared.component.Interface.{Interface}
@@ -108,6 +108,11 @@ abbrev pub IsKindUsing : Collection → Collection → (List InterfaceId → Lis
 IsKindUsing c m uses is (kind.Instance i) (kind.Instance w) = IsUsing c m uses i w is
 IsKindUsing c m uses is k l = l ≡ k
 
+-- where interfaces use nothing, an instance of one that lists no instance stays what it is
+abbrev pub StaysBare : Collection → Collection → List InterfaceId → ItemKind → ItemKind → Type 0
+StaysBare c m is (kind.Instance i) l = uses_of c is ≡ [] → ((it : Interface) → item_at m.interfaces i.0 ≡ Some it → list_any (λ e. is_instance e.1) it.exports ≡ false) → l ≡ kind.Instance i
+StaysBare c m is k l = Unit {0}
+
 -- what is kept of what interfaces use, among imports
 abbrev pub uses_among : NameRules → Collection → List Entry → Collection → List Entry → List InterfaceId → List (Name × ItemKind) → List (Name × UsedType)
 uses_among rules c es m imports is listed = kept_uses rules c es m imports listed (uses_of c is)
@@ -118,6 +123,7 @@ pub record AreUsing (rules : NameRules) (c : Collection) (es : List Entry) (m : 
   pub names : (p : ℕ) (a b : Entry) → slice_get bare p ≡ Some a → slice_get imports p ≡ Some b → b.name ≡ a.name
   pub kinds : (p : ℕ) (a b : Entry) → slice_get bare p ≡ Some a → slice_get imports p ≡ Some b
       → IsKindUsing c m (uses_among rules c es m (take p imports)) (instances (members rules es a.name)) a.kind b.kind
+  pub stay : (p : ℕ) (a b : Entry) → slice_get bare p ≡ Some a → slice_get imports p ≡ Some b → StaysBare c m (instances (members rules es a.name)) a.kind b.kind
 
 -- ---- interfaces inside an import, before they have uses
 

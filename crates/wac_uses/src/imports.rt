@@ -1,11 +1,13 @@
 //! Imports of a merge with what they use.
-ghost use Rattle.std.specs.Prelude.{ℕ, ◌≡◌, List, [], Some, length, map, slice_get, true, IfOk};
+ghost use Rattle.std.specs.Prelude.{ℕ, ◌≡◌, List, [], Some, false, length, map, slice_get, true, IfOk};
+ghost use Rattle.std.specs.List.{list_any};
 ghost use Rattle.wac_shapes.specs.declared.component.InterfaceId.{InterfaceId as AnId};
 ghost use Rattle.wac_entries.specs.Bindings.{AreHeld};
-ghost use Rattle.wac_entries.specs.Classes.{AreClasses, Entry as AnEntry, by_names, is_asked};
+ghost use Rattle.wac_entries.specs.Classes.{AreClasses, Entry as AnEntry, by_names, is_asked, is_instance};
 ghost use Rattle.wac_terms.specs.Merge.{import_entries};
 ghost use Rattle.wac_terms.specs.Renaming.{IsExtended};
-ghost use Rattle.wac_uses.specs.Using.{AreBare, AreBareImports, AreInterfaces, AreUsers, AreUsing, HasClasses, IsBareIn, IsKindUsing, uses_among};
+ghost use Rattle.wac_uses.specs.KeptUses.{uses_of};
+ghost use Rattle.wac_uses.specs.Using.{AreBare, AreBareImports, AreInterfaces, AreUsers, AreUsing, HasClasses, IsBareIn, IsKindUsing, StaysBare, uses_among};
 
 use crate::nested::{put_user, with_inner_uses};
 use crate::uses::Asked;
@@ -43,6 +45,33 @@ fn class_users(
     Ok(users)
 }
 
+/// Whether one of interfaces uses another.
+fn use_others(types: &Types, users: &[InterfaceId]) -> bool
+    requires users { AreInterfaces types.now users.now }
+    ensures none { result ≡ false → uses_of types.now users.now ≡ [] }
+    ensures some { uses_of types.now users.now ≡ [] → result ≡ false }
+{
+    for i in 0..users.len() {
+        if types[users[i]].uses.len() > 0 {
+            return true;
+        }
+    }
+    false
+}
+
+/// Whether an instance is among items.
+fn lists_instance(listed: &Named<ItemKind>) -> bool
+    ensures { result ≡ list_any (λ e. is_instance e.1) listed.now }
+{
+    for i in 0..listed.len() {
+        let (_, kind) = listed.entry_at(i);
+        if let ItemKind::Instance(_) = kind {
+            return true;
+        }
+    }
+    false
+}
+
 /// An import with what it and the instances inside use of those before it.
 fn with_uses(
     asked: &Asked<'_>,
@@ -57,10 +86,14 @@ fn with_uses(
     requires bare { (ws : List AnId) × AreBare merged.old ws × IsBareIn ws kind }
     ensures extended { IsExtended merged.old merged.new }
     ensures kind { IfOk result (IsKindUsing asked.now.types.now merged.new (uses_among by_names asked.now.types.now asked.now.entries.now merged.new (import_entries imports.now)) users.now kind) }
+    ensures stay { IfOk result (StaysBare asked.now.types.now merged.new users.now kind) }
 {
     let ItemKind::Instance(id) = kind else {
         return Ok(kind);
     };
+    if !use_others(asked.types, users) && !lists_instance(&merged[id].exports) {
+        return Ok(kind);
+    }
     let id = with_inner_uses(asked, merged, imports, users, id)?;
     Ok(ItemKind::Instance(id))
 }

@@ -3,6 +3,7 @@ use Rattle.std.specs.Option.{option_map}
 use Rattle.std.proofs.lemmas.Result.{IfOk-weaker}
 use Rattle.wac_unions.proofs.AssembledMerge.{still-written-all, written-given}
 use Rattle.wac_renaming.proofs.Extending.{extended_twice, still_can_all}
+use Rattle.wac_unions.proofs.Sharing.{still-shared}
 use Rattle.wac_unions.proofs.OneIds.{if-four, still-union-made}
 use Rattle.wac_unions.proofs.merged.write_imports.Goals as goal
 
@@ -53,6 +54,8 @@ returns-clause-once c =
             (still-written-all t c.write_unions.new.merged c.class_imports.new.merged c.class_imports.ensures.extended c.args.unions.now.unions.items c.args.unions.now.parts.items b.bindings.now b.fresh.now ids ws c.in_ok-written.ensures.written);
         imported = rw (sym c.requires.parts) imported;
       };
+      shared = rw c.as_slice-written.ensures.value
+          (still-shared t c.write_unions.new.merged c.class_imports.new.merged c.class_imports.ensures.extended c.args.unions.now.unions.items c.args.unions.now.parts.items ids ws c.in_ok-written.ensures.shared);
       unions = λ u x w at there.
           still-union-made t c.write_unions.new.merged c.class_imports.new.merged c.class_imports.ensures.extended b.named.now c.write_unions.new.renamed.made c.class_imports.new.renamed.made stay x w
           (c.in_ok-written.ensures.once u x w at (ap (λ l. slice_get l u) (sym c.as_slice-written.ensures.value) ∙ there));

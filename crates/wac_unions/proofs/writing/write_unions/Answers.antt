@@ -8,12 +8,14 @@ use Rattle.wac_shapes.specs.declared.component.InterfaceId.{InterfaceId}
 use Rattle.wac_terms.specs.Unions.{AreUnions}
 use Rattle.wac_terms.specs.Writing.{AreWritten}
 use Rattle.wac_renaming.proofs.OneIds.{stay_twice}
+use Rattle.wac_unions.specs.SharedUnions.{AreShared, AreSharedUnions, IsWrittenLast, first_in}
 use Rattle.wac_unions.specs.WritingSteps.{AreUnionsMadeOf, CanWrite, IsUnionMadeOf, IsWrittenUnion}
 use Rattle.wac_terms.specs.declared.parts.Part.{Part}
 use Rattle.wac_terms.specs.declared.parts.Union.{Union}
 use Rattle.wac_renaming.proofs.Extending.{extended_none, extended_twice, still_can_all, still_fresh}
 use Rattle.wac_entries.proofs.Lists.{some-at}
 use Rattle.wac_unions.proofs.OneIds.{unions-made, unions-made-more}
+use Rattle.wac_unions.proofs.Sharing.{none-shared, shared-more, shared-unions}
 use Rattle.wac_unions.proofs.WritingUnions.{AreAllWritten, are-written, at-empty, held-more, length-mapped, union-held, union-more}
 use Rattle.wac_unions.proofs.writing.write_unions.Goals as goal
 
@@ -28,7 +30,13 @@ loop-done-init c =
       once = λ j u w x at place there. absurd (at-empty c.new-written.result.items j w empty at);
       stay = λ f e is. is;
       written = λ j u w x id at place there named. absurd (at-empty c.new-written.result.items j w empty at);
+      shared = none-shared c.args.types.now c.args.merged.now c.args.unions.now.unions.items c.args.unions.now.parts.items (map (option_map string_bytes) c.args.ids.now) c.new-written.result.items (first_in c.new-shared.result) empty c.new-shared.ensures;
     }
+
+pub write_union-requires-clause-there : goal.write_union-requires-clause-there
+write_union-requires-clause-there c i v at =
+    let k = c.loop-done.invariant.shared.known i v at in
+    c.loop-done.invariant.held k.2.0 v k.2.1
 
 pub write_union-requires-clause-writing : goal.write_union-requires-clause-writing
 write_union-requires-clause-writing c =
@@ -59,6 +67,7 @@ returns-in_err-push-clause-extended c = extended_twice c.args.merged.now c.loop-
 pub loop-done-preserved : goal.loop-done-preserved
 loop-done-preserved c =
     let t = c.args.types.now in
+    let ps = c.args.unions.now.parts.items in
     let us = c.args.unions.now.unions.items in
     let b = c.args.became.now in
     let now = c.loop-done.merged in
@@ -92,6 +101,8 @@ loop-done-preserved c =
       once = subst (λ (l : List InterfaceId). (j v : ℕ) (a : InterfaceId) (y : Union) → slice_get l j ≡ Some a → j + v + 1 ≡ length us → slice_get us v ≡ Some y → IsUnionMadeOf t more b.named.now c.write_union.new.renamed.made y a) (sym items)
           (unions-made-more t now more c.write_union.ensures.extended b.named.now c.loop-done.renamed.made c.write_union.new.renamed.made c.in_ok-id.ensures.stay us written u w place v.once c.in_ok-id.ensures.once);
       stay = stay_twice c.args.renamed.now.made c.loop-done.renamed.made c.write_union.new.renamed.made v.stay c.in_ok-id.ensures.stay;
+      shared = subst (λ (l : List InterfaceId). AreShared t more us ps views (first_in c.write_union.new.shared) (IsWrittenLast (length us) l)) (sym items)
+          (shared-more t now more us ps views written u w x.0 name (first_in c.loop-done.shared) (first_in c.write_union.new.shared) c.write_union.ensures.extended place x.1 view v.held (c.in_ok-id.ensures.shared x.0 x.1) v.shared);
       written = subst (λ (l : List InterfaceId). AreAllWritten t more b us views l) (sym items) (union-more t now more b us views written u w name c.write_union.ensures.extended place view v.written is);
     }
 
@@ -107,6 +118,18 @@ returns-clause-written c =
     let all : length c.loop-done.written.items ≡ length us = omega (arith, done, c.len-count.ensures, c.args.unions.now.unions.ok.0, c.loop-done-test.false, c.loop-done.auto.done-end) in
     subst (λ (l : List InterfaceId). AreWritten t c.loop-done.merged us c.args.unions.now.parts.items b.bindings.now b.fresh.now views l) (sym c.reverse.ensures.items)
     (are-written t c.loop-done.merged b us c.args.unions.now.parts.items views c.loop-done.written.items c.requires.parts all (length-mapped (option_map string_bytes) ids ∙ c.requires.counted) v.written)
+
+pub returns-clause-shared : goal.returns-clause-shared
+returns-clause-shared c =
+    let t = c.args.types.now in
+    let us = c.args.unions.now.unions.items in
+    let ps = c.args.unions.now.parts.items in
+    let v = c.loop-done.invariant in
+    let views = map (option_map string_bytes) c.args.ids.now in
+    let done = v.counted in
+    let all : length c.loop-done.written.items ≡ length us = omega (arith, done, c.len-count.ensures, c.args.unions.now.unions.ok.0, c.loop-done-test.false, c.loop-done.auto.done-end) in
+    subst (λ (l : List InterfaceId). AreSharedUnions t c.loop-done.merged us ps views l) (sym c.reverse.ensures.items)
+    (shared-unions t c.loop-done.merged us ps views c.loop-done.written.items (first_in c.loop-done.shared) all v.shared)
 
 pub returns-clause-once : goal.returns-clause-once
 returns-clause-once c =

@@ -5,6 +5,7 @@ use Rattle.wac_shapes.specs.declared.component.InterfaceId.{InterfaceId}
 use Rattle.wac_renaming.specs.Made.{AreMade, StayMade}
 use Rattle.wac_terms.specs.Renaming.{IsExtended}
 use Rattle.wac_terms.specs.declared.parts.Union.{Union}
+use Rattle.wac_unions.specs.SharedUnions.{AreShared, IsWrittenLast, first_in}
 use Rattle.wac_unions.specs.WritingSteps.{IsUnionMadeOf}
 use Rattle.wac_unions.proofs.WritingUnions.{AreAllWritten}
 use Rattle.wac_unions.proofs.writing.write_unions.Given as goal
@@ -17,5 +18,6 @@ invariant-loop-done l = record {
   held : (j : ℕ) (w : InterfaceId) → slice_get l.written.items j ≡ Some w → HasInterface l.merged w;
   once : (j u : ℕ) (w : InterfaceId) (x : Union) → slice_get l.written.items j ≡ Some w → j + u + 1 ≡ length l.unions.unions.items → slice_get l.unions.unions.items u ≡ Some x → IsUnionMadeOf l.types l.merged l.became.named.now l.renamed.made x w;
   stay : StayMade l.initial.renamed.made l.renamed.made;
+  shared : AreShared l.types l.merged l.unions.unions.items l.unions.parts.items (map (option_map string_bytes) l.ids) (first_in l.shared) (IsWrittenLast (length l.unions.unions.items) l.written.items);
   written : AreAllWritten l.types l.merged l.became l.unions.unions.items (map (option_map string_bytes) l.ids) l.written.items;
 }

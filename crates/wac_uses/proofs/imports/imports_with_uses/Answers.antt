@@ -12,7 +12,7 @@ use Rattle.wac_entries.specs.Bindings.{AreHeld}
 use Rattle.wac_entries.specs.Classes.{by_names, members}
 use Rattle.wac_terms.specs.Merge.{import_entries}
 use Rattle.wac_uses.specs.KeptUses.{instances}
-use Rattle.wac_uses.specs.Using.{AreUsing, IsKindUsing, uses_among}
+use Rattle.wac_uses.specs.Using.{AreUsing, IsKindUsing, StaysBare, uses_among}
 use Rattle.wac_uses.proofs.Growing.{extended-twice, holds-kept}
 use Rattle.wac_uses.proofs.KeptUses.{members-held}
 use Rattle.wac_uses.proofs.ImportsUsing.{entries-push, entry-at, held-push, still-held, unnamed, users-at, using-held, using-next}
@@ -81,6 +81,7 @@ loop-i-preserved c =
     let f = uses_among by_names t es new (import_entries is) in
     let of = instances (members by_names es n) in
     let kind : IsKindUsing t new f of k l = subst (λ (us : List InterfaceId). IsKindUsing t new f us k l) those c.in_ok-kind.ensures.kind in
+    let stays : StaysBare t new of k l = subst (λ (us : List InterfaceId). StaysBare t new us k l) those c.in_ok-kind.ensures.stay in
     let kept = c.with_uses.ensures.extended.kept in
     let before = holds-kept c.args.merged.now now c.law-2.ensures c.loop-i.invariant.extended.kept (kind_type k) (c.requires.held c.loop-i.i _ (entry-at c.args.bare.now c.loop-i.i n k c.entry_at.ensures)) in
     let here : holds_type new (kind_type l) ≡ true = using-held t new f of k l (holds-kept now new c.law-in-loop-i.ensures kept (kind_type k) before) kind in
@@ -89,7 +90,7 @@ loop-i-preserved c =
       held = subst (λ (xs : List (Name × ItemKind)). AreHeld new (import_entries xs)) (sym c.in-Ok.ensures.inserted)
           (subst (λ (xs : List _). AreHeld new xs) (sym (entries-push is n l)) (held-push new (import_entries is) _ (still-held t now new c.law-in-loop-i.ensures c.law-in-loop-i-2.ensures kept (import_entries is) c.loop-i.invariant.held) here));
       using = rw add-one (subst (λ (xs : List (Name × ItemKind)). AreUsing by_names t es new (import_entries (take (suc c.loop-i.i) c.args.bare.now)) (import_entries xs)) (sym c.in-Ok.ensures.inserted)
-          (using-next by_names t es now new c.law-in-loop-i.ensures c.law-in-loop-i-2.ensures kept c.args.bare.now is c.loop-i.i n k l c.entry_at.ensures c.loop-i.invariant.held kind c.loop-i.invariant.using));
+          (using-next by_names t es now new c.law-in-loop-i.ensures c.law-in-loop-i-2.ensures kept c.args.bare.now is c.loop-i.i n k l c.entry_at.ensures c.loop-i.invariant.held kind stays c.loop-i.invariant.using));
     }
 
 pub returns-clause-using : goal.returns-clause-using

@@ -10,6 +10,7 @@ use Rattle.wac_renaming.specs.RenamingSteps.{AreReady, IsRenamedIn, IsRenamedVal
 use Rattle.wac_renaming.specs.declared.renamer.Renamed.{Renamed}
 use Rattle.wac_entries.proofs.TaskLemmas.{defined_values_hold}
 use Rattle.wac_renaming.proofs.OneIds.{shape_pairs, still_of}
+use Rattle.wac_renaming.proofs.Outlines.{outlined}
 use Rattle.wac_renaming.proofs.RenamingMemo.{defined_closed, defined_put, more_put, still_with}
 use Rattle.wac_renaming.proofs.RenamingShapes.{shape_more}
 use Rattle.wac_renaming.proofs.RenamingTrees.{alias_renamed, shape_held}
@@ -39,6 +40,7 @@ returns-clause-right c =
     let once : IsMadeOf s.types.now t c.make.new.self (val.Defined c.args.id) (val.Defined c.in_ok-became.became) =
     anew (val.Defined c.args.id) (val.Defined c.in_ok-became.became) c.args.id c.in_ok-became.became x y refl refl c.index-definition.ensures (sym c.alias_end.ensures.named ∙ c.in_default.is)
     (subst (λ n. IsMadeFor c.make.new.self n y c.in_ok-became.became) c.of-named.ensures c.in_ok-became.ensures.named)
+    (outlined (IsRenamedIn s old c.args.self.now.made) x y c.in_ok-definition.ensures)
     (λ i a b p q. still_of s.types.now t c.args.self.now.made c.make.new.self stay a b (shape_pairs (IsRenamedIn s old c.args.self.now.made) x y c.in_ok-definition.ensures i a b p q).1) in
     defined_put s new mid c.put_defined-2.new.self c.args.id c.in_ok-became.became c.put_defined-2.result c.put_defined-2.ensures made (
       defined_closed s old new (record { named = c.trees_are_whole.ensures.named; placed = c.trees_are_whole.ensures.placed }) (record { named = c.trees_are_whole-2.ensures.named; placed = c.trees_are_whole-2.ensures.placed }) c.args.self.now.made

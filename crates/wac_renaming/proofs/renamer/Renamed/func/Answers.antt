@@ -111,7 +111,7 @@ returns-clause-right c =
     let y : FuncType = record { params = c.in_ok-fields.field-0; result = c.optional.result; is_async = x.is_async } in
     func_right s more mid c.put_func.new.self c.args.id c.in_ok-became.became c.in_ok-put_func.ensures
     (still_with s m more c.make_func.ensures.extended memo made c.in_ok-became.ensures.stay c.in_ok-became.ensures.made c.in_ok-finish.ensures.right) (returns-clause-func c)
-    (func_once s m more memo.made made c.in_ok-became.ensures.stay c.args.id c.in_ok-became.became x y c.index-func.ensures c.in_ok-became.ensures.added.there c.in_ok-became.ensures.once c.in_ok-fields.ensures c.optional.ensures)
+    (func_once s m more memo.made made c.in_ok-became.ensures.stay c.args.id c.in_ok-became.became x y c.index-func.ensures c.in_ok-became.ensures.added.there c.in_ok-became.ensures.once c.in_ok-fields.ensures c.optional.ensures refl)
 
 pub returns-clause-once : goal.returns-clause-once
 returns-clause-once c =
@@ -121,7 +121,7 @@ returns-clause-once c =
     let y : FuncType = record { params = c.in_ok-fields.field-0; result = c.optional.result; is_async = x.is_async } in
     subst (λ (made : Made). IsFuncMadeOf s.types.now more s.became.now.named.now made c.args.id c.in_ok-became.became) (sym c.in_ok-put_func.ensures.made)
     (func_once s c.finish.new.merged more c.finish.new.self.made c.make_func.new.self c.in_ok-became.ensures.stay c.args.id c.in_ok-became.became x y c.index-func.ensures c.in_ok-became.ensures.added.there c.in_ok-became.ensures.once c.in_ok-fields.ensures
-    c.optional.ensures)
+    c.optional.ensures refl)
 
 pub returns-clause-stay : goal.returns-clause-stay
 returns-clause-stay c =

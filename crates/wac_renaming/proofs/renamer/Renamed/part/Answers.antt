@@ -13,7 +13,7 @@ returns-in-Primitive c =
     let s = c.args.renaming.now in
     let m = c.args.merged.now in
     let made = c.args.self.now.made in
-    subst (λ (v : ValueType). IsRenamedIn s m made v v) (sym c.in-Primitive.is) (primitive_renamed s.types.now m (becomes s) c.in-Primitive.field-0, plain (val.Primitive c.in-Primitive.field-0) (val.Primitive c.in-Primitive.field-0) refl)
+    subst (λ (v : ValueType). IsRenamedIn s m made v v) (sym c.in-Primitive.is) (primitive_renamed s.types.now m (becomes s) c.in-Primitive.field-0, plain (val.Primitive c.in-Primitive.field-0) (val.Primitive c.in-Primitive.field-0) refl (λ p is. refl))
 
 pub returns-in-Own : goal.returns-in-Own
 returns-in-Own c =
@@ -23,7 +23,7 @@ returns-in-Own c =
     let q = c.resource.result in
     let held = subst (λ (v : ValueType). holds_value s.types.now v ≡ true) c.in-Own.is c.requires.held in
     subst (λ (v : ValueType). IsRenamedIn s m made v (val.Own q)) (sym c.in-Own.is)
-    (own_renamed s.types.now m (becomes s) c.requires.known.ends c.in-Own.id q (tested_low _ _ held) c.resource.ensures, plain (val.Own c.in-Own.id) (val.Own q) refl)
+    (own_renamed s.types.now m (becomes s) c.requires.known.ends c.in-Own.id q (tested_low _ _ held) c.resource.ensures, plain (val.Own c.in-Own.id) (val.Own q) refl (λ p is. cc is))
 
 pub returns-in-Borrow : goal.returns-in-Borrow
 returns-in-Borrow c =
@@ -33,7 +33,7 @@ returns-in-Borrow c =
     let q = c.resource-in-Borrow.result in
     let held = subst (λ (v : ValueType). holds_value s.types.now v ≡ true) c.in-Borrow.is c.requires.held in
     subst (λ (v : ValueType). IsRenamedIn s m made v (val.Borrow q)) (sym c.in-Borrow.is)
-    (borrow_renamed s.types.now m (becomes s) c.requires.known.ends c.in-Borrow.id q (tested_low _ _ held) c.resource-in-Borrow.ensures, plain (val.Borrow c.in-Borrow.id) (val.Borrow q) refl)
+    (borrow_renamed s.types.now m (becomes s) c.requires.known.ends c.in-Borrow.id q (tested_low _ _ held) c.resource-in-Borrow.ensures, plain (val.Borrow c.in-Borrow.id) (val.Borrow q) refl (λ p is. cc is))
 
 pub returns-in-Defined : goal.returns-in-Defined
 returns-in-Defined c =

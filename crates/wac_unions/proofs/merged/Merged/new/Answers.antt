@@ -11,8 +11,10 @@ use Rattle.wac_unions.proofs.AssembledHeld.{imports-held}
 use Rattle.wac_unions.proofs.BareImports.{first-assembled, imports-asked, imports-bare, still-assembled, still-once, using-binds}
 use Rattle.wac_unions.proofs.AssembledMerge.{agreed-pairs, can-rename-all, merge-is}
 use Rattle.wac_shapes.specs.Kinds.{kind_type}
-use Rattle.wac_renaming.proofs.Extending.{still_holds}
+use Rattle.wac_renaming.proofs.Extending.{extended_twice, still_holds}
+use Rattle.wac_unions.proofs.MadeAlike.{one-func}
 use Rattle.wac_unions.proofs.OneIds.{apart-named, one-id}
+use Rattle.wac_unions.proofs.OneInterface.{one-interface}
 use Rattle.wac_uses.proofs.AlikeMerges.{using-held-all, using-keeps, using-merge}
 use Rattle.wac_unions.proofs.merged.Merged.new.Goals as goal
 
@@ -119,6 +121,8 @@ returns c =
     let positions = c.args.classes.now.positions.items in
     let o = still-once t m more grown c.law-3.ensures well es us ps bs f c.args.order.now bare named positions c.in_ok-bare.ensures.once in
     let using = c.in_ok-merge.ensures.using in
+    let assembled = first-assembled t started more es us ps bs f c.args.order.now bare u o.written c.law.ensures c.law-2.ensures well c.uses_law.ensures begins (extended_twice started m more c.write_imports.ensures.extended grown)
+    c.in_ok-unions.ensures.listed c.requires.bindings fresh c.requires.held (agreed-pairs t es c.requires.agreed) c.requires.written c.requires.each c.requires.once in
     let whole : AreDeep t c.merge.inside.types = record {
       placed = c.trees_are_whole.ensures.placed;
       merged_placed = c.trees_are_whole-2.ensures.placed;
@@ -153,6 +157,8 @@ returns c =
         named = c.in_ok-named.ensures.named;
         one = one-id t more es us ps bs f named positions c.args.order.now bare o;
         apart = apart-named t more es us ps bs f named positions c.args.order.now bare o;
+        one_func = one-func t more es us ps bs f named positions c.args.order.now bare o;
+        one_interface = one-interface t more es u.roots us ps bs f named positions c.args.order.now bare o assembled imports using;
       };
       uses = using-keeps t es more bare imports using;
       begins = all.extended;

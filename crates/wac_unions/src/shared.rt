@@ -1,0 +1,95 @@
+//! Interfaces of a merged collection that unions share. Unions that are one interface alone, under its own id, become one
+//! interface where they list the same.
+ghost use Rattle.std.specs.Prelude.{◌≡◌, [], None, Some, cond, nat_eq, true, IfOk, OnOk};
+ghost use Rattle.std.specs.List.{list_all};
+ghost use Rattle.wac_collection.specs.Collection.{HasInterface, holds_all, item_at, kind_types};
+ghost use Rattle.wac_collection.specs.Uses.{is_named_right};
+ghost use Rattle.wac_shapes.specs.declared.component.InterfaceId.{InterfaceId as AnId};
+ghost use Rattle.wac_terms.specs.Renaming.{IsExtended};
+ghost use Rattle.wac_unions.specs.SharedUnions.{Shares, first_in};
+
+use std::alloc::{AllocError, Global};
+use std::collections::HashMap;
+use wac_collection::{AddTypeError, Interface, InterfaceId, Types};
+use wac_subtyping::laws::growth_keeps_trees;
+
+/// By an interface that unions are alone, what the first of them that was written became.
+#[derive(Drop)]
+pub struct Shared {
+    first: HashMap<InterfaceId, InterfaceId>,
+}
+
+/// Adds an interface that uses no other.
+fn add_interface(merged: &mut Types, interface: Interface) -> Result<InterfaceId, AllocError>
+    requires unused { interface.uses ≡ [] }
+    requires held { holds_all merged.old (kind_types interface.exports) ≡ true }
+    requires named { list_all (is_named_right merged.old []) interface.exports ≡ true }
+    ensures extended { IsExtended merged.old merged.new }
+    ensures added { IfOk result (λ w. item_at merged.new.interfaces w.0 ≡ Some interface) }
+    ensures fresh { IfOk result (λ w. HasInterface merged.old w → ⊥) }
+{
+    growth_keeps_trees(merged);
+    match merged.add_interface(interface) {
+        Ok(id) => Ok(id),
+        Err(AddTypeError::OutOfMemory) => Err(AllocError),
+        Err(_) => unreachable!(),
+    }
+}
+
+impl Shared {
+    /// No union was written yet.
+    pub fn new(alloc: Global) -> Shared
+        ensures { (i : AnId) → first_in result i ≡ None }
+    {
+        Shared {
+            first: HashMap::new(alloc),
+        }
+    }
+
+    /// What the first union that is an interface alone became.
+    fn first(&self, id: InterfaceId) -> Option<InterfaceId>
+        ensures { result ≡ first_in self.now id }
+    {
+        self.first.get(&id).copied()
+    }
+
+    /// The first union that is an interface alone became another.
+    fn put(&mut self, id: InterfaceId, became: InterfaceId) -> Result<(), AllocError>
+        ensures { OnOk result ((i : AnId) → first_in self.new i ≡ cond (nat_eq id.0 i.0) (Some became) (first_in self.old i)) }
+    {
+        match self.first.insert(id, became) {
+            Ok(_) => Ok(()),
+            Err(_) => Err(AllocError),
+        }
+    }
+
+    /// What a union becomes that lists this, and may be an interface alone: what the first such union became, where that lists
+    /// the same, or else an interface behind what is there.
+    pub fn write(
+        &mut self,
+        merged: &mut Types,
+        alone: Option<InterfaceId>,
+        interface: Interface,
+    ) -> Result<InterfaceId, AllocError>
+        requires unused { interface.uses ≡ [] }
+        requires held { holds_all merged.old (kind_types interface.exports) ≡ true }
+        requires named { list_all (is_named_right merged.old []) interface.exports ≡ true }
+        requires there { (i v : AnId) → first_in self.old i ≡ Some v → HasInterface merged.old v }
+        ensures extended { IsExtended merged.old merged.new }
+        ensures added { IfOk result (λ w. item_at merged.new.interfaces w.0 ≡ Some interface) }
+        ensures shared { IfOk result (Shares (λ i. alone ≡ Some i) merged.old merged.new (first_in self.old) (first_in self.new)) }
+    {
+        let Some(source) = alone else {
+            return add_interface(merged, interface);
+        };
+        let Some(first) = self.first(source) else {
+            let id = add_interface(merged, interface)?;
+            self.put(source, id)?;
+            return Ok(id);
+        };
+        if merged[first] == interface {
+            return Ok(first);
+        }
+        add_interface(merged, interface)
+    }
+}
