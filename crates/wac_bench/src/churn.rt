@@ -4,6 +4,7 @@ use crate::graphs::{
     alias, empty, encode_all, export, instantiate, one, pass, plain, refused, register,
 };
 use crate::growth::{self, Costs, ROUNDS, Size};
+use crate::step::Step;
 use anyhow::Result;
 use std::alloc::Global;
 use std::time::{Duration, Instant};
@@ -239,4 +240,32 @@ pub fn measure(rt: &HostRuntime) -> Result<()> {
     measure_sizes(rt, "alone", &mut sizes)?;
     let mut sizes = growth::in_equal_memory(rt.alloc(), &counts)?;
     measure_sizes(rt, "in equal memory", &mut sizes)
+}
+
+/// Removes every other triple and makes it again some times.
+fn turned(
+    graph: &mut CompositionGraph,
+    parts: Parts,
+    names: &[String],
+    triples: &mut [Triple],
+) -> Option<()> {
+    for _ in 0..TURNS {
+        turn(graph, parts, names, triples)?;
+    }
+    Some(())
+}
+
+/// Takes one graph of so many triples up to a step, and answers how many bytes it is encoded to.
+pub fn take(alloc: Global, count: u64, step: Step) -> Result<usize> {
+    let names = names(alloc, count)?;
+    let mut graph = CompositionGraph::new(alloc);
+    let parts = register_parts(alloc, &mut graph)?;
+    if !step.makes() {
+        return Ok(0);
+    }
+    let mut triples = triples(alloc, &mut graph, parts, &names)?;
+    if step.turns() {
+        refused(turned(&mut graph, parts, &names, &mut triples))?;
+    }
+    step.encodes(&graph)
 }

@@ -6,6 +6,7 @@ ghost use Rattle.std.specs.Prelude.{◌≡◌, IfOk, IsSome};
 ghost use Rattle.wac_nodes.specs.Graph.{package_at};
 
 use crate::growth::{self, Costs, ROUNDS, Size};
+use crate::step::Step;
 use anyhow::{Result, bail};
 use std::alloc::{AllocError, Global};
 use std::time::{Duration, Instant};
@@ -480,4 +481,15 @@ pub fn measure(rt: &HostRuntime, sort: Sort) -> Result<()> {
     measure_sizes(rt, sort, "alone", &mut sizes)?;
     let mut sizes = growth::in_equal_memory(rt.alloc(), counts(sort))?;
     measure_sizes(rt, sort, "in equal memory", &mut sizes)
+}
+
+/// Takes one graph of a sort and of so many parts up to a step, and answers how many bytes it is encoded to.
+pub fn take(alloc: Global, sort: Sort, count: u64, step: Step) -> Result<usize> {
+    let names = names(alloc, sort, count)?;
+    let mut graph = CompositionGraph::new(alloc);
+    prepare(alloc, &mut graph, sort, &names)?;
+    if step.makes() {
+        make(alloc, &mut graph, sort, count, &names)?;
+    }
+    step.encodes(&graph)
 }

@@ -16,7 +16,7 @@ use Rattle.wac_scopes.specs.declared.scope.Scope.{Scope}
 use Rattle.wac_scopes.specs.declared.fault.EncodeFault.{EncodeFault}
 use Rattle.wac_scopes.specs.declared.fault.EncodeFault.TheVariants as fault
 use Rattle.wac_scopes.specs.Scoped.{listed_at, IsAsBefore}
-use Rattle.wac_scopes.specs.Laws.{StaysOnward}
+use Rattle.wac_stacks.specs.Laws.{StaysOnward}
 use Rattle.wac_encode.specs.declared.task.Task.{Task}
 use Rattle.wac_listing.specs.Made.{MadeOf, itself, part}
 use Rattle.wac_encode.specs.Written.{IsHandle, PartOf, IsLargeFrom, LargeOne, IsRefused}

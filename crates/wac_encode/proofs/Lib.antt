@@ -5,13 +5,8 @@ pub mod Below
 pub mod Stepping
 pub mod Answering
 pub mod Rows
-pub mod Imported
 pub mod Ordered
 pub mod Listed
 pub mod Naming
-pub mod Aliasing
-pub mod Importing
 pub mod Plain
 pub mod Together
-pub mod Defining
-pub mod ComponentTypes

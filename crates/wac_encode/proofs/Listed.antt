@@ -29,16 +29,16 @@ use Rattle.wac_scopes.specs.declared.encodable.Encodable.{Encodable}
 use Rattle.wac_scopes.specs.declared.encodable.Encodable.TheVariants.{Builder, Instance, Component}
 use Rattle.wac_scopes.specs.declared.scope.Scope.{Scope}
 use Rattle.wac_scopes.specs.Contents.{content_of, IsOpenType, and_type, and_export}
-use Rattle.wac_scopes.specs.Scopes.{Open, Stack, env, envs, opening}
-use Rattle.wac_scopes.specs.Good.{Keeps, IsHeld, Good, Onward, top}
-use Rattle.wac_scopes.specs.Laws.{IsItsEnd, IsRecorded}
-use Rattle.wac_scopes.specs.Listed.{IsUnder, IsNewName, Lists, AreListed, has_own, declaring, ListsOneMore, ListsInAnyOrder, OpensInterface, ClosesInstance, HoldsInterface}
+use Rattle.wac_stacks.specs.Scopes.{Open, Stack, env, envs, opening}
+use Rattle.wac_stacks.specs.Good.{Keeps, IsHeld, Good, Onward, top}
+use Rattle.wac_stacks.specs.Laws.{IsItsEnd, IsRecorded}
+use Rattle.wac_stacks.specs.Listed.{IsUnder, IsNewName, Lists, AreListed, has_own, declaring, ListsOneMore, ListsInAnyOrder, OpensInterface, ClosesInstance, HoldsInterface}
 use Rattle.wac_scopes.specs.Scoped.{value_index, recorded_type, opened, AddsPrimitive, ListsType, ListsValue, ListsFunction, place}
-use Rattle.wac_scopes.proofs.Values.{primitive-held}
+use Rattle.wac_stacks.proofs.Values.{primitive-held}
 use Rattle.wac_encode.specs.Written.{GoesOn, with_types, AddsHeldFunc, NewType, defined, aliased, as_decl}
 use Rattle.wac_encode.specs.Listing.{SaysInterface, WritesItem, WritesItems, IsEmpty, IsItemRefused, IsStopped}
 use Rattle.wac_encode.specs.Items.{ListsHeld, CanClose, HasListed}
-use Rattle.wac_scopes.proofs.Moved.{ap2}
+use Rattle.wac_stacks.proofs.Moved.{ap2}
 use Rattle.wac_scopes.proofs.ScopedLaws.{recorded-at}
 
 keeps-both : (a b d : Env) → Keeps a b → Keeps b d → Keeps a d

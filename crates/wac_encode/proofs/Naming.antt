@@ -22,7 +22,7 @@ use Rattle.wac_scopes.specs.declared.fault.EncodeFault.TheVariants as fault
 use Rattle.wac_scopes.specs.declared.fault.WriteFault.TheVariants as write
 use Rattle.wac_scopes.specs.declared.scope.Scope.{Scope}
 use Rattle.wac_scopes.specs.Contents.{and_type, and_export, ContentFits}
-use Rattle.wac_scopes.specs.Laws.{StaysOnward}
+use Rattle.wac_stacks.specs.Laws.{StaysOnward}
 use Rattle.wac_scopes.specs.Scoped.{type_index, value_index, by_index, in_use, HasToo, AddsPrimitive, ListsValue, WritesUnlessTooLarge, FitsUnlessTooLarge, listing}
 use Rattle.wac_listing.specs.Made.{itself}
 use Rattle.wac_encode.specs.Written.{PartOf, WritesFor, HasHandle, IsHandle, IsByRecord, IsRefused, IsOfFunc, AddsHeldFunc, IsFuncAt, IsFuncRefused}

@@ -25,14 +25,14 @@ use Rattle.wac_binary.specs.declared.sorts.Sort.TheVariants as sort
 use Rattle.wac_binary.specs.Indexes.{space}
 use Rattle.wac_scopes.specs.declared.encodable.Encodable.{Encodable}
 use Rattle.wac_scopes.specs.Contents.{and_type, count, ContentFits}
-use Rattle.wac_scopes.specs.Scopes.{Open, Stack, env, envs}
-use Rattle.wac_scopes.specs.Good.{Good}
-use Rattle.wac_scopes.specs.Parts.{Is, IsWrittenFunc}
+use Rattle.wac_stacks.specs.Scopes.{Open, Stack, env, envs}
+use Rattle.wac_stacks.specs.Good.{Good}
+use Rattle.wac_stacks.specs.Parts.{Is, IsWrittenFunc}
 use Rattle.wac_scopes.specs.declared.scope.Scope.{Scope}
 use Rattle.wac_scopes.specs.declared.fault.EncodeFault.{EncodeFault}
 use Rattle.wac_scopes.specs.declared.fault.EncodeFault.TheVariants as fault
 use Rattle.wac_scopes.specs.Scoped.{type_index, listing, value_index, by_index, in_use, opened, HasToo, IsAsBefore, IsAt, AddsFunc, FitsUnlessTooLarge}
-use Rattle.wac_scopes.specs.Laws.{Follows, StaysOnward}
+use Rattle.wac_stacks.specs.Laws.{Follows, StaysOnward}
 use Rattle.wac_listing.specs.Made.{MadeOf, OneIsMadeOf}
 use Rattle.wac_encode.specs.Written.{Says, MaybeSays, IsByRecord, MaybeByRecord, GoesOn, IsKnown, defined, unwritten, OfValue, PartOf, PartOfOne, WritesFor, IsRefused, values_of, IsOfFunc, AddsHeldFunc, IsFuncByRecord, IsFuncFrom, IsFuncAt, FuncDoesNotFit, IsFuncRefused}
 use Rattle.wac_encode.specs.Tasks.{FieldSays}

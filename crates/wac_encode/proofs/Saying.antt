@@ -19,11 +19,11 @@ use Rattle.wac_binary.specs.declared.types.ComponentValType.{ComponentValType}
 use Rattle.wac_binary.specs.Items.{list_def, fixed_list_def, tuple_def, option_def, result_def, stream_def, future_def, record_def, variant_def, flags_def, enum_def}
 use Rattle.wac_binary.specs.Views.{named, texts_of}
 use Rattle.wac_scopes.specs.declared.scope.Scope.{Scope}
-use Rattle.wac_scopes.specs.Scopes.{Open, Stack, env, envs}
-use Rattle.wac_scopes.specs.Good.{Good, IsHeld}
-use Rattle.wac_scopes.specs.Parts.{Is, MaybeIs}
+use Rattle.wac_stacks.specs.Scopes.{Open, Stack, env, envs}
+use Rattle.wac_stacks.specs.Good.{Good, IsHeld}
+use Rattle.wac_stacks.specs.Parts.{Is, MaybeIs}
 use Rattle.wac_scopes.specs.Scoped.{IfThere, IsThere, opened}
-use Rattle.wac_scopes.specs.Laws.{IsItsEnd}
+use Rattle.wac_stacks.specs.Laws.{IsItsEnd}
 use Rattle.wac_encode.specs.Written.{Says, MaybeSays, SaysDefinition}
 use Rattle.wac_encode.specs.Tasks.{FieldSays, CaseSays, IsText}
 

@@ -23,11 +23,11 @@ use Rattle.wac_scopes.specs.declared.fault.EncodeFault.{EncodeFault}
 use Rattle.wac_scopes.specs.declared.fault.EncodeFault.TheVariants as fault
 use Rattle.wac_scopes.specs.declared.scope.Scope.{Scope}
 use Rattle.wac_scopes.specs.Contents.{content_of, and_type, and_alias_of, count, ContentFits}
-use Rattle.wac_scopes.specs.Scopes.{Open, env, envs}
-use Rattle.wac_scopes.specs.Good.{Good, Onward}
-use Rattle.wac_scopes.specs.Parts.{IsWritten}
+use Rattle.wac_stacks.specs.Scopes.{Open, env, envs}
+use Rattle.wac_stacks.specs.Good.{Good, Onward}
+use Rattle.wac_stacks.specs.Parts.{IsWritten}
 use Rattle.wac_scopes.specs.Scoped.{type_index, value_index, listed_at, listing, opened, IsAsBefore, HasToo, AddsValue, AliasesValue, AliasFits, WritesUnlessTooLarge, FitsUnlessTooLarge, RecordsUnlessTooLarge}
-use Rattle.wac_scopes.specs.Laws.{Follows, StaysOnward}
+use Rattle.wac_stacks.specs.Laws.{Follows, StaysOnward}
 use Rattle.wac_encode.specs.Written.{OfValue, SaysDefinition, GoesOn, NewType, defined, aliased, as_item, as_decl, with_types, IsWrittenAs, IsWrittenAt, IsListedThere, WritesFor, unwritten, IsLargeFrom}
 use Rattle.wac_encode.specs.Tasks.{and_new, WritesOne, IsOneRefused}
 use Rattle.wac_scopes.proofs.ScopedLaws.{recorded-same}

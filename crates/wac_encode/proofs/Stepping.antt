@@ -12,7 +12,7 @@ use Rattle.wac_collection.specs.Collection.{Collection, IsWellFormed, item_at}
 use Rattle.wac_collection.specs.Aliases.{value_resolved}
 use Rattle.wac_scopes.specs.declared.scope.Scope.{Scope}
 use Rattle.wac_scopes.specs.Scoped.{type_index, value_index, by_index, in_use}
-use Rattle.wac_scopes.specs.Laws.{Follows}
+use Rattle.wac_stacks.specs.Laws.{Follows}
 use Rattle.wac_encode.specs.declared.task.Task.{Task}
 use Rattle.wac_listing.specs.Made.{MadeOf, parts, part}
 use Rattle.wac_encode.specs.Written.{IsKnown, PartOf, unwritten}

@@ -12,9 +12,9 @@ use Rattle.wac_binary.specs.Items.{decls}
 use Rattle.wac_scopes.specs.declared.encodable.Encodable.{Encodable}
 use Rattle.wac_scopes.specs.declared.encodable.Encodable.TheVariants.{Builder, Instance, Component}
 use Rattle.wac_scopes.specs.declared.scope.Scope.{Scope}
-use Rattle.wac_scopes.specs.Scopes.{Open, Stack, env, envs, opening}
-use Rattle.wac_scopes.specs.Good.{Good, top}
-use Rattle.wac_scopes.specs.Listed.{IsItem, IsNewName, Lists, AreListed, has_own}
+use Rattle.wac_stacks.specs.Scopes.{Open, Stack, env, envs, opening}
+use Rattle.wac_stacks.specs.Good.{Good, top}
+use Rattle.wac_stacks.specs.Listed.{IsItem, IsNewName, Lists, AreListed, has_own}
 use Rattle.wac_scopes.specs.Scoped.{opened}
 use Rattle.wac_encode.specs.Listing.{is_plain}
 

@@ -26,9 +26,9 @@ use Rattle.wac_scopes.specs.declared.fault.EncodeFault.TheVariants as fault
 use Rattle.wac_scopes.specs.declared.fault.WriteFault.{WriteFault}
 use Rattle.wac_scopes.specs.declared.fault.WriteFault.TheVariants as write
 use Rattle.wac_scopes.specs.Contents.{and_type, and_export, ContentFits}
-use Rattle.wac_scopes.specs.Scopes.{Open, Stack, next_type, with_def}
-use Rattle.wac_scopes.specs.Good.{IsHeld, Good}
-use Rattle.wac_scopes.specs.Laws.{Adds}
+use Rattle.wac_stacks.specs.Scopes.{Open, Stack, next_type, with_def}
+use Rattle.wac_stacks.specs.Good.{IsHeld, Good}
+use Rattle.wac_stacks.specs.Laws.{Adds}
 use Rattle.wac_scopes.specs.Scoped.{type_index, value_index, listing, HasToo, AddsPrimitive, ListsValue}
 use Rattle.wac_listing.specs.Order.{is_type, AreOrdered}
 use Rattle.wac_encode.specs.Written.{PartOf, WritesFor, HasHandle, DoesNotFit, IsOfFunc, AddsHeldFunc, IsFuncAt, FuncDoesNotFit}

@@ -10,12 +10,11 @@ use Rattle.wac_shapes.specs.declared.component.ValueType.{ValueType}
 use Rattle.wac_shapes.specs.declared.component.ValueType.TheVariants as val
 use Rattle.wac_shapes.specs.declared.component.«Type».{«Type» as AnyType}
 use Rattle.wac_shapes.specs.declared.component.«Type».TheVariants as ty
-use Rattle.wac_collection.specs.Tree.{Tree, function_item}
+use Rattle.wac_collection.specs.Tree.{Tree}
 use Rattle.wac_collection.specs.Collection.{Collection, item_at, func_values}
 use Rattle.wac_collection.specs.Aliases.{value_resolved}
 use Rattle.wac_collection.specs.Bound.{Bindings}
 use Rattle.wac_binary.specs.declared.types.ComponentValType.{ComponentValType}
-use Rattle.wac_binary.specs.declared.sorts.Description.TheVariants as e
 use Rattle.wac_binary.specs.declared.sorts.Sort.TheVariants as sort
 use Rattle.wac_binary.specs.HasMeaning.{IsFunction}
 use Rattle.wac_binary.specs.Indexes.{space}
@@ -26,12 +25,12 @@ use Rattle.wac_scopes.specs.declared.scope.Scope.{Scope}
 use Rattle.wac_scopes.specs.declared.fault.EncodeFault.{EncodeFault}
 use Rattle.wac_scopes.specs.declared.fault.EncodeFault.TheVariants as fault
 use Rattle.wac_scopes.specs.declared.fault.WriteFault.TheVariants as write
-use Rattle.wac_scopes.specs.Contents.{and_type, and_alias_of, and_import, count, ContentFits}
-use Rattle.wac_scopes.specs.Scopes.{Open, Stack, env, envs}
-use Rattle.wac_scopes.specs.Good.{IsHeld, Good, Onward}
-use Rattle.wac_scopes.specs.Laws.{Adds}
-use Rattle.wac_scopes.specs.Parts.{Is, IsWritten, IsWrittenFunc}
-use Rattle.wac_scopes.specs.Scoped.{type_index, value_index, listed_at, listing, in_use, opened, IsNewInRoot, RootImports}
+use Rattle.wac_scopes.specs.Contents.{and_type, and_alias_of, count, ContentFits}
+use Rattle.wac_stacks.specs.Scopes.{Open, Stack, env, envs}
+use Rattle.wac_stacks.specs.Good.{IsHeld, Good, Onward}
+use Rattle.wac_stacks.specs.Laws.{Adds}
+use Rattle.wac_stacks.specs.Parts.{Is, IsWritten, IsWrittenFunc}
+use Rattle.wac_scopes.specs.Scoped.{type_index, value_index, listed_at, listing, in_use, opened}
 use Rattle.wac_listing.specs.Made.{MadeOf, OneIsMadeOf}
 
 -- the value type in use is the held one, in each good stack in which the scope is the innermost
@@ -231,21 +230,3 @@ pub record FuncDoesNotFit (c : Collection) (f : FuncTypeId) (s : Scope) : Type 0
 abbrev pub IsFuncRefused : {A : Type 0} → Collection → FuncTypeId → Scope → Result A EncodeFault → Type 0
 IsFuncRefused c f s (Err fault.TooLarge) = DoesNotFit c (IsOfFunc c f) s ⊎ FuncDoesNotFit c f s
 IsFuncRefused c f s r = IsRefused c (IsOfFunc c f) s r
-
--- a function of the held function type is imported under a name that is new, in each stack that was good with the root as the innermost; index k is that import
-abbrev pub ImportsHeldFunc : Collection → Scope → Scope → Name → FuncTypeId → ℕ → Type 0
-ImportsHeldFunc c old new n f k = (m : Bindings) (ms : List Bindings) (o : Open) (os : Stack) → Good c (m ∷ ms) (opened old o ∷ os) → IsNewInRoot old n
-    → (t : Tree) × IsHeld c m (ty.Func f) t × RootImports c (m ∷ ms) old new o os sort.Func k n (function_item t)
-
--- the import is written behind the function type
-pub record EndsWithImport (c : Collection) (f : FuncTypeId) (n : Name) (old new : Scope) : Type 0 where
-  pub now : Scope
-  pub written : WritesFor c 0 (IsOfFunc c f) old now
-  pub index : ℕ
-  pub recorded : IsFuncAt c f old now index
-  pub imported : new ≡ record now { content = and_import now.content n (e.Func index) }
-
--- what stands where an import of a function is refused: what stands where its type is, or the import does not fit
-abbrev pub IsImportRefused : {A : Type 0} → Collection → FuncTypeId → Name → Scope → Result A EncodeFault → Type 0
-IsImportRefused c f n s (Err fault.TooLarge) = IsFuncRefused {A = ℕ} c f s (Err fault.TooLarge) ⊎ ((i : ℕ) × (ContentFits (and_import s.content n (e.Func i)) → ⊥))
-IsImportRefused c f n s r = IsFuncRefused c f s r

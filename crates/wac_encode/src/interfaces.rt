@@ -197,7 +197,7 @@ impl<'a> TypeEncoder<'a> {
     }
 
     /// Whether all items of an interface are of sorts that are written.
-    pub(crate) fn lists_plain(&self, interface: InterfaceId) -> bool
+    pub fn lists_plain(&self, interface: InterfaceId) -> bool
         requires { HasInterface self.now.types.now interface }
         ensures { result ≡ lists_plain self.now.types.now interface }
     {

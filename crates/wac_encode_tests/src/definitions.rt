@@ -3,7 +3,7 @@
 use std::test::Fail;
 use wac_binary::ComponentBuilder;
 use wac_collection::Types;
-use wac_encode::TypeEncoder;
+use wac_root::RootEncoder;
 use wac_scopes::{Encodable, Scope, rooted_law};
 use wac_shapes::{
     DefinedType, Enum, FuncType, Interface, ItemKind, PrimitiveType, Type, ValueType,
@@ -50,7 +50,7 @@ fn defined(types: &Types, definitions: &[(&str, Type)]) -> Result<Vec<u8>, Fail>
     rooted_law();
     for i in 0..definitions.len() {
         let (name, ty) = definitions[i];
-        let encoder = TypeEncoder::new(types);
+        let encoder = RootEncoder::new(types);
         if !types.contains(ty) || !encoder.is_definable(ty) {
             return Err(Fail::new("not held, or not definable"));
         }
@@ -122,7 +122,7 @@ fn defines_an_interface(rt: HostRuntime) -> Result<(), Fail> {
     let bytes = defined(&types, &[("d", Type::Interface(one))])?;
     assert!(rt; bytes.as_slice() == INTERFACE.as_slice());
     if types.contains(other) {
-        assert!(rt; !TypeEncoder::new(&types).is_definable(other));
+        assert!(rt; !RootEncoder::new(&types).is_definable(other));
     }
     Ok(())
 }

@@ -4,7 +4,7 @@ use crate::shapes::{defined, enumeration, function, interface, resource};
 use std::process::Abort;
 use wac_binary::ComponentBuilder;
 use wac_collection::Types;
-use wac_encode::TypeEncoder;
+use wac_root::RootEncoder;
 use wac_scopes::{Encodable, EncodeFault, Scope, WriteFault};
 use wac_shapes::{DefinedType, FuncType, Interface, ItemKind, PrimitiveType, Type, ValueType};
 
@@ -70,7 +70,7 @@ fn imported(rt: &impl Abort, types: &Types, items: &[(&str, ItemKind)]) -> Optio
     for i in 0..items.len() {
         let (name, item) = items[i];
         assert!(rt; types.contains(item.ty()));
-        let index = TypeEncoder::new(types).import(&mut root, name, item);
+        let index = RootEncoder::new(types).import(&mut root, name, item);
         if index.expect(rt, "an import").is_none() {
             return None;
         }
@@ -178,6 +178,6 @@ fn refuses_what_is_not_imported(rt: HostRuntime) {
     assert!(rt; imported(&rt, &types, &[("i", ItemKind::Instance(i))]).is_none());
     let value = ValueType::Primitive(PrimitiveType::U8);
     let mut root = Scope::new(alloc, Encodable::Builder(ComponentBuilder::new(alloc)));
-    let refused = TypeEncoder::new(&types).import(&mut root, "v", ItemKind::Value(value));
+    let refused = RootEncoder::new(&types).import(&mut root, "v", ItemKind::Value(value));
     assert!(rt; refused == Err(EncodeFault::Write(WriteFault::ValueItem)));
 }

@@ -1,4 +1,4 @@
-//! Tests of open scopes and of the type encoder, through what they make public.
+//! Tests of open scopes, of the writers of types and of the root, and of the imports of a merge, through what they make public.
 #![tactic(auto)]
 
 #[cfg(test)]
@@ -9,6 +9,10 @@ mod functions;
 mod imports;
 #[cfg(test)]
 mod interfaces;
+#[cfg(test)]
+mod merges;
+#[cfg(test)]
+mod modules;
 #[cfg(test)]
 mod roots;
 #[cfg(test)]

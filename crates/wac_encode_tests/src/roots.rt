@@ -4,6 +4,7 @@ use std::test::Fail;
 use wac_binary::{ComponentBuilder, EntityType, MemoryType, ModuleType, Sort};
 use wac_collection::Types;
 use wac_encode::TypeEncoder;
+use wac_root::RootEncoder;
 use wac_scopes::{Encodable, Scope};
 use wac_shapes::{DefinedType, Enum, FuncType, Type, ValueType};
 
@@ -40,7 +41,7 @@ fn imports_a_function(rt: HostRuntime) -> Result<(), Fail> {
     let mut scope = Scope::new(alloc, Encodable::Builder(ComponentBuilder::new(alloc)));
     if types.contains(Type::Func(f)) {
         assert_eq!(rt;
-            TypeEncoder::new(&types).import_func(&mut scope, "x", f)?,
+            RootEncoder::new(&types).import_func(&mut scope, "x", f)?,
             0
         );
     }
@@ -63,9 +64,9 @@ fn imports_a_named_type(rt: HostRuntime) -> Result<(), Fail> {
     let f = types.add_func_type(FuncType::new(alloc, &[("x", x)], None, false)?)?;
     let mut scope = Scope::new(alloc, Encodable::Builder(ComponentBuilder::new(alloc)));
     if types.contains(Type::Value(x)) && types.contains(Type::Func(f)) {
-        let encoder = TypeEncoder::new(&types);
-        encoder.value_type(&mut scope, x)?;
+        TypeEncoder::new(&types).value_type(&mut scope, x)?;
         assert_eq!(rt; scope.import_value("t", cases, 0)?, 1);
+        let encoder = RootEncoder::new(&types);
         assert_eq!(rt; encoder.import_func(&mut scope, "f", f)?, 0);
     }
     let Encodable::Builder(builder) = scope.into_content() else {

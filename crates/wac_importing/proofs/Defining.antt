@@ -12,8 +12,8 @@ use Rattle.wac_binary.specs.Items.{TypeDef, type_item}
 use Rattle.wac_scopes.specs.declared.fault.WriteFault.{WriteFault}
 use Rattle.wac_scopes.specs.declared.scope.Scope.{Scope}
 use Rattle.wac_scopes.specs.Contents.{items_of}
-use Rattle.wac_encode.specs.Defining.{defined_tree, WritesDefinition, IsDefinitionFault}
-use Rattle.wac_encode.specs.Defining.{IsDefinable as IsWritable}
+use Rattle.wac_root.specs.Defining.{defined_tree, WritesDefinition, IsDefinitionFault}
+use Rattle.wac_root.specs.Defining.{IsDefinable as IsWritable}
 use Rattle.wac_meaning.specs.Definition.{definition_tree}
 use Rattle.wac_meaning.specs.Importable.{IsDefinableKind}
 use Rattle.wac_meaning.specs.Writing.{IsTypeAlone}

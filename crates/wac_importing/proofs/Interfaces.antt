@@ -13,10 +13,10 @@ use Rattle.wac_collection.specs.Collection.{Collection, IsWellFormed, item_at, i
 use Rattle.wac_collection.specs.Held.{items_under}
 use Rattle.wac_collection.specs.Bound.{Bindings, first_bound, held_tree}
 use Rattle.wac_scopes.specs.declared.fault.WriteFault.{WriteFault}
-use Rattle.wac_scopes.specs.Good.{nothing_bound}
-use Rattle.wac_encode.specs.Components.{held_under_id, component_tree}
-use Rattle.wac_encode.specs.Defining.{IsDefinitionFault}
-use Rattle.wac_encode.specs.Defining.{IsDefinable as IsWritable}
+use Rattle.wac_stacks.specs.Good.{nothing_bound}
+use Rattle.wac_root.specs.Components.{held_under_id, component_tree}
+use Rattle.wac_root.specs.Defining.{IsDefinitionFault}
+use Rattle.wac_root.specs.Defining.{IsDefinable as IsWritable}
 use Rattle.wac_nodes.specs.Entries.{under_id}
 use Rattle.wac_meaning.specs.Definition.{definition_tree, uses_of, reached_to, reached, as_imports, listed, cut_imports, interface_definition}
 use Rattle.wac_meaning.specs.Importable.{IsDefinableKind, IsDefinableInterface}

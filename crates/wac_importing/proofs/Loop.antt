@@ -32,12 +32,12 @@ use Rattle.wac_scopes.specs.declared.encodable.Encodable.{Encodable}
 use Rattle.wac_scopes.specs.declared.encodable.Encodable.TheVariants.{Builder, Instance, Component}
 use Rattle.wac_scopes.specs.declared.scope.Scope.{Scope}
 use Rattle.wac_scopes.specs.Contents.{IsRoot, items_of, content_of, and_import, count}
-use Rattle.wac_scopes.specs.Scopes.{Open, root, ContentHasMeaning, opening}
-use Rattle.wac_scopes.specs.Good.{Good}
-use Rattle.wac_scopes.specs.Inside.{StartsRoot}
+use Rattle.wac_stacks.specs.Scopes.{Open, root, ContentHasMeaning, opening}
+use Rattle.wac_stacks.specs.Good.{Good}
+use Rattle.wac_stacks.specs.Inside.{StartsRoot}
 use Rattle.wac_scopes.specs.Scoped.{opened, place, recorded_type, type_index, listing, IsNewInRoot, root_of}
 use Rattle.wac_encode.specs.Written.{NewType, defined, aliased, as_item, with_types}
-use Rattle.wac_encode.specs.Importing.{ImportsHeld, WritesImport, IsImportedAs}
+use Rattle.wac_root.specs.Importing.{ImportsHeld, WritesImport, IsImportedAs}
 use Rattle.wac_meaning.specs.Means.{sort_of_kind}
 use Rattle.wac_meaning.specs.Beginning.{Places, Begins}
 use Rattle.wac_meaning.specs.MergedImports.{merged_item, imports_from, merged_imports, AreOfSorts}

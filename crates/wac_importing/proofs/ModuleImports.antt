@@ -20,10 +20,10 @@ use Rattle.wac_scopes.specs.declared.encodable.Encodable.{Encodable}
 use Rattle.wac_scopes.specs.declared.encodable.Encodable.TheVariants.{Builder, Instance, Component}
 use Rattle.wac_scopes.specs.declared.scope.Scope.{Scope}
 use Rattle.wac_scopes.specs.Contents.{IsRoot, items_of, and_core_module, and_import, count}
-use Rattle.wac_scopes.specs.Laws.{Follows}
-use Rattle.wac_scopes.specs.Modules.{HoldsModule}
+use Rattle.wac_stacks.specs.Laws.{Follows}
+use Rattle.wac_stacks.specs.Modules.{HoldsModule}
 use Rattle.wac_scopes.specs.Scoped.{opened, root_of, IsNewInRoot, AddsModule, RootImportsModule}
-use Rattle.wac_encode.specs.Importing.{ImportsHeld}
+use Rattle.wac_root.specs.Importing.{ImportsHeld}
 use Rattle.wac_meaning.proofs.MeaningLemmas.{meaning-push, indexes-push}
 use Rattle.wac_importing.specs.Modules.{WritesModule}
 

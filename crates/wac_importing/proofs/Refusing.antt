@@ -19,7 +19,7 @@ use Rattle.std.specs.List.{AllByRecursion}
 use Rattle.wac_scopes.specs.declared.fault.WriteFault.{WriteFault}
 use Rattle.wac_scopes.specs.declared.fault.EncodeFault.TheVariants as fault
 use Rattle.wac_encode.specs.Listing.{is_plain, lists_plain, are_plain, IsItemFault, HasRefusedItem}
-use Rattle.wac_encode.specs.Importing.{is_importable, IsImportFault}
+use Rattle.wac_root.specs.Importing.{is_importable, IsImportFault}
 use Rattle.wac_encode.proofs.Ordered.{stands-there}
 use Rattle.wac_meaning.specs.Importable.{IsPlainItem}
 use Rattle.wac_importing.specs.Looked.{ArePlain, ListsPlain}

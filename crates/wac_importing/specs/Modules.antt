@@ -16,7 +16,7 @@ use Rattle.wac_scopes.specs.declared.fault.EncodeFault.{EncodeFault}
 use Rattle.wac_scopes.specs.declared.fault.EncodeFault.TheVariants as fault
 use Rattle.wac_scopes.specs.declared.scope.Scope.{Scope}
 use Rattle.wac_scopes.specs.Contents.{and_core_module, and_import, count, ContentFits}
-use Rattle.wac_encode.specs.Importing.{WritesImport, ImportedDoesNotFit}
+use Rattle.wac_root.specs.Importing.{WritesImport, ImportedDoesNotFit}
 
 -- what is written with a core module type, and an import of a core module of that type behind it
 abbrev pub and_module_import : Encodable → ModuleType → Name → ℕ → Encodable

@@ -11,7 +11,7 @@ ghost use Rattle.wac_importing.specs.Defined.{DefinesType};
 
 use wac_binary::BinaryFault;
 use wac_collection::{Type, Types};
-use wac_encode::TypeEncoder;
+use wac_root::RootEncoder;
 use wac_scopes::{EncodeFault, Scope};
 
 /// Writes a definition of a held type behind what stands in the root: the types that it is made of, as far as none of them is recorded
@@ -31,7 +31,7 @@ pub fn write_definition(
     ensures right { OnOk result (IsRightRoot types.now root.new) }
 {
     types.law();
-    match TypeEncoder::new(types).definition(root, name, ty) {
+    match RootEncoder::new(types).definition(root, name, ty) {
         Ok(index) => Ok(index),
         Err(EncodeFault::Write(_)) => unreachable!(),
         Err(EncodeFault::TooLarge) => Err(BinaryFault::TooLarge),

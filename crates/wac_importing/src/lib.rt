@@ -7,8 +7,6 @@
 mod defined;
 mod importable;
 mod modules;
-#[cfg(test)]
-mod tests;
 mod written;
 
 pub use defined::write_definition;

@@ -5,7 +5,7 @@ ghost use Rattle.wac_shapes.specs.declared.component.ItemKind.TheVariants as kin
 ghost use Rattle.wac_shapes.specs.declared.component.«Type».TheVariants as ty;
 ghost use Rattle.wac_collection.specs.Collection.{holds_type};
 ghost use Rattle.wac_scopes.specs.Contents.{IsRoot};
-ghost use Rattle.wac_encode.specs.Importing.{ImportsHeld};
+ghost use Rattle.wac_root.specs.Importing.{ImportsHeld};
 ghost use Rattle.wac_importing.specs.Modules.{WritesModule, IsModuleNotImported};
 
 use std::alloc::Global;

@@ -10,7 +10,7 @@ ghost use Rattle.wac_entries.specs.Bindings.{AreHeld};
 ghost use Rattle.wac_binary.specs.declared.fault.BinaryFault.TheVariants.{OutOfMemory};
 ghost use Rattle.wac_scopes.specs.declared.encodable.Encodable.TheVariants.{Builder};
 ghost use Rattle.wac_scopes.specs.Contents.{IsRoot};
-ghost use Rattle.wac_encode.specs.Importing.{ImportsHeld};
+ghost use Rattle.wac_root.specs.Importing.{ImportsHeld};
 ghost use Rattle.wac_meaning.specs.Beginning.{Begins};
 ghost use Rattle.wac_meaning.specs.Means.{sort_of_kind};
 ghost use Rattle.wac_meaning.specs.MergedImports.{merged_imports, AreOfSorts};
@@ -23,8 +23,8 @@ use crate::modules::import_module;
 use std::alloc::Global;
 use wac_binary::{BinaryFault, ComponentBuilder, Sort};
 use wac_collection::{ItemKind, Named, Types};
-use wac_encode::TypeEncoder;
 use wac_merge::TypeAggregator;
+use wac_root::RootEncoder;
 use wac_scopes::{Encodable, EncodeFault, Scope, root_law};
 
 /// The imports of a merge as they are written: a component that has them and the types that they are made of, and of each import, in
@@ -139,7 +139,7 @@ fn write_item(
     ensures fault { IfErr result (IsNotWritten types.now root.old name.now item) }
     ensures root { IsRoot root.new.content }
 {
-    let encoder = TypeEncoder::new(types);
+    let encoder = RootEncoder::new(types);
     match encoder.import(root, name, item) {
         Ok(Some(index)) => Ok(index),
         Ok(None) => unreachable!(),

@@ -12,10 +12,10 @@ use Rattle.wac_binary.specs.Indexes.{space, core_types}
 use Rattle.wac_binary.specs.HasMeaning.{IsType, IsFunction, IsInstance}
 use Rattle.wac_scopes.specs.declared.encodable.Encodable.{Encodable}
 use Rattle.wac_scopes.specs.declared.encodable.Encodable.TheVariants.{Builder, Instance, Component}
-use Rattle.wac_scopes.specs.Scopes.{Open, Stack, env, envs, type_count, and_def, and_alias}
-use Rattle.wac_scopes.specs.Good.{At, Good}
-use Rattle.wac_scopes.specs.Modules.{and_module, module_count}
-use Rattle.wac_scopes.specs.Listed.{Lists, IsNewName, ListsEqual, ListsFunc, ListsInstance}
+use Rattle.wac_stacks.specs.Scopes.{Open, Stack, env, envs, type_count, and_def, and_alias}
+use Rattle.wac_stacks.specs.Good.{At, Good}
+use Rattle.wac_stacks.specs.Modules.{and_module, module_count}
+use Rattle.wac_stacks.specs.Listed.{Lists, IsNewName, ListsEqual, ListsFunc, ListsInstance}
 use Rattle.wac_scopes.specs.Contents.{content_of, IsOpenType, and_type, and_alias_of, and_core_module, and_export, count}
 
 pub content-and-type : (x : Encodable) (t : TypeDef) → content_of (and_type x t) ≡ and_def t (content_of x)

@@ -25,16 +25,16 @@ use Rattle.wac_scopes.specs.declared.encodable.Encodable.{Encodable}
 use Rattle.wac_scopes.specs.declared.encodable.Encodable.TheVariants.{Builder, Instance, Component}
 use Rattle.wac_scopes.specs.declared.scope.Scope.{Scope}
 use Rattle.wac_scopes.specs.Contents.{content_of, items_of, IsRoot, and_import, count}
-use Rattle.wac_scopes.specs.Scopes.{Where, at_type, at_export, Open, Stack, env, envs, remember_at}
-use Rattle.wac_scopes.specs.Good.{At, Stands, IsHeld, IsOf, Good, GoodScope, top, Onward}
-use Rattle.wac_scopes.specs.Instances.{Exports, holding, IsNewImport, ImportsInstance, ImportsType, ImportsFunc, ImportsModule, ListsImport}
+use Rattle.wac_stacks.specs.Scopes.{Where, at_type, at_export, Open, Stack, env, envs, remember_at}
+use Rattle.wac_stacks.specs.Good.{At, Stands, IsHeld, IsOf, Good, GoodScope, top, Onward}
+use Rattle.wac_stacks.specs.Instances.{Exports, holding, IsNewImport, ImportsInstance, ImportsType, ImportsFunc, ImportsModule, ListsImport}
 use Rattle.wac_scopes.specs.Scoped.{type_index, listed_at, listing, place, recorded_type, first_of, listed_by, listed_too, HasToo, IsAsBefore, AlsoLists, opened, imported_at, RootImportsListing, RootImports, RootImportsType, RootImportsValue, RootImportsFunction, RootImportsInstance, RootImportsModule}
 use Rattle.wac_scopes.proofs.ContentLaws.{filled}
-use Rattle.wac_scopes.proofs.Grow.{at-type_at}
-use Rattle.wac_scopes.proofs.Meant.{value-type}
-use Rattle.wac_scopes.proofs.Moved.{ap2}
+use Rattle.wac_stacks.proofs.Grow.{at-type_at}
+use Rattle.wac_stacks.proofs.Meant.{value-type}
+use Rattle.wac_stacks.proofs.Moved.{ap2}
 use Rattle.wac_scopes.proofs.ScopedLaws.{recorded-at, recorded-same, recorded-too}
-use Rattle.wac_scopes.proofs.Steps.{good-recorded, good-remember_at, some-equal}
+use Rattle.wac_stacks.proofs.Steps.{good-recorded, good-remember_at, some-equal}
 
 -- nothing stands around the root
 alone : (P : List Bindings → Stack → Type 0) (c : Collection) (m : Bindings) (ms : List Bindings) (items : List Item) (o : Open) (os : Stack) → Good c (m ∷ ms) (holding items o ∷ os) → (Good c (m ∷ []) (holding items o ∷ []) → P [] []) → P ms os

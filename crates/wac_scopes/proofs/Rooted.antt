@@ -22,16 +22,16 @@ use Rattle.wac_scopes.specs.declared.encodable.Encodable.{Encodable}
 use Rattle.wac_scopes.specs.declared.encodable.Encodable.TheVariants.{Builder, Instance, Component}
 use Rattle.wac_scopes.specs.declared.scope.Scope.{Scope}
 use Rattle.wac_scopes.specs.Contents.{IsRoot, content_of, items_of, count}
-use Rattle.wac_scopes.specs.Scopes.{Content, root, ContentHasMeaning, at_type, Open, scope_of, remember_at}
-use Rattle.wac_scopes.specs.Good.{At, Good, nothing_bound, top}
-use Rattle.wac_scopes.specs.Instances.{holding}
-use Rattle.wac_scopes.specs.Inside.{RootGoesOn}
+use Rattle.wac_stacks.specs.Scopes.{Content, root, ContentHasMeaning, at_type, Open, scope_of, remember_at}
+use Rattle.wac_stacks.specs.Good.{At, Good, nothing_bound, top}
+use Rattle.wac_stacks.specs.Instances.{holding}
+use Rattle.wac_stacks.specs.Inside.{RootGoesOn}
 use Rattle.wac_scopes.specs.Scoped.{type_index, place, recorded_type, HasToo, opened, root_of}
 use Rattle.wac_scopes.specs.Rooted.{unbound, IsRightRoot, BeginsRight, StaysRight, MeansBefore, IsWrittenThere, ExportsRight}
-use Rattle.wac_scopes.proofs.Grow.{at-last, at-type_at}
-use Rattle.wac_scopes.proofs.Moved.{ap2}
+use Rattle.wac_stacks.proofs.Grow.{at-last, at-type_at}
+use Rattle.wac_stacks.proofs.Moved.{ap2}
 use Rattle.wac_scopes.proofs.ScopedLaws.{recorded-at, recorded-same, recorded-too}
-use Rattle.wac_scopes.proofs.Steps.{good-remember_at}
+use Rattle.wac_stacks.proofs.Steps.{good-remember_at}
 
 -- what the laws of items say of one more, of earlier ones, and of two lists in a row
 abbrev pub Counted : Type 0

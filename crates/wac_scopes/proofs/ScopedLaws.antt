@@ -28,17 +28,17 @@ use Rattle.wac_binary.specs.Unfold.{module_tree}
 use Rattle.wac_scopes.specs.declared.encodable.Encodable.{Encodable}
 use Rattle.wac_scopes.specs.declared.scope.Scope.{Scope}
 use Rattle.wac_scopes.specs.Contents.{content_of, IsOpenType, and_type, and_alias_of, and_core_module, and_export, count, ContentFits}
-use Rattle.wac_scopes.specs.Scopes.{at_type, at_export, Open, Stack, env, envs, next_type, and_def, and_alias, with_def, with_alias_of, remember_at}
-use Rattle.wac_scopes.specs.Good.{At, IsHeld, IsOf, Onward, top}
-use Rattle.wac_scopes.specs.Laws.{Adds, DefinesValue, DefinesFunc, DefinesPrimitive, SettlesValue, IsRecorded, StandsRecorded}
-use Rattle.wac_scopes.specs.Listed.{Lists, ListsEqual, ListsFunc, ListsInstance}
-use Rattle.wac_scopes.specs.Modules.{and_module, module_count, with_module, DefinesModule}
+use Rattle.wac_stacks.specs.Scopes.{at_type, at_export, Open, Stack, env, envs, next_type, and_def, and_alias, with_def, with_alias_of, remember_at}
+use Rattle.wac_stacks.specs.Good.{At, IsHeld, IsOf, Onward, top}
+use Rattle.wac_stacks.specs.Laws.{Adds, DefinesValue, DefinesFunc, DefinesPrimitive, SettlesValue, IsRecorded, StandsRecorded}
+use Rattle.wac_stacks.specs.Listed.{Lists, ListsEqual, ListsFunc, ListsInstance}
+use Rattle.wac_stacks.specs.Modules.{and_module, module_count, with_module, DefinesModule}
 use Rattle.wac_scopes.specs.Scoped.{type_index, value_index, listed_at, listed_type, listing, place, recorded_type, opened, HasToo, IsThere, IsAt, AliasesValue, AddsValue, AddsFunc, AddsPrimitive, AddsInstance, AddsClosed, AddsModule, ListsType, ListsValue, ListsFunction, ListsInstanceOf, AliasFits, FitsUnlessTooLarge}
 use Rattle.wac_scopes.proofs.ContentLaws.{content-and-type, content-and-alias, content-and-module, types-counted, modules-counted, lists-type-in, lists-function-in, lists-instance-in}
-use Rattle.wac_scopes.proofs.Meant.{value-type}
-use Rattle.wac_scopes.proofs.Moved.{ap2}
-use Rattle.wac_scopes.proofs.Steps.{good-remember_at, some-equal}
-use Rattle.wac_scopes.proofs.Values.{primitive-held}
+use Rattle.wac_stacks.proofs.Meant.{value-type}
+use Rattle.wac_stacks.proofs.Moved.{ap2}
+use Rattle.wac_stacks.proofs.Steps.{good-remember_at, some-equal}
+use Rattle.wac_stacks.proofs.Values.{primitive-held}
 
 same-number : (a b : ℕ) → nat_eq a b ≡ (b == a)
 same-number a b = grind arith

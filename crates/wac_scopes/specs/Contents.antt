@@ -8,7 +8,7 @@ use Rattle.wac_binary.specs.Indexes.{indexes, declared}
 use Rattle.wac_binary.specs.Fits.{Fits, DeclarationsFit}
 use Rattle.wac_scopes.specs.declared.encodable.Encodable.{Encodable}
 use Rattle.wac_scopes.specs.declared.encodable.Encodable.TheVariants.{Builder, Instance, Component}
-use Rattle.wac_scopes.specs.Scopes.{Content, declarations, root}
+use Rattle.wac_stacks.specs.Scopes.{Content, declarations, root}
 
 -- as the content of an open scope
 abbrev pub content_of : Encodable → Content

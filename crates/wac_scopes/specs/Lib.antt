@@ -1,14 +1,4 @@
-pub mod Reads
-pub mod Scopes
-pub mod Good
-pub mod Parts
-pub mod Laws
-pub mod Listed
-pub mod Instances
-pub mod Inside
-pub mod Modules
 pub mod Faults
 pub mod Contents
 pub mod Scoped
-pub mod Beside
 pub mod Rooted

@@ -12,8 +12,8 @@ use Rattle.wac_binary.specs.Meaning.{written, meaning, stands_for}
 use Rattle.wac_binary.specs.HasMeaning.{HasMeaning}
 use Rattle.wac_scopes.specs.declared.scope.Scope.{Scope}
 use Rattle.wac_scopes.specs.Contents.{IsRoot, items_of}
-use Rattle.wac_scopes.specs.Scopes.{Open, opening}
-use Rattle.wac_scopes.specs.Good.{At, Good, nothing_bound}
+use Rattle.wac_stacks.specs.Scopes.{Open, opening}
+use Rattle.wac_stacks.specs.Good.{At, Good, nothing_bound}
 use Rattle.wac_scopes.specs.Scoped.{type_index, value_index, listing, opened, root_of}
 
 -- nothing is recorded

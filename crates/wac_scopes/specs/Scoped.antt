@@ -31,12 +31,12 @@ use Rattle.wac_scopes.specs.declared.fault.EncodeFault.TheVariants as fault
 use Rattle.wac_scopes.specs.declared.scope.Listed.{Listed}
 use Rattle.wac_scopes.specs.declared.scope.Scope.{Scope}
 use Rattle.wac_scopes.specs.Contents.{content_of, items_of, and_alias_of, ContentFits}
-use Rattle.wac_scopes.specs.Scopes.{Where, at_type, at_export, Open, Stack, env, envs, next_type, with_def}
-use Rattle.wac_scopes.specs.Good.{At, IsHeld, IsOf, Good, Onward}
-use Rattle.wac_scopes.specs.Parts.{Is, IsWritten, IsWrittenFunc}
-use Rattle.wac_scopes.specs.Laws.{Adds}
-use Rattle.wac_scopes.specs.Listed.{IsNewName, Lists}
-use Rattle.wac_scopes.specs.Instances.{Exports, IsNewImport, position_of}
+use Rattle.wac_stacks.specs.Scopes.{Where, at_type, at_export, Open, Stack, env, envs, next_type, with_def}
+use Rattle.wac_stacks.specs.Good.{At, IsHeld, IsOf, Good, Onward}
+use Rattle.wac_stacks.specs.Parts.{Is, IsWritten, IsWrittenFunc}
+use Rattle.wac_stacks.specs.Laws.{Adds}
+use Rattle.wac_stacks.specs.Listed.{IsNewName, Lists}
+use Rattle.wac_stacks.specs.Instances.{Exports, IsNewImport, position_of}
 
 -- the type index of a definition, a function type or an interface, where it is written
 abbrev pub type_index : Scope → AnyType → Option ℕ

@@ -1,4 +1,4 @@
-//! The open scopes of a type encoder: what each step keeps and gives.
+//! The open scopes of a type encoder: what is written in each, where types stand among it, and what each step adds.
 #![tactic(auto)]
 
 pub mod encodable;
@@ -8,8 +8,9 @@ pub mod scope;
 
 pub use encodable::Encodable;
 pub use fault::{EncodeFault, WriteFault};
-pub use laws::{
-    alias_law, beside_law, closing_law, inside_law, instance_law, listing_law, module_law,
-    root_law, rooted_law, step_law, still_law,
-};
+pub use laws::rooted_law;
 pub use scope::Scope;
+pub use wac_stacks::{
+    alias_law, beside_law, closing_law, inside_law, instance_law, listing_law, module_law,
+    root_law, step_law, still_law,
+};

@@ -18,7 +18,7 @@ ghost use Rattle.wac_scopes.specs.Rooted.{ExportsRight};
 
 use crate::encodable::Encodable;
 use crate::fault::EncodeFault;
-use crate::laws::{listing_law, module_law, root_law, rooted_law, step_law};
+use crate::laws::rooted_law;
 use std::alloc::{AllocError, Global};
 use std::collections::HashMap;
 use wac_binary::{
@@ -26,6 +26,7 @@ use wac_binary::{
     ModuleType, Sort,
 };
 use wac_collection::{DefinedTypeId, FuncTypeId, InterfaceId, PrimitiveType, Text, ValueType};
+use wac_stacks::{listing_law, module_law, root_law, step_law};
 
 /// Where an instance lists a type.
 #[derive(Drop)]

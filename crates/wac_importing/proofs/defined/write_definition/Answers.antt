@@ -1,5 +1,5 @@
 use Rattle.std.proofs.Common.{Err, ap, ◌∙◌, sym, subst}
-use Rattle.wac_encode.specs.Defining.{IsDefinable, WritesDefinition, IsDefinitionRefused}
+use Rattle.wac_root.specs.Defining.{IsDefinable, WritesDefinition, IsDefinitionRefused}
 use Rattle.wac_importing.proofs.Defining.{is_writable, no_fault, defines}
 use Rattle.wac_importing.proofs.defined.write_definition.Goals as goal
 

@@ -1,7 +1,7 @@
 use Rattle.std.proofs.Common.{◌≡◌, ℕ, Option, true, false, ap, ◌∙◌, sym, subst, Ok, Err}
 use Rattle.wac_collection.specs.Collection.{Collection}
 use Rattle.wac_scopes.specs.declared.fault.EncodeFault.TheVariants.{Write}
-use Rattle.wac_encode.specs.Importing.{IsItemNotImported, ImportsHeld, ImportsIfThere, is_importable}
+use Rattle.wac_root.specs.Importing.{IsItemNotImported, ImportsHeld, ImportsIfThere, is_importable}
 use Rattle.wac_importing.proofs.Refusing.{is_written, no_fault}
 use Rattle.wac_importing.proofs.written.write_item.Goals as goal
 

@@ -1,6 +1,6 @@
 use Rattle.std.proofs.Common.{sym, subst}
 use Rattle.wac_shapes.specs.declared.component.ItemKind.{ItemKind}
-use Rattle.wac_encode.specs.Importing.{ImportsHeld}
+use Rattle.wac_root.specs.Importing.{ImportsHeld}
 use Rattle.wac_importing.proofs.written.write_one.Goals as goal
 
 pub returns-in-Ok-clause-imports : goal.returns-in-Ok-clause-imports

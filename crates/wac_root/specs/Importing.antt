@@ -1,0 +1,217 @@
+-- What the writer of imports writes.
+use Rattle.std.specs.Prelude.{ℕ, suc, ◌≡◌, ◌⊎◌, Bool, true, false, List, [], ◌∷◌, ◌++◌, length, Option, Some, None, Result, Ok, Err}
+use Rattle.wac_shapes.specs.Name.{Name, option_case}
+use Rattle.wac_shapes.specs.declared.component.DefinedTypeId.{DefinedTypeId}
+use Rattle.wac_shapes.specs.declared.component.FuncTypeId.{FuncTypeId}
+use Rattle.wac_shapes.specs.declared.component.InterfaceId.{InterfaceId}
+use Rattle.wac_shapes.specs.declared.component.ItemKind.{ItemKind}
+use Rattle.wac_shapes.specs.declared.component.ItemKind.TheVariants as kind
+use Rattle.wac_shapes.specs.declared.component.ValueType.{ValueType}
+use Rattle.wac_shapes.specs.declared.component.ValueType.TheVariants as val
+use Rattle.wac_shapes.specs.declared.component.«Type».TheVariants as ty
+use Rattle.wac_collection.specs.Tree.{imported, Place, position, Tree, function_item}
+use Rattle.wac_collection.specs.Collection.{Collection, interface_exports}
+use Rattle.wac_collection.specs.Aliases.{value_resolved}
+use Rattle.wac_collection.specs.Bound.{Bindings, held_tree, held_item}
+use Rattle.wac_binary.specs.HasMeaning.{IsInstance}
+use Rattle.wac_binary.specs.Indexes.{space, described_sort}
+use Rattle.wac_binary.specs.Items.{instance_def, Decl, decls}
+use Rattle.wac_binary.specs.declared.sorts.Description.{Description}
+use Rattle.wac_binary.specs.declared.sorts.Description.TheVariants as e
+use Rattle.wac_binary.specs.declared.sorts.Sort.{Sort}
+use Rattle.wac_binary.specs.declared.sorts.Sort.TheVariants as sort
+use Rattle.wac_scopes.specs.declared.scope.Scope.{Scope}
+use Rattle.wac_scopes.specs.declared.fault.EncodeFault.{EncodeFault}
+use Rattle.wac_scopes.specs.declared.fault.EncodeFault.TheVariants as fault
+use Rattle.wac_scopes.specs.declared.fault.WriteFault.{WriteFault}
+use Rattle.wac_scopes.specs.declared.fault.WriteFault.TheVariants as write
+use Rattle.wac_scopes.specs.Contents.{and_type, and_import, count, ContentFits}
+use Rattle.wac_stacks.specs.Scopes.{Open, Stack}
+use Rattle.wac_stacks.specs.Good.{At, IsHeld, Good}
+use Rattle.wac_stacks.specs.Laws.{Adds}
+use Rattle.wac_scopes.specs.Scoped.{type_index, value_index, HasToo, AlsoLists, opened, root_of, IsNewInRoot, RootImports}
+use Rattle.wac_encode.specs.Written.{PartOf, WritesFor, HasHandle, IsOfFunc, IsFuncAt, IsFuncRefused}
+use Rattle.wac_encode.specs.Listing.{lists_plain, WritesInterface, NeededBy, own_types, IsDescribed, SameRecords, TypeDoesNotFit, IsInterfaceRefused}
+
+-- a function of the held function type is imported under a name that is new, in each stack that was good with the root as the innermost; index k is that import
+abbrev pub ImportsHeldFunc : Collection → Scope → Scope → Name → FuncTypeId → ℕ → Type 0
+ImportsHeldFunc c old new n f k = (m : Bindings) (ms : List Bindings) (o : Open) (os : Stack) → Good c (m ∷ ms) (opened old o ∷ os) → IsNewInRoot old n
+    → (t : Tree) × IsHeld c m (ty.Func f) t × RootImports c (m ∷ ms) old new o os sort.Func k n (function_item t)
+
+-- the import is written behind the function type
+pub record EndsWithImport (c : Collection) (f : FuncTypeId) (n : Name) (old new : Scope) : Type 0 where
+  pub now : Scope
+  pub written : WritesFor c 0 (IsOfFunc c f) old now
+  pub index : ℕ
+  pub recorded : IsFuncAt c f old now index
+  pub imported : new ≡ record now { content = and_import now.content n (e.Func index) }
+
+-- what stands where an import of a function is refused: what stands where its type is, or the import does not fit
+abbrev pub IsImportRefused : {A : Type 0} → Collection → FuncTypeId → Name → Scope → Result A EncodeFault → Type 0
+IsImportRefused c f n s (Err fault.TooLarge) = IsFuncRefused {A = ℕ} c f s (Err fault.TooLarge) ⊎ ((i : ℕ) × (ContentFits (and_import s.content n (e.Func i)) → ⊥))
+IsImportRefused c f n s r = IsFuncRefused c f s r
+
+-- whether an item is of a sort that the root imports so far, or that it cannot import: not yet are type items of resources, function types,
+-- interfaces and worlds, interfaces with an item that is not written yet, components and core modules
+abbrev pub is_importable : Collection → ItemKind → Bool
+is_importable c (kind.TypeItem (ty.Value v)) = true
+is_importable c (kind.TypeItem (ty.Module m)) = true
+is_importable c (kind.TypeItem t) = false
+is_importable c (kind.Func f) = true
+is_importable c (kind.Instance i) = lists_plain c i
+is_importable c (kind.Component w) = false
+is_importable c (kind.Module m) = false
+is_importable c (kind.Value v) = true
+
+-- the sort of an import
+abbrev pub import_sort : ItemKind → Sort
+import_sort (kind.TypeItem t) = sort.«Type»
+import_sort (kind.Func f) = sort.Func
+import_sort (kind.Instance i) = sort.Instance
+import_sort (kind.Component w) = sort.Component
+import_sort (kind.Module m) = sort.CoreModule
+import_sort (kind.Value v) = sort.Value
+
+-- where the root's next import stands
+abbrev pub next_place : Scope → List Place
+next_place s = position (length (root_of s).imports) ∷ []
+
+-- an instance is bound to the held interface at this place
+abbrev pub IsBoundTo : Collection → Bindings → Scope → List Place → ItemKind → ℕ → Type 0
+IsBoundTo c m s path (kind.Instance i) k = At ((root_of s).scope.instances) k (record { type = held_tree c m (ty.Interface i); side = imported; path = path })
+IsBoundTo c m s path _ k = Unit {0}
+
+-- a held item is imported under a name that is new, in each stack that was good with the root as the innermost; index k is that import
+abbrev pub ImportsHeld : Collection → Scope → Scope → Name → ItemKind → ℕ → Type 0
+ImportsHeld c old new n item k = (m : Bindings) (ms : List Bindings) (o : Open) (os : Stack) → Good c (m ∷ ms) (opened old o ∷ os) → IsNewInRoot old n
+    → RootImports c (m ∷ ms) old new o os (import_sort item) k n (held_item c m imported (next_place old) item) × IsBoundTo c m new (next_place old) item k
+
+-- index k is the held interface's, in each stack that was good with the scope as the innermost; and that stack goes onward
+abbrev pub AddsHeldInterface : Collection → Scope → Scope → InterfaceId → ℕ → Type 0
+AddsHeldInterface c old new i k = (m : Bindings) (ms : List Bindings) (o : Open) (os : Stack) → Good c (m ∷ ms) (opened old o ∷ os)
+    → (t : Tree) × IsHeld c m (ty.Interface i) t × IsInstance t × Adds c (m ∷ ms) (opened old o ∷ os) (opened new o ∷ os) k t
+
+-- index j is the instance type that was written last, that of the interface, and is recorded
+pub record EndsWithInterface (c : Collection) (old now : Scope) (i : InterfaceId) (j : ℕ) : Type 0 where
+  pub declarations : List Decl
+  pub written : WritesInterface c i declarations
+  pub appended : now.content ≡ and_type old.content (instance_def (decls declarations))
+  pub recorded : HasToo old (ty.Interface i) j now
+  pub index : j ≡ count (space sort.«Type») old.content
+
+-- index j is that of the interface: the recorded one, and nothing is written; else it was written last
+abbrev pub IsInterfaceFrom : Option ℕ → Collection → Scope → Scope → InterfaceId → ℕ → Type 0
+IsInterfaceFrom (Some k) c old now i j = (j ≡ k) × (now ≡ old)
+IsInterfaceFrom None c old now i j = EndsWithInterface c old now i j
+
+abbrev pub IsInterfaceAt : Collection → Scope → Scope → InterfaceId → ℕ → Type 0
+IsInterfaceAt c old now i j = IsInterfaceFrom (type_index old (ty.Interface i)) c old now i j
+
+-- what an import is described by, where its types were written since old
+abbrev pub IsImportedAs : Collection → Scope → Scope → ItemKind → Description → Type 0
+IsImportedAs c old now (kind.Instance i) (e.Instance j) = IsInterfaceAt c old now i j
+IsImportedAs c old now item d = IsDescribed c old now item d
+
+-- a definition that was not written before is recorded at the import's own index, and so written by its name from then on
+abbrev pub IsImportedOnce : Option ℕ → Scope → Scope → DefinedTypeId → ℕ → Type 0
+IsImportedOnce None now new d k = HasToo now (ty.Value (val.Defined d)) k new
+IsImportedOnce (Some i) now new d k = SameRecords now new
+
+abbrev pub NamesImportedValue : Scope → Scope → Scope → ValueType → ℕ → Type 0
+NamesImportedValue old now new (val.Defined d) k = IsImportedOnce (value_index old d) now new d k
+NamesImportedValue old now new v k = SameRecords now new
+
+-- the definition of a value type
+abbrev pub definition_of : ValueType → Option DefinedTypeId
+definition_of (val.Defined d) = Some d
+definition_of v = None
+
+-- the definition that a type item lists: that at which its aliases end
+abbrev pub listed_definition : Collection → ItemKind → Option DefinedTypeId
+listed_definition c (kind.TypeItem (ty.Value v)) = definition_of (value_resolved c v)
+listed_definition c k = None
+
+-- the definitions that items list, each with its name, the last first
+abbrev pub listed_definitions : Collection → List (Name × ItemKind) → List (DefinedTypeId × Name)
+listed_definitions c [] = []
+listed_definitions c (e ∷ es) = listed_definitions c es ++ option_case (listed_definition c e.1) [] (λ d. (d, e.0) ∷ [])
+
+-- and what an imported instance lists is aliased from it from then on
+abbrev pub NamesImport : Collection → Scope → Scope → Scope → ItemKind → ℕ → Type 0
+NamesImport c old now new (kind.TypeItem (ty.Value v)) k = NamesImportedValue old now new (value_resolved c v) k
+NamesImport c old now new (kind.Instance i) k = AlsoLists now k (listed_definitions c (interface_exports c i)) new
+NamesImport c old now new item k = SameRecords now new
+
+-- From old to new, an item is imported, at index k: what it is made of is written first, once, where it is not written yet.
+pub record WritesImport (c : Collection) (old new : Scope) (n : Name) (item : ItemKind) (k : ℕ) : Type 0 where
+  pub now : Scope
+  pub behind : WritesFor c (own_types c item) (NeededBy c item) old now
+  pub description : Description
+  pub described : IsImportedAs c old now item description
+  pub appended : new.content ≡ and_import now.content n description
+  pub index : k ≡ count (space (described_sort description)) now.content
+  pub named : NamesImport c old now new item k
+
+-- nothing but types is written that the item is made of
+abbrev pub WritesTypesOf : Collection → ItemKind → Scope → Scope → Type 0
+WritesTypesOf c item old new = (types : ℕ) × WritesFor c types (NeededBy c item) old new
+
+-- which of an import's types does not fit behind what is written
+abbrev pub InstanceDoesNotFit : Collection → InterfaceId → Scope → Type 0
+InstanceDoesNotFit c i s = (ds : List Decl) × WritesInterface c i ds × (ContentFits (and_type s.content (instance_def (decls ds))) → ⊥)
+
+-- what stands where the interface is not written: its fault, or something does not fit
+abbrev pub IsInstanceRefused : {A : Type 0} → Collection → InterfaceId → Scope → Result A EncodeFault → Type 0
+IsInstanceRefused c i s (Err fault.TooLarge) = IsInterfaceRefused {A = Unit {0}} c i (Err fault.TooLarge) ⊎ InstanceDoesNotFit c i s
+IsInstanceRefused c i s r = IsInterfaceRefused c i r
+
+abbrev pub ImportedTypeDoesNotFit : Collection → ItemKind → Scope → Type 0
+ImportedTypeDoesNotFit c (kind.Instance i) s = IsInterfaceRefused {A = Unit {0}} c i (Err fault.TooLarge) ⊎ InstanceDoesNotFit c i s
+ImportedTypeDoesNotFit c item s = TypeDoesNotFit c item s
+
+-- the import itself does not
+abbrev pub ImportDoesNotFit : Collection → Name → ItemKind → Scope → Scope → Type 0
+ImportDoesNotFit c n item old s = (d : Description) × IsImportedAs c old s item d × (ContentFits (and_import s.content n d) → ⊥)
+
+-- behind some of what it is made of
+pub record ImportedDoesNotFit (c : Collection) (n : Name) (item : ItemKind) (old : Scope) : Type 0 where
+  pub scope : Scope
+  pub types : ℕ
+  pub behind : WritesFor c types (NeededBy c item) old scope
+  pub large : ImportedTypeDoesNotFit c item scope ⊎ ImportDoesNotFit c n item old scope
+
+-- which fault stands at an import: a handle, whose resource nothing binds; a core module type; the fault of the interface's first item that has one; a value
+abbrev pub IsImportFault : Collection → ItemKind → WriteFault → Type 0
+IsImportFault c (kind.TypeItem (ty.Value v)) f = (f ≡ write.UnboundResource) × HasHandle (PartOf c (value_resolved c v))
+IsImportFault c (kind.Func g) f = (f ≡ write.UnboundResource) × HasHandle (IsOfFunc c g)
+IsImportFault c (kind.TypeItem (ty.Module m)) f = f ≡ write.ModuleAsType
+IsImportFault c (kind.Instance i) f = IsInterfaceRefused {A = Unit {0}} c i (Err (fault.Write f))
+IsImportFault c (kind.Value v) f = f ≡ write.ValueItem
+IsImportFault c item f = ⊥
+
+-- what stands where an import is refused in the root
+abbrev pub IsItemNotImported : {A : Type 0} → Collection → Name → ItemKind → Scope → Result A EncodeFault → Type 0
+IsItemNotImported c n item s (Ok x) = Unit {0}
+IsItemNotImported c n item s (Err (fault.Write f)) = IsImportFault c item f
+IsItemNotImported c n item s (Err fault.TooLarge) = ImportedDoesNotFit c n item s
+IsItemNotImported c n item s (Err fault.OutOfMemory) = Unit {0}
+
+-- the same of an answer that may be none
+abbrev pub ImportsIfThere : Collection → Scope → Scope → Name → ItemKind → Option ℕ → Type 0
+ImportsIfThere c old new n item None = new ≡ old
+ImportsIfThere c old new n item (Some k) = ImportsHeld c old new n item k
+
+abbrev pub WritesImportIfThere : Collection → Scope → Scope → Name → ItemKind → Option ℕ → Type 0
+WritesImportIfThere c old new n item None = new ≡ old
+WritesImportIfThere c old new n item (Some k) = WritesImport c old new n item k
+
+-- these items as imports, each under its name as it is held at its position, the first at this one
+abbrev pub held_imports : Collection → Bindings → ℕ → List (Name × ItemKind) → List (Name × Tree)
+held_imports c m p [] = []
+held_imports c m p (e ∷ es) = (e.0, held_item c m imported (position p ∷ []) e.1) ∷ held_imports c m (suc p) es
+
+-- where the root imports these items, and one is imported behind them, it imports these and that one, and is good again
+abbrev pub ImportsOneMore : Type 0
+ImportsOneMore = (c : Collection) (m : Bindings) (ms : List Bindings) (o : Open) (os : Stack) (old new : Scope) (es : List (Name × ItemKind)) (n : Name) (item : ItemKind) (k : ℕ)
+    → Good c (m ∷ ms) (opened old o ∷ os) → IsNewInRoot old n → ImportsHeld c old new n item k → (root_of old).imports ≡ held_imports c m 0 es
+    → Good c (m ∷ ms) (opened new o ∷ os) × ((root_of new).imports ≡ held_imports c m 0 (es ++ (n, item) ∷ []))

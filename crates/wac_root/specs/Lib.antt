@@ -1,0 +1,3 @@
+pub mod Importing
+pub mod Components
+pub mod Defining

@@ -1,0 +1,54 @@
+//! The writer of interfaces as component types.
+
+ghost use Rattle.std.specs.Prelude.{◌≡◌, true, IfOk};
+ghost use Rattle.wac_collection.specs.Collection.{HasInterface};
+ghost use Rattle.wac_scopes.specs.declared.encodable.Encodable.TheVariants.{Component};
+ghost use Rattle.wac_encode.specs.Listing.{lists_plain};
+ghost use Rattle.wac_root.specs.Components.{HasId, SaysComponent, WritesComponent, IsComponentRefused, IsComponent};
+
+use crate::root::RootEncoder;
+use wac_binary::ComponentType;
+use wac_collection::InterfaceId;
+use wac_scopes::{Encodable, EncodeFault, Scope, closing_law, step_law};
+
+impl<'a> RootEncoder<'a> {
+    /// Writes a held interface as a component type: its instance type, as `interface_type` writes it, and the export of an instance of
+    /// that under the interface's id. Nothing around it is looked at.
+    ///
+    /// Answers what `interface_type` answers where it refuses the interface, and else `TooLarge` where the instance type or its export
+    /// does not fit into the component type, and `OutOfMemory` where memory was refused.
+    pub(crate) fn interface_component(
+        &self,
+        interface: InterfaceId,
+        id: &str,
+    ) -> Result<ComponentType, EncodeFault>
+        requires held { HasInterface self.now.types.now interface }
+        requires plain { lists_plain self.now.types.now interface ≡ true }
+        requires id { HasId self.now.types.now interface id.now }
+        ensures says { IfOk result (SaysComponent self.now.types.now interface) }
+        ensures written { IfOk result (WritesComponent self.now.types.now interface) }
+        ensures fault { IsComponentRefused self.now.types.now interface result }
+    {
+        closing_law();
+        step_law();
+        let Some(declarations) = self.interface_type(interface)? else {
+            unreachable!()
+        };
+        let alloc = self.types.allocator();
+        let mut scope = Scope::new(alloc, Encodable::Component(ComponentType::new(alloc)));
+        let index = scope.define_instance(interface, &declarations)?;
+        scope.export_instance(id, index)?;
+        Ok(component_type(scope.into_content()))
+    }
+}
+
+/// The component type that is written.
+fn component_type(content: Encodable) -> ComponentType
+    requires { IsComponent content }
+    ensures { content ≡ Component result }
+{
+    match content {
+        Encodable::Component(declarations) => declarations,
+        Encodable::Builder(_) | Encodable::Instance(_) => unreachable!(),
+    }
+}

@@ -1,0 +1,10 @@
+pub mod Reads
+pub mod Scopes
+pub mod Good
+pub mod Parts
+pub mod Laws
+pub mod Listed
+pub mod Instances
+pub mod Inside
+pub mod Modules
+pub mod Beside

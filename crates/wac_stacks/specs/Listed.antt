@@ -1,0 +1,169 @@
+-- The imports and exports of a type: when what was written is what is listed.
+use Rattle.std.specs.Prelude.{ℕ, ◌≡◌, Bool, true, false, List, [], ◌∷◌, ◌++◌, Option, Some, None, is_some}
+use Rattle.wac_shapes.specs.Name.{Name, same_name, find_name, option_case}
+use Rattle.wac_shapes.specs.declared.component.ResourceId.{ResourceId}
+use Rattle.wac_shapes.specs.declared.component.InterfaceId.{InterfaceId}
+use Rattle.wac_shapes.specs.declared.component.WorldId.{WorldId}
+use Rattle.wac_shapes.specs.declared.component.Interface.{Interface}
+use Rattle.wac_shapes.specs.declared.component.World.{World}
+use Rattle.wac_shapes.specs.declared.component.«Type».TheVariants as ty
+use Rattle.wac_shapes.specs.declared.component.ItemKind.{ItemKind}
+use Rattle.wac_shapes.specs.declared.component.ItemKind.TheVariants as kind
+use Rattle.wac_collection.specs.Tree.{Side, imported, exported, named, Tree, absent, instance, component, fresh, type_equal, function_item, instance_item, component_item, module_item, value_item}
+use Rattle.wac_collection.specs.Collection.{Collection, IsWellFormed, item_at}
+use Rattle.wac_collection.specs.Held.{resolved}
+use Rattle.wac_collection.specs.Bound.{Bindings, own_name, inside_interface, bound_by_imports, bound_in_world, binds_here}
+use Rattle.wac_binary.specs.declared.sorts.Description.{Description}
+use Rattle.wac_binary.specs.declared.sorts.Description.TheVariants as e
+use Rattle.wac_binary.specs.Items.{Decl, decls, import_decl, export_decl, instance_def, component_def}
+use Rattle.wac_binary.specs.Unfold.{Scope, with_item}
+use Rattle.wac_binary.specs.HasMeaning.{IsType, IsFunction, IsInstance, IsComponent, IsModule, IsFree, ImportNothing}
+use Rattle.wac_stacks.specs.Scopes.{declarations, at_type, Open, Stack, env, envs, next_type, next_instance, with_def, bind_at, opening}
+use Rattle.wac_stacks.specs.Good.{At, Keeps, IsHeld, Good, top}
+use Rattle.wac_stacks.specs.Laws.{Adds}
+
+-- the tree of what is listed under a name; a resource is fresh where the item binds it
+abbrev pub IsItem : Collection → Bindings → Side → Name → ItemKind → Tree → Type 0
+IsItem c m side n (kind.TypeItem a) fresh = binds_here c m side (named n ∷ []) (kind.TypeItem a) ≡ true
+IsItem c m side n (kind.TypeItem a) (type_equal t) = (binds_here c m side (named n ∷ []) (kind.TypeItem a) ≡ false) × IsHeld c m a t
+IsItem c m side n (kind.Func f) (function_item t) = IsHeld c m (ty.Func f) t
+IsItem c m side n (kind.Instance i) (instance_item t) = IsHeld c m (ty.Interface i) t
+IsItem c m side n (kind.Component w) (component_item t) = IsHeld c m (ty.World w) t
+IsItem c m side n (kind.Module k) (module_item t) = IsHeld c m (ty.Module k) t
+IsItem c m side n (kind.Value v) (value_item t) = IsHeld c m (ty.Value v) t
+IsItem c m side n _ _ = ⊥
+
+abbrev pub IsUnder : Collection → Bindings → Side → Name → Option ItemKind → Tree → Type 0
+IsUnder c m side n None t = t ≡ absent
+IsUnder c m side n (Some k) t = IsItem c m side n k t
+
+-- the items by name are those that are listed
+abbrev pub AreListed : Collection → Bindings → Side → List (Name × ItemKind) → (Name → Tree) → Type 0
+AreListed c m side es items = (n : Name) → IsUnder c m side n (find_name es n) (items n)
+
+abbrev pub side_decl : Side → Name → Description → Decl
+side_decl imported n d = import_decl n d
+side_decl exported n d = export_decl n d
+
+abbrev pub on_side : Side → Scope → Name → Tree
+on_side imported e = e.imports
+on_side exported e = e.exports
+
+abbrev pub other : Side → Side
+other imported = exported
+other exported = imported
+
+-- an open scope in which these declarations were written
+abbrev pub declaring : List Decl → Open → Open
+declaring ds o = record o { content = declarations ds }
+
+-- From o to o', over os: good again, what indexes stood for they stand for, and on this side there is one item more.
+pub record Lists (c : Collection) (m : Bindings) (ms : List Bindings) (o o' : Open) (os : Stack) (side : Side) (n : Name) (t : Tree) : Type 0 where
+  pub good : Good c (m ∷ ms) (o' ∷ os)
+  pub keeps : Keeps (env o (envs os)) (env o' (envs os))
+  pub this : on_side side (env o' (envs os)) ≡ with_item (on_side side (env o (envs os))) n t
+  pub that : on_side (other side) (env o' (envs os)) ≡ on_side (other side) (env o (envs os))
+
+-- no item of this name stands on this side
+abbrev pub IsNewName : Open → Stack → Side → Name → Type 0
+IsNewName o os side n = IsFree (on_side side (env o (envs os)) n)
+
+-- a type item that equals a type in scope; its new type index is that type
+abbrev pub ListsEqual : Type 0
+ListsEqual = (c : Collection) (m : Bindings) (ms : List Bindings) (ds : List Decl) (o : Open) (os : Stack) (side : Side) (n : Name) (i : ℕ) (t : Tree)
+    → Good c (m ∷ ms) (declaring ds o ∷ os) → IsNewName (declaring ds o) os side n → IsType t → At ((env (declaring ds o) (envs os)).types) i t
+    → Lists c m ms (declaring ds o) (declaring (ds ++ side_decl side n (e.Equal i) ∷ []) o) os side n (type_equal t)
+    × At ((env (declaring (ds ++ side_decl side n (e.Equal i) ∷ []) o) (envs os)).types) (next_type (declaring ds o)) t
+
+-- a fresh resource, which its new type index is; it is bound
+abbrev pub ListsFresh : Type 0
+ListsFresh = (c : Collection) (m : Bindings) (ms : List Bindings) (ds : List Decl) (o : Open) (os : Stack) (side : Side) (n : Name) (r : ResourceId)
+    → Good c (m ∷ ms) (declaring ds o ∷ os) → IsNewName (declaring ds o) os side n → m r ≡ Some (record { out = 0; side = side; path = named n ∷ [] })
+    → Lists c m ms (declaring ds o) (bind_at r (at_type (next_type (declaring ds o))) (declaring (ds ++ side_decl side n e.Fresh ∷ []) o)) os side n fresh
+
+-- a function whose type is in scope
+abbrev pub ListsFunc : Type 0
+ListsFunc = (c : Collection) (m : Bindings) (ms : List Bindings) (ds : List Decl) (o : Open) (os : Stack) (side : Side) (n : Name) (i : ℕ) (t : Tree)
+    → Good c (m ∷ ms) (declaring ds o ∷ os) → IsNewName (declaring ds o) os side n → IsFunction t → At ((env (declaring ds o) (envs os)).types) i t
+    → Lists c m ms (declaring ds o) (declaring (ds ++ side_decl side n (e.Func i) ∷ []) o) os side n (function_item t)
+
+-- a component whose type is in scope
+abbrev pub ListsComponent : Type 0
+ListsComponent = (c : Collection) (m : Bindings) (ms : List Bindings) (ds : List Decl) (o : Open) (os : Stack) (side : Side) (n : Name) (i : ℕ) (t : Tree)
+    → Good c (m ∷ ms) (declaring ds o ∷ os) → IsNewName (declaring ds o) os side n → IsComponent t → At ((env (declaring ds o) (envs os)).types) i t
+    → Lists c m ms (declaring ds o) (declaring (ds ++ side_decl side n (e.Component i) ∷ []) o) os side n (component_item t)
+
+-- a core module whose type is in scope
+abbrev pub ListsModule : Type 0
+ListsModule = (c : Collection) (m : Bindings) (ms : List Bindings) (ds : List Decl) (o : Open) (os : Stack) (side : Side) (n : Name) (i : ℕ) (t : Tree)
+    → Good c (m ∷ ms) (declaring ds o ∷ os) → IsNewName (declaring ds o) os side n → IsModule t → At ((env (declaring ds o) (envs os)).core_types) i t
+    → Lists c m ms (declaring ds o) (declaring (ds ++ side_decl side n (e.CoreModule i) ∷ []) o) os side n (module_item t)
+
+-- an instance whose type is in scope; its new instance index is bound here
+abbrev pub ListsInstance : Type 0
+ListsInstance = (c : Collection) (m : Bindings) (ms : List Bindings) (ds : List Decl) (o : Open) (os : Stack) (side : Side) (n : Name) (i : ℕ) (t : Tree)
+    → Good c (m ∷ ms) (declaring ds o ∷ os) → IsNewName (declaring ds o) os side n → IsInstance t → At ((env (declaring ds o) (envs os)).types) i t
+    → Lists c m ms (declaring ds o) (declaring (ds ++ side_decl side n (e.Instance i) ∷ []) o) os side n (instance_item t)
+    × At ((env (declaring (ds ++ side_decl side n (e.Instance i) ∷ []) o) (envs os)).instances) (next_instance (declaring ds o)) (record { type = t; side = side; path = named n ∷ [] })
+
+-- one more that is listed, under a name that is not there yet
+abbrev pub ListsOneMore : Type 0
+ListsOneMore = (c : Collection) (m : Bindings) (side : Side) (es : List (Name × ItemKind)) (items : Name → Tree) (n : Name) (k : ItemKind) (t : Tree)
+    → AreListed c m side es items → find_name es n ≡ None → IsItem c m side n k t → AreListed c m side (es ++ (n, k) ∷ []) (with_item items n t)
+
+-- the order of what is listed does not matter
+abbrev pub ListsInAnyOrder : Type 0
+ListsInAnyOrder = (c : Collection) (m : Bindings) (side : Side) (es fs : List (Name × ItemKind)) (items : Name → Tree)
+    → AreListed c m side es items → ((n : Name) → find_name fs n ≡ find_name es n) → AreListed c m side fs items
+
+-- the resources that an interface has as its own
+abbrev pub has_own : Collection → Interface → ResourceId → Bool
+has_own c it r = is_some (own_name c it.uses it.exports r)
+
+-- a scope that is opened for an interface is good, over any good stack; it lists nothing
+abbrev pub OpensInterface : Type 0
+OpensInterface = (c : Collection) (ms : List Bindings) (st : Stack) (it : Interface)
+    → Good c ms st → Good c (inside_interface c it (top ms) ∷ ms) (opening (has_own c it) ∷ st)
+    × ((n : Name) → (env (opening (has_own c it)) (envs st)).exports n ≡ absent)
+
+-- closed, it is a type of the scope around it
+abbrev pub ClosesInstance : Type 0
+ClosesInstance = (c : Collection) (inner m : Bindings) (ms : List Bindings) (ds : List Decl) (i o : Open) (os : Stack)
+    → Good c (inner ∷ m ∷ ms) (declaring ds i ∷ o ∷ os) → ImportNothing (decls ds)
+    → Adds c (m ∷ ms) (o ∷ os) (with_def (instance_def (decls ds)) o ∷ os) (next_type o) (instance ((env (declaring ds i) (env o (envs os) ∷ envs os)).exports))
+
+-- and that of the interface, where it lists what the interface does
+abbrev pub HoldsInterface : Type 0
+HoldsInterface = (c : Collection) → IsWellFormed c → (m : Bindings) (i : InterfaceId) (it : Interface) (items : Name → Tree)
+    → item_at c.interfaces i.0 ≡ Some it → AreListed c (inside_interface c it m) exported it.exports items → IsHeld c m (ty.Interface i) (instance items)
+
+-- a scope that is opened for a world is good, with nothing around it; it lists nothing
+abbrev pub OpensWorld : Type 0
+OpensWorld = (c : Collection) (m : Bindings) → Good c (m ∷ []) (opening (λ r. false) ∷ [])
+    × ((n : Name) → (env (opening (λ r. false)) []).imports n ≡ absent) × ((n : Name) → (env (opening (λ r. false)) []).exports n ≡ absent)
+
+-- after its imports, it is good under what its exports see
+abbrev pub TurnsToExports : Type 0
+TurnsToExports = (c : Collection) (w : World) (o : Open) → Good c (bound_by_imports c w ∷ []) (o ∷ []) → Good c (bound_in_world c w ∷ []) (o ∷ [])
+
+-- closed, it is a type of any scope
+abbrev pub ClosesComponent : Type 0
+ClosesComponent = (c : Collection) (inner m : Bindings) (ms : List Bindings) (ds : List Decl) (i o : Open) (os : Stack)
+    → Good c (inner ∷ []) (declaring ds i ∷ []) → Good c (m ∷ ms) (o ∷ os)
+    → Adds c (m ∷ ms) (o ∷ os) (with_def (component_def (decls ds)) o ∷ os) (next_type o) (component ((env (declaring ds i) []).imports) ((env (declaring ds i) []).exports))
+
+-- and that of the world, where it lists what the world does, under any bindings
+abbrev pub HoldsWorld : Type 0
+HoldsWorld = (c : Collection) → IsWellFormed c → (m : Bindings) (i : WorldId) (w : World) (imports exports : Name → Tree)
+    → item_at c.worlds i.0 ≡ Some w → AreListed c (bound_by_imports c w) imported w.imports imports → AreListed c (bound_in_world c w) exported w.exports exports
+    → IsHeld c m (ty.World i) (component imports exports)
+
+-- which type items of an interface are fresh
+abbrev pub FreshInInterface : Type 0
+FreshInInterface = (c : Collection) (it : Interface) (m : Bindings) (n : Name) (r : ResourceId)
+    → binds_here c (inside_interface c it m) exported (named n ∷ []) (kind.TypeItem (ty.Resource r)) ≡ option_case (own_name c it.uses it.exports (resolved c r)) false (λ q. same_name q n)
+
+-- what an interface has as its own is no alias, and is called by its name
+abbrev pub CallsOwn : Type 0
+CallsOwn = (c : Collection) (it : Interface) (m : Bindings) (r : ResourceId) (n : Name) → own_name c it.uses it.exports r ≡ Some n
+    → (resolved c r ≡ r) × (inside_interface c it m r ≡ Some (record { out = 0; side = exported; path = named n ∷ [] }))
