@@ -1,6 +1,7 @@
 -- A graph with a cycle of edges is refused by the lowest node on one.
-use Rattle.std.proofs.Common.{ℕ, zero, suc, ◌<◌, [], ◌∷◌, refl, subst, arith, Ok, IfSome, IsSome, inl, inr}
+use Rattle.std.proofs.Common.{ℕ, zero, suc, ◌<◌, [], ◌∷◌, refl, subst, arith, Result, Ok, Err, IsErr, IfSome, IsSome, inl, inr}
 use Rattle.std.proofs.lemmas.Bool.{cases_lt}
+use Rattle.std.specs.Result.{IsErrAnd}
 use Rattle.wac_shapes.specs.Name.{Name}
 use Rattle.wac_shapes.specs.declared.component.ItemKind.{ItemKind}
 use Rattle.wac_edges.specs.declared.node.NodeId.{NodeId}
@@ -32,6 +33,11 @@ module _ (g : Graph) (o : EncodeOptions) (n : NodeId) (on : IsOnCycle g.edges n)
   -- a cause stands
   pub some_cause : ((cause : Cause) → Stands g o cause → ⊥) → ⊥
   some_cause none = none_on g.edges (λ m lowest. none (cycle m) (stands_cycle g o m lowest)) (suc n.0) n (omega arith) on
+
+  -- so the graph is refused
+  pub is_refused : {A : Type 0} (r : Result A EncodeError) → ((cause : Cause) → Stands g o cause → IsErrAnd r (AnswersFor cause)) → IsErr r
+  is_refused (Ok x) refused = absurd (some_cause (λ cause stands. refused cause stands))
+  is_refused (Err e) refused = refl
 
   -- and none of another kind
   no_other : (k : CauseKind) → 0 < rank k → IsFirstKind g o k → ⊥

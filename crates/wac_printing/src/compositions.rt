@@ -81,10 +81,7 @@ pub fn cycle_refusal(alloc: Global) -> Result<EncodeError>
     let package = register(alloc, &mut graph, "my:package", &[("i", instance)], &[])?;
     let node = graph.instantiate(package)?;
     graph.set_instantiation_argument(node, "i", node)?;
-    match graph.encode(EncodeOptions::default()) {
-        Ok(_) => unreachable!(),
-        Err(error) => Ok(error),
-    }
+    Ok(graph.encode(EncodeOptions::default()).unwrap_err())
 }
 
 /// A package plugged into another: the function `a` that the plug exports is given to the socket as `a`, and the socket's
