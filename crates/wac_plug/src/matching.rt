@@ -1,5 +1,5 @@
 //! Which exports of a plug match which imports of a socket.
-ghost use Rattle.std.specs.Prelude.{◌≡◌, ◌<◌, ℕ, true, length, slice_get, string_bytes, IfOk, OnOk, IfSome, IsSomeAnd, MatchOption};
+ghost use Rattle.std.specs.Prelude.{◌≡◌, [], ◌<◌, ℕ, true, length, slice_get, string_bytes, IfOk, OnOk, IfSome, IsSomeAnd, MatchOption};
 ghost use Rattle.wac_collection.specs.Collection.{holds_type, holds_all, kind_types, world_imports, world_exports};
 ghost use Rattle.wac_shapes.specs.Kinds.{kind_type};
 ghost use Rattle.wac_shapes.specs.Name.{Name};
@@ -39,22 +39,38 @@ impl Model for Match {
 }
 
 impl Match {
-    /// The match of the export and of the import at these positions in the worlds of a plug and of a socket.
-    pub fn at(
+    /// A match of no names, to be read into.
+    pub fn new(alloc: Global) -> Match
+        ensures export { result.export ≡ [] }
+        ensures import { result.«import» ≡ [] }
+    {
+        Match {
+            export: String::new(alloc),
+            import: String::new(alloc),
+        }
+    }
+
+    /// Becomes the match of the export and of the import at these positions in the worlds of a plug and of a socket, in the room
+    /// that the names before took.
+    pub fn read(
+        &mut self,
         types: &Types,
         plug: WorldId,
         socket: WorldId,
         pair: &Pair,
-    ) -> Result<Match, AllocError>
+    ) -> Result<(), AllocError>
         requires plug { holds_type types.now (world_type plug) ≡ true }
         requires socket { holds_type types.now (world_type socket) ≡ true }
         requires within { IsWithin (world_exports types.now plug) (world_imports types.now socket) pair.now }
-        ensures { IfOk result (λ m. m ≡ match_at (world_exports types.now plug) (world_imports types.now socket) pair.now) }
+        ensures { OnOk result (self.new ≡ match_at (world_exports types.now plug) (world_imports types.now socket) pair.now) }
     {
-        let alloc = types.allocator();
-        let export = String::from_str(alloc, types[plug].exports.name_at(pair.export))?;
-        let import = String::from_str(alloc, types[socket].imports.name_at(pair.import))?;
-        Ok(Match { export, import })
+        self.export.clear();
+        self.export
+            .push_str(types[plug].exports.name_at(pair.export))?;
+        self.import.clear();
+        self.import
+            .push_str(types[socket].imports.name_at(pair.import))?;
+        Ok(())
     }
 
     /// The name of the export.

@@ -57,8 +57,9 @@ pub fn plug_in(
     }
     graph.law();
     let node = graph.instantiate(plug)?;
+    let mut found = Match::new(graph.types().allocator());
     for i in 0..pairs.len() {
-        let found = Match::at(graph.types(), exporting, importing, &pairs[i])?;
+        found.read(graph.types(), exporting, importing, &pairs[i])?;
         wire(graph, node, socket, &found)?;
     }
     Ok(())

@@ -17,33 +17,33 @@ pub returns-then-is_empty-clause-step : goal.returns-then-is_empty-clause-step
 returns-then-is_empty-clause-step c =
     plugs-none (world_exports c.args.graph.now.types c.args.exporting) (world_imports c.args.graph.now.types c.args.importing) c.args.plug c.args.socket c.args.graph.now c.args.pairs.now (sym c.is_empty.ensures ∙ c.if-is_empty.true)
 
-pub at-requires-clause-plug : goal.at-requires-clause-plug
-at-requires-clause-plug c =
+pub read-requires-clause-plug : goal.read-requires-clause-plug
+read-requires-clause-plug c =
     let g = c.args.graph.now in
     let same : c.loop-i.graph.types ≡ g.types = (keeps-trans g c.instantiate.new.self c.loop-i.graph (instance-keeps g c.instantiate.new.self c.args.plug c.in_ok-node.node c.requires.plug c.in_ok-node.ensures).0 c.loop-i.invariant.kept).types in
-    let now : c.types.result.now ≡ g.types = c.types.ensures ∙ same in
+    let now : c.types-in-loop-i.result.now ≡ g.types = c.types-in-loop-i.ensures ∙ same in
     ap (λ t. holds_type t (world_type c.args.exporting)) now ∙ c.requires.exporting
 
-pub at-requires-clause-socket : goal.at-requires-clause-socket
-at-requires-clause-socket c =
+pub read-requires-clause-socket : goal.read-requires-clause-socket
+read-requires-clause-socket c =
     let g = c.args.graph.now in
     let same : c.loop-i.graph.types ≡ g.types = (keeps-trans g c.instantiate.new.self c.loop-i.graph (instance-keeps g c.instantiate.new.self c.args.plug c.in_ok-node.node c.requires.plug c.in_ok-node.ensures).0 c.loop-i.invariant.kept).types in
-    let now : c.types.result.now ≡ g.types = c.types.ensures ∙ same in
+    let now : c.types-in-loop-i.result.now ≡ g.types = c.types-in-loop-i.ensures ∙ same in
     ap (λ t. holds_type t (world_type c.args.importing)) now ∙ c.requires.importing
 
-pub at-requires-clause-within : goal.at-requires-clause-within
-at-requires-clause-within c =
+pub read-requires-clause-within : goal.read-requires-clause-within
+read-requires-clause-within c =
     let g = c.args.graph.now in
     let ps = c.args.pairs.now in
     let i = c.loop-i.i in
     let same : c.loop-i.graph.types ≡ g.types = (keeps-trans g c.instantiate.new.self c.loop-i.graph (instance-keeps g c.instantiate.new.self c.args.plug c.in_ok-node.node c.requires.plug c.in_ok-node.ensures).0 c.loop-i.invariant.kept).types in
-    let now : c.types.result.now ≡ g.types = c.types.ensures ∙ same in
+    let now : c.types-in-loop-i.result.now ≡ g.types = c.types-in-loop-i.ensures ∙ same in
     let p : Pair = get_or ps i (record { export = 0; import = 0 }) in
     let pair : slice_get ps i ≡ Some p = slice_get-get_or ps i (record { export = 0; import = 0 }) c.loop-i-test.true in
-    within-read g.types c.types.result.now c.args.exporting c.args.importing now ps i p pair c.requires.within
+    within-read g.types c.types-in-loop-i.result.now c.args.exporting c.args.importing now ps i p pair c.requires.within
 
-pub returns-in_err-found-clause-step : goal.returns-in_err-found-clause-step
-returns-in_err-found-clause-step c =
+pub returns-in_err-read-clause-step : goal.returns-in_err-read-clause-step
+returns-in_err-read-clause-step c =
     let g = c.args.graph.now in
     let exports = world_exports g.types c.args.exporting in
     let imports = world_imports g.types c.args.importing in
@@ -51,13 +51,13 @@ returns-in_err-found-clause-step c =
     let ms = matches_at exports imports ps in
     let i = c.loop-i.i in
     let same : c.loop-i.graph.types ≡ g.types = (keeps-trans g c.instantiate.new.self c.loop-i.graph (instance-keeps g c.instantiate.new.self c.args.plug c.in_ok-node.node c.requires.plug c.in_ok-node.ensures).0 c.loop-i.invariant.kept).types in
-    let now : c.types.result.now ≡ g.types = c.types.ensures ∙ same in
+    let now : c.types-in-loop-i.result.now ≡ g.types = c.types-in-loop-i.ensures ∙ same in
     let p : Pair = get_or ps i (record { export = 0; import = 0 }) in
     let pair : slice_get ps i ≡ Some p = slice_get-get_or ps i (record { export = 0; import = 0 }) c.loop-i-test.true in
     let m = match_at exports imports p in
-    let at : slice_get ms i ≡ Some m = match-there g.types c.types.result.now c.args.exporting c.args.importing now ps i p pair in
+    let at : slice_get ms i ≡ Some m = match-there g.types c.types-in-loop-i.result.now c.args.exporting c.args.importing now ps i p pair in
     let node_there = c.loop-i.invariant.kept.nodes c.in_ok-node.node (instance-keeps g c.instantiate.new.self c.args.plug c.in_ok-node.node c.requires.plug c.in_ok-node.ensures).1 in
-    subst (λ (r : Answer). PlugsIn c.args.plug c.args.socket g ms r c.loop-i.graph) (sym (exit-is c.from_residual-in_err-found.result OutOfMemory c.from_residual-in_err-found.ensures.1))
+    subst (λ (r : Answer). PlugsIn c.args.plug c.args.socket g ms r c.loop-i.graph) (sym (exit-is c.from_residual-in_err-read.result OutOfMemory c.from_residual-in_err-read.ensures.1))
     (plugs-in-some c.args.plug c.args.socket c.in_ok-node.node g c.instantiate.new.self c.loop-i.graph ms (Err OutOfMemory) (not-none exports imports ps (sym c.is_empty.ensures ∙ c.if-is_empty.false)) c.in_ok-node.ensures
     (c.loop-i.invariant.wired (Err OutOfMemory) c.loop-i.graph (refused-at (Wires c.in_ok-node.node c.args.socket) ms i m c.loop-i.graph at OutOfMemory c.loop-i.graph (wires-none c.in_ok-node.node c.args.socket c.loop-i.graph m node_there))))
 
@@ -78,11 +78,11 @@ wire-requires-clause-fits c =
     let ms = matches_at exports imports ps in
     let i = c.loop-i.i in
     let same : c.loop-i.graph.types ≡ g.types = (keeps-trans g c.instantiate.new.self c.loop-i.graph (instance-keeps g c.instantiate.new.self c.args.plug c.in_ok-node.node c.requires.plug c.in_ok-node.ensures).0 c.loop-i.invariant.kept).types in
-    let now : c.types.result.now ≡ g.types = c.types.ensures ∙ same in
+    let now : c.types-in-loop-i.result.now ≡ g.types = c.types-in-loop-i.ensures ∙ same in
     let p : Pair = get_or ps i (record { export = 0; import = 0 }) in
     let pair : slice_get ps i ≡ Some p = slice_get-get_or ps i (record { export = 0; import = 0 }) c.loop-i-test.true in
-    let at : slice_get ms i ≡ Some c.in_ok-found.found = match-read g.types c.types.result.now c.args.exporting c.args.importing now ps i p c.in_ok-found.found pair c.in_ok-found.ensures in
-    fits-nodes g c.instantiate.new.self c.args.plug c.in_ok-node.node c.law.ensures c.requires.plug c.in_ok-node.ensures c.loop-i.graph c.args.socket ms i c.in_ok-found.found c.requires.socket c.loop-i.invariant.kept c.requires.fit at
+    let at : slice_get ms i ≡ Some c.read.new.self = match-read g.types c.types-in-loop-i.result.now c.args.exporting c.args.importing now ps i p c.read.new.self pair c.in_ok-read.ensures in
+    fits-nodes g c.instantiate.new.self c.args.plug c.in_ok-node.node c.law.ensures c.requires.plug c.in_ok-node.ensures c.loop-i.graph c.args.socket ms i c.read.new.self c.requires.socket c.loop-i.invariant.kept c.requires.fit at
 
 pub returns-in_err-wire-clause-step : goal.returns-in_err-wire-clause-step
 returns-in_err-wire-clause-step c =
@@ -93,14 +93,14 @@ returns-in_err-wire-clause-step c =
     let ms = matches_at exports imports ps in
     let i = c.loop-i.i in
     let same : c.loop-i.graph.types ≡ g.types = (keeps-trans g c.instantiate.new.self c.loop-i.graph (instance-keeps g c.instantiate.new.self c.args.plug c.in_ok-node.node c.requires.plug c.in_ok-node.ensures).0 c.loop-i.invariant.kept).types in
-    let now : c.types.result.now ≡ g.types = c.types.ensures ∙ same in
+    let now : c.types-in-loop-i.result.now ≡ g.types = c.types-in-loop-i.ensures ∙ same in
     let p : Pair = get_or ps i (record { export = 0; import = 0 }) in
     let pair : slice_get ps i ≡ Some p = slice_get-get_or ps i (record { export = 0; import = 0 }) c.loop-i-test.true in
-    let at : slice_get ms i ≡ Some c.in_ok-found.found = match-read g.types c.types.result.now c.args.exporting c.args.importing now ps i p c.in_ok-found.found pair c.in_ok-found.ensures in
+    let at : slice_get ms i ≡ Some c.read.new.self = match-read g.types c.types-in-loop-i.result.now c.args.exporting c.args.importing now ps i p c.read.new.self pair c.in_ok-read.ensures in
     let e = (c.in_err-wire.field-0).0 in
     subst (λ (r : Answer). PlugsIn c.args.plug c.args.socket g ms r c.wire.new.graph) (sym (exit-is c.from_residual-in_err-wire.result e c.from_residual-in_err-wire.ensures.1))
     (plugs-in-some c.args.plug c.args.socket c.in_ok-node.node g c.instantiate.new.self c.wire.new.graph ms (Err e) (not-none exports imports ps (sym c.is_empty.ensures ∙ c.if-is_empty.false)) c.in_ok-node.ensures
-    (c.loop-i.invariant.wired (Err e) c.wire.new.graph (refused-at (Wires c.in_ok-node.node c.args.socket) ms i c.in_ok-found.found c.loop-i.graph at e c.wire.new.graph c.in_err-wire.ensures.step)))
+    (c.loop-i.invariant.wired (Err e) c.wire.new.graph (refused-at (Wires c.in_ok-node.node c.args.socket) ms i c.read.new.self c.loop-i.graph at e c.wire.new.graph c.in_err-wire.ensures.step)))
 
 pub loop-i-preserved : goal.loop-i-preserved
 loop-i-preserved c =
@@ -111,13 +111,13 @@ loop-i-preserved c =
     let ms = matches_at exports imports ps in
     let i = c.loop-i.i in
     let same : c.loop-i.graph.types ≡ g.types = (keeps-trans g c.instantiate.new.self c.loop-i.graph (instance-keeps g c.instantiate.new.self c.args.plug c.in_ok-node.node c.requires.plug c.in_ok-node.ensures).0 c.loop-i.invariant.kept).types in
-    let now : c.types.result.now ≡ g.types = c.types.ensures ∙ same in
+    let now : c.types-in-loop-i.result.now ≡ g.types = c.types-in-loop-i.ensures ∙ same in
     let p : Pair = get_or ps i (record { export = 0; import = 0 }) in
     let pair : slice_get ps i ≡ Some p = slice_get-get_or ps i (record { export = 0; import = 0 }) c.loop-i-test.true in
-    let at : slice_get ms i ≡ Some c.in_ok-found.found = match-read g.types c.types.result.now c.args.exporting c.args.importing now ps i p c.in_ok-found.found pair c.in_ok-found.ensures in
+    let at : slice_get ms i ≡ Some c.read.new.self = match-read g.types c.types-in-loop-i.result.now c.args.exporting c.args.importing now ps i p c.read.new.self pair c.in_ok-read.ensures in
     record {
       kept = keeps-trans c.instantiate.new.self c.loop-i.graph c.wire.new.graph c.loop-i.invariant.kept c.in_ok-wire.ensures.kept;
-      wired = λ answer new h. c.loop-i.invariant.wired answer new (one-more (Wires c.in_ok-node.node c.args.socket) ms i c.in_ok-found.found c.loop-i.graph at c.wire.new.graph c.in_ok-wire.ensures.step answer new h);
+      wired = λ answer new h. c.loop-i.invariant.wired answer new (one-more (Wires c.in_ok-node.node c.args.socket) ms i c.read.new.self c.loop-i.graph at c.wire.new.graph c.in_ok-wire.ensures.step answer new h);
     }
 
 pub returns-clause-step : goal.returns-clause-step
