@@ -1,5 +1,5 @@
 -- Classes that are one plain interface alone are imported as one interface.
-use Rattle.std.proofs.Common.{◌≡◌, ℕ, zero, suc, Bool, true, false, cond, ◌||◌, is_some, List, [], ◌∷◌, ◌++◌, length, map, take, slice_get, Option, Some, None, inl, inr, refl, sym, ap, ◌∙◌, subst, arith}
+use Rattle.std.proofs.Common.{◌≡◌, ℕ, suc, Bool, true, false, cond, ◌||◌, is_some, List, [], ◌∷◌, ◌++◌, length, map, slice_get, Option, Some, None, inl, inr, refl, sym, ap, ◌∙◌, subst, arith}
 use Rattle.std.specs.List.{AllZip, list_any}
 use Rattle.std.specs.Option.{MatchOption}
 use Rattle.std.proofs.lemmas.Bool.{cases_Bool, false≢true}
@@ -21,7 +21,6 @@ use Rattle.wac_entries.specs.Bindings.{ClassBindings}
 use Rattle.wac_entries.specs.Classes.{Entry, by_names, class_names, is_instance, members, same_class}
 use Rattle.wac_entries.specs.Places.{own_resource}
 use Rattle.wac_entries.proofs.Lists.{some-at}
-use Rattle.wac_terms.specs.Became.{became}
 use Rattle.wac_terms.specs.Merge.{class_id, first_entry_id, instance_id, is_on_track, names_behind, with_names}
 use Rattle.wac_terms.specs.MergedKinds.{AreInstancesOf, AreNoInstances, IsMergedKind, as_instance, as_other, as_resource}
 use Rattle.wac_terms.specs.Unions.{AreUnions, IsExport, is_own_of, listed_under, part, part_lists}
@@ -42,7 +41,7 @@ use Rattle.wac_renaming.specs.declared.made.Made.{Made}
 use Rattle.wac_unions.specs.MergedClasses.{first_id}
 use Rattle.wac_unions.specs.OneId.{AreMadeOnce}
 use Rattle.wac_unions.specs.OneInterface.{AreOfOneInterface, IsAlone, IsPlain, IsPlainItem}
-use Rattle.wac_unions.specs.SharedUnions.{IsAloneAt, IsAloneIn}
+use Rattle.wac_unions.specs.SharedUnions.{IsAloneAt}
 use Rattle.wac_unions.specs.WritingSteps.{AreItemsMadeOf}
 use Rattle.wac_unions.proofs.Assembled.{AreAssembled}
 use Rattle.wac_unions.proofs.AssembledKinds.{merged-kinds}

@@ -24,7 +24,7 @@ use Rattle.wac_shapes.specs.declared.component.«Type».TheVariants as ty
 use Rattle.wac_collection.specs.Collection.{Collection, HasInterface, item_at}
 use Rattle.wac_entries.proofs.Telling.{and_true, both}
 use Rattle.wac_terms.proofs.Found.{some_same}
-use Rattle.wac_unions.specs.SharedUnions.{IsOneWhereAlike, Shares}
+use Rattle.wac_unions.specs.SharedUnions.{Shares}
 
 -- ---- interfaces that use no other are equal where `==` says so
 

@@ -1,10 +1,9 @@
 -- Unions that share interfaces, as they are written one by one.
-use Rattle.std.proofs.Common.{◌≡◌, ℕ, ◌+◌, ◌-◌, ◌⊎◌, inl, inr, List, [], ◌∷◌, ◌++◌, length, reverse, slice_get, Option, Some, None, refl, sym, ap, ◌∙◌, subst, arith}
+use Rattle.std.proofs.Common.{◌≡◌, ℕ, ◌+◌, ◌-◌, ◌⊎◌, inl, inr, List, [], ◌∷◌, ◌++◌, length, reverse, slice_get, Option, Some, None, sym, ap, ◌∙◌, subst, arith}
 use Rattle.std.proofs.lemmas.List.{length-reverse}
 use Rattle.std.proofs.lemmas.Option.{slice_get_within}
 use Rattle.wac_shapes.specs.Name.{Name}
-use Rattle.wac_collection.specs.Collection.{Collection, HasInterface, item_at}
-use Rattle.wac_shapes.specs.declared.component.Interface.{Interface}
+use Rattle.wac_collection.specs.Collection.{Collection, HasInterface}
 use Rattle.wac_shapes.specs.declared.component.InterfaceId.{InterfaceId}
 use Rattle.wac_terms.specs.Renaming.{IsExtended}
 use Rattle.wac_terms.specs.declared.parts.Part.{Part}

@@ -1,4 +1,4 @@
-use Rattle.std.proofs.Common.{◌<◌, ap, sym, subst, arith}
+use Rattle.std.proofs.Common.{sym, subst, arith}
 use Rattle.wac_collection.specs.Collection.{Collection}
 use Rattle.wac_terms.specs.Renaming.{IsExtended}
 use Rattle.wac_renaming.proofs.Extending.{extended_interface}

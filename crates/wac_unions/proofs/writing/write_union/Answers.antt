@@ -1,4 +1,4 @@
-use Rattle.std.proofs.Common.{◌≡◌, ◌<◌, [], List, Some, length, arith, Result, Ok, Err, OnOk, Option, None, IfSome, refl, sym, ap, ◌∙◌, subst}
+use Rattle.std.proofs.Common.{◌≡◌, ◌<◌, List, Some, length, arith, Result, Ok, Err, OnOk, Option, None, IfSome, sym, ap, ◌∙◌, subst}
 use Rattle.std.specs.Prelude.{string_bytes}
 use Rattle.std.specs.Option.{option_map}
 use Rattle.wac_shapes.specs.declared.component.UsedType.{UsedType}
