@@ -12,6 +12,7 @@ mod graphs;
 mod growth;
 mod merging;
 mod names;
+mod nesting;
 mod step;
 mod times;
 mod types;

@@ -2,7 +2,9 @@
 //! chain of instances of which each uses the resource of the one before.
 
 ghost use Rattle.std.specs.Prelude.{◌≡◌, IfOk, true};
+ghost use Rattle.wac_entries.specs.Bindings.{AreHeld};
 
+use crate::nesting;
 use crate::times::{ROUNDS, Times, print_power, print_times};
 use crate::types::{defined, export, function, instance, primitive, record};
 use anyhow::{Result, bail};
@@ -33,16 +35,16 @@ enum Sort {
 
 /// An import that is asked for.
 #[derive(Drop)]
-struct Import {
-    name: String,
-    kind: ItemKind,
+pub struct Import {
+    pub name: String,
+    pub kind: ItemKind,
 }
 
 /// A resource, and the interface that has it.
 #[derive(Clone, Copy)]
-struct Owned {
-    interface: InterfaceId,
-    resource: ResourceId,
+pub struct Owned {
+    pub interface: InterfaceId,
+    pub resource: ResourceId,
 }
 
 /// Adds an interface of functions, of which every second takes a text.
@@ -108,7 +110,7 @@ fn versions(alloc: Global, types: &mut Types, content: Content, count: u64) -> R
 }
 
 /// Adds an interface with a resource of its own.
-fn first_owned(alloc: Global, types: &mut Types, id: &str, name: &str) -> Result<Owned> {
+pub fn first_owned(alloc: Global, types: &mut Types, id: &str, name: &str) -> Result<Owned> {
     let resource = types.add_resource(Resource::new(alloc, name)?)?;
     let give = function(alloc, types, &[], Some(ValueType::Own(resource)))?;
     let own = ItemKind::TypeItem(Type::Resource(resource));
@@ -121,7 +123,7 @@ fn first_owned(alloc: Global, types: &mut Types, id: &str, name: &str) -> Result
 }
 
 /// Adds an interface with a resource of its own, which uses that of the one before.
-fn next_owned<'a>(
+pub fn next_owned<'a>(
     alloc: Global,
     types: &mut Types,
     id: &str,
@@ -182,9 +184,9 @@ fn imports(alloc: Global, types: &mut Types, sort: Sort, count: u64) -> Result<V
     }
 }
 
-/// Asks for all imports, in order, and merges them.
-fn merged(alloc: Global, types: &Types, imports: &[Import]) -> Result<TypeAggregator>
-    ensures { IfOk result (λ a. a.is_finished ≡ true) }
+/// Asks for all imports, in order.
+pub fn aggregated(alloc: Global, types: &Types, imports: &[Import]) -> Result<TypeAggregator>
+    ensures { IfOk result (λ a. AreHeld types.now a.entries) }
 {
     let mut aggregator = TypeAggregator::new(alloc);
     for import in imports {
@@ -193,6 +195,14 @@ fn merged(alloc: Global, types: &Types, imports: &[Import]) -> Result<TypeAggreg
         }
         aggregator = aggregator.aggregate(import.name.as_str(), types, import.kind)?;
     }
+    Ok(aggregator)
+}
+
+/// Asks for all imports, in order, and merges them.
+fn merged(alloc: Global, types: &Types, imports: &[Import]) -> Result<TypeAggregator>
+    ensures { IfOk result (λ a. a.is_finished ≡ true) }
+{
+    let aggregator = aggregated(alloc, types, imports)?;
     Ok(aggregator.finish(types)?)
 }
 
@@ -249,5 +259,6 @@ pub fn show(rt: &HostRuntime) -> Result<()> {
 pub fn measure(rt: &HostRuntime) -> Result<()> {
     measure_growth(rt, "functions", Sort::Versions(Content::Functions), 1250)?;
     measure_growth(rt, "records", Sort::Versions(Content::Records), 1250)?;
-    measure_growth(rt, "resources", Sort::Chain, 100)
+    measure_growth(rt, "resources", Sort::Chain, 100)?;
+    nesting::measure(rt)
 }
