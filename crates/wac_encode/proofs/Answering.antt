@@ -11,11 +11,12 @@ use Rattle.wac_collection.specs.Collection.{Collection}
 use Rattle.wac_collection.specs.Aliases.{value_resolved}
 use Rattle.wac_binary.specs.Items.{value_def}
 use Rattle.wac_scopes.specs.declared.encodable.Encodable.{Encodable}
-use Rattle.wac_scopes.specs.Contents.{and_type, and_alias_of, ContentFits}
+use Rattle.wac_scopes.specs.Contents.{and_type, ContentFits}
+use Rattle.wac_scopes.specs.declared.scope.Listed.{Listed}
 use Rattle.wac_scopes.specs.declared.scope.Scope.{Scope}
 use Rattle.wac_scopes.specs.declared.fault.EncodeFault.{EncodeFault}
 use Rattle.wac_scopes.specs.declared.fault.EncodeFault.TheVariants as fault
-use Rattle.wac_scopes.specs.Scoped.{listed_at, IsAsBefore}
+use Rattle.wac_scopes.specs.Scoped.{listed_at, IsAsBefore, and_listed}
 use Rattle.wac_stacks.specs.Laws.{StaysOnward}
 use Rattle.wac_encode.specs.declared.task.Task.{Task}
 use Rattle.wac_listing.specs.Made.{MadeOf, itself, part}
@@ -26,7 +27,7 @@ use Rattle.wac_encode.proofs.Stacks.{writes-none, says-same}
 use Rattle.wac_encode.proofs.Stepping.{all-last}
 
 pub as-it-was : (s : Scope) → IsAsBefore s s
-as-it-was s = record { content = refl; types = λ a. refl; listed = λ a. refl }
+as-it-was s = record { content = refl; types = λ a. refl; listed = λ a. refl; names = λ d. refl }
 
 -- loops over lists that go together
 
@@ -54,9 +55,9 @@ begins c stays d s tasks is ready = subst (λ (ts : List Task). IsUnderWay c d s
 
 -- what does not fit still does not
 large-still : (c : Collection) (now new : Scope) (d : DefinedTypeId) → IsAsBefore now new → LargeOne c now d → LargeOne c new d
-large-still c now new d same h = subst (λ (l : Option (ℕ × Name)). IsLargeFrom l c new d) (sym (same.listed (ty.Value (val.Defined d)))) (by_place (listed_at now d) h)
+large-still c now new d same h = subst (λ (l : Option Listed). IsLargeFrom l c new d) (sym (same.listed (ty.Value (val.Defined d)))) (by_place (listed_at now d) h)
   where
-    by_place : (l : Option (ℕ × Name)) → IsLargeFrom l c now d → IsLargeFrom l c new d
+    by_place : (l : Option Listed) → IsLargeFrom l c now d → IsLargeFrom l c new d
     by_place None k = record {
       definition = k.definition;
       found = k.found;
@@ -64,7 +65,7 @@ large-still c now new d same h = subst (λ (l : Option (ℕ × Name)). IsLargeFr
       says = says-same c now new k.definition k.written same k.says;
       large = λ fits. k.large (subst (λ (x : Encodable). ContentFits (and_type x (value_def k.written))) same.content fits);
     }
-    by_place (Some l) k = λ fits. k (subst (λ (x : Encodable). ContentFits (and_alias_of x l.0 l.1)) same.content fits)
+    by_place (Some l) k = λ fits. k (subst (λ (x : Encodable). ContentFits (and_listed x l)) same.content fits)
 
 pub refused-so : (B : Type 0) (c : Collection) (d : DefinedTypeId) (old now new : Scope) (t : Task) (left : List Task) (e : EncodeFault) → IsUnderWay c d old now (left ++ t ∷ []) → IsAsBefore now new → IsStepRefused {A = Unit {0}} c now t (Err e) → IsRefused {A = B} c (PartOf c (val.Defined d)) new (Err e)
 refused-so B c d old now new t left (fault.Write f) w same h = (h.0, (value_resolved c h.1, part t.id h.2.0 t.next h.1 (all-last (λ (u : Task). MadeOf c (val.Defined d) (val.Defined u.id)) left t w.made) h.2.1 h.2.2, h.3))

@@ -10,3 +10,4 @@ pub mod Listed
 pub mod Naming
 pub mod Plain
 pub mod Together
+pub mod Around

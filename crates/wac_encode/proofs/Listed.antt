@@ -1,7 +1,6 @@
 -- Interfaces, item by item.
-use Rattle.std.specs.Prelude.{ℕ, zero, suc, ◌+◌, ◌≤◌, ◌≡◌, List, [], ◌∷◌, ◌++◌, length, map, Option, Some, None, slice_get, Err}
+use Rattle.std.specs.Prelude.{ℕ, zero, suc, ◌+◌, ◌≤◌, ◌≡◌, true, List, [], ◌∷◌, ◌++◌, length, map, Option, Some, None, slice_get, Err}
 use Rattle.std.proofs.Common.{refl, ap, ◌∙◌, sym, subst, take, add-one, arith}
-use Rattle.std.proofs.Math.Path.{fun_ext}
 use Rattle.std.proofs.Math.Seq.{take-length}
 use Rattle.wac_shapes.specs.Name.{Name, find_name}
 use Rattle.wac_shapes.specs.Named.{NoNameTwice}
@@ -29,16 +28,17 @@ use Rattle.wac_scopes.specs.declared.encodable.Encodable.{Encodable}
 use Rattle.wac_scopes.specs.declared.encodable.Encodable.TheVariants.{Builder, Instance, Component}
 use Rattle.wac_scopes.specs.declared.scope.Scope.{Scope}
 use Rattle.wac_scopes.specs.Contents.{content_of, IsOpenType, and_type, and_export}
-use Rattle.wac_stacks.specs.Scopes.{Open, Stack, env, envs, opening}
+use Rattle.wac_stacks.specs.Scopes.{Open, Stack, scope_of, env, envs, opening}
 use Rattle.wac_stacks.specs.Good.{Keeps, IsHeld, Good, Onward, top}
 use Rattle.wac_stacks.specs.Laws.{IsItsEnd, IsRecorded}
-use Rattle.wac_stacks.specs.Listed.{IsUnder, IsNewName, Lists, AreListed, has_own, declaring, ListsOneMore, ListsInAnyOrder, OpensInterface, ClosesInstance, HoldsInterface}
-use Rattle.wac_scopes.specs.Scoped.{value_index, recorded_type, opened, AddsPrimitive, ListsType, ListsValue, ListsFunction, place}
+use Rattle.wac_stacks.specs.Listed.{IsUnder, IsNewName, Lists, AreListed, has_own, declaring, ListsOneMore, ListsInAnyOrder, OpensInterface, OpensOver, ClosesInstance, HoldsInterface}
+use Rattle.wac_scopes.specs.Scoped.{value_index, recorded_type, opened, AddsPrimitive, ListsType, ListsValue, ListsFunction}
 use Rattle.wac_stacks.proofs.Values.{primitive-held}
 use Rattle.wac_encode.specs.Written.{GoesOn, with_types, AddsHeldFunc, NewType, defined, aliased, as_decl}
-use Rattle.wac_encode.specs.Listing.{SaysInterface, WritesItem, WritesItems, IsEmpty, IsItemRefused, IsStopped}
+use Rattle.wac_encode.specs.Listing.{SaysInterface, WritesItem, WritesItems, IsOpened, IsItemRefused, IsStopped}
+use Rattle.wac_encode.specs.Listing.{are_plain}
+use Rattle.wac_encode.proofs.Around.{starts-good}
 use Rattle.wac_encode.specs.Items.{ListsHeld, CanClose, HasListed}
-use Rattle.wac_stacks.proofs.Moved.{ap2}
 use Rattle.wac_scopes.proofs.ScopedLaws.{recorded-at}
 
 keeps-both : (a b d : Env) → Keeps a b → Keeps b d → Keeps a d
@@ -102,8 +102,8 @@ function-listed c old now new n f k adds lists m ms o os g free =
     (function_item r.0, r.1, lists-after c m ms old now new o os n (function_item r.0) r.3.0 l)
 
 -- one more item of an interface
-listed-more : (c : Collection) → ListsOneMore → (it : Interface) (old new : Scope) (es : List (Name × ItemKind)) (n : Name) (k : ItemKind) → HasListed c it old es → ListsHeld c old new n k → find_name es n ≡ None → HasListed c it new (es ++ (n, k) ∷ [])
-listed-more c more it old new es n k had item missing ms st g =
+listed-more : (c : Collection) → ListsOneMore → (it : Interface) (old new : Scope) (start : Scope) (es : List (Name × ItemKind)) (n : Name) (k : ItemKind) → HasListed c it start old es → ListsHeld c old new n k → find_name es n ≡ None → HasListed c it start new (es ++ (n, k) ∷ [])
+listed-more c more it old new start es n k had item missing ms st g =
     let o : Open = opening (has_own c it) in
     let m : Bindings = inside_interface c it (top ms) in
     let h = had ms st g in
@@ -112,19 +112,17 @@ listed-more c more it old new es n k had item missing ms st g =
     (r.2.good, subst (λ (items : Name → Tree). AreListed c m exported (es ++ (n, k) ∷ []) items) (sym r.2.this) (more c m exported es ((env (opened old o) (envs st)).exports) n k r.0 h.1 missing r.1))
 
 -- none yet
-none-listed : (c : Collection) → OpensInterface → (it : Interface) (s : Scope) → IsEmpty s → HasListed c it s []
+none-listed : (c : Collection) → OpensInterface → (it : Interface) (s : Scope) → s.content ≡ Instance [] → HasListed c it s s []
 none-listed c opens it s empty ms st g =
-    let o : Open = opening (has_own c it) in
-    let memo_same : recorded_type s ≡ (λ a. None) = fun_ext (λ a. ap2 place (empty.types a) (empty.listed a)) in
-    let same : opened s o ≡ o = (λ i. record o { content = content_of (empty.content i); memo = memo_same i }) in
-    subst (λ (p : Open). Good c (inside_interface c it (top ms) ∷ ms) (p ∷ st) × AreListed c (inside_interface c it (top ms)) exported [] ((env p (envs st)).exports)) (sym same) (opens c ms st it g)
+    let nothing : (n : Name) → (env (opening (has_own c it)) (envs st)).exports n ≡ absent = (opens c ms st it g.1).1 in
+    (g, λ n. ap (λ (x : Encodable). (scope_of (content_of x) (envs st)).exports n) empty ∙ nothing n)
 
 -- nothing is imported
 
 types-import-nothing : (ys : List NewType) (n : Name) (d : Description) → ImportNothing (decls (map as_decl ys ++ export_decl n d ∷ []))
 types-import-nothing [] n d = tt
 types-import-nothing (defined y ∷ ys) n d = types-import-nothing ys n d
-types-import-nothing (aliased j m ∷ ys) n d = types-import-nothing ys n d
+types-import-nothing (aliased l ∷ ys) n d = types-import-nothing ys n d
 
 import-nothing-more : (ds : List Decl) (ys : List NewType) (n : Name) (d : Description) → ImportNothing (decls ds) → ImportNothing (decls ((ds ++ map as_decl ys) ++ export_decl n d ∷ []))
 import-nothing-more [] ys n d h = types-import-nothing ys n d
@@ -174,14 +172,14 @@ writes-one-more c old now new (e ∷ es) n k w item = (w.0, w.1, writes-one-more
 
 -- what stands after some of them
 pub record SoFar (c : Collection) (it : Interface) (start now : Scope) (order : List (Name × ItemKind)) (i : ℕ) : Type 0 where
-  pub listed : HasListed c it now (take i order)
+  pub listed : HasListed c it start now (take i order)
   pub closes : CanClose now.content
   pub written : WritesItems c start (take i order) now
 
-pub starts : (c : Collection) → OpensInterface → (it : Interface) (s : Scope) (order : List (Name × ItemKind)) → IsEmpty s → SoFar c it s s order 0
+pub starts : (c : Collection) → OpensInterface → (it : Interface) (s : Scope) (order : List (Name × ItemKind)) → s.content ≡ Instance [] → SoFar c it s s order 0
 starts c opens it s order empty = record {
   listed = none-listed c opens it s empty;
-  closes = subst CanClose (sym empty.content) tt;
+  closes = subst CanClose (sym empty) tt;
   written = refl;
 }
 
@@ -189,7 +187,7 @@ pub goes-further : (c : Collection) → ListsOneMore → (it : Interface) (start
 goes-further c more it start now new order i n k once at so_far item wrote =
     let longer : take (suc i) order ≡ take i order ++ (n, k) ∷ [] = take_at order i (n, k) at in
     subst (λ (j : ℕ). SoFar c it start new order j) (sym (add-one i)) (record {
-      listed = subst (λ (es : List (Name × ItemKind)). HasListed c it new es) (sym longer) (listed-more c more it now new (take i order) n k so_far.listed item (none_before order i n k once at));
+      listed = subst (λ (es : List (Name × ItemKind)). HasListed c it start new es) (sym longer) (listed-more c more it now new start (take i order) n k so_far.listed item (none_before order i n k once at));
       closes = still-closes c now new n k wrote so_far.closes;
       written = subst (λ (es : List (Name × ItemKind)). WritesItems c start es new) (sym longer) (writes-one-more c start now new (take i order) n k so_far.written wrote);
     })
@@ -199,12 +197,12 @@ all-of {A} es i is = ap (λ (k : ℕ). take k es) is ∙ take-length es
 
 -- all of them
 pub record AtEnd (c : Collection) (it : Interface) (start now : Scope) (order : List (Name × ItemKind)) : Type 0 where
-  pub listed : HasListed c it now order
+  pub listed : HasListed c it start now order
   pub written : WritesItems c start order now
 
 pub at-end : (c : Collection) (it : Interface) (start now : Scope) (order : List (Name × ItemKind)) (i : ℕ) → i ≡ length order → SoFar c it start now order i → AtEnd c it start now order
 at-end c it start now order i is so_far = record {
-  listed = subst (λ (es : List (Name × ItemKind)). HasListed c it now es) (all-of order i is) so_far.listed;
+  listed = subst (λ (es : List (Name × ItemKind)). HasListed c it start now es) (all-of order i is) so_far.listed;
   written = subst (λ (es : List (Name × ItemKind)). WritesItems c start es now) (all-of order i is) so_far.written;
 }
 
@@ -229,10 +227,12 @@ pub written-content : (x y : Encodable) (ds : List Decl) → y ≡ x → y ≡ I
 written-content x y ds same is = sym same ∙ is
 
 -- the whole
-pub says-interface : (c : Collection) → IsWellFormed c → HoldsInterface → ClosesInstance → ListsInAnyOrder → (i : InterfaceId) (it : Interface) (s : Scope) (ds : List Decl) (order : List (Name × ItemKind)) → item_at c.interfaces i.0 ≡ Some it → ((n : Name) → find_name order n ≡ find_name it.exports n) → HasListed c it s order → s.content ≡ Instance ds → CanClose s.content → SaysInterface c i ds
-says-interface c wf holds closes any i it s ds order at same had is imports m ms o os g =
+pub says-interface : (c : Collection) → IsWellFormed c → OpensOver → HoldsInterface → ClosesInstance → ListsInAnyOrder → (i : InterfaceId) (it : Interface) (around start s : Scope) (ds : List Decl) (order : List (Name × ItemKind)) → item_at c.interfaces i.0 ≡ Some it → are_plain it.exports ≡ true → IsOpened c i around start → ((n : Name) → find_name order n ≡ find_name it.exports n) → HasListed c it start s order → s.content ≡ Instance ds → CanClose s.content → SaysInterface c around i ds
+says-interface c wf over holds closes any i it around start s ds order at plain begun same had is imports m ms o os g =
+    let out : Open = opened around o in
     let inner : Open = record (opening (has_own c it)) { memo = recorded_type s } in
-    let h = subst (λ (x : Encodable). Good c (inside_interface c it m ∷ m ∷ ms) (record inner { content = content_of x } ∷ o ∷ os) × AreListed c (inside_interface c it m) exported order ((env (record inner { content = content_of x }) (env o (envs os) ∷ envs os)).exports)) is (had (m ∷ ms) (o ∷ os) g) in
-    let items : Name → Tree = (env (declaring ds inner) (env o (envs os) ∷ envs os)).exports in
+    let first = starts-good c over i it around start plain begun m ms o os g in
+    let h = subst (λ (x : Encodable). Good c (inside_interface c it m ∷ m ∷ ms) (record inner { content = content_of x } ∷ out ∷ os) × AreListed c (inside_interface c it m) exported order ((env (record inner { content = content_of x }) (env out (envs os) ∷ envs os)).exports)) is (had (m ∷ ms) (out ∷ os) first) in
+    let items : Name → Tree = (env (declaring ds inner) (env out (envs os) ∷ envs os)).exports in
     let all : AreListed c (inside_interface c it m) exported it.exports items = any c (inside_interface c it m) exported order it.exports items h.1 (λ n. sym (same n)) in
-    (instance items, holds c wf m i it items at all, tt, closes c (inside_interface c it m) m ms ds inner o os h.0 (subst CanClose is imports))
+    (instance items, holds c wf m i it items at all, tt, closes c (inside_interface c it m) m ms ds inner out os h.0 (subst CanClose is imports))

@@ -17,7 +17,7 @@ use Rattle.wac_encode.specs.Listing.{is_plain, are_plain, lists_plain}
 
 -- whether all items are plain
 
-both-true : (a b : Bool) → (a && b) ≡ true → (a ≡ true) × (b ≡ true)
+pub both-true : (a b : Bool) → (a && b) ≡ true → (a ≡ true) × (b ≡ true)
 both-true true b all = (refl, all)
 both-true false b all = let both : false ≡ true = all in cc
 

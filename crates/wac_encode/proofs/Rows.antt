@@ -31,7 +31,7 @@ use Rattle.wac_stacks.specs.Parts.{Is, IsWrittenFunc}
 use Rattle.wac_scopes.specs.declared.scope.Scope.{Scope}
 use Rattle.wac_scopes.specs.declared.fault.EncodeFault.{EncodeFault}
 use Rattle.wac_scopes.specs.declared.fault.EncodeFault.TheVariants as fault
-use Rattle.wac_scopes.specs.Scoped.{type_index, listing, value_index, by_index, in_use, opened, HasToo, IsAsBefore, IsAt, AddsFunc, FitsUnlessTooLarge}
+use Rattle.wac_scopes.specs.Scoped.{type_index, named_at, listing, value_index, by_index, in_use, opened, HasToo, IsAsBefore, IsAt, AddsFunc, FitsUnlessTooLarge}
 use Rattle.wac_stacks.specs.Laws.{Follows, StaysOnward}
 use Rattle.wac_listing.specs.Made.{MadeOf, OneIsMadeOf}
 use Rattle.wac_encode.specs.Written.{Says, MaybeSays, IsByRecord, MaybeByRecord, GoesOn, IsKnown, defined, unwritten, OfValue, PartOf, PartOfOne, WritesFor, IsRefused, values_of, IsOfFunc, AddsHeldFunc, IsFuncByRecord, IsFuncFrom, IsFuncAt, FuncDoesNotFit, IsFuncRefused}
@@ -39,7 +39,7 @@ use Rattle.wac_encode.specs.Tasks.{FieldSays}
 use Rattle.wac_encode.proofs.Saying.{maybe-is, zip-map}
 use Rattle.wac_encode.proofs.Counting.{unwritten-same}
 use Rattle.wac_encode.proofs.Answering.{as-it-was}
-use Rattle.wac_encode.proofs.Stacks.{opened-same, writes-none, writes-then, writes-recorded, recorded-there, of-values, one-type}
+use Rattle.wac_encode.proofs.Stacks.{opened-same, writes-none, writes-then, writes-recorded, recorded-there, of-values, names-stay, one-type}
 use Rattle.wac_encode.proofs.Stepping.{known-more}
 
 -- the second of an entry is one of the seconds
@@ -187,6 +187,7 @@ writes-type c P old new y is on = record {
   sources = λ a i none some. let both : None ≡ Some i = sym none ∙ sym (ap (λ (s : Scope). type_index s a) is) ∙ some in cc;
   aliases = (tt, tt);
   listed = λ a. ap (λ (s : Scope). listing s a) is;
+  names = λ d. names-stay old new d (ap (λ (s : Scope). value_index s d) is) (ap (λ (s : Scope). named_at s d) is);
   once = let same : unwritten c new ≡ unwritten c old = unwritten-same c old new (λ a. ap (λ (s : Scope). type_index s a) is) in omega (arith, same);
 }
 
@@ -233,7 +234,7 @@ pub put-adds : (c : Collection) → IsWellFormed c → (old new : Scope) (f : Fu
 put-adds c wf old new f x ys y k at z r adds = adds-held c wf old new f x (func_def x.is_async (named ys) y) k at (func-says c old x x.is_async ys y refl z r) adds
 
 pub put-writes : (c : Collection) → Follows → StaysOnward → (old new : Scope) (f : FuncTypeId) (y : TypeDef) (k : ℕ) → f.0 < length c.funcs → type_index old (ty.Func f) ≡ None → HasToo old (ty.Func f) k new → k ≡ count (space sort.«Type») old.content → new.content ≡ and_type old.content y → AddsHeldFunc c old new f k → WritesFor c 0 (IsOfFunc c f) old new
-put-writes c follows stays old new f y k held none too index is adds = writes-recorded c follows 0 (IsOfFunc c f) old old new (ty.Func f) k (defined y) (writes-none c stays (IsOfFunc c f) old old (as-it-was old)) refl tt tt held none (func-onward c old new f k adds) too index is
+put-writes c follows stays old new f y k held none too index is adds = writes-recorded c follows 0 (IsOfFunc c f) old old new (ty.Func f) k (defined y) (writes-none c stays (IsOfFunc c f) old old (as-it-was old)) refl tt tt held none (func-onward c old new f k adds) too (λ d same. let both : false ≡ true = same in cc) index is
 
 -- as long as value types alone are written, it is not recorded
 pub still-unwritten : (c : Collection) (n : ℕ) (P : ValueType → Type 0) (old new : Scope) (f : FuncTypeId) → WritesFor c n (OfValue P) old new → type_index old (ty.Func f) ≡ None → type_index new (ty.Func f) ≡ None

@@ -1,6 +1,7 @@
 -- Good stacks go on as definitions are written.
-use Rattle.std.specs.Prelude.{ℕ, zero, suc, ◌+◌, ◌<◌, ◌≤◌, ◌≡◌, cond, Bool, true, false, List, [], ◌∷◌, ◌++◌, length, map, Option, Some, None, IsSome, slice_get, Err}
+use Rattle.std.specs.Prelude.{ℕ, zero, suc, ◌+◌, ◌<◌, ◌≤◌, ◌≡◌, cond, nat_eq, Bool, true, false, List, [], ◌∷◌, ◌++◌, length, map, Option, Some, None, IsSome, slice_get, Err}
 use Rattle.std.specs.List.{AllByRecursion}
+use Rattle.std.specs.HashMap.{get}
 use Rattle.std.proofs.Common.{refl, ap, ◌∙◌, sym, subst, arith, length-append, zero-add}
 use Rattle.std.proofs.lemmas.List.{append-nil, append_assoc}
 use Rattle.wac_shapes.specs.Name.{Name}
@@ -21,23 +22,27 @@ use Rattle.wac_scopes.specs.declared.encodable.Encodable.{Encodable}
 use Rattle.wac_scopes.specs.declared.encodable.Encodable.TheVariants.{Builder, Instance, Component}
 use Rattle.wac_scopes.specs.declared.fault.EncodeFault.{EncodeFault}
 use Rattle.wac_scopes.specs.declared.fault.EncodeFault.TheVariants as fault
+use Rattle.wac_scopes.specs.declared.scope.Listed.{Listed}
+use Rattle.wac_scopes.specs.declared.scope.Listed.TheVariants.{ByInstance, Around}
+use Rattle.wac_scopes.specs.declared.scope.Place.{Place}
 use Rattle.wac_scopes.specs.declared.scope.Scope.{Scope}
-use Rattle.wac_scopes.specs.Contents.{content_of, and_type, and_alias_of, count, ContentFits}
+use Rattle.wac_scopes.specs.Contents.{content_of, and_type, count, ContentFits}
 use Rattle.wac_stacks.specs.Scopes.{Open, env, envs}
 use Rattle.wac_stacks.specs.Good.{Good, Onward}
 use Rattle.wac_stacks.specs.Parts.{IsWritten}
-use Rattle.wac_scopes.specs.Scoped.{type_index, value_index, listed_at, listing, opened, IsAsBefore, HasToo, AddsValue, AliasesValue, AliasFits, WritesUnlessTooLarge, FitsUnlessTooLarge, RecordsUnlessTooLarge}
+use Rattle.wac_scopes.specs.Scoped.{index_of, named_index, type_index, value_index, named_at, listed_at, and_listed, listing, opened, IsAsBefore, HasToo, AddsValue, AliasesValue, AliasFits, WritesUnlessTooLarge, FitsUnlessTooLarge, RecordsUnlessTooLarge}
 use Rattle.wac_stacks.specs.Laws.{Follows, StaysOnward}
-use Rattle.wac_encode.specs.Written.{OfValue, SaysDefinition, GoesOn, NewType, defined, aliased, as_item, as_decl, with_types, IsWrittenAs, IsWrittenAt, IsListedThere, WritesFor, unwritten, IsLargeFrom}
+use Rattle.wac_encode.specs.Written.{OfValue, SaysDefinition, GoesOn, NewType, defined, aliased, alias_of, as_item, as_decl, with_types, IsWrittenAs, IsWrittenAt, IsListedThere, name_after, WritesFor, unwritten, IsLargeFrom}
 use Rattle.wac_encode.specs.Tasks.{and_new, WritesOne, IsOneRefused}
 use Rattle.wac_scopes.proofs.ScopedLaws.{recorded-same}
+use Rattle.wac_stacks.proofs.Moved.{ap2}
 use Rattle.wac_encode.proofs.Counting.{IsCounted, unwritten-same, unwritten-less}
 
 pub opened-same : (old new : Scope) → IsAsBefore old new → (o : Open) → opened new o ≡ opened old o
 opened-same old new h o = let memo_same = recorded-same old new h.types h.listed in (λ i. record o { content = content_of (h.content i); memo = memo_same i })
 
 pub as-equal : (old new : Scope) → new ≡ old → IsAsBefore old new
-as-equal old new is = record { content = ap (λ (s : Scope). s.content) is; types = λ k. ap (λ (s : Scope). type_index s k) is; listed = λ k. ap (λ (s : Scope). listing s k) is }
+as-equal old new is = record { content = ap (λ (s : Scope). s.content) is; types = λ k. ap (λ (s : Scope). type_index s k) is; listed = λ k. ap (λ (s : Scope). listing s k) is; names = λ d. ap (λ (s : Scope). named_at s d) is }
 
 pub goes-on-same : (c : Collection) → StaysOnward → (old new : Scope) → IsAsBefore old new → GoesOn c old new
 goes-on-same c stays old new h m ms o os g = subst (λ (p : Open). Onward c (m ∷ ms) (opened old o ∷ os) (p ∷ os)) (sym (opened-same old new h o)) (stays c (m ∷ ms) (opened old o ∷ os) g)
@@ -45,26 +50,28 @@ goes-on-same c stays old new h m ms o os g = subst (λ (p : Open). Onward c (m �
 pub goes-on-twice : (c : Collection) → Follows → (a b d : Scope) → GoesOn c a b → GoesOn c b d → GoesOn c a d
 goes-on-twice c follows a b d p q m ms o os g = let first = p m ms o os g in follows c (m ∷ ms) (opened a o ∷ os) (opened b o ∷ os) (opened d o ∷ os) first (q m ms o os first.0)
 
-pub writes-one : (c : Collection) → IsWellFormed c → (old new : Scope) (d : DefinedTypeId) (x : DefinedType) (y : ValueDef) (k : ℕ) → listed_at old d ≡ None → item_at c.defined d.0 ≡ Some x → SaysDefinition c old x y → AddsValue old new d y k → HasToo old (ty.Value (val.Defined d)) k new → new.content ≡ and_type old.content (value_def y) → k ≡ count (space sort.«Type») old.content → WritesOne c old new d
-writes-one c wf old new d x y k unlisted at says adds too appended index = record {
+pub writes-one : (c : Collection) → IsWellFormed c → (old new : Scope) (d : DefinedTypeId) (x : DefinedType) (y : ValueDef) (k : ℕ) → listed_at old d ≡ None → item_at c.defined d.0 ≡ Some x → SaysDefinition c old x y → AddsValue old new d y k → HasToo old (ty.Value (val.Defined d)) k new → named_at new d ≡ None → new.content ≡ and_type old.content (value_def y) → k ≡ count (space sort.«Type») old.content → WritesOne c old new d
+writes-one c wf old new d x y k unlisted at says adds too unnamed appended index = record {
   onward = λ m ms o os g. (adds c wf m ms o os x g at (says m ms o os g)).3.0;
   index = k;
   recorded = too;
   next = index;
   type = defined (value_def y);
-  source = subst (λ (l : Option (ℕ × Name)). IsWrittenAs l (defined (value_def y))) (sym unlisted) tt;
+  source = subst (λ (l : Option Listed). IsWrittenAs l (defined (value_def y))) (sym unlisted) tt;
   appended = appended;
+  name = unnamed ∙ sym (ap (λ (l : Option Listed). name_after None l None (Some k)) unlisted);
 }
 
-pub writes-alias : (c : Collection) (old new : Scope) (d : DefinedTypeId) (k j : ℕ) (n : Name) → listed_at old d ≡ Some (j, n) → AliasesValue old new d k → HasToo old (ty.Value (val.Defined d)) k new → new.content ≡ and_alias_of old.content j n → k ≡ count (space sort.«Type») old.content → WritesOne c old new d
-writes-alias c old new d k j n there adds too appended index = record {
+pub writes-alias : (c : Collection) (old new : Scope) (d : DefinedTypeId) (k : ℕ) (l : Listed) → listed_at old d ≡ Some l → AliasesValue old new d k → HasToo old (ty.Value (val.Defined d)) k new → named_at new d ≡ Some k → new.content ≡ and_listed old.content l → k ≡ count (space sort.«Type») old.content → WritesOne c old new d
+writes-alias c old new d k l there adds too named appended index = record {
   onward = λ m ms o os g. (adds c m ms o os g).3.0;
   index = k;
   recorded = too;
   next = index;
-  type = aliased j n;
-  source = subst (λ (l : Option (ℕ × Name)). IsWrittenAs l (aliased j n)) (sym there) refl;
+  type = aliased l;
+  source = subst (λ (p : Option Listed). IsWrittenAs p (aliased l)) (sym there) refl;
   appended = appended;
+  name = named ∙ sym (ap (λ (p : Option Listed). name_after None p None (Some k)) there);
 }
 
 -- types behind others
@@ -86,11 +93,14 @@ none-behind (Component ds) = ap Component (sym (append-nil ds))
 
 pub one-behind : (x : Encodable) (ys : List NewType) (y : NewType) → and_new (with_types x ys) y ≡ with_types x (ys ++ y ∷ [])
 one-behind (Builder items) ys (defined y) = ap Builder (mapped-more as_item items ys (defined y ∷ []))
-one-behind (Builder items) ys (aliased j n) = ap Builder (mapped-more as_item items ys (aliased j n ∷ []))
+one-behind (Builder items) ys (aliased (ByInstance j n)) = ap Builder (mapped-more as_item items ys (aliased (ByInstance j n) ∷ []))
+one-behind (Builder items) ys (aliased (Around i)) = ap Builder (mapped-more as_item items ys (aliased (Around i) ∷ []))
 one-behind (Instance ds) ys (defined y) = ap Instance (mapped-more as_decl ds ys (defined y ∷ []))
-one-behind (Instance ds) ys (aliased j n) = ap Instance (mapped-more as_decl ds ys (aliased j n ∷ []))
+one-behind (Instance ds) ys (aliased (ByInstance j n)) = ap Instance (mapped-more as_decl ds ys (aliased (ByInstance j n) ∷ []))
+one-behind (Instance ds) ys (aliased (Around i)) = ap Instance (mapped-more as_decl ds ys (aliased (Around i) ∷ []))
 one-behind (Component ds) ys (defined y) = ap Component (mapped-more as_decl ds ys (defined y ∷ []))
-one-behind (Component ds) ys (aliased j n) = ap Component (mapped-more as_decl ds ys (aliased j n ∷ []))
+one-behind (Component ds) ys (aliased (ByInstance j n)) = ap Component (mapped-more as_decl ds ys (aliased (ByInstance j n) ∷ []))
+one-behind (Component ds) ys (aliased (Around i)) = ap Component (mapped-more as_decl ds ys (aliased (Around i) ∷ []))
 
 pub one-type : (x : Encodable) (y : TypeDef) → and_type x y ≡ with_types x (defined y ∷ [])
 one-type (Builder items) y = refl
@@ -107,12 +117,14 @@ all-behind (Component ds) ys zs = ap Component (mapped-more as_decl ds ys zs)
 items-counted : (ys : List NewType) → indexes (space sort.«Type») (map as_item ys) ≡ length ys
 items-counted [] = refl
 items-counted (defined y ∷ ys) = let rest : indexes (space sort.«Type») (map as_item ys) ≡ length ys = items-counted ys in omega (arith, rest)
-items-counted (aliased j n ∷ ys) = let rest : indexes (space sort.«Type») (map as_item ys) ≡ length ys = items-counted ys in omega (arith, rest)
+items-counted (aliased (ByInstance j n) ∷ ys) = let rest : indexes (space sort.«Type») (map as_item ys) ≡ length ys = items-counted ys in omega (arith, rest)
+items-counted (aliased (Around i) ∷ ys) = let rest : indexes (space sort.«Type») (map as_item ys) ≡ length ys = items-counted ys in omega (arith, rest)
 
 decls-counted : (ys : List NewType) → declared (space sort.«Type») (map as_decl ys) ≡ length ys
 decls-counted [] = refl
 decls-counted (defined y ∷ ys) = let rest : declared (space sort.«Type») (map as_decl ys) ≡ length ys = decls-counted ys in omega (arith, rest)
-decls-counted (aliased j n ∷ ys) = let rest : declared (space sort.«Type») (map as_decl ys) ≡ length ys = decls-counted ys in omega (arith, rest)
+decls-counted (aliased (ByInstance j n) ∷ ys) = let rest : declared (space sort.«Type») (map as_decl ys) ≡ length ys = decls-counted ys in omega (arith, rest)
+decls-counted (aliased (Around i) ∷ ys) = let rest : declared (space sort.«Type») (map as_decl ys) ≡ length ys = decls-counted ys in omega (arith, rest)
 
 indexes-more : (xs : List Item) (ys : List NewType) → indexes (space sort.«Type») (xs ++ map as_item ys) ≡ indexes (space sort.«Type») xs + length ys
 indexes-more [] ys = let rest : indexes (space sort.«Type») (map as_item ys) ≡ length ys = items-counted ys in omega (arith, rest)
@@ -150,17 +162,17 @@ in-back (x ∷ xs) ys p y at = ap (slice_get (x ∷ (xs ++ ys))) (one-further (l
     one-further : (a b : ℕ) → suc a + b ≡ suc (a + b)
     one-further a b = omega arith
 
-written-front : (k : ℕ) (xs ys : List NewType) (i : ℕ) (l : Option (ℕ × Name)) → IsWrittenAt k xs i l → IsWrittenAt k (xs ++ ys) i l
+written-front : (k : ℕ) (xs ys : List NewType) (i : ℕ) (l : Option Listed) → IsWrittenAt k xs i l → IsWrittenAt k (xs ++ ys) i l
 written-front k xs ys i l w = (w.0, w.1, w.2, in-front xs ys w.0 w.2 w.3, w.4)
 
-written-back : (k m : ℕ) (xs ys : List NewType) (i : ℕ) (l : Option (ℕ × Name)) → m ≡ k + length xs → IsWrittenAt m ys i l → IsWrittenAt k (xs ++ ys) i l
+written-back : (k m : ℕ) (xs ys : List NewType) (i : ℕ) (l : Option Listed) → m ≡ k + length xs → IsWrittenAt m ys i l → IsWrittenAt k (xs ++ ys) i l
 written-back k m xs ys i l same w = (length xs + w.0, (let here : i ≡ m + w.0 = w.1 in omega (arith, here, same)), w.2, in-back xs ys w.0 w.2 w.3, w.4)
 
 -- what is aliased is needed
 
 one-listed : (P Q : AnyType → Type 0) (old now : Scope) → ((a : AnyType) → P a → Q a) → ((a : AnyType) → listing now a ≡ listing old a) → (y : NewType) → IsListedThere P now y → IsListedThere Q old y
 one-listed P Q old now ok same (defined y) h = tt
-one-listed P Q old now ok same (aliased j n) h = (h.0, ok (ty.Value (val.Defined h.0)) h.1, sym (same (ty.Value (val.Defined h.0))) ∙ h.2)
+one-listed P Q old now ok same (aliased l) h = (h.0, ok (ty.Value (val.Defined h.0)) h.1, sym (same (ty.Value (val.Defined h.0))) ∙ h.2)
 
 all-listed : (P Q : AnyType → Type 0) (old now : Scope) → ((a : AnyType) → P a → Q a) → ((a : AnyType) → listing now a ≡ listing old a) → (ys : List NewType) → AllByRecursion (IsListedThere P now) ys → AllByRecursion (IsListedThere Q old) ys
 all-listed P Q old now ok same [] h = tt
@@ -172,6 +184,46 @@ all-in-row P (x ∷ xs) ys a b = (a.0, all-in-row P xs ys a.1 b)
 
 pub same-index : (s : Scope) (a : AnyType) (i j : ℕ) → type_index s a ≡ Some i → type_index s a ≡ Some j → i ≡ j
 same-index s a i j one two = let both : Some i ≡ Some j = sym one ∙ two in cc
+
+-- names after nothing, and after more
+
+by-name : (o : Option ℕ) (l : Option Listed) (before now : Option ℕ) → (o ≡ None → before ≡ None) → now ≡ o → name_after o l before now ≡ before
+by-name (Some i) l before now none is = refl
+by-name None None before now none is = sym (none refl)
+by-name None (Some l) before now none is = is ∙ sym (none refl)
+
+-- what is not written has no name
+no-place : (s : Scope) (d : DefinedTypeId) → value_index s d ≡ None → named_at s d ≡ None
+no-place s d = by_place (get (λ a b. nat_eq a.0 b.0) s.values d)
+  where
+    by_place : (o : Option Place) → index_of o ≡ None → named_index o ≡ None
+    by_place None h = refl
+    by_place (Some p) h = let some_none : Some p.index ≡ None = h in cc
+
+pub names-stay : (old new : Scope) (d : DefinedTypeId) → value_index new d ≡ value_index old d → named_at new d ≡ named_at old d → named_at new d ≡ name_after (value_index old d) (listed_at old d) (named_at old d) (value_index new d)
+names-stay old new d same names = names ∙ sym (by-name (value_index old d) (listed_at old d) (named_at old d) (value_index new d) (no-place old d) same)
+
+names-then : (old now new : Scope) (d : DefinedTypeId) → ((i : ℕ) → value_index old d ≡ Some i → value_index now d ≡ Some i) → ((i : ℕ) → value_index now d ≡ Some i → value_index new d ≡ Some i) → listed_at now d ≡ listed_at old d
+    → named_at now d ≡ name_after (value_index old d) (listed_at old d) (named_at old d) (value_index now d) → named_at new d ≡ name_after (value_index now d) (listed_at now d) (named_at now d) (value_index new d)
+    → named_at new d ≡ name_after (value_index old d) (listed_at old d) (named_at old d) (value_index new d)
+names-then old now new d first second listed w u = by_old (value_index old d) (value_index now d) refl refl (w ∙ ap (λ (o : Option ℕ). name_after o (listed_at old d) (named_at old d) (value_index now d)) refl)
+  where
+    unseen : (l : Option Listed) (a b now_ : Option ℕ) → name_after None l a now_ ≡ name_after None l b now_
+    unseen None a b now_ = refl
+    unseen (Some l) a b now_ = refl
+
+    by_old : (p q : Option ℕ) → value_index old d ≡ p → value_index now d ≡ q → named_at now d ≡ name_after (value_index old d) (listed_at old d) (named_at old d) (value_index now d) → named_at new d ≡ name_after (value_index old d) (listed_at old d) (named_at old d) (value_index new d)
+    by_old (Some i) q is then_ h =
+        u ∙ ap (λ (o : Option ℕ). name_after o (listed_at now d) (named_at now d) (value_index new d)) (first i is)
+        ∙ h ∙ ap (λ (o : Option ℕ). name_after o (listed_at old d) (named_at old d) (value_index now d)) is
+        ∙ sym (ap (λ (o : Option ℕ). name_after o (listed_at old d) (named_at old d) (value_index new d)) is)
+    by_old None (Some j) is then_ h =
+        u ∙ ap (λ (o : Option ℕ). name_after o (listed_at now d) (named_at now d) (value_index new d)) then_
+        ∙ h ∙ ap (name_after (value_index old d) (listed_at old d) (named_at old d)) (then_ ∙ sym (second j then_))
+    by_old None None is then_ h =
+        u ∙ ap (λ (o : Option ℕ). name_after o (listed_at now d) (named_at now d) (value_index new d)) then_
+        ∙ ap (λ (l : Option Listed). name_after None l (named_at now d) (value_index new d)) listed ∙ unseen (listed_at old d) (named_at now d) (named_at old d) (value_index new d)
+        ∙ sym (ap (λ (o : Option ℕ). name_after o (listed_at old d) (named_at old d) (value_index new d)) is)
 
 -- nothing is written
 pub writes-none : (c : Collection) → StaysOnward → (P : AnyType → Type 0) (old new : Scope) → IsAsBefore old new → WritesFor c 0 P old new
@@ -185,6 +237,7 @@ writes-none c stays P old new h = record {
   sources = λ a i none some. let both : None ≡ Some i = sym none ∙ sym (h.types a) ∙ some in cc;
   aliases = tt;
   listed = h.listed;
+  names = λ d. names-stay old new d (h.types (ty.Value (val.Defined d))) (h.names d);
   once = let n : unwritten c new ≡ unwritten c old = unwritten-same c old new h.types in omega (arith, n);
 }
 
@@ -196,7 +249,7 @@ recorded-now a i old new too e j none some = by_case (same_type e a) refl
     by_case true same = let both : None ≡ Some j = sym none ∙ ap (type_index old) (sym (same_type-true e a same)) ∙ some in cc
     by_case false other = too.types e ∙ ap (λ (b : Bool). cond b (Some i) (type_index old e)) other ∙ some
 
-new-is : (a : AnyType) (i : ℕ) (old new : Scope) → HasToo old a i new → (e : AnyType) (j : ℕ) → type_index old e ≡ None → type_index new e ≡ Some j → a ≡ e
+pub new-is : (a : AnyType) (i : ℕ) (old new : Scope) → HasToo old a i new → (e : AnyType) (j : ℕ) → type_index old e ≡ None → type_index new e ≡ Some j → a ≡ e
 new-is a i old new too e j none some = by_case (same_type e a) refl
   where
     by_case : (b : Bool) → same_type e a ≡ b → a ≡ e
@@ -208,8 +261,8 @@ pub recorded-there : (a : AnyType) (i : ℕ) (old new : Scope) → HasToo old a 
 recorded-there a i old new too = too.types a ∙ ap (λ (b : Bool). cond b (Some i) (type_index old a)) (same_item-refl (kind.TypeItem a))
 
 -- one type more, which is needed
-pub writes-recorded : (c : Collection) → Follows → (n : ℕ) (P : AnyType → Type 0) (old now new : Scope) (a : AnyType) (k : ℕ) (y : NewType) → WritesFor c n P old now → P a → IsWrittenAs (listing now a) y → IsListedThere P now y → IsCounted c a → type_index now a ≡ None → GoesOn c now new → HasToo now a k new → k ≡ count (space sort.«Type») now.content → new.content ≡ and_new now.content y → WritesFor c n P old new
-writes-recorded c follows n P old now new a k y w made source there held none on too next appended = record {
+pub writes-recorded : (c : Collection) → Follows → (n : ℕ) (P : AnyType → Type 0) (old now new : Scope) (a : AnyType) (k : ℕ) (y : NewType) → WritesFor c n P old now → P a → IsWrittenAs (listing now a) y → IsListedThere P now y → IsCounted c a → type_index now a ≡ None → GoesOn c now new → HasToo now a k new → ((d : DefinedTypeId) → same_type (ty.Value (val.Defined d)) a ≡ true → named_at new d ≡ name_after None (listed_at now d) None (Some k)) → k ≡ count (space sort.«Type») now.content → new.content ≡ and_new now.content y → WritesFor c n P old new
+writes-recorded c follows n P old now new a k y w made source there held none on too name next appended = record {
   onward = goes-on-twice c follows old now new w.onward on;
   types = w.types ++ y ∷ [];
   appended = appended ∙ ap (λ (x : Encodable). and_new x y) w.appended ∙ one-behind old.content w.types y;
@@ -219,9 +272,29 @@ writes-recorded c follows n P old now new a k y w made source there held none on
   sources = λ e i h some. source_now e i h some (type_index now e) refl;
   aliases = all-in-row (IsListedThere P old) w.types (y ∷ []) w.aliases (one-listed P P old now (λ e h. h) w.listed y there, tt);
   listed = λ e. too.listed e ∙ w.listed e;
+  names = λ d. name_now d (same_type (ty.Value (val.Defined d)) a) refl;
   once = let less : suc (unwritten c new) ≡ unwritten c now = unwritten-less c now new a k held none too in let before : length w.types + unwritten c now ≡ n + unwritten c old = w.once in omega (arith, less, one-longer w.types y, before);
 }
   where
+    name_now : (d : DefinedTypeId) (b : Bool) → same_type (ty.Value (val.Defined d)) a ≡ b → named_at new d ≡ name_after (value_index old d) (listed_at old d) (named_at old d) (value_index new d)
+    name_now d true same = names-then old now new d (λ i is. w.kept (ty.Value (val.Defined d)) i is) (λ i is. recorded-now a k now new too (ty.Value (val.Defined d)) i none is) (w.listed (ty.Value (val.Defined d))) (w.names d)
+        (name d same ∙ sym (ap2 (λ (o p : Option ℕ). name_after o (listed_at now d) (named_at now d) p) unwritten_ written_ ∙ unseen (listed_at now d) (named_at now d)))
+      where
+        is_a : ty.Value (val.Defined d) ≡ a
+        is_a = same_type-true (ty.Value (val.Defined d)) a same
+
+        unwritten_ : value_index now d ≡ None
+        unwritten_ = ap (type_index now) is_a ∙ none
+
+        written_ : value_index new d ≡ Some k
+        written_ = ap (type_index new) is_a ∙ recorded-there a k now new too
+
+        unseen : (l : Option Listed) (b : Option ℕ) → name_after None l b (Some k) ≡ name_after None l None (Some k)
+        unseen None b = refl
+        unseen (Some l) b = refl
+    name_now d false other = names-then old now new d (λ i is. w.kept (ty.Value (val.Defined d)) i is) (λ i is. recorded-now a k now new too (ty.Value (val.Defined d)) i none is) (w.listed (ty.Value (val.Defined d))) (w.names d)
+        (names-stay now new d (too.types (ty.Value (val.Defined d)) ∙ ap (λ (b : Bool). cond b (Some k) (value_index now d)) other) (too.names d other))
+
     by_now : (e : AnyType) (i : ℕ) → type_index old e ≡ None → type_index new e ≡ Some i → (o : Option ℕ) → type_index now e ≡ o → P e
     by_now e i h some None is = subst P (new-is a k now new too e i is some) made
     by_now e i h some (Some j) is = w.needed e j h is
@@ -239,19 +312,25 @@ writes-recorded c follows n P old now new a k y w made source there held none on
         let index : i ≡ k = same-index new e i k some (subst (λ (u : AnyType). type_index new u ≡ Some k) same (recorded-there a k now new too)) in
         let counted : count (space sort.«Type») now.content ≡ count (space sort.«Type») old.content + length w.types = counted-now old.content now.content w.types w.appended in
         written-back (count (space sort.«Type») old.content) (count (space sort.«Type») now.content) w.types (y ∷ []) i (listing old e) counted
-        (0, omega (arith, index, next), y, refl, subst (λ (u : AnyType). IsWrittenAs (listing old u) y) same (subst (λ (l : Option (ℕ × Name)). IsWrittenAs l y) (w.listed a) source))
+        (0, omega (arith, index, next), y, refl, subst (λ (u : AnyType). IsWrittenAs (listing old u) y) same (subst (λ (l : Option Listed). IsWrittenAs l y) (w.listed a) source))
     source_now e i h some (Some j) is = written-front (count (space sort.«Type») old.content) w.types (y ∷ []) i (listing old e) (subst (λ (m : ℕ). IsWrittenAt (count (space sort.«Type») old.content) w.types m (listing old e)) (same-index new e j i (recorded-now a k now new too e j none is) some) (w.sources e j h is))
 
 pub writes-more : (c : Collection) → Follows → (n : ℕ) (P : AnyType → Type 0) (old now new : Scope) (d : DefinedTypeId) → WritesFor c n P old now → P (ty.Value (val.Defined d)) → d.0 < length c.defined → value_index now d ≡ None → WritesOne c now new d → WritesFor c n P old new
-writes-more c follows n P old now new d w made held none one = writes-recorded c follows n P old now new (ty.Value (val.Defined d)) one.index one.type w made one.source (there one.type one.source) held none one.onward one.recorded one.next one.appended
+writes-more c follows n P old now new d w made held none one = writes-recorded c follows n P old now new (ty.Value (val.Defined d)) one.index one.type w made one.source (there one.type one.source) held none one.onward one.recorded name one.next one.appended
   where
-    by_place : (l : Option (ℕ × Name)) → listed_at now d ≡ l → (j : ℕ) (m : Name) → IsWrittenAs l (aliased j m) → IsListedThere P now (aliased j m)
-    by_place (Some l) is j m s = (d, made, is ∙ ap (λ (x : ℕ × Name). Some x) s)
-    by_place None is j m s = absurd s
+    same-id : (e : DefinedTypeId) → ty.Value (val.Defined e) ≡ ty.Value (val.Defined d) → d ≡ e
+    same-id e is = cc
+
+    name : (e : DefinedTypeId) → same_type (ty.Value (val.Defined e)) (ty.Value (val.Defined d)) ≡ true → named_at new e ≡ name_after None (listed_at now e) None (Some one.index)
+    name e same = subst (λ (x : DefinedTypeId). named_at new x ≡ name_after None (listed_at now x) None (Some one.index)) (same-id e (same_type-true (ty.Value (val.Defined e)) (ty.Value (val.Defined d)) same)) one.name
+
+    by_place : (l : Option Listed) → listed_at now d ≡ l → (k : Listed) → IsWrittenAs l (aliased k) → IsListedThere P now (aliased k)
+    by_place (Some l) is k s = (d, made, is ∙ ap (λ (x : Listed). Some x) s)
+    by_place None is k s = absurd s
 
     there : (y : NewType) → IsWrittenAs (listed_at now d) y → IsListedThere P now y
     there (defined y) s = tt
-    there (aliased j m) s = by_place (listed_at now d) refl j m s
+    there (aliased k) s = by_place (listed_at now d) refl k s
 
 -- one after the other, for what both need
 pub writes-then : (c : Collection) → Follows → (k n : ℕ) (P Q : AnyType → Type 0) (old now new : Scope) → WritesFor c k P old now → WritesFor c n Q now new → (R : AnyType → Type 0) → ((a : AnyType) → P a → R a) → ((a : AnyType) → Q a → R a) → WritesFor c (k + n) R old new
@@ -265,6 +344,7 @@ writes-then c follows k n P Q old now new w u R p q = record {
   sources = λ e i none some. source_now e i none some (type_index now e) refl;
   aliases = all-in-row (IsListedThere R old) w.types u.types (all-listed P R old old p (λ e. refl) w.types w.aliases) (all-listed Q R old now q w.listed u.types u.aliases);
   listed = λ e. u.listed e ∙ w.listed e;
+  names = λ d. names-then old now new d (λ i is. w.kept (ty.Value (val.Defined d)) i is) (λ i is. u.kept (ty.Value (val.Defined d)) i is) (w.listed (ty.Value (val.Defined d))) (w.names d) (u.names d);
   once = let one : length w.types + unwritten c now ≡ k + unwritten c old = w.once in let two : length u.types + unwritten c new ≡ n + unwritten c now = u.once in omega (arith, one, two, length-append w.types u.types);
 }
   where
@@ -277,7 +357,7 @@ writes-then c follows k n P Q old now new w u R p q = record {
     later_now e i none some (Some j) is = subst (λ (m : ℕ). count (space sort.«Type») old.content ≤ m) (same-index new e j i (u.kept e j is) some) (w.later e j none is)
 
     source_now : (e : AnyType) (i : ℕ) → type_index old e ≡ None → type_index new e ≡ Some i → (o : Option ℕ) → type_index now e ≡ o → IsWrittenAt (count (space sort.«Type») old.content) (w.types ++ u.types) i (listing old e)
-    source_now e i none some None is = subst (λ (l : Option (ℕ × Name)). IsWrittenAt (count (space sort.«Type») old.content) (w.types ++ u.types) i l) (w.listed e) (written-back (count (space sort.«Type») old.content) (count (space sort.«Type») now.content) w.types u.types i (listing now e) (counted-now old.content now.content w.types w.appended) (u.sources e i is some))
+    source_now e i none some None is = subst (λ (l : Option Listed). IsWrittenAt (count (space sort.«Type») old.content) (w.types ++ u.types) i l) (w.listed e) (written-back (count (space sort.«Type») old.content) (count (space sort.«Type») now.content) w.types u.types i (listing now e) (counted-now old.content now.content w.types w.appended) (u.sources e i is some))
     source_now e i none some (Some j) is = written-front (count (space sort.«Type») old.content) w.types u.types i (listing old e) (subst (λ (m : ℕ). IsWrittenAt (count (space sort.«Type») old.content) w.types m (listing old e)) (same-index new e j i (u.kept e j is) some) (w.sources e j none is))
 
 pub writes-behind : (c : Collection) → Follows → (n : ℕ) (P : AnyType → Type 0) (old now new : Scope) → WritesFor c 0 P old now → WritesFor c n P now new → WritesFor c n P old new
@@ -299,6 +379,7 @@ writes-as c n P Q old new ok w = record {
   sources = w.sources;
   aliases = all-listed P Q old old ok (λ e. refl) w.types w.aliases;
   listed = w.listed;
+  names = w.names;
   once = w.once;
 }
 
@@ -326,15 +407,15 @@ one-refused A B c s d x y f unlisted at says h = by_fault f (recorded-so A s.con
   where
     by_fault : (g : EncodeFault) → FitsUnlessTooLarge {A = A} (Err g) (ContentFits (and_type s.content (value_def y))) → IsOneRefused {A = B} c s d (Err g)
     by_fault (fault.Write w) k = absurd k
-    by_fault fault.TooLarge k = subst (λ (l : Option (ℕ × Name)). IsLargeFrom l c s d) (sym unlisted) (record { definition = x; found = at; written = y; says = says; large = k })
+    by_fault fault.TooLarge k = subst (λ (l : Option Listed). IsLargeFrom l c s d) (sym unlisted) (record { definition = x; found = at; written = y; says = says; large = k })
     by_fault fault.OutOfMemory k = tt
 
-pub alias-refused : (A B : Type 0) (c : Collection) (s : Scope) (d : DefinedTypeId) (j : ℕ) (n : Name) (f : EncodeFault) → listed_at s d ≡ Some (j, n) → FitsUnlessTooLarge {A = A} (Err f) (AliasFits s d) → IsOneRefused {A = B} c s d (Err f)
-alias-refused A B c s d j n (fault.Write g) there h = absurd h
-alias-refused A B c s d j n fault.TooLarge there h = subst (λ (l : Option (ℕ × Name)). IsLargeFrom l c s d) (sym there) (λ fits. h (λ i m is. let both : Some (j, n) ≡ Some (i, m) = sym there ∙ is in let same : (j, n) ≡ (i, m) = cc in subst (λ (l : ℕ × Name). ContentFits (and_alias_of s.content l.0 l.1)) same fits))
-alias-refused A B c s d j n fault.OutOfMemory there h = tt
+pub alias-refused : (A B : Type 0) (c : Collection) (s : Scope) (d : DefinedTypeId) (l : Listed) (f : EncodeFault) → listed_at s d ≡ Some l → FitsUnlessTooLarge {A = A} (Err f) (AliasFits s d) → IsOneRefused {A = B} c s d (Err f)
+alias-refused A B c s d l (fault.Write g) there h = absurd h
+alias-refused A B c s d l fault.TooLarge there h = subst (λ (p : Option Listed). IsLargeFrom p c s d) (sym there) (λ fits. h (λ k is. let both : Some l ≡ Some k = sym there ∙ is in let same : l ≡ k = cc in subst (λ (p : Listed). ContentFits (and_listed s.content p)) same fits))
+alias-refused A B c s d l fault.OutOfMemory there h = tt
 
 -- where an instance lists it
-pub is-there : (o : Option (ℕ × Name)) → IsSome o → (l : ℕ × Name) × (o ≡ Some l)
+pub is-there : (o : Option Listed) → IsSome o → (l : Listed) × (o ≡ Some l)
 is-there (Some l) h = (l, refl)
 is-there None h = let both : false ≡ true = h in cc

@@ -14,7 +14,7 @@ use Rattle.wac_scopes.specs.declared.fault.EncodeFault.{EncodeFault}
 use Rattle.wac_scopes.specs.declared.fault.EncodeFault.TheVariants as fault
 use Rattle.wac_scopes.specs.declared.encodable.Encodable.TheVariants.{Instance}
 use Rattle.wac_scopes.specs.declared.scope.Scope.{Scope}
-use Rattle.wac_encode.specs.Listing.{are_plain, lists_plain, IsOrder, IsEmpty, WritesItems, WritesInterface, AreRefused, IsInterfaceRefused}
+use Rattle.wac_encode.specs.Listing.{are_plain, lists_plain, IsOrder, IsOpened, WritesItems, WritesInterface, AreRefused, IsInterfaceRefused}
 use Rattle.wac_encode.specs.Items.{CanList}
 use Rattle.wac_encode.proofs.Ordered.{stands-there}
 use Rattle.wac_encode.proofs.Plain.{plain-each, plain-of, held-items}
@@ -34,19 +34,19 @@ some-answered X c i it r x at plain is = (λ h. let some_none : Some x ≡ None 
 pub fault-answered : (X : Type 0) (c : Collection) (i : InterfaceId) (it : Interface) (r : Result (Option X) EncodeFault) (e : EncodeFault) → item_at c.interfaces i.0 ≡ Some it → are_plain it.exports ≡ true → r ≡ Err e → (r ≡ Ok None) ↔ (lists_plain c i ≡ false)
 fault-answered X c i it r e at plain is = (λ h. cc, λ h. let both : true ≡ false = sym plain ∙ sym (plain-of c i it at) ∙ h in cc)
 
-pub refused-whole : (A B : Type 0) (c : Collection) (i : InterfaceId) (it : Interface) (order : List (Name × ItemKind)) (start : Scope) (e : EncodeFault) → item_at c.interfaces i.0 ≡ Some it → IsOrder c it.exports order → IsEmpty start → AreRefused {A = A} c start order (Err e) → IsInterfaceRefused {A = B} c i (Err e)
-refused-whole A B c i it order start (fault.Write f) at ordered empty h = record { interface = it; found = at; order = order; ordered = ordered; start = start; empty = empty; stopped = h }
-refused-whole A B c i it order start fault.TooLarge at ordered empty h = record { interface = it; found = at; order = order; ordered = ordered; start = start; empty = empty; stopped = h }
-refused-whole A B c i it order start fault.OutOfMemory at ordered empty h = tt
+pub refused-whole : (A B : Type 0) (c : Collection) (i : InterfaceId) (it : Interface) (order : List (Name × ItemKind)) (around start : Scope) (e : EncodeFault) → item_at c.interfaces i.0 ≡ Some it → IsOrder c it.exports order → IsOpened c i around start → AreRefused {A = A} c start order (Err e) → IsInterfaceRefused {A = B} c around i (Err e)
+refused-whole A B c i it order around start (fault.Write f) at ordered empty h = record { interface = it; found = at; order = order; ordered = ordered; start = start; opened_ = empty; stopped = h }
+refused-whole A B c i it order around start fault.TooLarge at ordered empty h = record { interface = it; found = at; order = order; ordered = ordered; start = start; opened_ = empty; stopped = h }
+refused-whole A B c i it order around start fault.OutOfMemory at ordered empty h = tt
 
-pub written-whole : (c : Collection) (i : InterfaceId) (it : Interface) (order : List (Name × ItemKind)) (start now : Scope) (ds : List Decl) → item_at c.interfaces i.0 ≡ Some it → IsOrder c it.exports order → IsEmpty start → WritesItems c start order now → now.content ≡ Instance ds → WritesInterface c i ds
-written-whole c i it order start now ds at ordered empty written is = record {
+pub written-whole : (c : Collection) (i : InterfaceId) (it : Interface) (order : List (Name × ItemKind)) (around start now : Scope) (ds : List Decl) → item_at c.interfaces i.0 ≡ Some it → IsOrder c it.exports order → IsOpened c i around start → WritesItems c start order now → now.content ≡ Instance ds → WritesInterface c around i ds
+written-whole c i it order around start now ds at ordered empty written is = record {
   interface = it;
   found = at;
   order = order;
   ordered = ordered;
   start = start;
-  empty = empty;
+  opened_ = empty;
   scope = now;
   written = written;
   is = is;

@@ -33,8 +33,8 @@ CanClose (Component ds) = ⊥
 abbrev pub CanList : Collection → ItemKind → Type 0
 CanList c k = (holds_type c (kind_type k) ≡ true) × (is_plain k ≡ true)
 
--- the scope lists these items of the interface, over each good stack
-abbrev pub HasListed : Collection → Interface → Scope → List (Name × ItemKind) → Type 0
-HasListed c it s es = (ms : List Bindings) (st : Stack) → Good c ms st
+-- the scope lists these items of the interface, over each stack that was good with what it was at the start as the innermost
+abbrev pub HasListed : Collection → Interface → Scope → Scope → List (Name × ItemKind) → Type 0
+HasListed c it start s es = (ms : List Bindings) (st : Stack) → Good c (inside_interface c it (top ms) ∷ ms) (opened start (opening (has_own c it)) ∷ st)
     → Good c (inside_interface c it (top ms) ∷ ms) (opened s (opening (has_own c it)) ∷ st)
     × AreListed c (inside_interface c it (top ms)) exported es ((env (opened s (opening (has_own c it))) (envs st)).exports)

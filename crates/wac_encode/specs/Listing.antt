@@ -1,5 +1,5 @@
 -- What the writer of interfaces writes.
-use Rattle.std.specs.Prelude.{ℕ, ◌≡◌, ◌⊎◌, not, Bool, true, false, List, [], ◌∷◌, ◌++◌, Option, Some, None, slice_get, Result, Ok, Err, IsPermutation}
+use Rattle.std.specs.Prelude.{ℕ, ◌≡◌, ◌⊎◌, not, Bool, true, false, List, [], ◌∷◌, ◌++◌, Option, Some, None, IsSome, slice_get, Result, Ok, Err, IsPermutation}
 use Rattle.std.specs.List.{AllZip, filter, list_all}
 use Rattle.wac_shapes.specs.Name.{Name, option_case}
 use Rattle.wac_shapes.specs.declared.component.DefinedTypeId.{DefinedTypeId}
@@ -12,7 +12,7 @@ use Rattle.wac_shapes.specs.declared.component.ValueType.TheVariants as val
 use Rattle.wac_shapes.specs.declared.component.«Type».{«Type» as AnyType}
 use Rattle.wac_shapes.specs.declared.component.«Type».TheVariants as ty
 use Rattle.wac_collection.specs.Tree.{Tree}
-use Rattle.wac_collection.specs.Collection.{Collection, item_at}
+use Rattle.wac_collection.specs.Collection.{Collection, interface_exports, item_at}
 use Rattle.wac_collection.specs.Aliases.{value_resolved}
 use Rattle.wac_collection.specs.Bound.{Bindings}
 use Rattle.wac_binary.specs.HasMeaning.{IsInstance}
@@ -20,6 +20,8 @@ use Rattle.wac_binary.specs.Items.{value_def, primitive_def, instance_def, Decl,
 use Rattle.wac_binary.specs.declared.sorts.Description.{Description}
 use Rattle.wac_binary.specs.declared.sorts.Description.TheVariants as e
 use Rattle.wac_scopes.specs.declared.encodable.Encodable.TheVariants.{Instance}
+use Rattle.wac_scopes.specs.declared.scope.Listed.{Listed}
+use Rattle.wac_scopes.specs.declared.scope.Listed.TheVariants.{Around}
 use Rattle.wac_scopes.specs.declared.scope.Scope.{Scope}
 use Rattle.wac_scopes.specs.declared.fault.EncodeFault.{EncodeFault}
 use Rattle.wac_scopes.specs.declared.fault.EncodeFault.TheVariants as fault
@@ -29,14 +31,16 @@ use Rattle.wac_scopes.specs.Contents.{and_type, and_export, ContentFits}
 use Rattle.wac_stacks.specs.Scopes.{Open, Stack, next_type, with_def}
 use Rattle.wac_stacks.specs.Good.{IsHeld, Good}
 use Rattle.wac_stacks.specs.Laws.{Adds}
-use Rattle.wac_scopes.specs.Scoped.{type_index, value_index, listing, HasToo, AddsPrimitive, ListsValue}
+use Rattle.wac_scopes.specs.Scoped.{type_index, value_index, named_at, listed_at, and_listed, listing, opened, HasToo, AddsPrimitive, ListsValue}
+use Rattle.wac_listing.specs.Made.{OneItemIsMadeOf}
 use Rattle.wac_listing.specs.Order.{is_type, AreOrdered}
-use Rattle.wac_encode.specs.Written.{PartOf, WritesFor, HasHandle, DoesNotFit, IsOfFunc, AddsHeldFunc, IsFuncAt, FuncDoesNotFit}
+use Rattle.wac_encode.specs.Written.{OfValue, PartOf, WritesFor, HasHandle, DoesNotFit, IsOfFunc, AddsHeldFunc, IsFuncAt, FuncDoesNotFit}
 
--- closed, these declarations are the held interface, in each good stack, and that stack goes onward
-abbrev pub SaysInterface : Collection → InterfaceId → List Decl → Type 0
-SaysInterface c i ds = (m : Bindings) (ms : List Bindings) (o : Open) (os : Stack) → Good c (m ∷ ms) (o ∷ os)
-    → (t : Tree) × IsHeld c m (ty.Interface i) t × IsInstance t × Adds c (m ∷ ms) (o ∷ os) (with_def (instance_def (decls ds)) o ∷ os) (next_type o) t
+-- closed, these declarations are the held interface, in each stack that is good with the scope around as the innermost, and that stack goes onward
+abbrev pub SaysInterface : Collection → Scope → InterfaceId → List Decl → Type 0
+SaysInterface c around i ds = (m : Bindings) (ms : List Bindings) (o : Open) (os : Stack) → Good c (m ∷ ms) (opened around o ∷ os)
+    → (t : Tree) × IsHeld c m (ty.Interface i) t × IsInstance t
+    × Adds c (m ∷ ms) (opened around o ∷ os) (with_def (instance_def (decls ds)) (opened around o) ∷ os) (next_type (opened around o)) t
 
 -- whether an item is of a sort that is written so far, or that no instance type can list
 abbrev pub is_plain : ItemKind → Bool
@@ -63,18 +67,48 @@ pub record IsOrder (c : Collection) (es order : List (Name × ItemKind)) : Type 
   -- so they are the same items
   pub permutation : IsPermutation es order
 
--- this interface
-abbrev pub IsInterface : InterfaceId → AnyType → Type 0
-IsInterface i (ty.Interface j) = j ≡ i
-IsInterface i a = ⊥
+-- what the items of an interface are made of
+abbrev pub IsOfItems : Collection → InterfaceId → AnyType → Type 0
+IsOfItems c i = OfValue (OneItemIsMadeOf c (interface_exports c i))
+
+-- From old to new, some of that is aliased where it is listed and was not written, and nothing else is written.
+pub record AliasesFor (c : Collection) (i : InterfaceId) (old new : Scope) : Type 0 where
+  pub written : WritesFor c 0 (IsOfItems c i) old new
+  pub only : (a : AnyType) (k : ℕ) → type_index old a ≡ None → type_index new a ≡ Some k → IsSome (listing old a)
+
+-- all of it that is listed is written
+abbrev pub AllAliased : Collection → InterfaceId → Scope → Scope → Type 0
+AllAliased c i old new = (d : DefinedTypeId) → IsOfItems c i (ty.Value (val.Defined d)) → IsSome (listed_at old d) → IsSome (value_index new d)
+
+-- the alias of one does not fit behind what is written
+pub record AliasDoesNotFit (c : Collection) (i : InterfaceId) (s : Scope) : Type 0 where
+  pub id : DefinedTypeId
+  pub made : IsOfItems c i (ty.Value (val.Defined id))
+  pub unwritten : value_index s id ≡ None
+  pub place : Listed
+  pub listed : listed_at s id ≡ Some place
+  pub large : ContentFits (and_listed s.content place) → ⊥
+
+-- what stands where they are not all aliased
+abbrev pub IsAliasRefused : {A : Type 0} → Collection → InterfaceId → Scope → Result A EncodeFault → Type 0
+IsAliasRefused c i s (Ok x) = Unit {0}
+IsAliasRefused c i s (Err (fault.Write f)) = ⊥
+IsAliasRefused c i s (Err fault.TooLarge) = AliasDoesNotFit c i s
+IsAliasRefused c i s (Err fault.OutOfMemory) = Unit {0}
+
+-- what the items of an interface are made of, and the interface itself
+abbrev pub IsOfInterface : Collection → InterfaceId → AnyType → Type 0
+IsOfInterface c i (ty.Value v) = OneItemIsMadeOf c (interface_exports c i) v
+IsOfInterface c i (ty.Interface j) = j ≡ i
+IsOfInterface c i a = ⊥
 
 -- what an item is made of
 abbrev pub NeededBy : Collection → ItemKind → AnyType → Type 0
 NeededBy c (kind.TypeItem (ty.Value v)) = PartOf c (value_resolved c v)
 NeededBy c (kind.TypeItem (ty.Func f)) = IsOfFunc c f
-NeededBy c (kind.TypeItem (ty.Interface i)) = IsInterface i
+NeededBy c (kind.TypeItem (ty.Interface i)) = IsOfInterface c i
 NeededBy c (kind.Func f) = IsOfFunc c f
-NeededBy c (kind.Instance i) = IsInterface i
+NeededBy c (kind.Instance i) = IsOfInterface c i
 NeededBy c k = λ a. ⊥
 
 -- how many types are written for an item that are not recorded: the primitive of a type item
@@ -98,13 +132,15 @@ IsDescribed c old now (kind.TypeItem (ty.Value v)) (e.Equal i) = IsListedAt old 
 IsDescribed c old now (kind.Func f) (e.Func i) = AddsHeldFunc c old now f i × IsFuncAt c f old now i
 IsDescribed c old now k d = ⊥
 
--- the same is recorded, and instances list the same
-abbrev pub SameRecords : Scope → Scope → Type 0
-SameRecords old new = (a : AnyType) → (type_index new a ≡ type_index old a) × (listing new a ≡ listing old a)
+-- the same is recorded, and listed, and has a name
+pub record SameRecords (old new : Scope) : Type 0 where
+  pub types : (a : AnyType) → type_index new a ≡ type_index old a
+  pub listed : (a : AnyType) → listing new a ≡ listing old a
+  pub names : (d : DefinedTypeId) → named_at new d ≡ named_at old d
 
 -- a definition that was not written before is recorded at the item's own index, and so written by its name from then on
 abbrev pub IsNamedOnce : Option ℕ → Scope → Scope → Name → DefinedTypeId → Type 0
-IsNamedOnce None now new n d = (j : ℕ) × HasToo now (ty.Value (val.Defined d)) j new × ((i : ℕ) → value_index now d ≡ Some i → ListsValue now new n d i j)
+IsNamedOnce None now new n d = (j : ℕ) × HasToo now (ty.Value (val.Defined d)) j new × (named_at new d ≡ Some j) × ((i : ℕ) → value_index now d ≡ Some i → ListsValue now new n d i j)
 IsNamedOnce (Some i) now new n d = SameRecords now new
 
 abbrev pub NamesValue : Scope → Scope → Scope → Name → ValueType → Type 0
@@ -129,32 +165,39 @@ abbrev pub WritesItems : Collection → Scope → List (Name × ItemKind) → Sc
 WritesItems c old [] new = new ≡ old
 WritesItems c old (e ∷ es) new = (now : Scope) × WritesItem c old now e.0 e.1 × WritesItems c now es new
 
--- an instance type in which nothing is written, nothing recorded, and no instance lists a type
-pub record IsEmpty (s : Scope) : Type 0 where
+-- what has a name around is listed there
+abbrev pub around_at : Option ℕ → Option Listed
+around_at None = None
+around_at (Some i) = Some (Around i)
+
+-- an instance type over a scope, in which nothing is written and nothing recorded; of what the interface's items are made of that is listed in the
+-- scope around which has a name there, and nothing else is listed
+pub record IsOpened (c : Collection) (i : InterfaceId) (around s : Scope) : Type 0 where
   pub content : s.content ≡ Instance []
   pub types : (a : AnyType) → type_index s a ≡ None
-  pub listed : (a : AnyType) → listing s a ≡ None
+  pub listed : (d : DefinedTypeId) → IsOfItems c i (ty.Value (val.Defined d)) → listed_at s d ≡ around_at (named_at around d)
+  pub only : (d : DefinedTypeId) (l : Listed) → listed_at s d ≡ Some l → around_at (named_at around d) ≡ Some l
 
 -- the declarations list exactly the items of the interface, in order
-pub record WritesInterface (c : Collection) (i : InterfaceId) (ds : List Decl) : Type 0 where
+pub record WritesInterface (c : Collection) (around : Scope) (i : InterfaceId) (ds : List Decl) : Type 0 where
   pub interface : Interface
   pub found : item_at c.interfaces i.0 ≡ Some interface
   pub order : List (Name × ItemKind)
   pub ordered : IsOrder c interface.exports order
   pub start : Scope
-  pub empty : IsEmpty start
+  pub opened_ : IsOpened c i around start
   pub scope : Scope
   pub written : WritesItems c start order scope
   pub is : scope.content ≡ Instance ds
 
 -- and so where there are declarations
-abbrev pub SaysIfThere : Collection → InterfaceId → Option (List Decl) → Type 0
-SaysIfThere c i None = Unit {0}
-SaysIfThere c i (Some ds) = SaysInterface c i ds
+abbrev pub SaysIfThere : Collection → Scope → InterfaceId → Option (List Decl) → Type 0
+SaysIfThere c around i None = Unit {0}
+SaysIfThere c around i (Some ds) = SaysInterface c around i ds
 
-abbrev pub WritesIfThere : Collection → InterfaceId → Option (List Decl) → Type 0
-WritesIfThere c i None = Unit {0}
-WritesIfThere c i (Some ds) = WritesInterface c i ds
+abbrev pub WritesIfThere : Collection → Scope → InterfaceId → Option (List Decl) → Type 0
+WritesIfThere c around i None = Unit {0}
+WritesIfThere c around i (Some ds) = WritesInterface c around i ds
 
 -- which of an item's types does not fit behind what is written
 abbrev pub PrimitiveDoesNotFit : ValueType → Scope → Type 0
@@ -207,16 +250,16 @@ AreRefused c start order (Ok x) = Unit {0}
 AreRefused c start order (Err e) = IsStopped c start order e
 
 -- what stands where an interface is refused: the first of its items, in order, that is; or memory was refused
-pub record HasRefusedItem (c : Collection) (i : InterfaceId) (e : EncodeFault) : Type 0 where
+pub record HasRefusedItem (c : Collection) (around : Scope) (i : InterfaceId) (e : EncodeFault) : Type 0 where
   pub interface : Interface
   pub found : item_at c.interfaces i.0 ≡ Some interface
   pub order : List (Name × ItemKind)
   pub ordered : IsOrder c interface.exports order
   pub start : Scope
-  pub empty : IsEmpty start
+  pub opened_ : IsOpened c i around start
   pub stopped : IsStopped c start order e
 
-abbrev pub IsInterfaceRefused : {A : Type 0} → Collection → InterfaceId → Result A EncodeFault → Type 0
-IsInterfaceRefused c i (Ok x) = Unit {0}
-IsInterfaceRefused c i (Err fault.OutOfMemory) = Unit {0}
-IsInterfaceRefused c i (Err e) = HasRefusedItem c i e
+abbrev pub IsInterfaceRefused : {A : Type 0} → Collection → Scope → InterfaceId → Result A EncodeFault → Type 0
+IsInterfaceRefused c around i (Ok x) = Unit {0}
+IsInterfaceRefused c around i (Err fault.OutOfMemory) = Unit {0}
+IsInterfaceRefused c around i (Err e) = HasRefusedItem c around i e

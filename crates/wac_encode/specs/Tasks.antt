@@ -15,15 +15,16 @@ use Rattle.wac_binary.specs.declared.types.ComponentValType.{ComponentValType}
 use Rattle.wac_binary.specs.declared.sorts.Sort.TheVariants as sort
 use Rattle.wac_binary.specs.Indexes.{space}
 use Rattle.wac_scopes.specs.declared.encodable.Encodable.{Encodable}
+use Rattle.wac_scopes.specs.declared.scope.Listed.{Listed}
 use Rattle.wac_scopes.specs.declared.scope.Scope.{Scope}
 use Rattle.wac_scopes.specs.declared.fault.EncodeFault.{EncodeFault}
 use Rattle.wac_scopes.specs.declared.fault.EncodeFault.TheVariants as fault
 use Rattle.wac_scopes.specs.declared.fault.WriteFault.TheVariants as write
-use Rattle.wac_scopes.specs.Contents.{and_type, and_alias_of, count}
-use Rattle.wac_scopes.specs.Scoped.{value_index, listed_at, HasToo}
+use Rattle.wac_scopes.specs.Contents.{and_type, count, ContentFits}
+use Rattle.wac_scopes.specs.Scoped.{value_index, named_at, listed_at, and_listed, IsAsBefore, HasToo}
 use Rattle.wac_encode.specs.declared.task.Task.{Task}
 use Rattle.wac_listing.specs.Made.{MadeOf, parts}
-use Rattle.wac_encode.specs.Written.{Says, MaybeSays, GoesOn, IsByRecord, IsKnown, IsHandle, PartOf, NewType, defined, aliased, IsWrittenAs, WritesFor, LargeOne}
+use Rattle.wac_encode.specs.Written.{Says, MaybeSays, GoesOn, IsByRecord, IsKnown, IsHandle, PartOf, NewType, defined, aliased, IsWrittenAs, name_after, WritesFor, LargeOne}
 
 -- a field and a case as they are written
 abbrev pub FieldSays : Collection → Scope → Name × ValueType → Bor (List ℕ) × ComponentValType → Type 0
@@ -73,9 +74,9 @@ IsKnownPart c s (Some v) = IsKnown c s v
 -- behind what is written, a type more
 abbrev pub and_new : Encodable → NewType → Encodable
 and_new x (defined y) = and_type x y
-and_new x (aliased j n) = and_alias_of x j n
+and_new x (aliased l) = and_listed x l
 
--- one more definition is written, or aliased where an instance lists it, and recorded
+-- one more definition is written, or aliased where it is listed, and recorded; so it has a name or none
 pub record WritesOne (c : Collection) (old new : Scope) (d : DefinedTypeId) : Type 0 where
   pub onward : GoesOn c old new
   pub index : ℕ
@@ -84,6 +85,7 @@ pub record WritesOne (c : Collection) (old new : Scope) (d : DefinedTypeId) : Ty
   pub type : NewType
   pub source : IsWrittenAs (listed_at old d) type
   pub appended : new.content ≡ and_new old.content type
+  pub name : named_at new d ≡ name_after None (listed_at old d) None (Some index)
 
 -- what stands where one definition is refused
 abbrev pub IsOneRefused : {A : Type 0} → Collection → Scope → DefinedTypeId → Result A EncodeFault → Type 0
@@ -91,6 +93,18 @@ IsOneRefused c s d (Ok x) = Unit {0}
 IsOneRefused c s d (Err (fault.Write f)) = ⊥
 IsOneRefused c s d (Err fault.TooLarge) = LargeOne c s d
 IsOneRefused c s d (Err fault.OutOfMemory) = Unit {0}
+
+-- a definition is aliased where it was listed and not written; it is written then where it was listed, and else all is as before
+pub data AliasesOne (c : Collection) (old new : Scope) (d : DefinedTypeId) : Type 0 where
+  aliased_now : IsSome (listed_at old d) → value_index old d ≡ None → WritesOne c old new d → AliasesOne c old new d
+  as_before : IsAsBefore old new → (IsSome (listed_at old d) → IsSome (value_index old d)) → AliasesOne c old new d
+
+-- where its alias is refused
+abbrev pub IsOneAliasRefused : {A : Type 0} → Scope → DefinedTypeId → Result A EncodeFault → Type 0
+IsOneAliasRefused s d (Ok x) = Unit {0}
+IsOneAliasRefused s d (Err (fault.Write f)) = ⊥
+IsOneAliasRefused s d (Err fault.TooLarge) = (value_index s d ≡ None) × (l : Listed) × (listed_at s d ≡ Some l) × (ContentFits (and_listed s.content l) → ⊥)
+IsOneAliasRefused s d (Err fault.OutOfMemory) = Unit {0}
 
 -- what is missing of a part: nothing where it is known, a definition that is not written, or a handle's resource
 abbrev pub IsMissing : Collection → Scope → Option ValueType → Result (Option DefinedTypeId) EncodeFault → Type 0

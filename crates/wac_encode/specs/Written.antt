@@ -18,19 +18,21 @@ use Rattle.wac_binary.specs.declared.types.ComponentValType.{ComponentValType}
 use Rattle.wac_binary.specs.declared.sorts.Sort.TheVariants as sort
 use Rattle.wac_binary.specs.HasMeaning.{IsFunction}
 use Rattle.wac_binary.specs.Indexes.{space}
-use Rattle.wac_binary.specs.Items.{ValueDef, TypeDef, func_def, value_def, export_alias, Decl, type_decl, alias_decl, Item, type_item, alias_item}
+use Rattle.wac_binary.specs.Items.{ValueDef, TypeDef, func_def, value_def, Alias, export_alias, outer_alias, Decl, type_decl, alias_decl, Item, type_item, alias_item}
 use Rattle.wac_scopes.specs.declared.encodable.Encodable.{Encodable}
 use Rattle.wac_scopes.specs.declared.encodable.Encodable.TheVariants.{Builder, Instance, Component}
+use Rattle.wac_scopes.specs.declared.scope.Listed.{Listed}
+use Rattle.wac_scopes.specs.declared.scope.Listed.TheVariants.{ByInstance, Around}
 use Rattle.wac_scopes.specs.declared.scope.Scope.{Scope}
 use Rattle.wac_scopes.specs.declared.fault.EncodeFault.{EncodeFault}
 use Rattle.wac_scopes.specs.declared.fault.EncodeFault.TheVariants as fault
 use Rattle.wac_scopes.specs.declared.fault.WriteFault.TheVariants as write
-use Rattle.wac_scopes.specs.Contents.{and_type, and_alias_of, count, ContentFits}
+use Rattle.wac_scopes.specs.Contents.{and_type, count, ContentFits}
 use Rattle.wac_stacks.specs.Scopes.{Open, Stack, env, envs}
 use Rattle.wac_stacks.specs.Good.{IsHeld, Good, Onward}
 use Rattle.wac_stacks.specs.Laws.{Adds}
 use Rattle.wac_stacks.specs.Parts.{Is, IsWritten, IsWrittenFunc}
-use Rattle.wac_scopes.specs.Scoped.{type_index, value_index, listed_at, listing, in_use, opened}
+use Rattle.wac_scopes.specs.Scoped.{type_index, value_index, named_at, listed_at, and_listed, listing, in_use, opened}
 use Rattle.wac_listing.specs.Made.{MadeOf, OneIsMadeOf}
 
 -- the value type in use is the held one, in each good stack in which the scope is the innermost
@@ -91,19 +93,24 @@ PartOf c v = OfValue (MadeOf c v)
 abbrev pub PartOfOne : Collection → List ValueType → AnyType → Type 0
 PartOfOne c vs = OfValue (OneIsMadeOf c vs)
 
--- a type that is written: a definition, or an alias of an instance's export
+-- a type that is written: a definition, or an alias of where a definition is listed
 pub data NewType : Type 0 where
   defined : TypeDef → NewType
-  aliased : (instance : ℕ) → Name → NewType
+  aliased : Listed → NewType
+
+-- of an instance's export, or of an index of the scope around
+abbrev pub alias_of : Listed → Alias
+alias_of (ByInstance j n) = export_alias sort.«Type» j n
+alias_of (Around i) = outer_alias sort.«Type» 1 i
 
 -- as an item, and as a declaration
 abbrev pub as_item : NewType → Item
 as_item (defined t) = type_item t
-as_item (aliased j n) = alias_item (export_alias sort.«Type» j n)
+as_item (aliased l) = alias_item (alias_of l)
 
 abbrev pub as_decl : NewType → Decl
 as_decl (defined t) = type_decl t
-as_decl (aliased j n) = alias_decl (export_alias sort.«Type» j n)
+as_decl (aliased l) = alias_decl (alias_of l)
 
 -- types are written behind what was
 abbrev pub with_types : Encodable → List NewType → Encodable
@@ -111,20 +118,26 @@ with_types (Builder items) ys = Builder (items ++ map as_item ys)
 with_types (Instance ds) ys = Instance (ds ++ map as_decl ys)
 with_types (Component ds) ys = Component (ds ++ map as_decl ys)
 
--- what an instance lists is aliased from it, at its place there; all else is defined
-abbrev pub IsWrittenAs : Option (ℕ × Name) → NewType → Type 0
+-- what is listed is aliased from there; all else is defined
+abbrev pub IsWrittenAs : Option Listed → NewType → Type 0
 IsWrittenAs None (defined t) = Unit {0}
-IsWrittenAs (Some l) (aliased j n) = l ≡ (j, n)
+IsWrittenAs (Some l) (aliased k) = l ≡ k
 IsWrittenAs l y = ⊥
 
 -- index i is that of one of the types that are written behind so many, which is written so
-abbrev pub IsWrittenAt : ℕ → List NewType → ℕ → Option (ℕ × Name) → Type 0
+abbrev pub IsWrittenAt : ℕ → List NewType → ℕ → Option Listed → Type 0
 IsWrittenAt k ys i l = (p : ℕ) × (i ≡ k + p) × (y : NewType) × (slice_get ys p ≡ Some y) × IsWrittenAs l y
 
--- what is aliased is needed, and an instance lists it there
+-- what is aliased is needed, and listed there
 abbrev pub IsListedThere : (AnyType → Type 0) → Scope → NewType → Type 0
 IsListedThere Needed s (defined t) = Unit {0}
-IsListedThere Needed s (aliased j n) = (d : DefinedTypeId) × Needed (ty.Value (val.Defined d)) × (listed_at s d ≡ Some (j, n))
+IsListedThere Needed s (aliased l) = (d : DefinedTypeId) × Needed (ty.Value (val.Defined d)) × (listed_at s d ≡ Some l)
+
+-- where a definition has a name: one that was written where it had, one that is written since where it is an alias
+abbrev pub name_after : Option ℕ → Option Listed → Option ℕ → Option ℕ → Option ℕ
+name_after (Some i) l before now = before
+name_after None None before now = None
+name_after None (Some l) before now = now
 
 -- From old to new, while types that are needed were written, and so many that are not recorded.
 pub record WritesFor (c : Collection) (n : ℕ) (Needed : AnyType → Type 0) (old new : Scope) : Type 0 where
@@ -139,11 +152,13 @@ pub record WritesFor (c : Collection) (n : ℕ) (Needed : AnyType → Type 0) (o
   pub needed : (a : AnyType) (i : ℕ) → type_index old a ≡ None → type_index new a ≡ Some i → Needed a
   -- and stands behind what was written
   pub later : (a : AnyType) (i : ℕ) → type_index old a ≡ None → type_index new a ≡ Some i → count (space sort.«Type») old.content ≤ i
-  -- and what an instance lists is aliased from it, all else defined
+  -- and what is listed is aliased from there, all else defined
   pub sources : (a : AnyType) (i : ℕ) → type_index old a ≡ None → type_index new a ≡ Some i → IsWrittenAt (count (space sort.«Type») old.content) types i (listing old a)
   pub aliases : AllByRecursion (IsListedThere Needed old) types
-  -- instances list what they listed
+  -- what was listed is, and where
   pub listed : (a : AnyType) → listing new a ≡ listing old a
+  -- aliases alone have a name
+  pub names : (d : DefinedTypeId) → named_at new d ≡ name_after (value_index old d) (listed_at old d) (named_at old d) (value_index new d)
   -- and is written once
   pub once : length types + unwritten c new ≡ n + unwritten c old
 
@@ -155,10 +170,10 @@ pub record LargeDefinition (c : Collection) (s : Scope) (d : DefinedTypeId) : Ty
   pub says : SaysDefinition c s definition written
   pub large : ContentFits (and_type s.content (value_def written)) → ⊥
 
--- where an instance lists it, the alias does not
-abbrev pub IsLargeFrom : Option (ℕ × Name) → Collection → Scope → DefinedTypeId → Type 0
+-- where it is listed, the alias does not
+abbrev pub IsLargeFrom : Option Listed → Collection → Scope → DefinedTypeId → Type 0
 IsLargeFrom None c s d = LargeDefinition c s d
-IsLargeFrom (Some l) c s d = ContentFits (and_alias_of s.content l.0 l.1) → ⊥
+IsLargeFrom (Some l) c s d = ContentFits (and_listed s.content l) → ⊥
 
 abbrev pub LargeOne : Collection → Scope → DefinedTypeId → Type 0
 LargeOne c s d = IsLargeFrom (listed_at s d) c s d

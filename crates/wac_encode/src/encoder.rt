@@ -1,8 +1,8 @@
 //! The writer of value types.
 //!
 //! A definition whose parts are not written yet waits in a list of tasks, below its parts, so that no chain of definitions is
-//! too long. Each definition is written once in a scope, behind its parts, the first mentioned first; one that an imported instance lists is
-//! aliased from that instance in its place.
+//! too long. Each definition is written once in a scope, behind its parts, the first mentioned first; one that is listed, by an imported
+//! instance or under a name in the scope around, is aliased from there in its place.
 
 ghost use Rattle.std.specs.Prelude.{◌≡◌, ◌<◌, true, ℕ, List, Option, None, Some, IsSome, IfOk, OnOk, OnErr, length, slice_get};
 ghost use Rattle.std.specs.List.{AllZip};
@@ -210,8 +210,8 @@ impl<'a> TypeEncoder<'a> {
         }
     }
 
-    /// Aliases a definition from the instance that lists it.
-    fn alias(&self, scope: &mut Scope, id: DefinedTypeId) -> Result<(), EncodeFault>
+    /// Aliases a definition from where it is listed.
+    pub(crate) fn alias(&self, scope: &mut Scope, id: DefinedTypeId) -> Result<(), EncodeFault>
         requires unwritten { value_index scope.old id ≡ None }
         requires listed { IsSome (listed_at scope.old id) }
         ensures wrote { OnOk result (WritesOne self.now.types.now scope.old scope.new id) }
@@ -248,7 +248,7 @@ impl<'a> TypeEncoder<'a> {
         }
     }
 
-    /// Does a step of a task: aliases its definition where an instance lists it; writes it where all parts are written; else looks at the next part, and puts the task off
+    /// Does a step of a task: aliases its definition where it is listed; writes it where all parts are written; else looks at the next part, and puts the task off
     /// behind that part's definition where it is not written.
     fn step(&self, scope: &mut Scope, task: Task, tasks: &mut Vec<Task>) -> Result<(), EncodeFault>
         requires { IsReady self.now.types.now scope.old task }
@@ -294,8 +294,8 @@ impl<'a> TypeEncoder<'a> {
     }
 
     /// Writes a held value type, and answers the value type in use that says it. What is written in the scope is not written again;
-    /// what an imported instance lists is aliased from it, the first that does; all else that it is made of is written once, each behind its
-    /// parts. What stood in the scope and around it stands.
+    /// what is listed, by an imported instance, the first that does, or under a name around, is aliased from there; all else that it is made
+    /// of is written once, each behind its parts. What stood in the scope and around it stands.
     ///
     /// Answers `UnboundResource` where it is made of a handle, whose resource this scope does not bind; `TooLarge` where what is
     /// written next does not fit; `OutOfMemory` where memory was refused. Then some of its definitions may stand, each whole.

@@ -1,6 +1,6 @@
 //! The writer of interfaces.
 
-ghost use Rattle.std.specs.Prelude.{◌≡◌, ◌<◌, ◌↔◌, ◌++◌, not, ℕ, List, true, false, None, Some, IfOk, OnOk, length, slice_get};
+ghost use Rattle.std.specs.Prelude.{◌≡◌, ◌<◌, ◌↔◌, ◌++◌, [], not, ℕ, List, true, false, None, Some, IfOk, OnOk, length, slice_get};
 ghost use Rattle.std.specs.List.{AllZip, filter};
 ghost use Rattle.wac_shapes.specs.Named.{NoNameTwice, named_pairs};
 ghost use Rattle.wac_shapes.specs.declared.component.ItemKind.{ItemKind as AnyItem};
@@ -14,7 +14,7 @@ ghost use Rattle.wac_scopes.specs.declared.encodable.Encodable.TheVariants.{Inst
 ghost use Rattle.wac_scopes.specs.Contents.{IsOpenType};
 ghost use Rattle.wac_scopes.specs.Scoped.{value_index};
 ghost use Rattle.wac_listing.specs.Order.{is_type};
-ghost use Rattle.wac_encode.specs.Listing.{SaysIfThere, WritesIfThere, is_plain as plain_item, are_plain as plain_items, lists_plain, IsOrder, WritesItem, WritesItems, IsEmpty, IsItemRefused, AreRefused, IsInterfaceRefused};
+ghost use Rattle.wac_encode.specs.Listing.{SaysIfThere, WritesIfThere, is_plain as plain_item, are_plain as plain_items, lists_plain, IsOrder, WritesItem, WritesItems, IsItemRefused, AreRefused, IsInterfaceRefused};
 ghost use Rattle.wac_encode.specs.Items.{ListsHeld, CanClose, CanList, HasListed};
 
 use crate::encoder::TypeEncoder;
@@ -169,8 +169,8 @@ impl<'a> TypeEncoder<'a> {
     ) -> Result<(), EncodeFault>
         requires plain { (k : ℕ) (e : List ℕ × AnyItem) → slice_get (named_pairs order.now) k ≡ Some e → CanList self.now.types.now e.1 }
         requires once { NoNameTwice (named_pairs order.now) }
-        requires empty { IsEmpty scope.old }
-        ensures listed { OnOk result (HasListed self.now.types.now held.now scope.new (named_pairs order.now)) }
+        requires empty { scope.old.content ≡ Instance [] }
+        ensures listed { OnOk result (HasListed self.now.types.now held.now scope.old scope.new (named_pairs order.now)) }
         ensures closes { OnOk result (CanClose scope.new.content) }
         ensures wrote { OnOk result (WritesItems self.now.types.now scope.old (named_pairs order.now) scope.new) }
         ensures fault { AreRefused self.now.types.now scope.old (named_pairs order.now) result }
@@ -206,8 +206,8 @@ impl<'a> TypeEncoder<'a> {
 
     /// Writes a held interface as an instance type: type items first, the next always the first listed one of those left that mentions
     /// none of those left; then functions, as they are listed. A definition that a type item lists
-    /// is written by the first such item's index; all else is written once, just before what mentions it. Nothing around the interface
-    /// is looked at: what it uses of another is written in place.
+    /// is written by the first such item's index. What has a name in the scope around is aliased from there, and all else is defined, each
+    /// once, just before what mentions it.
     ///
     /// Answers none exactly where an item is of a sort that is not written: a resource, an instance, or a type item of a function type,
     /// an interface or a world. Answers `UnboundResource` for an item that is made of a handle, `ModuleAsType` and `NestedItem` for
@@ -215,13 +215,14 @@ impl<'a> TypeEncoder<'a> {
     /// where memory was refused.
     pub fn interface_type(
         &self,
+        around: &Scope,
         interface: InterfaceId,
     ) -> Result<Option<InstanceType>, EncodeFault>
         requires { HasInterface self.now.types.now interface }
         ensures none { (result ≡ Ok None) ↔ (lists_plain self.now.types.now interface ≡ false) }
-        ensures says { IfOk result (SaysIfThere self.now.types.now interface) }
-        ensures written { IfOk result (WritesIfThere self.now.types.now interface) }
-        ensures fault { IsInterfaceRefused self.now.types.now interface result }
+        ensures says { IfOk result (SaysIfThere self.now.types.now around.now interface) }
+        ensures written { IfOk result (WritesIfThere self.now.types.now around.now interface) }
+        ensures fault { IsInterfaceRefused self.now.types.now around.now interface result }
     {
         self.types.law();
         closing_law();
@@ -232,8 +233,7 @@ impl<'a> TypeEncoder<'a> {
         }
         held.exports.law();
         let order = self.order(interface)?;
-        let alloc = self.types.allocator();
-        let mut scope = Scope::new(alloc, Encodable::Instance(InstanceType::new(alloc)));
+        let mut scope = self.open(around, interface)?;
         self.items(&mut scope, held, order.as_slice())?;
         let declarations = instance_type(scope.into_content());
         Ok(Some(declarations))

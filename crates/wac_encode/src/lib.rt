@@ -4,6 +4,7 @@
 mod encoder;
 mod functions;
 mod interfaces;
+mod opening;
 mod task;
 
 pub use encoder::TypeEncoder;

@@ -82,6 +82,58 @@ const INSTANCES: &[u8] = &[
     0x00, 0x01, 0x62, 0x05, 0x00, // another
 ];
 
+const USED: &[u8] = &[
+    0x00, 0x61, 0x73, 0x6d, 0x0d, 0x00, 0x01, 0x00, // the preamble
+    0x07, 0x0f, 0x01, 0x42, 0x02, // an instance type of two declarations
+    0x01, 0x6d, 0x01, 0x01, 0x61, // the enum
+    0x04, 0x00, 0x01, 0x74, 0x03, 0x00, 0x00, // a type item that equals it
+    0x0a, 0x0a, 0x01, 0x00, 0x05, 0x6e, 0x3a, 0x70, 0x2f, 0x6a, 0x05, 0x00, // an instance of it
+    0x06, 0x06, 0x01, 0x03, 0x00, 0x00, 0x01, 0x74, // an alias of its type item
+    0x07, 0x16, 0x01, 0x42, 0x03, // an instance type of three declarations
+    0x02, 0x03, 0x02, 0x01, 0x01, // an alias of the alias
+    0x01, 0x40, 0x01, 0x01, 0x78, 0x00, 0x01, 0x00, // a function type over it
+    0x04, 0x00, 0x01, 0x66, 0x01, 0x01, // a function
+    0x0a, 0x0a, 0x01, 0x00, 0x05, 0x6e, 0x3a, 0x70, 0x2f, 0x69, 0x05, 0x02, // an instance of it
+];
+
+const USED_AND_LISTED: &[u8] = &[
+    0x00, 0x61, 0x73, 0x6d, 0x0d, 0x00, 0x01, 0x00, // the preamble
+    0x07, 0x0f, 0x01, 0x42, 0x02, // an instance type of two declarations
+    0x01, 0x6d, 0x01, 0x01, 0x61, // the enum
+    0x04, 0x00, 0x01, 0x74, 0x03, 0x00, 0x00, // a type item that equals it
+    0x0a, 0x0a, 0x01, 0x00, 0x05, 0x6e, 0x3a, 0x70, 0x2f, 0x6a, 0x05, 0x00, // an instance of it
+    0x06, 0x06, 0x01, 0x03, 0x00, 0x00, 0x01, 0x74, // an alias of its type item
+    0x07, 0x1d, 0x01, 0x42, 0x04, // an instance type of four declarations
+    0x02, 0x03, 0x02, 0x01, 0x01, // an alias of the alias
+    0x04, 0x00, 0x01, 0x74, 0x03, 0x00, 0x00, // a type item that equals it
+    0x01, 0x40, 0x01, 0x01, 0x78, 0x01, 0x01, 0x00, // a function type over the item's own index
+    0x04, 0x00, 0x01, 0x66, 0x01, 0x02, // a function
+    0x0a, 0x0a, 0x01, 0x00, 0x05, 0x6e, 0x3a, 0x70, 0x2f, 0x69, 0x05, 0x02, // an instance of it
+];
+
+const NAMED_AROUND: &[u8] = &[
+    0x00, 0x61, 0x73, 0x6d, 0x0d, 0x00, 0x01, 0x00, // the preamble
+    0x07, 0x05, 0x01, 0x6d, 0x01, 0x01, 0x61, // the enum
+    0x0a, 0x07, 0x01, 0x00, 0x01, 0x74, 0x03, 0x00, 0x00, // a type item that equals it
+    0x07, 0x16, 0x01, 0x42, 0x03, // an instance type of three declarations
+    0x02, 0x03, 0x02, 0x01, 0x01, // an alias of the item's own index
+    0x01, 0x40, 0x01, 0x01, 0x78, 0x00, 0x01, 0x00, // a function type over it
+    0x04, 0x00, 0x01, 0x66, 0x01, 0x01, // a function
+    0x0a, 0x0a, 0x01, 0x00, 0x05, 0x6e, 0x3a, 0x70, 0x2f, 0x69, 0x05, 0x02, // an instance of it
+];
+
+const UNNAMED_AROUND: &[u8] = &[
+    0x00, 0x61, 0x73, 0x6d, 0x0d, 0x00, 0x01, 0x00, // the preamble
+    0x07, 0x0a, 0x02, 0x70, 0x7d, // a list
+    0x40, 0x01, 0x01, 0x78, 0x00, 0x01, 0x00, // a function type over it
+    0x0a, 0x06, 0x01, 0x00, 0x01, 0x67, 0x01, 0x01, // a function
+    0x07, 0x14, 0x01, 0x42, 0x03, // an instance type of three declarations
+    0x01, 0x70, 0x7d, // the list again
+    0x01, 0x40, 0x01, 0x01, 0x78, 0x00, 0x01, 0x00, // the function type again
+    0x04, 0x00, 0x01, 0x66, 0x01, 0x01, // a function
+    0x0a, 0x0a, 0x01, 0x00, 0x05, 0x6e, 0x3a, 0x70, 0x2f, 0x69, 0x05, 0x02, // an instance of it
+];
+
 // The bytes of a component that imports these items, in order; none where one is not imported yet.
 fn imported(rt: &impl Abort, types: &Types, items: &[(&str, ItemKind)]) -> Option<Vec<u8>> {
     let builder = ComponentBuilder::new(types.allocator());
@@ -145,6 +197,68 @@ fn imports_from_an_instance(rt: HostRuntime) {
     let i = interface(&rt, &mut types, Interface::new(alloc, Some("n:p/i"), &[t]));
     let items = [("n:p/i", ItemKind::Instance(i)), ("f", ItemKind::Func(f))];
     assert_imported(&rt, &types, &items, LISTED);
+}
+
+// What another instance lists comes into an instance type by an alias of its alias, be it listed there too or not.
+#[test]
+fn imports_what_another_lists(rt: HostRuntime) {
+    let alloc = rt.alloc();
+    let mut types = Types::new(alloc);
+    let x = enumeration(&rt, &mut types, "a");
+    let f = function(
+        &rt,
+        &mut types,
+        FuncType::new(alloc, &[("x", x)], None, false),
+    );
+    let t = ("t", ItemKind::TypeItem(Type::Value(x)));
+    let f = ("f", ItemKind::Func(f));
+    let j = interface(&rt, &mut types, Interface::new(alloc, Some("n:p/j"), &[t]));
+    let used = interface(&rt, &mut types, Interface::new(alloc, Some("n:p/i"), &[f]));
+    let listed = interface(
+        &rt,
+        &mut types,
+        Interface::new(alloc, Some("n:p/i"), &[t, f]),
+    );
+    let j = ("n:p/j", ItemKind::Instance(j));
+    let items = [j, ("n:p/i", ItemKind::Instance(used))];
+    assert_imported(&rt, &types, &items, USED);
+    let items = [j, ("n:p/i", ItemKind::Instance(listed))];
+    assert_imported(&rt, &types, &items, USED_AND_LISTED);
+}
+
+// So does what a type item names; what has no name is written again.
+#[test]
+fn imports_what_has_a_name(rt: HostRuntime) {
+    let alloc = rt.alloc();
+    let mut types = Types::new(alloc);
+    let x = enumeration(&rt, &mut types, "a");
+    let f = function(
+        &rt,
+        &mut types,
+        FuncType::new(alloc, &[("x", x)], None, false),
+    );
+    let i = interface(
+        &rt,
+        &mut types,
+        Interface::new(alloc, Some("n:p/i"), &[("f", ItemKind::Func(f))]),
+    );
+    let t = ("t", ItemKind::TypeItem(Type::Value(x)));
+    let items = [t, ("n:p/i", ItemKind::Instance(i))];
+    assert_imported(&rt, &types, &items, NAMED_AROUND);
+    let byte = ValueType::Primitive(PrimitiveType::U8);
+    let list = defined(&rt, &mut types, DefinedType::List(byte));
+    let g = function(
+        &rt,
+        &mut types,
+        FuncType::new(alloc, &[("x", list)], None, false),
+    );
+    let i = interface(
+        &rt,
+        &mut types,
+        Interface::new(alloc, Some("n:p/i"), &[("f", ItemKind::Func(g))]),
+    );
+    let items = [("g", ItemKind::Func(g)), ("n:p/i", ItemKind::Instance(i))];
+    assert_imported(&rt, &types, &items, UNNAMED_AROUND);
 }
 
 // A primitive has a definition of its own; a second name of a list equals the first.

@@ -7,7 +7,7 @@ use std::process::Abort;
 use wac_binary::{ComponentBuilder, Description};
 use wac_collection::Types;
 use wac_encode::TypeEncoder;
-use wac_scopes::{EncodeFault, WriteFault};
+use wac_scopes::{Encodable, EncodeFault, Scope, WriteFault};
 use wac_shapes::{
     DefinedType, FuncType, Interface, InterfaceId, ItemKind, PrimitiveType, Type, ValueType,
 };
@@ -57,12 +57,19 @@ const ORDERED: &[u8] = &[
     0x0a, 0x0a, 0x01, 0x00, 0x05, 0x6e, 0x3a, 0x70, 0x2f, 0x69, 0x05, 0x00, // the import
 ];
 
+// A scope in which nothing is written.
+fn scope(types: &Types) -> Scope {
+    let alloc = types.allocator();
+    Scope::new(alloc, Encodable::Builder(ComponentBuilder::new(alloc)))
+}
+
 // The bytes of a component that imports an interface of these items.
 fn imported(rt: &impl Abort, types: &Types, interface: InterfaceId) -> Vec<u8>
     requires { HasInterface types.now interface }
 {
     let mut builder = ComponentBuilder::new(types.allocator());
-    let written = TypeEncoder::new(types).interface_type(interface);
+    let around = scope(types);
+    let written = TypeEncoder::new(types).interface_type(&around, interface);
     if let Some(written) = written.expect(rt, "an instance type") {
         let index = builder.instance_type(&written).expect(rt, "an index");
         let imported = builder.import("n:p/i", Description::Instance(index));
@@ -175,7 +182,10 @@ fn keeps_the_first_name(rt: HostRuntime) {
 // An interface is held, and not written for this reason.
 fn assert_refused(rt: &impl Abort, types: &Types, interface: InterfaceId, want: WriteFault) {
     assert!(rt; types.contains(Type::Interface(interface)));
-    let refused = TypeEncoder::new(types).interface_type(interface).err();
+    let around = scope(types);
+    let refused = TypeEncoder::new(types)
+        .interface_type(&around, interface)
+        .err();
     assert!(rt; refused == Some(EncodeFault::Write(want)));
 }
 
@@ -200,7 +210,8 @@ fn refuses_what_no_instance_type_lists(rt: HostRuntime) {
     );
     let nested = interface(&rt, &mut types, Interface::new(alloc, None, &[v]));
     assert!(rt; types.contains(Type::Interface(own)));
-    let written = TypeEncoder::new(&types).interface_type(own);
+    let around = scope(&types);
+    let written = TypeEncoder::new(&types).interface_type(&around, own);
     assert!(rt; matches!(written, Ok(None)));
     assert_refused(&rt, &types, unbound, WriteFault::UnboundResource);
     assert_refused(&rt, &types, nested, WriteFault::NestedItem);

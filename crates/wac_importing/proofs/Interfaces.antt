@@ -45,7 +45,7 @@ module _ (c : Collection) (wf : IsWellFormed c) (i : InterfaceId) where
       ((id, (so.interface, so.found, named)), lists c wf i (lists_plain_items so))
 
   pub interface_no_fault : IsDefinableKind c (kind.TypeItem (ty.Interface i)) → (f : WriteFault) → IsDefinitionFault c (ty.Interface i) f → ⊥
-  interface_no_fault so f h = instance_fault c wf i (lists_plain_items so) f h
+  interface_no_fault so f h = instance_fault c wf i (lists_plain_items so) h.0 f h.2
 
 -- what is written
 

@@ -138,7 +138,7 @@ record Brings (old new : Scope) (n : Name) (item : ItemKind) (k : ℕ) : Type 0 
 all_types : (types : List NewType) → AllByRecursion IsQuiet (map as_item types)
 all_types [] = tt
 all_types (defined x ∷ types) = (tt, all_types types)
-all_types (aliased j n ∷ types) = (tt, all_types types)
+all_types (aliased l ∷ types) = (tt, all_types types)
 
 written_items : (old mid new : Encodable) (types : List NewType) (n : Name) (d : Description) → IsRoot old → mid ≡ with_types old types → new ≡ and_import mid n d
     → (new ≡ Builder ((items_of old ++ map as_item types) ++ import_item n d ∷ [])) × (count (space (described_sort d)) mid ≡ indexes (space (described_sort d)) (items_of old ++ map as_item types))

@@ -18,6 +18,7 @@ use Rattle.wac_subtyping.proofs.Unfolding.{all_right, before_held, held_item}
 use Rattle.std.specs.List.{AllByRecursion}
 use Rattle.wac_scopes.specs.declared.fault.WriteFault.{WriteFault}
 use Rattle.wac_scopes.specs.declared.fault.EncodeFault.TheVariants as fault
+use Rattle.wac_scopes.specs.declared.scope.Scope.{Scope}
 use Rattle.wac_encode.specs.Listing.{is_plain, lists_plain, are_plain, IsItemFault, HasRefusedItem}
 use Rattle.wac_root.specs.Importing.{is_importable, IsImportFault}
 use Rattle.wac_encode.proofs.Ordered.{stands-there}
@@ -97,8 +98,8 @@ module _ (c : Collection) (wf : IsWellFormed c) where
   in_split [] x ys = (0, refl)
   in_split (y ∷ xs) x ys = let (k, at) = in_split xs x ys in (suc k, at)
 
-  pub instance_fault : (i : InterfaceId) → ArePlain c (interface_exports c i) → (f : WriteFault) → HasRefusedItem c i (fault.Write f) → ⊥
-  instance_fault i all f h =
+  pub instance_fault : (i : InterfaceId) → ArePlain c (interface_exports c i) → (s : Scope) (f : WriteFault) → HasRefusedItem c s i (fault.Write f) → ⊥
+  instance_fault i all s f h =
       let e : Name × ItemKind = (h.stopped.name, h.stopped.item) in
       let (k, at) = in_split h.stopped.before e h.stopped.after in
       let (j, there) = stands-there h.order h.interface.exports (IsPermutation-sym h.interface.exports h.order h.ordered.permutation) k e (ap (λ es. slice_get es k) h.stopped.split ∙ at) in
@@ -106,11 +107,11 @@ module _ (c : Collection) (wf : IsWellFormed c) where
       item_fault h.stopped.item (exports_held i h.interface h.found j e there) (subst (ArePlain c) exported all j e there) f h.stopped.refused
 
   pub no_fault : (k : ItemKind) → holds_type c (kind_type k) ≡ true → ListsPlain c k → (f : WriteFault) → IsImportFault c k f → ⊥
-  no_fault (kind.Instance i) held plain f h = instance_fault i plain f h
+  no_fault (kind.Instance i) held plain f h = instance_fault i plain h.0 f h.1
   no_fault (kind.TypeItem (ty.Value v)) held plain f h = value_needs_none c wf v held (plain_free (type_tree c (ty.Value v)) plain) h.1
   no_fault (kind.Func g) held plain f h = func_needs_none c wf g held plain h.1
   no_fault (kind.TypeItem (ty.Func g)) held plain f h = func_needs_none c wf g held plain h.1
-  no_fault (kind.TypeItem (ty.Interface i)) held plain f h = instance_fault i plain f h
+  no_fault (kind.TypeItem (ty.Interface i)) held plain f h = instance_fault i plain h.0 f h.1
   no_fault (kind.TypeItem (ty.Module m)) held plain f h = of_value (ty.Module m) _ held plain (λ v e. cc)
   no_fault (kind.Value v) held plain f h = absurd plain
   no_fault (kind.TypeItem a) held plain f h = absurd h

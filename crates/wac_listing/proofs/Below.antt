@@ -12,11 +12,7 @@ use Rattle.wac_collection.specs.declared.collection.Held.{Held}
 use Rattle.wac_collection.specs.Collection.{Collection, IsWellFormed, IsPartBelow, and_maybe, case_values, seconds, defined_values, item_at, item_of, size}
 use Rattle.wac_collection.specs.Aliases.{aliased, value_resolved, value_resolved_in}
 use Rattle.wac_listing.specs.Made.{parts, some_of, second_of, some_second_of}
-
--- the parts that hold something
-abbrev pub somes : List (Option ValueType) → List ValueType
-somes [] = []
-somes (o ∷ os) = and_maybe o (somes os)
+use Rattle.wac_listing.specs.Found.{somes}
 
 somes-values : (vs : List ValueType) → vs ≡ somes (map some_of vs)
 somes-values [] = refl

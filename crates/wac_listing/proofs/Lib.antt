@@ -5,3 +5,4 @@ pub mod Rising
 pub mod Placing
 pub mod Reached
 pub mod Flagged
+pub mod Making

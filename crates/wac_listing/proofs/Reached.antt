@@ -22,7 +22,8 @@ use Rattle.wac_reach.proofs.Reaching.{mentioned_held}
 use Rattle.wac_listing.specs.Made.{parts}
 use Rattle.wac_listing.specs.Order.{definition, listed, Lists}
 use Rattle.wac_listing.specs.Before.{IsAt, HasPartAt, AreReached}
-use Rattle.wac_listing.proofs.Below.{somes, somes-parts}
+use Rattle.wac_listing.specs.Found.{somes}
+use Rattle.wac_listing.proofs.Below.{somes-parts}
 use Rattle.wac_listing.proofs.Taking.{definition-is}
 
 onward : (c : Collection) (a u t : AnyType) → Reaches c a u → IsIn t (mentions c u) → Reaches c a t
@@ -34,7 +35,7 @@ reached-held c wf a t held (at_once _ _ h) = mentioned_held c wf a t held h
 reached-held c wf a t held (further _ b _ h r) = reached-held c wf b t (mentioned_held c wf a b held h) r
 
 -- an item's type is mentioned
-kind-in : (es : List (Name × ItemKind)) (p : ℕ) (e : Name × ItemKind) → slice_get es p ≡ Some e → IsIn (kind_type e.1) (kind_types es)
+pub kind-in : (es : List (Name × ItemKind)) (p : ℕ) (e : Name × ItemKind) → slice_get es p ≡ Some e → IsIn (kind_type e.1) (kind_types es)
 kind-in [] p e at = let none_some : None ≡ Some e = at in cc
 kind-in (f ∷ es) zero e at = let both : Some f ≡ Some e = at in let same : f ≡ e = cc in inl (ap (λ (x : Name × ItemKind). kind_type x.1) (sym same))
 kind-in (f ∷ es) (suc p) e at = inr (kind-in es p e at)
@@ -47,7 +48,7 @@ some-in (None ∷ os) (suc i) v at = some-in os i v at
 some-in (Some w ∷ os) zero v at = let both : Some (Some w) ≡ Some (Some v) = at in let same : w ≡ v = cc in inl (ap ty.Value (sym same))
 some-in (Some w ∷ os) (suc i) v at = inr (some-in os i v at)
 
-part-in : (x : DefinedType) (i : ℕ) (v : ValueType) → slice_get (parts x) i ≡ Some (Some v) → IsIn (ty.Value v) (defined_mentions x)
+pub part-in : (x : DefinedType) (i : ℕ) (v : ValueType) → slice_get (parts x) i ≡ Some (Some v) → IsIn (ty.Value v) (defined_mentions x)
 part-in x i v at = subst (λ (vs : List ValueType). IsIn (ty.Value v) (value_types vs)) (sym (somes-parts x)) (some-in (parts x) i v at)
 
 module _ (c : Collection) (root : AnyType) where

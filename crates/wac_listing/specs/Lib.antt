@@ -1,3 +1,4 @@
 pub mod Made
 pub mod Order
 pub mod Before
+pub mod Found

@@ -1,12 +1,15 @@
 -- What value types are made of.
-use Rattle.std.specs.Prelude.{ℕ, ◌≡◌, List, [], ◌∷◌, map, Option, Some, slice_get}
-use Rattle.wac_shapes.specs.Name.{Name}
+use Rattle.std.specs.Prelude.{ℕ, ◌≡◌, ◌↔◌, List, [], ◌∷◌, map, Option, Some, slice_get}
+use Rattle.wac_shapes.specs.Name.{Name, option_case}
 use Rattle.wac_shapes.specs.declared.component.DefinedType.{DefinedType}
 use Rattle.wac_shapes.specs.declared.component.DefinedType.TheVariants as def
 use Rattle.wac_shapes.specs.declared.component.DefinedTypeId.{DefinedTypeId}
 use Rattle.wac_shapes.specs.declared.component.ValueType.{ValueType}
 use Rattle.wac_shapes.specs.declared.component.ValueType.TheVariants as val
-use Rattle.wac_collection.specs.Collection.{Collection, item_at}
+use Rattle.wac_shapes.specs.declared.component.ItemKind.{ItemKind}
+use Rattle.wac_shapes.specs.declared.component.ItemKind.TheVariants as kind
+use Rattle.wac_shapes.specs.declared.component.«Type».TheVariants as ty
+use Rattle.wac_collection.specs.Collection.{Collection, func_values, item_at}
 use Rattle.wac_collection.specs.Aliases.{value_resolved}
 
 abbrev pub some_of : ValueType → Option ValueType
@@ -41,3 +44,17 @@ pub data MadeOf (c : Collection) (v : ValueType) : ValueType → Type 0 where
 -- what one of these value types is made of, aliases followed to the ends
 abbrev pub OneIsMadeOf : Collection → List ValueType → ValueType → Type 0
 OneIsMadeOf c vs w = (k : ℕ) × (v : ValueType) × (slice_get vs k ≡ Some v) × MadeOf c (value_resolved c v) w
+
+-- the value types that an item mentions: that of a type item, those of a function
+abbrev pub item_values : Collection → ItemKind → List ValueType
+item_values c (kind.TypeItem (ty.Value v)) = v ∷ []
+item_values c (kind.Func f) = option_case (item_at c.funcs f.0) [] func_values
+item_values c k = []
+
+-- what one of the items is made of
+abbrev pub OneItemIsMadeOf : Collection → List (Name × ItemKind) → ValueType → Type 0
+OneItemIsMadeOf c es w = (p : ℕ) × (e : Name × ItemKind) × (slice_get es p ≡ Some e) × OneIsMadeOf c (item_values c e.1) w
+
+-- these are the definitions that the items are made of
+abbrev pub AreMadeOf : Collection → List (Name × ItemKind) → List DefinedTypeId → Type 0
+AreMadeOf c es ds = (d : DefinedTypeId) → ((k : ℕ) × (slice_get ds k ≡ Some d)) ↔ OneItemIsMadeOf c es (val.Defined d)

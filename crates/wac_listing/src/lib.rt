@@ -1,9 +1,11 @@
 //! The order in which the type items of an interface are written.
 #![tactic(auto)]
 
+mod made;
 mod order;
 mod parts;
 mod places;
 
+pub use made::definitions_of;
 pub use order::type_order;
 pub use parts::part_at;

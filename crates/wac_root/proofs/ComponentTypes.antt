@@ -30,8 +30,8 @@ use Rattle.wac_stacks.specs.Listed.{declaring, OpensWorld, ClosesComponent}
 use Rattle.wac_scopes.specs.Rooted.{unbound, IsRightRoot, IsWrittenThere}
 use Rattle.wac_scopes.specs.Scoped.{type_index, recorded_type, opened, AddsInstance, AddsComponent, ListsInstanceOf, WritesUnlessTooLarge, FitsUnlessTooLarge, listing, place}
 use Rattle.wac_encode.specs.Written.{GoesOn, WritesFor}
-use Rattle.wac_encode.specs.Listing.{lists_plain, SaysInterface, WritesInterface, IsInterfaceRefused}
-use Rattle.wac_root.specs.Components.{HasId, held_under_id, component_tree, SaysComponent, under_id, WritesComponent, IsComponentRefused, EndsWithComponent}
+use Rattle.wac_encode.specs.Listing.{lists_plain, SaysInterface, IsInterfaceRefused}
+use Rattle.wac_root.specs.Components.{HasId, held_under_id, component_tree, SaysComponent, IsBare, WritesAlone, under_id, WritesComponent, IsComponentRefused, EndsWithComponent}
 use Rattle.wac_root.specs.Defining.{IsDefinable, WritesDefinition, MadeFor, WritesTypesFor, WritesOnce, IsDefinitionRefused}
 use Rattle.wac_encode.proofs.Answering.{as-it-was}
 use Rattle.wac_root.proofs.Defining.{stands-there, at-root, defined-so, content-is, records-same}
@@ -68,13 +68,13 @@ new-opened s empty none unlisted = let memo_same : recorded_type s ≡ (λ a. No
 
 -- what is written into it says the interface under its id
 pub says-component : IsItsTree → OpensWorld → ClosesComponent → (c : Collection) (i : InterfaceId) (id : Name) (start mid new : Scope) (ds es : List Decl) (k j : ℕ)
-    → start.content ≡ Component [] → ((a : AnyType) → type_index start a ≡ None) → ((a : AnyType) → listing start a ≡ None) → HasId c i id → SaysInterface c i ds → AddsInstance start mid i ds k → ListsInstanceOf mid new id k j → new.content ≡ Component es → SaysComponent c i es
+    → start.content ≡ Component [] → ((a : AnyType) → type_index start a ≡ None) → ((a : AnyType) → listing start a ≡ None) → HasId c i id → SaysInterface c start i ds → AddsInstance start mid i ds k → ListsInstanceOf mid new id k j → new.content ≡ Component es → SaysComponent c i es
 says-component tree opens closes c i id start mid new ds es k j empty none unlisted named says adds lists written m ms o os g =
     let b : Bindings = nothing_bound in
     let world = opens c b in
     let same : opened start unbound ≡ unbound = new-opened start empty none unlisted in
     let begun : Good c (b ∷ []) (opened start unbound ∷ []) = subst (λ (p : Open). Good c (b ∷ []) (p ∷ [])) (sym same) world.0 in
-    let held = says b [] (opened start unbound) [] begun in
+    let held = says b [] unbound [] begun in
     let a = adds c b [] unbound [] held.0 held.1 held.2 held.3 in
     let no_exports : (env (opened start unbound) []).exports ≡ (λ n. absent) = ap (λ (p : Open). (env p []).exports) same ∙ fun_ext world.2 in
     let no_imports : (env (opened start unbound) []).imports ≡ (λ n. absent) = ap (λ (p : Open). (env p []).imports) same ∙ fun_ext world.1 in
@@ -98,7 +98,7 @@ under-id-is id ds k start mid new empty typed index listed =
     listed ∙ ap (λ (x : Encodable). and_export x id (e.Instance k)) (typed ∙ ap (λ (x : Encodable). and_type x (instance_def (decls ds))) empty)
     ∙ ap (λ (n : ℕ). Component (type_decl (instance_def (decls ds)) ∷ export_decl id (e.Instance n) ∷ [])) (index ∙ ap (count (space sort.«Type»)) empty)
 
-pub writes-component : (c : Collection) (i : InterfaceId) (id : Name) (ds es : List Decl) (k : ℕ) (start mid new : Encodable) → HasId c i id → WritesInterface c i ds → start ≡ Component [] → mid ≡ and_type start (instance_def (decls ds)) → k ≡ count (space sort.«Type») start → new ≡ and_export mid id (e.Instance k) → new ≡ Component es → WritesComponent c i es
+pub writes-component : (c : Collection) (i : InterfaceId) (id : Name) (ds es : List Decl) (k : ℕ) (start mid new : Encodable) → HasId c i id → WritesAlone c i ds → start ≡ Component [] → mid ≡ and_type start (instance_def (decls ds)) → k ≡ count (space sort.«Type») start → new ≡ and_export mid id (e.Instance k) → new ≡ Component es → WritesComponent c i es
 writes-component c i id ds es k start mid new named written empty typed index listed is = record {
   id = id;
   named = named;
@@ -109,12 +109,12 @@ writes-component c i id ds es k start mid new named written empty typed index li
 
 -- refusals
 
-pub interface-refused : (A B : Type 0) (c : Collection) (i : InterfaceId) (f : EncodeFault) → IsInterfaceRefused {A = A} c i (Err f) → IsComponentRefused {A = B} c i (Err f)
-interface-refused A B c i (fault.Write g) h = h
-interface-refused A B c i fault.TooLarge h = inl h
-interface-refused A B c i fault.OutOfMemory h = tt
+pub interface-refused : (A B : Type 0) (c : Collection) (i : InterfaceId) (around : Scope) (f : EncodeFault) → IsBare around → IsInterfaceRefused {A = A} c around i (Err f) → IsComponentRefused {A = B} c i (Err f)
+interface-refused A B c i around (fault.Write g) bare h = (around, bare, h)
+interface-refused A B c i around fault.TooLarge bare h = inl (around, bare, h)
+interface-refused A B c i around fault.OutOfMemory bare h = tt
 
-pub type-too-large : (A B : Type 0) (c : Collection) (i : InterfaceId) (id : Name) (ds : List Decl) (start : Encodable) (f : EncodeFault) → HasId c i id → WritesInterface c i ds → start ≡ Component [] → FitsUnlessTooLarge {A = A} (Err f) (ContentFits (and_type start (instance_def (decls ds)))) → IsComponentRefused {A = B} c i (Err f)
+pub type-too-large : (A B : Type 0) (c : Collection) (i : InterfaceId) (id : Name) (ds : List Decl) (start : Encodable) (f : EncodeFault) → HasId c i id → WritesAlone c i ds → start ≡ Component [] → FitsUnlessTooLarge {A = A} (Err f) (ContentFits (and_type start (instance_def (decls ds)))) → IsComponentRefused {A = B} c i (Err f)
 type-too-large A B c i id ds start (fault.Write g) named written empty h = absurd h
 type-too-large A B c i id ds start fault.TooLarge named written empty h = inr (record {
   id = id;
@@ -125,7 +125,7 @@ type-too-large A B c i id ds start fault.TooLarge named written empty h = inr (r
 })
 type-too-large A B c i id ds start fault.OutOfMemory named written empty h = tt
 
-pub listing-too-large : (A B : Type 0) (c : Collection) (i : InterfaceId) (id : Name) (ds : List Decl) (k : ℕ) (start mid : Encodable) (f : EncodeFault) → HasId c i id → WritesInterface c i ds → start ≡ Component [] → mid ≡ and_type start (instance_def (decls ds)) → k ≡ count (space sort.«Type») start → WritesUnlessTooLarge {A = A} (Err f) (ContentFits (and_export mid id (e.Instance k))) → IsComponentRefused {A = B} c i (Err f)
+pub listing-too-large : (A B : Type 0) (c : Collection) (i : InterfaceId) (id : Name) (ds : List Decl) (k : ℕ) (start mid : Encodable) (f : EncodeFault) → HasId c i id → WritesAlone c i ds → start ≡ Component [] → mid ≡ and_type start (instance_def (decls ds)) → k ≡ count (space sort.«Type») start → WritesUnlessTooLarge {A = A} (Err f) (ContentFits (and_export mid id (e.Instance k))) → IsComponentRefused {A = B} c i (Err f)
 listing-too-large A B c i id ds k start mid (fault.Write g) named written empty typed index h = absurd h
 listing-too-large A B c i id ds k start mid fault.TooLarge named written empty typed index h = inr (record {
   id = id;

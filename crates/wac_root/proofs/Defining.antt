@@ -33,9 +33,10 @@ use Rattle.wac_stacks.specs.Scopes.{Content, ContentHasMeaning, at_type, scope_o
 use Rattle.wac_stacks.specs.Good.{At, IsHeld, Good, nothing_bound}
 use Rattle.wac_stacks.specs.Laws.{IsItsEnd, IsItsTree, StaysOnward}
 use Rattle.wac_scopes.specs.Rooted.{unbound, IsRightRoot, StaysRight, MeansBefore, IsWrittenThere}
-use Rattle.wac_scopes.specs.Scoped.{type_index, value_index, opened, root_of, HasToo, IsAsBefore, AddsPrimitive, WritesUnlessTooLarge, FitsUnlessTooLarge, listing}
+use Rattle.wac_scopes.specs.Scoped.{type_index, value_index, named_at, opened, root_of, HasToo, IsAsBefore, AddsPrimitive, WritesUnlessTooLarge, FitsUnlessTooLarge, listing}
 use Rattle.wac_scopes.proofs.Rooted.{content-of-root}
 use Rattle.wac_stacks.proofs.Values.{primitive-held}
+use Rattle.wac_scopes.specs.declared.scope.Listed.{Listed}
 use Rattle.wac_encode.specs.Written.{PartOf, WritesFor, with_types, IsOfFunc, AddsHeldFunc, IsFuncFrom, IsFuncAt, IsRefused, IsFuncRefused, NewType, defined as as_defined, aliased, as_item, IsListedThere}
 use Rattle.wac_encode.specs.Listing.{NeededBy, own_types, SameRecords, PrimitiveDoesNotFit}
 use Rattle.wac_root.specs.Importing.{IsImportedOnce, NamesImportedValue}
@@ -60,14 +61,14 @@ counted-root (Builder items) h = refl
 counted-root (Instance ds) h = absurd h
 counted-root (Component ds) h = absurd h
 
-no-place : (l : ℕ × Name) → None ≡ Some l → ⊥
+no-place : (l : Listed) → None ≡ Some l → ⊥
 no-place l h = cc
 
 -- where no instance lists a type, all are definitions
 definitions : (P : AnyType → Type 0) (s : Scope) → ((a : AnyType) → listing s a ≡ None) → (ys : List NewType) → AllByRecursion (IsListedThere P s) ys → (ts : List TypeDef) × (map as_item ys ≡ map type_item ts)
 definitions P s unlisted [] h = ([], refl)
 definitions P s unlisted (as_defined y ∷ ys) h = let r = definitions P s unlisted ys h.1 in (y ∷ r.0, ap (λ (es : List Item). type_item y ∷ es) r.1)
-definitions P s unlisted (aliased j n ∷ ys) h = absurd (no-place (j, n) (sym (unlisted (ty.Value (val.Defined h.0.0))) ∙ h.0.2))
+definitions P s unlisted (aliased l ∷ ys) h = absurd (no-place l (sym (unlisted (ty.Value (val.Defined h.0.0))) ∙ h.0.2))
 
 -- type definitions alone are added
 items-added : (c : Collection) (n : ℕ) (P : AnyType → Type 0) (old now : Scope) → IsRightRoot c old → WritesFor c n P old now → (ts : List TypeDef) × (items_of now.content ≡ items_of old.content ++ map type_item ts)
@@ -160,7 +161,7 @@ pub content-is : (now new : Scope) (x : Encodable) → new ≡ record now { cont
 content-is now new x is = ap (λ (s : Scope). s.content) is
 
 pub records-same : (now new : Scope) (x : Encodable) → new ≡ record now { content = x } → SameRecords now new
-records-same now new x is a = (ap (λ (s : Scope). type_index s a) is, ap (λ (s : Scope). listing s a) is)
+records-same now new x is = record { types = λ a. ap (λ (s : Scope). type_index s a) is; listed = λ a. ap (λ (s : Scope). listing s a) is; names = λ d. ap (λ (s : Scope). named_at s d) is }
 
 -- a primitive
 
@@ -209,14 +210,14 @@ first-defined stays before there end tree c wf old now new n v d i k r is w at a
     defined-so c (ty.Value v) n 0 (PartOf c (value_resolved c v)) old now new i k r w
     (λ good means. stands-recorded end tree c wf now v d i is (right-after stays before there tree c 0 (PartOf c (value_resolved c v)) old now w r) at means) appended answer
 
-pub first-once : (c : Collection) (old now new : Scope) (n : Name) (v : ValueType) (d : DefinedTypeId) (i k : ℕ) → value_resolved c v ≡ val.Defined d → value_index old d ≡ None → WritesFor c 0 (PartOf c (value_resolved c v)) old now → value_index now d ≡ Some i → new.content ≡ Builder (items_of now.content ++ export_item n sort.«Type» i ∷ []) → HasToo now (ty.Value (val.Defined d)) k new → WritesOnce c (ty.Value v) n old new k
-first-once c old now new n v d i k is none w at appended too = record {
+pub first-once : (c : Collection) (old now new : Scope) (n : Name) (v : ValueType) (d : DefinedTypeId) (i k : ℕ) → value_resolved c v ≡ val.Defined d → value_index old d ≡ None → WritesFor c 0 (PartOf c (value_resolved c v)) old now → value_index now d ≡ Some i → new.content ≡ Builder (items_of now.content ++ export_item n sort.«Type» i ∷ []) → HasToo now (ty.Value (val.Defined d)) k new → named_at new d ≡ Some k → WritesOnce c (ty.Value v) n old new k
+first-once c old now new n v d i k is none w at appended too name = record {
   now = now;
   behind = definition-behind c old now v d is w;
   index = i;
   defined = definition-described c old now v d i is at;
   appended = appended;
-  named = subst (λ (u : ValueType). NamesImportedValue old now new u k) (sym is) (subst (λ (o : Option ℕ). IsImportedOnce o now new d k) (sym none) too);
+  named = subst (λ (u : ValueType). NamesImportedValue old now new u k) (sym is) (subst (λ (o : Option ℕ). IsImportedOnce o now new d k) (sym none) (too, name));
 }
 
 -- a function type

@@ -19,6 +19,7 @@ use Rattle.wac_scopes.specs.declared.fault.EncodeFault.TheVariants as fault
 use Rattle.wac_scopes.specs.Contents.{IsRoot, items_of, and_import, ContentFits}
 use Rattle.wac_scopes.specs.Scoped.{opened, root_of, IsNewInRoot, RootImportsFunction, WritesUnlessTooLarge}
 use Rattle.wac_stacks.specs.Laws.{Follows}
+use Rattle.wac_scopes.specs.declared.scope.Listed.TheVariants.{ByInstance, Around}
 use Rattle.wac_encode.specs.Written.{IsOfFunc, WritesFor, with_types, AddsHeldFunc, IsFuncAt, IsFuncRefused, NewType, defined, aliased, as_item}
 use Rattle.wac_root.specs.Importing.{ImportsHeldFunc, EndsWithImport, IsImportRefused}
 
@@ -30,7 +31,8 @@ ListsOneMore = (items : List Item) (x : Item) → (meaning (items ++ x ∷ [])).
 
 one-import : ListsOneMore → (items : List Item) (y : NewType) → (meaning (items ++ as_item y ∷ [])).imports ≡ (meaning items).imports
 one-import law items (defined y) = law items (type_item y) ∙ append-nil (meaning items).imports
-one-import law items (aliased j n) = law items (as_item (aliased j n)) ∙ append-nil (meaning items).imports
+one-import law items (aliased (ByInstance j n)) = law items (as_item (aliased (ByInstance j n))) ∙ append-nil (meaning items).imports
+one-import law items (aliased (Around i)) = law items (as_item (aliased (Around i))) ∙ append-nil (meaning items).imports
 
 types-import : ListsOneMore → (items : List Item) (ys : List NewType) → (meaning (items ++ map as_item ys)).imports ≡ (meaning items).imports
 types-import law items [] = ap (λ (xs : List Item). (meaning xs).imports) (append-nil items)

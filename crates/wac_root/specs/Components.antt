@@ -1,8 +1,9 @@
 -- An interface as a component type, which imports nothing and exports an instance of the interface under its id.
-use Rattle.std.specs.Prelude.{ℕ, ◌≡◌, ◌⊎◌, List, [], ◌∷◌, Some, Result, Err}
+use Rattle.std.specs.Prelude.{ℕ, ◌≡◌, ◌⊎◌, List, [], ◌∷◌, Some, None, Result, Err}
 use Rattle.wac_shapes.specs.Name.{Name, option_case}
 use Rattle.wac_shapes.specs.declared.component.Interface.{Interface}
 use Rattle.wac_shapes.specs.declared.component.InterfaceId.{InterfaceId}
+use Rattle.wac_shapes.specs.declared.component.«Type».{«Type» as AnyType}
 use Rattle.wac_shapes.specs.declared.component.«Type».TheVariants as ty
 use Rattle.wac_collection.specs.Tree.{Tree, absent, component, instance_item}
 use Rattle.wac_collection.specs.Collection.{Collection, item_at}
@@ -19,6 +20,7 @@ use Rattle.wac_scopes.specs.declared.fault.EncodeFault.{EncodeFault}
 use Rattle.wac_scopes.specs.declared.fault.EncodeFault.TheVariants as fault
 use Rattle.wac_scopes.specs.declared.scope.Scope.{Scope}
 use Rattle.wac_scopes.specs.Contents.{and_type, count, ContentFits}
+use Rattle.wac_scopes.specs.Scoped.{type_index, listing}
 use Rattle.wac_stacks.specs.Scopes.{Open, Stack, next_type, with_def}
 use Rattle.wac_stacks.specs.Good.{Good, nothing_bound}
 use Rattle.wac_stacks.specs.Laws.{Adds}
@@ -41,6 +43,19 @@ abbrev pub SaysComponent : Collection → InterfaceId → List Decl → Type 0
 SaysComponent c i ds = (m : Bindings) (ms : List Bindings) (o : Open) (os : Stack) → Good c (m ∷ ms) (o ∷ os)
     → Adds c (m ∷ ms) (o ∷ os) (with_def (component_def (decls ds)) o ∷ os) (next_type o) (component_tree c i)
 
+-- a component type in which nothing is written and nothing recorded; so nothing has a name in it
+pub record IsBare (s : Scope) : Type 0 where
+  pub content : s.content ≡ Component []
+  pub types : (a : AnyType) → type_index s a ≡ None
+  pub listed : (a : AnyType) → listing s a ≡ None
+
+-- the declarations of the interface where nothing around has a name, and where they are refused
+abbrev pub WritesAlone : Collection → InterfaceId → List Decl → Type 0
+WritesAlone c i ds = (around : Scope) × IsBare around × WritesInterface c around i ds
+
+abbrev pub IsRefusedAlone : {A : Type 0} → Collection → InterfaceId → Result A EncodeFault → Type 0
+IsRefusedAlone c i r = (around : Scope) × IsBare around × IsInterfaceRefused c around i r
+
 -- the instance type, and the export of an instance of it under this id
 abbrev pub under_id : Name → List Decl → List Decl
 under_id id ds = type_decl (instance_def (decls ds)) ∷ export_decl id (e.Instance 0) ∷ []
@@ -50,7 +65,7 @@ pub record WritesComponent (c : Collection) (i : InterfaceId) (ds : List Decl) :
   pub id : Name
   pub named : HasId c i id
   pub declarations : List Decl
-  pub written : WritesInterface c i declarations
+  pub written : WritesAlone c i declarations
   pub is : ds ≡ under_id id declarations
 
 -- the instance type does not fit into the component type, or its export does not
@@ -58,13 +73,14 @@ pub record DeclarationDoesNotFit (c : Collection) (i : InterfaceId) : Type 0 whe
   pub id : Name
   pub named : HasId c i id
   pub declarations : List Decl
-  pub written : WritesInterface c i declarations
+  pub written : WritesAlone c i declarations
   pub large : (DeclarationsFit (type_decl (instance_def (decls declarations)) ∷ []) → ⊥) ⊎ (DeclarationsFit (under_id id declarations) → ⊥)
 
 -- what stands where the component type is refused: what stands where the interface is, or a declaration does not fit
 abbrev pub IsComponentRefused : {A : Type 0} → Collection → InterfaceId → Result A EncodeFault → Type 0
-IsComponentRefused c i (Err fault.TooLarge) = IsInterfaceRefused {A = Unit {0}} c i (Err fault.TooLarge) ⊎ DeclarationDoesNotFit c i
-IsComponentRefused c i r = IsInterfaceRefused c i r
+IsComponentRefused c i (Err fault.TooLarge) = IsRefusedAlone {A = Unit {0}} c i (Err fault.TooLarge) ⊎ DeclarationDoesNotFit c i
+IsComponentRefused c i (Err (fault.Write f)) = IsRefusedAlone {A = Unit {0}} c i (Err (fault.Write f))
+IsComponentRefused c i r = Unit {0}
 
 -- index k is the component type that was written last, that of the interface
 pub record EndsWithComponent (c : Collection) (old now : Scope) (i : InterfaceId) (k : ℕ) : Type 0 where

@@ -24,9 +24,9 @@ use Rattle.wac_scopes.specs.declared.scope.Scope.{Scope}
 use Rattle.wac_scopes.specs.Contents.{items_of}
 use Rattle.wac_stacks.specs.Good.{nothing_bound}
 use Rattle.wac_encode.specs.Written.{WritesFor, HasHandle, AddsHeldFunc, IsFuncAt}
-use Rattle.wac_encode.specs.Listing.{lists_plain, NeededBy, own_types, IsListedAt, SameRecords, TypeDoesNotFit, IsInterfaceRefused}
+use Rattle.wac_encode.specs.Listing.{lists_plain, NeededBy, own_types, IsListedAt, SameRecords, TypeDoesNotFit}
 use Rattle.wac_root.specs.Importing.{NamesImportedValue}
-use Rattle.wac_root.specs.Components.{HasId, component_tree, IsComponentRefused, EndsWithComponent, ComponentDoesNotFit}
+use Rattle.wac_root.specs.Components.{HasId, component_tree, IsRefusedAlone, IsComponentRefused, EndsWithComponent, ComponentDoesNotFit}
 
 -- whether a type is one that is defined so far: an interface has an id, and its items are of sorts that are written
 abbrev pub IsDefinable : Collection → AnyType → Type 0
@@ -111,7 +111,7 @@ pub record DefinitionDoesNotFit (c : Collection) (t : AnyType) (n : Name) (old :
 
 -- which fault stands at a definition: a handle, whose resource nothing binds; the fault of the interface's first item that has one
 abbrev pub IsDefinitionFault : Collection → AnyType → WriteFault → Type 0
-IsDefinitionFault c (ty.Interface i) f = IsInterfaceRefused {A = Unit {0}} c i (Err (fault.Write f))
+IsDefinitionFault c (ty.Interface i) f = IsRefusedAlone {A = Unit {0}} c i (Err (fault.Write f))
 IsDefinitionFault c t f = (f ≡ write.UnboundResource) × HasHandle (MadeFor c t)
 
 -- what stands where a definition is refused: such a fault, or what does not fit

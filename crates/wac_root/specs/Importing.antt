@@ -29,9 +29,9 @@ use Rattle.wac_scopes.specs.Contents.{and_type, and_import, count, ContentFits}
 use Rattle.wac_stacks.specs.Scopes.{Open, Stack}
 use Rattle.wac_stacks.specs.Good.{At, IsHeld, Good}
 use Rattle.wac_stacks.specs.Laws.{Adds}
-use Rattle.wac_scopes.specs.Scoped.{type_index, value_index, HasToo, AlsoLists, opened, root_of, IsNewInRoot, RootImports}
+use Rattle.wac_scopes.specs.Scoped.{type_index, value_index, named_at, HasToo, AlsoLists, opened, root_of, IsNewInRoot, RootImports}
 use Rattle.wac_encode.specs.Written.{PartOf, WritesFor, HasHandle, IsOfFunc, AddsHeldFunc, IsFuncAt, IsFuncRefused}
-use Rattle.wac_encode.specs.Listing.{lists_plain, WritesInterface, NeededBy, own_types, IsDescribed, SameRecords, TypeDoesNotFit, IsInterfaceRefused}
+use Rattle.wac_encode.specs.Listing.{lists_plain, AliasesFor, AllAliased, AliasDoesNotFit, WritesInterface, NeededBy, own_types, IsDescribed, SameRecords, TypeDoesNotFit, IsInterfaceRefused}
 
 -- a function of the held function type is imported under a name that is new, in each stack that was good with the root as the innermost; index k is that import
 abbrev pub ImportsHeldFunc : Collection → Scope → Scope → Name → FuncTypeId → ℕ → Type 0
@@ -95,11 +95,15 @@ AddsHeldInterface c old new i k = (m : Bindings) (ms : List Bindings) (o : Open)
 
 -- index j is the instance type that was written last, that of the interface, and is recorded
 pub record EndsWithInterface (c : Collection) (old now : Scope) (i : InterfaceId) (j : ℕ) : Type 0 where
+  -- behind the aliases of all that its items are made of and an instance lists
+  pub around : Scope
+  pub aliases : AliasesFor c i old around
+  pub all : AllAliased c i old around
   pub declarations : List Decl
-  pub written : WritesInterface c i declarations
-  pub appended : now.content ≡ and_type old.content (instance_def (decls declarations))
-  pub recorded : HasToo old (ty.Interface i) j now
-  pub index : j ≡ count (space sort.«Type») old.content
+  pub written : WritesInterface c around i declarations
+  pub appended : now.content ≡ and_type around.content (instance_def (decls declarations))
+  pub recorded : HasToo around (ty.Interface i) j now
+  pub index : j ≡ count (space sort.«Type») around.content
 
 -- index j is that of the interface: the recorded one, and nothing is written; else it was written last
 abbrev pub IsInterfaceFrom : Option ℕ → Collection → Scope → Scope → InterfaceId → ℕ → Type 0
@@ -118,7 +122,7 @@ IsImportedAs c old now item d = IsDescribed c old now item d
 
 -- a definition that was not written before is recorded at the import's own index, and so written by its name from then on
 abbrev pub IsImportedOnce : Option ℕ → Scope → Scope → DefinedTypeId → ℕ → Type 0
-IsImportedOnce None now new d k = HasToo now (ty.Value (val.Defined d)) k new
+IsImportedOnce None now new d k = HasToo now (ty.Value (val.Defined d)) k new × (named_at new d ≡ Some k)
 IsImportedOnce (Some i) now new d k = SameRecords now new
 
 abbrev pub NamesImportedValue : Scope → Scope → Scope → ValueType → ℕ → Type 0
@@ -162,16 +166,22 @@ WritesTypesOf c item old new = (types : ℕ) × WritesFor c types (NeededBy c it
 
 -- which of an import's types does not fit behind what is written
 abbrev pub InstanceDoesNotFit : Collection → InterfaceId → Scope → Type 0
-InstanceDoesNotFit c i s = (ds : List Decl) × WritesInterface c i ds × (ContentFits (and_type s.content (instance_def (decls ds))) → ⊥)
+InstanceDoesNotFit c i s = (ds : List Decl) × WritesInterface c s i ds × (ContentFits (and_type s.content (instance_def (decls ds))) → ⊥)
 
--- what stands where the interface is not written: its fault, or something does not fit
+-- what does not fit of an interface where the root is this: an alias, an item, or the instance type
+abbrev pub InterfaceDoesNotFit : Collection → InterfaceId → Scope → Type 0
+InterfaceDoesNotFit c i s = AliasDoesNotFit c i s ⊎ (IsInterfaceRefused {A = Unit {0}} c s i (Err fault.TooLarge) ⊎ InstanceDoesNotFit c i s)
+
+-- what stands where the interface is not written: behind some of its aliases, its fault, or something does not fit
 abbrev pub IsInstanceRefused : {A : Type 0} → Collection → InterfaceId → Scope → Result A EncodeFault → Type 0
-IsInstanceRefused c i s (Err fault.TooLarge) = IsInterfaceRefused {A = Unit {0}} c i (Err fault.TooLarge) ⊎ InstanceDoesNotFit c i s
-IsInstanceRefused c i s r = IsInterfaceRefused c i r
+IsInstanceRefused c i old (Ok x) = Unit {0}
+IsInstanceRefused c i old (Err (fault.Write f)) = (s : Scope) × AliasesFor c i old s × IsInterfaceRefused {A = Unit {0}} c s i (Err (fault.Write f))
+IsInstanceRefused c i old (Err fault.TooLarge) = (s : Scope) × AliasesFor c i old s × InterfaceDoesNotFit c i s
+IsInstanceRefused c i old (Err fault.OutOfMemory) = Unit {0}
 
 abbrev pub ImportedTypeDoesNotFit : Collection → ItemKind → Scope → Type 0
-ImportedTypeDoesNotFit c (kind.Instance i) s = IsInterfaceRefused {A = Unit {0}} c i (Err fault.TooLarge) ⊎ InstanceDoesNotFit c i s
-ImportedTypeDoesNotFit c (kind.TypeItem (ty.Interface i)) s = IsInterfaceRefused {A = Unit {0}} c i (Err fault.TooLarge) ⊎ InstanceDoesNotFit c i s
+ImportedTypeDoesNotFit c (kind.Instance i) s = InterfaceDoesNotFit c i s
+ImportedTypeDoesNotFit c (kind.TypeItem (ty.Interface i)) s = InterfaceDoesNotFit c i s
 ImportedTypeDoesNotFit c (kind.TypeItem (ty.Func f)) s = TypeDoesNotFit c (kind.Func f) s
 ImportedTypeDoesNotFit c item s = TypeDoesNotFit c item s
 
@@ -192,8 +202,8 @@ IsImportFault c (kind.TypeItem (ty.Value v)) f = (f ≡ write.UnboundResource) �
 IsImportFault c (kind.Func g) f = (f ≡ write.UnboundResource) × HasHandle (IsOfFunc c g)
 IsImportFault c (kind.TypeItem (ty.Func g)) f = (f ≡ write.UnboundResource) × HasHandle (IsOfFunc c g)
 IsImportFault c (kind.TypeItem (ty.Module m)) f = f ≡ write.ModuleAsType
-IsImportFault c (kind.Instance i) f = IsInterfaceRefused {A = Unit {0}} c i (Err (fault.Write f))
-IsImportFault c (kind.TypeItem (ty.Interface i)) f = IsInterfaceRefused {A = Unit {0}} c i (Err (fault.Write f))
+IsImportFault c (kind.Instance i) f = (s : Scope) × IsInterfaceRefused {A = Unit {0}} c s i (Err (fault.Write f))
+IsImportFault c (kind.TypeItem (ty.Interface i)) f = (s : Scope) × IsInterfaceRefused {A = Unit {0}} c s i (Err (fault.Write f))
 IsImportFault c (kind.Value v) f = f ≡ write.ValueItem
 IsImportFault c item f = ⊥
 

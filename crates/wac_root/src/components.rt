@@ -13,7 +13,7 @@ use wac_scopes::{Encodable, EncodeFault, Scope, closing_law, step_law};
 
 impl<'a> RootEncoder<'a> {
     /// Writes a held interface as a component type: its instance type, as `interface_type` writes it, and the export of an instance of
-    /// that under the interface's id. Nothing around it is looked at.
+    /// that under the interface's id. Nothing has a name in the component type, so all that the interface uses is written in place.
     ///
     /// Answers what `interface_type` answers where it refuses the interface, and else `TooLarge` where the instance type or its export
     /// does not fit into the component type, and `OutOfMemory` where memory was refused.
@@ -31,11 +31,11 @@ impl<'a> RootEncoder<'a> {
     {
         closing_law();
         step_law();
-        let Some(declarations) = self.interface_type(interface)? else {
-            unreachable!()
-        };
         let alloc = self.types.allocator();
         let mut scope = Scope::new(alloc, Encodable::Component(ComponentType::new(alloc)));
+        let Some(declarations) = self.interface_type(&scope, interface)? else {
+            unreachable!()
+        };
         let index = scope.define_instance(interface, &declarations)?;
         scope.export_instance(id, index)?;
         Ok(component_type(scope.into_content()))

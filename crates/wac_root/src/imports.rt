@@ -178,7 +178,8 @@ impl<'a> RootEncoder<'a> {
         Ok(import)
     }
 
-    /// Writes an interface as an instance type, where it is not written yet, and answers its type index.
+    /// Writes an interface as an instance type, where it is not written yet, behind the aliases of what its items are made of and an instance
+    /// lists, and answers its type index.
     fn instance(&self, root: &mut Scope, interface: InterfaceId) -> Result<u32, EncodeFault>
         requires held { HasInterface self.now.types.now interface }
         requires plain { lists_plain self.now.types.now interface ≡ true }
@@ -192,7 +193,8 @@ impl<'a> RootEncoder<'a> {
         if let Some(index) = root.interface(interface) {
             return Ok(index);
         }
-        let Some(declarations) = self.interface_type(interface)? else {
+        self.alias_listed(root, interface)?;
+        let Some(declarations) = self.interface_type(root, interface)? else {
             unreachable!()
         };
         let index = root.define_instance(interface, &declarations)?;

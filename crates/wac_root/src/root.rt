@@ -1,10 +1,10 @@
 //! The writer of a component's root, and what it takes from the writer of types.
 
-ghost use Rattle.std.specs.Prelude.{◌≡◌, ◌↔◌, true, false, None, Ok as Answers, IfOk};
+ghost use Rattle.std.specs.Prelude.{◌≡◌, ◌↔◌, true, false, None, Ok as Answers, IfOk, OnOk};
 ghost use Rattle.wac_collection.specs.Collection.{HasFunc, HasInterface, holds_value};
 ghost use Rattle.wac_collection.specs.Aliases.{value_resolved};
 ghost use Rattle.wac_encode.specs.Written.{IsByRecord, PartOf, WritesFor, IsRefused, IsOfFunc, AddsHeldFunc, IsFuncAt, IsFuncRefused};
-ghost use Rattle.wac_encode.specs.Listing.{SaysIfThere, WritesIfThere, lists_plain, IsInterfaceRefused};
+ghost use Rattle.wac_encode.specs.Listing.{AliasesFor, AllAliased, IsAliasRefused, SaysIfThere, WritesIfThere, lists_plain, IsInterfaceRefused};
 
 use wac_binary::{ComponentValType, InstanceType};
 use wac_collection::{FuncTypeId, InterfaceId, Types, ValueType};
@@ -54,15 +54,30 @@ impl<'a> RootEncoder<'a> {
     /// Writes a held interface, as `TypeEncoder::interface_type` does.
     pub(crate) fn interface_type(
         &self,
+        around: &Scope,
         interface: InterfaceId,
     ) -> Result<Option<InstanceType>, EncodeFault>
         requires { HasInterface self.now.types.now interface }
         ensures none { (result ≡ Answers None) ↔ (lists_plain self.now.types.now interface ≡ false) }
-        ensures says { IfOk result (SaysIfThere self.now.types.now interface) }
-        ensures written { IfOk result (WritesIfThere self.now.types.now interface) }
-        ensures fault { IsInterfaceRefused self.now.types.now interface result }
+        ensures says { IfOk result (SaysIfThere self.now.types.now around.now interface) }
+        ensures written { IfOk result (WritesIfThere self.now.types.now around.now interface) }
+        ensures fault { IsInterfaceRefused self.now.types.now around.now interface result }
     {
-        TypeEncoder::new(self.types).interface_type(interface)
+        TypeEncoder::new(self.types).interface_type(around, interface)
+    }
+
+    /// Aliases what an interface's items are made of, as `TypeEncoder::alias_listed` does.
+    pub(crate) fn alias_listed(
+        &self,
+        scope: &mut Scope,
+        interface: InterfaceId,
+    ) -> Result<(), EncodeFault>
+        requires { HasInterface self.now.types.now interface }
+        ensures written { AliasesFor self.now.types.now interface scope.old scope.new }
+        ensures all { OnOk result (AllAliased self.now.types.now interface scope.old scope.new) }
+        ensures fault { IsAliasRefused self.now.types.now interface scope.new result }
+    {
+        TypeEncoder::new(self.types).alias_listed(scope, interface)
     }
 
     /// Whether all items of an interface are of sorts that are written.

@@ -7,7 +7,7 @@ use Rattle.wac_collection.specs.Collection.{Collection}
 use Rattle.wac_collection.specs.Bound.{Bindings}
 use Rattle.wac_binary.specs.declared.sorts.Description.TheVariants as e
 use Rattle.wac_binary.specs.declared.sorts.Sort.TheVariants as s
-use Rattle.wac_binary.specs.Items.{TypeDef, ModuleDecl, export_alias}
+use Rattle.wac_binary.specs.Items.{TypeDef, ModuleDecl, export_alias, outer_alias}
 use Rattle.wac_binary.specs.Indexes.{space, core_types}
 use Rattle.wac_binary.specs.HasMeaning.{IsType, IsFunction, IsInstance}
 use Rattle.wac_scopes.specs.declared.encodable.Encodable.{Encodable}
@@ -16,7 +16,7 @@ use Rattle.wac_stacks.specs.Scopes.{Open, Stack, env, envs, type_count, and_def,
 use Rattle.wac_stacks.specs.Good.{At, Good}
 use Rattle.wac_stacks.specs.Modules.{and_module, module_count}
 use Rattle.wac_stacks.specs.Listed.{Lists, IsNewName, ListsEqual, ListsFunc, ListsInstance}
-use Rattle.wac_scopes.specs.Contents.{content_of, IsOpenType, and_type, and_alias_of, and_core_module, and_export, count}
+use Rattle.wac_scopes.specs.Contents.{content_of, IsOpenType, and_type, and_alias_of, and_alias_around, and_core_module, and_export, count}
 
 pub content-and-type : (x : Encodable) (t : TypeDef) → content_of (and_type x t) ≡ and_def t (content_of x)
 content-and-type (Builder items) t = refl
@@ -27,6 +27,11 @@ pub content-and-alias : (x : Encodable) (j : ℕ) (n : Name) → content_of (and
 content-and-alias (Builder items) j n = refl
 content-and-alias (Instance ds) j n = refl
 content-and-alias (Component ds) j n = refl
+
+pub content-and-around : (x : Encodable) (i : ℕ) → content_of (and_alias_around x i) ≡ and_alias (outer_alias s.Type 1 i) (content_of x)
+content-and-around (Builder items) i = refl
+content-and-around (Instance ds) i = refl
+content-and-around (Component ds) i = refl
 
 pub content-and-module : (x : Encodable) (t : List ModuleDecl) → content_of (and_core_module x t) ≡ and_module t (content_of x)
 content-and-module (Builder items) t = refl

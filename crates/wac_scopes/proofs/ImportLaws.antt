@@ -23,12 +23,14 @@ use Rattle.wac_binary.specs.Meaning.{import_at, stands_for, meaning}
 use Rattle.wac_binary.specs.Unfold.{Scope as Env, Bound}
 use Rattle.wac_scopes.specs.declared.encodable.Encodable.{Encodable}
 use Rattle.wac_scopes.specs.declared.encodable.Encodable.TheVariants.{Builder, Instance, Component}
+use Rattle.wac_scopes.specs.declared.scope.Listed.{Listed}
+use Rattle.wac_scopes.specs.declared.scope.Listed.TheVariants.{ByInstance}
 use Rattle.wac_scopes.specs.declared.scope.Scope.{Scope}
 use Rattle.wac_scopes.specs.Contents.{content_of, items_of, IsRoot, and_import, count}
 use Rattle.wac_stacks.specs.Scopes.{Where, at_type, at_export, Open, Stack, env, envs, remember_at}
-use Rattle.wac_stacks.specs.Good.{At, Stands, IsHeld, IsOf, Good, GoodScope, top, Onward}
+use Rattle.wac_stacks.specs.Good.{At, StandsFrom, IsHeld, IsOf, Good, GoodScope, top, Onward}
 use Rattle.wac_stacks.specs.Instances.{Exports, holding, IsNewImport, ImportsInstance, ImportsType, ImportsFunc, ImportsModule, ListsImport}
-use Rattle.wac_scopes.specs.Scoped.{type_index, listed_at, listing, place, recorded_type, first_of, listed_by, listed_too, HasToo, IsAsBefore, AlsoLists, opened, imported_at, RootImportsListing, RootImports, RootImportsType, RootImportsValue, RootImportsFunction, RootImportsInstance, RootImportsModule}
+use Rattle.wac_scopes.specs.Scoped.{type_index, named_at, listed_at, place_listed, listing, place, recorded_type, first_of, listed_by, listed_too, HasToo, IsAsBefore, AlsoLists, opened, imported_at, RootImportsListing, RootImports, RootImportsType, RootImportsValue, RootImportsFunction, RootImportsInstance, RootImportsModule}
 use Rattle.wac_scopes.proofs.ContentLaws.{filled}
 use Rattle.wac_stacks.proofs.Grow.{at-type_at}
 use Rattle.wac_stacks.proofs.Meant.{value-type}
@@ -143,31 +145,35 @@ same-id : (a b : DefinedTypeId) → nat_eq a.0 b.0 ≡ true → a ≡ b
 same-id a b h = let same : a.0 ≡ b.0 = grind arith in ap make_id same
 
 -- a definition is listed where it was, or is among those that the instance exports
-listed-there : (c : Collection) (m : Bindings) (b : Bound) (k : ℕ) (at : DefinedTypeId → Option (ℕ × Name)) (d : DefinedTypeId) (l : ℕ × Name) (es : List (DefinedTypeId × Name)) → ((p : ℕ) (e : DefinedTypeId × Name) → slice_get es p ≡ Some e → Exports c m b e.0 e.1) → listed_too k es at d ≡ Some l → (at d ≡ Some l) ⊎ ((l.0 ≡ k) × Exports c m b d l.1)
+listed-there : (c : Collection) (m : Bindings) (b : Bound) (k : ℕ) (at : DefinedTypeId → Option Listed) (d : DefinedTypeId) (l : Listed) (es : List (DefinedTypeId × Name)) → ((p : ℕ) (e : DefinedTypeId × Name) → slice_get es p ≡ Some e → Exports c m b e.0 e.1) → listed_too k es at d ≡ Some l
+    → (at d ≡ Some l) ⊎ ((n : Name) × (l ≡ ByInstance k n) × Exports c m b d n)
 listed-there c m b k at d l [] exports h = inl h
 listed-there c m b k at d l (e ∷ es) exports h = by_rest (λ is. listed-there c m b k at d l es (λ p y there. exports (suc p) y there) is) (listed_too k es at d) refl h
   where
-    by_id : (z : Bool) → nat_eq e.0.0 d.0 ≡ z → cond z (Some (k, e.1)) None ≡ Some l → (l.0 ≡ k) × Exports c m b d l.1
-    by_id true same is =
-        let pair : (k, e.1) ≡ l = some-equal (k, e.1) l is in
-        (ap (λ (x : ℕ × Name). x.0) (sym pair), subst (Exports c m b d) (ap (λ (x : ℕ × Name). x.1) pair) (subst (λ (x : DefinedTypeId). Exports c m b x e.1) (same-id e.0 d same) (exports 0 e refl)))
+    by_id : (z : Bool) → nat_eq e.0.0 d.0 ≡ z → cond z (Some (ByInstance k e.1)) None ≡ Some l → (n : Name) × (l ≡ ByInstance k n) × Exports c m b d n
+    by_id true same is = (e.1, sym (some-equal (ByInstance k e.1) l is), subst (λ (x : DefinedTypeId). Exports c m b x e.1) (same-id e.0 d same) (exports 0 e refl))
     by_id false same is = let no_some : None ≡ Some l = is in cc
 
-    by_rest : (listed_too k es at d ≡ Some l → (at d ≡ Some l) ⊎ ((l.0 ≡ k) × Exports c m b d l.1)) → (o : Option (ℕ × Name)) → listed_too k es at d ≡ o → first_of o (listed_by k e d) ≡ Some l → (at d ≡ Some l) ⊎ ((l.0 ≡ k) × Exports c m b d l.1)
+    by_rest : (listed_too k es at d ≡ Some l → (at d ≡ Some l) ⊎ ((n : Name) × (l ≡ ByInstance k n) × Exports c m b d n)) → (o : Option Listed) → listed_too k es at d ≡ o → first_of o (listed_by k e d) ≡ Some l → (at d ≡ Some l) ⊎ ((n : Name) × (l ≡ ByInstance k n) × Exports c m b d n)
     by_rest rest (Some x) is found = rest (is ∙ found)
     by_rest rest None is found = inr (by_id (nat_eq e.0.0 d.0) refl found)
 
+-- a type stands where it is recorded
+abbrev StandsIn : Collection → Bindings → List Env → Scope → Open → AnyType → Where → Type 0
+StandsIn c m out s o a w = (t : Tree) × IsHeld c m a t × IsOf a t × StandsFrom (env (opened s o) out) out t w
+
 -- what is recorded then stands there
-listed-stands : (c : Collection) (m : Bindings) (out : List Env) (mid new : Scope) (o : Open) (b : Bound) (k : ℕ) (es : List (DefinedTypeId × Name)) → ((a : AnyType) (w : Where) → recorded_type mid a ≡ Some w → (t : Tree) × IsHeld c m a t × IsOf a t × Stands (env (opened mid o) out) t w) → At ((env (opened mid o) out).instances) k b → ((p : ℕ) (e : DefinedTypeId × Name) → slice_get es p ≡ Some e → Exports c m b e.0 e.1) → AlsoLists mid k es new
-    → (a : AnyType) (w : Where) → recorded_type new a ≡ Some w → (t : Tree) × IsHeld c m a t × IsOf a t × Stands (env (opened mid o) out) t w
+listed-stands : (c : Collection) (m : Bindings) (out : List Env) (mid new : Scope) (o : Open) (b : Bound) (k : ℕ) (es : List (DefinedTypeId × Name)) → ((a : AnyType) (w : Where) → recorded_type mid a ≡ Some w → StandsIn c m out mid o a w) → At ((env (opened mid o) out).instances) k b
+    → ((p : ℕ) (e : DefinedTypeId × Name) → slice_get es p ≡ Some e → Exports c m b e.0 e.1) → AlsoLists mid k es new
+    → (a : AnyType) (w : Where) → recorded_type new a ≡ Some w → StandsIn c m out mid o a w
 listed-stands c m out mid new o b k es memo at exports lists a w h = by_index (type_index mid a) refl (sym (ap (λ (x : Option ℕ). place x (listing new a)) (lists.types a)) ∙ h)
   where
-    by_list : (u : AnyType) (l : ℕ × Name) → type_index mid u ≡ None → listing new u ≡ Some l → (t : Tree) × IsHeld c m u t × IsOf u t × Stands (env (opened mid o) out) t (at_export l.0 l.1)
+    by_list : (u : AnyType) (l : Listed) → type_index mid u ≡ None → listing new u ≡ Some l → StandsIn c m out mid o u (place_listed l)
     by_list (ty.Value (val.Defined d)) l none is = by_place (listed-there c m b k (listed_at mid) d l es exports (sym (lists.listed d) ∙ is))
       where
-        by_place : (listed_at mid d ≡ Some l) ⊎ ((l.0 ≡ k) × Exports c m b d l.1) → (t : Tree) × IsHeld c m (ty.Value (val.Defined d)) t × IsOf (ty.Value (val.Defined d)) t × Stands (env (opened mid o) out) t (at_export l.0 l.1)
-        by_place (inl was) = memo (ty.Value (val.Defined d)) (at_export l.0 l.1) (ap2 place none was)
-        by_place (inr (same, x)) = (x.0, x.1, x.2, subst (λ (j : ℕ). Stands (env (opened mid o) out) x.0 (at_export j l.1)) (sym same) (b, at, x.3))
+        by_place : (listed_at mid d ≡ Some l) ⊎ ((n : Name) × (l ≡ ByInstance k n) × Exports c m b d n) → StandsIn c m out mid o (ty.Value (val.Defined d)) (place_listed l)
+        by_place (inl was) = memo (ty.Value (val.Defined d)) (place_listed l) (ap2 place none was)
+        by_place (inr (n, same, x)) = (x.0, x.1, x.2, subst (λ (y : Listed). StandsFrom (env (opened mid o) out) out x.0 (place_listed y)) (sym same) (b, at, x.3))
     by_list (ty.Value (val.Primitive p)) l none is = let no_some : None ≡ Some l = is in cc
     by_list (ty.Value (val.Own r)) l none is = let no_some : None ≡ Some l = is in cc
     by_list (ty.Value (val.Borrow r)) l none is = let no_some : None ≡ Some l = is in cc
@@ -177,13 +183,13 @@ listed-stands c m out mid new o b k es memo at exports lists a w h = by_index (t
     by_list (ty.World i) l none is = let no_some : None ≡ Some l = is in cc
     by_list (ty.Module i) l none is = let no_some : None ≡ Some l = is in cc
 
-    by_index : (x : Option ℕ) → type_index mid a ≡ x → place x (listing new a) ≡ Some w → (t : Tree) × IsHeld c m a t × IsOf a t × Stands (env (opened mid o) out) t w
+    by_index : (x : Option ℕ) → type_index mid a ≡ x → place x (listing new a) ≡ Some w → StandsIn c m out mid o a w
     by_index (Some i) is found = memo a w (recorded-at mid a i is ∙ found)
     by_index None is found = by_listing (listing new a) refl found
       where
-        by_listing : (l : Option (ℕ × Name)) → listing new a ≡ l → place None l ≡ Some w → (t : Tree) × IsHeld c m a t × IsOf a t × Stands (env (opened mid o) out) t w
+        by_listing : (l : Option Listed) → listing new a ≡ l → place None l ≡ Some w → StandsIn c m out mid o a w
         by_listing None there found = let no_some : None ≡ Some w = found in cc
-        by_listing (Some l) there found = subst (λ (z : Where). (t : Tree) × IsHeld c m a t × IsOf a t × Stands (env (opened mid o) out) t z) (some-equal (at_export l.0 l.1) w found) (by_list a l is there)
+        by_listing (Some l) there found = subst (StandsIn c m out mid o a) (some-equal (place_listed l) w found) (by_list a l is there)
 
 pub imports-listing : (old roomy mid new : Scope) (n : Name) (i k : ℕ) (es : List (DefinedTypeId × Name)) → IsAsBefore old roomy → RootImportsInstance roomy mid n i k → new.content ≡ mid.content → AlsoLists mid k es new → RootImportsListing old new n i es k
 imports-listing old roomy mid new n i k es same imports kept lists c m ms o os t g free inst at exports =
@@ -205,30 +211,30 @@ imports-listing old roomy mid new n i k es same imports kept lists c m ms o os t
 
 -- the list of what is listed
 
-first-alone : (l : Option (ℕ × Name)) → first_of l None ≡ l
+first-alone : (l : Option Listed) → first_of l None ≡ l
 first-alone None = refl
 first-alone (Some x) = refl
 
 -- one more, unless it is listed
 pub lists-one-more : (old now new : Scope) (k : ℕ) (e : DefinedTypeId × Name) (es : List (DefinedTypeId × Name)) → AlsoLists old k es now → AlsoLists now k (e ∷ []) new → AlsoLists old k (e ∷ es) new
-lists-one-more old now new k e es w u = record { types = λ a. u.types a ∙ w.types a; listed = λ d. u.listed d ∙ ap (λ (l : Option (ℕ × Name)). first_of l (listed_by k e d)) (w.listed d) }
+lists-one-more old now new k e es w u = record { types = λ a. u.types a ∙ w.types a; listed = λ d. u.listed d ∙ ap (λ (l : Option Listed). first_of l (listed_by k e d)) (w.listed d); names = λ d. u.names d ∙ w.names d }
 
 pub lists-already : (s : Scope) (k : ℕ) (e : DefinedTypeId × Name) → is_some (listed_at s e.0) ≡ true → AlsoLists s k (e ∷ []) s
-lists-already s k e there = record { types = λ a. refl; listed = λ d. by_id d (nat_eq e.0.0 d.0) refl }
+lists-already s k e there = record { types = λ a. refl; listed = λ d. by_id d (nat_eq e.0.0 d.0) refl; names = λ d. refl }
   where
-    by_some : (l m : Option (ℕ × Name)) → is_some l ≡ true → l ≡ first_of l m
+    by_some : (l m : Option Listed) → is_some l ≡ true → l ≡ first_of l m
     by_some (Some x) m h = refl
     by_some None m h = let both : false ≡ true = h in cc
 
-    by_id : (d : DefinedTypeId) (z : Bool) → nat_eq e.0.0 d.0 ≡ z → listed_at s d ≡ first_of (listed_at s d) (cond z (Some (k, e.1)) None)
-    by_id d true same = by_some (listed_at s d) (Some (k, e.1)) (subst (λ (x : DefinedTypeId). is_some (listed_at s x) ≡ true) (same-id e.0 d same) there)
+    by_id : (d : DefinedTypeId) (z : Bool) → nat_eq e.0.0 d.0 ≡ z → listed_at s d ≡ first_of (listed_at s d) (cond z (Some (ByInstance k e.1)) None)
+    by_id d true same = by_some (listed_at s d) (Some (ByInstance k e.1)) (subst (λ (x : DefinedTypeId). is_some (listed_at s x) ≡ true) (same-id e.0 d same) there)
     by_id d false same = sym (first-alone (listed_at s d))
 
-pub lists-new : (old new : Scope) (k : ℕ) (d : DefinedTypeId) (n : Name) → listed_at old d ≡ None → ((a : AnyType) → type_index new a ≡ type_index old a) → ((j : DefinedTypeId) → listed_at new j ≡ cond (nat_eq d.0 j.0) (Some (k, n)) (listed_at old j)) → AlsoLists old k ((d, n) ∷ []) new
-lists-new old new k d n none types too = record { types = types; listed = λ j. too j ∙ by_id j (nat_eq d.0 j.0) refl }
+pub lists-new : (old new : Scope) (k : ℕ) (d : DefinedTypeId) (n : Name) → listed_at old d ≡ None → ((a : AnyType) → type_index new a ≡ type_index old a) → ((j : DefinedTypeId) → named_at new j ≡ named_at old j) → ((j : DefinedTypeId) → listed_at new j ≡ cond (nat_eq d.0 j.0) (Some (ByInstance k n)) (listed_at old j)) → AlsoLists old k ((d, n) ∷ []) new
+lists-new old new k d n none types names too = record { types = types; listed = λ j. too j ∙ by_id j (nat_eq d.0 j.0) refl; names = names }
   where
-    by_id : (j : DefinedTypeId) (z : Bool) → nat_eq d.0 j.0 ≡ z → cond z (Some (k, n)) (listed_at old j) ≡ first_of (listed_at old j) (cond z (Some (k, n)) None)
-    by_id j true same = ap (λ (l : Option (ℕ × Name)). first_of l (Some (k, n))) (sym none ∙ ap (listed_at old) (same-id d j same))
+    by_id : (j : DefinedTypeId) (z : Bool) → nat_eq d.0 j.0 ≡ z → cond z (Some (ByInstance k n)) (listed_at old j) ≡ first_of (listed_at old j) (cond z (Some (ByInstance k n)) None)
+    by_id j true same = ap (λ (l : Option Listed). first_of l (Some (ByInstance k n))) (sym none ∙ ap (listed_at old) (same-id d j same))
     by_id j false same = sym (first-alone (listed_at old j))
 
 -- between two of them: those that were taken are listed, and there is room for those that are left
@@ -240,7 +246,7 @@ pub record IsListing (old : Scope) (k : ℕ) (all left : List (DefinedTypeId × 
   pub room : length left ≤ spare now.listed
 
 pub listing-starts : (s : Scope) (k : ℕ) (all : List (DefinedTypeId × Name)) → length all ≤ spare s.listed → IsListing s k all all s
-listing-starts s k all room = record { taken = []; split = sym (append-nil all); lists = record { types = λ a. refl; listed = λ d. refl }; kept = refl; room = room }
+listing-starts s k all room = record { taken = []; split = sym (append-nil all); lists = record { types = λ a. refl; listed = λ d. refl; names = λ d. refl }; kept = refl; room = room }
 
 pub listing-further : (old now new : Scope) (k : ℕ) (all left : List (DefinedTypeId × Name)) (e : DefinedTypeId × Name) → IsListing old k all (left ++ e ∷ []) now → AlsoLists now k (e ∷ []) new → new.content ≡ now.content → spare now.listed ≤ spare new.listed + 1 → IsListing old k all left new
 listing-further old now new k all left e w u kept room = record {
@@ -258,12 +264,13 @@ pub listing-ends : (old now : Scope) (k : ℕ) (all : List (DefinedTypeId × Nam
 listing-ends old now k all w = (subst (λ (es : List (DefinedTypeId × Name)). AlsoLists old k es now) (sym w.split) w.lists, w.kept)
 
 -- after room was made and the instance was imported
-pub lists-since : (old roomy mid new : Scope) (k : ℕ) (es : List (DefinedTypeId × Name)) → IsAsBefore old roomy → ((a : AnyType) → type_index mid a ≡ type_index roomy a) → ((d : DefinedTypeId) → listed_at mid d ≡ listed_at roomy d) → AlsoLists mid k es new → AlsoLists old k es new
-lists-since old roomy mid new k es same types listed lists = record {
+pub lists-since : (old roomy mid new : Scope) (k : ℕ) (es : List (DefinedTypeId × Name)) → IsAsBefore old roomy → ((a : AnyType) → type_index mid a ≡ type_index roomy a) → ((d : DefinedTypeId) → listed_at mid d ≡ listed_at roomy d) → ((d : DefinedTypeId) → named_at mid d ≡ named_at roomy d) → AlsoLists mid k es new → AlsoLists old k es new
+lists-since old roomy mid new k es same types listed names lists = record {
   types = λ a. lists.types a ∙ types a ∙ same.types a;
-  listed = λ d. lists.listed d ∙ ap (λ (at : DefinedTypeId → Option (ℕ × Name)). listed_too k es at d) (fun_ext (λ j. listed j ∙ same.listed (ty.Value (val.Defined j))));
+  listed = λ d. lists.listed d ∙ ap (λ (at : DefinedTypeId → Option Listed). listed_too k es at d) (fun_ext (λ j. listed j ∙ same.listed (ty.Value (val.Defined j))));
+  names = λ d. lists.names d ∙ names d ∙ same.names d;
 }
 
-pub none-listed : (o : Option (ℕ × Name)) → is_some o ≡ false → o ≡ None
+pub none-listed : (o : Option Listed) → is_some o ≡ false → o ≡ None
 none-listed None h = refl
 none-listed (Some l) h = let both : true ≡ false = h in cc

@@ -4,6 +4,7 @@ use Rattle.wac_binary.specs.declared.fault.BinaryFault.{BinaryFault}
 use Rattle.wac_binary.specs.declared.fault.BinaryFault.TheVariants as binary
 use Rattle.wac_binary.specs.Fits.{TooLargeUnless}
 use Rattle.std.specs.Prelude.{ℕ, ◌≡◌, ◌==◌, cond, nat_eq, Bool, true, false, List, ◌∷◌, Option, Some, if◌then◌else◌, None, Err}
+use Rattle.std.specs.HashMap.{get}
 use Rattle.std.proofs.Common.{refl, ap, ◌∙◌, sym, subst, arith}
 use Rattle.std.proofs.Math.Path.{fun_ext}
 use Rattle.wac_shapes.specs.Name.{Name}
@@ -22,19 +23,22 @@ use Rattle.wac_collection.specs.Uses.{same_type}
 use Rattle.wac_binary.specs.declared.types.ComponentValType.TheVariants.{Primitive, Index}
 use Rattle.wac_binary.specs.declared.sorts.Sort.TheVariants as s
 use Rattle.wac_binary.specs.declared.sorts.Description.TheVariants as e
-use Rattle.wac_binary.specs.Items.{ValueDef, TypeDef, ModuleDecl, Decl, decls, value_def, primitive_def, instance_def, export_alias}
+use Rattle.wac_binary.specs.Items.{ValueDef, TypeDef, ModuleDecl, Decl, decls, value_def, primitive_def, instance_def, Alias, export_alias, outer_alias}
 use Rattle.wac_binary.specs.Indexes.{space, core_types}
 use Rattle.wac_binary.specs.Unfold.{module_tree}
 use Rattle.wac_scopes.specs.declared.encodable.Encodable.{Encodable}
+use Rattle.wac_scopes.specs.declared.scope.Listed.{Listed}
+use Rattle.wac_scopes.specs.declared.scope.Listed.TheVariants.{ByInstance, Around}
+use Rattle.wac_scopes.specs.declared.scope.Place.{Place}
 use Rattle.wac_scopes.specs.declared.scope.Scope.{Scope}
-use Rattle.wac_scopes.specs.Contents.{content_of, IsOpenType, and_type, and_alias_of, and_core_module, and_export, count, ContentFits}
+use Rattle.wac_scopes.specs.Contents.{content_of, IsOpenType, and_type, and_core_module, and_export, count, ContentFits}
 use Rattle.wac_stacks.specs.Scopes.{at_type, at_export, Open, Stack, env, envs, next_type, and_def, and_alias, with_def, with_alias_of, remember_at}
 use Rattle.wac_stacks.specs.Good.{At, IsHeld, IsOf, Onward, top}
-use Rattle.wac_stacks.specs.Laws.{Adds, DefinesValue, DefinesFunc, DefinesPrimitive, SettlesValue, IsRecorded, StandsRecorded}
+use Rattle.wac_stacks.specs.Laws.{Adds, DefinesValue, DefinesFunc, DefinesPrimitive, SettlesValue, BringsValue, IsRecorded, StandsRecorded}
 use Rattle.wac_stacks.specs.Listed.{Lists, ListsEqual, ListsFunc, ListsInstance}
 use Rattle.wac_stacks.specs.Modules.{and_module, module_count, with_module, DefinesModule}
-use Rattle.wac_scopes.specs.Scoped.{type_index, value_index, listed_at, listed_type, listing, place, recorded_type, opened, HasToo, IsThere, IsAt, AliasesValue, AddsValue, AddsFunc, AddsPrimitive, AddsInstance, AddsClosed, AddsModule, ListsType, ListsValue, ListsFunction, ListsInstanceOf, AliasFits, FitsUnlessTooLarge}
-use Rattle.wac_scopes.proofs.ContentLaws.{content-and-type, content-and-alias, content-and-module, types-counted, modules-counted, lists-type-in, lists-function-in, lists-instance-in}
+use Rattle.wac_scopes.specs.Scoped.{index_of, named_index, type_index, value_index, named_at, listed_at, and_listed, IsAsBefore, listed_type, listing, place, recorded_type, opened, HasToo, IsThere, IsAt, AliasesValue, AddsValue, AddsFunc, AddsPrimitive, AddsInstance, AddsClosed, AddsModule, ListsType, ListsValue, ListsFunction, ListsInstanceOf, AliasFits, FitsUnlessTooLarge}
+use Rattle.wac_scopes.proofs.ContentLaws.{content-and-type, content-and-alias, content-and-around, content-and-module, types-counted, modules-counted, lists-type-in, lists-function-in, lists-instance-in}
 use Rattle.wac_stacks.proofs.Meant.{value-type}
 use Rattle.wac_stacks.proofs.Moved.{ap2}
 use Rattle.wac_stacks.proofs.Steps.{good-remember_at, some-equal}
@@ -47,13 +51,21 @@ same-number a b = grind arith
 pub recorded-too : (old new : Scope) (a : AnyType) (k : ℕ) → HasToo old a k new → recorded_type new ≡ (λ b. if same_type b a then Some (at_type k) else recorded_type old b)
 recorded-too old new a k too = fun_ext (λ b. ap2 place (too.types b) (too.listed b) ∙ by_case (same_type b a) (type_index old b) (listing old b))
   where
-    by_case : (z : Bool) (o : Option ℕ) (l : Option (ℕ × Name)) → place (cond z (Some k) o) l ≡ (if z then Some (at_type k) else place o l)
+    by_case : (z : Bool) (o : Option ℕ) (l : Option Listed) → place (cond z (Some k) o) l ≡ (if z then Some (at_type k) else place o l)
     by_case true o l = refl
     by_case false o l = refl
 
--- one more type after room was made for it
-pub recorded-more : (old roomy new : Scope) (a : AnyType) (k : ℕ) → ((b : AnyType) → type_index roomy b ≡ type_index old b) → ((b : AnyType) → listing roomy b ≡ listing old b) → ((b : AnyType) → type_index new b ≡ cond (same_type b a) (Some k) (type_index roomy b)) → ((b : AnyType) → listing new b ≡ listing roomy b) → HasToo old a k new
-recorded-more old roomy new a k same listed too still = record { types = λ b. too b ∙ ap (cond (same_type b a) (Some k)) (same b); listed = λ b. still b ∙ listed b }
+-- one more type after the same was recorded
+pub recorded-behind : (old now new : Scope) (a : AnyType) (k : ℕ) → ((b : AnyType) → type_index now b ≡ type_index old b) → ((b : AnyType) → listing now b ≡ listing old b) → ((d : DefinedTypeId) → named_at now d ≡ named_at old d) → HasToo now a k new → HasToo old a k new
+recorded-behind old now new a k types listed names too = record {
+  types = λ b. too.types b ∙ ap (cond (same_type b a) (Some k)) (types b);
+  listed = λ b. too.listed b ∙ listed b;
+  names = λ d other. too.names d other ∙ names d;
+}
+
+-- and after room was made for it
+pub recorded-more : (old roomy new : Scope) (a : AnyType) (k : ℕ) → IsAsBefore old roomy → HasToo roomy a k new → HasToo old a k new
+recorded-more old roomy new a k same too = recorded-behind old roomy new a k same.types same.listed same.names too
 
 -- where a type is recorded at an index
 pub recorded-at : (s : Scope) (a : AnyType) (i : ℕ) → type_index s a ≡ Some i → recorded_type s a ≡ Some (at_type i)
@@ -65,7 +77,7 @@ recorded-same old new types listed = fun_ext (λ a. ap2 place (types a) (listed 
 
 -- definitions are listed where they were
 pub listing-same : (old new : Scope) → ((d : DefinedTypeId) → listed_at new d ≡ listed_at old d) → (a : AnyType) → listing new a ≡ listing old a
-listing-same old new same a = ap (λ (at : DefinedTypeId → Option (ℕ × Name)). listed_type at a) (fun_ext same)
+listing-same old new same a = ap (λ (at : DefinedTypeId → Option Listed). listed_type at a) (fun_ext same)
 
 -- the same is recorded where each map records the same
 pub same-types : (old new : Scope) → ((d : DefinedTypeId) → value_index new d ≡ value_index old d) → ((f : FuncTypeId) → type_index new (ty.Func f) ≡ type_index old (ty.Func f)) → ((i : InterfaceId) → type_index new (ty.Interface i) ≡ type_index old (ty.Interface i)) → (a : AnyType) → type_index new a ≡ type_index old a
@@ -81,16 +93,34 @@ same-types old new values funcs interfaces (ty.Module m) = refl
 
 -- what a map with one more entry records
 
-pub value-too : (old new : Scope) (d : DefinedTypeId) (k : ℕ) → ((f : FuncTypeId) → type_index new (ty.Func f) ≡ type_index old (ty.Func f)) → ((i : InterfaceId) → type_index new (ty.Interface i) ≡ type_index old (ty.Interface i)) → ((j : DefinedTypeId) → value_index new j ≡ cond (nat_eq d.0 j.0) (Some k) (value_index old j)) → (b : AnyType) → type_index new b ≡ cond (same_type b (ty.Value (val.Defined d))) (Some k) (type_index old b)
-value-too old new d k funcs interfaces too (ty.Value (val.Defined j)) = too j ∙ ap (λ (z : Bool). cond z (Some k) (value_index old j)) (same-number d.0 j.0)
-value-too old new d k funcs interfaces too (ty.Value (val.Primitive p)) = refl
-value-too old new d k funcs interfaces too (ty.Value (val.Own r)) = refl
-value-too old new d k funcs interfaces too (ty.Value (val.Borrow r)) = refl
-value-too old new d k funcs interfaces too (ty.Func f) = funcs f
-value-too old new d k funcs interfaces too (ty.Interface i) = interfaces i
-value-too old new d k funcs interfaces too (ty.Resource r) = refl
-value-too old new d k funcs interfaces too (ty.World w) = refl
-value-too old new d k funcs interfaces too (ty.Module m) = refl
+-- where each definition is
+abbrev pub place_at : Scope → DefinedTypeId → Option Place
+place_at s d = get (λ a b. nat_eq a.0 b.0) s.values d
+
+abbrev placed : ℕ → Bool → Place
+placed k named_ = record { index = k; named = named_ }
+
+pub value-too : (old new : Scope) (d : DefinedTypeId) (k : ℕ) (named_ : Bool) → ((f : FuncTypeId) → type_index new (ty.Func f) ≡ type_index old (ty.Func f)) → ((i : InterfaceId) → type_index new (ty.Interface i) ≡ type_index old (ty.Interface i)) → ((j : DefinedTypeId) → place_at new j ≡ cond (nat_eq d.0 j.0) (Some (record { index = k; named = named_ })) (place_at old j)) → (b : AnyType) → type_index new b ≡ cond (same_type b (ty.Value (val.Defined d))) (Some k) (type_index old b)
+value-too old new d k named_ funcs interfaces too (ty.Value (val.Defined j)) = ap index_of (too j) ∙ by_case (nat_eq d.0 j.0) (place_at old j) ∙ ap (λ (z : Bool). cond z (Some k) (value_index old j)) (same-number d.0 j.0)
+  where
+    by_case : (z : Bool) (o : Option Place) → index_of (cond z (Some (placed k named_)) o) ≡ cond z (Some k) (index_of o)
+    by_case true o = refl
+    by_case false o = refl
+value-too old new d k named_ funcs interfaces too (ty.Value (val.Primitive p)) = refl
+value-too old new d k named_ funcs interfaces too (ty.Value (val.Own r)) = refl
+value-too old new d k named_ funcs interfaces too (ty.Value (val.Borrow r)) = refl
+value-too old new d k named_ funcs interfaces too (ty.Func f) = funcs f
+value-too old new d k named_ funcs interfaces too (ty.Interface i) = interfaces i
+value-too old new d k named_ funcs interfaces too (ty.Resource r) = refl
+value-too old new d k named_ funcs interfaces too (ty.World w) = refl
+value-too old new d k named_ funcs interfaces too (ty.Module m) = refl
+
+-- the others have a name where they had, and this one where it is so
+pub names-too : (old new : Scope) (d : DefinedTypeId) (k : ℕ) (named_ : Bool) → ((j : DefinedTypeId) → place_at new j ≡ cond (nat_eq d.0 j.0) (Some (record { index = k; named = named_ })) (place_at old j)) → (j : DefinedTypeId) → same_type (ty.Value (val.Defined j)) (ty.Value (val.Defined d)) ≡ false → named_at new j ≡ named_at old j
+names-too old new d k named_ too j other = ap named_index (too j) ∙ ap (λ (z : Bool). named_index (cond z (Some (placed k named_)) (place_at old j))) (same-number d.0 j.0 ∙ other)
+
+pub name-too : (old new : Scope) (d : DefinedTypeId) (k : ℕ) (named_ : Bool) → ((j : DefinedTypeId) → place_at new j ≡ cond (nat_eq d.0 j.0) (Some (record { index = k; named = named_ })) (place_at old j)) → named_at new d ≡ cond named_ (Some k) None
+name-too old new d k named_ too = let itself : nat_eq d.0 d.0 ≡ true = grind arith in ap named_index (too d) ∙ ap (λ (z : Bool). named_index (cond z (Some (placed k named_)) (place_at old d))) itself
 
 pub func-too : (old new : Scope) (f : FuncTypeId) (k : ℕ) → ((d : DefinedTypeId) → value_index new d ≡ value_index old d) → ((i : InterfaceId) → type_index new (ty.Interface i) ≡ type_index old (ty.Interface i)) → ((j : FuncTypeId) → type_index new (ty.Func j) ≡ cond (nat_eq f.0 j.0) (Some k) (type_index old (ty.Func j))) → (b : AnyType) → type_index new b ≡ cond (same_type b (ty.Func f)) (Some k) (type_index old b)
 func-too old new f k values interfaces too (ty.Value (val.Defined j)) = values j
@@ -136,23 +166,30 @@ adds-value old new d y k law index appended too c wf m ms o os x g at w =
     let next : k ≡ next_type (opened old o) = index ∙ types-counted old.content in
     (r.0, r.1, r.2, subst (λ (z : Open). Adds c (m ∷ ms) (opened old o ∷ os) (z ∷ os) k r.0) (sym (opened-recorded old new (ty.Value (val.Defined d)) (value_def y) k appended too o)) (subst (λ (i : ℕ). Adds c (m ∷ ms) (opened old o ∷ os) (remember_at (ty.Value (val.Defined d)) (at_type i) (with_def (value_def y) (opened old o)) ∷ os) i r.0) (sym next) r.3))
 
--- an alias of what an instance lists
-pub aliases-value : (old new : Scope) (d : DefinedTypeId) (k j : ℕ) (n : Name) → SettlesValue → value_index old d ≡ None → listed_at old d ≡ Some (j, n) → k ≡ count (space s.Type) old.content → new.content ≡ and_alias_of old.content j n → HasToo old (ty.Value (val.Defined d)) k new → AliasesValue old new d k
-aliases-value old new d k j n law none listed index appended too c m ms o os g =
-    let there = g.0.memo (ty.Value (val.Defined d)) (at_export j n) (ap2 place none listed) in
-    let r = law c m ms (opened old o) os (val.Defined d) j n there.0 g there.1 there.2 there.3 in
+-- an alias of what is listed
+aliased-so : (old new : Scope) (d : DefinedTypeId) (k : ℕ) (a : Alias) → content_of new.content ≡ and_alias a (content_of old.content) → k ≡ count (space s.Type) old.content → HasToo old (ty.Value (val.Defined d)) k new → (c : Collection) (m : Bindings) (ms : List Bindings) (o : Open) (os : Stack) (t : Tree)
+    → Adds c (m ∷ ms) (opened old o ∷ os) (remember_at (ty.Value (val.Defined d)) (at_type (next_type (opened old o))) (with_alias_of a (opened old o)) ∷ os) (next_type (opened old o)) t → Adds c (m ∷ ms) (opened old o ∷ os) (opened new o ∷ os) k t
+aliased-so old new d k a content_same index too c m ms o os t r =
     let next : k ≡ next_type (opened old o) = index ∙ types-counted old.content in
     let memo_same : recorded_type new ≡ (λ b. if same_type b (ty.Value (val.Defined d)) then Some (at_type k) else recorded_type old b) = recorded-too old new (ty.Value (val.Defined d)) k too in
-    let content_same : content_of new.content ≡ and_alias (export_alias s.Type j n) (content_of old.content) = ap content_of appended ∙ content-and-alias old.content j n in
-    let same : opened new o ≡ remember_at (ty.Value (val.Defined d)) (at_type k) (with_alias_of (export_alias s.Type j n) (opened old o)) = (λ i. record o { content = content_same i; memo = memo_same i }) in
-    (there.0, there.1, there.2, subst (λ (z : Open). Adds c (m ∷ ms) (opened old o ∷ os) (z ∷ os) k there.0) (sym same) (subst (λ (i : ℕ). Adds c (m ∷ ms) (opened old o ∷ os) (remember_at (ty.Value (val.Defined d)) (at_type i) (with_alias_of (export_alias s.Type j n) (opened old o)) ∷ os) i there.0) (sym next) r))
+    let same : opened new o ≡ remember_at (ty.Value (val.Defined d)) (at_type k) (with_alias_of a (opened old o)) = (λ i. record o { content = content_same i; memo = memo_same i }) in
+    subst (λ (z : Open). Adds c (m ∷ ms) (opened old o ∷ os) (z ∷ os) k t) (sym same) (subst (λ (i : ℕ). Adds c (m ∷ ms) (opened old o ∷ os) (remember_at (ty.Value (val.Defined d)) (at_type i) (with_alias_of a (opened old o)) ∷ os) i t) (sym next) r)
 
-pub alias-large : (A B : Type 0) (old : Scope) (d : DefinedTypeId) (j : ℕ) (n : Name) (x : Encodable) (f : BinaryFault) → listed_at old d ≡ Some (j, n) → x ≡ old.content → TooLargeUnless {T = A} (Err f) (ContentFits (and_alias_of x j n)) → FitsUnlessTooLarge {A = B} (Err (encode_fault f)) (AliasFits old d)
-alias-large A B old d j n x binary.TooLarge there same h = λ fits. h (subst (λ (y : Encodable). ContentFits (and_alias_of y j n)) (sym same) (fits j n there))
-alias-large A B old d j n x binary.OutOfMemory there same h = tt
+pub aliases-value : (old new : Scope) (d : DefinedTypeId) (k : ℕ) (l : Listed) → SettlesValue → BringsValue → value_index old d ≡ None → listed_at old d ≡ Some l → k ≡ count (space s.Type) old.content → new.content ≡ and_listed old.content l → HasToo old (ty.Value (val.Defined d)) k new → AliasesValue old new d k
+aliases-value old new d k (ByInstance j n) settles brings none listed index appended too c m ms o os g =
+    let there = g.0.memo (ty.Value (val.Defined d)) (at_export j n) (ap2 place none listed) in
+    let r = settles c m ms (opened old o) os (val.Defined d) j n there.0 g there.1 there.2 there.3 in
+    (there.0, there.1, there.2, aliased-so old new d k (export_alias s.Type j n) (ap content_of appended ∙ content-and-alias old.content j n) index too c m ms o os there.0 r)
+aliases-value old new d k (Around i) settles brings none listed index appended too c m ms o os g =
+    let r = brings c m ms (opened old o) os (val.Defined d) i g (ap2 place none listed) in
+    (r.0, r.1, r.2, aliased-so old new d k (outer_alias s.Type 1 i) (ap content_of appended ∙ content-and-around old.content i) index too c m ms o os r.0 r.3)
+
+pub alias-large : (A B : Type 0) (old : Scope) (d : DefinedTypeId) (l : Listed) (x : Encodable) (f : BinaryFault) → listed_at old d ≡ Some l → x ≡ old.content → TooLargeUnless {T = A} (Err f) (ContentFits (and_listed x l)) → FitsUnlessTooLarge {A = B} (Err (encode_fault f)) (AliasFits old d)
+alias-large A B old d l x binary.TooLarge there same h = λ fits. h (subst (λ (y : Encodable). ContentFits (and_listed y l)) (sym same) (fits l there))
+alias-large A B old d l x binary.OutOfMemory there same h = tt
 
 -- it is listed at one place
-pub same-place : (s : Scope) (d : DefinedTypeId) (l m : ℕ × Name) → listed_at s d ≡ Some l → listed_at s d ≡ Some m → l ≡ m
+pub same-place : (s : Scope) (d : DefinedTypeId) (l m : Listed) → listed_at s d ≡ Some l → listed_at s d ≡ Some m → l ≡ m
 same-place s d l m a b = some-equal l m (sym a ∙ b)
 
 -- one type definition more, of which nothing is recorded

@@ -3,7 +3,7 @@ use Rattle.std.specs.Prelude.{ℕ, List, [], ◌∷◌, ◌++◌}
 use Rattle.wac_shapes.specs.Name.{Name}
 use Rattle.wac_binary.specs.declared.sorts.Description.{Description}
 use Rattle.wac_binary.specs.declared.sorts.Sort.TheVariants as s
-use Rattle.wac_binary.specs.Items.{TypeDef, ModuleDecl, core_type_decl, type_decl, export_decl, export_alias, alias_decl, Item, core_type, type_item, alias_item, import_item}
+use Rattle.wac_binary.specs.Items.{TypeDef, ModuleDecl, core_type_decl, type_decl, export_decl, export_alias, outer_alias, alias_decl, Item, core_type, type_item, alias_item, import_item}
 use Rattle.wac_binary.specs.Indexes.{indexes, declared}
 use Rattle.wac_binary.specs.Fits.{Fits, DeclarationsFit}
 use Rattle.wac_scopes.specs.declared.encodable.Encodable.{Encodable}
@@ -44,6 +44,12 @@ abbrev pub and_alias_of : Encodable → (instance : ℕ) → Name → Encodable
 and_alias_of (Builder items) j n = Builder (items ++ alias_item (export_alias s.Type j n) ∷ [])
 and_alias_of (Instance ds) j n = Instance (ds ++ alias_decl (export_alias s.Type j n) ∷ [])
 and_alias_of (Component ds) j n = Component (ds ++ alias_decl (export_alias s.Type j n) ∷ [])
+
+-- one alias more, of a type of the scope around
+abbrev pub and_alias_around : Encodable → ℕ → Encodable
+and_alias_around (Builder items) i = Builder (items ++ alias_item (outer_alias s.Type 1 i) ∷ [])
+and_alias_around (Instance ds) i = Instance (ds ++ alias_decl (outer_alias s.Type 1 i) ∷ [])
+and_alias_around (Component ds) i = Component (ds ++ alias_decl (outer_alias s.Type 1 i) ∷ [])
 
 -- one core module type more
 abbrev pub and_core_module : Encodable → List ModuleDecl → Encodable

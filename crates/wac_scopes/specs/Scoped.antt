@@ -1,5 +1,5 @@
 -- What a scope that is written in the code says of a stack of open scopes, whatever else is recorded there and around it.
-use Rattle.std.specs.Prelude.{ℕ, ◌≡◌, cond, nat_eq, List, [], ◌∷◌, ◌++◌, length, Option, Some, None, slice_get, Result, Ok, Err}
+use Rattle.std.specs.Prelude.{ℕ, ◌≡◌, false, cond, nat_eq, List, [], ◌∷◌, ◌++◌, length, Option, Some, None, slice_get, Result, Ok, Err}
 use Rattle.wac_shapes.specs.Name.{Name}
 use Rattle.wac_shapes.specs.declared.component.PrimitiveType.{PrimitiveType}
 use Rattle.std.specs.HashMap.{get}
@@ -29,18 +29,29 @@ use Rattle.wac_scopes.specs.declared.encodable.Encodable.TheVariants.{Builder, I
 use Rattle.wac_scopes.specs.declared.fault.EncodeFault.{EncodeFault}
 use Rattle.wac_scopes.specs.declared.fault.EncodeFault.TheVariants as fault
 use Rattle.wac_scopes.specs.declared.scope.Listed.{Listed}
+use Rattle.wac_scopes.specs.declared.scope.Listed.TheVariants.{ByInstance, Around}
+use Rattle.wac_scopes.specs.declared.scope.Place.{Place}
 use Rattle.wac_scopes.specs.declared.scope.Scope.{Scope}
-use Rattle.wac_scopes.specs.Contents.{content_of, items_of, and_alias_of, ContentFits}
-use Rattle.wac_stacks.specs.Scopes.{Where, at_type, at_export, Open, Stack, env, envs, next_type, with_def}
+use Rattle.wac_scopes.specs.Contents.{content_of, items_of, and_alias_of, and_alias_around, ContentFits}
+use Rattle.wac_stacks.specs.Scopes.{Where, at_type, at_export, at_around, Open, Stack, env, envs, next_type, with_def}
 use Rattle.wac_stacks.specs.Good.{At, IsHeld, IsOf, Good, Onward}
 use Rattle.wac_stacks.specs.Parts.{Is, IsWritten, IsWrittenFunc}
 use Rattle.wac_stacks.specs.Laws.{Adds}
 use Rattle.wac_stacks.specs.Listed.{IsNewName, Lists}
 use Rattle.wac_stacks.specs.Instances.{Exports, IsNewImport, position_of}
 
+-- the type index of a place; and where that has a name
+abbrev pub index_of : Option Place → Option ℕ
+index_of None = None
+index_of (Some p) = Some p.index
+
+abbrev pub named_index : Option Place → Option ℕ
+named_index None = None
+named_index (Some p) = cond p.named (Some p.index) None
+
 -- the type index of a definition, a function type or an interface, where it is written
 abbrev pub type_index : Scope → AnyType → Option ℕ
-type_index s (ty.Value (val.Defined d)) = get (λ a b. nat_eq a.0 b.0) s.values d
+type_index s (ty.Value (val.Defined d)) = index_of (get (λ a b. nat_eq a.0 b.0) s.values d)
 type_index s (ty.Func f) = get (λ a b. nat_eq a.0 b.0) s.funcs f
 type_index s (ty.Interface i) = get (λ a b. nat_eq a.0 b.0) s.interfaces i
 type_index s a = None
@@ -48,26 +59,30 @@ type_index s a = None
 abbrev pub value_index : Scope → DefinedTypeId → Option ℕ
 value_index s d = type_index s (ty.Value (val.Defined d))
 
--- where an instance lists a definition as a type item: the instance's index, and the name of its export
-abbrev pub place_of : Option Listed → Option (ℕ × Name)
-place_of None = None
-place_of (Some l) = Some (l.instance, l.name)
+-- that of a definition that is written under a name: of a type item or of an alias
+abbrev pub named_at : Scope → DefinedTypeId → Option ℕ
+named_at s d = named_index (get (λ a b. nat_eq a.0 b.0) s.values d)
 
-abbrev pub listed_at : Scope → DefinedTypeId → Option (ℕ × Name)
-listed_at s d = place_of (get (λ a b. nat_eq a.0 b.0) s.listed d)
+-- where a definition is listed as a type item: by an instance, or in the scope around
+abbrev pub listed_at : Scope → DefinedTypeId → Option Listed
+listed_at s d = get (λ a b. nat_eq a.0 b.0) s.listed d
 
 -- and so of any type, where definitions are listed there
-abbrev pub listed_type : (DefinedTypeId → Option (ℕ × Name)) → AnyType → Option (ℕ × Name)
+abbrev pub listed_type : (DefinedTypeId → Option Listed) → AnyType → Option Listed
 listed_type at (ty.Value (val.Defined d)) = at d
 listed_type at a = None
 
-abbrev pub listing : Scope → AnyType → Option (ℕ × Name)
+abbrev pub listing : Scope → AnyType → Option Listed
 listing s a = listed_type (listed_at s) a
 
--- at its type index; or else as the export of an instance that lists it
-abbrev pub place : Option ℕ → Option (ℕ × Name) → Option Where
+-- at its type index; or else where it is listed
+abbrev pub place_listed : Listed → Where
+place_listed (ByInstance j n) = at_export j n
+place_listed (Around i) = at_around i
+
+abbrev pub place : Option ℕ → Option Listed → Option Where
 place (Some i) l = Some (at_type i)
-place None (Some l) = Some (at_export l.0 l.1)
+place None (Some l) = Some (place_listed l)
 place None None = None
 
 abbrev pub recorded_type : Scope → AnyType → Option Where
@@ -105,24 +120,27 @@ IsAt s a k = (c : Collection) (m : Bindings) (ms : List Bindings) (o : Open) (os
 pub record HasToo (old : Scope) (a : AnyType) (i : ℕ) (new : Scope) : Type 0 where
   pub types : (b : AnyType) → type_index new b ≡ cond (same_type b a) (Some i) (type_index old b)
   pub listed : (b : AnyType) → listing new b ≡ listing old b
+  -- all others have a name where they had
+  pub names : (d : DefinedTypeId) → same_type (ty.Value (val.Defined d)) a ≡ false → named_at new d ≡ named_at old d
 
 -- the same is written, and the same recorded
 pub record IsAsBefore (old new : Scope) : Type 0 where
   pub content : new.content ≡ old.content
   pub types : (a : AnyType) → type_index new a ≡ type_index old a
   pub listed : (a : AnyType) → listing new a ≡ listing old a
+  pub names : (d : DefinedTypeId) → named_at new d ≡ named_at old d
 
 -- the first of two that is there
-abbrev pub first_of : Option (ℕ × Name) → Option (ℕ × Name) → Option (ℕ × Name)
+abbrev pub first_of : Option Listed → Option Listed → Option Listed
 first_of (Some l) m = Some l
 first_of None m = m
 
 -- an instance lists the definition under this name
-abbrev pub listed_by : ℕ → DefinedTypeId × Name → DefinedTypeId → Option (ℕ × Name)
-listed_by k e d = cond (nat_eq e.0.0 d.0) (Some (k, e.1)) None
+abbrev pub listed_by : ℕ → DefinedTypeId × Name → DefinedTypeId → Option Listed
+listed_by k e d = cond (nat_eq e.0.0 d.0) (Some (ByInstance k e.1)) None
 
 -- where definitions are listed that were listed there, once an instance lists these too, the last of them first: the first place stays
-abbrev pub listed_too : ℕ → List (DefinedTypeId × Name) → (DefinedTypeId → Option (ℕ × Name)) → DefinedTypeId → Option (ℕ × Name)
+abbrev pub listed_too : ℕ → List (DefinedTypeId × Name) → (DefinedTypeId → Option Listed) → DefinedTypeId → Option Listed
 listed_too k [] at d = at d
 listed_too k (e ∷ es) at d = first_of (listed_too k es at d) (listed_by k e d)
 
@@ -130,6 +148,14 @@ listed_too k (e ∷ es) at d = first_of (listed_too k es at d) (listed_by k e d)
 pub record AlsoLists (old : Scope) (k : ℕ) (es : List (DefinedTypeId × Name)) (new : Scope) : Type 0 where
   pub types : (a : AnyType) → type_index new a ≡ type_index old a
   pub listed : (d : DefinedTypeId) → listed_at new d ≡ listed_too k es (listed_at old) d
+  pub names : (d : DefinedTypeId) → named_at new d ≡ named_at old d
+
+-- the same is written and recorded, and the definition is listed in the scope around, at this type index there
+pub record ListsAround (old : Scope) (d : DefinedTypeId) (i : ℕ) (new : Scope) : Type 0 where
+  pub content : new.content ≡ old.content
+  pub types : (a : AnyType) → type_index new a ≡ type_index old a
+  pub listed : (e : DefinedTypeId) → listed_at new e ≡ cond (nat_eq d.0 e.0) (Some (Around i)) (listed_at old e)
+  pub names : (e : DefinedTypeId) → named_at new e ≡ named_at old e
 
 -- where the definition that is written says the held one, index k is the held value type, and each good stack goes onward
 abbrev pub AddsValue : Scope → Scope → DefinedTypeId → ValueDef → ℕ → Type 0
@@ -143,18 +169,23 @@ AddsFunc old new f y k = (c : Collection) → IsWellFormed c → (m : Bindings) 
     → Good c (m ∷ ms) (opened old o ∷ os) → item_at c.funcs f.0 ≡ Some x → IsWrittenFunc c m (env (opened old o) (envs os)) x y
     → (t : Tree) × IsHeld c m (ty.Func f) t × IsFunction t × Adds c (m ∷ ms) (opened old o ∷ os) (opened new o ∷ os) k t
 
--- where an instance lists the definition, index k is the held value type, and each good stack goes onward
+-- where the definition is listed, index k is the held value type, and each good stack goes onward
 abbrev pub AliasesValue : Scope → Scope → DefinedTypeId → ℕ → Type 0
 AliasesValue old new d k = (c : Collection) (m : Bindings) (ms : List Bindings) (o : Open) (os : Stack)
     → Good c (m ∷ ms) (opened old o ∷ os) → (t : Tree) × IsHeld c m (ty.Value (val.Defined d)) t × IsValue t × Adds c (m ∷ ms) (opened old o ∷ os) (opened new o ∷ os) k t
 
--- the alias of the instance's export that lists the definition is written
+-- one alias more, of what is listed there
+abbrev pub and_listed : Encodable → Listed → Encodable
+and_listed x (ByInstance j n) = and_alias_of x j n
+and_listed x (Around i) = and_alias_around x i
+
+-- the alias of where the definition is listed is written
 abbrev pub IsAliased : Scope → DefinedTypeId → Encodable → Type 0
-IsAliased old d content = (j : ℕ) (n : Name) → listed_at old d ≡ Some (j, n) → content ≡ and_alias_of old.content j n
+IsAliased old d content = (l : Listed) → listed_at old d ≡ Some l → content ≡ and_listed old.content l
 
 -- it fits behind what is written
 abbrev pub AliasFits : Scope → DefinedTypeId → Type 0
-AliasFits s d = (j : ℕ) (n : Name) → listed_at s d ≡ Some (j, n) → ContentFits (and_alias_of s.content j n)
+AliasFits s d = (l : Listed) → listed_at s d ≡ Some l → ContentFits (and_listed s.content l)
 
 -- index k is the primitive type, and each good stack goes onward
 abbrev pub AddsPrimitive : Scope → Scope → PrimitiveType → ℕ → Type 0

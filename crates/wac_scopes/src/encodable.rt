@@ -7,10 +7,11 @@ ghost use Rattle.wac_binary.specs.Indexes.{space, core_types, described_sort};
 ghost use Rattle.wac_binary.specs.declared.sorts.Description.TheVariants as e;
 ghost use Rattle.wac_binary.specs.Items.{value_def, component_def, instance_def, decls};
 ghost use Rattle.wac_binary.specs.Views.{defined_of, func_of};
-ghost use Rattle.wac_scopes.specs.Contents.{IsRoot, IsOpenType, and_type, and_alias_of, and_core_module, and_export, and_import, count, ContentFits};
-ghost use Rattle.wac_scopes.specs.Scoped.{RecordsUnlessTooLarge};
+ghost use Rattle.wac_scopes.specs.Contents.{IsRoot, IsOpenType, and_type, and_alias_of, and_alias_around, and_core_module, and_export, and_import, count, ContentFits};
+ghost use Rattle.wac_scopes.specs.Scoped.{RecordsUnlessTooLarge, and_listed};
 
 use crate::fault::EncodeFault;
+use crate::scope::Listed;
 use wac_binary::{
     BinaryFault, ComponentBuilder, ComponentType, DefinedType, Description, FuncType, InstanceType,
     ModuleType, Sort,
@@ -88,8 +89,35 @@ impl Encodable {
         }
     }
 
+    /// Writes an alias of a type item that is listed there, and answers its type index.
+    pub(crate) fn alias(&mut self, listed: &Listed) -> Result<u32, BinaryFault>
+        ensures index { IfOk result (λ i. i ≡ count (space s.Type) self.old) }
+        ensures appended { OnOk result (self.new ≡ and_listed self.old listed.now) }
+        ensures refused { OnErr result (self.new ≡ self.old) }
+        ensures too_large { TooLargeUnless result (ContentFits (and_listed self.old listed.now)) }
+    {
+        match listed {
+            Listed::ByInstance(instance, name) => self.alias_of(*instance, name.as_str()),
+            Listed::Around(index) => self.alias_around(*index),
+        }
+    }
+
+    /// Writes an alias of a type of the scope around, and answers its type index.
+    fn alias_around(&mut self, index: u32) -> Result<u32, BinaryFault>
+        ensures index { IfOk result (λ i. i ≡ count (space s.Type) self.old) }
+        ensures appended { OnOk result (self.new ≡ and_alias_around self.old index) }
+        ensures refused { OnErr result (self.new ≡ self.old) }
+        ensures too_large { TooLargeUnless result (ContentFits (and_alias_around self.old index)) }
+    {
+        match self {
+            Encodable::Builder(content) => content.alias_outer(Sort::Type, 1, index),
+            Encodable::Instance(content) => content.alias_outer(Sort::Type, 1, index),
+            Encodable::Component(content) => content.alias_outer(Sort::Type, 1, index),
+        }
+    }
+
     /// Writes an alias of a type that an instance exports, and answers its type index.
-    pub(crate) fn alias_of(&mut self, instance: u32, name: &str) -> Result<u32, BinaryFault>
+    fn alias_of(&mut self, instance: u32, name: &str) -> Result<u32, BinaryFault>
         ensures index { IfOk result (λ i. i ≡ count (space s.Type) self.old) }
         ensures appended { OnOk result (self.new ≡ and_alias_of self.old instance name.now) }
         ensures refused { OnErr result (self.new ≡ self.old) }

@@ -1,6 +1,6 @@
 //! An open scope: what is written there, and where types stand among it.
 
-ghost use Rattle.std.specs.Prelude.{◌≡◌, ◌<◌, ◌≤◌, ◌+◌, ◌++◌, ◌∷◌, [], length, IfOk, OnOk, OnErr, IfSome, IsSome, None, is_some};
+ghost use Rattle.std.specs.Prelude.{cond, ◌≡◌, ◌<◌, ◌≤◌, ◌+◌, ◌++◌, ◌∷◌, [], length, IfOk, OnOk, OnErr, IfSome, IsSome, None, is_some};
 ghost use Rattle.std.specs.HashMap.{spare};
 ghost use Rattle.wac_shapes.specs.declared.component.ValueType.TheVariants as val;
 ghost use Rattle.wac_shapes.specs.declared.component.«Type».{«Type» as AnyType};
@@ -13,7 +13,7 @@ ghost use Rattle.wac_binary.specs.Indexes.{space};
 ghost use Rattle.wac_binary.specs.Views.{arguments_of, defined_of, func_of};
 ghost use Rattle.wac_scopes.specs.declared.encodable.Encodable.TheVariants.{Builder};
 ghost use Rattle.wac_scopes.specs.Contents.{IsRoot, IsOpenType, and_type, and_core_module, and_export, and_import, count, items_of, ContentFits};
-ghost use Rattle.wac_scopes.specs.Scoped.{IfThere, IsThere, AddsValue, AddsFunc, AddsPrimitive, AddsInstance, AddsComponent, AddsModule, ListsType, ListsValue, ListsFunction, ListsInstanceOf, RootImportsType, RootImportsValue, RootImportsFunction, RootImportsInstance, RootImportsModule, RootImportsListing, HasToo, IsAsBefore, AlsoLists, AliasesValue, IsAliased, AliasFits, IsAt, type_index, value_index, listed_at, listing, in_use, WritesUnlessTooLarge, FitsUnlessTooLarge, RecordsUnlessTooLarge};
+ghost use Rattle.wac_scopes.specs.Scoped.{IfThere, IsThere, AddsValue, AddsFunc, AddsPrimitive, AddsInstance, AddsComponent, AddsModule, ListsType, ListsValue, ListsFunction, ListsInstanceOf, RootImportsType, RootImportsValue, RootImportsFunction, RootImportsInstance, RootImportsModule, RootImportsListing, HasToo, IsAsBefore, AlsoLists, ListsAround, AliasesValue, IsAliased, AliasFits, IsAt, type_index, value_index, named_at, listed_at, listing, in_use, WritesUnlessTooLarge, FitsUnlessTooLarge, RecordsUnlessTooLarge};
 ghost use Rattle.wac_scopes.specs.Rooted.{ExportsRight};
 
 use crate::encodable::Encodable;
@@ -28,13 +28,22 @@ use wac_binary::{
 use wac_collection::{DefinedTypeId, FuncTypeId, InterfaceId, PrimitiveType, Text, ValueType};
 use wac_stacks::{listing_law, module_law, root_law, step_law};
 
-/// Where an instance lists a type.
+/// Where a definition is written.
+#[derive(Clone, Copy)]
+struct Place {
+    /// Its type index.
+    index: u32,
+    /// Whether that is of a type item or of an alias, and so has a name.
+    named: bool,
+}
+
+/// Where a definition is listed as a type item that is not written here.
 #[derive(Drop)]
-struct Listed {
-    /// The instance's index.
-    instance: u32,
-    /// The name of the type item.
-    name: Text,
+pub(crate) enum Listed {
+    /// By an instance: its index, and the name of the item.
+    ByInstance(u32, Text),
+    /// In the scope around: its type index there.
+    Around(u32),
 }
 
 /// An open scope: the root of a component, or a type that is being written; with the types that are written there, each once, and those that
@@ -42,13 +51,13 @@ struct Listed {
 pub struct Scope {
     /// What is written.
     content: Encodable,
-    /// The type index of each definition that is written.
-    values: HashMap<DefinedTypeId, u32>,
+    /// Where each definition is that is written.
+    values: HashMap<DefinedTypeId, Place>,
     /// That of each function type.
     funcs: HashMap<FuncTypeId, u32>,
     /// That of the instance type of each interface.
     interfaces: HashMap<InterfaceId, u32>,
-    /// Where an imported instance lists each definition that one lists, the first of them.
+    /// Where each definition is listed that an imported instance lists, by the first of them, or that has a name in the scope around.
     listed: HashMap<DefinedTypeId, Listed>,
 }
 
@@ -92,10 +101,20 @@ impl Scope {
         match value {
             ValueType::Primitive(p) => Some(ComponentValType::Primitive(p)),
             ValueType::Defined(id) => match self.values.get(&id) {
-                Some(index) => Some(ComponentValType::Index(*index)),
+                Some(place) => Some(ComponentValType::Index(place.index)),
                 None => None,
             },
             ValueType::Own(_) | ValueType::Borrow(_) => None,
+        }
+    }
+
+    /// The type index of a definition that is written here under a name: of a type item or of an alias.
+    pub fn named(&self, id: DefinedTypeId) -> Option<u32>
+        ensures { result ≡ named_at self.now id }
+    {
+        match self.values.get(&id) {
+            Some(place) if place.named => Some(place.index),
+            _ => None,
         }
     }
 
@@ -123,7 +142,7 @@ impl Scope {
         }
     }
 
-    /// Writes this definition of a held value type, and records it. Answers its type index.
+    /// Writes this definition of a held value type, and records it, without a name. Answers its type index.
     ///
     /// Answers `TooLarge` where what is written would not fit, and `OutOfMemory` where memory was refused, other than in an instance
     /// type be it before it is known whether it fits. Then nothing is written or recorded.
@@ -135,6 +154,7 @@ impl Scope {
         ensures index { IfOk result (λ k. k ≡ count (space s.Type) self.old.content) }
         ensures stands { IfOk result (λ k. AddsValue self.old self.new id (defined_of definition.now) k) }
         ensures recorded { IfOk result (λ k. HasToo self.old (ty.Value (val.Defined id)) k self.new) }
+        ensures unnamed { OnOk result (named_at self.new id ≡ None) }
         ensures appended { OnOk result (self.new.content ≡ and_type self.old.content (value_def (defined_of definition.now))) }
         ensures refused { OnErr result (IsAsBefore self.old self.new) }
         ensures too_large { RecordsUnlessTooLarge self.old.content result (ContentFits (and_type self.old.content (value_def (defined_of definition.now)))) }
@@ -144,19 +164,19 @@ impl Scope {
             return Err(self.content.refusal_of_type(definition));
         }
         let index = self.content.defined_type(definition)?;
-        self.record_value(id, index);
+        self.record_value(id, index, false);
         Ok(index)
     }
 
-    /// Whether an imported instance lists a definition.
+    /// Whether a definition is listed by an imported instance, or has a name in the scope around.
     pub fn is_listed(&self, id: DefinedTypeId) -> bool
         ensures { result ≡ is_some (listed_at self.now id) }
     {
         self.listed.contains_key(&id)
     }
 
-    /// Writes an alias of the type item under which an imported instance lists a definition, the first that does, and records the definition
-    /// at the alias. Answers its type index.
+    /// Writes an alias of the type item as which a definition is listed, by the first imported instance that lists it or in the scope around,
+    /// and records the definition at the alias. Answers its type index.
     ///
     /// Answers `TooLarge` where what is written would not fit, and `OutOfMemory` where memory was refused, be it before it is known
     /// whether it fits. Then nothing is written or recorded.
@@ -166,6 +186,7 @@ impl Scope {
         ensures index { IfOk result (λ k. k ≡ count (space s.Type) self.old.content) }
         ensures stands { IfOk result (λ k. AliasesValue self.old self.new id k) }
         ensures recorded { IfOk result (λ k. HasToo self.old (ty.Value (val.Defined id)) k self.new) }
+        ensures named { IfOk result (λ k. named_at self.new id ≡ Some k) }
         ensures appended { OnOk result (IsAliased self.old id self.new.content) }
         ensures refused { OnErr result (IsAsBefore self.old self.new) }
         ensures too_large { FitsUnlessTooLarge result (AliasFits self.old id) }
@@ -175,10 +196,8 @@ impl Scope {
         let Some(listed) = self.listed.get(&id) else {
             unreachable!()
         };
-        let index = self
-            .content
-            .alias_of(listed.instance, listed.name.as_str())?;
-        self.record_value(id, index);
+        let index = self.content.alias(listed)?;
+        self.record_value(id, index, true);
         Ok(index)
     }
 
@@ -206,13 +225,14 @@ impl Scope {
         self.interfaces.reserve(1)
     }
 
-    /// Records that a definition is written at a type index. There is room for it.
-    fn record_value(&mut self, id: DefinedTypeId, index: u32)
+    /// Records that a definition is written at a type index, and whether that has a name. There is room for it.
+    fn record_value(&mut self, id: DefinedTypeId, index: u32, named: bool)
         requires { 0 < spare self.old.values }
         ensures recorded { HasToo self.old (ty.Value (val.Defined id)) index self.new }
+        ensures named { named_at self.new id ≡ cond named (Some index) None }
         ensures kept { self.new.content ≡ self.old.content }
     {
-        match self.values.insert(id, index) {
+        match self.values.insert(id, Place { index, named }) {
             Ok(_) => {}
             Err(_) => unreachable!(),
         }
@@ -358,6 +378,7 @@ impl Scope {
         ensures index { IfOk result (λ k. k ≡ count (space s.Type) self.old.content) }
         ensures stands { IfOk result (λ k. ListsValue self.old self.new name.now id index k) }
         ensures recorded { IfOk result (λ k. HasToo self.old (ty.Value (val.Defined id)) k self.new) }
+        ensures named { IfOk result (λ k. named_at self.new id ≡ Some k) }
         ensures appended { OnOk result (self.new.content ≡ and_export self.old.content name.now (e.Equal index)) }
         ensures refused { OnErr result (IsAsBefore self.old self.new) }
         ensures too_large { RecordsUnlessTooLarge self.old.content result (ContentFits (and_export self.old.content name.now (e.Equal index))) }
@@ -367,7 +388,7 @@ impl Scope {
             return Err(self.content.refusal_of_export(name, index));
         }
         let own = self.content.export(name, Description::Equal(index))?;
-        self.record_value(id, own);
+        self.record_value(id, own, true);
         Ok(own)
     }
 
@@ -436,6 +457,7 @@ impl Scope {
         ensures index { IfOk result (λ k. k ≡ count (space s.Type) self.old.content) }
         ensures stands { IfOk result (λ k. RootImportsValue self.old self.new name.now id index k) }
         ensures recorded { IfOk result (λ k. HasToo self.old (ty.Value (val.Defined id)) k self.new) }
+        ensures named { IfOk result (λ k. named_at self.new id ≡ Some k) }
         ensures appended { OnOk result (self.new.content ≡ and_import self.old.content name.now (e.Equal index)) }
         ensures refused { OnErr result (IsAsBefore self.old self.new) }
         ensures too_large { FitsUnlessTooLarge result (ContentFits (and_import self.old.content name.now (e.Equal index))) }
@@ -443,7 +465,7 @@ impl Scope {
         root_law();
         self.make_room()?;
         let import = self.content.import(name, Description::Equal(index))?;
-        self.record_value(id, import);
+        self.record_value(id, import, true);
         Ok(import)
     }
 
@@ -536,8 +558,22 @@ impl Scope {
         ensures kept { self.new.content ≡ self.old.content }
         ensures room { spare self.old.listed ≤ spare self.new.listed + 1 }
     {
-        match self.listed.insert(id, Listed { instance, name }) {
+        match self.listed.insert(id, Listed::ByInstance(instance, name)) {
             Ok(_) => {}
+            Err(_) => unreachable!(),
+        }
+    }
+
+    /// Records that a definition has a name in the scope around, at this type index there, from where it is aliased from now on.
+    ///
+    /// Answers `AllocError` where memory was refused; then nothing is recorded.
+    pub fn list_around(&mut self, id: DefinedTypeId, index: u32) -> Result<(), AllocError>
+        ensures listed { OnOk result (ListsAround self.old id index self.new) }
+        ensures refused { OnErr result (IsAsBefore self.old self.new) }
+    {
+        self.make_listed_room(1)?;
+        match self.listed.insert(id, Listed::Around(index)) {
+            Ok(_) => Ok(()),
             Err(_) => unreachable!(),
         }
     }
@@ -654,6 +690,7 @@ impl Scope {
         ensures index { IfOk result (λ k. k ≡ count (space s.Type) self.old.content) }
         ensures right { OnOk result (ExportsRight self.old self.new id index) }
         ensures recorded { IfOk result (λ k. HasToo self.old (ty.Value (val.Defined id)) k self.new) }
+        ensures named { IfOk result (λ k. named_at self.new id ≡ Some k) }
         ensures appended { OnOk result (self.new.content ≡ Builder (items_of self.old.content ++ export_item name.now s.Type index ∷ [])) }
         ensures refused { OnErr result (IsAsBefore self.old self.new) }
         ensures too_large { FitsUnlessTooLarge result (Fits (items_of self.old.content ++ export_item name.now s.Type index ∷ [])) }
@@ -662,7 +699,7 @@ impl Scope {
         rooted_law();
         self.make_room()?;
         let own = self.export(name, Sort::Type, index)?;
-        self.record_value(id, own);
+        self.record_value(id, own, true);
         Ok(own)
     }
 

@@ -5,11 +5,11 @@ use Rattle.wac_collection.specs.Tree.{resource}
 use Rattle.wac_collection.specs.Collection.{Collection}
 use Rattle.wac_collection.specs.Bound.{Bindings}
 use Rattle.wac_binary.specs.Items.{Item}
-use Rattle.wac_binary.specs.Unfold.{Scope}
+use Rattle.wac_binary.specs.Unfold.{Scope, scope_at}
 use Rattle.wac_stacks.specs.Scopes.{Content, root, ContentHasMeaning, Open, Stack, env, envs, scope_of}
 use Rattle.wac_stacks.specs.Good.{Keeps, Grown, is_bottom, GoodScope, Good, top}
 use Rattle.wac_stacks.specs.Beside.{SameWritten, written_as, all_written_as, GoesOnBeside}
-use Rattle.wac_stacks.proofs.Grow.{stands-keeps, grown-bottom}
+use Rattle.wac_stacks.proofs.Grow.{stands-keeps, from-keeps, grown-at, grown-bottom}
 use Rattle.wac_stacks.proofs.Moved.{ap2}
 
 same-envs : (ps os : Stack) → SameWritten ps os → envs os ≡ envs ps
@@ -26,13 +26,13 @@ same-after (p ∷ ps) [] os h g = absurd g
 same-after (p ∷ ps) (q ∷ qs) [] h g = absurd h
 
 -- what is recorded stays right where what is written keeps what its indexes stand for
-scope-beside : (d : Collection) (n mo : Bindings) (o q : Open) (out out' : List Scope) → GoodScope d n mo o out → ContentHasMeaning q.content out' → ((items : List Item) → q.content ≡ root items → is_bottom out' ≡ true) → Keeps (env o out) (env q out') → is_bottom out' ≡ is_bottom out → GoodScope d n mo (written_as q o) out'
-scope-beside d n mo o q out out' h says bot keeps same = record {
+scope-beside : (d : Collection) (n mo : Bindings) (o q : Open) (out out' : List Scope) → GoodScope d n mo o out → ContentHasMeaning q.content out' → ((items : List Item) → q.content ≡ root items → is_bottom out' ≡ true) → Keeps (env o out) (env q out') → Keeps (scope_at out 0) (scope_at out' 0) → is_bottom out' ≡ is_bottom out → GoodScope d n mo (written_as q o) out'
+scope-beside d n mo o q out out' h says bot keeps around same = record {
   meaning = says;
   bottom = bot;
   binds = λ r p f. let b = h.binds r p f in (b.0, b.1, stands-keeps (env o out) (env q out') (resource b.0) p keeps b.2);
   unbound = λ r u f p. h.unbound r (sym same ∙ u) f p;
-  memo = λ v p f. let t = h.memo v p f in (t.0, t.1, t.2, stands-keeps (env o out) (env q out') t.0 p keeps t.3);
+  memo = λ v p f. let t = h.memo v p f in (t.0, t.1, t.2, from-keeps (env o out) (env q out') out out' t.0 p keeps around t.3);
   named = λ k a p f. let t = h.named k a p f in (t.0, t.1, stands-keeps (env o out) (env q out') t.0 p keeps t.2);
 }
 
@@ -47,6 +47,7 @@ good-beside c d (m ∷ ms) (n ∷ ns) (p ∷ ps) (q ∷ qs) (o ∷ os) h g gr go
           (subst (ContentHasMeaning q.content) (sym behind) g.0.meaning)
           (λ items e. ap is_bottom behind ∙ g.0.bottom items e)
           (subst (λ (x : Scope). Keeps x (env q (envs (all_written_as qs os)))) was (subst (Keeps (env p (envs ps))) is gr.0.keeps))
+          (subst (λ (es : List Scope). Keeps (scope_at es 0) (scope_at (envs (all_written_as qs os)) 0)) (sym before) (subst (λ (es : List Scope). Keeps (scope_at (envs ps) 0) (scope_at es 0)) (sym behind) (grown-at (envs ps) (envs qs) 0 gr.1)))
           (ap is_bottom behind ∙ grown-bottom (envs ps) (envs qs) gr.1 ∙ ap is_bottom (sym before)),
       good-beside c d ms ns ps qs os h.1 g.1 gr.1 go.1,
     )

@@ -9,9 +9,9 @@ use Rattle.wac_binary.specs.Items.{Item}
 use Rattle.wac_binary.specs.Unfold.{Scope, Bound, empty, scope_at, type_at, bound_at}
 use Rattle.wac_binary.specs.Growth.{Grows}
 use Rattle.wac_stacks.specs.Reads.{Reads}
-use Rattle.wac_stacks.specs.Scopes.{Content, declarations, root, ContentHasMeaning, Where, at_type, at_export, Open, env, scope_of, type_count, instance_count}
+use Rattle.wac_stacks.specs.Scopes.{Content, declarations, root, ContentHasMeaning, Where, at_type, at_export, at_around, Open, env, scope_of, type_count, instance_count}
 use Rattle.wac_stacks.proofs.Meant.{meaning-kept, steady}
-use Rattle.wac_stacks.specs.Good.{At, Keeps, Kept, Grown, Under, is_bottom, Stands, GoodScope, Extends}
+use Rattle.wac_stacks.specs.Good.{At, Keeps, Kept, Grown, Under, is_bottom, Stands, StandsFrom, GoodScope, Extends}
 
 pub at-append : {A : Type 0} (xs ys : List A) (i : ℕ) (x : A) → At xs i x → At (xs ++ ys) i x
 at-append [] ys i x h = cc
@@ -118,6 +118,18 @@ grown-bottom (e ∷ es) [] g = absurd g
 pub stands-keeps : (e f : Scope) (t : Tree) (p : Where) → Keeps e f → Stands e t p → Stands f t p
 stands-keeps e f t (at_type i) k h = k.types i t h
 stands-keeps e f t (at_export j n) k h = (h.0, k.instances j h.0 h.1, h.2)
+stands-keeps e f t (at_around i) k h = absurd h
+
+-- what stands in the scope stands there seen from it
+pub stands-from : (e : Scope) (out : List Scope) (t : Tree) (p : Where) → Stands e t p → StandsFrom e out t p
+stands-from e out t (at_type i) h = h
+stands-from e out t (at_export j n) h = h
+stands-from e out t (at_around i) h = absurd h
+
+pub from-keeps : (e f : Scope) (out out' : List Scope) (t : Tree) (p : Where) → Keeps e f → Keeps (scope_at out 0) (scope_at out' 0) → StandsFrom e out t p → StandsFrom f out' t p
+from-keeps e f out out' t (at_type i) k around h = k.types i t h
+from-keeps e f out out' t (at_export j n) k around h = (h.0, k.instances j h.0 h.1, h.2)
+from-keeps e f out out' t (at_around i) k around h = (h.0, around.types i h.0 h.1, h.2, h.3)
 
 -- as many indexes stand for something as were counted
 pub types-count : Reads → (x : Content) (out : List Scope) → length (scope_of x out).types ≡ type_count x
@@ -135,7 +147,7 @@ good-deeper reads c m mo o out out' h g = record {
   bottom = λ items e. grown-bottom out out' g ∙ h.bottom items e;
   binds = λ r p f. let b = h.binds r p f in (b.0, b.1, subst (λ (e : Scope). Stands e (resource b.0) p) (sym same_env) b.2);
   unbound = λ r u f p. h.unbound r (sym (grown-bottom out out' g) ∙ u) f p;
-  memo = λ v p f. let t = h.memo v p f in (t.0, t.1, t.2, subst (λ (e : Scope). Stands e t.0 p) (sym same_env) t.3);
+  memo = λ v p f. let t = h.memo v p f in (t.0, t.1, t.2, subst (λ (e : Scope). StandsFrom e out' t.0 p) (sym same_env) (from-keeps (env o out) (env o out) out out' t.0 p (keeps-refl (env o out)) (under-at out out' 0 (under-grown out out' g)) t.3));
   named = λ n a p f. let t = h.named n a p f in (t.0, t.1, subst (λ (e : Scope). Stands e t.0 p) (sym same_env) t.2);
 }
   where
@@ -153,7 +165,7 @@ good-pushed c m mo o out x e h bot says gives keeps = record {
   bottom = bot;
   binds = λ r p f. let b = h.binds r p f in (b.0, b.1, subst (λ (y : Scope). Stands y (resource b.0) p) (sym now) (stands-keeps (env o out) e (resource b.0) p keeps b.2));
   unbound = h.unbound;
-  memo = λ v p f. let t = h.memo v p f in (t.0, t.1, t.2, subst (λ (y : Scope). Stands y t.0 p) (sym now) (stands-keeps (env o out) e t.0 p keeps t.3));
+  memo = λ v p f. let t = h.memo v p f in (t.0, t.1, t.2, subst (λ (y : Scope). StandsFrom y out t.0 p) (sym now) (from-keeps (env o out) e out out t.0 p keeps (keeps-refl (scope_at out 0)) t.3));
   named = λ n a p f. let t = h.named n a p f in (t.0, t.1, subst (λ (y : Scope). Stands y t.0 p) (sym now) (stands-keeps (env o out) e t.0 p keeps t.2));
 }
   where

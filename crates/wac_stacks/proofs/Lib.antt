@@ -7,6 +7,7 @@ pub mod Values
 pub mod StepLaws
 pub mod Lists
 pub mod Whole
+pub mod Over
 pub mod Instances
 pub mod Roots
 pub mod Inside

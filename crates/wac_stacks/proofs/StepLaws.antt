@@ -1,6 +1,6 @@
 -- The steps of a type encoder that add one type index.
 use Rattle.std.specs.Prelude.{ℕ, zero, suc, ◌≡◌, false, List, [], ◌∷◌, Some}
-use Rattle.std.proofs.Common.{refl, ap, ◌∙◌}
+use Rattle.std.proofs.Common.{refl, ap, ◌∙◌, sym, subst}
 use Rattle.wac_shapes.specs.declared.component.ResourceId.{ResourceId}
 use Rattle.wac_shapes.specs.declared.component.ValueType.{ValueType}
 use Rattle.wac_shapes.specs.declared.component.ValueType.TheVariants as val
@@ -8,13 +8,14 @@ use Rattle.wac_shapes.specs.declared.component.«Type».TheVariants as ty
 use Rattle.wac_collection.specs.Tree.{Leaf, Tree, resource, primitive, own, borrow, out_by, seen_from}
 use Rattle.wac_collection.specs.Collection.{Collection}
 use Rattle.wac_collection.specs.Bound.{Bindings}
-use Rattle.wac_binary.specs.Items.{TypeDef, value_def, func_def, own_def, borrow_def, primitive_def}
+use Rattle.wac_binary.specs.Items.{outer_alias, TypeDef, value_def, func_def, own_def, borrow_def, primitive_def}
+use Rattle.wac_binary.specs.declared.sorts.Sort.TheVariants as s
 use Rattle.wac_binary.specs.Unfold.{Scope, scope_at, value_tree, tree_of}
 use Rattle.wac_stacks.specs.Reads.{Reads}
-use Rattle.wac_stacks.specs.Scopes.{Where, at_type, Open, Stack, env, envs, next_type, bind_at, remember_at}
+use Rattle.wac_stacks.specs.Scopes.{Where, at_type, at_around, Open, Stack, env, envs, next_type, with_alias_of, bind_at, remember_at}
 use Rattle.wac_stacks.specs.Good.{is_bottom, IsHeld, Good, top, seen_inside}
 use Rattle.wac_stacks.specs.Parts.{IsReached, IsWrittenFunc}
-use Rattle.wac_stacks.specs.Laws.{Adds, DefinesValue, DefinesFunc, DefinesPrimitive, DefinesHandles, Reaches, BringsResource, BringsType, SettlesResource, SettlesValue, GoesOnAround, Follows, StaysIs, IsRecorded, StandsRecorded, IsItsTree}
+use Rattle.wac_stacks.specs.Laws.{Adds, DefinesValue, DefinesFunc, DefinesPrimitive, DefinesHandles, Reaches, BringsResource, BringsType, SettlesResource, SettlesValue, BringsValue, GoesOnAround, Follows, StaysIs, IsRecorded, StandsRecorded, IsItsTree}
 use Rattle.wac_binary.specs.HasMeaning.{IsValue}
 use Rattle.wac_stacks.proofs.Meant.{value-type}
 use Rattle.wac_stacks.proofs.Grow.{grown-at}
@@ -83,6 +84,12 @@ settles-resource reads c m ms o os r j n l g bound st = added-resource c m ms o 
 
 pub settles-value : Reads → SettlesValue
 settles-value reads c m ms o os v j n t g held value st = added-value c m ms o _ os v t g ((one-more-export reads) c m (top ms) o (envs os) j n t g.0 (value-type t value) st) held value
+
+pub brings-value : Reads → BringsValue
+brings-value reads c m ms o os v i g there =
+    let r = g.0.memo (ty.Value v) (at_around i) there in
+    let brought : OneMore c m (top ms) o (with_alias_of (outer_alias s.Type 1 i) o) (envs os) (seen_from 1 r.3.0) = (one-more-outer reads) c m (top ms) o (envs os) 0 i r.3.0 g.0 r.3.2 r.3.1 in
+    (r.0, r.1, r.2, added-value c m ms o _ os v r.0 g (subst (OneMore c m (top ms) o (with_alias_of (outer_alias s.Type 1 i) o) (envs os)) (sym r.3.3) brought) r.1 r.2)
 
 pub goes-on-around : Reads → GoesOnAround
 goes-on-around reads = (outer-onward reads)

@@ -18,8 +18,8 @@ use Rattle.wac_binary.specs.HasMeaning.{IsType, TypeHasMeaning}
 use Rattle.wac_stacks.specs.Reads.{Reads}
 use Rattle.wac_stacks.proofs.Meant.{steady, def-meaning, export-meaning, stands-sort, outer-meaning}
 use Rattle.wac_stacks.specs.Scopes.{Content, declarations, root, ContentHasMeaning, Where, at_export, Open, Stack, env, envs, scope_of, next_type, and_def, and_alias, with_def, with_alias_of, bind_at, remember_at, name_at}
-use Rattle.wac_stacks.specs.Good.{At, Kept, Under, is_bottom, Stands, IsHeld, IsOf, GoodScope, Good, top, Onward, seen_inside}
-use Rattle.wac_stacks.proofs.Grow.{at-last, at-type_at, at-bound_at, kept-refl, kept-type, keeps-type, and_type, grown-refl, grown-trans, under-refl, under-grown, under-at, types-count, good-deeper, Gives, good-pushed}
+use Rattle.wac_stacks.specs.Good.{At, Kept, Under, is_bottom, Stands, StandsFrom, IsHeld, IsOf, GoodScope, Good, top, Onward, seen_inside}
+use Rattle.wac_stacks.proofs.Grow.{at-last, at-type_at, at-bound_at, kept-refl, kept-type, keeps-type, and_type, grown-refl, grown-trans, under-refl, under-grown, under-at, stands-from, types-count, good-deeper, Gives, good-pushed}
 
 pub some-equal : {A : Type 0} (a b : A) → Some a ≡ Some b → a ≡ b
 some-equal a b h = cc
@@ -60,12 +60,12 @@ good-remember_at c m mo o out a w t h held sort at = record {
   named = h.named;
 }
   where
-    found : (b : AnyType) (p : Where) (z : Bool) → same_type b a ≡ z → (if z then Some w else o.memo b) ≡ Some p → (x : Tree) × IsHeld c m b x × IsOf b x × Stands (env o out) x p
-    found b p true e f = let same : b ≡ a = same_type-true b a e in (t, subst (λ (x : AnyType). IsHeld c m x t) (sym same) held, subst (λ (x : AnyType). IsOf x t) (sym same) sort, subst (Stands (env o out) t) (some-equal w p f) at)
+    found : (b : AnyType) (p : Where) (z : Bool) → same_type b a ≡ z → (if z then Some w else o.memo b) ≡ Some p → (x : Tree) × IsHeld c m b x × IsOf b x × StandsFrom (env o out) out x p
+    found b p true e f = let same : b ≡ a = same_type-true b a e in (t, subst (λ (x : AnyType). IsHeld c m x t) (sym same) held, subst (λ (x : AnyType). IsOf x t) (sym same) sort, stands-from (env o out) out t p (subst (Stands (env o out) t) (some-equal w p f) at))
     found b p false e f = h.memo b p f
 
 -- recording other types
-pub good-recorded : (c : Collection) (m mo : Bindings) (o : Open) (out : List Scope) (f : AnyType → Option Where) → GoodScope c m mo o out → ((a : AnyType) (w : Where) → f a ≡ Some w → (t : Tree) × IsHeld c m a t × IsOf a t × Stands (env o out) t w) → GoodScope c m mo (record o { memo = f }) out
+pub good-recorded : (c : Collection) (m mo : Bindings) (o : Open) (out : List Scope) (f : AnyType → Option Where) → GoodScope c m mo o out → ((a : AnyType) (w : Where) → f a ≡ Some w → (t : Tree) × IsHeld c m a t × IsOf a t × StandsFrom (env o out) out t w) → GoodScope c m mo (record o { memo = f }) out
 good-recorded c m mo o out f h there = record {
   meaning = h.meaning;
   bottom = h.bottom;

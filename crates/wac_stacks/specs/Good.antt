@@ -4,15 +4,15 @@ use Rattle.wac_shapes.specs.Name.{Name, option_case}
 use Rattle.wac_shapes.specs.declared.component.ResourceId.{ResourceId}
 use Rattle.wac_shapes.specs.declared.component.«Type».{«Type» as AnyType}
 use Rattle.wac_shapes.specs.declared.component.«Type».TheVariants as ty
-use Rattle.wac_collection.specs.Tree.{Leaf, Tree, named, resource, primitive, further_out, taken_from, items_in, moved}
+use Rattle.wac_collection.specs.Tree.{Leaf, Tree, named, resource, primitive, further_out, seen_from, taken_from, items_in, moved}
 use Rattle.wac_collection.specs.Collection.{Collection, holds_type}
 use Rattle.wac_collection.specs.Held.{step}
 use Rattle.wac_collection.specs.Bound.{Bindings, by_place, held_tree}
 use Rattle.wac_binary.specs.declared.types.ComponentValType.{ComponentValType}
 use Rattle.wac_binary.specs.declared.types.ComponentValType.TheVariants.{Primitive, Index}
 use Rattle.wac_binary.specs.Unfold.{Scope, Bound, scope_at, bound_type}
-use Rattle.wac_binary.specs.HasMeaning.{IsValue, IsFunction, IsInstance}
-use Rattle.wac_stacks.specs.Scopes.{root, ContentHasMeaning, Where, at_type, at_export, Open, Stack, env, envs}
+use Rattle.wac_binary.specs.HasMeaning.{IsValue, IsType, IsFunction, IsInstance}
+use Rattle.wac_stacks.specs.Scopes.{root, ContentHasMeaning, Where, at_type, at_export, at_around, Open, Stack, env, envs}
 use Rattle.wac_binary.specs.Items.{Item}
 
 -- x stands at i
@@ -54,6 +54,12 @@ is_bottom (e ∷ es) = false
 abbrev pub Stands : Scope → Tree → Where → Type 0
 Stands e t (at_type i) = At e.types i t
 Stands e t (at_export j n) = (b : Bound) × At e.instances j b × (bound_type b.side (b.path ++ named n ∷ []) (taken_from b.side b.path (items_in b.type n)) ≡ t)
+Stands e t (at_around i) = ⊥
+
+-- the tree stands in the scope, or it is that of a type at an index of the scope around, as it is seen from here
+abbrev pub StandsFrom : Scope → List Scope → Tree → Where → Type 0
+StandsFrom e out t (at_around i) = (u : Tree) × At ((scope_at out 0).types) i u × IsType u × (t ≡ seen_from 1 u)
+StandsFrom e out t w = Stands e t w
 
 -- a value type in use is this tree
 abbrev pub Means : Scope → Tree → ComponentValType → Type 0
@@ -94,8 +100,8 @@ pub record GoodScope (c : Collection) (m mo : Bindings) (o : Open) (out : List S
   pub binds : (r : ResourceId) (w : Where) → o.binds r ≡ Some w → (l : Leaf) × (m r ≡ Some l) × Stands (env o out) (resource l) w
   -- what is neither recorded nor pending is called as the scopes around it call it, one further out, if there are any
   pub unbound : (r : ResourceId) → is_bottom out ≡ false → o.binds r ≡ None → o.pending r ≡ false → m r ≡ seen_inside (mo r)
-  -- where a type is recorded, a value type, a function type or an interface, stands its held tree under m
-  pub memo : (a : AnyType) (w : Where) → o.memo a ≡ Some w → (t : Tree) × IsHeld c m a t × IsOf a t × Stands (env o out) t w
+  -- where a type is recorded, a value type, a function type or an interface, stands its held tree under m, be it around
+  pub memo : (a : AnyType) (w : Where) → o.memo a ≡ Some w → (t : Tree) × IsHeld c m a t × IsOf a t × StandsFrom (env o out) out t w
   -- and a type by a name
   pub named : (n : Name) (a : AnyType) (w : Where) → o.named n ≡ Some (a, w) → (t : Tree) × IsHeld c m a t × Stands (env o out) t w
 

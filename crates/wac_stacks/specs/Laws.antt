@@ -22,7 +22,7 @@ use Rattle.wac_binary.specs.declared.types.ComponentValType.TheVariants.{Index}
 use Rattle.wac_binary.specs.Items.{ValueDef, own_def, borrow_def, primitive_def, TypeDef, value_def, export_alias, outer_alias}
 use Rattle.wac_binary.specs.Unfold.{scope_at}
 use Rattle.wac_binary.specs.HasMeaning.{IsValue, IsFunction, IsType}
-use Rattle.wac_stacks.specs.Scopes.{Where, at_type, at_export, Open, Stack, env, envs, next_type, with_def, with_alias_of, bind_at, remember_at}
+use Rattle.wac_stacks.specs.Scopes.{Where, at_type, at_export, at_around, Open, Stack, env, envs, next_type, with_def, with_alias_of, bind_at, remember_at}
 use Rattle.wac_stacks.specs.Good.{At, Stands, IsHeld, IsOf, Good, top, Onward, innermost}
 use Rattle.wac_stacks.specs.Parts.{Is, IsWritten, IsWrittenFunc, IsReached}
 
@@ -83,6 +83,12 @@ abbrev pub SettlesValue : Type 0
 SettlesValue = (c : Collection) (m : Bindings) (ms : List Bindings) (o : Open) (os : Stack) (v : ValueType) (j : ℕ) (n : Name) (t : Tree)
     → Good c (m ∷ ms) (o ∷ os) → IsHeld c m (ty.Value v) t → IsValue t → Stands (env o (envs os)) t (at_export j n)
     → Adds c (m ∷ ms) (o ∷ os) (remember_at (ty.Value v) (at_type (next_type o)) (with_alias_of (export_alias s.Type j n) o) ∷ os) (next_type o) t
+
+-- and one that is recorded at a type index of the scope around is aliased from there
+abbrev pub BringsValue : Type 0
+BringsValue = (c : Collection) (m : Bindings) (ms : List Bindings) (o : Open) (os : Stack) (v : ValueType) (i : ℕ)
+    → Good c (m ∷ ms) (o ∷ os) → o.memo (ty.Value v) ≡ Some (at_around i)
+    → (t : Tree) × IsHeld c m (ty.Value v) t × IsValue t × Adds c (m ∷ ms) (o ∷ os) (remember_at (ty.Value v) (at_type (next_type o)) (with_alias_of (outer_alias s.Type 1 i) o) ∷ os) (next_type o) t
 
 -- what goes on around the innermost scope leaves it good
 abbrev pub GoesOnAround : Type 0

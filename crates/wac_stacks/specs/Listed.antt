@@ -6,6 +6,8 @@ use Rattle.wac_shapes.specs.declared.component.InterfaceId.{InterfaceId}
 use Rattle.wac_shapes.specs.declared.component.WorldId.{WorldId}
 use Rattle.wac_shapes.specs.declared.component.Interface.{Interface}
 use Rattle.wac_shapes.specs.declared.component.World.{World}
+use Rattle.wac_shapes.specs.declared.component.ValueType.{ValueType}
+use Rattle.wac_shapes.specs.declared.component.«Type».{«Type» as AnyType}
 use Rattle.wac_shapes.specs.declared.component.«Type».TheVariants as ty
 use Rattle.wac_shapes.specs.declared.component.ItemKind.{ItemKind}
 use Rattle.wac_shapes.specs.declared.component.ItemKind.TheVariants as kind
@@ -18,7 +20,7 @@ use Rattle.wac_binary.specs.declared.sorts.Description.TheVariants as e
 use Rattle.wac_binary.specs.Items.{Decl, decls, import_decl, export_decl, instance_def, component_def}
 use Rattle.wac_binary.specs.Unfold.{Scope, with_item}
 use Rattle.wac_binary.specs.HasMeaning.{IsType, IsFunction, IsInstance, IsComponent, IsModule, IsFree, ImportNothing}
-use Rattle.wac_stacks.specs.Scopes.{declarations, at_type, Open, Stack, env, envs, next_type, next_instance, with_def, bind_at, opening}
+use Rattle.wac_stacks.specs.Scopes.{declarations, Where, at_type, at_around, Open, Stack, env, envs, next_type, next_instance, with_def, bind_at, opening}
 use Rattle.wac_stacks.specs.Good.{At, Keeps, IsHeld, Good, top}
 use Rattle.wac_stacks.specs.Laws.{Adds}
 
@@ -125,6 +127,13 @@ abbrev pub OpensInterface : Type 0
 OpensInterface = (c : Collection) (ms : List Bindings) (st : Stack) (it : Interface)
     → Good c ms st → Good c (inside_interface c it (top ms) ∷ ms) (opening (has_own c it) ∷ st)
     × ((n : Name) → (env (opening (has_own c it)) (envs st)).exports n ≡ absent)
+
+-- where the interface has no resource of its own, it is good too with value types recorded that stand at type indexes of the scope around
+abbrev pub OpensOver : Type 0
+OpensOver = (c : Collection) (m : Bindings) (ms : List Bindings) (o : Open) (os : Stack) (it : Interface) (there : AnyType → Option Where)
+    → Good c (m ∷ ms) (o ∷ os) → ((r : ResourceId) → own_name c it.uses it.exports r ≡ None)
+    → ((a : AnyType) (w : Where) → there a ≡ Some w → (v : ValueType) × (i : ℕ) × (a ≡ ty.Value v) × (w ≡ at_around i) × (o.memo a ≡ Some (at_type i)))
+    → Good c (inside_interface c it m ∷ m ∷ ms) (record (opening (has_own c it)) { memo = there } ∷ o ∷ os)
 
 -- closed, it is a type of the scope around it
 abbrev pub ClosesInstance : Type 0

@@ -16,10 +16,12 @@ pub data Content : Type 0 where
   declarations : List Decl → Content
   root : List Item → Content
 
--- where something stands in a scope: at a type index, or it is an export of an instance, with no index of its own yet
+-- where something stands in a scope: at a type index; or it has no index of its own yet, and is an export of an instance, or stands at a type
+-- index of the scope around
 pub data Where : Type 0 where
   at_type : ℕ → Where
   at_export : (instance : ℕ) → Name → Where
+  at_around : ℕ → Where
 
 -- An open scope: what was written, and what is recorded: where resources stand, and which other types, and under which names which types.
 -- A resource is pending that this scope will bind, and hasn't yet.

@@ -1,7 +1,7 @@
 //! What each step of a type encoder keeps and gives, for proofs about one. Each call does nothing else.
 
-ghost use Rattle.wac_stacks.specs.Laws.{DefinesValue, DefinesFunc, DefinesPrimitive, DefinesHandles, Reaches, BringsResource, BringsType, SettlesResource, SettlesValue, GoesOnAround, Follows, StaysIs, IsRecorded, StandsRecorded, IsItsTree, IsItsEnd, StaysOnward};
-ghost use Rattle.wac_stacks.specs.Listed.{ListsEqual, ListsFresh, ListsFunc, ListsComponent, ListsModule, ListsInstance, ListsOneMore, ListsInAnyOrder, OpensInterface, ClosesInstance, HoldsInterface, OpensWorld, TurnsToExports, ClosesComponent, HoldsWorld, FreshInInterface, CallsOwn};
+ghost use Rattle.wac_stacks.specs.Laws.{DefinesValue, DefinesFunc, DefinesPrimitive, DefinesHandles, Reaches, BringsResource, BringsType, SettlesResource, SettlesValue, BringsValue, GoesOnAround, Follows, StaysIs, IsRecorded, StandsRecorded, IsItsTree, IsItsEnd, StaysOnward};
+ghost use Rattle.wac_stacks.specs.Listed.{ListsEqual, ListsFresh, ListsFunc, ListsComponent, ListsModule, ListsInstance, ListsOneMore, ListsInAnyOrder, OpensInterface, OpensOver, ClosesInstance, HoldsInterface, OpensWorld, TurnsToExports, ClosesComponent, HoldsWorld, FreshInInterface, CallsOwn};
 ghost use Rattle.wac_stacks.specs.Instances.{BindsOwn, HasExported, ExportsEnd, HeldFurtherIn, CalledInside, HoldsValue, NamesType, ImportsInstance, ImportsType, ImportsFresh, ImportsFunc, ImportsModule, ListsImport};
 ghost use Rattle.wac_stacks.specs.Inside.{ByStep, ByItem, ByBoth, KeepsIs, SettlesThere, HasIndexHere, HasIndexAround, StartsRoot, RootGoesOn, RootBindsMore};
 ghost use Rattle.wac_stacks.specs.Beside.{GoesOnBeside};
@@ -31,6 +31,7 @@ pub fn step_law()
     ensures brings_type { BringsType }
     ensures settles_resource { SettlesResource }
     ensures settles_value { SettlesValue }
+    ensures brings_value { BringsValue }
     ensures goes_on_around { GoesOnAround }
     ensures follows { Follows }
     ensures stays_is { StaysIs }
@@ -58,6 +59,7 @@ pub fn listing_law()
 /// Types that are opened and closed: interfaces and worlds.
 pub fn closing_law()
     ensures opens_interface { OpensInterface }
+    ensures opens_over { OpensOver }
     ensures closes_instance { ClosesInstance }
     ensures holds_interface { HoldsInterface }
     ensures opens_world { OpensWorld }

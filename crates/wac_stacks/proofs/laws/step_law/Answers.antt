@@ -1,4 +1,4 @@
-use Rattle.wac_stacks.proofs.StepLaws.{defines-value, defines-func, defines-primitive, defines-handles, reaches, brings-resource, brings-type, settles-resource, settles-value, goes-on-around, follows, stays-is, is-recorded, stands-recorded, is-its-tree}
+use Rattle.wac_stacks.proofs.StepLaws.{defines-value, defines-func, defines-primitive, defines-handles, reaches, brings-resource, brings-type, settles-resource, settles-value, brings-value, goes-on-around, follows, stays-is, is-recorded, stands-recorded, is-its-tree}
 use Rattle.wac_stacks.proofs.laws.step_law.Goals as goal
 
 pub returns : goal.returns
@@ -12,6 +12,7 @@ returns c = record {
   brings_type = brings-type c.binary_laws.ensures.reads;
   settles_resource = settles-resource c.binary_laws.ensures.reads;
   settles_value = settles-value c.binary_laws.ensures.reads;
+  brings_value = brings-value c.binary_laws.ensures.reads;
   goes_on_around = goes-on-around c.binary_laws.ensures.reads;
   follows = follows;
   stays_is = stays-is;

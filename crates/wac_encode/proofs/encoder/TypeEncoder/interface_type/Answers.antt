@@ -33,27 +33,37 @@ returns-in_err-items-clause-fault c =
     let t = c.args.self.now.types.now in
     let p = err_from_is_err_and c.from_residual-in_err-items.result c.from_residual-in_err-items.ensures.1 in
     let ordered = taken-as t c.index-held.result.now.exports c.in_ok-order.order.items c.as_slice.result.now c.as_slice.ensures.value (c.in_ok-order.ensures c.index-held.result.now c.index-held.ensures) in
-    rw (p.1, p.2) (refused-whole (Unit {0}) (Option (List Decl)) t c.args.interface c.index-held.result.now (named_pairs c.as_slice.result.now) c.new-scope.result c.in_err-items.field-0.0 c.index-held.ensures ordered (record { content = c.new-scope.ensures.content ∙ ap Instance c.new.ensures; types = c.new-scope.ensures.types; listed = c.new-scope.ensures.listed }) c.in_err-items.ensures.fault)
+    rw (p.1, p.2) (refused-whole (Unit {0}) (Option (List Decl)) t c.args.interface c.index-held.result.now (named_pairs c.as_slice.result.now) c.args.around.now c.in_ok-scope.scope c.in_err-items.field-0.0 c.index-held.ensures ordered c.in_ok-scope.ensures c.in_err-items.ensures.fault)
 
 pub returns-clause-says : goal.returns-clause-says
 returns-clause-says c =
     let t = c.args.self.now.types.now in
+    let plain : are_plain c.index-held.result.now.exports ≡ true = cc in
     let exports = c.index-held.result.now.exports in
     let ordered = taken-as t exports c.in_ok-order.order.items c.as_slice.result.now c.as_slice.ensures.value (c.in_ok-order.ensures c.index-held.result.now c.index-held.ensures) in
-    says-interface t c.law.ensures c.closing_law.ensures.holds_interface c.closing_law.ensures.closes_instance c.listing_law.ensures.lists_in_any_order c.args.interface c.index-held.result.now c.items.new.scope c.instance_type-declarations.result (named_pairs c.as_slice.result.now) c.index-held.ensures
+    says-interface t c.law.ensures c.closing_law.ensures.opens_over c.closing_law.ensures.holds_interface c.closing_law.ensures.closes_instance c.listing_law.ensures.lists_in_any_order c.args.interface c.index-held.result.now c.args.around.now c.in_ok-scope.scope c.items.new.scope c.instance_type-declarations.result (named_pairs c.as_slice.result.now) c.index-held.ensures plain c.in_ok-scope.ensures
     (same-under exports (named_pairs c.as_slice.result.now) ordered.permutation c.law-2.ensures) c.in_ok-items.ensures.listed (written-content c.items.new.scope.content c.into_content.result c.instance_type-declarations.result c.into_content.ensures c.instance_type-declarations.ensures) c.in_ok-items.ensures.closes
 
 pub returns-clause-written : goal.returns-clause-written
 returns-clause-written c =
     let t = c.args.self.now.types.now in
     let ordered = taken-as t c.index-held.result.now.exports c.in_ok-order.order.items c.as_slice.result.now c.as_slice.ensures.value (c.in_ok-order.ensures c.index-held.result.now c.index-held.ensures) in
-    written-whole t c.args.interface c.index-held.result.now (named_pairs c.as_slice.result.now) c.new-scope.result c.items.new.scope c.instance_type-declarations.result c.index-held.ensures ordered (record { content = c.new-scope.ensures.content ∙ ap Instance c.new.ensures; types = c.new-scope.ensures.types; listed = c.new-scope.ensures.listed }) c.in_ok-items.ensures.wrote (written-content c.items.new.scope.content c.into_content.result c.instance_type-declarations.result c.into_content.ensures c.instance_type-declarations.ensures)
+    written-whole t c.args.interface c.index-held.result.now (named_pairs c.as_slice.result.now) c.args.around.now c.in_ok-scope.scope c.items.new.scope c.instance_type-declarations.result c.index-held.ensures ordered c.in_ok-scope.ensures c.in_ok-items.ensures.wrote (written-content c.items.new.scope.content c.into_content.result c.instance_type-declarations.result c.into_content.ensures c.instance_type-declarations.ensures)
 
 pub returns-in_err-order-clause-none : goal.returns-in_err-order-clause-none
 returns-in_err-order-clause-none c =
     let plain : are_plain c.index-held.result.now.exports ≡ true = cc in
     let p = err_from_is_err_and c.from_residual.result c.from_residual.ensures.1 in
     fault-answered (List Decl) c.args.self.now.types.now c.args.interface c.index-held.result.now c.from_residual.result p.0 c.index-held.ensures plain p.1
+
+pub items-requires-clause-empty : goal.items-requires-clause-empty
+items-requires-clause-empty c = c.in_ok-scope.ensures.content
+
+pub returns-in_err-scope-clause-none : goal.returns-in_err-scope-clause-none
+returns-in_err-scope-clause-none c =
+    let plain : are_plain c.index-held.result.now.exports ≡ true = cc in
+    let p = err_from_is_err_and c.from_residual-in_err-scope.result c.from_residual-in_err-scope.ensures.1 in
+    fault-answered (List Decl) c.args.self.now.types.now c.args.interface c.index-held.result.now c.from_residual-in_err-scope.result p.0 c.index-held.ensures plain p.1
 
 pub returns-in_err-items-clause-none : goal.returns-in_err-items-clause-none
 returns-in_err-items-clause-none c =

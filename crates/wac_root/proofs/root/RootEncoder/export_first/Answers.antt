@@ -45,7 +45,7 @@ pub returns-clause-definition : goal.returns-clause-definition
 returns-clause-definition c = first-defined c.rooted_law.ensures.stays c.rooted_law.ensures.before c.rooted_law.ensures.written_there c.alias_law.ensures c.step_law.ensures.is_its_tree c.args.self.now.types.now c.law.ensures c.args.root.now c.value_type.new.scope c.export_definition.new.self c.args.name.now c.args.value c.args.id c.in-Index.index c.in_ok-own.own c.requires.right c.requires.end c.in_ok-index.ensures.written (recorded-at c.args.self.now.types.now c.value_type.new.scope c.args.value c.args.id c.in-Index.index c.requires.end (subst (λ (x : ComponentValType). IsByRecord c.args.self.now.types.now c.value_type.new.scope c.args.value x) c.in-Index.is c.in_ok-index.ensures.recorded)) c.in_ok-own.ensures.appended c.in_ok-own.ensures.index
 
 pub returns-clause-written : goal.returns-clause-written
-returns-clause-written c = first-once c.args.self.now.types.now c.args.root.now c.value_type.new.scope c.export_definition.new.self c.args.name.now c.args.value c.args.id c.in-Index.index c.in_ok-own.own c.requires.end c.requires.unwritten c.in_ok-index.ensures.written (recorded-at c.args.self.now.types.now c.value_type.new.scope c.args.value c.args.id c.in-Index.index c.requires.end (subst (λ (x : ComponentValType). IsByRecord c.args.self.now.types.now c.value_type.new.scope c.args.value x) c.in-Index.is c.in_ok-index.ensures.recorded)) c.in_ok-own.ensures.appended c.in_ok-own.ensures.recorded
+returns-clause-written c = first-once c.args.self.now.types.now c.args.root.now c.value_type.new.scope c.export_definition.new.self c.args.name.now c.args.value c.args.id c.in-Index.index c.in_ok-own.own c.requires.end c.requires.unwritten c.in_ok-index.ensures.written (recorded-at c.args.self.now.types.now c.value_type.new.scope c.args.value c.args.id c.in-Index.index c.requires.end (subst (λ (x : ComponentValType). IsByRecord c.args.self.now.types.now c.value_type.new.scope c.args.value x) c.in-Index.is c.in_ok-index.ensures.recorded)) c.in_ok-own.ensures.appended c.in_ok-own.ensures.recorded c.in_ok-own.ensures.named
 
 pub returns-clause-right : goal.returns-clause-right
 returns-clause-right c = c.in_ok-own.ensures.right c.args.self.now.types.now (right-after c.rooted_law.ensures.stays c.rooted_law.ensures.before c.rooted_law.ensures.written_there c.step_law.ensures.is_its_tree c.args.self.now.types.now 0 (PartOf c.args.self.now.types.now (value_resolved c.args.self.now.types.now c.args.value)) c.args.root.now c.value_type.new.scope c.in_ok-index.ensures.written c.requires.right) (recorded-at c.args.self.now.types.now c.value_type.new.scope c.args.value c.args.id c.in-Index.index c.requires.end (subst (λ (x : ComponentValType). IsByRecord c.args.self.now.types.now c.value_type.new.scope c.args.value x) c.in-Index.is c.in_ok-index.ensures.recorded))

@@ -50,4 +50,4 @@ pub returns-clause-wrote : goal.returns-clause-wrote
 returns-clause-wrote c =
     let t = c.args.self.now.types.now in
     let at = recorded-at t c.value_type.new.scope c.args.value c.args.id c.in-Index.index c.requires.end (subst (λ (x : ComponentValType). IsByRecord t c.value_type.new.scope c.args.value x) c.in-Index.is c.in_ok-index.ensures.recorded) in
-    first-written t c.args.root.now c.value_type.new.scope c.import_value.new.self c.args.name.now c.args.value c.args.id c.in-Index.index c.in_ok-import.import c.requires.end c.requires.unwritten c.in_ok-index.ensures.written at c.in_ok-import.ensures.appended c.in_ok-import.ensures.recorded c.in_ok-import.ensures.index
+    first-written t c.args.root.now c.value_type.new.scope c.import_value.new.self c.args.name.now c.args.value c.args.id c.in-Index.index c.in_ok-import.import c.requires.end c.requires.unwritten c.in_ok-index.ensures.written at c.in_ok-import.ensures.appended c.in_ok-import.ensures.recorded c.in_ok-import.ensures.named c.in_ok-import.ensures.index

@@ -17,7 +17,7 @@ returns-in_err-index-clause-refused c =
 pub returns-in_err-index-clause-fault : goal.returns-in_err-index-clause-fault
 returns-in_err-index-clause-fault c =
     let p = err_from_is_err_and c.from_residual.result c.from_residual.ensures.1 in
-    rw (p.1, p.2) (instance-not-imported ℕ ℕ c.args.self.now.types.now c.still_law.ensures c.args.root.now c.args.name.now c.args.interface c.in_err-index.field-0.0 c.in_err-index.ensures.fault)
+    rw (p.1, p.2) (instance-not-imported ℕ ℕ c.args.self.now.types.now c.args.root.now c.args.name.now c.args.interface c.in_err-index.field-0.0 c.in_err-index.ensures.fault)
 
 pub returns-in_err-import-clause-refused : goal.returns-in_err-import-clause-refused
 returns-in_err-import-clause-refused c =

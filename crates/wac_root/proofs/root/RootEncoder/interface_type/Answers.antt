@@ -5,10 +5,10 @@ use Rattle.wac_encode.specs.Listing.{SaysIfThere, WritesIfThere, IsInterfaceRefu
 use Rattle.wac_root.proofs.root.RootEncoder.interface_type.Goals as goal
 
 pub returns-clause-says : goal.returns-clause-says
-returns-clause-says c = subst (λ (t : Collection). IfOk c.interface_type.result (SaysIfThere t c.args.interface)) c.new.ensures c.interface_type.ensures.says
+returns-clause-says c = subst (λ (t : Collection). IfOk c.interface_type.result (SaysIfThere t c.args.around.now c.args.interface)) c.new.ensures c.interface_type.ensures.says
 
 pub returns-clause-written : goal.returns-clause-written
-returns-clause-written c = subst (λ (t : Collection). IfOk c.interface_type.result (WritesIfThere t c.args.interface)) c.new.ensures c.interface_type.ensures.written
+returns-clause-written c = subst (λ (t : Collection). IfOk c.interface_type.result (WritesIfThere t c.args.around.now c.args.interface)) c.new.ensures c.interface_type.ensures.written
 
 pub returns-clause-fault : goal.returns-clause-fault
-returns-clause-fault c = subst (λ (t : Collection). IsInterfaceRefused t c.args.interface c.interface_type.result) c.new.ensures c.interface_type.ensures.fault
+returns-clause-fault c = subst (λ (t : Collection). IsInterfaceRefused t c.args.around.now c.args.interface c.interface_type.result) c.new.ensures c.interface_type.ensures.fault

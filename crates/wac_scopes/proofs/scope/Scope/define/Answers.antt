@@ -15,10 +15,10 @@ returns-clause-stands c =
     adds-value c.args.self.now c.record_value.new.self c.args.id (defined_of c.args.definition.now) c.in_ok-index.index c.step_law.ensures.defines_value
     (c.in_ok-index.ensures.index ∙ ap (count (space s.Type)) c.make_room.ensures.same.content)
     (c.record_value.ensures.kept ∙ c.in_ok-index.ensures.appended ∙ ap (λ (x : Encodable). and_type x (value_def (defined_of c.args.definition.now))) c.make_room.ensures.same.content)
-    (recorded-more c.args.self.now c.make_room.new.self c.record_value.new.self (ty.Value (val.Defined c.args.id)) c.in_ok-index.index c.make_room.ensures.same.types c.make_room.ensures.same.listed c.record_value.ensures.recorded.types c.record_value.ensures.recorded.listed)
+    (recorded-more c.args.self.now c.make_room.new.self c.record_value.new.self (ty.Value (val.Defined c.args.id)) c.in_ok-index.index c.make_room.ensures.same (record { types = c.record_value.ensures.recorded.types; listed = c.record_value.ensures.recorded.listed; names = c.record_value.ensures.recorded.names }))
 
 pub returns-clause-recorded : goal.returns-clause-recorded
-returns-clause-recorded c = recorded-more c.args.self.now c.make_room.new.self c.record_value.new.self (ty.Value (val.Defined c.args.id)) c.in_ok-index.index c.make_room.ensures.same.types c.make_room.ensures.same.listed c.record_value.ensures.recorded.types c.record_value.ensures.recorded.listed
+returns-clause-recorded c = recorded-more c.args.self.now c.make_room.new.self c.record_value.new.self (ty.Value (val.Defined c.args.id)) c.in_ok-index.index c.make_room.ensures.same (record { types = c.record_value.ensures.recorded.types; listed = c.record_value.ensures.recorded.listed; names = c.record_value.ensures.recorded.names })
 
 pub returns-clause-appended : goal.returns-clause-appended
 returns-clause-appended c = c.record_value.ensures.kept ∙ c.in_ok-index.ensures.appended ∙ ap (λ (x : Encodable). and_type x (value_def (defined_of c.args.definition.now))) c.make_room.ensures.same.content

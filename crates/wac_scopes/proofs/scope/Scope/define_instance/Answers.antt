@@ -13,10 +13,10 @@ returns-clause-stands c =
     adds-instance c.args.self.now c.record_interface.new.self c.args.id c.args.t.now c.in_ok-index.index
     (c.in_ok-index.ensures.index ∙ ap (count (space s.Type)) c.in_ok-make_interface_room.ensures.same.content)
     (c.record_interface.ensures.kept ∙ c.in_ok-index.ensures.appended ∙ ap (λ (x : Encodable). and_type x (instance_def (decls c.args.t.now))) c.in_ok-make_interface_room.ensures.same.content)
-    (recorded-more c.args.self.now c.make_interface_room.new.self c.record_interface.new.self (ty.Interface c.args.id) c.in_ok-index.index c.in_ok-make_interface_room.ensures.same.types c.in_ok-make_interface_room.ensures.same.listed c.record_interface.ensures.recorded.types c.record_interface.ensures.recorded.listed)
+    (recorded-more c.args.self.now c.make_interface_room.new.self c.record_interface.new.self (ty.Interface c.args.id) c.in_ok-index.index c.in_ok-make_interface_room.ensures.same (record { types = c.record_interface.ensures.recorded.types; listed = c.record_interface.ensures.recorded.listed; names = c.record_interface.ensures.recorded.names }))
 
 pub returns-clause-recorded : goal.returns-clause-recorded
-returns-clause-recorded c = recorded-more c.args.self.now c.make_interface_room.new.self c.record_interface.new.self (ty.Interface c.args.id) c.in_ok-index.index c.in_ok-make_interface_room.ensures.same.types c.in_ok-make_interface_room.ensures.same.listed c.record_interface.ensures.recorded.types c.record_interface.ensures.recorded.listed
+returns-clause-recorded c = recorded-more c.args.self.now c.make_interface_room.new.self c.record_interface.new.self (ty.Interface c.args.id) c.in_ok-index.index c.in_ok-make_interface_room.ensures.same (record { types = c.record_interface.ensures.recorded.types; listed = c.record_interface.ensures.recorded.listed; names = c.record_interface.ensures.recorded.names })
 
 pub returns-clause-appended : goal.returns-clause-appended
 returns-clause-appended c = c.record_interface.ensures.kept ∙ c.in_ok-index.ensures.appended ∙ ap (λ (x : Encodable). and_type x (instance_def (decls c.args.t.now))) c.in_ok-make_interface_room.ensures.same.content

@@ -1,6 +1,6 @@
 use Rattle.std.proofs.Common.{ap}
 use Rattle.wac_scopes.specs.declared.scope.Scope.{Scope}
-use Rattle.wac_scopes.specs.Scoped.{type_index, listed_at}
+use Rattle.wac_scopes.specs.Scoped.{type_index, named_at, listed_at}
 use Rattle.wac_scopes.proofs.ImportLaws.{imports-listing, lists-since}
 use Rattle.wac_scopes.proofs.scope.Scope.import_listing.Goals as goal
 
@@ -8,4 +8,4 @@ pub returns-clause-stands : goal.returns-clause-stands
 returns-clause-stands c = imports-listing c.args.self.now c.make_listed_room.new.self c.import_instance.new.self c.list.new.self c.args.name.now c.args.index c.in_ok-instance.instance c.args.definitions.items c.in_ok-make_listed_room.ensures.same c.in_ok-instance.ensures.stands c.list.ensures.kept c.list.ensures.listed
 
 pub returns-clause-listed : goal.returns-clause-listed
-returns-clause-listed c = lists-since c.args.self.now c.make_listed_room.new.self c.import_instance.new.self c.list.new.self c.in_ok-instance.instance c.args.definitions.items c.in_ok-make_listed_room.ensures.same (λ a. ap (λ (s : Scope). type_index s a) c.in_ok-instance.ensures.appended) (λ d. ap (λ (s : Scope). listed_at s d) c.in_ok-instance.ensures.appended) c.list.ensures.listed
+returns-clause-listed c = lists-since c.args.self.now c.make_listed_room.new.self c.import_instance.new.self c.list.new.self c.in_ok-instance.instance c.args.definitions.items c.in_ok-make_listed_room.ensures.same (λ a. ap (λ (s : Scope). type_index s a) c.in_ok-instance.ensures.appended) (λ d. ap (λ (s : Scope). listed_at s d) c.in_ok-instance.ensures.appended) (λ d. ap (λ (s : Scope). named_at s d) c.in_ok-instance.ensures.appended) c.list.ensures.listed

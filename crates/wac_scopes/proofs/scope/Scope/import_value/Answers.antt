@@ -21,10 +21,10 @@ returns-clause-stands c =
     imports-value c.args.self.now c.record_value.new.self c.args.name.now c.args.id c.args.index c.in_ok-import.import c.root_law.ensures.imports_type c.root_law.ensures.lists_import c.requires
     (c.in_ok-import.ensures.index ∙ ap (count (space s.Type)) c.in_ok-make_room.ensures.same.content)
     (c.record_value.ensures.kept ∙ c.in_ok-import.ensures.appended ∙ ap (λ (x : Encodable). and_import x c.args.name.now (e.Equal c.args.index)) c.in_ok-make_room.ensures.same.content)
-    (recorded-more c.args.self.now c.make_room.new.self c.record_value.new.self (ty.Value (val.Defined c.args.id)) c.in_ok-import.import c.in_ok-make_room.ensures.same.types c.in_ok-make_room.ensures.same.listed c.record_value.ensures.recorded.types c.record_value.ensures.recorded.listed)
+    (recorded-more c.args.self.now c.make_room.new.self c.record_value.new.self (ty.Value (val.Defined c.args.id)) c.in_ok-import.import c.in_ok-make_room.ensures.same (record { types = c.record_value.ensures.recorded.types; listed = c.record_value.ensures.recorded.listed; names = c.record_value.ensures.recorded.names }))
 
 pub returns-clause-recorded : goal.returns-clause-recorded
-returns-clause-recorded c = recorded-more c.args.self.now c.make_room.new.self c.record_value.new.self (ty.Value (val.Defined c.args.id)) c.in_ok-import.import c.in_ok-make_room.ensures.same.types c.in_ok-make_room.ensures.same.listed c.record_value.ensures.recorded.types c.record_value.ensures.recorded.listed
+returns-clause-recorded c = recorded-more c.args.self.now c.make_room.new.self c.record_value.new.self (ty.Value (val.Defined c.args.id)) c.in_ok-import.import c.in_ok-make_room.ensures.same (record { types = c.record_value.ensures.recorded.types; listed = c.record_value.ensures.recorded.listed; names = c.record_value.ensures.recorded.names })
 
 pub returns-clause-appended : goal.returns-clause-appended
 returns-clause-appended c = c.record_value.ensures.kept ∙ c.in_ok-import.ensures.appended ∙ ap (λ (x : Encodable). and_import x c.args.name.now (e.Equal c.args.index)) c.in_ok-make_room.ensures.same.content

@@ -1,5 +1,4 @@
-use Rattle.std.proofs.Common.{refl, ap}
-use Rattle.wac_scopes.specs.Scoped.{place_of}
+use Rattle.std.proofs.Common.{refl}
 use Rattle.wac_scopes.proofs.ScopedLaws.{same-types, listing-same}
 use Rattle.wac_scopes.proofs.scope.Scope.make_listed_room.Goals as goal
 
@@ -7,5 +6,6 @@ pub returns-clause-same : goal.returns-clause-same
 returns-clause-same c = record {
   content = refl;
   types = same-types c.args.self.now (record c.args.self.now { listed = c.reserve.new.self }) (λ d. refl) (λ f. refl) (λ i. refl);
-  listed = listing-same c.args.self.now (record c.args.self.now { listed = c.reserve.new.self }) (λ d. ap place_of (c.reserve.ensures.entries.2 d));
+  listed = listing-same c.args.self.now (record c.args.self.now { listed = c.reserve.new.self }) c.reserve.ensures.entries.2;
+  names = λ d. refl;
 }

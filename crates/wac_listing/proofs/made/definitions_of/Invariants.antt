@@ -1,0 +1,10 @@
+use Rattle.std.proofs.Common.{◌-◌, length}
+use Rattle.wac_reach.proofs.Universe.{types_of}
+use Rattle.wac_listing.proofs.Making.{FoundOf}
+use Rattle.wac_listing.proofs.made.definitions_of.Given as goal
+
+abbrev pub invariant-loop-next : goal.invariant-loop-next
+invariant-loop-next l = FoundOf l.fn.types l.fn.interface l.found.keys l.next
+
+abbrev pub decreases-loop-next : goal.decreases-loop-next
+decreases-loop-next l = length (types_of l.fn.types) - l.next

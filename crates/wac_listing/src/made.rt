@@ -1,0 +1,155 @@
+//! The definitions that the items of an interface are made of.
+
+ghost use Rattle.std.specs.Prelude.{◌≡◌, ◌++◌, ◌∷◌, ℕ, [], List, Some, true, IfOk, OnOk, slice_get};
+ghost use Rattle.wac_shapes.specs.declared.component.DefinedType.{DefinedType as AnyDefined};
+ghost use Rattle.wac_shapes.specs.declared.component.DefinedTypeId.{DefinedTypeId as AnId};
+ghost use Rattle.wac_shapes.specs.declared.component.Interface.{Interface as AnInterface};
+ghost use Rattle.wac_shapes.specs.declared.component.ItemKind.{ItemKind as AnyItem};
+ghost use Rattle.wac_shapes.specs.Kinds.{kind_type};
+ghost use Rattle.wac_collection.specs.Collection.{HasDefined, HasInterface, and_maybe, holds_type, item_at, seconds};
+ghost use Rattle.wac_listing.specs.Made.{AreMadeOf, parts};
+ghost use Rattle.wac_listing.specs.Found.{somes, with_ends, func_ends, item_ends, items_ends, definition_in as definition_that, definitions_in};
+
+use crate::parts::part_at;
+use indexmap::IndexSet;
+use std::alloc::{AllocError, Global};
+use wac_collection::{
+    DefinedTypeId, FuncType, InterfaceId, ItemKind, Named, Type, Types, ValueType,
+};
+
+/// Puts the definition in which a value type ends, where it does.
+fn put_end(types: &Types, found: &mut IndexSet<Type>, value: ValueType) -> Result<(), AllocError>
+    ensures { OnOk result (found.new.keys ≡ with_ends types.now found.old.keys (value ∷ [])) }
+{
+    let end = types.resolve_value_type(value);
+    if let ValueType::Defined(_) = end {
+        found.insert(Type::Value(end))?;
+    }
+    Ok(())
+}
+
+/// The same of one that may be missing.
+fn put_maybe(
+    types: &Types,
+    found: &mut IndexSet<Type>,
+    value: Option<ValueType>,
+) -> Result<(), AllocError>
+    ensures { OnOk result (found.new.keys ≡ with_ends types.now found.old.keys (and_maybe value [])) }
+{
+    match value {
+        Some(value) => put_end(types, found, value),
+        None => Ok(()),
+    }
+}
+
+/// The same of the parameters of a function.
+fn put_fields(
+    types: &Types,
+    found: &mut IndexSet<Type>,
+    fields: &Named<ValueType>,
+) -> Result<(), AllocError>
+    ensures { OnOk result (found.new.keys ≡ with_ends types.now found.old.keys (seconds fields.now)) }
+{
+    for i in 0..fields.len() {
+        put_end(types, found, *fields.value_at(i))?;
+    }
+    Ok(())
+}
+
+/// The same of a function type.
+fn put_func(types: &Types, found: &mut IndexSet<Type>, func: &FuncType) -> Result<(), AllocError>
+    ensures { OnOk result (found.new.keys ≡ func_ends types.now found.old.keys func.now) }
+{
+    put_fields(types, found, &func.params)?;
+    put_maybe(types, found, func.result)
+}
+
+/// The same of an item.
+fn put_item(types: &Types, found: &mut IndexSet<Type>, item: ItemKind) -> Result<(), AllocError>
+    requires { holds_type types.now (kind_type item) ≡ true }
+    ensures { OnOk result (found.new.keys ≡ item_ends types.now found.old.keys item) }
+{
+    match item {
+        ItemKind::TypeItem(Type::Value(value)) => put_end(types, found, value),
+        ItemKind::Func(func) => put_func(types, found, &types[func]),
+        _ => Ok(()),
+    }
+}
+
+/// The same of items.
+fn put_items(
+    types: &Types,
+    found: &mut IndexSet<Type>,
+    items: &Named<ItemKind>,
+) -> Result<(), AllocError>
+    requires { (k : ℕ) (e : List ℕ × AnyItem) → slice_get items.now k ≡ Some e → holds_type types.now (kind_type e.1) ≡ true }
+    ensures { OnOk result (found.new.keys ≡ items_ends types.now found.old.keys items.now) }
+{
+    for i in 0..items.len() {
+        put_item(types, found, *items.value_at(i))?;
+    }
+    Ok(())
+}
+
+/// The same of the parts of a definition.
+fn put_parts(types: &Types, found: &mut IndexSet<Type>, id: DefinedTypeId) -> Result<(), AllocError>
+    requires { HasDefined types.now id }
+    ensures { OnOk result ((x : AnyDefined) → item_at types.now.defined id.0 ≡ Some x → found.new.keys ≡ with_ends types.now found.old.keys (somes (parts x))) }
+{
+    let definition = &types[id];
+    let mut next = 0;
+    while let Some(part) = part_at(definition, next) {
+        put_maybe(types, found, part)?;
+        next += 1;
+    }
+    Ok(())
+}
+
+/// The definition that a type is.
+fn definition_in(ty: Type) -> Option<DefinedTypeId>
+    ensures { result ≡ definition_that ty }
+{
+    match ty {
+        Type::Value(ValueType::Defined(id)) => Some(id),
+        _ => None,
+    }
+}
+
+/// The definitions among types.
+fn definitions_among(alloc: Global, types: &[Type]) -> Result<Vec<DefinedTypeId>, AllocError>
+    ensures { IfOk result (λ ds. ds.items ≡ definitions_in types.now) }
+{
+    let mut definitions = Vec::new(alloc);
+    for ty in types {
+        if let Some(id) = definition_in(*ty) {
+            definitions.push(id)?;
+        }
+    }
+    Ok(definitions)
+}
+
+/// The definitions that the items of an interface are made of, each once: those in which the value types end that they mention, and those
+/// in which the parts of these end, and so on. Linear, without recursion.
+///
+/// Answers `AllocError` where memory ran out.
+pub fn definitions_of(
+    types: &Types,
+    interface: InterfaceId,
+) -> Result<Vec<DefinedTypeId>, AllocError>
+    requires { HasInterface types.now interface }
+    ensures held { IfOk result (λ ds. (k : ℕ) (d : AnId) → slice_get ds.items k ≡ Some d → HasDefined types.now d) }
+    ensures made { IfOk result (λ ds. (it : AnInterface) → item_at types.now.interfaces interface.0 ≡ Some it → AreMadeOf types.now it.exports ds.items) }
+{
+    types.law();
+    let alloc = types.allocator();
+    let mut found = IndexSet::new(alloc);
+    put_items(types, &mut found, &types[interface].exports)?;
+    let mut next = 0;
+    while next < found.len() {
+        if let Some(id) = definition_in(found.as_slice()[next]) {
+            put_parts(types, &mut found, id)?;
+        }
+        next += 1;
+    }
+    definitions_among(alloc, found.as_slice())
+}
