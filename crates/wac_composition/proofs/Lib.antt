@@ -1,6 +1,6 @@
 pub mod ListedLemmas
 pub mod DefiningLemmas
+mod CheckedLemmas
 mod FittingLemmas
-pub mod RootLemmas
 pub mod ConflictFreeLemmas
 pub mod WantedAskedLemmas

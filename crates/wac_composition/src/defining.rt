@@ -1,5 +1,5 @@
 //! Definitions of types.
-ghost use Rattle.std.specs.Prelude.{◌≡◌, true, IfOk, MatchResult, Err};
+ghost use Rattle.std.specs.Prelude.{◌≡◌, true, IfOk, MatchResult, OnErr, Ok, Err, string_bytes};
 ghost use Rattle.wac_collection.specs.Collection.{holds_type};
 ghost use Rattle.wac_fields.specs.Definable.{IsDefinable};
 ghost use Rattle.wac_nodes.specs.Definitions.{definition_node};
@@ -26,12 +26,23 @@ impl CompositionGraph {
         self.check_definition(name, ty)?;
         let node = definition(self.alloc, name, ty)?;
         let key = String::from_str(self.alloc, name)?;
+        Ok(self.add_definition(key, ty, node)?)
+    }
+
+    /// Adds a definition that may be made; where memory runs out nothing has changed.
+    fn add_definition(&mut self, name: String, ty: Type, node: Node) -> Result<NodeId, AllocError>
+        requires held { holds_type self.old.types ty ≡ true }
+        requires definable { IsDefinable self.old (string_bytes name) ty }
+        requires node { node_of node ≡ definition_node (string_bytes name) ty }
+        ensures defined { IfOk result (λ id. Defines self.old (string_bytes name) ty (Ok id) self.new) }
+        ensures kept { OnErr result (self.new ≡ self.old) }
+    {
         self.nodes.reserve(1)?;
         self.exports.reserve(1)?;
         let id = NodeId(self.nodes.vacant_key());
         self.lost.prepare(self.exports.len() + 1, id.0, false)?;
         add_dependencies(&self.nodes, &self.types, &mut self.edges, ty, id)?;
-        self.exports.insert(key, id).unwrap();
+        self.exports.insert(name, id).unwrap();
         self.nodes.insert_reserved(node);
         Ok(id)
     }

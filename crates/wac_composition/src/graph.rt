@@ -1,6 +1,6 @@
 //! The composition graph.
 ghost use Rattle.std.specs.Prelude.{◌≡◌, ◌==◌, ◌↔◌, ℕ, true, false, IsSome, IsTrue, is_some, IfOk, IfSome, IfNone, Some, None, Ok, Err, length, slice_get};
-ghost use Rattle.std.specs.Option.{option_map, option_copied};
+ghost use Rattle.std.specs.Option.{option_map};
 ghost use Rattle.slab.specs.Slab.{ContainsKey, get, with_value};
 ghost use Rattle.semver.specs.Identifiers.{parts_of};
 ghost use Rattle.wac_collection.specs.Collection.{IsWellFormed, holds_type, resource_mentions, func_mentions, defined_mentions, with_resource, with_func, with_defined, with_interface, with_world, with_module};
@@ -9,7 +9,7 @@ ghost use Rattle.wac_collection.specs.Package.{HoldsPackage, with_instance_of, p
 ghost use Rattle.wac_collection.specs.Uses.{AnswersBy, mention_fault, interface_fault, world_fault};
 ghost use Rattle.wac_subtyping.specs.TreeLaws.{GrowthKeepsTrees};
 ghost use Rattle.wac_shapes.specs.declared.component.«Type».TheVariants.{World as world_type};
-ghost use Rattle.wac_nodes.specs.Graph.{node_at, package_at, export_at, package_in, import_name, IsRegistered, IsAliasOf, IsSourceOf};
+ghost use Rattle.wac_nodes.specs.Graph.{node_at, package_at, export_at, import_name, IsRegistered, IsAliasOf, IsSourceOf};
 ghost use Rattle.wac_edges.specs.declared.node.NodeId.{NodeId as AnId};
 ghost use Rattle.wac_nodes.specs.Sound.{IsSound};
 ghost use Rattle.wac_nodes.specs.Steps.{IsEmpty, Adds, Registers, Imports, Instantiates, Aliases, SetsArgument, UnsetsArgument, SetsName, Exports, Unexports};
@@ -24,10 +24,10 @@ use std::collections::BTreeSet;
 use std::marker::Model;
 use std::ops::Index;
 use wac_edges::edges::{Edge, Edges, Label};
+use wac_encoding::package_in_slots;
 use wac_nodes::{
     AliasError, BorrowedPackageKey, ExportError, ImportError, InstantiationArgumentError, Node,
-    NodeId, NodeKind, PackageId, RegisterPackageError, Slot, UnexportError, export_fault,
-    import_fault,
+    NodeId, NodeKind, PackageId, RegisterPackageError, Slot, UnexportError,
 };
 use wac_removing::{Lost, next_id, put_package};
 use wac_types::laws::growth_keeps_trees;
@@ -257,15 +257,7 @@ impl CompositionGraph {
         ensures step { Imports self.old name.now kind result self.new }
         ensures there { IfOk result (λ id. IsSome (node_at self.new id)) }
     {
-        if let Some(other) = self.imports.get(name) {
-            let node = *other;
-            let name = String::from_str(self.alloc, name)?;
-            return Err(ImportError::ImportAlreadyExists { name, node });
-        }
-        if let Some(source) = import_fault(self.alloc, name)? {
-            let name = String::from_str(self.alloc, name)?;
-            return Err(ImportError::InvalidImportName { name, source });
-        }
+        self.check_import(name)?;
         let key = String::from_str(self.alloc, name)?;
         let own = String::from_str(self.alloc, name)?;
         self.nodes.reserve(1)?;
@@ -325,25 +317,9 @@ impl CompositionGraph {
         ensures step { Aliases self.old instance export.now result self.new }
         ensures there { IfOk result (λ alias. IsSome (node_at self.new alias)) }
     {
+        let (position, item_kind) = self.export_of(instance, export)?;
         self.types.law();
-        let node = &self.nodes[instance.0];
-        let package = node.package;
-        let item_kind = node.item_kind;
-        let ItemKind::Instance(interface) = item_kind else {
-            let kind = item_kind.desc(&self.types);
-            return Err(AliasError::NodeIsNotAnInstance {
-                node: instance,
-                kind,
-            });
-        };
-        let Some((position, item_kind)) = self.types[interface].exports.get_full(export) else {
-            let export = String::from_str(self.alloc, export)?;
-            return Err(AliasError::InstanceMissingExport {
-                node: instance,
-                export,
-            });
-        };
-        let item_kind = *item_kind;
+        let package = self.nodes[instance.0].package;
         if let Some(alias) = self.edges.alias(instance, position) {
             return Ok(alias);
         }
@@ -435,15 +411,7 @@ impl CompositionGraph {
         requires { IsSome (node_at self.old node) }
         ensures { Exports self.old node name.now result self.new }
     {
-        if let Some(other) = self.exports.get(name) {
-            let node = *other;
-            let name = String::from_str(self.alloc, name)?;
-            return Err(ExportError::ExportAlreadyExists { name, node });
-        }
-        if let Some(source) = export_fault(self.alloc, name)? {
-            let name = String::from_str(self.alloc, name)?;
-            return Err(ExportError::InvalidExportName { name, source });
-        }
+        self.check_export(name)?;
         let key = String::from_str(self.alloc, name)?;
         let own = String::from_str(self.alloc, name)?;
         let is_named = self.nodes[node.0].export_name.is_some();
@@ -514,22 +482,6 @@ fn growth_law(types: &Types)
 {
     growth_keeps_trees(types);
     types.law();
-}
-
-/// The package of an id, where the slot holds one of the id's generation.
-pub(crate) fn package_in_slots(slots: &[Slot], id: PackageId) -> Option<&Package>
-    ensures { option_copied result ≡ package_in (slice_get slots.now id.slot) id }
-{
-    match slots.get(id.slot) {
-        Some(slot) => {
-            if slot.generation == id.generation {
-                slot.package.as_ref()
-            } else {
-                None
-            }
-        }
-        None => None,
-    }
 }
 
 fn set_export_name(nodes: &mut Slab<Node>, number: usize, name: String)

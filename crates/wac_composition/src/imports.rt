@@ -4,7 +4,7 @@ ghost use Rattle.std.specs.BTreeSet as positions;
 ghost use Rattle.std.specs.Ordering.{nat_cmp};
 ghost use Rattle.wac_edges.specs.Edge.{node_number};
 ghost use Rattle.wac_nodes.specs.Graph.{node_at};
-ghost use Rattle.wac_nodes.specs.Imports.{asked_rows, node_rows};
+ghost use Rattle.wac_nodes.specs.Imports.{asked_rows};
 ghost use Rattle.wac_asking.specs.ImportsLeft.{unset_from, node_left, instantiations_left, nodes_left};
 
 use crate::graph::CompositionGraph;
@@ -128,15 +128,6 @@ impl CompositionGraph {
             }
         }
         None
-    }
-
-    /// The name and the kind of the node of this number, where it is an import node.
-    pub(crate) fn import_node_at(&self, n: usize) -> Option<(&str, ItemKind)>
-        ensures { MatchOption result (node_rows self.now n ≡ []) (λ r. node_rows self.now n ≡ (r.0.now, r.1, Some (node_number n)) ∷ []) }
-    {
-        let node = self.nodes.get(n)?;
-        let name = node.import_name()?;
-        Some((name, node.item_kind))
     }
 }
 

@@ -7,6 +7,7 @@
 mod arguments;
 mod arguments_of;
 mod asked;
+mod checking;
 mod clones;
 mod conflicts;
 mod defining;
@@ -17,9 +18,7 @@ mod imports;
 mod iterators;
 mod lookups;
 mod merging;
-mod naming;
 mod removing;
-mod sources;
 mod validating;
 mod wanted;
 mod writing;

@@ -1,26 +1,41 @@
-//! What is looked up of a graph's instantiations.
-ghost use Rattle.std.specs.Prelude.{◌≡◌, IsSomeAnd, IfSome, Some};
+//! What is looked up of a graph by what encodes it.
+ghost use Rattle.std.specs.Prelude.{◌≡◌, ◌∷◌, [], false, IsSomeAnd, IfSome, MatchOption, Some};
 ghost use Rattle.wac_edges.specs.Edge.{node_number};
-ghost use Rattle.wac_nodes.specs.Graph.{node_at, package_at, imports_of, instantiation};
+ghost use Rattle.wac_edges.specs.declared.node.NodeId.{NodeId as AnId};
+ghost use Rattle.wac_nodes.specs.Graph.{node_at, package_at, imports_of, instantiation, definition};
+ghost use Rattle.wac_nodes.specs.Imports.{node_rows};
 
-use crate::graph::{CompositionGraph, package_in_slots};
+use crate::graph::CompositionGraph;
+use wac_encoding::GraphReader;
 use wac_nodes::PackageId;
 use wac_types::{ItemKind, Named, Package};
 
 impl CompositionGraph {
+    /// What is read of the graph.
+    pub(crate) fn reader(&self) -> GraphReader<'_>
+        ensures { result ≡ self.now }
+    {
+        GraphReader {
+            alloc: self.alloc,
+            types: &self.types,
+            nodes: &self.nodes,
+            edges: &self.edges,
+            imports: &self.imports,
+            exports: &self.exports,
+            package_map: &self.package_map,
+            slots: &self.slots,
+            vacant: &self.vacant,
+            lost: &self.lost,
+        }
+    }
+
     /// The package of an instantiation, with its id.
     pub(crate) fn package_of(&self, n: usize) -> (PackageId, &Package)
         requires { IsSomeAnd (node_at self.now (node_number n)) (λ node. node.kind ≡ instantiation) }
         ensures owner { IfSome (node_at self.now (node_number n)) (λ node. node.owner ≡ Some result.0) }
         ensures registered { package_at self.now result.0 ≡ Some result.1.now }
     {
-        let Some(id) = self.nodes[n].package else {
-            unreachable!()
-        };
-        match package_in_slots(&self.slots, id) {
-            Some(package) => (id, package),
-            None => unreachable!(),
-        }
+        self.reader().package_of(n)
     }
 
     /// What the world of an instantiation's package imports.
@@ -28,7 +43,20 @@ impl CompositionGraph {
         requires { IsSomeAnd (node_at self.now (node_number n)) (λ node. node.kind ≡ instantiation) }
         ensures { IfSome (node_at self.now (node_number n)) (λ node. result.now ≡ imports_of self.now node) }
     {
-        let (_, package) = self.package_of(n);
-        &self.types[package.ty()].imports
+        self.reader().imports_at(n)
+    }
+
+    /// The name and the kind of the node of this number, where it is an import node.
+    pub(crate) fn import_node_at(&self, n: usize) -> Option<(&str, ItemKind)>
+        ensures { MatchOption result (node_rows self.now n ≡ []) (λ r. node_rows self.now n ≡ (r.0.now, r.1, Some (node_number n)) ∷ []) }
+    {
+        self.reader().import_node_at(n)
+    }
+
+    /// Whether a node is a definition.
+    pub(crate) fn has_definition(&self) -> bool
+        ensures { result ≡ false → (n : AnId) → IsSomeAnd (node_at self.now n) (λ node. node.kind ≡ definition) → ⊥ }
+    {
+        self.reader().has_definition()
     }
 }

@@ -1,11 +1,9 @@
 //! Whether the outer names of what a graph composes may stand together.
-ghost use Rattle.std.specs.Prelude.{◌≡◌, true, IfErr, IfOk, IsTrue, OnOk};
-ghost use Rattle.std.specs.List.{flat_map};
-ghost use Rattle.wac_causes.specs.OuterNames.{first_name_of, written_exports};
+ghost use Rattle.std.specs.Prelude.{◌≡◌, true, IfErr, IsTrue, OnOk};
+ghost use Rattle.wac_causes.specs.OuterNames.{written_exports};
 ghost use Rattle.wac_causes.specs.Search.{NamesFault};
 ghost use Rattle.wac_validation.specs.FirstFault.{Fault, IsFirstFault};
 ghost use Rattle.wac_validation.specs.Valid.{AreValid};
-ghost use Rattle.wac_validation.specs.Views.{texts};
 ghost use Rattle.wac_writing.specs.Places.{names_of};
 
 use crate::graph::CompositionGraph;
@@ -34,34 +32,8 @@ impl CompositionGraph {
         }
         one_answer();
         let imports = import_names(self.alloc, merge.imports())?;
-        let exports = self.export_names(order)?;
+        let exports = self.reader().export_names(order)?;
         validate(self.alloc, &imports, &exports)?;
         Ok(())
-    }
-
-    /// The names of the exports, where the nodes are written in this order: the first names of definitions, then the others.
-    fn export_names(&self, order: &[NodeId]) -> Result<Vec<&str>, AllocError>
-        ensures { IfOk result (λ names. texts names.items ≡ written_exports self.now order.now) }
-    {
-        let mut names = self.first_names(order)?;
-        for i in 0..self.exports.len() {
-            if let Some((name, _)) = self.further_export(i) {
-                names.push(name)?;
-            }
-        }
-        Ok(names)
-    }
-
-    /// The first names of the definitions among these nodes, in order.
-    fn first_names(&self, order: &[NodeId]) -> Result<Vec<&str>, AllocError>
-        ensures { IfOk result (λ names. texts names.items ≡ flat_map (first_name_of self.now) order.now) }
-    {
-        let mut names = Vec::new(self.alloc);
-        for n in order {
-            if let Some(name) = self.first_name(*n) {
-                names.push(name)?;
-            }
-        }
-        Ok(names)
     }
 }

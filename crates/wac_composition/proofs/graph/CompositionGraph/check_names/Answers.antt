@@ -17,7 +17,7 @@ returns-in_err-validate-clause-fault c =
     let imports : List Name = names_of c.args.merge.now.merge.imports in
     let names : List Name = written_exports c.args.self.now c.args.order.now in
     let first : texts c.deref.result.now ≡ imports = ap texts c.deref.ensures.value ∙ c.in_ok-imports.ensures ∙ entry_names c.imports.result.now ∙ ap names_of c.imports.ensures in
-    let same : texts c.deref-2.result.now ≡ names = ap texts c.deref-2.ensures.value ∙ c.in_ok-exports.ensures in
+    let same : texts c.deref-2.result.now ≡ names = ap texts c.deref-2.ensures.value ∙ c.in_ok-exports.ensures ∙ ap (λ g. written_exports g c.args.order.now) c.reader.ensures in
     exit_cause (λ e. IsTrue c.args.asked × NamesFault (IsFirstFault imports names) e) c.from_residual-in_err-validate.result (validation_failure (c.in_err-validate.field-0).0) c.from_residual-in_err-validate.ensures.1 (
       c.if-not-asked.false,
       refusal_names (IsFirstFault imports names) (c.one_answer.ensures imports names).one_fault (c.in_err-validate.field-0).0
@@ -28,7 +28,7 @@ pub returns-clause-valid : goal.returns-clause-valid
 returns-clause-valid c = λ asked.
     let names : List Name = written_exports c.args.self.now c.args.order.now in
     let first : texts c.deref.result.now ≡ names_of c.args.merge.now.merge.imports = ap texts c.deref.ensures.value ∙ c.in_ok-imports.ensures ∙ entry_names c.imports.result.now ∙ ap names_of c.imports.ensures in
-    let same : texts c.deref-2.result.now ≡ names = ap texts c.deref-2.ensures.value ∙ c.in_ok-exports.ensures in
+    let same : texts c.deref-2.result.now ≡ names = ap texts c.deref-2.ensures.value ∙ c.in_ok-exports.ensures ∙ ap (λ g. written_exports g c.args.order.now) c.reader.ensures in
     subst (λ ys. AreValid ys names) first (subst (λ xs. AreValid (texts c.deref.result.now) xs) same c.in_ok-validate.ensures)
 
 pub returns-clause-none : goal.returns-clause-none

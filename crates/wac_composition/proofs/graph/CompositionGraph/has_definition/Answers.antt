@@ -1,11 +1,8 @@
-use Rattle.std.proofs.Common.{arith, subst}
-use Rattle.wac_nodes.specs.Sound.{IsSound}
-use Rattle.wac_writing.proofs.FurtherRows.{exports_length}
-use Rattle.wac_composition.specs.Inside.{fields_of}
-use Rattle.wac_composition.proofs.WantedAskedLemmas.{no_definition}
+use Rattle.std.proofs.Common.{◌≡◌, subst}
+use Rattle.std.specs.Prelude.{IsSomeAnd}
+use Rattle.wac_edges.specs.declared.node.NodeId.{NodeId}
+use Rattle.wac_nodes.specs.Graph.{node_at, definition}
 use Rattle.wac_composition.proofs.graph.CompositionGraph.has_definition.Goals as goal
 
 pub returns : goal.returns
-returns c = λ none.
-    let sound : IsSound c.args.self.now = subst IsSound c.self.view_is c.self.invariant.sound in
-    no_definition c.args.self.now sound (λ i low first. c.loop-i.invariant i (omega (arith, low, c.loop-i-test.false, c.len-i-end.ensures.len, exports_length (fields_of c.self.inside) c.args.self.now c.self.view_is)) first)
+returns c = λ none. subst (λ g. (n : NodeId) → IsSomeAnd (node_at g n) (λ node. node.kind ≡ definition) → ⊥) c.reader.ensures (c.has_definition.ensures none)

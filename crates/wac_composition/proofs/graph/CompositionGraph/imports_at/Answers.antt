@@ -1,13 +1,11 @@
-use Rattle.std.proofs.Common.{ap, sym, ◌∙◌}
-use Rattle.wac_collection.specs.Collection.{item_at}
-use Rattle.wac_fields.specs.Fields.{graph_of}
-use Rattle.wac_writing.proofs.EncodingLemmas.{world_registered, imports_now}
-use Rattle.wac_composition.specs.Inside.{fields_of}
+use Rattle.std.proofs.Common.{◌≡◌, IfSome, sym, subst}
+use Rattle.std.specs.Prelude.{IsSomeAnd}
+use Rattle.wac_edges.specs.Edge.{node_number}
+use Rattle.wac_nodes.specs.Graph.{node_at, imports_of, instantiation}
 use Rattle.wac_composition.proofs.graph.CompositionGraph.imports_at.Goals as goal
 
-pub index-requires : goal.index-requires
-index-requires c = rw c.ty.ensures (world_registered (fields_of c.self.inside) c.self.invariant c.package_of.result.0 c.package_of.result.1.now (rw (← c.self.view_is) at c.package_of.ensures.registered))
+pub imports_at-requires : goal.imports_at-requires
+imports_at-requires c = subst (λ g. IsSomeAnd (node_at g (node_number c.args.n)) (λ node. node.kind ≡ instantiation)) (sym c.reader.ensures) c.requires
 
 pub returns : goal.returns
-returns c = rw (← c.self.view_is) (imports_now (graph_of (fields_of c.self.inside)) c.args.n c.package_of.result.0 c.package_of.result.1.now c.index.result.now (rw (← c.self.view_is) at c.package_of.ensures.owner) (rw (← c.self.view_is) at c.package_of.ensures.registered)
-    (ap (λ w. item_at (c.self.inside.types).worlds w.0) (sym c.ty.ensures) ∙ c.index.ensures))
+returns c = subst (λ g. IfSome (node_at g (node_number c.args.n)) (λ node. c.imports_at.result.now ≡ imports_of g node)) c.reader.ensures c.imports_at.ensures

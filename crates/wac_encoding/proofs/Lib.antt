@@ -1,0 +1,4 @@
+pub mod NoImportLemmas
+mod DefinitionExports
+mod RootLemmas
+mod NamesLemmas

@@ -1,0 +1,74 @@
+//! The names of exports, in the order in which they are written.
+ghost use Rattle.std.specs.List.{flat_map};
+ghost use Rattle.std.specs.Prelude.{◌≡◌, IfOk, [], ◌∷◌, MatchOption};
+ghost use Rattle.wac_causes.specs.OuterNames.{first_name_of, written_exports};
+ghost use Rattle.wac_meaning.specs.Means.{is_first};
+ghost use Rattle.wac_nodes.specs.Nodes.{node_of};
+ghost use Rattle.wac_validation.specs.Views.{texts};
+ghost use Rattle.wac_writing.specs.Further.{further_at};
+
+use crate::reader::GraphReader;
+use std::alloc::AllocError;
+use wac_nodes::{Node, NodeId};
+
+impl<'a> GraphReader<'a> {
+    /// The names of the exports, where the nodes are written in this order: the first names of definitions, then the others.
+    pub fn export_names(&self, order: &[NodeId]) -> Result<Vec<&'a str>, AllocError>
+        ensures { IfOk result (λ names. texts names.items ≡ written_exports self.now order.now) }
+    {
+        let mut names = self.first_names(order)?;
+        for i in 0..self.exports.len() {
+            if let Some((name, _)) = self.further_export(i) {
+                names.push(name)?;
+            }
+        }
+        Ok(names)
+    }
+
+    /// The first names of the definitions among these nodes, in order.
+    fn first_names(&self, order: &[NodeId]) -> Result<Vec<&'a str>, AllocError>
+        ensures { IfOk result (λ names. texts names.items ≡ flat_map (first_name_of self.now) order.now) }
+    {
+        let mut names = Vec::new(self.alloc);
+        for n in order {
+            if let Some(name) = self.first_name(*n) {
+                names.push(name)?;
+            }
+        }
+        Ok(names)
+    }
+
+    /// The first name of a definition; none of another node.
+    pub(crate) fn first_name(&self, n: NodeId) -> Option<&'a str>
+        ensures { MatchOption result (first_name_of self.now n ≡ []) (λ name. first_name_of self.now n ≡ name.now ∷ []) }
+    {
+        match self.nodes.get(n.0) {
+            Some(node) => match &node.first_name {
+                Some(name) => Some(name.as_str()),
+                None => None,
+            },
+            None => None,
+        }
+    }
+
+    /// The name and the node of the export at a position; none past the last, and where the name is a definition's first one.
+    pub(crate) fn further_export(&self, i: usize) -> Option<(&'a str, NodeId)>
+        ensures { MatchOption result (further_at self.now i ≡ []) (λ e. further_at self.now i ≡ (e.0.now, e.1) ∷ []) }
+    {
+        let (name, id) = self.exports.get_index(i)?;
+        if is_first_name(&self.nodes[id.0], name.as_str()) {
+            return None;
+        }
+        Some((name.as_str(), *id))
+    }
+}
+
+/// Whether the name is that by which a definition was exported first.
+fn is_first_name(node: &Node, name: &str) -> bool
+    ensures { result ≡ is_first (node_of node.now) name.now }
+{
+    match &node.first_name {
+        Some(first) => name == first.as_str(),
+        None => false,
+    }
+}

@@ -1,0 +1,16 @@
+//! What is written of a graph, behind the imports of what it asks for: its nodes in order, its exports and the names of its nodes.
+//!
+//! A layer of `wac_graph`, whose crate is the door.
+#![tactic(auto)]
+
+mod encoder;
+mod exports;
+mod lookups;
+mod naming;
+mod order;
+mod reader;
+mod sources;
+mod writer;
+
+pub use lookups::package_in_slots;
+pub use reader::GraphReader;
