@@ -1,9 +1,9 @@
 //! Whether what a graph asks for can be merged into one import for each class.
-ghost use Rattle.std.specs.Prelude.{◌≡◌, map, IfErr, IfOk, OnOk, String as AText};
-ghost use Rattle.std.specs.Global.{Global as AGlobal};
-ghost use Rattle.wac_agreement.specs.declared.fault.MergeFault.TheVariants as fault_of;
+ghost use Rattle.std.specs.Prelude.{◌≡◌, map, IfErr, IfOk, OnOk, string_bytes};
 ghost use Rattle.std.specs.List.{AllByRecursion};
 ghost use Rattle.wac_merge.specs.Aggregate.{IsFault};
+ghost use Rattle.wac_entries.specs.Classes.{by_names};
+ghost use Rattle.wac_agreement.specs.Faults.{Disagrees};
 ghost use Rattle.wac_causes.specs.Cause.{HasMerge, HasNoConflict};
 ghost use Rattle.wac_nodes.specs.Entries.{asked_entries, to_merge};
 ghost use Rattle.wac_asking.specs.EntriesLeft.{entry_view, IsHeldKind};
@@ -71,9 +71,13 @@ impl CompositionGraph {
         ensures { IfOk result (λ e. (o : Asked) → IsRefused self.now o e) }
     {
         match fault {
+            MergeFault::Disagree {
+                first,
+                second,
+                export,
+            } => self.disagreement(entries, first, second, export),
             MergeFault::UseEachOther { import } => Ok(EncodeError::ImportsUseEachOther { import }),
             MergeFault::OutOfMemory => Ok(EncodeError::OutOfMemory),
-            fault => self.disagreement(entries, fault),
         }
     }
 
@@ -81,22 +85,19 @@ impl CompositionGraph {
     fn disagreement(
         &self,
         entries: &[AskedEntry<'_>],
-        fault: MergeFault,
+        first: usize,
+        second: usize,
+        export: String,
     ) -> Result<EncodeError, AllocError>
         requires acyclic { IsAcyclic self.now.edges }
         requires apart { HasNoConflict self.now }
         requires entries { map entry_view entries.now ≡ asked_entries self.now }
-        requires fault { IsFault self.now.types (to_merge (asked_entries self.now)) fault }
-        requires circle { (import : AText AGlobal) → fault ≡ fault_of.UseEachOther import → ⊥ }
-        requires memory { fault ≡ fault_of.OutOfMemory → ⊥ }
+        requires disagree { Disagrees by_names self.now.types (to_merge (asked_entries self.now)) first second (string_bytes export) }
         ensures { IfOk result (λ e. (o : Asked) → IsRefused self.now o e) }
     {
         self.law();
-        let MergeFault::Disagree { first, second, .. } = &fault else {
-            unreachable!()
-        };
-        let earlier = NodeId(entries[*first].node);
-        let later = entries[*second];
+        let earlier = NodeId(entries[first].node);
+        let later = entries[second];
         let import = String::from_str(self.alloc, later.name)?;
         if self.import_node_at(later.node).is_some() {
             return Ok(EncodeError::ExplicitImportMergeConflict {
@@ -109,7 +110,11 @@ impl CompositionGraph {
             import,
             first: earlier,
             second: NodeId(later.node),
-            source: fault,
+            source: MergeFault::Disagree {
+                first,
+                second,
+                export,
+            },
         })
     }
 }
