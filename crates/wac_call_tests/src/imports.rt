@@ -153,14 +153,15 @@ const SECTIONS: &[(&[(Call<'static>, &str)], &[&str])] = &[
             "050901000001016b001100",
         ],
     ),
-    // The interface that is used is imported before; the enum is written in each of both, which list it.
+    // The interface that is used is imported before; its enum is aliased from the instance, and the other interface lists that alias from around.
     (
         USING,
         &[
             "070f014202016d01016104000174030000",
             "0a0a0100056e3a702f6a0500",
-            "070f014202016d01016104000174030000",
-            "0a0a0100056e3a702f690501",
+            "0606010300000174",
+            "070f014202020302010104000174030000",
+            "0a0a0100056e3a702f690502",
         ],
     ),
 ];
