@@ -1,4 +1,4 @@
--- Which nodes give names to indexes; cited by private functions alone, nothing public rests on it.
+-- Which nodes give names to indexes; cited by layers below the door of the graph alone, no call on a graph rests on it.
 use Rattle.std.specs.Prelude.{ℕ, ◌≡◌, ◌≤◌, ◌↔◌, List, map, IsSome, IsSomeAnd, MatchOption, Some, slice_get}
 use Rattle.std.specs.BTreeMap as tree
 use Rattle.std.specs.BTreeMap.{BTreeMap}
