@@ -16,12 +16,14 @@ use Rattle.wac_collection.specs.Aliases.{value_resolved}
 use Rattle.wac_binary.specs.Items.{value_def, primitive_def}
 use Rattle.wac_binary.specs.declared.sorts.Description.{Description}
 use Rattle.wac_binary.specs.declared.sorts.Description.TheVariants as e
+use Rattle.wac_binary.specs.declared.sorts.Sort.TheVariants as sort
+use Rattle.wac_binary.specs.Indexes.{space}
 use Rattle.wac_binary.specs.declared.types.ComponentValType.TheVariants.{Primitive, Index}
 use Rattle.wac_scopes.specs.declared.fault.EncodeFault.{EncodeFault}
 use Rattle.wac_scopes.specs.declared.fault.EncodeFault.TheVariants as fault
 use Rattle.wac_scopes.specs.declared.fault.WriteFault.TheVariants as write
 use Rattle.wac_scopes.specs.declared.scope.Scope.{Scope}
-use Rattle.wac_scopes.specs.Contents.{and_type, and_export, ContentFits}
+use Rattle.wac_scopes.specs.Contents.{and_type, and_export, count, ContentFits}
 use Rattle.wac_stacks.specs.Laws.{StaysOnward}
 use Rattle.wac_scopes.specs.Scoped.{type_index, value_index, named_at, by_index, in_use, HasToo, AddsPrimitive, ListsValue, WritesUnlessTooLarge, FitsUnlessTooLarge, listing}
 use Rattle.wac_listing.specs.Made.{itself}
@@ -79,14 +81,14 @@ still-described c stays s v d k is at = (writes-none c stays (PartOf c (value_re
 same-index : (s : Scope) (d : DefinedTypeId) (k i : ℕ) → value_index s d ≡ Some k → value_index s d ≡ Some i → k ≡ i
 same-index s d k i one two = let both : Some k ≡ Some i = sym one ∙ two in cc
 
-pub first-wrote : (c : Collection) (old now new : Scope) (n : Name) (v : ValueType) (d : DefinedTypeId) (k j : ℕ) → value_resolved c v ≡ val.Defined d → value_index old d ≡ None → WritesFor c 0 (PartOf c (value_resolved c v)) old now → value_index now d ≡ Some k → new.content ≡ and_export now.content n (e.Equal k) → HasToo now (ty.Value (val.Defined d)) j new → named_at new d ≡ Some j → ListsValue now new n d k j → WritesItem c old new n (kind.TypeItem (ty.Value v))
-first-wrote c old now new n v d k j is none w at appended too name lists = record {
+pub first-wrote : (c : Collection) (old now new : Scope) (n : Name) (v : ValueType) (d : DefinedTypeId) (k j : ℕ) → value_resolved c v ≡ val.Defined d → value_index old d ≡ None → WritesFor c 0 (PartOf c (value_resolved c v)) old now → value_index now d ≡ Some k → new.content ≡ and_export now.content n (e.Equal k) → j ≡ count (space sort.«Type») now.content → HasToo now (ty.Value (val.Defined d)) j new → named_at new d ≡ Some j → ListsValue now new n d k j → WritesItem c old new n (kind.TypeItem (ty.Value v))
+first-wrote c old now new n v d k j is none w at appended own too name lists = record {
   now = now;
   behind = definition-behind c old now v d is w;
   description = e.Equal k;
   described = definition-described c old now v d k is at;
   appended = appended;
-  named = subst (λ (u : ValueType). NamesValue old now new n u) (sym is) (subst (λ (o : Option ℕ). IsNamedOnce o now new n d) (sym none) (j, too, name, λ i also. subst (λ (i' : ℕ). ListsValue now new n d i' j) (same-index now d k i at also) lists));
+  named = subst (λ (u : ValueType). NamesValue old now new n u) (sym is) (subst (λ (o : Option ℕ). IsNamedOnce o now new n d) (sym none) (j, own, too, name, λ i also. subst (λ (i' : ℕ). ListsValue now new n d i' j) (same-index now d k i at also) lists));
 }
 
 pub function-wrote : (c : Collection) (old now new : Scope) (n : Name) (f : FuncTypeId) (k : ℕ) → WritesFor c 0 (IsOfFunc c f) old now → AddsHeldFunc c old now f k → IsFuncAt c f old now k → new ≡ record now { content = and_export now.content n (e.Func k) } → WritesItem c old new n (kind.Func f)

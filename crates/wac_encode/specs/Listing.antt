@@ -19,6 +19,8 @@ use Rattle.wac_binary.specs.HasMeaning.{IsInstance}
 use Rattle.wac_binary.specs.Items.{value_def, primitive_def, instance_def, Decl, decls}
 use Rattle.wac_binary.specs.declared.sorts.Description.{Description}
 use Rattle.wac_binary.specs.declared.sorts.Description.TheVariants as e
+use Rattle.wac_binary.specs.declared.sorts.Sort.TheVariants as sort
+use Rattle.wac_binary.specs.Indexes.{space}
 use Rattle.wac_scopes.specs.declared.encodable.Encodable.TheVariants.{Instance}
 use Rattle.wac_scopes.specs.declared.scope.Listed.{Listed}
 use Rattle.wac_scopes.specs.declared.scope.Listed.TheVariants.{Around}
@@ -27,7 +29,7 @@ use Rattle.wac_scopes.specs.declared.fault.EncodeFault.{EncodeFault}
 use Rattle.wac_scopes.specs.declared.fault.EncodeFault.TheVariants as fault
 use Rattle.wac_scopes.specs.declared.fault.WriteFault.{WriteFault}
 use Rattle.wac_scopes.specs.declared.fault.WriteFault.TheVariants as write
-use Rattle.wac_scopes.specs.Contents.{and_type, and_export, ContentFits}
+use Rattle.wac_scopes.specs.Contents.{and_type, and_export, count, ContentFits}
 use Rattle.wac_stacks.specs.Scopes.{Open, Stack, next_type, with_def}
 use Rattle.wac_stacks.specs.Good.{IsHeld, Good}
 use Rattle.wac_stacks.specs.Laws.{Adds}
@@ -140,7 +142,7 @@ pub record SameRecords (old new : Scope) : Type 0 where
 
 -- a definition that was not written before is recorded at the item's own index, and so written by its name from then on
 abbrev pub IsNamedOnce : Option ℕ → Scope → Scope → Name → DefinedTypeId → Type 0
-IsNamedOnce None now new n d = (j : ℕ) × HasToo now (ty.Value (val.Defined d)) j new × (named_at new d ≡ Some j) × ((i : ℕ) → value_index now d ≡ Some i → ListsValue now new n d i j)
+IsNamedOnce None now new n d = (j : ℕ) × (j ≡ count (space sort.«Type») now.content) × HasToo now (ty.Value (val.Defined d)) j new × (named_at new d ≡ Some j) × ((i : ℕ) → value_index now d ≡ Some i → ListsValue now new n d i j)
 IsNamedOnce (Some i) now new n d = SameRecords now new
 
 abbrev pub NamesValue : Scope → Scope → Scope → Name → ValueType → Type 0

@@ -37,7 +37,7 @@ pub returns-clause-wrote : goal.returns-clause-wrote
 returns-clause-wrote c =
     let t = c.args.self.now.types.now in
     let at = recorded-at t c.value_type.new.scope c.args.value c.args.id c.in-Index.index c.requires.end (subst (λ (x : ComponentValType). IsByRecord t c.value_type.new.scope c.args.value x) c.in-Index.is c.in_ok-index.ensures.recorded) in
-    first-wrote t c.args.scope.now c.value_type.new.scope c.export_value.new.self c.args.name.now c.args.value c.args.id c.in-Index.index c.in_ok-export_value.field-0 c.requires.end c.requires.unwritten c.in_ok-index.ensures.written at c.in_ok-export_value.ensures.appended c.in_ok-export_value.ensures.recorded c.in_ok-export_value.ensures.named c.in_ok-export_value.ensures.stands
+    first-wrote t c.args.scope.now c.value_type.new.scope c.export_value.new.self c.args.name.now c.args.value c.args.id c.in-Index.index c.in_ok-export_value.field-0 c.requires.end c.requires.unwritten c.in_ok-index.ensures.written at c.in_ok-export_value.ensures.appended c.in_ok-export_value.ensures.index c.in_ok-export_value.ensures.recorded c.in_ok-export_value.ensures.named c.in_ok-export_value.ensures.stands
 
 pub export_value-requires : goal.export_value-requires
 export_value-requires c = still-open c.args.scope.now.content c.value_type.new.scope.content c.in_ok-index.ensures.written.types c.in_ok-index.ensures.written.appended c.requires.open
