@@ -3,10 +3,10 @@
 //! stand as have 100,000 parts, and each step is taken in all of them before the next: so each count makes as many parts, writes
 //! to as much memory and comes to it cold, and what grows is the work for a part, and what is near within one graph.
 
-use crate::times::print_power_of_ten;
 use anyhow::Result;
 use std::alloc::{AllocError, Global};
 use std::time::Duration;
+use wac_measures::times::print_power_of_ten;
 
 /// How often each count is timed, the counts in turn.
 pub const ROUNDS: usize = 9;

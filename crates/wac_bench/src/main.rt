@@ -7,17 +7,10 @@
 #![tactic(auto)]
 
 mod churn;
-mod comparing;
 mod graphs;
 mod growth;
-mod merging;
-mod names;
-mod nesting;
 mod step;
-mod times;
-mod types;
 mod wide;
-mod writing;
 
 use anyhow::Result;
 use graphs::Sort;
@@ -25,6 +18,7 @@ use std::alloc::Global;
 use std::env;
 use std::process::ExitCode;
 use step::Step;
+use wac_measures::{comparing, merging, names, writing};
 
 /// Does a little of each and prints what came of it.
 fn show(rt: &HostRuntime) -> Result<()> {

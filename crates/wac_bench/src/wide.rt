@@ -2,8 +2,6 @@
 //! both, four versions on each track; each package is instantiated once.
 
 use crate::graphs::{instantiate, one, refused, register, unvalidated};
-use crate::times::{ROUNDS, Times, print_power_of_ten, print_times};
-use crate::types::{export, primitive};
 use anyhow::Result;
 use std::alloc::Global;
 use std::time::{Duration, Instant};
@@ -12,6 +10,8 @@ use wac_graph::types::{
     DefinedType, FuncType, Interface, ItemKind, Named, PrimitiveType, Record, Text, Type,
     ValueType, Variant,
 };
+use wac_measures::times::{ROUNDS, Times, print_power_of_ten, print_times};
+use wac_measures::types::{export, primitive};
 
 /// How many functions an interface exports.
 const FUNCTIONS: u64 = 20;

@@ -1,5 +1,5 @@
 use Rattle.wac_entries.specs.Bindings.{AreHeld}
-use Rattle.wac_bench.proofs.merging.aggregated.Given as goal
+use Rattle.wac_measures.proofs.merging.aggregated.Given as goal
 
 abbrev pub invariant-loop-import : goal.invariant-loop-import
 invariant-loop-import l = AreHeld l.types l.aggregator.entries
