@@ -320,6 +320,7 @@ module _ (m more : Collection) (x : IsExtended m more) where
       extended = extended_twice s.types.now m more k.extended x;
       ends = still_ends s.types.now (becomes s) k.ends;
       bound = k.bound;
+      outward = k.outward;
       around = k.around;
       within = k.within;
     }
@@ -329,6 +330,7 @@ module _ (m more : Collection) (x : IsExtended m more) where
       extended = extended_twice c m more k.extended x;
       ends = λ part is. still_ends c (became c b.parts.now b.bindings.now b.fresh.now part) (k.ends part is);
       bound = k.bound;
+      outward = k.outward;
       around = k.around;
     }
 

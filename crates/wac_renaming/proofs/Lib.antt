@@ -8,5 +8,6 @@ pub mod OneIds
 pub mod RenamingMemo
 pub mod RenamingTasks
 pub mod BecameWalks
+pub mod Ways
 pub mod FreshAdding
 pub mod FreshClasses

@@ -13,6 +13,7 @@ use Rattle.wac_renaming.specs.declared.became.Became.{Became}
 use Rattle.wac_renaming.specs.declared.renamer.Renamed.{Renamed}
 use Rattle.wac_renaming.specs.declared.renamer.Renaming.{Renaming}
 use Rattle.wac_renaming.specs.Made.{AreMade, IsFuncMadeOf, IsMadeOf}
+use Rattle.wac_renaming.specs.Ways.{AreOutward}
 use Rattle.wac_terms.specs.Renaming.{AreEnds, IsExtended, IsRenamed}
 
 -- what a resource at the end of its aliases becomes where types are renamed
@@ -24,6 +25,7 @@ pub record CanRename (m : Collection) (s : Renaming) : Type 0 where
   pub extended : IsExtended s.types.now m
   pub ends : AreEnds s.types.now m (becomes s)
   pub bound : AreBoundParts s.types.now s.became.now.parts.now s.became.now.bound.now
+  pub outward : AreOutward s.became.now.parts.now s.became.now.bound.now s.became.now.outward.now
   pub around : AreAround s.became.now.parts.now
   pub within : IsPart s.became.now.parts.now s.part
 
@@ -32,6 +34,7 @@ pub record CanRenameAll (m c : Collection) (b : Became) : Type 0 where
   pub extended : IsExtended c m
   pub ends : (part : Option ℕ) → IsPart b.parts.now part → AreEnds c m (became c b.parts.now b.bindings.now b.fresh.now part)
   pub bound : AreBoundParts c b.parts.now b.bound.now
+  pub outward : AreOutward b.parts.now b.bound.now b.outward.now
   pub around : AreAround b.parts.now
 
 -- what definitions and function types became

@@ -1,7 +1,8 @@
 //! What resources become in a merged collection.
-ghost use Rattle.std.specs.Prelude.{◌≡◌, ℕ, IfOk, Some, slice_get};
+ghost use Rattle.std.specs.Prelude.{◌≡◌, ℕ, IfOk, Some, length, slice_get};
 ghost use Rattle.wac_collection.specs.Collection.{HasInterface};
 ghost use Rattle.wac_collection.specs.Held.{resolved};
+ghost use Rattle.wac_renaming.specs.Ways.{AreOutward};
 ghost use Rattle.wac_terms.specs.Became.{AreBoundParts, became, became_in_class, became_outside};
 ghost use Rattle.wac_terms.specs.Unions.{AreAround, IsPart};
 ghost use Rattle.wac_terms.specs.declared.parts.Part.{Part as APart};
@@ -18,7 +19,8 @@ use wac_values::named::NamedTypes;
 /// What the interface of each part binds.
 pub fn part_bounds(alloc: Global, types: &Types, parts: &[Part]) -> Result<Vec<Bound>, AllocError>
     requires { (p : ℕ) (x : APart) → slice_get parts.now p ≡ Some x → HasInterface types.now x.interface }
-    ensures { IfOk result (λ b. AreBoundParts types.now parts.now b.items) }
+    ensures bound { IfOk result (λ b. AreBoundParts types.now parts.now b.items) }
+    ensures counted { IfOk result (λ b. length b.items ≡ length parts.now) }
 {
     let mut bounds = Vec::new(alloc);
     for p in 0..parts.len() {
@@ -34,6 +36,8 @@ pub struct Became<'a> {
     pub parts: &'a [Part],
     /// What the interface of each binds.
     pub bound: &'a [Bound],
+    /// The next part on the way out of each.
+    pub outward: &'a [Option<usize>],
     /// What the classes bind.
     pub bindings: &'a Bindings,
     /// The new resources.
@@ -66,6 +70,7 @@ impl<'a> Became<'a> {
     /// What a resource becomes in a part; outside of all where there is none.
     pub fn resource(&self, types: &Types, part: Option<usize>, resource: ResourceId) -> ResourceId
         requires bound { AreBoundParts types.now self.now.parts.now self.now.bound.now }
+        requires outward { AreOutward self.now.parts.now self.now.bound.now self.now.outward.now }
         requires around { AreAround self.now.parts.now }
         requires within { IsPart self.now.parts.now part }
         ensures { result ≡ became types.now self.now.parts.now self.now.bindings.now self.now.fresh.now part (resolved types.now resource) }
@@ -76,13 +81,13 @@ impl<'a> Became<'a> {
         };
         let mut position = start;
         'outward: loop {
-            let inner = self.parts[position];
+            let union = self.parts[position].union;
             if let Some(place) = self.bound[position].place(resource) {
                 let path = place.path.as_slice();
-                return self.fresh.at(inner.union, path).unwrap_or(resource);
+                return self.fresh.at(union, path).unwrap_or(resource);
             }
-            let Some(outer) = inner.outer else {
-                return self.in_class(inner.union, resource);
+            let Some(outer) = self.outward[position] else {
+                return self.in_class(union, resource);
             };
             position = outer;
         }

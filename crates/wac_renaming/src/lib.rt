@@ -6,5 +6,6 @@
 pub mod adding;
 pub mod became;
 pub mod made;
+pub mod outward;
 pub mod renamer;
 pub mod shapes;

@@ -14,6 +14,7 @@ ghost use Rattle.wac_shapes.specs.declared.component.«Type».TheVariants as ty;
 ghost use Rattle.wac_terms.specs.Became.{AreBoundParts};
 ghost use Rattle.wac_renaming.specs.RenamedTypes.{AreRenamed, CanRename, becomes, defined_in, func_in};
 ghost use Rattle.wac_terms.specs.Renaming.{IsExtended, IsRenamed};
+ghost use Rattle.wac_renaming.specs.Ways.{AreOutward};
 ghost use Rattle.wac_renaming.specs.RenamingSteps.{AreReady, CasesGoTogether, Did, FieldsGoTogether, GoTogether, HasDefinedToo, HasFuncToo, HaveOneShape, IsDone, IsMore, IsReady, IsRenamedIn, MayBeDone};
 ghost use Rattle.wac_entries.specs.Tasks.{IsHeldTask, IsOpening, parts_of, AreHeldValues};
 ghost use Rattle.wac_terms.specs.Unions.{AreAround, IsPart};
@@ -47,6 +48,7 @@ impl<'a> Renaming<'a> {
     /// What a resource becomes.
     pub fn resource(&self, id: ResourceId) -> ResourceId
         requires bound { AreBoundParts self.now.types.now self.now.became.now.parts.now self.now.became.now.bound.now }
+        requires outward { AreOutward self.now.became.now.parts.now self.now.became.now.bound.now self.now.became.now.outward.now }
         requires around { AreAround self.now.became.now.parts.now }
         requires within { IsPart self.now.became.now.parts.now self.now.part }
         ensures { result ≡ becomes self.now (resolved self.now.types.now id) }

@@ -20,6 +20,7 @@ use Rattle.wac_entries.specs.Classes.{Entry, by_names, class_names, members, sam
 use Rattle.wac_terms.specs.Merge.{IsMerge}
 use Rattle.wac_unions.specs.MergedClasses.{AreAgreed, AreRoots, with_root}
 use Rattle.wac_renaming.specs.RenamedTypes.{CanRenameAll}
+use Rattle.wac_renaming.specs.Ways.{AreOutward}
 use Rattle.wac_terms.specs.Renaming.{IsExtended}
 use Rattle.wac_terms.specs.Unions.{AreUnions}
 use Rattle.wac_terms.specs.Writing.{AreWritten, IsGiven}
@@ -130,11 +131,12 @@ written-given c m es roots us ps bs f ids ws counted unions written k class e kn
 
 -- types may be renamed in each part
 pub can-rename-all : (c m : Collection) (es : List Entry) (roots : List (List InterfaceId)) (us : List Union) (b : Became) → IsWellFormed c → IsSound c → IsExtended c m → AreBindings c es b.bindings.now
-    → length roots ≡ length (class_names by_names es) → AreUnions c roots us b.parts.now → AreFresh c us b.bindings.now b.fresh.now m → AreHeld c es → AllMembersAgree by_names c es → AreBoundParts c b.parts.now b.bound.now → CanRenameAll m c b
-can-rename-all c m es roots us b wf sound extended bindings counted unions fresh held agreed bound = record {
+    → length roots ≡ length (class_names by_names es) → AreUnions c roots us b.parts.now → AreFresh c us b.bindings.now b.fresh.now m → AreHeld c es → AllMembersAgree by_names c es → AreBoundParts c b.parts.now b.bound.now → AreOutward b.parts.now b.bound.now b.outward.now → CanRenameAll m c b
+can-rename-all c m es roots us b wf sound extended bindings counted unions fresh held agreed bound outward = record {
   extended = extended;
   ends = λ part is. became-ends c m es roots us b.parts.now b.bindings.now b.fresh.now wf sound extended bindings counted unions fresh (names-agree c es (none-disagrees c es (agreed-pairs c es agreed))) part;
   bound = bound;
+  outward = outward;
   around = unions.around;
 }
 

@@ -128,7 +128,7 @@ export-own c m us b written u n e can has own =
 -- ---- what can be renamed, and what was
 
 pub can-rename : (m : Collection) (s : Renaming) → CanRenameAll m s.types.now s.became.now → IsPart s.became.now.parts.now s.part → CanRename m s
-can-rename m s all within = record { extended = all.extended; ends = all.ends s.part within; bound = all.bound; around = all.around; within = within }
+can-rename m s all within = record { extended = all.extended; ends = all.ends s.part within; bound = all.bound; outward = all.outward; around = all.around; within = within }
 
 along : (F : Collection → Became → Option ℕ → Type 0) (s t : Renaming) → s.types.now ≡ t.types.now → s.became.now ≡ t.became.now → s.part ≡ t.part → F s.types.now s.became.now s.part → F t.types.now t.became.now t.part
 along F s t x y z h = subst (λ (a : Collection). F a t.became.now t.part) x (subst (λ (b : Became). F s.types.now b t.part) y (subst (λ (p : Option ℕ). F s.types.now s.became.now p) z h))

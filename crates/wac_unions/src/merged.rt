@@ -40,6 +40,7 @@ use wac_entries::entry::Entry;
 use wac_names::Track;
 use wac_renaming::adding::add_fresh;
 use wac_renaming::became::{Became, part_bounds};
+use wac_renaming::outward::outward_in;
 use wac_renaming::renamer::{Renamed, Renaming};
 use wac_subtyping::laws::trees_are_whole;
 use wac_terms::parts::Part;
@@ -423,6 +424,7 @@ impl Merged {
         trees_are_whole(types);
         let unions = class_unions(alloc, types, entries, classes)?;
         let bound = part_bounds(alloc, types, unions.parts.as_slice())?;
+        let outward = outward_in(alloc, unions.parts.as_slice(), bound.as_slice())?;
         let mut merged = types.clone()?;
         let fresh = add_fresh(
             alloc,
@@ -437,6 +439,7 @@ impl Merged {
         let became = Became {
             parts: unions.parts.as_slice(),
             bound: bound.as_slice(),
+            outward: outward.as_slice(),
             bindings,
             fresh: &fresh,
             named: &named,

@@ -26,6 +26,7 @@ write_kind-requires-clause-known c = record {
   extended = c.requires.known.extended;
   ends = c.requires.known.ends None tt;
   bound = c.requires.known.bound;
+  outward = c.requires.known.outward;
   around = c.requires.known.around;
   within = tt;
 }

@@ -1,10 +1,12 @@
-use Rattle.std.proofs.Common.{◌≡◌, List, ap, subst, sym, ◌∙◌}
+use Rattle.std.proofs.Common.{◌≡◌, List, length, ap, subst, sym, ◌∙◌}
 use Rattle.wac_collection.specs.Collection.{IsWellFormed}
 use Rattle.wac_terms.specs.Became.{AreBoundParts, AreFresh}
 use Rattle.wac_terms.specs.Merge.{import_entries}
 use Rattle.wac_terms.specs.Renaming.{IsExtended}
 use Rattle.wac_terms.specs.Unions.{AreUnions}
+use Rattle.wac_terms.specs.declared.parts.Part.{Part}
 use Rattle.wac_terms.specs.declared.parts.Union.{Union}
+use Rattle.wac_renaming.specs.Ways.{AreOutward}
 use Rattle.wac_unions.proofs.Assembled.{AreDeep}
 use Rattle.wac_unions.proofs.AssembledBound.{bound-is}
 use Rattle.wac_unions.proofs.AssembledHeld.{imports-held}
@@ -18,6 +20,13 @@ use Rattle.wac_unions.proofs.OneInterface.{one-interface}
 use Rattle.wac_uses.proofs.AlikeMerges.{using-held-all, using-keeps, using-merge}
 use Rattle.wac_unions.proofs.merged.Merged.new.Goals as goal
 
+pub outward_in-requires-clause-around : goal.outward_in-requires-clause-around
+outward_in-requires-clause-around c = rw c.as_slice-2.ensures.value c.in_ok-unions.ensures.unions.unions.around
+
+pub outward_in-requires-clause-counted : goal.outward_in-requires-clause-counted
+outward_in-requires-clause-counted c =
+    rw c.as_slice-3.ensures.value (c.in_ok-bound.ensures.counted ∙ ap (λ (xs : List Part). length xs) (c.as_slice.ensures.value ∙ sym c.as_slice-2.ensures.value))
+
 pub named_in-requires : goal.named_in-requires
 named_in-requires c = record { held = c.in_ok-unions.ensures.unions.unions.held }
 
@@ -29,13 +38,15 @@ write_imports-requires-clause-known c =
     let t = c.args.types.now in
     let us = c.in_ok-unions.unions.unions.items in
     let u = c.in_ok-unions.ensures.unions in
-    let unions : AreUnions t u.roots us c.as_slice-3.result.now = rw c.as_slice-3.ensures.value u.unions in
-    let bound : AreBoundParts t c.as_slice-3.result.now c.as_slice-4.result.now =
-    rw (c.as_slice-3.ensures.value ∙ sym c.as_slice.ensures.value) rw c.as_slice-4.ensures.value c.in_ok-bound.ensures in
+    let unions : AreUnions t u.roots us c.as_slice-5.result.now = rw c.as_slice-5.ensures.value u.unions in
+    let bound : AreBoundParts t c.as_slice-5.result.now c.as_slice-6.result.now =
+    rw (c.as_slice-5.ensures.value ∙ sym c.as_slice.ensures.value) rw c.as_slice-6.ensures.value c.in_ok-bound.ensures.bound in
+    let outward : AreOutward c.as_slice-5.result.now c.as_slice-6.result.now c.as_slice-7.result.now =
+    rw (c.as_slice-5.ensures.value ∙ sym c.as_slice-2.ensures.value) rw (c.as_slice-6.ensures.value ∙ sym c.as_slice-3.ensures.value) rw c.as_slice-7.ensures.value c.in_ok-outward.ensures in
     let begins : IsExtended t c.add_fresh.new.merged = rw (sym c.in_ok-merged.ensures.cases) c.add_fresh.ensures.extended in
     let fresh : AreFresh t us c.args.bindings.now c.in_ok-fresh.fresh c.add_fresh.new.merged =
-    subst (λ (xs : List Union). AreFresh t xs c.args.bindings.now c.in_ok-fresh.fresh c.add_fresh.new.merged) c.as_slice-2.ensures.value c.in_ok-fresh.ensures.fresh in
-    can-rename-all t c.add_fresh.new.merged c.args.entries.now u.roots us _ c.law.ensures c.uses_law.ensures begins c.requires.bindings u.rooted.counted unions fresh c.requires.held c.requires.agreed bound
+    subst (λ (xs : List Union). AreFresh t xs c.args.bindings.now c.in_ok-fresh.fresh c.add_fresh.new.merged) c.as_slice-4.ensures.value c.in_ok-fresh.ensures.fresh in
+    can-rename-all t c.add_fresh.new.merged c.args.entries.now u.roots us _ c.law.ensures c.uses_law.ensures begins c.requires.bindings u.rooted.counted unions fresh c.requires.held c.requires.agreed bound outward
 
 pub using-requires-clause-held : goal.using-requires-clause-held
 using-requires-clause-held c =
@@ -51,7 +62,7 @@ using-requires-clause-held c =
     let u = c.in_ok-unions.ensures.unions in
     let w = c.in_ok-bare.ensures.imports in
     let begins : IsExtended t started = rw (sym c.in_ok-merged.ensures.cases) c.add_fresh.ensures.extended in
-    let fresh : AreFresh t us bs f started = subst (λ (xs : List Union). AreFresh t xs bs f started) c.as_slice-2.ensures.value c.in_ok-fresh.ensures.fresh in
+    let fresh : AreFresh t us bs f started = subst (λ (xs : List Union). AreFresh t xs bs f started) c.as_slice-4.ensures.value c.in_ok-fresh.ensures.fresh in
     let first = first-assembled t started m es us ps bs f c.args.order.now bare u w c.law.ensures c.law-2.ensures c.law-3.ensures c.uses_law.ensures begins c.write_imports.ensures.extended
     c.in_ok-unions.ensures.listed c.requires.bindings fresh c.requires.held (agreed-pairs t es c.requires.agreed) c.requires.written c.requires.each c.requires.once in
     imports-held t m es u.roots us ps bs f w.ids w.ws c.args.order.now bare first
@@ -70,7 +81,7 @@ using-requires-clause-named c =
     let u = c.in_ok-unions.ensures.unions in
     let w = c.in_ok-bare.ensures.imports in
     let begins : IsExtended t started = rw (sym c.in_ok-merged.ensures.cases) c.add_fresh.ensures.extended in
-    let fresh : AreFresh t us bs f started = subst (λ (xs : List Union). AreFresh t xs bs f started) c.as_slice-2.ensures.value c.in_ok-fresh.ensures.fresh in
+    let fresh : AreFresh t us bs f started = subst (λ (xs : List Union). AreFresh t xs bs f started) c.as_slice-4.ensures.value c.in_ok-fresh.ensures.fresh in
     let first = first-assembled t started m es us ps bs f c.args.order.now bare u w c.law.ensures c.law-2.ensures c.law-3.ensures c.uses_law.ensures begins c.write_imports.ensures.extended
     c.in_ok-unions.ensures.listed c.requires.bindings fresh c.requires.held (agreed-pairs t es c.requires.agreed) c.requires.written c.requires.each c.requires.once in
     imports-asked t m es u.roots us ps bs f w.ids w.ws c.args.order.now bare first
@@ -89,7 +100,7 @@ using-requires-clause-bare c =
     let u = c.in_ok-unions.ensures.unions in
     let w = c.in_ok-bare.ensures.imports in
     let begins : IsExtended t started = rw (sym c.in_ok-merged.ensures.cases) c.add_fresh.ensures.extended in
-    let fresh : AreFresh t us bs f started = subst (λ (xs : List Union). AreFresh t xs bs f started) c.as_slice-2.ensures.value c.in_ok-fresh.ensures.fresh in
+    let fresh : AreFresh t us bs f started = subst (λ (xs : List Union). AreFresh t xs bs f started) c.as_slice-4.ensures.value c.in_ok-fresh.ensures.fresh in
     let first = first-assembled t started m es us ps bs f c.args.order.now bare u w c.law.ensures c.law-2.ensures c.law-3.ensures c.uses_law.ensures begins c.write_imports.ensures.extended
     c.in_ok-unions.ensures.listed c.requires.bindings fresh c.requires.held (agreed-pairs t es c.requires.agreed) c.requires.written c.requires.each c.requires.once in
     imports-bare t m es u.roots us ps bs f w.ids w.ws c.args.order.now bare first
@@ -108,7 +119,7 @@ returns c =
     let u = c.in_ok-unions.ensures.unions in
     let w = c.in_ok-bare.ensures.imports in
     let begins : IsExtended t started = rw (sym c.in_ok-merged.ensures.cases) c.add_fresh.ensures.extended in
-    let fresh : AreFresh t us bs f started = subst (λ (xs : List Union). AreFresh t xs bs f started) c.as_slice-2.ensures.value c.in_ok-fresh.ensures.fresh in
+    let fresh : AreFresh t us bs f started = subst (λ (xs : List Union). AreFresh t xs bs f started) c.as_slice-4.ensures.value c.in_ok-fresh.ensures.fresh in
     let first = first-assembled t started m es us ps bs f c.args.order.now bare u w c.law.ensures c.law-2.ensures c.law-3.ensures c.uses_law.ensures begins c.write_imports.ensures.extended
     c.in_ok-unions.ensures.listed c.requires.bindings fresh c.requires.held (agreed-pairs t es c.requires.agreed) c.requires.written c.requires.each c.requires.once in
     let more = c.in_ok-merge.merge.types in

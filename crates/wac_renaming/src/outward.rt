@@ -1,0 +1,51 @@
+//! The way out of a part, past those around it that bind nothing.
+ghost use Rattle.std.specs.Prelude.{ℕ, ◌<◌, ◌≤◌, length, slice_get, IfOk, ◌≡◌, Some};
+ghost use Rattle.wac_renaming.specs.Ways.{AreOutward, HaveWays, LeadsOut};
+ghost use Rattle.wac_terms.specs.Unions.{AreAround};
+ghost use Rattle.wac_terms.specs.declared.parts.Part.{Part as APart};
+
+use std::alloc::{AllocError, Global};
+use wac_entries::bound::Bound;
+use wac_terms::parts::Part;
+
+/// The next part on the way out of the one at a position, where it is known for those before it: the nearest around it that
+/// binds something, else the outermost.
+fn way_out(
+    parts: &[Part],
+    bound: &[Bound],
+    outward: &[Option<usize>],
+    position: usize,
+) -> Option<usize>
+    requires around { AreAround parts.now }
+    requires counted { length bound.now ≡ length parts.now }
+    requires within { position < length parts.now }
+    requires known { position ≤ length outward.now }
+    requires ways { HaveWays parts.now bound.now outward.now }
+    ensures { (x : APart) → slice_get parts.now position ≡ Some x → LeadsOut parts.now bound.now x.outer result }
+{
+    let Some(outer) = parts[position].outer else {
+        return None;
+    };
+    match outward[outer] {
+        Some(next) if bound[outer].len() == 0 => Some(next),
+        _ => Some(outer),
+    }
+}
+
+/// For each part the next one on the way out of it.
+pub fn outward_in(
+    alloc: Global,
+    parts: &[Part],
+    bound: &[Bound],
+) -> Result<Vec<Option<usize>>, AllocError>
+    requires around { AreAround parts.now }
+    requires counted { length bound.now ≡ length parts.now }
+    ensures { IfOk result (λ outward. AreOutward parts.now bound.now outward.items) }
+{
+    let mut outward = Vec::with_capacity(alloc, parts.len())?;
+    for position in 0..parts.len() {
+        let way = way_out(parts, bound, outward.as_slice(), position);
+        outward.push(way)?;
+    }
+    Ok(outward)
+}
