@@ -14,7 +14,7 @@ use Rattle.wac_shapes.specs.declared.component.ValueType.{ValueType}
 use Rattle.wac_shapes.specs.declared.component.ValueType.TheVariants as val
 use Rattle.wac_shapes.specs.declared.component.«Type».{«Type» as AnyType}
 use Rattle.wac_shapes.specs.declared.component.«Type».TheVariants as ty
-use Rattle.wac_collection.specs.Collection.{Collection, IsWellFormed, HasDefined, interface_exports, item_at, item_of}
+use Rattle.wac_collection.specs.Collection.{Collection, HasDefined, interface_exports, item_at, item_of}
 use Rattle.wac_collection.specs.Bound.{Bindings, own_name, inside_interface}
 use Rattle.wac_binary.specs.declared.types.ComponentValType.{ComponentValType}
 use Rattle.wac_scopes.specs.declared.encodable.Encodable.{Encodable}
@@ -31,12 +31,11 @@ use Rattle.wac_stacks.specs.Scopes.{Where, at_type, at_around, Open, Stack, open
 use Rattle.wac_stacks.specs.Good.{Good}
 use Rattle.wac_stacks.specs.Laws.{Follows, StaysOnward}
 use Rattle.wac_stacks.specs.Listed.{has_own, OpensOver}
-use Rattle.wac_stacks.proofs.Moved.{ap2}
 use Rattle.wac_scopes.proofs.ScopedLaws.{recorded-at}
-use Rattle.wac_listing.specs.Made.{OneItemIsMadeOf, AreMadeOf}
-use Rattle.wac_encode.specs.Written.{WritesFor, IsLargeFrom}
+use Rattle.wac_listing.specs.Made.{AreMadeOf}
+use Rattle.wac_encode.specs.Written.{IsLargeFrom}
 use Rattle.wac_encode.specs.Tasks.{WritesOne, IsOneRefused, AliasesOne, aliased_now, as_before, IsOneAliasRefused}
-use Rattle.wac_encode.specs.Listing.{is_plain, are_plain, IsOfItems, AliasesFor, AllAliased, AliasDoesNotFit, IsAliasRefused, around_at, IsOpened}
+use Rattle.wac_encode.specs.Listing.{is_plain, are_plain, IsOfItems, AliasesFor, AllAliased, IsAliasRefused, around_at, IsOpened}
 use Rattle.wac_encode.proofs.Plain.{both-true}
 use Rattle.wac_encode.proofs.Answering.{as-it-was}
 use Rattle.wac_encode.proofs.Stacks.{writes-none, writes-more, writes-then, recorded-now, recorded-there, new-is, is-there}

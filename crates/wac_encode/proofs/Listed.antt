@@ -19,7 +19,7 @@ use Rattle.wac_collection.specs.Tree.{exported, Tree, absent, primitive, resourc
 use Rattle.wac_collection.specs.Collection.{Collection, IsWellFormed, item_at}
 use Rattle.wac_collection.specs.Aliases.{value_resolved}
 use Rattle.wac_collection.specs.Bound.{Bindings, inside_interface}
-use Rattle.wac_binary.specs.HasMeaning.{ImportNothing, IsFree, IsValue, IsType}
+use Rattle.wac_binary.specs.HasMeaning.{ImportNothing, IsFree, IsValue, IsFunction, IsType}
 use Rattle.wac_binary.specs.Items.{TypeDef, Decl, decls, core_type_decl, type_decl, alias_decl, import_decl, export_decl}
 use Rattle.wac_binary.specs.Unfold.{Scope as Env, with_item}
 use Rattle.wac_binary.specs.declared.sorts.Description.{Description}
@@ -100,6 +100,19 @@ function-listed c old now new n f k adds lists m ms o os g free =
     let r = adds m ms o os g in
     let l = lists c m ms o os r.0 r.3.0.0 (free-after c m ms old now o os n r.3.0 free) r.2 r.3.1 in
     (function_item r.0, r.1, lists-after c m ms old now new o os n (function_item r.0) r.3.0 l)
+
+function-is-type : (t : Tree) → IsFunction t → IsType t
+function-is-type (function a names params result) h = tt
+function-is-type absent h = absurd h
+function-is-type (primitive p) h = absurd h
+function-is-type t h = absurd h
+
+-- and the type of one
+pub function-type-listed : (c : Collection) (old now new : Scope) (n : Name) (f : FuncTypeId) (k j : ℕ) → AddsHeldFunc c old now f k → ListsType now new n k j → ListsHeld c old new n (kind.TypeItem (ty.Func f))
+function-type-listed c old now new n f k j adds lists m ms o os g free =
+    let r = adds m ms o os g in
+    let l = lists c m ms o os r.0 r.3.0.0 (free-after c m ms old now o os n r.3.0 free) (function-is-type r.0 r.2) r.3.1 in
+    (type_equal r.0, (refl, r.1), lists-after c m ms old now new o os n (type_equal r.0) r.3.0 l.0)
 
 -- one more item of an interface
 listed-more : (c : Collection) → ListsOneMore → (it : Interface) (old new : Scope) (start : Scope) (es : List (Name × ItemKind)) (n : Name) (k : ItemKind) → HasListed c it start old es → ListsHeld c old new n k → find_name es n ≡ None → HasListed c it start new (es ++ (n, k) ∷ [])

@@ -101,6 +101,16 @@ function-wrote c old now new n f k w adds there lists = record {
   named = same-records now new n (e.Func k) lists;
 }
 
+pub function-type-wrote : (c : Collection) (old now new : Scope) (n : Name) (f : FuncTypeId) (k : ℕ) → WritesFor c 0 (IsOfFunc c f) old now → AddsHeldFunc c old now f k → IsFuncAt c f old now k → new ≡ record now { content = and_export now.content n (e.Equal k) } → WritesItem c old new n (kind.TypeItem (ty.Func f))
+function-type-wrote c old now new n f k w adds there lists = record {
+  now = now;
+  behind = w;
+  description = e.Equal k;
+  described = (adds, there);
+  appended = declared-so now new n (e.Equal k) lists;
+  named = same-records now new n (e.Equal k) lists;
+}
+
 -- refusals
 
 pub primitive-refused : (A B : Type 0) (c : Collection) → StaysOnward → (old : Scope) (n : Name) (v : ValueType) (p : PrimitiveType) (f : EncodeFault) → value_resolved c v ≡ val.Primitive p → WritesUnlessTooLarge {A = A} (Err f) (ContentFits (and_type old.content (value_def (primitive_def p)))) → IsItemRefused {A = B} c n (kind.TypeItem (ty.Value v)) old (Err f)
@@ -133,6 +143,11 @@ pub function-item-refused : (A B : Type 0) (c : Collection) (old now : Scope) (n
 function-item-refused A B c old now n g (fault.Write h) w refused = refused
 function-item-refused A B c old now n g fault.TooLarge w refused = record { scope = now; types = 0; behind = w; large = inl refused }
 function-item-refused A B c old now n g fault.OutOfMemory w refused = tt
+
+pub function-type-refused : (A B : Type 0) (c : Collection) (old now : Scope) (n : Name) (g : FuncTypeId) (f : EncodeFault) → WritesFor c 0 (IsOfFunc c g) old now → IsFuncRefused {A = A} c g now (Err f) → IsItemRefused {A = B} c n (kind.TypeItem (ty.Func g)) old (Err f)
+function-type-refused A B c old now n g (fault.Write h) w refused = refused
+function-type-refused A B c old now n g fault.TooLarge w refused = record { scope = now; types = 0; behind = w; large = inl refused }
+function-type-refused A B c old now n g fault.OutOfMemory w refused = tt
 
 pub handle-fault : (c : Collection) (v w : ValueType) → w ≡ value_resolved c v → IsHandle w → (write.UnboundResource ≡ write.UnboundResource) × HasHandle (PartOf c (value_resolved c v))
 handle-fault c v w is h = (refl, (value_resolved c v, itself, subst IsHandle is h))

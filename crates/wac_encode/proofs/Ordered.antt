@@ -14,7 +14,7 @@ use Rattle.wac_shapes.specs.declared.component.Interface.{Interface}
 use Rattle.wac_shapes.specs.declared.component.InterfaceId.{InterfaceId}
 use Rattle.wac_shapes.specs.declared.component.ItemKind.{ItemKind}
 use Rattle.wac_collection.specs.Collection.{Collection, item_at}
-use Rattle.wac_listing.specs.Order.{Takes, is_type, is_type_at, AreOrdered}
+use Rattle.wac_listing.specs.Order.{Takes, is_value_type, is_value_type_at, AreOrdered}
 use Rattle.wac_encode.specs.Listing.{IsOrder}
 
 -- how many entries have a name
@@ -99,10 +99,10 @@ abbrev pub Stand : List (Name × ItemKind) → ℕ → Name × ItemKind → Type
 Stand es p e = slice_get es p ≡ Some e
 
 abbrev pub no_type : Name × ItemKind → Bool
-no_type e = not (is_type e.1)
+no_type e = not (is_value_type e.1)
 
 abbrev pub one_type : Name × ItemKind → Bool
-one_type e = is_type e.1
+one_type e = is_value_type e.1
 
 zip-push : {A B : Type 0} (R : A → B → Type 0) (xs : List A) (ys : List B) (x : A) (y : B) → AllZip R xs ys → R x y → AllZip R (xs ++ x ∷ []) (ys ++ y ∷ [])
 zip-push R [] [] x y zip r = (r, tt)
@@ -130,20 +130,20 @@ rest-taken : (es : List (Name × ItemKind)) (i : ℕ) (e : Name × ItemKind) →
 rest-taken es i e at = ap (λ (j : ℕ). filter no_type (take j es)) (add-one i) ∙ ap (filter no_type) (take_at es i e at) ∙ filter-push no_type (take i es) e
 
 -- one more of the others, or a type item that is passed over
-pub rest-more : (es fs : List (Name × ItemKind)) (i : ℕ) (n : Bor (List ℕ)) (k : ItemKind) (old new : List (Bor (List ℕ) × ItemKind)) → slice_get es i ≡ Some (n.now, k) → is_type k ≡ false
+pub rest-more : (es fs : List (Name × ItemKind)) (i : ℕ) (n : Bor (List ℕ)) (k : ItemKind) (old new : List (Bor (List ℕ) × ItemKind)) → slice_get es i ≡ Some (n.now, k) → is_value_type k ≡ false
     → named_pairs old ≡ fs ++ filter no_type (take i es) → new ≡ old ++ (n, k) ∷ [] → named_pairs new ≡ fs ++ filter no_type (take (i + 1) es)
 rest-more es fs i n k old new at other before is =
     ap named_pairs is ∙ map-append by_now old ((n, k) ∷ []) ∙ ap (λ (xs : List (Name × ItemKind)). xs ++ (n.now, k) ∷ []) before ∙ append_assoc fs (filter no_type (take i es)) ((n.now, k) ∷ [])
-    ∙ ap (λ (xs : List (Name × ItemKind)). fs ++ (filter no_type (take i es) ++ xs)) (sym (kept (is_type k) other)) ∙ ap (λ (xs : List (Name × ItemKind)). fs ++ xs) (sym (rest-taken es i (n.now, k) at))
+    ∙ ap (λ (xs : List (Name × ItemKind)). fs ++ (filter no_type (take i es) ++ xs)) (sym (kept (is_value_type k) other)) ∙ ap (λ (xs : List (Name × ItemKind)). fs ++ xs) (sym (rest-taken es i (n.now, k) at))
   where
     kept : (b : Bool) → b ≡ false → cond {A = List (Name × ItemKind)} (not b) ((n.now, k) ∷ []) [] ≡ (n.now, k) ∷ []
     kept false e = refl
     kept true e = cc
 
-pub rest-passed : (es fs : List (Name × ItemKind)) (i : ℕ) (n : Bor (List ℕ)) (k : ItemKind) (old : List (Bor (List ℕ) × ItemKind)) → slice_get es i ≡ Some (n.now, k) → is_type k ≡ true
+pub rest-passed : (es fs : List (Name × ItemKind)) (i : ℕ) (n : Bor (List ℕ)) (k : ItemKind) (old : List (Bor (List ℕ) × ItemKind)) → slice_get es i ≡ Some (n.now, k) → is_value_type k ≡ true
     → named_pairs old ≡ fs ++ filter no_type (take i es) → named_pairs old ≡ fs ++ filter no_type (take (i + 1) es)
 rest-passed es fs i n k old at one before =
-    before ∙ sym (ap (λ (xs : List (Name × ItemKind)). fs ++ xs) (rest-taken es i (n.now, k) at ∙ ap (λ (xs : List (Name × ItemKind)). filter no_type (take i es) ++ xs) (passed (is_type k) one) ∙ append-nil (filter no_type (take i es))))
+    before ∙ sym (ap (λ (xs : List (Name × ItemKind)). fs ++ xs) (rest-taken es i (n.now, k) at ∙ ap (λ (xs : List (Name × ItemKind)). filter no_type (take i es) ++ xs) (passed (is_value_type k) one) ∙ append-nil (filter no_type (take i es))))
   where
     passed : (b : Bool) → b ≡ true → cond {A = List (Name × ItemKind)} (not b) ((n.now, k) ∷ []) [] ≡ (let none : List (Name × ItemKind) = [] in none)
     passed true e = refl
@@ -164,10 +164,10 @@ unfolding selected
 none-selected f [] none = refl
 none-selected f (e ∷ es) none = ap (λ (b : Bool). cond b (e ∷ selected (λ q. f (suc q)) es) (selected (λ q. f (suc q)) es)) (none 0) ∙ none-selected (λ q. f (suc q)) es (λ q. none (suc q))
 
-types-selected : (es : List (Name × ItemKind)) → selected (is_type_at es) es ≡ filter one_type es
+types-selected : (es : List (Name × ItemKind)) → selected (is_value_type_at es) es ≡ filter one_type es
 unfolding selected
 types-selected [] = refl
-types-selected (e ∷ es) = ap (λ (xs : List (Name × ItemKind)). cond (is_type e.1) (e ∷ xs) xs) (types-selected es)
+types-selected (e ∷ es) = ap (λ (xs : List (Name × ItemKind)). cond (is_value_type e.1) (e ∷ xs) xs) (types-selected es)
 
 and-not-false : (b : Bool) → (b && not false) ≡ b
 and-not-false true = refl
@@ -227,7 +227,7 @@ is-order c es ps xs order ordered at is = record {
   is = is;
   permutation = subst (λ (ys : List (Name × ItemKind)). IsPermutation es ys) (sym is) (IsPermutation-trans es (filter one_type es ++ filter no_type es) (xs ++ filter no_type es)
       (IsPermutation-filter_both one_type no_type (λ e. refl) es)
-      (IsPermutation-append_left (filter no_type es) (filter one_type es) xs (subst (λ (ys : List (Name × ItemKind)). IsPermutation ys xs) (types-selected es) (taken-all c es es (is_type_at es) ps xs ordered at))));
+      (IsPermutation-append_left (filter no_type es) (filter one_type es) xs (subst (λ (ys : List (Name × ItemKind)). IsPermutation ys xs) (types-selected es) (taken-all c es es (is_value_type_at es) ps xs ordered at))));
 }
 
 -- each position that is taken is one of the list
@@ -248,7 +248,7 @@ order-of c i it ps xs order found ordered at is x also =
     let same : it ≡ x = cc in
     subst (λ (y : Interface). IsOrder c y.exports order) same (is-order c it.exports ps xs order (ordered it found) at is)
 
-pub type-within : (es : List (Name × ItemKind)) (p : ℕ) → is_type_at es p ≡ true → p < length es
+pub type-within : (es : List (Name × ItemKind)) (p : ℕ) → is_value_type_at es p ≡ true → p < length es
 type-within [] p h = cc
 type-within (e ∷ es) zero h = omega arith
 type-within (e ∷ es) (suc p) h = let less : p < length es = type-within es p h in omega (arith, less)

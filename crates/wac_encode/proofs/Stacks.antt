@@ -4,7 +4,6 @@ use Rattle.std.specs.List.{AllByRecursion}
 use Rattle.std.specs.HashMap.{get}
 use Rattle.std.proofs.Common.{refl, ap, ◌∙◌, sym, subst, arith, length-append, zero-add}
 use Rattle.std.proofs.lemmas.List.{append-nil, append_assoc}
-use Rattle.wac_shapes.specs.Name.{Name}
 use Rattle.wac_shapes.specs.declared.component.DefinedType.{DefinedType}
 use Rattle.wac_shapes.specs.declared.component.DefinedTypeId.{DefinedTypeId}
 use Rattle.wac_shapes.specs.declared.component.ValueType.{ValueType}
@@ -32,7 +31,7 @@ use Rattle.wac_stacks.specs.Good.{Good, Onward}
 use Rattle.wac_stacks.specs.Parts.{IsWritten}
 use Rattle.wac_scopes.specs.Scoped.{index_of, named_index, type_index, value_index, named_at, listed_at, and_listed, listing, opened, IsAsBefore, HasToo, AddsValue, AliasesValue, AliasFits, WritesUnlessTooLarge, FitsUnlessTooLarge, RecordsUnlessTooLarge}
 use Rattle.wac_stacks.specs.Laws.{Follows, StaysOnward}
-use Rattle.wac_encode.specs.Written.{OfValue, SaysDefinition, GoesOn, NewType, defined, aliased, alias_of, as_item, as_decl, with_types, IsWrittenAs, IsWrittenAt, IsListedThere, name_after, WritesFor, unwritten, IsLargeFrom}
+use Rattle.wac_encode.specs.Written.{OfValue, SaysDefinition, GoesOn, NewType, defined, aliased, as_item, as_decl, with_types, IsWrittenAs, IsWrittenAt, IsListedThere, name_after, WritesFor, unwritten, IsLargeFrom}
 use Rattle.wac_encode.specs.Tasks.{and_new, WritesOne, IsOneRefused}
 use Rattle.wac_scopes.proofs.ScopedLaws.{recorded-same}
 use Rattle.wac_stacks.proofs.Moved.{ap2}

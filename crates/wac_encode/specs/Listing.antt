@@ -35,7 +35,7 @@ use Rattle.wac_stacks.specs.Good.{IsHeld, Good}
 use Rattle.wac_stacks.specs.Laws.{Adds}
 use Rattle.wac_scopes.specs.Scoped.{type_index, value_index, named_at, listed_at, and_listed, listing, opened, HasToo, AddsPrimitive, ListsValue}
 use Rattle.wac_listing.specs.Made.{OneItemIsMadeOf}
-use Rattle.wac_listing.specs.Order.{is_type, AreOrdered}
+use Rattle.wac_listing.specs.Order.{is_value_type, AreOrdered}
 use Rattle.wac_encode.specs.Written.{OfValue, PartOf, WritesFor, HasHandle, DoesNotFit, IsOfFunc, AddsHeldFunc, IsFuncAt, FuncDoesNotFit}
 
 -- closed, these declarations are the held interface, in each stack that is good with the scope around as the innermost, and that stack goes onward
@@ -47,6 +47,7 @@ SaysInterface c around i ds = (m : Bindings) (ms : List Bindings) (o : Open) (os
 -- whether an item is of a sort that is written so far, or that no instance type can list
 abbrev pub is_plain : ItemKind → Bool
 is_plain (kind.TypeItem (ty.Value v)) = true
+is_plain (kind.TypeItem (ty.Func f)) = true
 is_plain (kind.TypeItem (ty.Module m)) = true
 is_plain (kind.TypeItem t) = false
 is_plain (kind.Instance i) = false
@@ -59,13 +60,13 @@ are_plain es = list_all (λ e. is_plain e.1) es
 abbrev pub lists_plain : Collection → InterfaceId → Bool
 lists_plain c i = option_case (item_at c.interfaces i.0) true (λ it. are_plain it.exports)
 
--- the type items, each the first listed one of those left that mentions none of those left; then the others, as they are listed
+-- the type items of value types, each the first listed one of those left that mentions none of those left; then the others, as they are listed
 pub record IsOrder (c : Collection) (es order : List (Name × ItemKind)) : Type 0 where
   pub positions : List ℕ
   pub ordered : AreOrdered c es positions
   pub types : List (Name × ItemKind)
   pub at : AllZip (λ p e. slice_get es p ≡ Some e) positions types
-  pub is : order ≡ types ++ filter (λ e. not (is_type e.1)) es
+  pub is : order ≡ types ++ filter (λ e. not (is_value_type e.1)) es
   -- so they are the same items
   pub permutation : IsPermutation es order
 
@@ -131,6 +132,7 @@ IsListedAt old now v i = ⊥
 -- what an item is described by, where its types were written since old
 abbrev pub IsDescribed : Collection → Scope → Scope → ItemKind → Description → Type 0
 IsDescribed c old now (kind.TypeItem (ty.Value v)) (e.Equal i) = IsListedAt old now (value_resolved c v) i
+IsDescribed c old now (kind.TypeItem (ty.Func f)) (e.Equal i) = AddsHeldFunc c old now f i × IsFuncAt c f old now i
 IsDescribed c old now (kind.Func f) (e.Func i) = AddsHeldFunc c old now f i × IsFuncAt c f old now i
 IsDescribed c old now k d = ⊥
 
@@ -208,6 +210,7 @@ PrimitiveDoesNotFit v s = ⊥
 
 abbrev pub TypeDoesNotFit : Collection → ItemKind → Scope → Type 0
 TypeDoesNotFit c (kind.TypeItem (ty.Value v)) s = DoesNotFit c (PartOf c (value_resolved c v)) s ⊎ PrimitiveDoesNotFit (value_resolved c v) s
+TypeDoesNotFit c (kind.TypeItem (ty.Func f)) s = DoesNotFit c (IsOfFunc c f) s ⊎ FuncDoesNotFit c f s
 TypeDoesNotFit c (kind.Func f) s = DoesNotFit c (IsOfFunc c f) s ⊎ FuncDoesNotFit c f s
 TypeDoesNotFit c k s = ⊥
 
@@ -225,6 +228,7 @@ pub record ItemDoesNotFit (c : Collection) (n : Name) (k : ItemKind) (old : Scop
 -- which fault stands at an item: a handle, whose resource nothing binds; a core module type; what an instance type cannot list
 abbrev pub IsItemFault : Collection → ItemKind → WriteFault → Type 0
 IsItemFault c (kind.TypeItem (ty.Value v)) f = (f ≡ write.UnboundResource) × HasHandle (PartOf c (value_resolved c v))
+IsItemFault c (kind.TypeItem (ty.Func g)) f = (f ≡ write.UnboundResource) × HasHandle (IsOfFunc c g)
 IsItemFault c (kind.Func g) f = (f ≡ write.UnboundResource) × HasHandle (IsOfFunc c g)
 IsItemFault c (kind.TypeItem (ty.Module m)) f = f ≡ write.ModuleAsType
 IsItemFault c k f = f ≡ write.NestedItem

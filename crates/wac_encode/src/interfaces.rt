@@ -13,7 +13,7 @@ ghost use Rattle.wac_collection.specs.Aliases.{value_resolved};
 ghost use Rattle.wac_scopes.specs.declared.encodable.Encodable.TheVariants.{Instance};
 ghost use Rattle.wac_scopes.specs.Contents.{IsOpenType};
 ghost use Rattle.wac_scopes.specs.Scoped.{value_index};
-ghost use Rattle.wac_listing.specs.Order.{is_type};
+ghost use Rattle.wac_listing.specs.Order.{is_value_type};
 ghost use Rattle.wac_encode.specs.Listing.{SaysIfThere, WritesIfThere, is_plain as plain_item, are_plain as plain_items, lists_plain, IsOrder, WritesItem, WritesItems, IsItemRefused, AreRefused, IsInterfaceRefused};
 ghost use Rattle.wac_encode.specs.Items.{ListsHeld, CanClose, CanList, HasListed};
 
@@ -139,6 +139,24 @@ impl<'a> TypeEncoder<'a> {
         Ok(())
     }
 
+    /// Writes a function type, and lists it as a type item. It is still written by the index that it has.
+    fn func_type_item(
+        &self,
+        scope: &mut Scope,
+        name: &str,
+        func: FuncTypeId,
+    ) -> Result<(), EncodeFault>
+        requires held { HasFunc self.now.types.now func }
+        requires open { IsOpenType scope.old.content }
+        ensures listed { OnOk result (ListsHeld self.now.types.now scope.old scope.new name.now (kind.TypeItem (ty.Func func))) }
+        ensures wrote { OnOk result (WritesItem self.now.types.now scope.old scope.new name.now (kind.TypeItem (ty.Func func))) }
+        ensures fault { IsItemRefused self.now.types.now name.now (kind.TypeItem (ty.Func func)) scope.old result }
+    {
+        let index = self.func(scope, func)?;
+        scope.export_type(name, index)?;
+        Ok(())
+    }
+
     /// Writes what an item is made of, and lists it under its name.
     fn item(&self, scope: &mut Scope, name: &str, item: ItemKind) -> Result<(), EncodeFault>
         requires held { CanList self.now.types.now item }
@@ -149,6 +167,7 @@ impl<'a> TypeEncoder<'a> {
     {
         match item {
             ItemKind::TypeItem(Type::Value(value)) => self.type_item(scope, name, value),
+            ItemKind::TypeItem(Type::Func(func)) => self.func_type_item(scope, name, func),
             ItemKind::Func(func) => self.func_item(scope, name, func),
             ItemKind::TypeItem(Type::Module(_)) => {
                 Err(EncodeFault::Write(WriteFault::ModuleAsType))
@@ -204,13 +223,13 @@ impl<'a> TypeEncoder<'a> {
         are_plain(&self.types[interface].exports)
     }
 
-    /// Writes a held interface as an instance type: type items first, the next always the first listed one of those left that mentions
-    /// none of those left; then functions, as they are listed. A definition that a type item lists
+    /// Writes a held interface as an instance type: type items of value types first, the next always the first listed one of those left
+    /// that mentions none of those left; then functions and type items of function types, as they are listed. A definition that a type item lists
     /// is written by the first such item's index. What has a name in the scope around is aliased from there, and all else is defined, each
     /// once, just before what mentions it.
     ///
-    /// Answers none exactly where an item is of a sort that is not written: a resource, an instance, or a type item of a function type,
-    /// an interface or a world. Answers `UnboundResource` for an item that is made of a handle, `ModuleAsType` and `NestedItem` for
+    /// Answers none exactly where an item is of a sort that is not written: a resource, an instance, or a type item of an
+    /// interface or a world. Answers `UnboundResource` for an item that is made of a handle, `ModuleAsType` and `NestedItem` for
     /// one that no instance type can list, and `TooLarge` where what is written next does not fit, the first in order; `OutOfMemory`
     /// where memory was refused.
     pub fn interface_type(
@@ -268,12 +287,12 @@ fn items_at<'b>(
     Ok(order)
 }
 
-/// Puts the items that are no types behind these.
+/// Puts the items that are no type items of value types behind these.
 fn add_others<'b>(
     items: &'b Named<ItemKind>,
     order: &mut Vec<(&'b str, ItemKind)>,
 ) -> Result<(), AllocError>
-    ensures { OnOk result (named_pairs order.new.items ≡ named_pairs order.old.items ++ filter (λ e. not (is_type e.1)) items.now) }
+    ensures { OnOk result (named_pairs order.new.items ≡ named_pairs order.old.items ++ filter (λ e. not (is_value_type e.1)) items.now) }
 {
     for i in 0..items.len() {
         let (name, item) = items.entry_at(i);
@@ -284,11 +303,11 @@ fn add_others<'b>(
     Ok(())
 }
 
-/// Whether an item is a type.
+/// Whether an item is a type item of a value type.
 fn is_type_item(item: ItemKind) -> bool
-    ensures { result ≡ is_type item }
+    ensures { result ≡ is_value_type item }
 {
-    matches!(item, ItemKind::TypeItem(_))
+    matches!(item, ItemKind::TypeItem(Type::Value(_)))
 }
 
 /// The item at a position, which is one of the list.
@@ -304,7 +323,7 @@ fn is_plain(item: ItemKind) -> bool
     ensures { result ≡ plain_item item }
 {
     match item {
-        ItemKind::TypeItem(Type::Value(_) | Type::Module(_)) => true,
+        ItemKind::TypeItem(Type::Value(_) | Type::Func(_) | Type::Module(_)) => true,
         ItemKind::TypeItem(_) | ItemKind::Instance(_) => false,
         ItemKind::Func(_) | ItemKind::Component(_) | ItemKind::Module(_) | ItemKind::Value(_) =>
             true,

@@ -10,17 +10,18 @@ use Rattle.wac_shapes.specs.declared.component.Interface.{Interface}
 use Rattle.wac_shapes.specs.declared.component.InterfaceId.{InterfaceId}
 use Rattle.wac_shapes.specs.declared.component.ItemKind.{ItemKind}
 use Rattle.wac_shapes.specs.declared.component.ItemKind.TheVariants as kind
+use Rattle.wac_shapes.specs.declared.component.«Type».TheVariants as ty
 use Rattle.wac_shapes.specs.declared.component.«Type».{«Type» as AnyType}
 use Rattle.wac_collection.specs.Collection.{Collection, IsWellFormed, item_at}
 use Rattle.wac_edges.specs.declared.node.NodeId.{NodeId}
 use Rattle.wac_edges.specs.Edge.{node_number, is_left}
 use Rattle.wac_edges.specs.Order.{Edges, Writes}
-use Rattle.wac_listing.specs.Order.{listed, is_type, is_type_at, AreOrdered}
+use Rattle.wac_listing.specs.Order.{listed, is_value_type, is_value_type_at, AreOrdered}
 use Rattle.wac_listing.specs.Before.{ComesBefore, part, item, AreReached, flags, items_of}
 use Rattle.wac_listing.proofs.Taking.{AreExact, IsClosed, takes, within}
 
 abbrev flag_of : Name × ItemKind → Bool
-flag_of e = is_type e.1
+flag_of e = is_value_type e.1
 
 pub taken-all : {A : Type 0} (xs : List A) (n : ℕ) → n ≡ length xs → take n xs ≡ xs
 taken-all xs n is = take_all n xs (let enough : length xs ≤ n = omega (arith, is) in enough)
@@ -40,17 +41,17 @@ of-interface c i it (Ok v) found h = λ other also. let both : Some it ≡ Some 
 of-interface c i it (Err e) found h = tt
 
 -- one more flag
-pub flags-more : (n : ℕ) (es : List (Name × ItemKind)) (i : ℕ) (k : ItemKind) (old new : List Bool) (b : Bool) → option_map (λ e. e.1) (slice_get es i) ≡ Some k → b ≡ is_type k → old ≡ replicate n true ++ map (λ e. is_type e.1) (take i es) → new ≡ old ++ b ∷ []
-    → new ≡ replicate n true ++ map (λ e. is_type e.1) (take (i + 1) es)
+pub flags-more : (n : ℕ) (es : List (Name × ItemKind)) (i : ℕ) (k : ItemKind) (old new : List Bool) (b : Bool) → option_map (λ e. e.1) (slice_get es i) ≡ Some k → b ≡ is_value_type k → old ≡ replicate n true ++ map (λ e. is_value_type e.1) (take i es) → new ≡ old ++ b ∷ []
+    → new ≡ replicate n true ++ map (λ e. is_value_type e.1) (take (i + 1) es)
 flags-more n es i k old new b at flag before is = by_entry (slice_get es i) refl at
   where
-    by_entry : (o : Option (Name × ItemKind)) → slice_get es i ≡ o → option_map (λ e. e.1) o ≡ Some k → new ≡ replicate n true ++ map (λ e. is_type e.1) (take (i + 1) es)
+    by_entry : (o : Option (Name × ItemKind)) → slice_get es i ≡ o → option_map (λ e. e.1) o ≡ Some k → new ≡ replicate n true ++ map (λ e. is_value_type e.1) (take (i + 1) es)
     by_entry None there none = let none_some : None ≡ Some k = none in cc
     by_entry (Some e) there some =
         let both : Some e.1 ≡ Some k = some in
         let same : e.1 ≡ k = cc in
         is ∙ ap (λ xs. xs ++ b ∷ []) before ∙ append_assoc (replicate n true) (map flag_of (take i es)) (b ∷ [])
-        ∙ ap (λ (x : Bool). replicate n true ++ (map flag_of (take i es) ++ x ∷ [])) (flag ∙ ap is_type (sym same))
+        ∙ ap (λ (x : Bool). replicate n true ++ (map flag_of (take i es) ++ x ∷ [])) (flag ∙ ap is_value_type (sym same))
         ∙ ap (λ xs. replicate n true ++ xs) (sym (map-append flag_of (take i es) (e ∷ [])) ∙ ap (map flag_of) (sym (take_at es i e there)) ∙ ap (λ (j : ℕ). map flag_of (take j es)) (sym (add-one i)))
 
 get-left : {A : Type 0} (xs ys : List A) (k : ℕ) (d : A) → k < length xs → get_or (xs ++ ys) k d ≡ get_or xs k d
@@ -72,12 +73,17 @@ definition-left es ts k less =
     let long : k < length (replicate (length ts) true) = subst (λ n. k < n) (sym (length-replicate (length ts) true)) less in
     get-left (replicate (length ts) true) (map flag_of es) k false long ∙ get_or-replicate (length ts) k true false less
 
-item-left : (es : List (Name × ItemKind)) (ts : List AnyType) (p : ℕ) → is_left (flags es ts) (node_number (length ts + p)) ≡ is_type_at es p
+item-left : (es : List (Name × ItemKind)) (ts : List AnyType) (p : ℕ) → is_left (flags es ts) (node_number (length ts + p)) ≡ is_value_type_at es p
 item-left es ts p =
     ap (λ n. get_or (flags es ts) (n + p) false) (sym (length-replicate (length ts) true)) ∙ get-right (replicate (length ts) true) (map flag_of es) p false ∙ get-flag es p
 
-listed-type : (c : Collection) (k : ItemKind) (d : DefinedTypeId) → listed c k ≡ Some d → is_type k ≡ true
-listed-type c (kind.TypeItem t) d is = refl
+listed-type : (c : Collection) (k : ItemKind) (d : DefinedTypeId) → listed c k ≡ Some d → is_value_type k ≡ true
+listed-type c (kind.TypeItem (ty.Value v)) d is = refl
+listed-type c (kind.TypeItem (ty.Resource x)) d is = let none_some : None ≡ Some d = is in cc
+listed-type c (kind.TypeItem (ty.Func x)) d is = let none_some : None ≡ Some d = is in cc
+listed-type c (kind.TypeItem (ty.Interface x)) d is = let none_some : None ≡ Some d = is in cc
+listed-type c (kind.TypeItem (ty.World x)) d is = let none_some : None ≡ Some d = is in cc
+listed-type c (kind.TypeItem (ty.Module x)) d is = let none_some : None ≡ Some d = is in cc
 listed-type c (kind.Func x) d is = let none_some : None ≡ Some d = is in cc
 listed-type c (kind.Instance x) d is = let none_some : None ≡ Some d = is in cc
 listed-type c (kind.Component x) d is = let none_some : None ≡ Some d = is in cc
@@ -93,7 +99,7 @@ module _ (c : Collection) (wf : IsWellFormed c) (es : List (Name × ItemKind)) (
       by_edge (item d p lists at is) = ap (λ (n : ℕ). is_left (flags es ts) (node_number n)) is ∙ item-left es ts p ∙ ap (λ o. option_case o false flag_of) lists.1 ∙ listed-type c lists.0.1 d lists.2
 
   pub are-ordered : (left : List Bool) → left ≡ flags es ts → (ns : List NodeId) → Writes edges (is_left left) ns → AreOrdered c es (items_of (length ts) ns)
-  are-ordered left is ns writes = takes c wf es ts edges exact reached ns (is_left (flags es ts)) closed-first (is_type_at es) (λ q. sym (item-left es ts q)) (subst (λ (l : List Bool). Writes edges (is_left l) ns) is writes)
+  are-ordered left is ns writes = takes c wf es ts edges exact reached ns (is_left (flags es ts)) closed-first (is_value_type_at es) (λ q. sym (item-left es ts q)) (subst (λ (l : List Bool). Writes edges (is_left l) ns) is writes)
 
   pub ordered-ok : {E : Type 0} (r : Result (Vec ℕ Global) E) (count : ℕ) (left : List Bool) (ns : List NodeId) → count ≡ length ts → left ≡ flags es ts → Writes edges (is_left left) ns → IfOk r (λ v. v.items ≡ items_of count ns) → IfOk r (λ v. AreOrdered c es v.items)
   ordered-ok (Ok v) count left ns is flagged writes items = subst (AreOrdered c es) (sym (items ∙ ap (λ n. items_of n ns) is)) (are-ordered left flagged ns writes)

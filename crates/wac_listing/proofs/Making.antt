@@ -1,9 +1,9 @@
 -- What is found is what items are made of.
-use Rattle.std.specs.Prelude.{slice_get, ◌↔◌, Result, Ok, Err, IfOk}
+use Rattle.std.specs.Prelude.{slice_get, Result, Ok, Err, IfOk, OnOk}
 use Rattle.std.specs.List.{IsDistinct}
 use Rattle.wac_reach.proofs.Universe.{types_of, found_few}
 use Rattle.std.proofs.lemmas.Option.{slice_get-get_or}
-use Rattle.std.proofs.Common.{append_assoc, get_or, add-one, ℕ, zero, suc, ◌+◌, ◌<◌, ◌≤◌, ◌≡◌, ◌⊎◌, inl, inr, ◌∙◌, nat_lt, true, false, List, [], ◌∷◌, ◌++◌, drop, take, Option, Some, None, length, refl, ap, sym, subst, arith}
+use Rattle.std.proofs.Common.{append_assoc, get_or, add-one, ℕ, zero, suc, ◌+◌, ◌<◌, ◌≤◌, ◌≡◌, ◌⊎◌, inl, inr, ◌∙◌, nat_lt, true, List, [], ◌∷◌, ◌++◌, drop, take, Option, Some, None, length, refl, ap, sym, subst, arith}
 use Rattle.std.specs.Option.{option_map}
 use Rattle.std.proofs.lemmas.List.{append-nil}
 use Rattle.std.proofs.lemmas.List.Sums.{fold-append}
@@ -15,7 +15,6 @@ use Rattle.wac_shapes.specs.contracts.component.TypePartialEq.TheImpl as TypeEq
 use Rattle.wac_shapes.specs.declared.component.DefinedType.{DefinedType}
 use Rattle.wac_shapes.specs.declared.component.DefinedTypeId.{DefinedTypeId}
 use Rattle.wac_shapes.specs.declared.component.FuncType.{FuncType}
-use Rattle.wac_shapes.specs.declared.component.FuncTypeId.{FuncTypeId}
 use Rattle.wac_shapes.specs.declared.component.Interface.{Interface}
 use Rattle.wac_shapes.specs.declared.component.InterfaceId.{InterfaceId}
 use Rattle.wac_shapes.specs.declared.component.ItemKind.{ItemKind}
@@ -25,15 +24,15 @@ use Rattle.wac_shapes.specs.declared.component.ValueType.TheVariants as val
 use Rattle.wac_shapes.specs.declared.component.«Type».{«Type» as AnyType}
 use Rattle.wac_shapes.specs.declared.component.«Type».TheVariants as ty
 use Rattle.wac_collection.specs.declared.collection.Held.{Held}
-use Rattle.wac_collection.specs.Collection.{Collection, IsWellFormed, HasDefined, and_maybe, func_values, func_mentions, holds_type, holds_value, item_at, seconds, used_types, kind_types, value_types, interface_mentions, defined_mentions}
+use Rattle.wac_collection.specs.Collection.{Collection, IsWellFormed, HasDefined, and_maybe, func_values, func_mentions, holds_type, holds_value, item_at, seconds, used_types, kind_types, value_types, interface_exports, interface_mentions, defined_mentions}
 use Rattle.wac_collection.specs.Aliases.{value_resolved}
 use Rattle.wac_collection.proofs.Ends.{end_is_held}
-use Rattle.wac_reach.specs.Reach.{IsIn, mentions}
+use Rattle.wac_reach.specs.Reach.{IsIn}
 use Rattle.wac_reach.specs.Found.{with_all}
-use Rattle.wac_reach.proofs.Lists.{in_at, at_in, in_left, in_right, in_either, all_old, all_new, all_only, all_grown}
+use Rattle.wac_reach.proofs.Lists.{in_at, at_in, in_right, all_old, all_new, all_only, all_grown}
 use Rattle.wac_reach.proofs.Reaching.{mentioned_held}
-use Rattle.wac_listing.specs.Made.{parts, MadeOf, itself, part, OneIsMadeOf, item_values, OneItemIsMadeOf, AreMadeOf}
-use Rattle.wac_listing.specs.Found.{somes, and_end, ends, with_ends, func_ends, item_ends, items_ends, definition_in, definitions_in}
+use Rattle.wac_listing.specs.Made.{parts, MadeOf, itself, part, item_values, IsItemIn, listed, nested, OneItemIsMadeOf, AreMadeOf}
+use Rattle.wac_listing.specs.Found.{somes, and_end, ends, with_ends, func_ends, item_ends, items_ends, found_ends, definition_in, definitions_in}
 use Rattle.wac_listing.proofs.Reached.{kind-in, part-in}
 
 of_definition : DefinedTypeId → AnyType
@@ -156,22 +155,67 @@ puts-func c ts f = by_result f.result
 puts-none : (c : Collection) (ts : List AnyType) → Puts c [] ts ts
 puts-none c ts = puts-ends c ts []
 
-pub puts-item : (c : Collection) (ts : List AnyType) (k : ItemKind) → Puts c (item_values c k) ts (item_ends c ts k)
-puts-item c ts (kind.TypeItem (ty.Value v)) = puts-ends c ts (v ∷ [])
-puts-item c ts (kind.TypeItem (ty.Resource x)) = puts-none c ts
-puts-item c ts (kind.TypeItem (ty.Func x)) = puts-none c ts
-puts-item c ts (kind.TypeItem (ty.Interface x)) = puts-none c ts
-puts-item c ts (kind.TypeItem (ty.World x)) = puts-none c ts
-puts-item c ts (kind.TypeItem (ty.Module x)) = puts-none c ts
-puts-item c ts (kind.Func f) = by_func (item_at c.funcs f.0)
+puts-held : (c : Collection) (ts : List AnyType) (o : Option FuncType) → Puts c (option_case o [] func_values) ts (option_case o ts (func_ends c ts))
+puts-held c ts None = puts-none c ts
+puts-held c ts (Some x) = puts-func c ts x
+
+-- what an item mentions is found: the ends of its value types, and of an instance the interface
+pub record ItemFound (c : Collection) (k : ItemKind) (ts : List AnyType) : Type 0 where
+  pub values : (j : ℕ) (v : ValueType) (d : DefinedTypeId) → slice_get (item_values c k) j ≡ Some v → value_resolved c v ≡ val.Defined d → IsIn (ty.Value (val.Defined d)) ts
+  pub interface : (i : InterfaceId) → k ≡ kind.Instance i → IsIn (ty.Interface i) ts
+
+found-more : (c : Collection) (k : ItemKind) (old new : List AnyType) → ((t : AnyType) → IsIn t old → IsIn t new) → ItemFound c k old → ItemFound c k new
+found-more c k old new kept f = record { values = λ j v d at is. kept (ty.Value (val.Defined d)) (f.values j v d at is); interface = λ i is. kept (ty.Interface i) (f.interface i is) }
+
+-- a type that it mentions
+abbrev OfItem : Collection → ItemKind → AnyType → Type 0
+OfItem c k t = EndsIn c (item_values c k) t ⊎ ((i : InterfaceId) × (k ≡ kind.Instance i) × (t ≡ ty.Interface i))
+
+-- From old to new, what an item mentions is put, and that alone.
+record PutsItem (c : Collection) (k : ItemKind) (old new : List AnyType) : Type 0 where
+  pub old_in : (t : AnyType) → IsIn t old → IsIn t new
+  pub put : ItemFound c k new
+  pub only : (t : AnyType) → IsIn t new → IsIn t old ⊎ OfItem c k t
+  pub more : List AnyType
+  pub grown : new ≡ old ++ more
+
+puts-values : (c : Collection) (k : ItemKind) (old new : List AnyType) → ((i : InterfaceId) → k ≡ kind.Instance i → ⊥) → Puts c (item_values c k) old new → PutsItem c k old new
+puts-values c k old new other p = record {
+  old_in = p.old_in;
+  put = record { values = p.put; interface = λ i is. absurd (other i is) };
+  only = λ t h. elim (p.only t h) [ inl o ↦ inl o | inr e ↦ inr (inl e) ];
+  more = p.more;
+  grown = p.grown;
+}
+
+puts-instance : (c : Collection) (ts : List AnyType) (i : InterfaceId) → PutsItem c (kind.Instance i) ts (with_all ts (ty.Interface i ∷ []))
+puts-instance c ts i = record {
+  old_in = λ t h. all_old ts (ty.Interface i ∷ []) t h;
+  put = record {
+    values = λ j v d at is. let no_some : None ≡ Some v = at in cc;
+    interface = λ j is. all_new ts (ty.Interface i ∷ []) (ty.Interface j) (inl (let same : i ≡ j = cc in ap ty.Interface (sym same)));
+  };
+  only = λ t h. elim (all_only ts (ty.Interface i ∷ []) t h) [ inl o ↦ inl o | inr n ↦ inr (inr (i, refl, this t n)) ];
+  more = (all_grown ts (ty.Interface i ∷ [])).0;
+  grown = (all_grown ts (ty.Interface i ∷ [])).1;
+}
   where
-    by_func : (o : Option FuncType) → Puts c (option_case o [] func_values) ts (option_case o ts (func_ends c ts))
-    by_func None = puts-none c ts
-    by_func (Some x) = puts-func c ts x
-puts-item c ts (kind.Instance x) = puts-none c ts
-puts-item c ts (kind.Component x) = puts-none c ts
-puts-item c ts (kind.Module x) = puts-none c ts
-puts-item c ts (kind.Value x) = puts-none c ts
+    this : (t : AnyType) → IsIn t (ty.Interface i ∷ []) → t ≡ ty.Interface i
+    this t (inl e) = e
+    this t (inr n) = absurd n
+
+puts-item : (c : Collection) (ts : List AnyType) (k : ItemKind) → PutsItem c k ts (item_ends c ts k)
+puts-item c ts (kind.TypeItem (ty.Value v)) = puts-values c (kind.TypeItem (ty.Value v)) ts (with_ends c ts (v ∷ [])) (λ i is. cc) (puts-ends c ts (v ∷ []))
+puts-item c ts (kind.TypeItem (ty.Resource x)) = puts-values c (kind.TypeItem (ty.Resource x)) ts ts (λ i is. cc) (puts-none c ts)
+puts-item c ts (kind.TypeItem (ty.Func f)) = puts-values c (kind.TypeItem (ty.Func f)) ts (item_ends c ts (kind.TypeItem (ty.Func f))) (λ i is. cc) (puts-held c ts (item_at c.funcs f.0))
+puts-item c ts (kind.TypeItem (ty.Interface x)) = puts-values c (kind.TypeItem (ty.Interface x)) ts ts (λ i is. cc) (puts-none c ts)
+puts-item c ts (kind.TypeItem (ty.World x)) = puts-values c (kind.TypeItem (ty.World x)) ts ts (λ i is. cc) (puts-none c ts)
+puts-item c ts (kind.TypeItem (ty.Module x)) = puts-values c (kind.TypeItem (ty.Module x)) ts ts (λ i is. cc) (puts-none c ts)
+puts-item c ts (kind.Func f) = puts-values c (kind.Func f) ts (item_ends c ts (kind.Func f)) (λ i is. cc) (puts-held c ts (item_at c.funcs f.0))
+puts-item c ts (kind.Instance x) = puts-instance c ts x
+puts-item c ts (kind.Component x) = puts-values c (kind.Component x) ts ts (λ i is. cc) (puts-none c ts)
+puts-item c ts (kind.Module x) = puts-values c (kind.Module x) ts ts (λ i is. cc) (puts-none c ts)
+puts-item c ts (kind.Value x) = puts-values c (kind.Value x) ts ts (λ i is. cc) (puts-none c ts)
 
 -- what is held
 
@@ -189,7 +233,11 @@ held-item : (c : Collection) → IsWellFormed c → (item : ItemKind) (k : ℕ) 
 held-item c wf (kind.TypeItem (ty.Value w)) zero v held at = let both : Some w ≡ Some v = at in let same : w ≡ v = cc in subst (λ (u : ValueType). holds_value c u ≡ true) same held
 held-item c wf (kind.TypeItem (ty.Value w)) (suc k) v held at = let no_some : None ≡ Some v = at in cc
 held-item c wf (kind.TypeItem (ty.Resource x)) k v held at = let no_some : None ≡ Some v = at in cc
-held-item c wf (kind.TypeItem (ty.Func x)) k v held at = let no_some : None ≡ Some v = at in cc
+held-item c wf (kind.TypeItem (ty.Func f)) k v held at = by_func (item_at c.funcs f.0) refl at
+  where
+    by_func : (o : Option FuncType) → item_at c.funcs f.0 ≡ o → slice_get (option_case o [] func_values) k ≡ Some v → holds_value c v ≡ true
+    by_func None is h = let no_some : None ≡ Some v = h in cc
+    by_func (Some x) is h = mentioned_held c wf (ty.Func f) (ty.Value v) held (subst (λ (o : Option FuncType). IsIn (ty.Value v) (option_case o [] func_mentions)) (sym is) (value-in (func_values x) k v h))
 held-item c wf (kind.TypeItem (ty.Interface x)) k v held at = let no_some : None ≡ Some v = at in cc
 held-item c wf (kind.TypeItem (ty.World x)) k v held at = let no_some : None ≡ Some v = at in cc
 held-item c wf (kind.TypeItem (ty.Module x)) k v held at = let no_some : None ≡ Some v = at in cc
@@ -212,31 +260,48 @@ held-part c wf d x k v held found at =
 abbrev pub AreHeld : Collection → List (Name × ItemKind) → Type 0
 AreHeld c es = (p : ℕ) (e : Name × ItemKind) → slice_get es p ≡ Some e → holds_type c (kind_type e.1) ≡ true
 
--- a definition that is found, which items are made of
-pub record IsMade (c : Collection) (es : List (Name × ItemKind)) (t : AnyType) : Type 0 where
-  pub id : DefinedTypeId
-  pub is : t ≡ ty.Value (val.Defined id)
-  pub made : OneItemIsMadeOf c es (val.Defined id)
-  pub held : HasDefined c id
+-- what an interface lists is held
+pub exports-held : (c : Collection) → IsWellFormed c → (i : InterfaceId) → holds_type c (ty.Interface i) ≡ true → AreHeld c (interface_exports c i)
+exports-held c wf i held p e at = by_interface (item_at c.interfaces i.0) refl at
+  where
+    by_interface : (o : Option Interface) → item_at c.interfaces i.0 ≡ o → slice_get (option_case o [] (λ it. it.exports)) p ≡ Some e → holds_type c (kind_type e.1) ≡ true
+    by_interface None is there = let no_some : None ≡ Some e = there in cc
+    by_interface (Some it) is there =
+        let mentioned : IsIn (kind_type e.1) (interface_mentions it) = in_right (kind_type e.1) (used_types it.uses) (kind_types it.exports) (kind-in it.exports p e there) in
+        mentioned_held c wf (ty.Interface i) (kind_type e.1) held (subst (λ (o : Option Interface). IsIn (kind_type e.1) (option_case o [] interface_mentions)) (sym is) mentioned)
 
--- The definitions that were found, of which those before the next have been looked at.
+item-held : (c : Collection) → IsWellFormed c → (es : List (Name × ItemKind)) → AreHeld c es → (k : ItemKind) → IsItemIn c es k → holds_type c (kind_type k) ≡ true
+item-held c wf es held _ (listed p e at) = held p e at
+item-held c wf es held _ (nested i p e within at) = exports-held c wf i (item-held c wf es held (kind.Instance i) within) p e at
+
+-- a type that is found: a definition that items are made of, or the interface of an instance among them
+pub data IsMade (c : Collection) (es : List (Name × ItemKind)) (t : AnyType) : Type 0 where
+  definition_made : (d : DefinedTypeId) → t ≡ ty.Value (val.Defined d) → OneItemIsMadeOf c es (val.Defined d) → HasDefined c d → IsMade c es t
+  interface_made : (i : InterfaceId) → t ≡ ty.Interface i → IsItemIn c es (kind.Instance i) → holds_type c (ty.Interface i) ≡ true → IsMade c es t
+
+-- The types that were found, of which those before the next have been looked at.
 pub record AreFound (c : Collection) (es : List (Name × ItemKind)) (ts : List AnyType) (next : ℕ) : Type 0 where
   pub made : (t : AnyType) → IsIn t ts → IsMade c es t
-  pub items : (p : ℕ) (e : Name × ItemKind) (k : ℕ) (v : ValueType) (d : DefinedTypeId) → slice_get es p ≡ Some e → slice_get (item_values c e.1) k ≡ Some v → value_resolved c v ≡ val.Defined d → IsIn (ty.Value (val.Defined d)) ts
+  pub items : (p : ℕ) (e : Name × ItemKind) → slice_get es p ≡ Some e → ItemFound c e.1 ts
   pub closed : (i : ℕ) (d : DefinedTypeId) (x : DefinedType) (k : ℕ) (v : ValueType) (e : DefinedTypeId) → i < next → slice_get ts i ≡ Some (ty.Value (val.Defined d)) → item_at c.defined d.0 ≡ Some x → slice_get (parts x) k ≡ Some (Some v)
       → value_resolved c v ≡ val.Defined e → IsIn (ty.Value (val.Defined e)) ts
+  pub inner : (n : ℕ) (i : InterfaceId) (p : ℕ) (e : Name × ItemKind) → n < next → slice_get ts n ≡ Some (ty.Interface i) → slice_get (interface_exports c i) p ≡ Some e → ItemFound c e.1 ts
 
 -- what a list of items puts
 pub record PutsItems (c : Collection) (es : List (Name × ItemKind)) (old new : List AnyType) : Type 0 where
   pub old_in : (t : AnyType) → IsIn t old → IsIn t new
-  pub put : (p : ℕ) (e : Name × ItemKind) (k : ℕ) (v : ValueType) (d : DefinedTypeId) → slice_get es p ≡ Some e → slice_get (item_values c e.1) k ≡ Some v → value_resolved c v ≡ val.Defined d → IsIn (ty.Value (val.Defined d)) new
-  pub only : (t : AnyType) → IsIn t new → IsIn t old ⊎ ((p : ℕ) × (e : Name × ItemKind) × (slice_get es p ≡ Some e) × EndsIn c (item_values c e.1) t)
+  pub put : (p : ℕ) (e : Name × ItemKind) → slice_get es p ≡ Some e → ItemFound c e.1 new
+  pub only : (t : AnyType) → IsIn t new → IsIn t old ⊎ ((p : ℕ) × (e : Name × ItemKind) × (slice_get es p ≡ Some e) × OfItem c e.1 t)
+  pub more : List AnyType
+  pub grown : new ≡ old ++ more
 
 puts-items : (c : Collection) (es : List (Name × ItemKind)) (ts : List AnyType) → PutsItems c es ts (items_ends c ts es)
 puts-items c [] ts = record {
   old_in = λ t h. h;
-  put = λ p e k v d at. let no_some : None ≡ Some e = at in cc;
+  put = λ p e at. let no_some : None ≡ Some e = at in cc;
   only = λ t h. inl h;
+  more = [];
+  grown = sym (append-nil ts);
 }
 puts-items c (f ∷ es) ts =
     let first = puts-item c ts f.1 in
@@ -245,29 +310,31 @@ puts-items c (f ∷ es) ts =
       old_in = λ t h. rest.old_in t (first.old_in t h);
       put = put first rest;
       only = λ t h. elim (rest.only t h) [ inl k ↦ elim (first.only t k) [ inl j ↦ inl j | inr e ↦ inr (0, f, refl, e) ] | inr e ↦ inr (suc e.0, e.1, e.2, e.3) ];
+      more = first.more ++ rest.more;
+      grown = rest.grown ∙ ap (λ (xs : List AnyType). xs ++ rest.more) first.grown ∙ append_assoc ts first.more rest.more;
     }
   where
-    put : Puts c (item_values c f.1) ts (item_ends c ts f.1) → PutsItems c es (item_ends c ts f.1) (items_ends c (item_ends c ts f.1) es) → (p : ℕ) (e : Name × ItemKind) (k : ℕ) (v : ValueType) (d : DefinedTypeId) → slice_get (f ∷ es) p ≡ Some e
-        → slice_get (item_values c e.1) k ≡ Some v → value_resolved c v ≡ val.Defined d → IsIn (ty.Value (val.Defined d)) (items_ends c (item_ends c ts f.1) es)
-    put first rest zero e k v d at value is =
+    put : PutsItem c f.1 ts (item_ends c ts f.1) → PutsItems c es (item_ends c ts f.1) (items_ends c (item_ends c ts f.1) es) → (p : ℕ) (e : Name × ItemKind) → slice_get (f ∷ es) p ≡ Some e → ItemFound c e.1 (items_ends c (item_ends c ts f.1) es)
+    put first rest zero e at =
         let both : Some f ≡ Some e = at in
         let same : f ≡ e = cc in
-        rest.old_in (ty.Value (val.Defined d)) (first.put k v d (subst (λ (x : Name × ItemKind). slice_get (item_values c x.1) k ≡ Some v) (sym same) value) is)
-    put first rest (suc p) e k v d at value is = rest.put p e k v d at value is
+        subst (λ (x : Name × ItemKind). ItemFound c x.1 (items_ends c (item_ends c ts f.1) es)) same (found-more c f.1 (item_ends c ts f.1) (items_ends c (item_ends c ts f.1) es) rest.old_in first.put)
+    put first rest (suc p) e at = rest.put p e at
 
-made-item : (c : Collection) → IsWellFormed c → (es : List (Name × ItemKind)) (p : ℕ) (e : Name × ItemKind) (t : AnyType) → AreHeld c es → slice_get es p ≡ Some e → EndsIn c (item_values c e.1) t → IsMade c es t
-made-item c wf es p e t held at i = record {
-  id = i.definition;
-  is = i.is;
-  made = (p, e, at, (i.position, i.value, i.at, subst (MadeOf c (value_resolved c i.value)) i.end itself));
-  held = held-end c wf i.value i.definition (held-item c wf e.1 i.position i.value (held p e at) i.at) i.end;
-}
+made-item : (c : Collection) → IsWellFormed c → (es : List (Name × ItemKind)) (k : ItemKind) (t : AnyType) → AreHeld c es → IsItemIn c es k → OfItem c k t → IsMade c es t
+made-item c wf es k t held within (inl i) = definition_made i.definition i.is
+    (k, within, (i.position, i.value, i.at, subst (MadeOf c (value_resolved c i.value)) i.end itself))
+    (held-end c wf i.value i.definition (held-item c wf k i.position i.value (item-held c wf es held k within) i.at) i.end)
+made-item c wf es k t held within (inr (i, is, same)) =
+    let here : IsItemIn c es (kind.Instance i) = subst (IsItemIn c es) is within in
+    interface_made i same here (item-held c wf es held (kind.Instance i) here)
 
 pub found-first : (c : Collection) → IsWellFormed c → (es : List (Name × ItemKind)) → AreHeld c es → AreFound c es (items_ends c [] es) 0
 found-first c wf es held = record {
-  made = λ t h. elim ((puts-items c es []).only t h) [ inl n ↦ absurd n | inr e ↦ made-item c wf es e.0 e.1 t held e.2 e.3 ];
-  items = λ p e k v d at value is. (puts-items c es []).put p e k v d at value is;
+  made = λ t h. elim ((puts-items c es []).only t h) [ inl n ↦ absurd n | inr e ↦ made-item c wf es e.1.1 t held (listed e.0 e.1 e.2) e.3 ];
+  items = (puts-items c es []).put;
   closed = λ i d x k v e l is found at end. absurd (omega (arith, l));
+  inner = λ n i p e l is at. absurd (omega (arith, l));
 }
 
 -- the parts that hold something, by their positions
@@ -287,68 +354,111 @@ at-some (Some w ∷ os) (suc j) v at = let r = at-some os j v at in (suc r.0, r.
 -- a part of what one item is made of
 further : (c : Collection) (es : List (Name × ItemKind)) (d : DefinedTypeId) (x : DefinedType) (k : ℕ) (v : ValueType) (e : DefinedTypeId) → item_at c.defined d.0 ≡ Some x → slice_get (parts x) k ≡ Some (Some v) → value_resolved c v ≡ val.Defined e
     → OneItemIsMadeOf c es (val.Defined d) → OneItemIsMadeOf c es (val.Defined e)
-further c es d x k v e found at is (p, f, here, (j, w, value, made)) = (p, f, here, (j, w, value, subst (MadeOf c (value_resolved c w)) is (part d x k v made found at)))
+further c es d x k v e found at is (item, within, (j, w, value, made)) = (item, within, (j, w, value, subst (MadeOf c (value_resolved c w)) is (part d x k v made found at)))
 
-module _ (c : Collection) (wf : IsWellFormed c) (es : List (Name × ItemKind)) (ts : List AnyType) (next : ℕ) (d : DefinedTypeId) (x : DefinedType) (at : slice_get ts next ≡ Some (ty.Value (val.Defined d))) (found : item_at c.defined d.0 ≡ Some x) (f : AreFound c es ts next) where
-  same-id : (a b : DefinedTypeId) → ty.Value (val.Defined a) ≡ ty.Value (val.Defined b) → a ≡ b
-  same-id a b e = cc
+-- positions of a list that has grown
 
-  this : IsMade c es (ty.Value (val.Defined d))
-  this = f.made (ty.Value (val.Defined d)) (in_at (ty.Value (val.Defined d)) ts next at)
+earlier : (xs added : List AnyType) (i : ℕ) (a b : AnyType) → slice_get xs i ≡ Some a → slice_get (xs ++ added) i ≡ Some b → b ≡ a
+earlier [] added i a b is also = cc
+earlier (z ∷ xs) added zero a b is also = cc
+earlier (z ∷ xs) added (suc i) a b is also = earlier xs added i a b is also
 
-  here : OneItemIsMadeOf c es (val.Defined d)
-  here = subst (λ (y : DefinedTypeId). OneItemIsMadeOf c es (val.Defined y)) (sym (same-id d this.id this.is)) this.made
+before : (xs added : List AnyType) (i n : ℕ) (a b : AnyType) → i < n → slice_get xs n ≡ Some a → slice_get (xs ++ added) i ≡ Some b → slice_get xs i ≡ Some b
+before [] added i n a b l is also = cc
+before (z ∷ xs) added zero n a b l is also = also
+before (z ∷ xs) added (suc i) zero a b l is also = absurd (omega (arith, l))
+before (z ∷ xs) added (suc i) (suc n) a b l is also = before xs added i n a b (omega (arith, l)) is also
 
-  held-here : HasDefined c d
-  held-here = subst (HasDefined c) (sym (same-id d this.id this.is)) this.held
+order : (i n : ℕ) → i < n + 1 → (i < n) ⊎ (i ≡ n)
+order zero zero l = inr refl
+order zero (suc n) l = inl (omega arith)
+order (suc i) zero l = absurd (omega (arith, l))
+order (suc i) (suc n) l = elim (order i n (omega (arith, l))) [ inl k ↦ inl (omega (arith, k)) | inr e ↦ inr (ap suc e) ]
 
-  made-part : (t : AnyType) → EndsIn c (somes (parts x)) t → IsMade c es t
-  made-part t i =
-      let place = at-some (parts x) i.position i.value i.at in
-      record {
-        id = i.definition;
-        is = i.is;
-        made = further c es d x place.0 i.value i.definition found place.1 i.end here;
-        held = held-end c wf i.value i.definition (held-part c wf d x place.0 i.value held-here found place.1) i.end;
-      }
+-- what the type at the next position mentions is put, and that alone
+record PutsNext (c : Collection) (es : List (Name × ItemKind)) (t : AnyType) (ts new : List AnyType) : Type 0 where
+  pub old_in : (u : AnyType) → IsIn u ts → IsIn u new
+  pub more : List AnyType
+  pub grown : new ≡ ts ++ more
+  pub only : (u : AnyType) → IsIn u new → IsIn u ts ⊎ IsMade c es u
+  pub parts_put : (d : DefinedTypeId) (x : DefinedType) (k : ℕ) (v : ValueType) (e : DefinedTypeId) → ty.Value (val.Defined d) ≡ t → item_at c.defined d.0 ≡ Some x → slice_get (parts x) k ≡ Some (Some v) → value_resolved c v ≡ val.Defined e → IsIn (ty.Value (val.Defined e)) new
+  pub items_put : (i : InterfaceId) (p : ℕ) (e : Name × ItemKind) → ty.Interface i ≡ t → slice_get (interface_exports c i) p ≡ Some e → ItemFound c e.1 new
 
-  earlier : (xs added : List AnyType) (i : ℕ) (a b : AnyType) → slice_get xs i ≡ Some a → slice_get (xs ++ added) i ≡ Some b → b ≡ a
-  earlier [] added i a b is also = cc
-  earlier (z ∷ xs) added zero a b is also = cc
-  earlier (z ∷ xs) added (suc i) a b is also = earlier xs added i a b is also
+module _ (c : Collection) (es : List (Name × ItemKind)) (ts new : List AnyType) (next : ℕ) (t : AnyType) (at : slice_get ts next ≡ Some t) (f : AreFound c es ts next) (puts : PutsNext c es t ts new) where
+  there : (n : ℕ) (u : AnyType) → slice_get new n ≡ Some u → slice_get (ts ++ puts.more) n ≡ Some u
+  there n u is = ap (λ (xs : List AnyType). slice_get xs n) (sym puts.grown) ∙ is
 
-  before : (xs added : List AnyType) (i n : ℕ) (a b : AnyType) → i < n → slice_get xs n ≡ Some a → slice_get (xs ++ added) i ≡ Some b → slice_get xs i ≡ Some b
-  before [] added i n a b l is also = cc
-  before (z ∷ xs) added zero n a b l is also = also
-  before (z ∷ xs) added (suc i) zero a b l is also = absurd (omega (arith, l))
-  before (z ∷ xs) added (suc i) (suc n) a b l is also = before xs added i n a b (omega (arith, l)) is also
+  next-is : (n : ℕ) (u : AnyType) → n ≡ next → slice_get new n ≡ Some u → u ≡ t
+  next-is n u same is = earlier ts puts.more next t u at (ap (slice_get (ts ++ puts.more)) (sym same) ∙ there n u is)
 
-  order : (i n : ℕ) → i < n + 1 → (i < n) ⊎ (i ≡ n)
-  order zero zero l = inr refl
-  order zero (suc n) l = inl (omega arith)
-  order (suc i) zero l = absurd (omega (arith, l))
-  order (suc i) (suc n) l = elim (order i n (omega (arith, l))) [ inl k ↦ inl (omega (arith, k)) | inr e ↦ inr (ap suc e) ]
-
-  pub found-next : AreFound c es (with_ends c ts (somes (parts x))) (next + 1)
-  found-next = record {
-    made = λ t h. elim (puts.only t h) [ inl k ↦ f.made t k | inr e ↦ made-part t e ];
-    items = λ p e k v b h value is. puts.old_in (ty.Value (val.Defined b)) (f.items p e k v b h value is);
-    closed = λ i b y k v e l is of part_ end. closed i b y k v e (order i next l) is of part_ end;
+  found-on : AreFound c es new (next + 1)
+  found-on = record {
+    made = λ u h. elim (puts.only u h) [ inl k ↦ f.made u k | inr m ↦ m ];
+    items = λ p e h. found-more c e.1 ts new puts.old_in (f.items p e h);
+    closed = λ i b y k v e l is of part_ end. elim (order i next l) [
+      | inl less ↦ puts.old_in (ty.Value (val.Defined e)) (f.closed i b y k v e less (before ts puts.more i next t (ty.Value (val.Defined b)) less at (there i (ty.Value (val.Defined b)) is)) of part_ end)
+      | inr same ↦ puts.parts_put b y k v e (next-is i (ty.Value (val.Defined b)) same is) of part_ end
+    ];
+    inner = λ n i p e l is of. elim (order n next l) [
+      | inl less ↦ found-more c e.1 ts new puts.old_in (f.inner n i p e less (before ts puts.more n next t (ty.Interface i) less at (there n (ty.Interface i) is)) of)
+      | inr same ↦ puts.items_put i p e (next-is n (ty.Interface i) same is) of
+    ];
   }
-    where
-      puts : Puts c (somes (parts x)) ts (with_ends c ts (somes (parts x)))
-      puts = puts-ends c ts (somes (parts x))
 
-      closed : (i : ℕ) (b : DefinedTypeId) (y : DefinedType) (k : ℕ) (v : ValueType) (e : DefinedTypeId) → (i < next) ⊎ (i ≡ next) → slice_get (with_ends c ts (somes (parts x))) i ≡ Some (ty.Value (val.Defined b)) → item_at c.defined b.0 ≡ Some y
-          → slice_get (parts y) k ≡ Some (Some v) → value_resolved c v ≡ val.Defined e → IsIn (ty.Value (val.Defined e)) (with_ends c ts (somes (parts x)))
-      closed i b y k v e (inl l) is of part_ end = puts.old_in (ty.Value (val.Defined e)) (f.closed i b y k v e l (before ts puts.more i next (ty.Value (val.Defined d)) (ty.Value (val.Defined b)) l at (subst (λ (z : List AnyType). slice_get z i ≡ Some (ty.Value (val.Defined b))) puts.grown is)) of part_ end)
-      closed i b y k v e (inr same) is of part_ end =
-          let there : slice_get (ts ++ puts.more) next ≡ Some (ty.Value (val.Defined b)) = subst (λ (z : List AnyType). slice_get z next ≡ Some (ty.Value (val.Defined b))) puts.grown (subst (λ (n : ℕ). slice_get (with_ends c ts (somes (parts x))) n ≡ Some (ty.Value (val.Defined b))) same is) in
-          let one : b ≡ d = same-id b d (earlier ts puts.more next (ty.Value (val.Defined d)) (ty.Value (val.Defined b)) at there) in
-          let both : Some y ≡ Some x = sym of ∙ ap (λ (z : DefinedTypeId). item_at c.defined z.0) one ∙ found in
-          let this_one : y ≡ x = cc in
-          let place = some-at (parts x) k v (ap (λ (z : DefinedType). slice_get (parts z) k) (sym this_one) ∙ part_) in
-          puts.put place.0 v e place.1 end
+-- a definition
+puts-parts : (c : Collection) → IsWellFormed c → (es : List (Name × ItemKind)) (ts : List AnyType) (d : DefinedTypeId) (x : DefinedType) → item_at c.defined d.0 ≡ Some x → OneItemIsMadeOf c es (val.Defined d) → HasDefined c d → PutsNext c es (ty.Value (val.Defined d)) ts (with_ends c ts (somes (parts x)))
+puts-parts c wf es ts d x found made held = record {
+  old_in = puts.old_in;
+  more = puts.more;
+  grown = puts.grown;
+  only = λ u h. elim (puts.only u h) [ inl k ↦ inl k | inr e ↦ inr (made-part u e) ];
+  parts_put = λ b y k v e same of part_ end.
+      let one : b ≡ d = cc in
+      let both : Some y ≡ Some x = sym of ∙ ap (λ (z : DefinedTypeId). item_at c.defined z.0) one ∙ found in
+      let this_one : y ≡ x = cc in
+      let place = some-at (parts x) k v (ap (λ (z : DefinedType). slice_get (parts z) k) (sym this_one) ∙ part_) in
+      puts.put place.0 v e place.1 end;
+  items_put = λ i p e same. cc;
+}
+  where
+    puts : Puts c (somes (parts x)) ts (with_ends c ts (somes (parts x)))
+    puts = puts-ends c ts (somes (parts x))
+
+    made-part : (t : AnyType) → EndsIn c (somes (parts x)) t → IsMade c es t
+    made-part t i =
+        let place = at-some (parts x) i.position i.value i.at in
+        definition_made i.definition i.is (further c es d x place.0 i.value i.definition found place.1 i.end made) (held-end c wf i.value i.definition (held-part c wf d x place.0 i.value held found place.1) i.end)
+
+-- an interface
+puts-inner : (c : Collection) → IsWellFormed c → (es : List (Name × ItemKind)) → AreHeld c es → (ts : List AnyType) (i : InterfaceId) → IsItemIn c es (kind.Instance i) → PutsNext c es (ty.Interface i) ts (items_ends c ts (interface_exports c i))
+puts-inner c wf es held ts i within = record {
+  old_in = puts.old_in;
+  more = puts.more;
+  grown = puts.grown;
+  only = λ u h. elim (puts.only u h) [ inl k ↦ inl k | inr e ↦ inr (made-item c wf es e.1.1 u held (nested i e.0 e.1 within e.2) e.3) ];
+  parts_put = λ d x k v e same. cc;
+  items_put = λ j p e same of. let one : j ≡ i = cc in puts.put p e (ap (λ (z : InterfaceId). slice_get (interface_exports c z) p) (sym one) ∙ of);
+}
+  where
+    puts : PutsItems c (interface_exports c i) ts (items_ends c ts (interface_exports c i))
+    puts = puts-items c (interface_exports c i) ts
+
+-- a definition that is held is there
+there-is : {A : Type 0} (xs : List (Held A)) (n : ℕ) → n < length xs → (x : A) × (item_at xs n ≡ Some x)
+there-is [] n less = absurd (omega (arith, less))
+there-is (x ∷ xs) zero less = (x.item, refl)
+there-is (x ∷ xs) (suc n) less = there-is xs n (omega (arith, less))
+
+-- one more type was looked at
+pub found-next : (c : Collection) → IsWellFormed c → (es : List (Name × ItemKind)) → AreHeld c es → (ts : List AnyType) (next : ℕ) (t : AnyType) → slice_get ts next ≡ Some t → AreFound c es ts next → AreFound c es (found_ends c ts t) (next + 1)
+found-next c wf es held ts next t at f = found-on c es ts (found_ends c ts t) next t at f (by_made (f.made t (in_at t ts next at)))
+  where
+    by_made : IsMade c es t → PutsNext c es t ts (found_ends c ts t)
+    by_made (definition_made d is made there_) =
+        let x = there-is c.defined d.0 there_ in
+        let ends_are : with_ends c ts (somes (parts x.0)) ≡ found_ends c ts (ty.Value (val.Defined d)) = sym (ap (λ (o : Option DefinedType). option_case o ts (λ y. with_ends c ts (somes (parts y)))) x.1) in
+        subst (λ (u : AnyType). PutsNext c es u ts (found_ends c ts u)) (sym is) (subst (PutsNext c es (ty.Value (val.Defined d)) ts) ends_are (puts-parts c wf es ts d x.0 x.1 made there_))
+    by_made (interface_made i is within there_) = subst (λ (u : AnyType). PutsNext c es u ts (found_ends c ts u)) (sym is) (puts-inner c wf es held ts i within)
 
 -- all was looked at
 
@@ -382,25 +492,30 @@ at-definition (t ∷ ts) k d at = by_type (λ j h. at-definition ts j d h) (defi
     by_type rest (Some e) is (suc k) h = inr (rest k h)
     by_type rest None is k h = inr (rest k h)
 
+-- a definition that is found
+made-of : (c : Collection) (es : List (Name × ItemKind)) (d : DefinedTypeId) → IsMade c es (ty.Value (val.Defined d)) → OneItemIsMadeOf c es (val.Defined d) × HasDefined c d
+made-of c es d (definition_made b is made held) = let same : d ≡ b = cc in (subst (λ (y : DefinedTypeId). OneItemIsMadeOf c es (val.Defined y)) (sym same) made, subst (HasDefined c) (sym same) held)
+made-of c es d (interface_made i is within held) = cc
+
 module _ (c : Collection) (es : List (Name × ItemKind)) (ts : List AnyType) (next : ℕ) (past : length ts ≤ next) (f : AreFound c es ts next) where
-  module _ (p : ℕ) (e : Name × ItemKind) (at : slice_get es p ≡ Some e) (k : ℕ) (v : ValueType) (value : slice_get (item_values c e.1) k ≡ Some v) where
+  item-found : (k : ItemKind) → IsItemIn c es k → ItemFound c k ts
+  item-found _ (listed p e at) = f.items p e at
+  item-found _ (nested i p e within at) =
+      let n = at_in (ty.Interface i) ts ((item-found (kind.Instance i) within).interface i refl) in
+      f.inner n.0 i p e (omega (arith, n.1, past)) n.2 at
+
+  module _ (item : ItemKind) (within : IsItemIn c es item) (k : ℕ) (v : ValueType) (value : slice_get (item_values c item) k ≡ Some v) where
     whole : (w : ValueType) → MadeOf c (value_resolved c v) w → (d : DefinedTypeId) → w ≡ val.Defined d → IsIn (ty.Value (val.Defined d)) ts
-    whole _ itself d is = f.items p e k v d at value is
+    whole _ itself d is = (item-found item within).values k v d value is
     whole _ (part b x j u made found there) d is =
         let i = at_in (ty.Value (val.Defined b)) ts (whole (val.Defined b) made b refl) in
         f.closed i.0 b x j u d (omega (arith, i.1, past)) i.2 found there is
 
   pub found-all : AreMadeOf c es (definitions_in ts)
-  found-all d = (λ h. made-of (f.made (ty.Value (val.Defined d)) (at-definition ts h.0 d h.1)), all_of)
+  found-all d = (λ h. (made-of c es d (f.made (ty.Value (val.Defined d)) (at-definition ts h.0 d h.1))).0, all_of)
     where
-      made-of : IsMade c es (ty.Value (val.Defined d)) → OneItemIsMadeOf c es (val.Defined d)
-      made-of m = let same : d ≡ m.id = id-of m.id m.is in subst (λ (y : DefinedTypeId). OneItemIsMadeOf c es (val.Defined y)) (sym same) m.made
-        where
-          id-of : (b : DefinedTypeId) → ty.Value (val.Defined d) ≡ ty.Value (val.Defined b) → d ≡ b
-          id-of b is = cc
-
       all_of : OneItemIsMadeOf c es (val.Defined d) → (k : ℕ) × (slice_get (definitions_in ts) k ≡ Some d)
-      all_of (p, e, at, (k, v, value, made)) = definition-at ts d (whole p e at k v value (val.Defined d) made d refl)
+      all_of (item, within, (k, v, value, made)) = definition-at ts d (whole item within k v value (val.Defined d) made d refl)
 
 -- of an interface
 abbrev pub FoundOf : Collection → InterfaceId → List AnyType → ℕ → Type 0
@@ -461,14 +576,15 @@ definition-passed ts i t o old less is none was =
     nothing None other = refl
     nothing (Some d) other = absurd (other d refl)
 
--- what an interface lists is held
-pub exports-held : (c : Collection) → IsWellFormed c → (i : InterfaceId) (it : Interface) → item_at c.interfaces i.0 ≡ Some it → i.0 < length c.interfaces → AreHeld c it.exports
-exports-held c wf i it found less p e at =
-    let here : holds_type c (ty.Interface i) ≡ true = (let low : nat_lt i.0 (length c.interfaces) ≡ true = grind (arith, less) in low) in
-    let mentioned : IsIn (kind_type e.1) (interface_mentions it) = in_right (kind_type e.1) (used_types it.uses) (kind_types it.exports) (kind-in it.exports p e at) in
-    mentioned_held c wf (ty.Interface i) (kind_type e.1) here (subst (λ (o : Option Interface). IsIn (kind_type e.1) (option_case o [] interface_mentions)) (sym found) mentioned)
-
 -- of the interface that is there
+pub exports-are : (c : Collection) (i : InterfaceId) (it : Interface) → item_at c.interfaces i.0 ≡ Some it → interface_exports c i ≡ it.exports
+exports-are c i it at = ap (λ (o : Option Interface). option_case o [] (λ (x : Interface). x.exports)) at
+
+pub listed-held : (c : Collection) → IsWellFormed c → (i : InterfaceId) (it : Interface) → item_at c.interfaces i.0 ≡ Some it → i.0 < length c.interfaces → AreHeld c it.exports
+listed-held c wf i it found less =
+    let held : holds_type c (ty.Interface i) ≡ true = (let low : nat_lt i.0 (length c.interfaces) ≡ true = grind (arith, less) in low) in
+    subst (AreHeld c) (exports-are c i it found) (exports-held c wf i held)
+
 pub of-one : (c : Collection) (i : InterfaceId) (it : Interface) (ts : List AnyType) (next : ℕ) → item_at c.interfaces i.0 ≡ Some it → AreFound c it.exports ts next → FoundOf c i ts next
 of-one c i it ts next found f other at =
     let both : Some it ≡ Some other = sym found ∙ at in
@@ -477,31 +593,14 @@ of-one c i it ts next found f other at =
 
 -- so many are found at most
 found-held : (c : Collection) (es : List (Name × ItemKind)) (ts : List AnyType) (next : ℕ) → AreFound c es ts next → (t : AnyType) → IsIn t ts → holds_type c t ≡ true
-found-held c es ts next f t h =
-    let m = f.made t h in
-    let held : m.id.0 < length c.defined = m.held in
-    let low : nat_lt m.id.0 (length c.defined) ≡ true = grind (arith, held) in
-    subst (λ (u : AnyType). holds_type c u ≡ true) (sym m.is) low
+found-held c es ts next f t h = by_made (f.made t h)
+  where
+    by_made : IsMade c es t → holds_type c t ≡ true
+    by_made (definition_made d is made held) = let low : nat_lt d.0 (length c.defined) ≡ true = grind (arith, held) in subst (λ (u : AnyType). holds_type c u ≡ true) (sym is) low
+    by_made (interface_made i is within held) = subst (λ (u : AnyType). holds_type c u ≡ true) (sym is) held
 
 pub few-found : (c : Collection) (es : List (Name × ItemKind)) (ts : List AnyType) (next : ℕ) → IsDistinct (TypeEq.ghosts).eq ts → AreFound c es ts next → length ts ≤ length (types_of c)
 few-found c es ts next once f = found_few c ts once (found-held c es ts next f)
-
--- the type at the next position is a definition
-pub found-here : (c : Collection) (es : List (Name × ItemKind)) (ts : List AnyType) (next : ℕ) (t : AnyType) (o : Option DefinedTypeId) → next < length ts → AreFound c es ts next → o ≡ definition_in (get_or ts next t) → ((d : DefinedTypeId) → o ≡ Some d → ⊥) → ⊥
-found-here c es ts next t o less f is none =
-    let at = slice_get-get_or ts next t less in
-    let m = f.made (get_or ts next t) (in_at (get_or ts next t) ts next at) in
-    none m.id (is ∙ ap definition_in m.is)
-
-pub found-id : (c : Collection) (es : List (Name × ItemKind)) (ts : List AnyType) (next : ℕ) (t : AnyType) (d : DefinedTypeId) → next < length ts → AreFound c es ts next → definition_in (get_or ts next t) ≡ Some d → (slice_get ts next ≡ Some (ty.Value (val.Defined d))) × HasDefined c d
-found-id c es ts next t d less f is =
-    let here : get_or ts next t ≡ ty.Value (val.Defined d) = is-definition (get_or ts next t) d is in
-    let at : slice_get ts next ≡ Some (ty.Value (val.Defined d)) = slice_get-get_or ts next t less ∙ ap (λ (u : AnyType). Some u) here in
-    let m = f.made (ty.Value (val.Defined d)) (in_at (ty.Value (val.Defined d)) ts next at) in
-    (at, subst (HasDefined c) (sym (id-of d m.id m.is)) m.held)
-  where
-    id-of : (a b : DefinedTypeId) → ty.Value (val.Defined a) ≡ ty.Value (val.Defined b) → a ≡ b
-    id-of a b e = cc
 
 -- what is answered
 pub if-ok : {A E : Type 0} (r : Result A E) (P Q : A → Type 0) → ((x : A) → P x → Q x) → IfOk r P → IfOk r Q
@@ -509,31 +608,24 @@ if-ok (Ok x) P Q ok h = ok x h
 if-ok (Err e) P Q ok h = tt
 
 pub all-held : (c : Collection) (es : List (Name × ItemKind)) (ts : List AnyType) (next : ℕ) → AreFound c es ts next → (k : ℕ) (d : DefinedTypeId) → slice_get (definitions_in ts) k ≡ Some d → HasDefined c d
-all-held c es ts next f k d at =
-    let m = f.made (ty.Value (val.Defined d)) (at-definition ts k d at) in
-    subst (HasDefined c) (sym (id-of d m.id m.is)) m.held
-  where
-    id-of : (a b : DefinedTypeId) → ty.Value (val.Defined a) ≡ ty.Value (val.Defined b) → a ≡ b
-    id-of a b e = cc
+all-held c es ts next f k d at = (made-of c es d (f.made (ty.Value (val.Defined d)) (at-definition ts k d at))).1
 
--- a definition that is held is there
-there-is : {A : Type 0} (xs : List (Held A)) (n : ℕ) → n < length xs → (x : A) × (item_at xs n ≡ Some x)
-there-is [] n less = absurd (omega (arith, less))
-there-is (x ∷ xs) zero less = (x.item, refl)
-there-is (x ∷ xs) (suc n) less = there-is xs n (omega (arith, less))
+-- the type at the next position, of a slice that shows what is found
+pub shown-at : (shown ts : List AnyType) (next : ℕ) (t : AnyType) → shown ≡ ts → next < length shown → slice_get ts next ≡ Some (get_or shown next t)
+shown-at shown ts next t same less = ap (λ (xs : List AnyType). slice_get xs next) (sym same) ∙ slice_get-get_or shown next t less
 
--- one more definition was looked at
-pub found-on : (c : Collection) → IsWellFormed c → (es : List (Name × ItemKind)) (shown ts new : List AnyType) (next : ℕ) (t : AnyType) (d : DefinedTypeId) → shown ≡ ts → next < length shown → AreFound c es ts next → definition_in (get_or shown next t) ≡ Some d
-    → ((x : DefinedType) → item_at c.defined d.0 ≡ Some x → new ≡ with_ends c ts (somes (parts x))) → AreFound c es new (next + 1)
-found-on c wf es shown ts new next t d same less f is put =
-    let g : AreFound c es shown next = subst (λ (xs : List AnyType). AreFound c es xs next) (sym same) f in
-    let here = found-id c es shown next t d less g is in
-    let x = there-is c.defined d.0 here.1 in
-    let at : slice_get ts next ≡ Some (ty.Value (val.Defined d)) = ap (λ (xs : List AnyType). slice_get xs next) (sym same) ∙ here.0 in
-    subst (λ (xs : List AnyType). AreFound c es xs (next + 1)) (sym (put x.0 x.1)) (found-next c wf es ts next d x.0 at x.1 f)
+pub here-held : (c : Collection) (es : List (Name × ItemKind)) (ts : List AnyType) (next : ℕ) (t : AnyType) → AreFound c es ts next → slice_get ts next ≡ Some t → holds_type c t ≡ true
+here-held c es ts next t f at = found-held c es ts next f t (in_at t ts next at)
 
-pub found-held-at : (c : Collection) (es : List (Name × ItemKind)) (shown ts : List AnyType) (next : ℕ) (t : AnyType) (d : DefinedTypeId) → shown ≡ ts → next < length shown → AreFound c es ts next → definition_in (get_or shown next t) ≡ Some d → HasDefined c d
-found-held-at c es shown ts next t d same less f is = (found-id c es shown next t d less (subst (λ (xs : List AnyType). AreFound c es xs next) (sym same) f) is).1
+pub on-ok : {A E : Type 0} (r : Result A E) (P Q : Type 0) → (P → Q) → OnOk r P → OnOk r Q
+on-ok (Ok x) P Q ok h = ok h
+on-ok (Err e) P Q ok h = tt
 
-pub found-none : (c : Collection) (es : List (Name × ItemKind)) (shown ts : List AnyType) (next : ℕ) (t : AnyType) (o : Option DefinedTypeId) → shown ≡ ts → next < length shown → AreFound c es ts next → o ≡ definition_in (get_or shown next t) → ((d : DefinedTypeId) → o ≡ Some d → ⊥) → ⊥
-found-none c es shown ts next t o same less f = found-here c es shown next t o less (subst (λ (xs : List AnyType). AreFound c es xs next) (sym same) f)
+pub defined-held : (c : Collection) (d : DefinedTypeId) → holds_type c (ty.Value (val.Defined d)) ≡ true → HasDefined c d
+defined-held c d held = let low : nat_lt d.0 (length c.defined) ≡ true = held in grind (arith, low)
+
+-- what a definition's parts are put as
+pub parts-put : (c : Collection) (d : DefinedTypeId) (t : AnyType) (old new : List AnyType) → t ≡ ty.Value (val.Defined d) → HasDefined c d → ((x : DefinedType) → item_at c.defined d.0 ≡ Some x → new ≡ with_ends c old (somes (parts x))) → new ≡ found_ends c old t
+parts-put c d t old new is held put =
+    let x = there-is c.defined d.0 held in
+    put x.0 x.1 ∙ sym (ap (found_ends c old) is ∙ ap (λ (o : Option DefinedType). option_case o old (λ y. with_ends c old (somes (parts y)))) x.1)

@@ -14,7 +14,7 @@ use Rattle.wac_edges.specs.declared.node.NodeId.{NodeId}
 use Rattle.wac_edges.specs.Edge.{node_number}
 use Rattle.wac_edges.specs.Order.{Edges, IsEdge}
 use Rattle.wac_listing.specs.Made.{parts}
-use Rattle.wac_listing.specs.Order.{definition, Lists, Names, is_type}
+use Rattle.wac_listing.specs.Order.{definition, Lists, Names, is_value_type}
 
 -- the type at a position is the definition
 abbrev pub IsAt : List AnyType → ℕ → DefinedTypeId → Type 0
@@ -82,9 +82,9 @@ HaveParts c es ts n edges d b = (i : ℕ) (v : ValueType) → i < n → HasPartA
 abbrev pub HaveDefinitions : Collection → List (Name × ItemKind) → List AnyType → ℕ → Edges → Type 0
 HaveDefinitions c es ts n edges = (b i : ℕ) (d : DefinedTypeId) (v : ValueType) → b < n → IsAt ts b d → HasPartAt c d i v → HavePart c es ts edges v b
 
--- all definitions are left, and the items that are type items
+-- all definitions are left, and the items that are type items of value types
 abbrev pub flags : List (Name × ItemKind) → List AnyType → List Bool
-flags es ts = replicate (length ts) true ++ map (λ e. is_type e.1) es
+flags es ts = replicate (length ts) true ++ map (λ e. is_value_type e.1) es
 
 -- the nodes that are items, by their positions
 abbrev pub items_of : ℕ → List NodeId → List ℕ

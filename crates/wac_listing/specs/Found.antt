@@ -9,9 +9,10 @@ use Rattle.wac_shapes.specs.declared.component.ValueType.{ValueType}
 use Rattle.wac_shapes.specs.declared.component.ValueType.TheVariants as val
 use Rattle.wac_shapes.specs.declared.component.«Type».{«Type» as AnyType}
 use Rattle.wac_shapes.specs.declared.component.«Type».TheVariants as ty
-use Rattle.wac_collection.specs.Collection.{Collection, and_maybe, item_at, seconds}
+use Rattle.wac_collection.specs.Collection.{Collection, and_maybe, interface_exports, item_at, seconds}
 use Rattle.wac_collection.specs.Aliases.{value_resolved}
 use Rattle.wac_reach.specs.Found.{with_all}
+use Rattle.wac_listing.specs.Made.{parts}
 
 -- the parts that hold something
 abbrev pub somes : List (Option ValueType) → List ValueType
@@ -35,15 +36,23 @@ with_ends c ts vs = with_all ts (ends c vs)
 abbrev pub func_ends : Collection → List AnyType → FuncType → List AnyType
 func_ends c ts f = with_ends c (with_ends c ts (seconds f.params)) (and_maybe f.result [])
 
--- and what an item mentions, and items
+-- and what an item mentions, be it an interface, and items
 abbrev pub item_ends : Collection → List AnyType → ItemKind → List AnyType
 item_ends c ts (kind.TypeItem (ty.Value v)) = with_ends c ts (v ∷ [])
+item_ends c ts (kind.TypeItem (ty.Func f)) = option_case (item_at c.funcs f.0) ts (func_ends c ts)
 item_ends c ts (kind.Func f) = option_case (item_at c.funcs f.0) ts (func_ends c ts)
+item_ends c ts (kind.Instance i) = with_all ts (ty.Interface i ∷ [])
 item_ends c ts k = ts
 
 abbrev pub items_ends : Collection → List AnyType → List (Name × ItemKind) → List AnyType
 items_ends c ts [] = ts
 items_ends c ts (e ∷ es) = items_ends c (item_ends c ts e.1) es
+
+-- and what a type mentions that was found: the parts of a definition, the items of an interface
+abbrev pub found_ends : Collection → List AnyType → AnyType → List AnyType
+found_ends c ts (ty.Value (val.Defined d)) = option_case (item_at c.defined d.0) ts (λ x. with_ends c ts (somes (parts x)))
+found_ends c ts (ty.Interface i) = items_ends c ts (interface_exports c i)
+found_ends c ts t = ts
 
 -- the definition that a type is
 abbrev pub definition_in : AnyType → Option DefinedTypeId

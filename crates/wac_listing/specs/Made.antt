@@ -6,10 +6,11 @@ use Rattle.wac_shapes.specs.declared.component.DefinedType.TheVariants as def
 use Rattle.wac_shapes.specs.declared.component.DefinedTypeId.{DefinedTypeId}
 use Rattle.wac_shapes.specs.declared.component.ValueType.{ValueType}
 use Rattle.wac_shapes.specs.declared.component.ValueType.TheVariants as val
+use Rattle.wac_shapes.specs.declared.component.InterfaceId.{InterfaceId}
 use Rattle.wac_shapes.specs.declared.component.ItemKind.{ItemKind}
 use Rattle.wac_shapes.specs.declared.component.ItemKind.TheVariants as kind
 use Rattle.wac_shapes.specs.declared.component.«Type».TheVariants as ty
-use Rattle.wac_collection.specs.Collection.{Collection, func_values, item_at}
+use Rattle.wac_collection.specs.Collection.{Collection, func_values, interface_exports, item_at}
 use Rattle.wac_collection.specs.Aliases.{value_resolved}
 
 abbrev pub some_of : ValueType → Option ValueType
@@ -45,15 +46,21 @@ pub data MadeOf (c : Collection) (v : ValueType) : ValueType → Type 0 where
 abbrev pub OneIsMadeOf : Collection → List ValueType → ValueType → Type 0
 OneIsMadeOf c vs w = (k : ℕ) × (v : ValueType) × (slice_get vs k ≡ Some v) × MadeOf c (value_resolved c v) w
 
--- the value types that an item mentions: that of a type item, those of a function
+-- the value types that an item mentions: that of a type item, those of a function or of its type
 abbrev pub item_values : Collection → ItemKind → List ValueType
 item_values c (kind.TypeItem (ty.Value v)) = v ∷ []
+item_values c (kind.TypeItem (ty.Func f)) = option_case (item_at c.funcs f.0) [] func_values
 item_values c (kind.Func f) = option_case (item_at c.funcs f.0) [] func_values
 item_values c k = []
 
--- what one of the items is made of
+-- an item that is among these, or among those of an instance among them, and so on
+pub data IsItemIn (c : Collection) (es : List (Name × ItemKind)) : ItemKind → Type 0 where
+  listed : (p : ℕ) (e : Name × ItemKind) → slice_get es p ≡ Some e → IsItemIn c es e.1
+  nested : (i : InterfaceId) (p : ℕ) (e : Name × ItemKind) → IsItemIn c es (kind.Instance i) → slice_get (interface_exports c i) p ≡ Some e → IsItemIn c es e.1
+
+-- what one of the items is made of, those of instances among them too
 abbrev pub OneItemIsMadeOf : Collection → List (Name × ItemKind) → ValueType → Type 0
-OneItemIsMadeOf c es w = (p : ℕ) × (e : Name × ItemKind) × (slice_get es p ≡ Some e) × OneIsMadeOf c (item_values c e.1) w
+OneItemIsMadeOf c es w = (k : ItemKind) × IsItemIn c es k × OneIsMadeOf c (item_values c k) w
 
 -- these are the definitions that the items are made of
 abbrev pub AreMadeOf : Collection → List (Name × ItemKind) → List DefinedTypeId → Type 0

@@ -1,4 +1,4 @@
--- The order in which the type items of an interface are written.
+-- The order in which the type items of value types of an interface are written.
 use Rattle.std.specs.Prelude.{ℕ, ◌<◌, ◌≡◌, ◌&&◌, ◌==◌, not, Bool, true, false, List, [], ◌∷◌, Option, Some, None, slice_get}
 use Rattle.wac_shapes.specs.Name.{Name, option_case}
 use Rattle.wac_shapes.specs.declared.component.DefinedTypeId.{DefinedTypeId}
@@ -50,14 +50,15 @@ abbrev pub Takes : Collection → List (Name × ItemKind) → (ℕ → Bool) →
 Takes c es left [] = (p : ℕ) → left p ≡ false
 Takes c es left (p ∷ ps) = IsNext c es left p × Takes c es (λ q. left q && not (q == p)) ps
 
-abbrev pub is_type : ItemKind → Bool
-is_type (kind.TypeItem t) = true
-is_type k = false
+-- whether an item is a type item of a value type; those of other types name nothing
+abbrev pub is_value_type : ItemKind → Bool
+is_value_type (kind.TypeItem (ty.Value v)) = true
+is_value_type k = false
 
--- whether the item at a position is a type item
-abbrev pub is_type_at : List (Name × ItemKind) → ℕ → Bool
-is_type_at es p = option_case (slice_get es p) false (λ e. is_type e.1)
+-- whether the item at a position is one
+abbrev pub is_value_type_at : List (Name × ItemKind) → ℕ → Bool
+is_value_type_at es p = option_case (slice_get es p) false (λ e. is_value_type e.1)
 
--- the positions of all type items, in order
+-- the positions of all type items of value types, in order
 abbrev pub AreOrdered : Collection → List (Name × ItemKind) → List ℕ → Type 0
-AreOrdered c es ps = Takes c es (is_type_at es) ps
+AreOrdered c es ps = Takes c es (is_value_type_at es) ps

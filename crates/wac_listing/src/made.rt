@@ -5,10 +5,12 @@ ghost use Rattle.wac_shapes.specs.declared.component.DefinedType.{DefinedType as
 ghost use Rattle.wac_shapes.specs.declared.component.DefinedTypeId.{DefinedTypeId as AnId};
 ghost use Rattle.wac_shapes.specs.declared.component.Interface.{Interface as AnInterface};
 ghost use Rattle.wac_shapes.specs.declared.component.ItemKind.{ItemKind as AnyItem};
+ghost use Rattle.wac_shapes.specs.declared.component.«Type».TheVariants as ty;
 ghost use Rattle.wac_shapes.specs.Kinds.{kind_type};
 ghost use Rattle.wac_collection.specs.Collection.{HasDefined, HasInterface, and_maybe, holds_type, item_at, seconds};
+ghost use Rattle.wac_reach.specs.Found.{with_all};
 ghost use Rattle.wac_listing.specs.Made.{AreMadeOf, parts};
-ghost use Rattle.wac_listing.specs.Found.{somes, with_ends, func_ends, item_ends, items_ends, definition_in as definition_that, definitions_in};
+ghost use Rattle.wac_listing.specs.Found.{somes, with_ends, func_ends, item_ends, items_ends, found_ends, definition_in as definition_that, definitions_in};
 
 use crate::parts::part_at;
 use indexmap::IndexSet;
@@ -64,16 +66,27 @@ fn put_func(types: &Types, found: &mut IndexSet<Type>, func: &FuncType) -> Resul
     put_maybe(types, found, func.result)
 }
 
-/// The same of an item.
+/// The same of an item, and the interface of an instance.
 fn put_item(types: &Types, found: &mut IndexSet<Type>, item: ItemKind) -> Result<(), AllocError>
     requires { holds_type types.now (kind_type item) ≡ true }
     ensures { OnOk result (found.new.keys ≡ item_ends types.now found.old.keys item) }
 {
     match item {
         ItemKind::TypeItem(Type::Value(value)) => put_end(types, found, value),
-        ItemKind::Func(func) => put_func(types, found, &types[func]),
+        ItemKind::TypeItem(Type::Func(func)) | ItemKind::Func(func) => {
+            put_func(types, found, &types[func])
+        }
+        ItemKind::Instance(interface) => put_interface(found, interface),
         _ => Ok(()),
     }
+}
+
+/// Puts an interface.
+fn put_interface(found: &mut IndexSet<Type>, interface: InterfaceId) -> Result<(), AllocError>
+    ensures { OnOk result (found.new.keys ≡ with_all found.old.keys (ty.Interface interface ∷ [])) }
+{
+    found.insert(Type::Interface(interface))?;
+    Ok(())
 }
 
 /// The same of items.
@@ -105,6 +118,19 @@ fn put_parts(types: &Types, found: &mut IndexSet<Type>, id: DefinedTypeId) -> Re
     Ok(())
 }
 
+/// Puts what a type mentions that was found: a definition in its parts, an interface in its items.
+fn put_type(types: &Types, found: &mut IndexSet<Type>, ty: Type) -> Result<(), AllocError>
+    requires { holds_type types.now ty ≡ true }
+    ensures { OnOk result (found.new.keys ≡ found_ends types.now found.old.keys ty) }
+{
+    types.law();
+    match ty {
+        Type::Value(ValueType::Defined(id)) => put_parts(types, found, id),
+        Type::Interface(interface) => put_items(types, found, &types[interface].exports),
+        _ => Ok(()),
+    }
+}
+
 /// The definition that a type is.
 fn definition_in(ty: Type) -> Option<DefinedTypeId>
     ensures { result ≡ definition_that ty }
@@ -128,8 +154,8 @@ fn definitions_among(alloc: Global, types: &[Type]) -> Result<Vec<DefinedTypeId>
     Ok(definitions)
 }
 
-/// The definitions that the items of an interface are made of, each once: those in which the value types end that they mention, and those
-/// in which the parts of these end, and so on. Linear, without recursion.
+/// The definitions that the items of an interface are made of, those of instances among them too, each once: those in which the value
+/// types end that they mention, and those in which the parts of these end, and so on. Linear, without recursion.
 ///
 /// Answers `AllocError` where memory ran out.
 pub fn definitions_of(
@@ -146,9 +172,8 @@ pub fn definitions_of(
     put_items(types, &mut found, &types[interface].exports)?;
     let mut next = 0;
     while next < found.len() {
-        if let Some(id) = definition_in(found.as_slice()[next]) {
-            put_parts(types, &mut found, id)?;
-        }
+        let ty = found.as_slice()[next];
+        put_type(types, &mut found, ty)?;
         next += 1;
     }
     definitions_among(alloc, found.as_slice())

@@ -1,4 +1,4 @@
-//! Type items, each behind those that it mentions.
+//! Type items of value types, each behind those that it mentions.
 
 ghost use Rattle.std.specs.Prelude.{◌≡◌, ◌+◌, ◌<◌, ◌^◌, Some, IfOk, length};
 ghost use Rattle.wac_shapes.specs.declared.component.Interface.{Interface as AnInterface};
@@ -14,7 +14,7 @@ use wac_edges::node::NodeId;
 use wac_edges::order::order;
 use wac_reach::reach;
 
-/// The positions of an interface's type items in the order in which they are written: the next is always the first listed one of
+/// The positions of an interface's type items of value types in the order in which they are written: the next is always the first listed one of
 /// those left that mentions none of those left. An item mentions another where its definition is made of that which the other names,
 /// being the first that lists it. This takes as many steps as the definitions that the interface reaches have parts, but for a logarithm.
 ///

@@ -10,7 +10,7 @@ ghost use Rattle.wac_collection.specs.Aliases.{value_resolved};
 ghost use Rattle.wac_edges.specs.declared.node.NodeId.{NodeId as AnId};
 ghost use Rattle.wac_edges.specs.Order.{IsEdge};
 ghost use Rattle.wac_reach.specs.Reach.{IsIn};
-ghost use Rattle.wac_listing.specs.Order.{definition as definition_of, listed as listed_by, is_type as type_item};
+ghost use Rattle.wac_listing.specs.Order.{definition as definition_of, listed as listed_by, is_value_type as type_item};
 ghost use Rattle.wac_listing.specs.Before.{IsAt, AreReached, AreSound, AreKept, HasEdge, AreNamed, HaveItems, HasPartAt, EndsAt, HavePart, HaveDefinitions, flags};
 
 use crate::parts::part_at;
@@ -197,24 +197,24 @@ impl<'a> Places<'a> {
         Ok(())
     }
 
-    /// Which nodes are to be put in order: all definitions, and the items that are types.
+    /// Which nodes are to be put in order: all definitions, and the type items of value types.
     pub(crate) fn left(&self) -> Result<Vec<bool>, AllocError>
         ensures { IfOk result (λ left. left.items ≡ flags self.now.items.now self.now.reached.now) }
     {
         let mut left = Vec::new(self.types.allocator());
         left.resize(self.count(), true)?;
         for i in 0..self.items.len() {
-            left.push(is_type(*self.items.value_at(i)))?;
+            left.push(is_value_type(*self.items.value_at(i)))?;
         }
         Ok(left)
     }
 }
 
-/// Whether an item is a type.
-fn is_type(item: ItemKind) -> bool
+/// Whether an item is a type item of a value type.
+fn is_value_type(item: ItemKind) -> bool
     ensures { result ≡ type_item item }
 {
-    matches!(item, ItemKind::TypeItem(_))
+    matches!(item, ItemKind::TypeItem(Type::Value(_)))
 }
 
 /// The item that names a type, where one does.

@@ -1,27 +1,26 @@
-use Rattle.std.specs.Prelude.{◌≡◌, List, slice_get, Some}
+use Rattle.std.specs.Prelude.{List, slice_get}
 use Rattle.std.proofs.Common.{arith, ap, sym, subst, ◌∙◌, ◌<◌, ◌≤◌, ◌+◌, length}
 use Rattle.wac_shapes.specs.declared.component.DefinedTypeId.{DefinedTypeId}
 use Rattle.wac_shapes.specs.declared.component.«Type».{«Type» as AnyType}
 use Rattle.wac_reach.proofs.Universe.{types_of}
 use Rattle.wac_listing.specs.Made.{AreMadeOf}
 use Rattle.wac_listing.specs.Found.{items_ends, definitions_in}
-use Rattle.wac_listing.proofs.Making.{AreFound, exports-held, found-first, found-all, found-on, found-held-at, found-none, of-one, few-found, if-ok, all-held}
+use Rattle.wac_listing.proofs.Making.{AreFound, listed-held, found-first, found-all, found-next, shown-at, here-held, of-one, few-found, if-ok, all-held}
 use Rattle.wac_listing.proofs.made.definitions_of.Goals as goal
-use Rattle.wac_listing.proofs.made.definitions_of.Goals.{in-Some+in_ok-put_parts, in_default}
 
 pub put_items-requires : goal.put_items-requires
-put_items-requires c = exports-held c.args.types.now c.law.ensures c.args.interface c.index.result.now c.index.ensures c.requires
+put_items-requires c = listed-held c.args.types.now c.law.ensures c.args.interface c.index.result.now c.index.ensures c.requires
 
 pub loop-next-init : goal.loop-next-init
 loop-next-init c =
     of-one c.args.types.now c.args.interface c.index.result.now c.put_items.new.found.keys 0 c.index.ensures
     (subst (λ (ts : List AnyType). AreFound c.args.types.now c.index.result.now.exports ts 0) (sym (c.in_ok-put_items.ensures ∙ ap (λ (ts : List AnyType). items_ends c.args.types.now ts c.index.result.now.exports) c.new-found.ensures.empty))
-    (found-first c.args.types.now c.law.ensures c.index.result.now.exports (exports-held c.args.types.now c.law.ensures c.args.interface c.index.result.now c.index.ensures c.requires)))
+    (found-first c.args.types.now c.law.ensures c.index.result.now.exports (listed-held c.args.types.now c.law.ensures c.args.interface c.index.result.now c.index.ensures c.requires)))
 
-pub put_parts-requires : goal.put_parts-requires
-put_parts-requires c =
+pub put_type-requires : goal.put_type-requires
+put_type-requires c =
     let less : c.loop-next.next < length c.as_slice.result.now = (let l = c.len.ensures.len in let t = c.loop-next-test.true in let k = ap length c.as_slice.ensures.keys in omega (arith, l, t, k)) in
-    found-held-at c.args.types.now c.index.result.now.exports c.as_slice.result.now c.loop-next.found.keys c.loop-next.next _ c.in-Some.id c.as_slice.ensures.keys less (c.loop-next.invariant c.index.result.now c.index.ensures) (sym c.definition_in.ensures ∙ c.in-Some.is)
+    here-held c.args.types.now c.index.result.now.exports c.loop-next.found.keys c.loop-next.next _ (c.loop-next.invariant c.index.result.now c.index.ensures) (shown-at c.as_slice.result.now c.loop-next.found.keys c.loop-next.next _ c.as_slice.ensures.keys less)
 
 pub loop-next-smaller : goal.loop-next-smaller
 loop-next-smaller c =
@@ -32,12 +31,10 @@ loop-next-smaller c =
 
 pub loop-next-preserved : goal.loop-next-preserved
 loop-next-preserved c it at =
+    let t = c.args.types.now in
     let less : c.loop-next.next < length c.as_slice.result.now = (let l = c.len.ensures.len in let t = c.loop-next-test.true in let k = ap length c.as_slice.ensures.keys in omega (arith, l, t, k)) in
-    elim c.match-definition_in.branch [
-      | in-Some+in_ok-put_parts w ↦ subst (λ (ts : List AnyType). AreFound c.args.types.now it.exports ts (c.loop-next.next + 1)) (sym (ap (λ s. s.keys) w.found-is))
-          (found-on c.args.types.now c.law.ensures it.exports c.as_slice.result.now c.loop-next.found.keys w.put_parts.new.found.keys c.loop-next.next _ w.in-Some.id c.as_slice.ensures.keys less (c.loop-next.invariant it at) (sym c.definition_in.ensures ∙ w.in-Some.is) w.in_ok-put_parts.ensures)
-      | in_default w ↦ absurd (found-none c.args.types.now it.exports c.as_slice.result.now c.loop-next.found.keys c.loop-next.next _ c.definition_in.result c.as_slice.ensures.keys less (c.loop-next.invariant it at) c.definition_in.ensures w.in_default.not-Some)
-    ]
+    subst (λ (ts : List AnyType). AreFound t it.exports ts (c.loop-next.next + 1)) (sym c.in_ok-put_type.ensures)
+    (found-next t c.law.ensures it.exports (listed-held t c.law.ensures c.args.interface it at c.requires) c.loop-next.found.keys c.loop-next.next _ (shown-at c.as_slice.result.now c.loop-next.found.keys c.loop-next.next _ c.as_slice.ensures.keys less) (c.loop-next.invariant it at))
 
 pub returns-clause-held : goal.returns-clause-held
 returns-clause-held c =

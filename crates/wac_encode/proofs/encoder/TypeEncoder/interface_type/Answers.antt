@@ -1,9 +1,8 @@
 use Rattle.std.specs.Prelude.{◌≡◌, true, false, List, Option}
-use Rattle.std.proofs.Common.{refl, ap, sym, subst, ◌∙◌}
+use Rattle.std.proofs.Common.{refl, sym, subst}
 use Rattle.std.proofs.lemmas.Result.{err_from_is_err_and}
 use Rattle.wac_shapes.specs.Named.{named_pairs}
 use Rattle.wac_binary.specs.Items.{Decl}
-use Rattle.wac_scopes.specs.declared.encodable.Encodable.TheVariants.{Instance}
 use Rattle.wac_encode.specs.Items.{CanClose}
 use Rattle.wac_encode.specs.Listing.{are_plain}
 use Rattle.wac_encode.proofs.Listed.{says-interface, written-content}
