@@ -20,10 +20,10 @@ use Rattle.wac_encode_examples.proofs.Apart.{no_flag, no_entry, one_entry, two_n
 use Rattle.wac_encode_examples.specs.EnumInterface.{the_enum, the_enum_type, enum_item, function_item, items, types}
 
 -- the definition that an item at a position lists
-abbrev listed_at_position : Collection → List (Name × ItemKind) → ℕ → Option DefinedTypeId
+abbrev pub listed_at_position : Collection → List (Name × ItemKind) → ℕ → Option DefinedTypeId
 listed_at_position c es p = option_case (slice_get es p) None (λ e. listed c e.1)
 
-is_listed : (c : Collection) (es : List (Name × ItemKind)) (p : ℕ) (d : DefinedTypeId) → Lists c es p d → listed_at_position c es p ≡ Some d
+pub is_listed : (c : Collection) (es : List (Name × ItemKind)) (p : ℕ) (d : DefinedTypeId) → Lists c es p d → listed_at_position c es p ≡ Some d
 is_listed c es p d h = ap (λ (o : Option (Name × ItemKind)). option_case o None (λ e. listed c e.1)) h.1 ∙ h.2
 
 abbrev number : ValueType → DefinedTypeId
@@ -38,7 +38,7 @@ made_of_enum c at _ (part d x k w made found there) = absurd (no_part (sym found
   no_part is = no_entry (Some w) (sym (ap (λ (y : DefinedType). slice_get (parts y) k) (one_entry x the_enum_type is)) ∙ there)
 
 -- so an item that lists it mentions no other
-enum_mentions_none : (c : Collection) (es : List (Name × ItemKind)) (p : ℕ) → item_at c.defined 0 ≡ Some the_enum_type → listed_at_position c es p ≡ Some the_enum → (q : ℕ) → Mentions c es p q → ⊥
+pub enum_mentions_none : (c : Collection) (es : List (Name × ItemKind)) (p : ℕ) → item_at c.defined 0 ≡ Some the_enum_type → listed_at_position c es p ≡ Some the_enum → (q : ℕ) → Mentions c es p q → ⊥
 enum_mentions_none c es p at lists q m =
     let own : the_enum ≡ m.own = one_entry the_enum m.own (sym lists ∙ is_listed c es p m.own m.lists) in
     let other : val.Defined m.other ≡ val.Defined the_enum = made_of_enum c at (val.Defined m.other) (subst (λ (d : DefinedTypeId). MadeOf c (val.Defined d) (val.Defined m.other)) (sym own) m.made) in

@@ -10,23 +10,31 @@ use Rattle.wac_shapes.specs.declared.component.PrimitiveType.TheVariants as prim
 use Rattle.wac_shapes.specs.declared.component.ValueType.TheVariants as val
 use Rattle.wac_shapes.specs.declared.component.«Type».{«Type» as AnyType}
 use Rattle.wac_shapes.specs.declared.component.«Type».TheVariants as ty
+use Rattle.wac_collection.specs.Bound.{held_tree}
+use Rattle.wac_collection.specs.Tree.{Tree, enum_of}
 use Rattle.wac_binary.specs.declared.types.ComponentValType.{ComponentValType}
 use Rattle.wac_binary.specs.declared.types.ComponentValType.TheVariants.{Primitive, Index}
 use Rattle.wac_binary.specs.declared.sorts.Description.{Description}
 use Rattle.wac_binary.specs.declared.sorts.Description.TheVariants as e
 use Rattle.wac_binary.specs.declared.sorts.Sort.TheVariants as sort
 use Rattle.wac_binary.specs.Indexes.{space}
-use Rattle.wac_binary.specs.Items.{TypeDef, value_def, func_def, component_def, instance_def, Decl, type_decl, export_decl}
+use Rattle.wac_binary.specs.Unfold.{tree_of, empty as nothing_there}
+use Rattle.wac_binary.specs.Items.{enum_def, TypeDef, value_def, func_def, component_def, instance_def, Decl, type_decl, export_decl}
 use Rattle.wac_scopes.specs.declared.encodable.Encodable.{Encodable}
 use Rattle.wac_scopes.specs.declared.encodable.Encodable.TheVariants.{Builder, Instance, Component}
+use Rattle.wac_scopes.specs.declared.scope.Listed.{Listed}
 use Rattle.wac_scopes.specs.declared.scope.Scope.{Scope}
-use Rattle.wac_scopes.specs.Contents.{and_type, and_export, count}
-use Rattle.wac_scopes.specs.Scoped.{type_index, value_index, listing, by_index, HasToo}
+use Rattle.wac_scopes.specs.Rooted.{unbound}
+use Rattle.wac_scopes.proofs.ScopedLaws.{recorded-at}
+use Rattle.wac_stacks.specs.Scopes.{ContentHasMeaning, scope_of, at_type}
+use Rattle.wac_stacks.specs.Good.{At, GoodScope, nothing_bound}
+use Rattle.wac_stacks.proofs.StepLaws.{is-its-tree}
+use Rattle.wac_scopes.specs.Contents.{content_of, and_type, and_export, count}
+use Rattle.wac_scopes.specs.Scoped.{listed_at, recorded_type, place, opened, type_index, value_index, listing, by_index, HasToo}
 use Rattle.wac_encode.specs.Written.{NewType, defined, aliased, with_types, missing_below, unwritten, IsWrittenAt, IsWrittenAs, IsFuncFrom, IsFuncByRecord, EndsWithFunc}
 use Rattle.wac_encode.specs.Listing.{around_at, IsOrder, IsDescribed, IsNamedOnce, WritesItem, WritesItems, WritesInterface}
 use Rattle.wac_encode_examples.proofs.Apart.{no_flag, no_entry, one_entry, two_numbers}
 use Rattle.wac_encode_examples.proofs.EnumOrder.{no_other_order}
-use Rattle.wac_encode_examples.proofs.EnumWritten.{enum_is_of_items}
 use Rattle.wac_encode_examples.specs.EnumInterface.{the_enum, the_function, the_function_type, the_interface, the_interface_type, items, types, written_enum, function_of, NamesNothing}
 
 -- ---- how many types are not recorded
@@ -89,13 +97,33 @@ module _ (start named : Scope) (empty : start.content ≡ Instance []) (none : (
       (subst (IsWrittenAt (count (space sort.«Type») start.content) w.behind.types enum_index.0) unlisted (w.behind.sources (ty.Value (val.Defined the_enum)) enum_index.0 (none (ty.Value (val.Defined the_enum))) enum_index.2)) in
       at_next 0 enum_index.0 w.behind.types enum_alone.0 enum_alone.1 there
 
+  enum_content : w.now.content ≡ Instance (type_decl enum_placed.0 ∷ [])
+  enum_content = w.behind.appended ∙ ap (λ (x : Encodable). with_types x w.behind.types) empty ∙ ap (with_types (Instance [])) (enum_alone.1 ∙ ap (λ (y : NewType). y ∷ []) enum_placed.1)
+
   -- one type, and its export by name
   enum_declared : (t : TypeDef) × (named.content ≡ Instance (type_decl t ∷ export_decl (codes "t") (e.Equal 0) ∷ []))
-  enum_declared = (
-    enum_placed.0,
-    w.appended ∙ ap (and_export w.now.content (codes "t")) (enum_index.1 ∙ ap e.Equal enum_placed.2)
-        ∙ ap (λ (x : Encodable). and_export x (codes "t") (e.Equal 0)) (w.behind.appended ∙ ap (λ (x : Encodable). with_types x w.behind.types) empty ∙ ap (with_types (Instance [])) (enum_alone.1 ∙ ap (λ (y : NewType). y ∷ []) enum_placed.1)),
-  )
+  enum_declared = (enum_placed.0, w.appended ∙ ap (and_export w.now.content (codes "t")) (enum_index.1 ∙ ap e.Equal enum_placed.2) ∙ ap (λ (x : Encodable). and_export x (codes "t") (e.Equal 0)) enum_content)
+
+  -- the type is the enum, since a scope in which nothing is bound is good before and after
+  enum_meant : ((a : AnyType) → listing start a ≡ None) → tree_of enum_declared.0 nothing_there [] ≡ enum_of (codes "a" ∷ [])
+  unfolding held_tree enum_declared
+  enum_meant nothing_listed =
+      let after = w.behind.onward nothing_bound [] unbound [] (good_alone, tt) in
+      let there = after.0.0.memo (ty.Value (val.Defined the_enum)) (at_type 0) (recorded-at w.now (ty.Value (val.Defined the_enum)) 0 (enum_index.2 ∙ ap (λ (k : ℕ). Some k) enum_placed.2)) in
+      one_entry (tree_of enum_placed.0 nothing_there []) there.0 (subst (λ (x : Encodable). At ((scope_of (content_of x) []).types) 0 there.0) enum_content there.3) ∙ sym (is-its-tree types nothing_bound (ty.Value (val.Defined the_enum)) there.0 there.1)
+    where
+      not_recorded : (a : AnyType) → recorded_type start a ≡ None
+      not_recorded a = λ i. place (none a i) (nothing_listed a i)
+
+      good_alone : GoodScope types nothing_bound nothing_bound (opened start unbound) []
+      good_alone = record {
+        meaning = subst (λ (x : Encodable). ContentHasMeaning (content_of x) []) (sym empty) tt;
+        bottom = λ its is. refl;
+        binds = λ r where_ is. absurd (no_entry where_ is);
+        unbound = λ r is. absurd (no_flag is);
+        memo = λ a where_ is. absurd (no_entry where_ (sym (not_recorded a) ∙ is));
+        named = λ n a where_ is. absurd (no_entry (a, where_) is);
+      }
 
   enum_recorded : (j : ℕ) × HasToo w.now (ty.Value (val.Defined the_enum)) j named
   enum_recorded = let once = subst (λ (o : Option ℕ). IsNamedOnce o w.now named (codes "t") the_enum) (none (ty.Value (val.Defined the_enum))) w.named in (once.0, once.1)
@@ -201,22 +229,25 @@ module _ (named whole : Scope) (t : TypeDef) (j : ℕ) (content : named.content 
 
 -- ---- the declarations
 
--- a type and its export `t`, a function type over an index, and the export `f`
+-- a type that is the enum and its export `t`, a function type over an index, and the export `f`
 abbrev so : TypeDef → Bool → ℕ → List Decl
 so t a j = type_decl t ∷ export_decl (codes "t") (e.Equal 0) ∷ type_decl (func_def a ((codes "x", Index j) ∷ []) None) ∷ export_decl (codes "f") (e.Func 2) ∷ []
 
 abbrev pub AreSo : List Decl → Type 0
-AreSo ds = (t : TypeDef) × (a : Bool) × (j : ℕ) × (ds ≡ so t a j)
+AreSo ds = (t : TypeDef) × (a : Bool) × (j : ℕ) × (ds ≡ so t a j) × (tree_of t nothing_there [] ≡ enum_of (codes "a" ∷ []))
 
-module _ (start named whole : Scope) (empty : start.content ≡ Instance []) (none : (a : AnyType) → type_index start a ≡ None) (unlisted : listing start (ty.Value (val.Defined the_enum)) ≡ None)
+module _ (start named whole : Scope) (empty : start.content ≡ Instance []) (none : (a : AnyType) → type_index start a ≡ None) (unlisted : (a : AnyType) → listing start a ≡ None)
     (first : WritesItem types start named (codes "t") (kind.TypeItem (ty.Value (val.Defined the_enum)))) (second : WritesItem types named whole (codes "f") (kind.Func the_function)) where
-  both_declared : (t : TypeDef) × (a : Bool) × (j : ℕ) × (whole.content ≡ Instance (so t a j))
+  enum_unlisted : listing start (ty.Value (val.Defined the_enum)) ≡ None
+  enum_unlisted = unlisted (ty.Value (val.Defined the_enum))
+
+  both_declared : (t : TypeDef) × (a : Bool) × (j : ℕ) × (whole.content ≡ Instance (so t a j)) × (tree_of t nothing_there [] ≡ enum_of (codes "a" ∷ []))
   both_declared =
-      let enum = enum_declared start named empty none unlisted first in
-      let recorded = enum_recorded start named empty none unlisted first in
-      let function = function_declared named whole enum.0 recorded.0 enum.1 (enum_there start named empty none unlisted first)
-      (function_still_none start named empty none unlisted first) (interface_still_none start named empty none unlisted first) second in
-      (enum.0, function.0, recorded.0, function.1)
+      let enum = enum_declared start named empty none enum_unlisted first in
+      let recorded = enum_recorded start named empty none enum_unlisted first in
+      let function = function_declared named whole enum.0 recorded.0 enum.1 (enum_there start named empty none enum_unlisted first)
+      (function_still_none start named empty none enum_unlisted first) (interface_still_none start named empty none enum_unlisted first) second in
+      (enum.0, function.0, recorded.0, function.1, enum_meant start named empty none enum_unlisted first unlisted)
 
 module _ (around : Scope) (nothing : NamesNothing around) (ds : List Decl) (h : WritesInterface types around the_interface ds) where
   in_order : h.order ≡ items
@@ -225,14 +256,18 @@ module _ (around : Scope) (nothing : NamesNothing around) (ds : List Decl) (h : 
   one_by_one : WritesItems types h.start items h.scope
   one_by_one = subst (λ (es : List (Name × ItemKind)). WritesItems types h.start es h.scope) in_order h.written
 
-  unlisted_enum : listing h.start (ty.Value (val.Defined the_enum)) ≡ None
-  unlisted_enum = h.opened_.listed the_enum enum_is_of_items ∙ ap around_at (nothing the_enum)
+  unlisted_in_it : (a : AnyType) → listing h.start a ≡ None
+  unlisted_in_it (ty.Value (val.Defined d)) = by_place (listed_at h.start d) refl where
+    by_place : (o : Option Listed) → listed_at h.start d ≡ o → listed_at h.start d ≡ None
+    by_place None is = is
+    by_place (Some l) is = absurd (no_entry l (sym (ap around_at (nothing d)) ∙ h.opened_.only d l is))
+  unlisted_in_it a = refl
 
-  declared : (t : TypeDef) × (a : Bool) × (j : ℕ) × (one_by_one.2.0.content ≡ Instance (so t a j))
-  declared = both_declared h.start one_by_one.0 one_by_one.2.0 h.opened_.content h.opened_.types unlisted_enum one_by_one.1 one_by_one.2.1
+  declared : (t : TypeDef) × (a : Bool) × (j : ℕ) × (one_by_one.2.0.content ≡ Instance (so t a j)) × (tree_of t nothing_there [] ≡ enum_of (codes "a" ∷ []))
+  declared = both_declared h.start one_by_one.0 one_by_one.2.0 h.opened_.content h.opened_.types unlisted_in_it one_by_one.1 one_by_one.2.1
 
   pub only_so : AreSo ds
-  only_so = (declared.0, declared.1, declared.2, ap declarations_in same) where
+  only_so = (declared.0, declared.1, declared.2, ap declarations_in same, declared.4) where
     declarations_in : Encodable → List Decl
     declarations_in (Instance es) = es
     declarations_in x = []
@@ -245,6 +280,15 @@ module _ (around : Scope) (nothing : NamesNothing around) (ds : List Decl) (h : 
 abbrev is_export : Decl → Bool
 is_export (export_decl n d) = true
 is_export d = false
+
+abbrev type_in : Decl → TypeDef
+type_in (type_decl t) = t
+type_in d = value_def (enum_def [])
+
+-- of the first case of an enum
+abbrev first_letter : Tree → ℕ
+first_letter (enum_of ((x ∷ xs) ∷ names)) = x
+first_letter t = 0
 
 abbrev nth : ℕ → List Decl → Decl
 nth i ds = option_case (slice_get ds i) (export_decl [] e.Fresh) (λ d. d)
@@ -268,3 +312,10 @@ module _ (around : Scope) (nothing : NamesNothing around) where
     is_primitive : Decl → Bool
     is_primitive (type_decl (func_def a ((n, Primitive p) ∷ xs) r)) = true
     is_primitive d = false
+
+  -- another enum
+  pub no_other_enum : WritesInterface types around the_interface (type_decl (value_def (enum_def (codes "b" ∷ []))) ∷ export_decl (codes "t") (e.Equal 0) ∷ type_decl (function_of (Index 1)) ∷ export_decl (codes "f") (e.Func 2) ∷ []) → ⊥
+  no_other_enum h =
+      let these = only_so around nothing _ h in
+      let same : enum_of (codes "b" ∷ []) ≡ enum_of (codes "a" ∷ []) = ap (λ (ds : List Decl). tree_of (type_in (nth 0 ds)) nothing_there []) these.3 ∙ these.4 in
+      two_numbers 98 97 refl (ap first_letter same)

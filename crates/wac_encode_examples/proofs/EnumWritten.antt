@@ -29,7 +29,7 @@ use Rattle.wac_encode_examples.proofs.Apart.{no_entry}
 use Rattle.wac_encode_examples.proofs.EnumOrder.{enum_first}
 use Rattle.wac_encode_examples.specs.EnumInterface.{the_enum, the_enum_type, the_function, the_function_type, the_interface, the_interface_type, enum_item, items, types, written_enum, function_of, declarations, Steps}
 
-nothing_well_formed : IsWellFormed empty
+pub nothing_well_formed : IsWellFormed empty
 nothing_well_formed = record {
   resources = λ i h at. absurd (no_entry h at);
   funcs = λ i h at. absurd (no_entry h at);
