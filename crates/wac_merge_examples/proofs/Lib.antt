@@ -1,0 +1,5 @@
+pub mod Apart
+pub mod WayRows
+pub mod PlainInterfaces
+pub mod OneIds
+pub mod AgainRows
