@@ -159,11 +159,11 @@ listed-there c m b k at d l (e ∷ es) exports h = by_rest (λ is. listed-there 
     by_rest rest None is found = inr (by_id (nat_eq e.0.0 d.0) refl found)
 
 -- a type stands where it is recorded
-abbrev StandsIn : Collection → Bindings → List Env → Scope → Open → AnyType → Where → Type 0
+abbrev pub StandsIn : Collection → Bindings → List Env → Scope → Open → AnyType → Where → Type 0
 StandsIn c m out s o a w = (t : Tree) × IsHeld c m a t × IsOf a t × StandsFrom (env (opened s o) out) out t w
 
 -- what is recorded then stands there
-listed-stands : (c : Collection) (m : Bindings) (out : List Env) (mid new : Scope) (o : Open) (b : Bound) (k : ℕ) (es : List (DefinedTypeId × Name)) → ((a : AnyType) (w : Where) → recorded_type mid a ≡ Some w → StandsIn c m out mid o a w) → At ((env (opened mid o) out).instances) k b
+pub listed-stands : (c : Collection) (m : Bindings) (out : List Env) (mid new : Scope) (o : Open) (b : Bound) (k : ℕ) (es : List (DefinedTypeId × Name)) → ((a : AnyType) (w : Where) → recorded_type mid a ≡ Some w → StandsIn c m out mid o a w) → At ((env (opened mid o) out).instances) k b
     → ((p : ℕ) (e : DefinedTypeId × Name) → slice_get es p ≡ Some e → Exports c m b e.0 e.1) → AlsoLists mid k es new
     → (a : AnyType) (w : Where) → recorded_type new a ≡ Some w → StandsIn c m out mid o a w
 listed-stands c m out mid new o b k es memo at exports lists a w h = by_index (type_index mid a) refl (sym (ap (λ (x : Option ℕ). place x (listing new a)) (lists.types a)) ∙ h)

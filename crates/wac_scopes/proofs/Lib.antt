@@ -1,4 +1,5 @@
 pub mod ContentLaws
 pub mod ScopedLaws
 pub mod ImportLaws
+pub mod SideLaws
 pub mod Rooted

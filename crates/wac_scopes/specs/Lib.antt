@@ -1,4 +1,5 @@
 pub mod Faults
 pub mod Contents
 pub mod Scoped
+pub mod Sides
 pub mod Rooted

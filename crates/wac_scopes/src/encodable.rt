@@ -9,9 +9,11 @@ ghost use Rattle.wac_binary.specs.Items.{value_def, component_def, instance_def,
 ghost use Rattle.wac_binary.specs.Views.{defined_of, func_of};
 ghost use Rattle.wac_scopes.specs.Contents.{IsRoot, IsOpenType, and_type, and_alias_of, and_alias_around, and_core_module, and_export, and_import, count, ContentFits};
 ghost use Rattle.wac_scopes.specs.Scoped.{RecordsUnlessTooLarge, and_listed};
+ghost use Rattle.wac_scopes.specs.Sides.{side_of, IsOpenComponent, and_declared};
 
 use crate::fault::EncodeFault;
 use crate::scope::Listed;
+use crate::side::Side;
 use wac_binary::{
     BinaryFault, ComponentBuilder, ComponentType, DefinedType, Description, FuncType, InstanceType,
     ModuleType, Sort,
@@ -198,6 +200,28 @@ impl Encodable {
         match self {
             Encodable::Builder(content) => content.import(name, d),
             Encodable::Instance(_) | Encodable::Component(_) => unreachable!(),
+        }
+    }
+
+    /// Declares an import or an export of a component type that is open, and answers its index of the sort that is described.
+    pub(crate) fn declare(
+        &mut self,
+        side: Side,
+        name: &str,
+        d: Description,
+    ) -> Result<u32, BinaryFault>
+        requires { IsOpenComponent self.old }
+        ensures index { IfOk result (λ i. i ≡ count (space (described_sort d)) self.old) }
+        ensures appended { OnOk result (self.new ≡ and_declared self.old (side_of side) name.now d) }
+        ensures refused { OnErr result (self.new ≡ self.old) }
+        ensures too_large { TooLargeUnless result (ContentFits (and_declared self.old (side_of side) name.now d)) }
+    {
+        match self {
+            Encodable::Component(content) => match side {
+                Side::Import => content.import(name, d),
+                Side::Export => content.export(name, d),
+            },
+            Encodable::Builder(_) | Encodable::Instance(_) => unreachable!(),
         }
     }
 }

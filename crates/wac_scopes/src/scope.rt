@@ -15,10 +15,12 @@ ghost use Rattle.wac_scopes.specs.declared.encodable.Encodable.TheVariants.{Buil
 ghost use Rattle.wac_scopes.specs.Contents.{IsRoot, IsOpenType, and_type, and_core_module, and_export, and_import, count, items_of, ContentFits};
 ghost use Rattle.wac_scopes.specs.Scoped.{IfThere, IsThere, AddsValue, AddsFunc, AddsPrimitive, AddsInstance, AddsComponent, AddsModule, ListsType, ListsValue, ListsFunction, ListsInstanceOf, RootImportsType, RootImportsValue, RootImportsFunction, RootImportsInstance, RootImportsModule, RootImportsListing, HasToo, IsAsBefore, AlsoLists, ListsAround, AliasesValue, IsAliased, AliasFits, IsAt, type_index, value_index, named_at, listed_at, listing, in_use, WritesUnlessTooLarge, FitsUnlessTooLarge, RecordsUnlessTooLarge};
 ghost use Rattle.wac_scopes.specs.Rooted.{ExportsRight};
+ghost use Rattle.wac_scopes.specs.Sides.{side_of, IsOpenComponent, and_declared, DeclaresType, DeclaresValue, DeclaresFunction, DeclaresInstance, DeclaresListing};
 
 use crate::encodable::Encodable;
 use crate::fault::EncodeFault;
 use crate::laws::rooted_law;
+use crate::side::Side;
 use std::alloc::{AllocError, Global};
 use std::collections::HashMap;
 use wac_binary::{
@@ -701,6 +703,119 @@ impl Scope {
         let own = self.export(name, Sort::Type, index)?;
         self.record_value(id, own, true);
         Ok(own)
+    }
+
+    /// Declares a type item that equals the type at an index, among the imports or the exports of a component type that is open. Answers its
+    /// own type index.
+    ///
+    /// Answers `TooLarge` exactly where what is written would not fit, and `OutOfMemory` where memory was refused; then it has
+    /// written nothing.
+    pub fn declare_type(&mut self, side: Side, name: &str, index: u32) -> Result<u32, EncodeFault>
+        requires { IsOpenComponent self.old.content }
+        ensures index { IfOk result (λ k. k ≡ count (space s.Type) self.old.content) }
+        ensures stands { IfOk result (λ k. DeclaresType (side_of side) self.old self.new name.now index k) }
+        ensures appended { OnOk result (self.new ≡ record self.old { content = and_declared self.old.content (side_of side) name.now (e.Equal index) }) }
+        ensures refused { OnErr result (self.new ≡ self.old) }
+        ensures too_large { WritesUnlessTooLarge result (ContentFits (and_declared self.old.content (side_of side) name.now (e.Equal index))) }
+    {
+        listing_law();
+        let own = self.content.declare(side, name, Description::Equal(index))?;
+        Ok(own)
+    }
+
+    /// Declares a type item that equals the definition at an index, on one side of a component type that is open, and records the
+    /// definition at the item's own type index, which it answers: from then on the definition is written by its name.
+    ///
+    /// Answers `TooLarge` where what is written would not fit, and `OutOfMemory` where memory was refused, be it before it is known
+    /// whether it fits. Then nothing is written or recorded.
+    pub fn declare_value(
+        &mut self,
+        side: Side,
+        name: &str,
+        id: DefinedTypeId,
+        index: u32,
+    ) -> Result<u32, EncodeFault>
+        requires { IsOpenComponent self.old.content }
+        ensures index { IfOk result (λ k. k ≡ count (space s.Type) self.old.content) }
+        ensures stands { IfOk result (λ k. DeclaresValue (side_of side) self.old self.new name.now id index k) }
+        ensures recorded { IfOk result (λ k. HasToo self.old (ty.Value (val.Defined id)) k self.new) }
+        ensures named { IfOk result (λ k. named_at self.new id ≡ Some k) }
+        ensures appended { OnOk result (self.new.content ≡ and_declared self.old.content (side_of side) name.now (e.Equal index)) }
+        ensures refused { OnErr result (IsAsBefore self.old self.new) }
+        ensures too_large { FitsUnlessTooLarge result (ContentFits (and_declared self.old.content (side_of side) name.now (e.Equal index))) }
+    {
+        listing_law();
+        self.make_room()?;
+        let item = self.content.declare(side, name, Description::Equal(index))?;
+        self.record_value(id, item, true);
+        Ok(item)
+    }
+
+    /// Declares a function of the function type at an index, on one side of a component type that is open. Answers the function's index.
+    ///
+    /// Answers `TooLarge` exactly where what is written would not fit, and `OutOfMemory` where memory was refused; then it has
+    /// written nothing.
+    pub fn declare_func(&mut self, side: Side, name: &str, index: u32) -> Result<u32, EncodeFault>
+        requires { IsOpenComponent self.old.content }
+        ensures index { IfOk result (λ k. k ≡ count (space s.Func) self.old.content) }
+        ensures stands { OnOk result (DeclaresFunction (side_of side) self.old self.new name.now index) }
+        ensures appended { OnOk result (self.new ≡ record self.old { content = and_declared self.old.content (side_of side) name.now (e.Func index) }) }
+        ensures refused { OnErr result (self.new ≡ self.old) }
+        ensures too_large { WritesUnlessTooLarge result (ContentFits (and_declared self.old.content (side_of side) name.now (e.Func index))) }
+    {
+        listing_law();
+        let item = self.content.declare(side, name, Description::Func(index))?;
+        Ok(item)
+    }
+
+    /// Declares an instance of the instance type at an index, on one side of a component type that is open. Answers the instance's index.
+    ///
+    /// Answers `TooLarge` exactly where what is written would not fit, and `OutOfMemory` where memory was refused; then it has
+    /// written nothing.
+    pub fn declare_instance(
+        &mut self,
+        side: Side,
+        name: &str,
+        index: u32,
+    ) -> Result<u32, EncodeFault>
+        requires { IsOpenComponent self.old.content }
+        ensures index { IfOk result (λ k. k ≡ count (space s.Instance) self.old.content) }
+        ensures stands { IfOk result (λ k. DeclaresInstance (side_of side) self.old self.new name.now index k) }
+        ensures appended { OnOk result (self.new ≡ record self.old { content = and_declared self.old.content (side_of side) name.now (e.Instance index) }) }
+        ensures refused { OnErr result (self.new ≡ self.old) }
+        ensures too_large { WritesUnlessTooLarge result (ContentFits (and_declared self.old.content (side_of side) name.now (e.Instance index))) }
+    {
+        listing_law();
+        let item = self
+            .content
+            .declare(side, name, Description::Instance(index))?;
+        Ok(item)
+    }
+
+    /// The same of an instance that lists these definitions as type items, each under its name: those that no instance listed before are
+    /// from now on aliased from this one, the last under its name where one stands here twice.
+    ///
+    /// Answers `TooLarge` where what is written would not fit, and `OutOfMemory` where memory was refused, be it before it is known
+    /// whether it fits. Then nothing is written or recorded.
+    pub fn declare_listing(
+        &mut self,
+        side: Side,
+        name: &str,
+        index: u32,
+        definitions: Vec<(DefinedTypeId, Text)>,
+    ) -> Result<u32, EncodeFault>
+        requires { IsOpenComponent self.old.content }
+        ensures index { IfOk result (λ k. k ≡ count (space s.Instance) self.old.content) }
+        ensures stands { IfOk result (λ k. DeclaresListing (side_of side) self.old self.new name.now index definitions.items k) }
+        ensures listed { IfOk result (λ k. AlsoLists self.old k definitions.items self.new) }
+        ensures appended { OnOk result (self.new.content ≡ and_declared self.old.content (side_of side) name.now (e.Instance index)) }
+        ensures refused { OnErr result (IsAsBefore self.old self.new) }
+        ensures too_large { FitsUnlessTooLarge result (ContentFits (and_declared self.old.content (side_of side) name.now (e.Instance index))) }
+    {
+        self.make_listed_room(definitions.len())?;
+        let item = self.declare_instance(side, name, index)?;
+        self.list(item, definitions);
+        Ok(item)
     }
 
     /// What is written, handed over.
