@@ -24,13 +24,10 @@ use Rattle.wac_encode.proofs.Answering.{as-it-was}
 use Rattle.wac_encode.proofs.Stacks.{new-is, recorded-there, writes-none, writes-alias, writes-more}
 use Rattle.wac_encode_examples.proofs.Apart.{no_flag, no_entry, one_entry, two_numbers}
 use Rattle.wac_encode_examples.proofs.EnumWritten.{enum_is_of_items}
-use Rattle.wac_encode_examples.proofs.ListedRows.{imported, then_, alias_of_t, letter}
+use Rattle.wac_encode_examples.proofs.ListedRows.{letter}
 use Rattle.wac_encode_examples.proofs.OpenedRows.{items_of_enum}
 use Rattle.wac_encode_examples.specs.EnumInterface.{the_enum, the_interface, types, written_enum}
-
--- the instance lists the enum as `t`
-abbrev place_of_t : Listed
-place_of_t = ByInstance 0 (codes "t")
+use Rattle.wac_encode_examples.specs.ImportedEnum.{imported, place_of_t, then_, alias_of_t, ImportsEnum, AliasesEnum}
 
 -- what a place is named
 abbrev place_name : Listed → Name
@@ -38,7 +35,16 @@ place_name (ByInstance j n) = n
 place_name l = []
 
 -- ---- a root that imports the instance, in which nothing is recorded
-module _ (old : Scope) (content : old.content ≡ Builder imported) (none : (a : AnyType) → type_index old a ≡ None) (listed : listed_at old the_enum ≡ Some place_of_t) where
+module _ (old : Scope) (w : ImportsEnum old) where
+  none : (a : AnyType) → type_index old a ≡ None
+  none = w.none
+
+  listed : listed_at old the_enum ≡ Some place_of_t
+  listed = w.listed
+
+  content : old.content ≡ Builder imported
+  content = w.content
+
   -- an alias of where the enum is listed is one of what the interface is made of; so is any definition
   pub enum_is_listed_there : IsListedThere (IsOfItems types the_interface) old (aliased place_of_t)
   enum_is_listed_there = (the_enum, enum_is_of_items, listed)
@@ -59,9 +65,9 @@ module _ (old : Scope) (content : old.content ≡ Builder imported) (none : (a :
     there_now : value_index new the_enum ≡ Some 1
     there_now = recorded-there (ty.Value (val.Defined the_enum)) 1 old new recorded
 
-    -- with the alias, which is recorded at its index under its name, all is aliased that is listed
-    pub enum_is_aliased : Follows → StaysOnward → SettlesValue → BringsValue → new.content ≡ then_ alias_of_t → named_at new the_enum ≡ Some 1 → AliasesFor types the_interface old new
-    enum_is_aliased follows stays settles brings now named = record {
+    -- where the alias is recorded at its index under its name, it is what is aliased
+    aliased_enum : Follows → StaysOnward → SettlesValue → BringsValue → new.content ≡ then_ alias_of_t → named_at new the_enum ≡ Some 1 → AliasesFor types the_interface old new
+    aliased_enum follows stays settles brings now named = record {
       written = writes-more types follows 0 (IsOfItems types the_interface) old old new the_enum (writes-none types stays (IsOfItems types the_interface) old old (as-it-was old)) enum_is_of_items (omega arith) (none (ty.Value (val.Defined the_enum)))
           (writes-alias types old new the_enum 1 place_of_t listed (aliases-value old new the_enum 1 place_of_t settles brings (none (ty.Value (val.Defined the_enum))) listed index appended recorded) recorded named appended index);
       only = λ a k unwritten is. subst (λ (b : AnyType). IsSome (listing old b)) (new-is (ty.Value (val.Defined the_enum)) 1 old new recorded a k unwritten is) (subst (λ (o : Option Listed). IsSome o) (sym listed) refl);
@@ -72,6 +78,7 @@ module _ (old : Scope) (content : old.content ≡ Builder imported) (none : (a :
       appended : new.content ≡ and_listed old.content place_of_t
       appended = now ∙ sym (ap (λ (x : Encodable). and_listed x place_of_t) content)
 
+    -- and all is aliased that is listed
     pub all_is_aliased : AllAliased types the_interface old new
     all_is_aliased d made is = subst (λ (e : DefinedTypeId). IsSome (value_index new e)) (sym (items_of_enum d made)) (subst (λ (o : Option ℕ). IsSome o) (sym there_now) refl)
 
@@ -102,6 +109,9 @@ module _ (old : Scope) (content : old.content ≡ Builder imported) (none : (a :
         how_many [] = 0
         how_many (i ∷ []) = 1
         how_many (i ∷ j ∷ items) = 2
+
+  pub enum_is_aliased : (new : Scope) → Follows → StaysOnward → SettlesValue → BringsValue → AliasesEnum old new → AliasesFor types the_interface old new
+  enum_is_aliased new follows stays settles brings a = aliased_enum new a.recorded follows stays settles brings a.content a.named
 
   -- the enum is not left out
   pub no_listed_left_out : AllAliased types the_interface old old → ⊥

@@ -1,12 +1,11 @@
 -- Where definitions are listed once an instance that lists some is imported, and how they are aliased from there.
-use Rattle.std.proofs.Common.{◌≡◌, ℕ, cond, List, [], ◌∷◌, ◌++◌, Option, Some, None, refl, ap, sym, ◌∙◌, codes}
+use Rattle.std.proofs.Common.{◌≡◌, ℕ, cond, List, [], ◌∷◌, Option, Some, None, refl, ap, sym, ◌∙◌, codes}
 use Rattle.std.specs.Prelude.{nat_eq}
 use Rattle.wac_shapes.specs.Name.{Name}
 use Rattle.wac_shapes.specs.declared.component.DefinedTypeId.{DefinedTypeId}
 use Rattle.wac_shapes.specs.declared.component.«Type».{«Type» as AnyType}
-use Rattle.wac_binary.specs.declared.sorts.Description.TheVariants as e
 use Rattle.wac_binary.specs.declared.sorts.Sort.TheVariants as sort
-use Rattle.wac_binary.specs.Items.{instance_def, enum_def, value_def, decls, type_decl, export_decl, export_alias, Item, type_item, alias_item, import_item}
+use Rattle.wac_binary.specs.Items.{enum_def, value_def, export_alias, type_item, alias_item}
 use Rattle.wac_scopes.specs.declared.encodable.Encodable.{Encodable}
 use Rattle.wac_scopes.specs.declared.encodable.Encodable.TheVariants.{Builder}
 use Rattle.wac_scopes.specs.declared.scope.Listed.{Listed}
@@ -14,6 +13,8 @@ use Rattle.wac_scopes.specs.declared.scope.Listed.TheVariants.{ByInstance}
 use Rattle.wac_scopes.specs.declared.scope.Scope.{Scope}
 use Rattle.wac_scopes.specs.Scoped.{type_index, named_at, listed_at, listed_too, and_listed, AlsoLists, IsAliased}
 use Rattle.wac_encode_examples.proofs.Apart.{no_entry, one_entry, two_numbers}
+use Rattle.wac_encode_examples.specs.EnumInterface.{the_enum}
+use Rattle.wac_encode_examples.specs.ImportedEnum.{then_, alias_of_t, ImportsEnum}
 
 -- ---- three definitions, of which instance 0 lists the first as `t`; instance 1 lists it as `u`, and the second as `v` and then as `w`
 
@@ -75,33 +76,24 @@ module _ (old new : Scope) (before : (d : DefinedTypeId) → listed_at old d ≡
 
 -- ---- in a root that imports an instance, which lists the enum as `t`
 
-abbrev pub imported : List Item
-imported = type_item (instance_def (decls (type_decl (value_def (enum_def (codes "a" ∷ []))) ∷ export_decl (codes "t") (e.Equal 0) ∷ []))) ∷ import_item (codes "n:p/i") (e.Instance 0) ∷ []
-
-abbrev pub then_ : Item → Encodable
-then_ item = Builder (imported ++ item ∷ [])
-
-abbrev pub alias_of_t : Item
-alias_of_t = alias_item (export_alias sort.«Type» 0 (codes "t"))
-
 -- what the third item is an alias of
 abbrev alias_in : Encodable → Name
 alias_in (Builder (a ∷ b ∷ alias_item (export_alias t j n) ∷ [])) = n
 alias_in x = []
 
-module _ (old : Scope) (written : old.content ≡ Builder imported) (listed : listed_at old (definition 0) ≡ Some (ByInstance 0 (codes "t"))) where
+module _ (old : Scope) (w : ImportsEnum old) where
   -- it is aliased from the instance
-  pub aliased_from_instance : IsAliased old (definition 0) (then_ alias_of_t)
-  aliased_from_instance l is = ap (λ (x : Encodable). and_listed x (ByInstance 0 (codes "t"))) (sym written) ∙ ap (and_listed old.content) (one_entry (ByInstance 0 (codes "t")) l (sym listed ∙ is))
+  pub aliased_from_instance : IsAliased old the_enum (then_ alias_of_t)
+  aliased_from_instance l is = ap (λ (x : Encodable). and_listed x (ByInstance 0 (codes "t"))) (sym w.content) ∙ ap (and_listed old.content) (one_entry (ByInstance 0 (codes "t")) l (sym w.listed ∙ is))
 
   -- and so written, in no other way
-  only_alias : (x : Encodable) → IsAliased old (definition 0) x → x ≡ then_ alias_of_t
-  only_alias x h = h (ByInstance 0 (codes "t")) listed ∙ ap (λ (y : Encodable). and_listed y (ByInstance 0 (codes "t"))) written
+  only_alias : (x : Encodable) → IsAliased old the_enum x → x ≡ then_ alias_of_t
+  only_alias x h = h (ByInstance 0 (codes "t")) w.listed ∙ ap (λ (y : Encodable). and_listed y (ByInstance 0 (codes "t"))) w.content
 
   -- not from another name
-  pub no_alias_of_another_name : IsAliased old (definition 0) (then_ (alias_item (export_alias sort.«Type» 0 (codes "u")))) → ⊥
+  pub no_alias_of_another_name : IsAliased old the_enum (then_ (alias_item (export_alias sort.«Type» 0 (codes "u")))) → ⊥
   no_alias_of_another_name h = two_numbers 117 116 refl (ap (λ (x : Encodable). letter (alias_in x)) (only_alias (then_ (alias_item (export_alias sort.«Type» 0 (codes "u")))) h))
 
   -- and it is not defined once more
-  pub no_definition_for_alias : IsAliased old (definition 0) (then_ (type_item (value_def (enum_def (codes "a" ∷ []))))) → ⊥
+  pub no_definition_for_alias : IsAliased old the_enum (then_ (type_item (value_def (enum_def (codes "a" ∷ []))))) → ⊥
   no_definition_for_alias h = two_numbers 0 116 refl (ap (λ (x : Encodable). letter (alias_in x)) (only_alias (then_ (type_item (value_def (enum_def (codes "a" ∷ []))))) h))

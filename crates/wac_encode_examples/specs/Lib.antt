@@ -1,1 +1,2 @@
 pub mod EnumInterface
+pub mod ImportedEnum

@@ -5,7 +5,7 @@
 //! what is none.
 #![tactic(auto)]
 
-/// An interface and its declarations.
+/// An interface, its declarations, and the aliases around them.
 pub mod interface;
 
-pub use crate::interface::interface_rows;
+pub use crate::interface::{alias_rows, interface_rows};
