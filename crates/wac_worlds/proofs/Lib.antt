@@ -1,0 +1,5 @@
+pub mod Aliasing
+pub mod Declared
+pub mod Ordered
+pub mod Together
+pub mod Whole

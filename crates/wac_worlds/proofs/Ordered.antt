@@ -1,0 +1,70 @@
+-- The order in which the items of a world are declared.
+use Rattle.std.specs.Prelude.{ℕ, ◌+◌, ◌≡◌, Bool, true, false, cond, List, [], ◌∷◌, ◌++◌, Some, slice_get, IsPermutation}
+use Rattle.std.specs.Borrow.{Bor}
+use Rattle.std.proofs.Common.{refl, ap, ◌∙◌, sym, subst, take, add-one, append_assoc}
+use Rattle.std.proofs.lemmas.List.{append-nil, map-append}
+use Rattle.std.proofs.lemmas.List.Sorted.{IsPermutation-refl, IsPermutation-sym, IsPermutation-trans, IsPermutation-cons, IsPermutation-middle}
+use Rattle.wac_shapes.specs.Name.{Name}
+use Rattle.wac_shapes.specs.Named.{named_pairs}
+use Rattle.wac_shapes.proofs.Names.{take_at}
+use Rattle.wac_shapes.specs.declared.component.ItemKind.{ItemKind}
+use Rattle.wac_shapes.specs.declared.component.ItemKind.TheVariants as kind
+use Rattle.wac_encode.proofs.Ordered.{by_now}
+use Rattle.wac_worlds.specs.Declaring.{is_in, group, declared_order}
+use Rattle.wac_worlds.specs.declared.order.Group.{Group}
+use Rattle.wac_worlds.specs.declared.order.Group.TheVariants.{Instances, Types, Others}
+
+-- one item more
+
+group-push : (g : Group) (xs : List (Name × ItemKind)) (x : Name × ItemKind) → group g (xs ++ x ∷ []) ≡ group g xs ++ group g (x ∷ [])
+group-push g [] x = refl
+group-push g (y ∷ xs) x = by_test (is_in g y.1) (group-push g xs x)
+  where
+    by_test : (b : Bool) → group g (xs ++ x ∷ []) ≡ group g xs ++ group g (x ∷ []) → cond b (y ∷ group g (xs ++ x ∷ [])) (group g (xs ++ x ∷ [])) ≡ cond b (y ∷ group g xs) (group g xs) ++ group g (x ∷ [])
+    by_test true rest = ap (λ (zs : List (Name × ItemKind)). y ∷ zs) rest
+    by_test false rest = rest
+
+group-taken : (g : Group) (es : List (Name × ItemKind)) (i : ℕ) (e : Name × ItemKind) → slice_get es i ≡ Some e → group g (take (i + 1) es) ≡ group g (take i es) ++ group g (e ∷ [])
+group-taken g es i e at = ap (λ (j : ℕ). group g (take j es)) (add-one i) ∙ ap (group g) (take_at es i e at) ∙ group-push g (take i es) e
+
+-- one of the group
+pub group-more : (g : Group) (es fs : List (Name × ItemKind)) (i : ℕ) (n : Bor (List ℕ)) (k : ItemKind) (old new : List (Bor (List ℕ) × ItemKind)) → slice_get es i ≡ Some (n.now, k) → is_in g k ≡ true
+    → named_pairs old ≡ fs ++ group g (take i es) → new ≡ old ++ (n, k) ∷ [] → named_pairs new ≡ fs ++ group g (take (i + 1) es)
+group-more g es fs i n k old new at here before is =
+    ap named_pairs is ∙ map-append by_now old ((n, k) ∷ []) ∙ ap (λ (xs : List (Name × ItemKind)). xs ++ (n.now, k) ∷ []) before ∙ append_assoc fs (group g (take i es)) ((n.now, k) ∷ [])
+    ∙ ap (λ (xs : List (Name × ItemKind)). fs ++ (group g (take i es) ++ xs)) (sym (kept (is_in g k) here)) ∙ ap (λ (xs : List (Name × ItemKind)). fs ++ xs) (sym (group-taken g es i (n.now, k) at))
+  where
+    kept : (b : Bool) → b ≡ true → cond {A = List (Name × ItemKind)} b ((n.now, k) ∷ []) [] ≡ (n.now, k) ∷ []
+    kept true e = refl
+    kept false e = cc
+
+-- one that is passed over
+pub group-passed : (g : Group) (es fs : List (Name × ItemKind)) (i : ℕ) (n : Bor (List ℕ)) (k : ItemKind) (old : List (Bor (List ℕ) × ItemKind)) → slice_get es i ≡ Some (n.now, k) → is_in g k ≡ false
+    → named_pairs old ≡ fs ++ group g (take i es) → named_pairs old ≡ fs ++ group g (take (i + 1) es)
+group-passed g es fs i n k old at other before =
+    before ∙ sym (ap (λ (xs : List (Name × ItemKind)). fs ++ xs) (group-taken g es i (n.now, k) at ∙ ap (λ (xs : List (Name × ItemKind)). group g (take i es) ++ xs) (passed (is_in g k) other) ∙ append-nil (group g (take i es))))
+  where
+    passed : (b : Bool) → b ≡ false → cond {A = List (Name × ItemKind)} b ((n.now, k) ∷ []) [] ≡ (let none : List (Name × ItemKind) = [] in none)
+    passed false e = refl
+    passed true e = cc
+
+-- the three groups are the items
+
+behind-some : (xs : List (Name × ItemKind)) (e : Name × ItemKind) (ys es : List (Name × ItemKind)) → IsPermutation es (xs ++ ys) → IsPermutation (e ∷ es) (xs ++ e ∷ ys)
+behind-some xs e ys es p = IsPermutation-trans (e ∷ es) (e ∷ (xs ++ ys)) (xs ++ e ∷ ys) (IsPermutation-cons e es (xs ++ ys) p) (IsPermutation-sym (xs ++ e ∷ ys) (e ∷ (xs ++ ys)) (IsPermutation-middle xs e ys))
+
+pub in-order : (es : List (Name × ItemKind)) → IsPermutation es (declared_order es)
+in-order [] = IsPermutation-refl []
+in-order ((n, k) ∷ es) = by_kind k (in-order es)
+  where
+    other : (j : ItemKind) → IsPermutation es (declared_order es) → IsPermutation ((n, j) ∷ es) (group Instances es ++ (group Types es ++ (n, j) ∷ group Others es))
+    other j p = subst (λ (ys : List (Name × ItemKind)). IsPermutation ((n, j) ∷ es) ys) (append_assoc (group Instances es) (group Types es) ((n, j) ∷ group Others es))
+        (behind-some (group Instances es ++ group Types es) (n, j) (group Others es) es (subst (λ (ys : List (Name × ItemKind)). IsPermutation es ys) (sym (append_assoc (group Instances es) (group Types es) (group Others es))) p))
+
+    by_kind : (j : ItemKind) → IsPermutation es (declared_order es) → IsPermutation ((n, j) ∷ es) (declared_order ((n, j) ∷ es))
+    by_kind (kind.Instance i) p = IsPermutation-cons (n, kind.Instance i) es (declared_order es) p
+    by_kind (kind.TypeItem t) p = behind-some (group Instances es) (n, kind.TypeItem t) (group Types es ++ group Others es) es p
+    by_kind (kind.Func f) p = other (kind.Func f) p
+    by_kind (kind.Component w) p = other (kind.Component w) p
+    by_kind (kind.Module m) p = other (kind.Module m) p
+    by_kind (kind.Value v) p = other (kind.Value v) p

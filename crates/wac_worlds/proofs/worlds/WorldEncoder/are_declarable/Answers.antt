@@ -1,0 +1,24 @@
+use Rattle.std.specs.Prelude.{◌≡◌, true, false, length}
+use Rattle.std.proofs.Common.{arith, ap, sym, ◌∙◌}
+use Rattle.wac_encode.proofs.Listed.{all-of}
+use Rattle.wac_worlds.specs.Declaring.{is_declarable, are_declarable}
+use Rattle.wac_worlds.proofs.Whole.{not-declarable, declarable-further}
+use Rattle.wac_worlds.proofs.worlds.WorldEncoder.are_declarable.Goals as goal
+
+pub is_declarable-requires : goal.is_declarable-requires
+is_declarable-requires c = c.requires c.loop-i.i (c.entry_at.result.0.now, c.entry_at.result.1.now) c.entry_at.ensures
+
+pub returns-then-not-is_declarable : goal.returns-then-not-is_declarable
+returns-then-not-is_declarable c =
+    let other : is_declarable c.args.self.now.types.now c.entry_at.result.1.now ≡ false = cc in
+    sym (not-declarable c.args.self.now.types.now c.args.items.now c.loop-i.i (c.entry_at.result.0.now, c.entry_at.result.1.now) c.entry_at.ensures other)
+
+pub loop-i-preserved : goal.loop-i-preserved
+loop-i-preserved c =
+    let this : is_declarable c.args.self.now.types.now c.entry_at.result.1.now ≡ true = cc in
+    declarable-further c.args.self.now.types.now c.args.items.now c.loop-i.i (c.entry_at.result.0.now, c.entry_at.result.1.now) c.entry_at.ensures c.loop-i.invariant this
+
+pub returns : goal.returns
+returns c =
+    let whole : c.loop-i.i ≡ length c.args.items.now = omega (arith, c.loop-i-test.false, c.len-i-end.ensures, c.loop-i.auto.i-end) in
+    sym c.loop-i.invariant ∙ ap (are_declarable c.args.self.now.types.now) (all-of c.args.items.now c.loop-i.i whole)

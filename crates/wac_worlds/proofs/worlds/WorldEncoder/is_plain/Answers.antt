@@ -1,0 +1,8 @@
+use Rattle.wac_worlds.proofs.Whole.{held-imports, held-exports}
+use Rattle.wac_worlds.proofs.worlds.WorldEncoder.is_plain.Goals as goal
+
+pub are_declarable-requires : goal.are_declarable-requires
+are_declarable-requires c = held-imports c.args.self.now.types.now c.law.ensures c.args.world c.index-held.result.now c.index-held.ensures
+
+pub are_declarable-requires-then-are_declarable : goal.are_declarable-requires-then-are_declarable
+are_declarable-requires-then-are_declarable c = held-exports c.args.self.now.types.now c.law.ensures c.args.world c.index-held.result.now c.index-held.ensures

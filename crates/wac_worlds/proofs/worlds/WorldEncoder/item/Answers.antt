@@ -1,0 +1,25 @@
+use Rattle.std.specs.Prelude.{◌≡◌, OnOk}
+use Rattle.std.proofs.Common.{ap, ◌∙◌, sym, subst}
+use Rattle.wac_shapes.specs.declared.component.ItemKind.{ItemKind}
+use Rattle.wac_shapes.specs.declared.component.ItemKind.TheVariants as kind
+use Rattle.wac_shapes.specs.declared.component.«Type».{«Type» as AnyType}
+use Rattle.wac_shapes.specs.declared.component.«Type».TheVariants as ty
+use Rattle.wac_scopes.specs.Sides.{side_of}
+use Rattle.wac_worlds.specs.Steps.{DeclaresHeld}
+use Rattle.wac_worlds.proofs.worlds.WorldEncoder.item.Goals as goal
+
+pub returns-in-TypeItem-Value-clause-listed : goal.returns-in-TypeItem-Value-clause-listed
+returns-in-TypeItem-Value-clause-listed c =
+    let inner = rw c.in-TypeItem-Value.is at c.in-TypeItem-Value.field-0-is in
+    let same : c.args.item ≡ kind.TypeItem (ty.Value c.in-TypeItem-Value.value) = c.in-TypeItem-Value.is ∙ ap (λ (w : AnyType). kind.TypeItem w) inner in
+    subst (λ (k : ItemKind). OnOk c.type_item.result (DeclaresHeld c.args.self.now.types.now (side_of c.args.side) c.args.scope.now c.type_item.new.scope c.args.name.now k)) (sym same) c.type_item.ensures.listed
+
+pub returns-in-Func-clause-listed : goal.returns-in-Func-clause-listed
+returns-in-Func-clause-listed c =
+    let same : c.args.item ≡ kind.Func c.in-Func.func = cc in
+    subst (λ (k : ItemKind). OnOk c.func_item.result (DeclaresHeld c.args.self.now.types.now (side_of c.args.side) c.args.scope.now c.func_item.new.scope c.args.name.now k)) (sym same) c.func_item.ensures.listed
+
+pub returns-in-Instance-clause-listed : goal.returns-in-Instance-clause-listed
+returns-in-Instance-clause-listed c =
+    let same : c.args.item ≡ kind.Instance c.in-Instance.interface = cc in
+    subst (λ (k : ItemKind). OnOk c.instance_item.result (DeclaresHeld c.args.self.now.types.now (side_of c.args.side) c.args.scope.now c.instance_item.new.scope c.args.name.now k)) (sym same) c.instance_item.ensures.listed

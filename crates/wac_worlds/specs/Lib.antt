@@ -1,0 +1,3 @@
+pub mod Steps
+pub mod Declaring
+pub mod Worlds

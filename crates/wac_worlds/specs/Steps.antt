@@ -1,0 +1,37 @@
+-- What each item of a world adds to a scope, under what is held. Private functions alone cite this.
+use Rattle.std.specs.Prelude.{◌≡◌, true, List, ◌∷◌}
+use Rattle.wac_shapes.specs.Name.{Name}
+use Rattle.wac_shapes.specs.Kinds.{kind_type}
+use Rattle.wac_shapes.specs.declared.component.ItemKind.{ItemKind}
+use Rattle.wac_collection.specs.Tree.{Side, Tree, absent}
+use Rattle.wac_collection.specs.Collection.{Collection, holds_type}
+use Rattle.wac_collection.specs.Bound.{Bindings}
+use Rattle.wac_scopes.specs.declared.scope.Scope.{Scope}
+use Rattle.wac_stacks.specs.Scopes.{Open, Stack, env, envs}
+use Rattle.wac_stacks.specs.Good.{Good}
+use Rattle.wac_stacks.specs.Listed.{IsItem, IsNewName, Lists, AreListed, on_side, other}
+use Rattle.wac_scopes.specs.Scoped.{opened}
+use Rattle.wac_worlds.specs.Declaring.{is_declarable}
+
+-- good stacks in which no item on this side has the name declare it
+abbrev pub DeclaresHeld : Collection → Side → Scope → Scope → Name → ItemKind → Type 0
+DeclaresHeld c side old new n k = (m : Bindings) (ms : List Bindings) (o : Open) (os : Stack) → Good c (m ∷ ms) (opened old o ∷ os) → IsNewName (opened old o) os side n
+    → (t : Tree) × IsItem c m side n k t × Lists c m ms (opened old o) (opened new o) os side n t
+
+-- nothing is declared on this side
+abbrev pub DeclaresNothing : Side → Open → Stack → Type 0
+DeclaresNothing side o os = (n : Name) → on_side side (env o (envs os)) n ≡ absent
+
+-- From old to new, good stacks in which nothing is declared on this side declare these items, and nothing else.
+pub record Declares (c : Collection) (side : Side) (m : Bindings) (ms : List Bindings) (old new : Scope) (o : Open) (os : Stack) (es : List (Name × ItemKind)) : Type 0 where
+  pub good : Good c (m ∷ ms) (opened new o ∷ os)
+  pub this : AreListed c m side es (on_side side (env (opened new o) (envs os)))
+  pub that : on_side (other side) (env (opened new o) (envs os)) ≡ on_side (other side) (env (opened old o) (envs os))
+
+abbrev pub DeclaresAll : Collection → Side → Scope → Scope → List (Name × ItemKind) → Type 0
+DeclaresAll c side old new es = (m : Bindings) (ms : List Bindings) (o : Open) (os : Stack) → Good c (m ∷ ms) (opened old o ∷ os) → DeclaresNothing side (opened old o) os
+    → Declares c side m ms old new o os es
+
+-- an item can be declared
+abbrev pub CanDeclare : Collection → ItemKind → Type 0
+CanDeclare c k = (holds_type c (kind_type k) ≡ true) × (is_declarable c k ≡ true)

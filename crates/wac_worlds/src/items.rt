@@ -1,0 +1,316 @@
+//! The writer of what a world declares, item by item.
+
+ghost use Rattle.std.specs.Prelude.{◌≡◌, ◌<◌, true, Some, None, ℕ, List, IfOk, OnOk, length, slice_get};
+ghost use Rattle.wac_shapes.specs.Named.{NoNameTwice, named_pairs};
+ghost use Rattle.wac_shapes.specs.declared.component.ItemKind.{ItemKind as AnyItem};
+ghost use Rattle.wac_shapes.specs.declared.component.ItemKind.TheVariants as kind;
+ghost use Rattle.wac_shapes.specs.declared.component.ValueType.TheVariants as val;
+ghost use Rattle.wac_shapes.specs.declared.component.«Type».TheVariants as ty;
+ghost use Rattle.wac_collection.specs.Collection.{HasFunc, HasInterface, holds_value};
+ghost use Rattle.wac_collection.specs.Aliases.{value_resolved};
+ghost use Rattle.wac_scopes.specs.Scoped.{value_index};
+ghost use Rattle.wac_scopes.specs.Sides.{side_of, IsOpenComponent};
+ghost use Rattle.wac_encode.specs.Written.{WritesFor};
+ghost use Rattle.wac_encode.specs.Listing.{NeededBy, lists_plain};
+ghost use Rattle.wac_worlds.specs.Declaring.{listed_definition, listed_definitions, declared_order, AddsHeldInterface, IsInterfaceAt, IsInstanceRefused, DeclaresItem, DeclaresItems, IsItemRefused, AreRefused};
+ghost use Rattle.wac_worlds.specs.Steps.{DeclaresHeld, DeclaresAll, CanDeclare};
+
+use crate::order::in_order;
+use crate::worlds::WorldEncoder;
+use std::alloc::AllocError;
+use wac_binary::ComponentValType;
+use wac_collection::{
+    DefinedTypeId, FuncTypeId, InterfaceId, ItemKind, Named, PrimitiveType, Text, Type, ValueType,
+};
+use wac_scopes::{
+    EncodeFault, Scope, Side, WriteFault, alias_law, instance_law, listing_law, step_law, still_law,
+};
+
+impl<'a> WorldEncoder<'a> {
+    /// Declares a primitive as a type item.
+    fn primitive_item(
+        &self,
+        scope: &mut Scope,
+        side: Side,
+        name: &str,
+        value: ValueType,
+        primitive: PrimitiveType,
+    ) -> Result<(), EncodeFault>
+        requires end { value_resolved self.now.types.now value ≡ val.Primitive primitive }
+        requires open { IsOpenComponent scope.old.content }
+        ensures listed { OnOk result (DeclaresHeld self.now.types.now (side_of side) scope.old scope.new name.now (kind.TypeItem (ty.Value value))) }
+        ensures wrote { OnOk result (DeclaresItem self.now.types.now (side_of side) scope.old scope.new name.now (kind.TypeItem (ty.Value value))) }
+        ensures fault { IsItemRefused self.now.types.now (side_of side) name.now (kind.TypeItem (ty.Value value)) scope.old result }
+    {
+        self.types.law();
+        alias_law();
+        still_law();
+        let index = scope.define_primitive(primitive)?;
+        scope.declare_type(side, name, index)?;
+        Ok(())
+    }
+
+    /// Declares a definition that is written already as a type item. It is still written by the name that it has.
+    fn second_name(
+        &self,
+        scope: &mut Scope,
+        side: Side,
+        name: &str,
+        value: ValueType,
+        id: DefinedTypeId,
+        index: u32,
+    ) -> Result<(), EncodeFault>
+        requires end { value_resolved self.now.types.now value ≡ val.Defined id }
+        requires written { value_index scope.old id ≡ Some index }
+        requires open { IsOpenComponent scope.old.content }
+        ensures listed { OnOk result (DeclaresHeld self.now.types.now (side_of side) scope.old scope.new name.now (kind.TypeItem (ty.Value value))) }
+        ensures wrote { OnOk result (DeclaresItem self.now.types.now (side_of side) scope.old scope.new name.now (kind.TypeItem (ty.Value value))) }
+        ensures fault { IsItemRefused self.now.types.now (side_of side) name.now (kind.TypeItem (ty.Value value)) scope.old result }
+    {
+        self.types.law();
+        alias_law();
+        step_law();
+        still_law();
+        scope.declare_type(side, name, index)?;
+        Ok(())
+    }
+
+    /// Writes a definition, and declares it as a type item, by whose index it is written from then on.
+    fn first_name(
+        &self,
+        scope: &mut Scope,
+        side: Side,
+        name: &str,
+        value: ValueType,
+        id: DefinedTypeId,
+    ) -> Result<(), EncodeFault>
+        requires held { holds_value self.now.types.now value ≡ true }
+        requires end { value_resolved self.now.types.now value ≡ val.Defined id }
+        requires unwritten { value_index scope.old id ≡ None }
+        requires open { IsOpenComponent scope.old.content }
+        ensures listed { OnOk result (DeclaresHeld self.now.types.now (side_of side) scope.old scope.new name.now (kind.TypeItem (ty.Value value))) }
+        ensures wrote { OnOk result (DeclaresItem self.now.types.now (side_of side) scope.old scope.new name.now (kind.TypeItem (ty.Value value))) }
+        ensures fault { IsItemRefused self.now.types.now (side_of side) name.now (kind.TypeItem (ty.Value value)) scope.old result }
+    {
+        self.types.law();
+        alias_law();
+        step_law();
+        let ComponentValType::Index(index) = self.value_type(scope, value)? else {
+            unreachable!()
+        };
+        scope.declare_value(side, name, id, index)?;
+        Ok(())
+    }
+
+    /// Writes a value type, and declares it as a type item.
+    fn type_item(
+        &self,
+        scope: &mut Scope,
+        side: Side,
+        name: &str,
+        value: ValueType,
+    ) -> Result<(), EncodeFault>
+        requires held { holds_value self.now.types.now value ≡ true }
+        requires open { IsOpenComponent scope.old.content }
+        ensures listed { OnOk result (DeclaresHeld self.now.types.now (side_of side) scope.old scope.new name.now (kind.TypeItem (ty.Value value))) }
+        ensures wrote { OnOk result (DeclaresItem self.now.types.now (side_of side) scope.old scope.new name.now (kind.TypeItem (ty.Value value))) }
+        ensures fault { IsItemRefused self.now.types.now (side_of side) name.now (kind.TypeItem (ty.Value value)) scope.old result }
+    {
+        let end = self.types.resolve_value_type(value);
+        match end {
+            ValueType::Primitive(primitive) => {
+                self.primitive_item(scope, side, name, value, primitive)
+            }
+            ValueType::Defined(id) => match scope.value(end) {
+                Some(ComponentValType::Index(index)) => {
+                    self.second_name(scope, side, name, value, id, index)
+                }
+                _ => self.first_name(scope, side, name, value, id),
+            },
+            ValueType::Own(_) | ValueType::Borrow(_) => {
+                Err(EncodeFault::Write(WriteFault::UnboundResource))
+            }
+        }
+    }
+
+    /// Writes a function type, and declares a function of it.
+    fn func_item(
+        &self,
+        scope: &mut Scope,
+        side: Side,
+        name: &str,
+        func: FuncTypeId,
+    ) -> Result<(), EncodeFault>
+        requires held { HasFunc self.now.types.now func }
+        requires open { IsOpenComponent scope.old.content }
+        ensures listed { OnOk result (DeclaresHeld self.now.types.now (side_of side) scope.old scope.new name.now (kind.Func func)) }
+        ensures wrote { OnOk result (DeclaresItem self.now.types.now (side_of side) scope.old scope.new name.now (kind.Func func)) }
+        ensures fault { IsItemRefused self.now.types.now (side_of side) name.now (kind.Func func) scope.old result }
+    {
+        let index = self.func(scope, func)?;
+        scope.declare_func(side, name, index)?;
+        Ok(())
+    }
+
+    /// Writes an interface as an instance type, where it is not written yet, behind the aliases of what its items are made of and an instance
+    /// lists, and answers its type index.
+    fn instance(&self, scope: &mut Scope, interface: InterfaceId) -> Result<u32, EncodeFault>
+        requires held { HasInterface self.now.types.now interface }
+        requires plain { lists_plain self.now.types.now interface ≡ true }
+        ensures written { OnOk result (WritesFor self.now.types.now 0 (NeededBy self.now.types.now (kind.Instance interface)) scope.old scope.new) }
+        ensures adds { IfOk result (AddsHeldInterface self.now.types.now scope.old scope.new interface) }
+        ensures recorded { IfOk result (IsInterfaceAt self.now.types.now scope.old scope.new interface) }
+        ensures fault { IsInstanceRefused self.now.types.now interface scope.old result }
+    {
+        step_law();
+        still_law();
+        if let Some(index) = scope.interface(interface) {
+            return Ok(index);
+        }
+        self.alias_listed(scope, interface)?;
+        let Some(declarations) = self.interface_type(scope, interface)? else {
+            unreachable!()
+        };
+        let index = scope.define_instance(interface, &declarations)?;
+        Ok(index)
+    }
+
+    /// The definition that a type item lists, aliases followed to the end.
+    fn listed_definition(&self, item: ItemKind) -> Option<DefinedTypeId>
+        ensures { result ≡ listed_definition self.now.types.now item }
+    {
+        match item {
+            ItemKind::TypeItem(Type::Value(value)) => match self.types.resolve_value_type(value) {
+                ValueType::Defined(id) => Some(id),
+                _ => None,
+            },
+            _ => None,
+        }
+    }
+
+    /// The definitions that items list, each with its name, the last first.
+    fn listed_definitions(
+        &self,
+        items: &Named<ItemKind>,
+    ) -> Result<Vec<(DefinedTypeId, Text)>, AllocError>
+        ensures { IfOk result (λ ds. ds.items ≡ listed_definitions self.now.types.now items.now) }
+    {
+        let alloc = self.types.allocator();
+        let mut definitions = Vec::new(alloc);
+        let mut i = items.len();
+        while i > 0 {
+            i -= 1;
+            let (name, item) = items.entry_at(i);
+            if let Some(id) = self.listed_definition(*item) {
+                definitions.push((id, Text::new(alloc, name)?))?;
+            }
+        }
+        Ok(definitions)
+    }
+
+    /// Writes an interface as an instance type, and declares an instance of it, from which the definitions that it lists are aliased from
+    /// then on.
+    fn instance_item(
+        &self,
+        scope: &mut Scope,
+        side: Side,
+        name: &str,
+        interface: InterfaceId,
+    ) -> Result<(), EncodeFault>
+        requires held { HasInterface self.now.types.now interface }
+        requires plain { lists_plain self.now.types.now interface ≡ true }
+        requires open { IsOpenComponent scope.old.content }
+        ensures listed { OnOk result (DeclaresHeld self.now.types.now (side_of side) scope.old scope.new name.now (kind.Instance interface)) }
+        ensures wrote { OnOk result (DeclaresItem self.now.types.now (side_of side) scope.old scope.new name.now (kind.Instance interface)) }
+        ensures fault { IsItemRefused self.now.types.now (side_of side) name.now (kind.Instance interface) scope.old result }
+    {
+        instance_law();
+        self.types.law();
+        let held = &self.types[interface];
+        held.exports.law();
+        let index = self.instance(scope, interface)?;
+        let definitions = self.listed_definitions(&held.exports)?;
+        scope.declare_listing(side, name, index, definitions)?;
+        Ok(())
+    }
+
+    /// Writes what an item is made of, and declares it under its name.
+    fn item(
+        &self,
+        scope: &mut Scope,
+        side: Side,
+        name: &str,
+        item: ItemKind,
+    ) -> Result<(), EncodeFault>
+        requires held { CanDeclare self.now.types.now item }
+        requires open { IsOpenComponent scope.old.content }
+        ensures listed { OnOk result (DeclaresHeld self.now.types.now (side_of side) scope.old scope.new name.now item) }
+        ensures wrote { OnOk result (DeclaresItem self.now.types.now (side_of side) scope.old scope.new name.now item) }
+        ensures fault { IsItemRefused self.now.types.now (side_of side) name.now item scope.old result }
+    {
+        match item {
+            ItemKind::TypeItem(Type::Value(value)) => self.type_item(scope, side, name, value),
+            ItemKind::Func(func) => self.func_item(scope, side, name, func),
+            ItemKind::Instance(interface) => self.instance_item(scope, side, name, interface),
+            ItemKind::TypeItem(Type::Module(_)) => {
+                Err(EncodeFault::Write(WriteFault::ModuleAsType))
+            }
+            ItemKind::Component(_) | ItemKind::Module(_) | ItemKind::Value(_) => {
+                Err(EncodeFault::Write(WriteFault::NestedItem))
+            }
+            _ => unreachable!(),
+        }
+    }
+
+    /// Declares items on one side, in this order.
+    fn items(
+        &self,
+        scope: &mut Scope,
+        side: Side,
+        order: &[(&str, ItemKind)],
+    ) -> Result<(), EncodeFault>
+        requires plain { (k : ℕ) (e : List ℕ × AnyItem) → slice_get (named_pairs order.now) k ≡ Some e → CanDeclare self.now.types.now e.1 }
+        requires once { NoNameTwice (named_pairs order.now) }
+        requires open { IsOpenComponent scope.old.content }
+        ensures listed { OnOk result (DeclaresAll self.now.types.now (side_of side) scope.old scope.new (named_pairs order.now)) }
+        ensures wrote { OnOk result (DeclaresItems self.now.types.now (side_of side) scope.old (named_pairs order.now) scope.new) }
+        ensures open { OnOk result (IsOpenComponent scope.new.content) }
+        ensures fault { AreRefused self.now.types.now (side_of side) scope.old (named_pairs order.now) result }
+    {
+        listing_law();
+        for i in 0..order.len() {
+            let (name, item) = entry_of(order, i);
+            self.item(scope, side, name, item)?;
+        }
+        Ok(())
+    }
+
+    /// Declares what a world lists on one side: instances, then type items, then the others.
+    pub(crate) fn declare(
+        &self,
+        scope: &mut Scope,
+        side: Side,
+        items: &Named<ItemKind>,
+    ) -> Result<(), EncodeFault>
+        requires plain { (k : ℕ) (e : List ℕ × AnyItem) → slice_get items.now k ≡ Some e → CanDeclare self.now.types.now e.1 }
+        requires open { IsOpenComponent scope.old.content }
+        ensures listed { OnOk result (DeclaresAll self.now.types.now (side_of side) scope.old scope.new items.now) }
+        ensures wrote { OnOk result (DeclaresItems self.now.types.now (side_of side) scope.old (declared_order items.now) scope.new) }
+        ensures open { OnOk result (IsOpenComponent scope.new.content) }
+        ensures fault { AreRefused self.now.types.now (side_of side) scope.old (declared_order items.now) result }
+    {
+        items.law();
+        listing_law();
+        let order = in_order(self.types.allocator(), items)?;
+        self.items(scope, side, order.as_slice())?;
+        Ok(())
+    }
+}
+
+/// The item at a position, which is one of the list.
+fn entry_of<'b>(order: &[(&'b str, ItemKind)], index: usize) -> (&'b str, ItemKind)
+    requires { index < length order.now }
+    ensures { slice_get order.now index ≡ Some result }
+{
+    order[index]
+}

@@ -1,0 +1,179 @@
+//! The writer of worlds, and what it takes from the writer of types.
+
+ghost use Rattle.std.specs.Prelude.{◌≡◌, ◌↔◌, true, false, None, Some, ℕ, List, Ok as Answers, IfOk, OnOk, slice_get};
+ghost use Rattle.wac_shapes.specs.Kinds.{kind_type};
+ghost use Rattle.wac_shapes.specs.declared.component.ItemKind.{ItemKind as AnyItem};
+ghost use Rattle.wac_collection.specs.Collection.{HasFunc, HasInterface, HasWorld, holds_type, holds_value};
+ghost use Rattle.wac_collection.specs.Aliases.{value_resolved};
+ghost use Rattle.wac_scopes.specs.declared.encodable.Encodable.TheVariants.{Component};
+ghost use Rattle.wac_scopes.specs.Sides.{IsOpenComponent};
+ghost use Rattle.wac_encode.specs.Written.{IsByRecord, PartOf, WritesFor, IsRefused, IsOfFunc, AddsHeldFunc, IsFuncAt, IsFuncRefused};
+ghost use Rattle.wac_encode.specs.Listing.{AliasesFor, AllAliased, IsAliasRefused, SaysIfThere as SaysTypeIfThere, WritesIfThere as WritesTypeIfThere, lists_plain, IsInterfaceRefused};
+ghost use Rattle.wac_worlds.specs.Declaring.{is_declarable as declarable_item, are_declarable as declarable_items};
+ghost use Rattle.wac_worlds.specs.Worlds.{is_plain_world, SaysIfThere, WritesIfThere, IsWorldRefused};
+
+use wac_binary::{ComponentType, ComponentValType, InstanceType};
+use wac_collection::{FuncTypeId, InterfaceId, ItemKind, Named, Type, Types, ValueType, WorldId};
+use wac_encode::TypeEncoder;
+use wac_scopes::{Encodable, EncodeFault, Scope, Side, closing_law};
+
+/// Writes worlds of a collection as component types.
+#[derive(Clone, Copy)]
+pub struct WorldEncoder<'a> {
+    /// The collection.
+    pub(crate) types: &'a Types,
+}
+
+impl<'a> WorldEncoder<'a> {
+    /// A writer of what is held in this collection.
+    pub fn new(types: &'a Types) -> WorldEncoder<'a>
+        ensures { result.types.now ≡ types.now }
+    {
+        WorldEncoder { types }
+    }
+
+    /// Writes a held value type, as `TypeEncoder::value_type` does.
+    pub(crate) fn value_type(
+        &self,
+        scope: &mut Scope,
+        value: ValueType,
+    ) -> Result<ComponentValType, EncodeFault>
+        requires { holds_value self.now.types.now value ≡ true }
+        ensures written { WritesFor self.now.types.now 0 (PartOf self.now.types.now (value_resolved self.now.types.now value)) scope.old scope.new }
+        ensures recorded { IfOk result (IsByRecord self.now.types.now scope.new value) }
+        ensures fault { IsRefused self.now.types.now (PartOf self.now.types.now (value_resolved self.now.types.now value)) scope.new result }
+    {
+        TypeEncoder::new(self.types).value_type(scope, value)
+    }
+
+    /// Writes a held function type, as `TypeEncoder::func` does.
+    pub(crate) fn func(&self, scope: &mut Scope, func: FuncTypeId) -> Result<u32, EncodeFault>
+        requires { HasFunc self.now.types.now func }
+        ensures written { WritesFor self.now.types.now 0 (IsOfFunc self.now.types.now func) scope.old scope.new }
+        ensures adds { IfOk result (AddsHeldFunc self.now.types.now scope.old scope.new func) }
+        ensures recorded { IfOk result (IsFuncAt self.now.types.now func scope.old scope.new) }
+        ensures fault { IsFuncRefused self.now.types.now func scope.new result }
+    {
+        TypeEncoder::new(self.types).func(scope, func)
+    }
+
+    /// Writes a held interface, as `TypeEncoder::interface_type` does.
+    pub(crate) fn interface_type(
+        &self,
+        around: &Scope,
+        interface: InterfaceId,
+    ) -> Result<Option<InstanceType>, EncodeFault>
+        requires { HasInterface self.now.types.now interface }
+        ensures none { (result ≡ Answers None) ↔ (lists_plain self.now.types.now interface ≡ false) }
+        ensures says { IfOk result (SaysTypeIfThere self.now.types.now around.now interface) }
+        ensures written { IfOk result (WritesTypeIfThere self.now.types.now around.now interface) }
+        ensures fault { IsInterfaceRefused self.now.types.now around.now interface result }
+    {
+        TypeEncoder::new(self.types).interface_type(around, interface)
+    }
+
+    /// Aliases what an interface's items are made of, as `TypeEncoder::alias_listed` does.
+    pub(crate) fn alias_listed(
+        &self,
+        scope: &mut Scope,
+        interface: InterfaceId,
+    ) -> Result<(), EncodeFault>
+        requires { HasInterface self.now.types.now interface }
+        ensures written { AliasesFor self.now.types.now interface scope.old scope.new }
+        ensures all { OnOk result (AllAliased self.now.types.now interface scope.old scope.new) }
+        ensures fault { IsAliasRefused self.now.types.now interface scope.new result }
+    {
+        TypeEncoder::new(self.types).alias_listed(scope, interface)
+    }
+
+    /// Whether all items of an interface are of sorts that are written.
+    fn lists_plain(&self, interface: InterfaceId) -> bool
+        requires { HasInterface self.now.types.now interface }
+        ensures { result ≡ lists_plain self.now.types.now interface }
+    {
+        TypeEncoder::new(self.types).lists_plain(interface)
+    }
+
+    /// Whether an item is of a sort that is written, or that no component type can list.
+    fn is_declarable(&self, item: ItemKind) -> bool
+        requires { holds_type self.now.types.now (kind_type item) ≡ true }
+        ensures { result ≡ declarable_item self.now.types.now item }
+    {
+        match item {
+            ItemKind::TypeItem(Type::Value(_) | Type::Module(_)) => true,
+            ItemKind::TypeItem(_) => false,
+            ItemKind::Instance(id) => self.lists_plain(id),
+            ItemKind::Func(_) | ItemKind::Component(_) | ItemKind::Module(_) | ItemKind::Value(_) =>
+                { true }
+        }
+    }
+
+    /// Whether all items are.
+    fn are_declarable(&self, items: &Named<ItemKind>) -> bool
+        requires { (k : ℕ) (e : List ℕ × AnyItem) → slice_get items.now k ≡ Some e → holds_type self.now.types.now (kind_type e.1) ≡ true }
+        ensures { result ≡ declarable_items self.now.types.now items.now }
+    {
+        for i in 0..items.len() {
+            let (_, item) = items.entry_at(i);
+            if !self.is_declarable(*item) {
+                return false;
+            }
+        }
+        true
+    }
+
+    /// Whether a world is written so far: it uses no types of interfaces, and its items are of sorts that are written, or that no
+    /// component type can list.
+    pub fn is_plain(&self, world: WorldId) -> bool
+        requires { HasWorld self.now.types.now world }
+        ensures { result ≡ is_plain_world self.now.types.now world }
+    {
+        self.types.law();
+        let held = &self.types[world];
+        held.uses.len() == 0
+            && self.are_declarable(&held.imports)
+            && self.are_declarable(&held.exports)
+    }
+
+    /// Writes a held world as a component type: what it imports, then what it exports; each as instances, then type items, then
+    /// functions, in listed order. What an item is made of is written just before it, once, and the instance type of an interface once;
+    /// what an instance lists is aliased from it from then on, and a definition that a type item lists is written by the first such
+    /// item's index.
+    ///
+    /// Answers none exactly where the world uses types of interfaces, or an item is of a sort that is not written: a type item of a
+    /// resource, a function type, an interface or a world, or an instance of an interface that `interface_type` does not write.
+    /// Answers `UnboundResource` for an item that is made of a handle, `ModuleAsType` and `NestedItem` for one that no component type
+    /// can list, what `interface_type` answers where it refuses an interface, and `TooLarge` where what is written next does not fit,
+    /// the first in order; `OutOfMemory` where memory was refused.
+    pub fn world_type(&self, world: WorldId) -> Result<Option<ComponentType>, EncodeFault>
+        requires { HasWorld self.now.types.now world }
+        ensures none { (result ≡ Answers None) ↔ (is_plain_world self.now.types.now world ≡ false) }
+        ensures says { IfOk result (SaysIfThere self.now.types.now world) }
+        ensures written { IfOk result (WritesIfThere self.now.types.now world) }
+        ensures fault { IsWorldRefused self.now.types.now world result }
+    {
+        self.types.law();
+        closing_law();
+        if !self.is_plain(world) {
+            return Ok(None);
+        }
+        let held = &self.types[world];
+        let alloc = self.types.allocator();
+        let mut scope = Scope::new(alloc, Encodable::Component(ComponentType::new(alloc)));
+        self.declare(&mut scope, Side::Import, &held.imports)?;
+        self.declare(&mut scope, Side::Export, &held.exports)?;
+        let declarations = component_type(scope.into_content());
+        Ok(Some(declarations))
+    }
+}
+
+/// The component type that is written.
+fn component_type(content: Encodable) -> ComponentType
+    requires { IsOpenComponent content }
+    ensures { content ≡ Component result }
+{
+    match content {
+        Encodable::Component(declarations) => declarations,
+        Encodable::Builder(_) | Encodable::Instance(_) => unreachable!(),
+    }
+}
