@@ -43,6 +43,17 @@ const TWICE: &[u8] = &[
     0x0a, 0x0a, 0x01, 0x00, 0x05, 0x6e, 0x3a, 0x70, 0x2f, 0x69, 0x05, 0x00, // the import
 ];
 
+const FUNCTION_TYPE: &[u8] = &[
+    0x00, 0x61, 0x73, 0x6d, 0x0d, 0x00, 0x01, 0x00, // the preamble
+    0x07, 0x24, 0x01, 0x42, 0x05, // an instance type of five declarations
+    0x01, 0x6d, 0x01, 0x01, 0x61, // the enum
+    0x04, 0x00, 0x01, 0x74, 0x03, 0x00, 0x00, // a type item that equals it
+    0x01, 0x40, 0x01, 0x01, 0x78, 0x01, 0x01, 0x00, // a function type over the item's own index
+    0x04, 0x00, 0x01, 0x67, 0x03, 0x00, 0x02, // a type item that equals the function type
+    0x04, 0x00, 0x01, 0x66, 0x01, 0x02, // a function, of the function type's own index
+    0x0a, 0x0a, 0x01, 0x00, 0x05, 0x6e, 0x3a, 0x70, 0x2f, 0x69, 0x05, 0x00, // the import
+];
+
 const ORDERED: &[u8] = &[
     0x00, 0x61, 0x73, 0x6d, 0x0d, 0x00, 0x01, 0x00, // the preamble
     0x07, 0x2f, 0x01, 0x42, 0x08, // an instance type of eight declarations
@@ -152,6 +163,31 @@ fn writes_the_first_that_mentions_none_left(rt: HostRuntime) {
         Interface::new(alloc, Some("n:p/i"), &items),
     );
     assert_imported(&rt, &types, interface, ORDERED);
+}
+
+// A type item of a function type stands behind the type items of value types, also where it is listed first; a function of the same type
+// takes the index of the type itself.
+#[test]
+fn writes_type_items_of_function_types(rt: HostRuntime) {
+    let alloc = rt.alloc();
+    let mut types = Types::new(alloc);
+    let x = enumeration(&rt, &mut types, "a");
+    let f = function(
+        &rt,
+        &mut types,
+        FuncType::new(alloc, &[("x", x)], None, false),
+    );
+    let items = [
+        ("g", ItemKind::TypeItem(Type::Func(f))),
+        ("t", ItemKind::TypeItem(Type::Value(x))),
+        ("f", ItemKind::Func(f)),
+    ];
+    let interface = interface(
+        &rt,
+        &mut types,
+        Interface::new(alloc, Some("n:p/i"), &items),
+    );
+    assert_imported(&rt, &types, interface, FUNCTION_TYPE);
 }
 
 // A second name equals the first, which is the one that is used, by what is an alias of it too.

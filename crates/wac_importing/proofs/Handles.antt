@@ -14,7 +14,7 @@ use Rattle.wac_shapes.specs.declared.component.ValueType.TheVariants as val
 use Rattle.wac_shapes.specs.declared.component.«Type».{«Type» as AnyType}
 use Rattle.wac_shapes.specs.declared.component.«Type».TheVariants as ty
 use Rattle.wac_collection.specs.declared.collection.Held.{Held}
-use Rattle.wac_collection.specs.Tree.{TypeTree, absent, own, borrow, function, type_equal}
+use Rattle.wac_collection.specs.Tree.{TypeTree, absent, own, borrow, type_equal}
 use Rattle.wac_collection.specs.Collection.{Collection, IsWellFormed, IsValueBefore, AreBefore, AddedBefore, size, seconds, and_maybe, case_values, func_values, defined_values, value_types, func_mentions, defined_mentions, holds_type, holds_value, item_at, item_of}
 use Rattle.wac_collection.specs.Aliases.{target_of, value_resolved, value_resolved_in}
 use Rattle.wac_collection.specs.Held.{resolved, part_at, option_tree, defined_tree, func_tree, of_held, step, unfolded}
@@ -32,7 +32,6 @@ use Rattle.wac_importing.specs.Looked.{IsOfValues}
 
 pub plain_free : {L : Type 0} (t : TypeTree L) → IsPlainItem (type_equal t) → HasNoHandle t
 plain_free absent h = absurd h
-plain_free (function is_async names params result) h = absurd h
 plain_free t h = h
 
 -- ---- a definition and its parts

@@ -4,9 +4,7 @@ use Rattle.std.proofs.Math.Path.{fun_ext}
 use Rattle.wac_shapes.specs.Name.{Name, option_case}
 use Rattle.wac_shapes.specs.declared.component.Interface.{Interface}
 use Rattle.wac_shapes.specs.declared.component.InterfaceId.{InterfaceId}
-use Rattle.wac_shapes.specs.declared.component.ItemKind.{ItemKind}
 use Rattle.wac_shapes.specs.declared.component.ItemKind.TheVariants as kind
-use Rattle.wac_shapes.specs.declared.component.UsedType.{UsedType}
 use Rattle.wac_shapes.specs.declared.component.«Type».TheVariants as ty
 use Rattle.wac_collection.specs.Tree.{Leaf, Tree, absent, imported, exported, component, instance_item}
 use Rattle.wac_collection.specs.Collection.{Collection, IsWellFormed, item_at, interface_exports}
@@ -18,7 +16,7 @@ use Rattle.wac_root.specs.Components.{held_under_id, component_tree}
 use Rattle.wac_root.specs.Defining.{IsDefinitionFault}
 use Rattle.wac_root.specs.Defining.{IsDefinable as IsWritable}
 use Rattle.wac_nodes.specs.Entries.{under_id}
-use Rattle.wac_meaning.specs.Definition.{definition_tree, uses_of, reached_to, reached, as_imports, listed, cut_imports, interface_definition}
+use Rattle.wac_meaning.specs.Definition.{definition_tree, uses_of, reached_to, reached, as_imports, listed, cut_imports}
 use Rattle.wac_meaning.specs.Importable.{IsDefinableKind, IsDefinableInterface}
 use Rattle.wac_importing.specs.Looked.{ArePlain}
 use Rattle.wac_importing.proofs.Items.{exports_are}

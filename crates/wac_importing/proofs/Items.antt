@@ -17,7 +17,7 @@ use Rattle.wac_shapes.specs.declared.component.ValueType.{ValueType}
 use Rattle.wac_shapes.specs.declared.component.«Type».{«Type» as AnyType}
 use Rattle.wac_shapes.specs.declared.component.«Type».TheVariants as ty
 use Rattle.wac_collection.specs.declared.collection.Held.{Held}
-use Rattle.wac_collection.specs.Tree.{TypeTree, absent, resource, function, instance, type_equal, instance_item, module_item}
+use Rattle.wac_collection.specs.Tree.{TypeTree, absent, resource, instance, type_equal, instance_item, module_item}
 use Rattle.wac_collection.specs.Collection.{Collection, IsWellFormed, AddedBefore, size, holds_type, item_at, item_of, interface_exports}
 use Rattle.wac_collection.specs.Held.{resolved, func_tree, interface_tree, module_tree, of_held, unfolded}
 use Rattle.wac_subtyping.specs.Subtype.{IsPlain, by_name, resource_names, type_tree, kind_tree, listed_in}
@@ -101,7 +101,6 @@ module_importable c wf m held = subst (λ (t : TypeTree Name). IsImportable (mod
 -- a type item that is plain, and one of a function type without handles
 plain_importable : {L : Type 0} (t : TypeTree L) → IsPlainItem (type_equal t) → IsImportable (type_equal t)
 plain_importable absent h = absurd h
-plain_importable (function is_async names params result) h = absurd h
 plain_importable (instance items) h = absurd h
 plain_importable t h = h
 
@@ -160,10 +159,10 @@ module _ (P : TypeTree Name → Type 0) (nothing : P absent → ⊥) where
   held_none g none None h = nothing h
   held_none g none (Some x) h = none x.item h
 
-pub type_not_plain : (c : Collection) → IsWellFormed c → (a : AnyType) → holds_type c a ≡ true → ((v : _) → a ≡ ty.Value v → ⊥) → IsPlainItem (kind_tree c (kind.TypeItem a)) → ⊥
-type_not_plain c wf (ty.Value v) held other h = other v refl
+pub type_not_plain : (c : Collection) → IsWellFormed c → (a : AnyType) → holds_type c a ≡ true → (IsOfValues a → ⊥) → IsPlainItem (kind_tree c (kind.TypeItem a)) → ⊥
+type_not_plain c wf (ty.Value v) held other h = other tt
 type_not_plain c wf (ty.Resource r) held other h = named_none TypePlain (λ h. h) (λ n h. h) (resource_names c (resolved c r)) (subst TypePlain (type_step c wf (ty.Resource r) held) h)
-type_not_plain c wf (ty.Func f) held other h = held_none TypePlain (λ h. h) _ (λ x h. h) (slice_get c.funcs f.0) (subst TypePlain (type_step c wf (ty.Func f) held) h)
+type_not_plain c wf (ty.Func f) held other h = other tt
 type_not_plain c wf (ty.Interface i) held other h = held_none TypePlain (λ h. h) _ (λ x h. h) (slice_get c.interfaces i.0) (subst TypePlain (type_step c wf (ty.Interface i) held) h)
 type_not_plain c wf (ty.World w) held other h = held_none TypePlain (λ h. h) _ (λ x h. h) (slice_get c.worlds w.0) (subst TypePlain (type_step c wf (ty.World w) held) h)
 type_not_plain c wf (ty.Module m) held other h = held_none TypePlain (λ h. h) _ (λ x h. h) (slice_get c.modules m.0) (subst TypePlain (type_step c wf (ty.Module m) held) h)
@@ -193,13 +192,29 @@ value_plain c wf a v is held free =
     subst (λ b. IsPlainItem (kind_tree c (kind.TypeItem b))) (sym is)
     (plain_reached c wf v here (reached_none c wf (ty.Value v) tt here (subst (λ b. HasNoHandle (type_tree c b)) is free)))
 
+-- and so is a function type
+func_plain_item : (c : Collection) → IsWellFormed c → (f : FuncTypeId) → holds_type c (ty.Func f) ≡ true → HasNoHandle (type_tree c (ty.Func f)) → IsPlainItem (kind_tree c (kind.TypeItem (ty.Func f)))
+func_plain_item c wf f held free =
+    let steps = type_step c wf (ty.Func f) held in
+    subst TypePlain (sym steps) (by (slice_get c.funcs f.0) (type_before c wf (ty.Func f) held) (subst HasNoHandle steps free)) where
+      tree : FuncType → TypeTree Name
+      tree x = func_tree (λ v. unfolded by_name c (resource_names c) (ty.Value v)) x
+
+      by : (o : Option (Held FuncType)) → AddedBefore (size c) o → HasNoHandle (of_held tree o) → TypePlain (of_held tree o)
+      by None b h = absurd b
+      by (Some x) b h = h
+
+pub values_plain : (c : Collection) → IsWellFormed c → (a : AnyType) → IsOfValues a → holds_type c a ≡ true → HasNoHandle (type_tree c a) → IsPlainItem (kind_tree c (kind.TypeItem a))
+values_plain c wf (ty.Value v) of held free = value_plain c wf (ty.Value v) v refl held free
+values_plain c wf (ty.Func f) of held free = func_plain_item c wf f held free
+values_plain c wf a of held free = absurd of
+
 pub plain_value : (c : Collection) (a : AnyType) → IsPlainItem (kind_tree c (kind.TypeItem a)) → HasNoHandle (type_tree c a)
 plain_value c a h = plain_free (type_tree c a) h
 
 -- a value type and a function type without handles are defined so far
 plain_definable : {L : Type 0} (t : TypeTree L) → IsPlainItem (type_equal t) → IsDefinable (type_equal t)
 plain_definable absent h = absurd h
-plain_definable (function is_async names params result) h = absurd h
 plain_definable t h = h
 
 func_there : (g : ValueType → TypeTree Name) (n : ℕ) (o : Option (Held FuncType)) → AddedBefore n o → HasNoHandle (of_held (func_tree g) o) → TypeDefinable (of_held (func_tree g) o)

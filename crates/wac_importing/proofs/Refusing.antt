@@ -9,7 +9,6 @@ use Rattle.wac_shapes.specs.declared.component.InterfaceId.{InterfaceId}
 use Rattle.wac_shapes.specs.declared.component.ItemKind.{ItemKind}
 use Rattle.wac_shapes.specs.declared.component.ItemKind.TheVariants as kind
 use Rattle.wac_shapes.specs.declared.component.ModuleTypeId.{ModuleTypeId}
-use Rattle.wac_shapes.specs.declared.component.ValueType.{ValueType}
 use Rattle.wac_shapes.specs.declared.component.«Type».{«Type» as AnyType}
 use Rattle.wac_shapes.specs.declared.component.«Type».TheVariants as ty
 use Rattle.wac_collection.specs.Collection.{Collection, IsWellFormed, IsBefore, holds_type, item_at, interface_exports, kind_types, used_types}
@@ -23,21 +22,21 @@ use Rattle.wac_encode.specs.Listing.{is_plain, lists_plain, are_plain, IsItemFau
 use Rattle.wac_root.specs.Importing.{is_importable, IsImportFault}
 use Rattle.wac_encode.proofs.Ordered.{stands-there}
 use Rattle.wac_meaning.specs.Importable.{IsPlainItem}
-use Rattle.wac_importing.specs.Looked.{ArePlain, ListsPlain}
+use Rattle.wac_importing.specs.Looked.{IsOfValues, ArePlain, ListsPlain}
 use Rattle.wac_importing.proofs.Handles.{plain_free, value_needs_none, func_needs_none}
 use Rattle.wac_importing.proofs.Items.{type_not_plain}
 
 module _ (c : Collection) (wf : IsWellFormed c) where
-  -- a type item that is plain is one of a value type
-  of_value : (a : AnyType) (P : Type 0) → holds_type c a ≡ true → IsPlainItem (kind_tree c (kind.TypeItem a)) → ((v : ValueType) → a ≡ ty.Value v → ⊥) → P
+  -- a type item that is plain is one of a value type or a function type
+  of_value : (a : AnyType) (P : Type 0) → holds_type c a ≡ true → IsPlainItem (kind_tree c (kind.TypeItem a)) → (IsOfValues a → ⊥) → P
   of_value a P held plain other = absurd (type_not_plain c wf a held other plain)
 
   plain_is : (k : ItemKind) → holds_type c (kind_type k) ≡ true → IsPlainItem (kind_tree c k) → is_plain k ≡ true
   plain_is (kind.TypeItem (ty.Value v)) held plain = refl
-  plain_is (kind.TypeItem (ty.Resource r)) held plain = of_value (ty.Resource r) _ held plain (λ v e. cc)
-  plain_is (kind.TypeItem (ty.Func f)) held plain = of_value (ty.Func f) _ held plain (λ v e. cc)
-  plain_is (kind.TypeItem (ty.Interface i)) held plain = of_value (ty.Interface i) _ held plain (λ v e. cc)
-  plain_is (kind.TypeItem (ty.World w)) held plain = of_value (ty.World w) _ held plain (λ v e. cc)
+  plain_is (kind.TypeItem (ty.Resource r)) held plain = of_value (ty.Resource r) _ held plain (λ of. of)
+  plain_is (kind.TypeItem (ty.Func f)) held plain = refl
+  plain_is (kind.TypeItem (ty.Interface i)) held plain = of_value (ty.Interface i) _ held plain (λ of. of)
+  plain_is (kind.TypeItem (ty.World w)) held plain = of_value (ty.World w) _ held plain (λ of. of)
   plain_is (kind.TypeItem (ty.Module m)) held plain = refl
   plain_is (kind.Func f) held plain = refl
   plain_is (kind.Instance i) held plain = absurd plain
@@ -49,11 +48,11 @@ module _ (c : Collection) (wf : IsWellFormed c) where
   item_fault : (k : ItemKind) → holds_type c (kind_type k) ≡ true → IsPlainItem (kind_tree c k) → (f : WriteFault) → IsItemFault c k f → ⊥
   item_fault (kind.TypeItem (ty.Value v)) held plain f h = value_needs_none c wf v held (plain_free (type_tree c (ty.Value v)) plain) h.1
   item_fault (kind.Func g) held plain f h = func_needs_none c wf g held plain h.1
-  item_fault (kind.TypeItem (ty.Resource r)) held plain f h = of_value (ty.Resource r) _ held plain (λ v e. cc)
-  item_fault (kind.TypeItem (ty.Func g)) held plain f h = of_value (ty.Func g) _ held plain (λ v e. cc)
-  item_fault (kind.TypeItem (ty.Interface i)) held plain f h = of_value (ty.Interface i) _ held plain (λ v e. cc)
-  item_fault (kind.TypeItem (ty.World w)) held plain f h = of_value (ty.World w) _ held plain (λ v e. cc)
-  item_fault (kind.TypeItem (ty.Module m)) held plain f h = of_value (ty.Module m) _ held plain (λ v e. cc)
+  item_fault (kind.TypeItem (ty.Resource r)) held plain f h = of_value (ty.Resource r) _ held plain (λ of. of)
+  item_fault (kind.TypeItem (ty.Func g)) held plain f h = func_needs_none c wf g held (plain_free (type_tree c (ty.Func g)) plain) h.1
+  item_fault (kind.TypeItem (ty.Interface i)) held plain f h = of_value (ty.Interface i) _ held plain (λ of. of)
+  item_fault (kind.TypeItem (ty.World w)) held plain f h = of_value (ty.World w) _ held plain (λ of. of)
+  item_fault (kind.TypeItem (ty.Module m)) held plain f h = of_value (ty.Module m) _ held plain (λ of. of)
   item_fault (kind.Instance i) held plain f h = absurd plain
   item_fault (kind.Component w) held plain f h = absurd plain
   item_fault (kind.Module m) held plain f h = absurd plain
@@ -84,10 +83,10 @@ module _ (c : Collection) (wf : IsWellFormed c) where
   pub is_written : (k : ItemKind) → holds_type c (kind_type k) ≡ true → ListsPlain c k → ((m : ModuleTypeId) → k ≡ kind.Module m → ⊥) → is_importable c k ≡ true
   is_written (kind.Instance i) held plain other = lists i plain
   is_written (kind.TypeItem (ty.Value v)) held plain other = refl
-  is_written (kind.TypeItem (ty.Resource r)) held plain other = of_value (ty.Resource r) _ held plain (λ v e. cc)
+  is_written (kind.TypeItem (ty.Resource r)) held plain other = of_value (ty.Resource r) _ held plain (λ of. of)
   is_written (kind.TypeItem (ty.Func f)) held plain other = refl
   is_written (kind.TypeItem (ty.Interface i)) held plain other = lists i plain
-  is_written (kind.TypeItem (ty.World w)) held plain other = of_value (ty.World w) _ held plain (λ v e. cc)
+  is_written (kind.TypeItem (ty.World w)) held plain other = of_value (ty.World w) _ held plain (λ of. of)
   is_written (kind.TypeItem (ty.Module m)) held plain other = refl
   is_written (kind.Func f) held plain other = refl
   is_written (kind.Component w) held plain other = absurd plain
@@ -112,7 +111,7 @@ module _ (c : Collection) (wf : IsWellFormed c) where
   no_fault (kind.Func g) held plain f h = func_needs_none c wf g held plain h.1
   no_fault (kind.TypeItem (ty.Func g)) held plain f h = func_needs_none c wf g held plain h.1
   no_fault (kind.TypeItem (ty.Interface i)) held plain f h = instance_fault i plain h.0 f h.1
-  no_fault (kind.TypeItem (ty.Module m)) held plain f h = of_value (ty.Module m) _ held plain (λ v e. cc)
+  no_fault (kind.TypeItem (ty.Module m)) held plain f h = of_value (ty.Module m) _ held plain (λ of. of)
   no_fault (kind.Value v) held plain f h = absurd plain
   no_fault (kind.TypeItem a) held plain f h = absurd h
   no_fault (kind.Component w) held plain f h = absurd plain

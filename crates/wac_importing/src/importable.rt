@@ -47,7 +47,7 @@ fn type_at(types: &[Type], index: usize) -> Type
     types[index]
 }
 
-/// Whether a type item of a held type is one of a value type that is made of no handle.
+/// Whether a type item of a held type is one of a value type or a function type that is made of no handle.
 fn is_plain_type(types: &Types, ty: Type) -> Result<bool, AllocError>
     requires { holds_type types.now ty ≡ true }
     ensures plain { result ≡ Answers true → IsPlainItem (kind_tree types.now (kind.TypeItem ty)) }
@@ -55,12 +55,12 @@ fn is_plain_type(types: &Types, ty: Type) -> Result<bool, AllocError>
 {
     types.law();
     match ty {
-        Type::Value(_) => has_no_handle(types, ty),
+        Type::Value(_) | Type::Func(_) => has_no_handle(types, ty),
         _ => Ok(false),
     }
 }
 
-/// Whether a held item is a function or a type item of a value type, and made of no handle.
+/// Whether a held item is a function or a type item of a value type or a function type, and made of no handle.
 fn is_plain(types: &Types, item: ItemKind) -> Result<bool, AllocError>
     requires { holds_type types.now (kind_type item) ≡ true }
     ensures plain { result ≡ Answers true → IsPlainItem (kind_tree types.now item) }
@@ -133,7 +133,7 @@ fn lists_plain(types: &Types, item: ItemKind) -> Result<bool, AllocError>
 }
 
 /// Whether a held item is imported so far: it is a core module, or it is a function, a type item of a value type or of a function type, an
-/// instance of functions and type items of value types, or the type of such an instance, and made of no handle. Answers `AllocError` where
+/// instance of functions and type items of such types, or the type of such an instance, and made of no handle. Answers `AllocError` where
 /// memory ran out. Linear in what each of its items reaches.
 pub fn is_importable(types: &Types, item: ItemKind) -> Result<bool, AllocError>
     requires { holds_type types.now (kind_type item) ≡ true }
@@ -144,7 +144,8 @@ pub fn is_importable(types: &Types, item: ItemKind) -> Result<bool, AllocError>
     lists_plain(types, item)
 }
 
-/// Whether a held interface has an id, uses nothing, and lists functions and type items of value types alone, made of no handle.
+/// Whether a held interface has an id, uses nothing, and lists functions and type items of value types and function types alone, made
+/// of no handle.
 fn is_definable_interface(types: &Types, interface: InterfaceId) -> Result<bool, AllocError>
     requires { HasInterface types.now interface }
     ensures definable { result ≡ Answers true → IsDefinableKind types.now (kind.TypeItem (ty.Interface interface)) }
@@ -173,7 +174,7 @@ fn is_definable_type(types: &Types, ty: Type) -> Result<bool, AllocError>
 }
 
 /// Whether a held item is a type that is defined so far: a type item of a value type or a function type that is made of no handle, or of
-/// an interface that has an id, uses nothing, and lists functions and type items of value types alone, made of no handle. Answers
+/// an interface that has an id, uses nothing, and lists functions and type items of such types alone, made of no handle. Answers
 /// `AllocError` where memory ran out. Linear in what the type, or each of the interface's items, reaches.
 pub fn is_definable(types: &Types, item: ItemKind) -> Result<bool, AllocError>
     requires { holds_type types.now (kind_type item) ≡ true }

@@ -28,11 +28,10 @@ HasNoHandle (future_of t) = HasNoHandle t
 HasNoHandle (function is_async names params result) = ((i : ℕ) → HasNoHandle (params i)) × HasNoHandle result
 HasNoHandle _ = ⊥
 
--- a function, or a type item of a value type, without a resource in it
+-- a function, or a type item of a value type or a function type, without a resource in it
 abbrev pub IsPlainItem : {L : Type 0} → TypeTree L → Type 0
 IsPlainItem (function_item t) = HasNoHandle t
 IsPlainItem (type_equal absent) = ⊥
-IsPlainItem (type_equal (function is_async names params result)) = ⊥
 IsPlainItem (type_equal t) = HasNoHandle t
 IsPlainItem _ = ⊥
 
@@ -41,9 +40,8 @@ abbrev pub IsPlainWhereThere : {L : Type 0} → TypeTree L → Type 0
 IsPlainWhereThere absent = Unit {0}
 IsPlainWhereThere t = IsPlainItem t
 
--- an item that is imported so far: a plain one, an instance of such or its type, the type of a function without a resource in it, or a core module
+-- an item that is imported so far: a plain one, an instance of such or its type, or a core module
 abbrev pub IsImportable : {L : Type 0} → TypeTree L → Type 0
-IsImportable (type_equal (function is_async names params result)) = HasNoHandle (function is_async names params result)
 IsImportable (type_equal (instance items)) = (n : Name) → IsPlainWhereThere (items n)
 IsImportable (instance_item (instance items)) = (n : Name) → IsPlainWhereThere (items n)
 IsImportable (module_item (module_of imports exports)) = Unit {0}

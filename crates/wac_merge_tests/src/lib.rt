@@ -12,6 +12,8 @@ mod nested_uses;
 #[cfg(test)]
 mod one_type;
 #[cfg(test)]
+mod outside;
+#[cfg(test)]
 mod uses;
 #[cfg(test)]
 mod values;

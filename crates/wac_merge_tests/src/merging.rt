@@ -63,7 +63,12 @@ fn with_use(
 }
 
 // A resource of a name.
-fn resource(rt: &impl Abort, types: &mut Types, alloc: Global, name: &str) -> ResourceId {
+pub(crate) fn resource(
+    rt: &impl Abort,
+    types: &mut Types,
+    alloc: Global,
+    name: &str,
+) -> ResourceId {
     let resource = Resource::new(alloc, name).expect(rt, "a resource");
     types.add_resource(resource).expect(rt, "its id")
 }

@@ -23,7 +23,7 @@ fn unnamed(
 }
 
 // The interface of the instance that an interface lists under a name.
-fn inside(rt: &impl Abort, types: &Types, id: InterfaceId, name: &str) -> InterfaceId {
+pub(crate) fn inside(rt: &impl Abort, types: &Types, id: InterfaceId, name: &str) -> InterfaceId {
     assert!(rt; types.contains(Type::Interface(id)));
     match types[id].exports.get(name) {
         Some(ItemKind::Instance(inner)) => *inner,

@@ -13,6 +13,7 @@ pub mod AssembledItemsFirst
 pub mod AssembledItems
 pub mod AssembledSubtypes
 pub mod AssembledMerge
+pub mod BasisLaws
 pub mod AssembledHeld
 pub mod KeptBindings
 pub mod BoundNames

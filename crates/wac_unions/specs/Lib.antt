@@ -1,4 +1,5 @@
 pub mod MergedClasses
+pub mod Basis
 pub mod WritingSteps
 pub mod SharedUnions
 pub mod OneInterface

@@ -7,11 +7,11 @@ ghost use Rattle.wac_shapes.specs.Name.{Name as AName};
 ghost use Rattle.wac_shapes.specs.declared.component.DefinedTypeId.{DefinedTypeId as Defined};
 ghost use Rattle.wac_shapes.specs.declared.component.InterfaceId.{InterfaceId as AnId};
 ghost use Rattle.wac_entries.specs.Agreement.{AllMembersAgree};
-ghost use Rattle.wac_terms.specs.Became.{AreFresh};
 ghost use Rattle.wac_entries.specs.Bindings.{AreBindings, AreHeld};
 ghost use Rattle.wac_terms.specs.ClassOrder.{IsWrittenOrder};
 ghost use Rattle.wac_entries.specs.Classes.{AreClasses, Entry as AnEntry, by_names, class_names, is_asked, same_class};
 ghost use Rattle.wac_terms.specs.Merge.{IsMerge, import_entries, is_on_track};
+ghost use Rattle.wac_unions.specs.Basis.{IsBasis, IsBecame};
 ghost use Rattle.wac_unions.specs.MergedScope.{BindsAsClasses};
 ghost use Rattle.wac_unions.specs.OneId.{AreMadeOnce, HasOneIdEach};
 ghost use Rattle.wac_unions.specs.WritingSteps.{AreImportsMadeOf};
@@ -35,6 +35,7 @@ use std::alloc::{AllocError, Global};
 use std::marker::Model;
 use wac_collection::{InterfaceId, ItemKind, Named, ShapeError, Type, Types};
 use wac_entries::bindings::{Bindings, class_tracks};
+use wac_entries::bound::Bound;
 use wac_entries::classes::Classes;
 use wac_entries::entry::Entry;
 use wac_names::Track;
@@ -43,6 +44,7 @@ use wac_renaming::became::{Became, part_bounds};
 use wac_renaming::outward::outward_in;
 use wac_renaming::renamer::{Renamed, Renaming};
 use wac_subtyping::laws::trees_are_whole;
+use wac_terms::fresh::Fresh;
 use wac_terms::parts::Part;
 use wac_uniting::unions::Unions;
 use wac_uses::Asked;
@@ -328,52 +330,98 @@ fn named_in(
     )
 }
 
+/// What a merge is written from: the unions of the classes, what their parts bind, the new resources, and which definitions are
+/// one named type.
+#[derive(Drop)]
+struct Basis {
+    unions: Unions,
+    bound: Vec<Bound>,
+    outward: Vec<Option<usize>>,
+    fresh: Fresh,
+    named: NamedTypes,
+}
+
+impl Basis {
+    /// That of entries. Their new resources are added to a collection that begins with theirs.
+    fn of(
+        alloc: Global,
+        merged: &mut Types,
+        types: &Types,
+        entries: &[Entry],
+        classes: &Classes,
+        bindings: &Bindings,
+    ) -> Result<Basis, AllocError>
+        requires extended { IsExtended types.now merged.old }
+        requires held { AreHeld types.now entries.now }
+        requires classes { AreClasses by_names entries.now classes.now.numbers.items classes.now.positions.items classes.now.names }
+        requires bindings { AreBindings types.now entries.now bindings.now }
+        ensures extended { IsExtended merged.old merged.new }
+        ensures basis { IfOk result (λ b. IsBasis types.now merged.new entries.now classes.now.numbers.items classes.now.positions.items bindings.now b) }
+    {
+        let unions = class_unions(alloc, types, entries, classes)?;
+        let bound = part_bounds(alloc, types, unions.parts.as_slice())?;
+        let outward = outward_in(alloc, unions.parts.as_slice(), bound.as_slice())?;
+        let all = unions.unions.as_slice();
+        let fresh = add_fresh(alloc, merged, types, entries, classes, bindings, all)?;
+        let named = named_in(alloc, types, entries, classes, &unions)?;
+        Ok(Basis {
+            unions,
+            bound,
+            outward,
+            fresh,
+            named,
+        })
+    }
+
+    /// What resources become by it.
+    fn became<'a>(&'a self, bindings: &'a Bindings) -> Became<'a>
+        ensures { IsBecame self.now bindings.now result }
+    {
+        Became {
+            parts: self.unions.parts.as_slice(),
+            bound: self.bound.as_slice(),
+            outward: self.outward.as_slice(),
+            bindings,
+            fresh: &self.fresh,
+            named: &self.named,
+        }
+    }
+}
+
 /// The imports in an order of their classes, behind the unions, which are written first.
-fn write_imports<'a>(
+fn write_imports(
     alloc: Global,
     merged: &mut Types,
-    types: &'a Types,
+    types: &Types,
     entries: &[Entry],
     classes: &Classes,
-    unions: &Unions,
-    became: &'a Became<'a>,
+    bindings: &Bindings,
+    basis: &Basis,
     order: &[usize],
 ) -> Result<Named<ItemKind>, AllocError>
     requires held { AreHeld types.now entries.now }
     requires classes { AreClasses by_names entries.now classes.now.numbers.items classes.now.positions.items classes.now.names }
-    requires unions { AreClassUnions types.now entries.now unions.now.unions.items unions.now.parts.items }
-    requires parts { became.now.parts.now ≡ unions.now.parts.items }
-    requires fresh { AreFresh types.now unions.now.unions.items became.now.bindings.now became.now.fresh.now merged.old }
-    requires known { CanRenameAll merged.old types.now became.now }
+    requires bindings { AreBindings types.now entries.now bindings.now }
+    requires agreed { AllMembersAgree by_names types.now entries.now }
+    requires basis { IsBasis types.now merged.old entries.now classes.now.numbers.items classes.now.positions.items bindings.now basis.now }
     requires each { (k : ℕ) → Contains order.now k → k < length (class_names by_names entries.now) }
     requires once { (i j k : ℕ) → slice_get order.now i ≡ Some k → slice_get order.now j ≡ Some k → i ≡ j }
     ensures extended { IsExtended merged.old merged.new }
-    ensures imports { IfOk result (λ is. AreWrittenImports types.now merged.new entries.now unions.now.unions.items unions.now.parts.items became.now.bindings.now became.now.fresh.now order.now (import_entries is)) }
-    ensures once { IfOk result (λ is. AreMadeOnce types.now merged.new entries.now unions.now.unions.items unions.now.parts.items became.now.bindings.now became.now.fresh.now became.now.named.now classes.now.positions.items order.now (import_entries is)) }
+    ensures imports { IfOk result (λ is. AreWrittenImports types.now merged.new entries.now basis.now.unions.unions.items basis.now.unions.parts.items bindings.now basis.now.fresh order.now (import_entries is)) }
+    ensures once { IfOk result (λ is. AreMadeOnce types.now merged.new entries.now basis.now.unions.unions.items basis.now.unions.parts.items bindings.now basis.now.fresh basis.now.named classes.now.positions.items order.now (import_entries is)) }
 {
+    types.law();
+    types.uses_law();
     merged.law();
+    let unions = &basis.unions;
+    let became = basis.became(bindings);
     let ids = union_ids(alloc, types, entries, classes, unions)?;
-    let mut renamed = Renamed::new(alloc);
-    let written = write_unions(
-        alloc,
-        merged,
-        &mut renamed,
-        types,
-        unions,
-        became,
-        ids.as_slice(),
-    )?;
+    let ids = ids.as_slice();
+    let mut memo = Renamed::new(alloc);
+    let written = write_unions(alloc, merged, &mut memo, types, unions, &became, ids)?;
     let written = written.as_slice();
     class_imports(
-        alloc,
-        merged,
-        &mut renamed,
-        types,
-        entries,
-        classes,
-        became,
-        written,
-        order,
+        alloc, merged, &mut memo, types, entries, classes, &became, written, order,
     )
 }
 
@@ -422,41 +470,14 @@ impl Merged {
         types.law();
         types.uses_law();
         trees_are_whole(types);
-        let unions = class_unions(alloc, types, entries, classes)?;
-        let bound = part_bounds(alloc, types, unions.parts.as_slice())?;
-        let outward = outward_in(alloc, unions.parts.as_slice(), bound.as_slice())?;
-        let mut merged = types.clone()?;
-        let fresh = add_fresh(
-            alloc,
-            &mut merged,
-            types,
-            entries,
-            classes,
-            bindings,
-            unions.unions.as_slice(),
-        )?;
-        let named = named_in(alloc, types, entries, classes, &unions)?;
-        let became = Became {
-            parts: unions.parts.as_slice(),
-            bound: bound.as_slice(),
-            outward: outward.as_slice(),
-            bindings,
-            fresh: &fresh,
-            named: &named,
-        };
-        merged.law();
+        let mut made = types.clone()?;
+        let basis = Basis::of(alloc, &mut made, types, entries, classes, bindings)?;
+        made.law();
         let bare = write_imports(
-            alloc,
-            &mut merged,
-            types,
-            entries,
-            classes,
-            &unions,
-            &became,
-            order,
+            alloc, &mut made, types, entries, classes, bindings, &basis, order,
         )?;
-        merged.law();
-        let merge = Merged::using(alloc, types, entries, classes, merged, &bare)?;
+        made.law();
+        let merge = Merged::using(alloc, types, entries, classes, made, &bare)?;
         merge.types.law();
         trees_are_whole(&merge.types);
         Ok(merge)

@@ -313,24 +313,16 @@ pub fn write_unions<'a>(
 {
     merged.law();
     let count = unions.unions.len();
-    let mut shared = Shared::new(alloc);
+    let mut seen = Shared::new(alloc);
     let mut written = Vec::new(alloc);
     for done in 0..count {
         let union = count - 1 - done;
         let behind = written.as_slice();
-        let id = write_union(
-            alloc,
-            merged,
-            renamed,
-            &mut shared,
-            types,
-            unions,
-            became,
-            behind,
-            union,
-            &ids[union],
+        let id = &ids[union];
+        let interface = write_union(
+            alloc, merged, renamed, &mut seen, types, unions, became, behind, union, id,
         )?;
-        written.push(id)?;
+        written.push(interface)?;
     }
     written.reverse();
     Ok(written)

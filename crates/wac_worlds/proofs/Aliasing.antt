@@ -36,7 +36,7 @@ none-own c uses ((k, kind.Component v) ∷ es) r plain = none-own c uses es r pl
 none-own c uses ((k, kind.Module v) ∷ es) r plain = none-own c uses es r plain
 none-own c uses ((k, kind.Value v) ∷ es) r plain = none-own c uses es r plain
 none-own c uses ((k, kind.TypeItem (ty.Resource q)) ∷ es) r plain = let both : false ≡ true = plain in cc
-none-own c uses ((k, kind.TypeItem (ty.Func v)) ∷ es) r plain = let both : false ≡ true = plain in cc
+none-own c uses ((k, kind.TypeItem (ty.Func v)) ∷ es) r plain = none-own c uses es r plain
 none-own c uses ((k, kind.TypeItem (ty.Interface v)) ∷ es) r plain = let both : false ≡ true = plain in cc
 none-own c uses ((k, kind.TypeItem (ty.World v)) ∷ es) r plain = let both : false ≡ true = plain in cc
 none-own c uses ((k, kind.Instance v) ∷ es) r plain = let both : false ≡ true = plain in cc

@@ -30,7 +30,7 @@ loop-done-init c =
       once = λ j u w x at place there. absurd (at-empty c.new-written.result.items j w empty at);
       stay = λ f e is. is;
       written = λ j u w x id at place there named. absurd (at-empty c.new-written.result.items j w empty at);
-      shared = none-shared c.args.types.now c.args.merged.now c.args.unions.now.unions.items c.args.unions.now.parts.items (map (option_map string_bytes) c.args.ids.now) c.new-written.result.items (first_in c.new-shared.result) empty c.new-shared.ensures;
+      shared = none-shared c.args.types.now c.args.merged.now c.args.unions.now.unions.items c.args.unions.now.parts.items (map (option_map string_bytes) c.args.ids.now) c.new-written.result.items (first_in c.new-seen.result) empty c.new-seen.ensures;
     }
 
 pub write_union-requires-clause-there : goal.write_union-requires-clause-there
@@ -58,8 +58,8 @@ write_union-requires-clause-writing c =
       held = v.held;
     })
 
-pub returns-in_err-id-clause-extended : goal.returns-in_err-id-clause-extended
-returns-in_err-id-clause-extended c = extended_twice c.args.merged.now c.loop-done.merged c.write_union.new.merged c.loop-done.invariant.extended c.write_union.ensures.extended
+pub returns-in_err-interface-clause-extended : goal.returns-in_err-interface-clause-extended
+returns-in_err-interface-clause-extended c = extended_twice c.args.merged.now c.loop-done.merged c.write_union.new.merged c.loop-done.invariant.extended c.write_union.ensures.extended
 
 pub returns-in_err-push-clause-extended : goal.returns-in_err-push-clause-extended
 returns-in_err-push-clause-extended c = extended_twice c.args.merged.now c.loop-done.merged c.write_union.new.merged c.loop-done.invariant.extended c.write_union.ensures.extended
@@ -76,7 +76,7 @@ loop-done-preserved c =
     let ids = c.args.ids.now in
     let views = map (option_map string_bytes) ids in
     let written : List InterfaceId = c.loop-done.written.items in
-    let w : InterfaceId = c.in_ok-id.id in
+    let w : InterfaceId = c.in_ok-interface.interface in
     let u : ℕ = c.len-count.result - 1 - c.loop-done.done in
     let count : c.len-count.result ≡ length us = omega (arith, c.len-count.ensures, c.args.unions.now.unions.ok.0) in
     let low : c.loop-done.done < c.len-count.result = c.loop-done-test.true in
@@ -89,20 +89,20 @@ loop-done-preserved c =
     let name : Option Name = option_map string_bytes id in
     let view : slice_get views u ≡ Some name = slice_get-map (option_map string_bytes) ids u ∙ ap (option_map (option_map string_bytes)) at in
     let is : (x : Union) → slice_get us u ≡ Some x → IsWrittenUnion t more b (length us) written u x name w =
-    λ x there. subst (λ (l : List InterfaceId). IsWrittenUnion t more b (length us) l u x name w) c.as_slice-behind.ensures.value (c.in_ok-id.ensures.written x there) in
+    λ x there. subst (λ (l : List InterfaceId). IsWrittenUnion t more b (length us) l u x name w) c.as_slice-behind.ensures.value (c.in_ok-interface.ensures.written x there) in
     let x = some-at us u near in
     let items : c.push.new.self.items ≡ written ++ w ∷ [] = c.in_ok-push.ensures.items in
     record {
       extended = extended_twice c.args.merged.now now more v.extended c.write_union.ensures.extended;
-      made = c.in_ok-id.ensures.made;
+      made = c.in_ok-interface.ensures.made;
       counted = ap length items ∙ (length-append written (w ∷ []) ∙ ap (λ n. n + 1) v.counted);
       held = subst (λ (l : List InterfaceId). (j : ℕ) (y : InterfaceId) → slice_get l j ≡ Some y → HasInterface more y) (sym items)
           (held-more now more written w c.write_union.ensures.extended (union-held t more b (length us) written u x.0 name w (is x.0 x.1)) v.held);
       once = subst (λ (l : List InterfaceId). (j v : ℕ) (a : InterfaceId) (y : Union) → slice_get l j ≡ Some a → j + v + 1 ≡ length us → slice_get us v ≡ Some y → IsUnionMadeOf t more b.named.now c.write_union.new.renamed.made y a) (sym items)
-          (unions-made-more t now more c.write_union.ensures.extended b.named.now c.loop-done.renamed.made c.write_union.new.renamed.made c.in_ok-id.ensures.stay us written u w place v.once c.in_ok-id.ensures.once);
-      stay = stay_twice c.args.renamed.now.made c.loop-done.renamed.made c.write_union.new.renamed.made v.stay c.in_ok-id.ensures.stay;
+          (unions-made-more t now more c.write_union.ensures.extended b.named.now c.loop-done.renamed.made c.write_union.new.renamed.made c.in_ok-interface.ensures.stay us written u w place v.once c.in_ok-interface.ensures.once);
+      stay = stay_twice c.args.renamed.now.made c.loop-done.renamed.made c.write_union.new.renamed.made v.stay c.in_ok-interface.ensures.stay;
       shared = subst (λ (l : List InterfaceId). AreShared t more us ps views (first_in c.write_union.new.shared) (IsWrittenLast (length us) l)) (sym items)
-          (shared-more t now more us ps views written u w x.0 name (first_in c.loop-done.shared) (first_in c.write_union.new.shared) c.write_union.ensures.extended place x.1 view v.held (c.in_ok-id.ensures.shared x.0 x.1) v.shared);
+          (shared-more t now more us ps views written u w x.0 name (first_in c.loop-done.seen) (first_in c.write_union.new.shared) c.write_union.ensures.extended place x.1 view v.held (c.in_ok-interface.ensures.shared x.0 x.1) v.shared);
       written = subst (λ (l : List InterfaceId). AreAllWritten t more b us views l) (sym items) (union-more t now more b us views written u w name c.write_union.ensures.extended place view v.written is);
     }
 
@@ -129,7 +129,7 @@ returns-clause-shared c =
     let done = v.counted in
     let all : length c.loop-done.written.items ≡ length us = omega (arith, done, c.len-count.ensures, c.args.unions.now.unions.ok.0, c.loop-done-test.false, c.loop-done.auto.done-end) in
     subst (λ (l : List InterfaceId). AreSharedUnions t c.loop-done.merged us ps views l) (sym c.reverse.ensures.items)
-    (shared-unions t c.loop-done.merged us ps views c.loop-done.written.items (first_in c.loop-done.shared) all v.shared)
+    (shared-unions t c.loop-done.merged us ps views c.loop-done.written.items (first_in c.loop-done.seen) all v.shared)
 
 pub returns-clause-once : goal.returns-clause-once
 returns-clause-once c =

@@ -18,6 +18,6 @@ invariant-loop-done l = record {
   held : (j : ℕ) (w : InterfaceId) → slice_get l.written.items j ≡ Some w → HasInterface l.merged w;
   once : (j u : ℕ) (w : InterfaceId) (x : Union) → slice_get l.written.items j ≡ Some w → j + u + 1 ≡ length l.unions.unions.items → slice_get l.unions.unions.items u ≡ Some x → IsUnionMadeOf l.types l.merged l.became.named.now l.renamed.made x w;
   stay : StayMade l.initial.renamed.made l.renamed.made;
-  shared : AreShared l.types l.merged l.unions.unions.items l.unions.parts.items (map (option_map string_bytes) l.ids) (first_in l.shared) (IsWrittenLast (length l.unions.unions.items) l.written.items);
+  shared : AreShared l.types l.merged l.unions.unions.items l.unions.parts.items (map (option_map string_bytes) l.ids) (first_in l.seen) (IsWrittenLast (length l.unions.unions.items) l.written.items);
   written : AreAllWritten l.types l.merged l.became l.unions.unions.items (map (option_map string_bytes) l.ids) l.written.items;
 }

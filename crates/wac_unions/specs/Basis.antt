@@ -1,0 +1,35 @@
+-- What a merge is written from. Private functions alone cite this.
+use Rattle.std.specs.Prelude.{ℕ, ◌≡◌, ◌↔◌, List}
+use Rattle.wac_shapes.specs.declared.component.DefinedTypeId.{DefinedTypeId}
+use Rattle.wac_collection.specs.Collection.{Collection}
+use Rattle.wac_entries.specs.Bindings.{ClassBindings}
+use Rattle.wac_entries.specs.Classes.{Entry}
+use Rattle.wac_terms.specs.Became.{AreBoundParts, AreFresh}
+use Rattle.wac_terms.specs.MergedKinds.{AreListedOnce}
+use Rattle.wac_terms.specs.Renaming.{IsExtended}
+use Rattle.wac_values.specs.NamedTypes.{AreClassed, AreNamedAlike, AreUnited, IsOneType}
+use Rattle.wac_renaming.specs.Ways.{AreOutward}
+use Rattle.wac_renaming.specs.declared.became.Became.{Became}
+use Rattle.wac_unions.specs.MergedClasses.{AreClassUnions}
+use Rattle.wac_unions.specs.declared.merged.Basis.{Basis}
+
+-- the unions of the classes of entries, what their parts bind, the new resources, which a collection holds that begins with the entries', and which definitions are one named type
+pub record IsBasis (c m : Collection) (es : List Entry) (numbers positions : List ℕ) (bs : ClassBindings) (b : Basis) : Type 0 where
+  pub unions : AreClassUnions c es b.unions.unions.items b.unions.parts.items
+  pub listed : AreListedOnce c b.unions.parts.items
+  pub bound : AreBoundParts c b.unions.parts.items b.bound.items
+  pub outward : AreOutward b.unions.parts.items b.bound.items b.outward.items
+  pub extended : IsExtended c m
+  pub fresh : AreFresh c b.unions.unions.items bs b.fresh m
+  pub united : AreUnited c b.unions.unions.items b.unions.parts.items b.named
+  pub classed : AreClassed c es numbers positions b.named
+  pub named : (d e : DefinedTypeId) → IsOneType b.named d e ↔ AreNamedAlike c b.unions.unions.items b.unions.parts.items es numbers positions d e
+
+-- what resources become by it, where classes bind this
+pub record IsBecame (b : Basis) (bs : ClassBindings) (became : Became) : Type 0 where
+  pub parts : became.parts.now ≡ b.unions.parts.items
+  pub bound : became.bound.now ≡ b.bound.items
+  pub outward : became.outward.now ≡ b.outward.items
+  pub bindings : became.bindings.now ≡ bs
+  pub fresh : became.fresh.now ≡ b.fresh
+  pub named : became.named.now ≡ b.named

@@ -1,0 +1,5 @@
+//! Tests of worlds that are written as component types.
+#![tactic(auto)]
+
+#[cfg(test)]
+mod worlds;
