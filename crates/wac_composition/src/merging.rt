@@ -1,5 +1,5 @@
 //! Whether what a graph asks for can be merged into one import for each class.
-ghost use Rattle.std.specs.Prelude.{◌≡◌, map, IfErr, IfOk, OnOk, string_bytes};
+ghost use Rattle.std.specs.Prelude.{◌≡◌, [], map, IfErr, IfOk, OnOk, string_bytes};
 ghost use Rattle.std.specs.List.{AllByRecursion};
 ghost use Rattle.wac_merge.specs.Aggregate.{IsFault};
 ghost use Rattle.wac_entries.specs.Classes.{by_names};
@@ -18,6 +18,7 @@ use wac_asking::AskedEntry;
 use wac_causes::EncodeError;
 use wac_merge::{MergeFault, TypeAggregator};
 use wac_nodes::NodeId;
+use wac_types::Types;
 use wac_writing::exports_law;
 
 impl CompositionGraph {
@@ -33,6 +34,10 @@ impl CompositionGraph {
         self.law();
         self.types.law();
         let entries = self.asked_entries()?;
+        if entries.is_empty() {
+            let merge = self.merged_nothing()?;
+            return Ok((merge, entries));
+        }
         let aggregator = self.aggregated(entries.as_slice())?;
         match aggregator.finish(&self.types) {
             Ok(merge) => {
@@ -42,6 +47,27 @@ impl CompositionGraph {
                 Ok((merge, entries))
             }
             Err(fault) => Err(self.merge_error(entries.as_slice(), fault)?),
+        }
+    }
+
+    /// The merge of a graph that asks for nothing. It is made over no types, since a merge holds those over which it is made.
+    fn merged_nothing(&self) -> Result<TypeAggregator, EncodeError>
+        requires { asked_entries self.now ≡ [] }
+        ensures merged { IfOk result (IsMergedFor self.now) }
+        ensures merges { HasMerge self.now }
+        ensures refused { IfErr result (λ e. e ≡ EncodeError.OutOfMemory) }
+    {
+        self.types.law();
+        exports_law(&self.types);
+        let types = Types::new(self.alloc);
+        match TypeAggregator::new(self.alloc).finish(&types) {
+            Ok(merge) => {
+                exports_law(merge.types());
+                merge.types().law();
+                Ok(merge)
+            }
+            Err(MergeFault::OutOfMemory) => Err(EncodeError::OutOfMemory),
+            Err(MergeFault::Disagree { .. } | MergeFault::UseEachOther { .. }) => unreachable!(),
         }
     }
 

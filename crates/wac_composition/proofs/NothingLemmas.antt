@@ -1,0 +1,69 @@
+-- No entries have a merge, whatever types there are, and it is the same over all of them.
+use Rattle.std.proofs.Common.{◌≡◌, ◌==◌, ℕ, suc, List, [], ◌∷◌, length, map, true, false, Some, ap, sym, subst, ◌∙◌, arith}
+use Rattle.std.specs.Prelude.{slice_get}
+use Rattle.std.proofs.lemmas.Bool.{false≢true}
+use Rattle.wac_cycles.specs.Cycles.{Path, step, further}
+use Rattle.wac_shapes.specs.Name.{Name}
+use Rattle.wac_collection.specs.Collection.{Collection}
+use Rattle.wac_entries.specs.Classes.{Entry, by_names, class_names}
+use Rattle.wac_terms.specs.ClassOrder.{RestsOn, by_use, by_resource, grouped}
+use Rattle.wac_terms.specs.Merge.{Merged, IsMerge}
+use Rattle.wac_terms.specs.NoDisagreement.{HasNoDisagreement}
+use Rattle.wac_agreement.specs.Faults.{Fault, disagree, use_each_other, HasFault, HasNoCircle}
+use Rattle.wac_agreement.proofs.OrderLaws.{arranges_alike}
+use Rattle.wac_nodes.specs.Graph.{Graph}
+use Rattle.wac_nodes.specs.Entries.{asked_entries, to_merge}
+use Rattle.wac_nodes.specs.OuterImports.{outer_entries}
+use Rattle.wac_causes.specs.Cause.{HasMerge}
+
+-- there is no class
+no_class : (k : ℕ) (class : Name) → slice_get (class_names by_names []) k ≡ Some class → ⊥
+no_class k class at = cc
+
+-- and none rests on another
+no_rest : (c : Collection) (a b : ℕ) → RestsOn by_names c [] a b → ⊥
+no_rest c a b (by_use x y class other name id e i it used u apart at other_at member is held uses used_held has_id same) = no_class x class at
+no_rest c a b (by_resource x y class e apart at member mentions) = no_class x class at
+
+no_path : (c : Collection) (a b : ℕ) → Path (RestsOn by_names c []) a b → ⊥
+no_path c a b (step x y s) = no_rest c x y s
+no_path c a b (further x y z s p) = no_rest c x y s
+
+pub no_circle : (c : Collection) → HasNoCircle by_names c []
+no_circle c a p = no_path c a a p
+
+pub no_disagreement : (c : Collection) → HasNoDisagreement by_names c []
+no_disagreement c i j d = let at = d.at_first in cc
+
+pub no_fault : (c : Collection) (f : Fault) → HasFault by_names c [] f → ⊥
+no_fault c (disagree first second export) h = no_disagreement c first second h.is_first.disagree
+no_fault c (use_each_other import) h = no_class (h.1).number (h.1).class (h.1).numbered
+
+-- a merge of no entries over some types is one over others
+pub nothing_merges : (c d : Collection) (m : Merged) → IsMerge by_names d [] m → IsMerge by_names c [] m
+nothing_merges c d m h = record {
+  order = h.order;
+  written = arranges_alike (RestsOn by_names d []) (RestsOn by_names c []) (λ a b. (λ r. absurd (no_rest d a b r), λ s. absurd (no_rest c a b s))) (grouped by_names []) [] (grouped by_names []) h.order h.written;
+  count = h.count;
+  names = h.names;
+  items = λ p k class e ordered named there. absurd (no_class k class named);
+  listed = λ p k class e ordered named there. absurd (no_class k class named);
+  subtypes = λ p k class e ordered named there. absurd (no_class k class named);
+}
+
+-- a graph that asks for nothing
+pub none_asked : {A B : Type 0} (f : A → B) (xs : List A) (ys : List B) → (length xs == 0) ≡ true → map f xs ≡ ys → ys ≡ []
+none_asked f [] ys empty same = sym same
+none_asked f (x ∷ xs) ys empty same = let one : (suc (length xs) == 0) ≡ false = grind arith in absurd (false≢true (sym one ∙ empty))
+
+pub has_merge : (g : Graph) → asked_entries g ≡ [] → HasMerge g
+has_merge g none =
+    let same : to_merge (asked_entries g) ≡ [] = ap to_merge none in (
+      subst (λ (es : List Entry). HasNoDisagreement by_names g.types es) (sym same) (no_disagreement g.types),
+      subst (λ (es : List Entry). HasNoCircle by_names g.types es) (sym same) (no_circle g.types),
+    )
+
+pub merges_nothing : (g : Graph) (d : Collection) (es : List Entry) (m : Merged) → asked_entries g ≡ [] → es ≡ [] → IsMerge by_names d es m → IsMerge by_names g.types (outer_entries g) m
+merges_nothing g d es m none are h =
+    let same : outer_entries g ≡ [] = ap to_merge none in
+    subst (λ (l : List Entry). IsMerge by_names g.types l m) (sym same) (nothing_merges g.types d m (subst (λ (l : List Entry). IsMerge by_names d l m) are h))
