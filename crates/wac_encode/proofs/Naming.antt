@@ -45,15 +45,15 @@ declared-so old new n d is = ap (λ (s : Scope). s.content) is
 pub primitive-behind : (c : Collection) (old now : Scope) (v : ValueType) (p : PrimitiveType) (k : ℕ) → value_resolved c v ≡ val.Primitive p → AddsPrimitive old now p k → now ≡ record old { content = and_type old.content (value_def (primitive_def p)) } → WritesFor c (own_types c (kind.TypeItem (ty.Value v))) (NeededBy c (kind.TypeItem (ty.Value v))) old now
 primitive-behind c old now v p k is adds same = subst (λ (w : ValueType). WritesFor c (one_if_primitive w) (NeededBy c (kind.TypeItem (ty.Value v))) old now) (sym is) (writes-type c (NeededBy c (kind.TypeItem (ty.Value v))) old now (value_def (primitive_def p)) same (λ m ms o os g. (adds c m ms o os g).0))
 
-pub primitive-described : (c : Collection) (old now : Scope) (v : ValueType) (p : PrimitiveType) (k : ℕ) → value_resolved c v ≡ val.Primitive p → AddsPrimitive old now p k → now ≡ record old { content = and_type old.content (value_def (primitive_def p)) } → IsDescribed c old now (kind.TypeItem (ty.Value v)) (e.Equal k)
-primitive-described c old now v p k is adds same = subst (λ (w : ValueType). IsListedAt old now w k) (sym is) (adds, ap (λ (s : Scope). s.content) same)
+pub primitive-described : (c : Collection) (old now : Scope) (v : ValueType) (p : PrimitiveType) (k : ℕ) → value_resolved c v ≡ val.Primitive p → AddsPrimitive old now p k → now ≡ record old { content = and_type old.content (value_def (primitive_def p)) } → k ≡ count (space sort.«Type») old.content → IsDescribed c old now (kind.TypeItem (ty.Value v)) (e.Equal k)
+primitive-described c old now v p k is adds same index = subst (λ (w : ValueType). IsListedAt old now w k) (sym is) (adds, ap (λ (s : Scope). s.content) same, index)
 
-pub primitive-wrote : (c : Collection) (old now new : Scope) (n : Name) (v : ValueType) (p : PrimitiveType) (k : ℕ) → value_resolved c v ≡ val.Primitive p → AddsPrimitive old now p k → now ≡ record old { content = and_type old.content (value_def (primitive_def p)) } → new ≡ record now { content = and_export now.content n (e.Equal k) } → WritesItem c old new n (kind.TypeItem (ty.Value v))
-primitive-wrote c old now new n v p k is adds same lists = record {
+pub primitive-wrote : (c : Collection) (old now new : Scope) (n : Name) (v : ValueType) (p : PrimitiveType) (k : ℕ) → value_resolved c v ≡ val.Primitive p → AddsPrimitive old now p k → now ≡ record old { content = and_type old.content (value_def (primitive_def p)) } → k ≡ count (space sort.«Type») old.content → new ≡ record now { content = and_export now.content n (e.Equal k) } → WritesItem c old new n (kind.TypeItem (ty.Value v))
+primitive-wrote c old now new n v p k is adds same index lists = record {
   now = now;
   behind = primitive-behind c old now v p k is adds same;
   description = e.Equal k;
-  described = primitive-described c old now v p k is adds same;
+  described = primitive-described c old now v p k is adds same index;
   appended = declared-so now new n (e.Equal k) lists;
   named = subst (λ (w : ValueType). NamesValue old now new n w) (sym is) (same-records now new n (e.Equal k) lists);
 }

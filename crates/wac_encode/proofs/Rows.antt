@@ -185,6 +185,7 @@ writes-type c P old new y is on = record {
   needed = λ a i none some. let both : None ≡ Some i = sym none ∙ sym (ap (λ (s : Scope). type_index s a) is) ∙ some in cc;
   later = λ a i none some. let both : None ≡ Some i = sym none ∙ sym (ap (λ (s : Scope). type_index s a) is) ∙ some in cc;
   sources = λ a i none some. let both : None ≡ Some i = sym none ∙ sym (ap (λ (s : Scope). type_index s a) is) ∙ some in cc;
+  apart = λ a b i none none_b some some_b. let both : None ≡ Some i = sym none ∙ sym (ap (λ (s : Scope). type_index s a) is) ∙ some in cc;
   aliases = (tt, tt);
   listed = λ a. ap (λ (s : Scope). listing s a) is;
   names = λ d. names-stay old new d (ap (λ (s : Scope). value_index s d) is) (ap (λ (s : Scope). named_at s d) is);

@@ -31,11 +31,12 @@ use Rattle.wac_stacks.specs.Good.{Good, Onward}
 use Rattle.wac_stacks.specs.Parts.{IsWritten}
 use Rattle.wac_scopes.specs.Scoped.{index_of, named_index, type_index, value_index, named_at, listed_at, and_listed, listing, opened, IsAsBefore, HasToo, AddsValue, AliasesValue, AliasFits, WritesUnlessTooLarge, FitsUnlessTooLarge, RecordsUnlessTooLarge}
 use Rattle.wac_stacks.specs.Laws.{Follows, StaysOnward}
-use Rattle.wac_encode.specs.Written.{OfValue, SaysDefinition, GoesOn, NewType, defined, aliased, as_item, as_decl, with_types, IsWrittenAs, IsWrittenAt, IsListedThere, name_after, WritesFor, unwritten, IsLargeFrom}
+use Rattle.wac_encode.specs.Written.{OfValue, SaysDefinition, GoesOn, NewType, defined, aliased, as_item, as_decl, with_types, IsDefinedByRecord, IsHeldByRecord, IsTypeByRecord, IsWrittenAs, IsWrittenAt, IsListedThere, name_after, WritesFor, unwritten, IsLargeFrom}
 use Rattle.wac_encode.specs.Tasks.{and_new, WritesOne, IsOneRefused}
 use Rattle.wac_scopes.proofs.ScopedLaws.{recorded-same}
 use Rattle.wac_stacks.proofs.Moved.{ap2}
 use Rattle.wac_encode.proofs.Counting.{IsCounted, unwritten-same, unwritten-less}
+use Rattle.wac_encode.proofs.Saying.{defined-more}
 
 pub opened-same : (old new : Scope) → IsAsBefore old new → (o : Open) → opened new o ≡ opened old o
 opened-same old new h o = let memo_same = recorded-same old new h.types h.listed in (λ i. record o { content = content_of (h.content i); memo = memo_same i })
@@ -49,14 +50,14 @@ goes-on-same c stays old new h m ms o os g = subst (λ (p : Open). Onward c (m �
 pub goes-on-twice : (c : Collection) → Follows → (a b d : Scope) → GoesOn c a b → GoesOn c b d → GoesOn c a d
 goes-on-twice c follows a b d p q m ms o os g = let first = p m ms o os g in follows c (m ∷ ms) (opened a o ∷ os) (opened b o ∷ os) (opened d o ∷ os) first (q m ms o os first.0)
 
-pub writes-one : (c : Collection) → IsWellFormed c → (old new : Scope) (d : DefinedTypeId) (x : DefinedType) (y : ValueDef) (k : ℕ) → listed_at old d ≡ None → item_at c.defined d.0 ≡ Some x → SaysDefinition c old x y → AddsValue old new d y k → HasToo old (ty.Value (val.Defined d)) k new → named_at new d ≡ None → new.content ≡ and_type old.content (value_def y) → k ≡ count (space sort.«Type») old.content → WritesOne c old new d
-writes-one c wf old new d x y k unlisted at says adds too unnamed appended index = record {
+pub writes-one : (c : Collection) → IsWellFormed c → (old new : Scope) (d : DefinedTypeId) (x : DefinedType) (y : ValueDef) (k : ℕ) → listed_at old d ≡ None → item_at c.defined d.0 ≡ Some x → SaysDefinition c old x y → IsDefinedByRecord c old x y → AddsValue old new d y k → HasToo old (ty.Value (val.Defined d)) k new → named_at new d ≡ None → new.content ≡ and_type old.content (value_def y) → k ≡ count (space sort.«Type») old.content → WritesOne c old new d
+writes-one c wf old new d x y k unlisted at says recorded adds too unnamed appended index = record {
   onward = λ m ms o os g. (adds c wf m ms o os x g at (says m ms o os g)).3.0;
   index = k;
   recorded = too;
   next = index;
   type = defined (value_def y);
-  source = subst (λ (l : Option Listed). IsWrittenAs l (defined (value_def y))) (sym unlisted) tt;
+  source = subst (λ (l : Option Listed). IsWrittenAs c old (ty.Value (val.Defined d)) l (defined (value_def y))) (sym unlisted) (subst (λ (o : Option DefinedType). IsHeldByRecord c old o (value_def y)) (sym at) recorded);
   appended = appended;
   name = unnamed ∙ sym (ap (λ (l : Option Listed). name_after None l None (Some k)) unlisted);
 }
@@ -68,7 +69,7 @@ writes-alias c old new d k l there adds too named appended index = record {
   recorded = too;
   next = index;
   type = aliased l;
-  source = subst (λ (p : Option Listed). IsWrittenAs p (aliased l)) (sym there) refl;
+  source = subst (λ (p : Option Listed). IsWrittenAs c old (ty.Value (val.Defined d)) p (aliased l)) (sym there) refl;
   appended = appended;
   name = named ∙ sym (ap (λ (p : Option Listed). name_after None p None (Some k)) there);
 }
@@ -161,11 +162,48 @@ in-back (x ∷ xs) ys p y at = ap (slice_get (x ∷ (xs ++ ys))) (one-further (l
     one-further : (a b : ℕ) → suc a + b ≡ suc (a + b)
     one-further a b = omega arith
 
-written-front : (k : ℕ) (xs ys : List NewType) (i : ℕ) (l : Option Listed) → IsWrittenAt k xs i l → IsWrittenAt k (xs ++ ys) i l
-written-front k xs ys i l w = (w.0, w.1, w.2, in-front xs ys w.0 w.2 w.3, w.4)
+written-front : (c : Collection) (s : Scope) (a : AnyType) (k : ℕ) (xs ys : List NewType) (i : ℕ) (l : Option Listed) → IsWrittenAt c s a k xs i l → IsWrittenAt c s a k (xs ++ ys) i l
+written-front c s a k xs ys i l w = (w.0, w.1, w.2, in-front xs ys w.0 w.2 w.3, w.4)
 
-written-back : (k m : ℕ) (xs ys : List NewType) (i : ℕ) (l : Option Listed) → m ≡ k + length xs → IsWrittenAt m ys i l → IsWrittenAt k (xs ++ ys) i l
-written-back k m xs ys i l same w = (length xs + w.0, (let here : i ≡ m + w.0 = w.1 in omega (arith, here, same)), w.2, in-back xs ys w.0 w.2 w.3, w.4)
+written-back : (c : Collection) (s : Scope) (a : AnyType) (k m : ℕ) (xs ys : List NewType) (i : ℕ) (l : Option Listed) → m ≡ k + length xs → IsWrittenAt c s a m ys i l → IsWrittenAt c s a k (xs ++ ys) i l
+written-back c s a k m xs ys i l same w = (length xs + w.0, (let here : i ≡ m + w.0 = w.1 in omega (arith, here, same)), w.2, in-back xs ys w.0 w.2 w.3, w.4)
+
+position-in : (ys : List NewType) (p : ℕ) (y : NewType) → slice_get ys p ≡ Some y → p < length ys
+position-in [] p y at = let none_some : None ≡ Some y = at in cc
+position-in (x ∷ ys) zero y at = omega arith
+position-in (x ∷ ys) (suc p) y at = let rest : p < length ys = position-in ys p y at in omega (arith, rest)
+
+written-below : (c : Collection) (s : Scope) (a : AnyType) (k : ℕ) (ys : List NewType) (i : ℕ) (l : Option Listed) → IsWrittenAt c s a k ys i l → i < k + length ys
+written-below c s a k ys i l w =
+    let here : i ≡ k + w.0 = w.1 in
+    let less : w.0 < length ys = position-in ys w.0 w.2 w.3 in
+    omega (arith, here, less)
+
+-- the index of what was written since is below what is written next
+below-now : (c : Collection) (n : ℕ) (P : AnyType → Type 0) (old now : Scope) → WritesFor c n P old now → (a : AnyType) (j : ℕ) → type_index old a ≡ None → type_index now a ≡ Some j → j < count (space sort.«Type») now.content
+below-now c n P old now w a j none at =
+    let counted : count (space sort.«Type») now.content ≡ count (space sort.«Type») old.content + length w.types = counted-now old.content now.content w.types w.appended in
+    let below : j < count (space sort.«Type») old.content + length w.types = written-below c now a (count (space sort.«Type») old.content) w.types j (listing old a) (w.sources a j none at) in
+    omega (arith, counted, below)
+
+-- what is written by what is recorded stays so as more is
+
+held-more : (c : Collection) (old new : Scope) → ((a : AnyType) (i : ℕ) → type_index old a ≡ Some i → type_index new a ≡ Some i) → (o : Option DefinedType) (t : TypeDef) → IsHeldByRecord c old o t → IsHeldByRecord c new o t
+held-more c old new kept (Some x) (value_def y) h = defined-more c old new kept x y h
+held-more c old new kept o t h = absurd h
+
+type-more : (c : Collection) (old new : Scope) → ((a : AnyType) (i : ℕ) → type_index old a ≡ Some i → type_index new a ≡ Some i) → (a : AnyType) (t : TypeDef) → IsTypeByRecord c old a t → IsTypeByRecord c new a t
+type-more c old new kept (ty.Value (val.Defined d)) t h = held-more c old new kept (item_at c.defined d.0) t h
+type-more c old new kept a t h = tt
+
+as-more : (c : Collection) (old new : Scope) → ((a : AnyType) (i : ℕ) → type_index old a ≡ Some i → type_index new a ≡ Some i) → (a : AnyType) (l : Option Listed) (y : NewType) → IsWrittenAs c old a l y → IsWrittenAs c new a l y
+as-more c old new kept a None (defined t) h = type-more c old new kept a t h
+as-more c old new kept a (Some l) (aliased k) h = h
+as-more c old new kept a None (aliased k) h = absurd h
+as-more c old new kept a (Some l) (defined t) h = absurd h
+
+written-more : (c : Collection) (old new : Scope) → ((a : AnyType) (i : ℕ) → type_index old a ≡ Some i → type_index new a ≡ Some i) → (a : AnyType) (k : ℕ) (ys : List NewType) (i : ℕ) (l : Option Listed) → IsWrittenAt c old a k ys i l → IsWrittenAt c new a k ys i l
+written-more c old new kept a k ys i l w = (w.0, w.1, w.2, w.3, as-more c old new kept a l w.2 w.4)
 
 -- what is aliased is needed
 
@@ -234,6 +272,7 @@ writes-none c stays P old new h = record {
   needed = λ a i none some. let both : None ≡ Some i = sym none ∙ sym (h.types a) ∙ some in cc;
   later = λ a i none some. let both : None ≡ Some i = sym none ∙ sym (h.types a) ∙ some in cc;
   sources = λ a i none some. let both : None ≡ Some i = sym none ∙ sym (h.types a) ∙ some in cc;
+  apart = λ a b i none none_b some some_b. let both : None ≡ Some i = sym none ∙ sym (h.types a) ∙ some in cc;
   aliases = tt;
   listed = h.listed;
   names = λ d. names-stay old new d (h.types (ty.Value (val.Defined d))) (h.names d);
@@ -260,7 +299,7 @@ pub recorded-there : (a : AnyType) (i : ℕ) (old new : Scope) → HasToo old a 
 recorded-there a i old new too = too.types a ∙ ap (λ (b : Bool). cond b (Some i) (type_index old a)) (same_item-refl (kind.TypeItem a))
 
 -- one type more, which is needed
-pub writes-recorded : (c : Collection) → Follows → (n : ℕ) (P : AnyType → Type 0) (old now new : Scope) (a : AnyType) (k : ℕ) (y : NewType) → WritesFor c n P old now → P a → IsWrittenAs (listing now a) y → IsListedThere P now y → IsCounted c a → type_index now a ≡ None → GoesOn c now new → HasToo now a k new → ((d : DefinedTypeId) → same_type (ty.Value (val.Defined d)) a ≡ true → named_at new d ≡ name_after None (listed_at now d) None (Some k)) → k ≡ count (space sort.«Type») now.content → new.content ≡ and_new now.content y → WritesFor c n P old new
+pub writes-recorded : (c : Collection) → Follows → (n : ℕ) (P : AnyType → Type 0) (old now new : Scope) (a : AnyType) (k : ℕ) (y : NewType) → WritesFor c n P old now → P a → IsWrittenAs c now a (listing now a) y → IsListedThere P now y → IsCounted c a → type_index now a ≡ None → GoesOn c now new → HasToo now a k new → ((d : DefinedTypeId) → same_type (ty.Value (val.Defined d)) a ≡ true → named_at new d ≡ name_after None (listed_at now d) None (Some k)) → k ≡ count (space sort.«Type») now.content → new.content ≡ and_new now.content y → WritesFor c n P old new
 writes-recorded c follows n P old now new a k y w made source there held none on too name next appended = record {
   onward = goes-on-twice c follows old now new w.onward on;
   types = w.types ++ y ∷ [];
@@ -269,12 +308,16 @@ writes-recorded c follows n P old now new a k y w made source there held none on
   needed = λ e i h some. by_now e i h some (type_index now e) refl;
   later = λ e i h some. later_now e i h some (type_index now e) refl;
   sources = λ e i h some. source_now e i h some (type_index now e) refl;
+  apart = λ e f i none_e none_f at_e at_f. apart_now e f i none_e none_f at_e at_f (type_index now e) (type_index now f) refl refl;
   aliases = all-in-row (IsListedThere P old) w.types (y ∷ []) w.aliases (one-listed P P old now (λ e h. h) w.listed y there, tt);
   listed = λ e. too.listed e ∙ w.listed e;
   names = λ d. name_now d (same_type (ty.Value (val.Defined d)) a) refl;
   once = let less : suc (unwritten c new) ≡ unwritten c now = unwritten-less c now new a k held none too in let before : length w.types + unwritten c now ≡ n + unwritten c old = w.once in omega (arith, less, one-longer w.types y, before);
 }
   where
+    kept_now : (e : AnyType) (i : ℕ) → type_index now e ≡ Some i → type_index new e ≡ Some i
+    kept_now e i is = recorded-now a k now new too e i none is
+
     name_now : (d : DefinedTypeId) (b : Bool) → same_type (ty.Value (val.Defined d)) a ≡ b → named_at new d ≡ name_after (value_index old d) (listed_at old d) (named_at old d) (value_index new d)
     name_now d true same = names-then old now new d (λ i is. w.kept (ty.Value (val.Defined d)) i is) (λ i is. recorded-now a k now new too (ty.Value (val.Defined d)) i none is) (w.listed (ty.Value (val.Defined d))) (w.names d)
         (name d same ∙ sym (ap2 (λ (o p : Option ℕ). name_after o (listed_at now d) (named_at now d) p) unwritten_ written_ ∙ unseen (listed_at now d) (named_at now d)))
@@ -305,14 +348,33 @@ writes-recorded c follows n P old now new a k y w made source there held none on
         subst (λ (m : ℕ). count (space sort.«Type») old.content ≤ m) (sym (index ∙ next)) (still-later old.content now.content w.types (count (space sort.«Type») now.content) w.appended (omega arith))
     later_now e i h some (Some j) is = subst (λ (m : ℕ). count (space sort.«Type») old.content ≤ m) (same-index new e j i (recorded-now a k now new too e j none is) some) (w.later e j h is)
 
-    source_now : (e : AnyType) (i : ℕ) → type_index old e ≡ None → type_index new e ≡ Some i → (o : Option ℕ) → type_index now e ≡ o → IsWrittenAt (count (space sort.«Type») old.content) (w.types ++ y ∷ []) i (listing old e)
+    source_now : (e : AnyType) (i : ℕ) → type_index old e ≡ None → type_index new e ≡ Some i → (o : Option ℕ) → type_index now e ≡ o → IsWrittenAt c new e (count (space sort.«Type») old.content) (w.types ++ y ∷ []) i (listing old e)
     source_now e i h some None is =
         let same : a ≡ e = new-is a k now new too e i is some in
         let index : i ≡ k = same-index new e i k some (subst (λ (u : AnyType). type_index new u ≡ Some k) same (recorded-there a k now new too)) in
         let counted : count (space sort.«Type») now.content ≡ count (space sort.«Type») old.content + length w.types = counted-now old.content now.content w.types w.appended in
-        written-back (count (space sort.«Type») old.content) (count (space sort.«Type») now.content) w.types (y ∷ []) i (listing old e) counted
-        (0, omega (arith, index, next), y, refl, subst (λ (u : AnyType). IsWrittenAs (listing old u) y) same (subst (λ (l : Option Listed). IsWrittenAs l y) (w.listed a) source))
-    source_now e i h some (Some j) is = written-front (count (space sort.«Type») old.content) w.types (y ∷ []) i (listing old e) (subst (λ (m : ℕ). IsWrittenAt (count (space sort.«Type») old.content) w.types m (listing old e)) (same-index new e j i (recorded-now a k now new too e j none is) some) (w.sources e j h is))
+        written-back c new e (count (space sort.«Type») old.content) (count (space sort.«Type») now.content) w.types (y ∷ []) i (listing old e) counted
+        (0, omega (arith, index, next), y, refl, as-more c now new kept_now e (listing old e) y (subst (λ (u : AnyType). IsWrittenAs c now u (listing old u) y) same (subst (λ (l : Option Listed). IsWrittenAs c now a l y) (w.listed a) source)))
+    source_now e i h some (Some j) is = written-front c new e (count (space sort.«Type») old.content) w.types (y ∷ []) i (listing old e)
+        (written-more c now new kept_now e (count (space sort.«Type») old.content) w.types i (listing old e) (subst (λ (m : ℕ). IsWrittenAt c now e (count (space sort.«Type») old.content) w.types m (listing old e)) (same-index new e j i (recorded-now a k now new too e j none is) some) (w.sources e j h is)))
+
+    -- the one that is written now stands behind the other
+    no_two : (e f : AnyType) (i j : ℕ) → type_index old f ≡ None → type_index now e ≡ None → type_index new e ≡ Some i → type_index now f ≡ Some j → type_index new f ≡ Some i → ⊥
+    no_two e f i j none_f none_e at_e is_f at_f =
+        let same : a ≡ e = new-is a k now new too e i none_e at_e in
+        let index : i ≡ k = same-index new e i k at_e (subst (λ (u : AnyType). type_index new u ≡ Some k) same (recorded-there a k now new too)) in
+        let there : j ≡ i = same-index new f j i (recorded-now a k now new too f j none is_f) at_f in
+        let below : j < count (space sort.«Type») now.content = below-now c n P old now w f j none_f is_f in
+        omega (arith, index, there, below, next)
+
+    apart_now : (e f : AnyType) (i : ℕ) → type_index old e ≡ None → type_index old f ≡ None → type_index new e ≡ Some i → type_index new f ≡ Some i → (o p : Option ℕ) → type_index now e ≡ o → type_index now f ≡ p → e ≡ f
+    apart_now e f i none_e none_f at_e at_f None None is_e is_f = sym (new-is a k now new too e i is_e at_e) ∙ new-is a k now new too f i is_f at_f
+    apart_now e f i none_e none_f at_e at_f None (Some j) is_e is_f = absurd (no_two e f i j none_f is_e at_e is_f at_f)
+    apart_now e f i none_e none_f at_e at_f (Some j) None is_e is_f = absurd (no_two f e i j none_e is_f at_f is_e at_e)
+    apart_now e f i none_e none_f at_e at_f (Some j) (Some m) is_e is_f =
+        let one : j ≡ i = same-index new e j i (recorded-now a k now new too e j none is_e) at_e in
+        let two : m ≡ i = same-index new f m i (recorded-now a k now new too f m none is_f) at_f in
+        w.apart e f j none_e none_f is_e (is_f ∙ ap (λ (q : ℕ). Some q) (two ∙ sym one))
 
 pub writes-more : (c : Collection) → Follows → (n : ℕ) (P : AnyType → Type 0) (old now new : Scope) (d : DefinedTypeId) → WritesFor c n P old now → P (ty.Value (val.Defined d)) → d.0 < length c.defined → value_index now d ≡ None → WritesOne c now new d → WritesFor c n P old new
 writes-more c follows n P old now new d w made held none one = writes-recorded c follows n P old now new (ty.Value (val.Defined d)) one.index one.type w made one.source (there one.type one.source) held none one.onward one.recorded name one.next one.appended
@@ -323,11 +385,11 @@ writes-more c follows n P old now new d w made held none one = writes-recorded c
     name : (e : DefinedTypeId) → same_type (ty.Value (val.Defined e)) (ty.Value (val.Defined d)) ≡ true → named_at new e ≡ name_after None (listed_at now e) None (Some one.index)
     name e same = subst (λ (x : DefinedTypeId). named_at new x ≡ name_after None (listed_at now x) None (Some one.index)) (same-id e (same_type-true (ty.Value (val.Defined e)) (ty.Value (val.Defined d)) same)) one.name
 
-    by_place : (l : Option Listed) → listed_at now d ≡ l → (k : Listed) → IsWrittenAs l (aliased k) → IsListedThere P now (aliased k)
+    by_place : (l : Option Listed) → listed_at now d ≡ l → (k : Listed) → IsWrittenAs c now (ty.Value (val.Defined d)) l (aliased k) → IsListedThere P now (aliased k)
     by_place (Some l) is k s = (d, made, is ∙ ap (λ (x : Listed). Some x) s)
     by_place None is k s = absurd s
 
-    there : (y : NewType) → IsWrittenAs (listed_at now d) y → IsListedThere P now y
+    there : (y : NewType) → IsWrittenAs c now (ty.Value (val.Defined d)) (listed_at now d) y → IsListedThere P now y
     there (defined y) s = tt
     there (aliased k) s = by_place (listed_at now d) refl k s
 
@@ -341,6 +403,7 @@ writes-then c follows k n P Q old now new w u R p q = record {
   needed = λ e i none some. by_now e i none some (type_index now e) refl;
   later = λ e i none some. later_now e i none some (type_index now e) refl;
   sources = λ e i none some. source_now e i none some (type_index now e) refl;
+  apart = λ e f i none_e none_f at_e at_f. apart_now e f i none_e none_f at_e at_f (type_index now e) (type_index now f) refl refl;
   aliases = all-in-row (IsListedThere R old) w.types u.types (all-listed P R old old p (λ e. refl) w.types w.aliases) (all-listed Q R old now q w.listed u.types u.aliases);
   listed = λ e. u.listed e ∙ w.listed e;
   names = λ d. names-then old now new d (λ i is. w.kept (ty.Value (val.Defined d)) i is) (λ i is. u.kept (ty.Value (val.Defined d)) i is) (w.listed (ty.Value (val.Defined d))) (w.names d) (u.names d);
@@ -355,9 +418,26 @@ writes-then c follows k n P Q old now new w u R p q = record {
     later_now e i none some None is = still-later old.content now.content w.types i w.appended (u.later e i is some)
     later_now e i none some (Some j) is = subst (λ (m : ℕ). count (space sort.«Type») old.content ≤ m) (same-index new e j i (u.kept e j is) some) (w.later e j none is)
 
-    source_now : (e : AnyType) (i : ℕ) → type_index old e ≡ None → type_index new e ≡ Some i → (o : Option ℕ) → type_index now e ≡ o → IsWrittenAt (count (space sort.«Type») old.content) (w.types ++ u.types) i (listing old e)
-    source_now e i none some None is = subst (λ (l : Option Listed). IsWrittenAt (count (space sort.«Type») old.content) (w.types ++ u.types) i l) (w.listed e) (written-back (count (space sort.«Type») old.content) (count (space sort.«Type») now.content) w.types u.types i (listing now e) (counted-now old.content now.content w.types w.appended) (u.sources e i is some))
-    source_now e i none some (Some j) is = written-front (count (space sort.«Type») old.content) w.types u.types i (listing old e) (subst (λ (m : ℕ). IsWrittenAt (count (space sort.«Type») old.content) w.types m (listing old e)) (same-index new e j i (u.kept e j is) some) (w.sources e j none is))
+    source_now : (e : AnyType) (i : ℕ) → type_index old e ≡ None → type_index new e ≡ Some i → (o : Option ℕ) → type_index now e ≡ o → IsWrittenAt c new e (count (space sort.«Type») old.content) (w.types ++ u.types) i (listing old e)
+    source_now e i none some None is = subst (λ (l : Option Listed). IsWrittenAt c new e (count (space sort.«Type») old.content) (w.types ++ u.types) i l) (w.listed e) (written-back c new e (count (space sort.«Type») old.content) (count (space sort.«Type») now.content) w.types u.types i (listing now e) (counted-now old.content now.content w.types w.appended) (u.sources e i is some))
+    source_now e i none some (Some j) is = written-front c new e (count (space sort.«Type») old.content) w.types u.types i (listing old e)
+        (written-more c now new u.kept e (count (space sort.«Type») old.content) w.types i (listing old e) (subst (λ (m : ℕ). IsWrittenAt c now e (count (space sort.«Type») old.content) w.types m (listing old e)) (same-index new e j i (u.kept e j is) some) (w.sources e j none is)))
+
+    no_two : (e f : AnyType) (i j : ℕ) → type_index old f ≡ None → type_index now e ≡ None → type_index new e ≡ Some i → type_index now f ≡ Some j → type_index new f ≡ Some i → ⊥
+    no_two e f i j none_f none_e at_e is_f at_f =
+        let there : j ≡ i = same-index new f j i (u.kept f j is_f) at_f in
+        let below : j < count (space sort.«Type») now.content = below-now c k P old now w f j none_f is_f in
+        let behind : count (space sort.«Type») now.content ≤ i = u.later e i none_e at_e in
+        omega (arith, there, below, behind)
+
+    apart_now : (e f : AnyType) (i : ℕ) → type_index old e ≡ None → type_index old f ≡ None → type_index new e ≡ Some i → type_index new f ≡ Some i → (o p : Option ℕ) → type_index now e ≡ o → type_index now f ≡ p → e ≡ f
+    apart_now e f i none_e none_f at_e at_f None None is_e is_f = u.apart e f i is_e is_f at_e at_f
+    apart_now e f i none_e none_f at_e at_f None (Some j) is_e is_f = absurd (no_two e f i j none_f is_e at_e is_f at_f)
+    apart_now e f i none_e none_f at_e at_f (Some j) None is_e is_f = absurd (no_two f e i j none_e is_f at_f is_e at_e)
+    apart_now e f i none_e none_f at_e at_f (Some j) (Some m) is_e is_f =
+        let one : j ≡ i = same-index new e j i (u.kept e j is_e) at_e in
+        let two : m ≡ i = same-index new f m i (u.kept f m is_f) at_f in
+        w.apart e f j none_e none_f is_e (is_f ∙ ap (λ (q : ℕ). Some q) (two ∙ sym one))
 
 pub writes-behind : (c : Collection) → Follows → (n : ℕ) (P : AnyType → Type 0) (old now new : Scope) → WritesFor c 0 P old now → WritesFor c n P now new → WritesFor c n P old new
 writes-behind c follows n P old now new w u = subst (λ (k : ℕ). WritesFor c k P old new) (zero-add n) (writes-then c follows 0 n P P old now new w u P (λ v m. m) (λ v m. m))
@@ -376,6 +456,7 @@ writes-as c n P Q old new ok w = record {
   needed = λ e i none some. ok e (w.needed e i none some);
   later = w.later;
   sources = w.sources;
+  apart = w.apart;
   aliases = all-listed P Q old old ok (λ e. refl) w.types w.aliases;
   listed = w.listed;
   names = w.names;

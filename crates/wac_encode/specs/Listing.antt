@@ -123,9 +123,9 @@ abbrev pub own_types : Collection → ItemKind → ℕ
 own_types c (kind.TypeItem (ty.Value v)) = one_if_primitive (value_resolved c v)
 own_types c k = 0
 
--- the type index of a value type that a type item lists: that of a primitive which was written for it, or the one that is recorded
+-- the type index of a value type that a type item lists: that of the primitive which was written for it, or the one that is recorded
 abbrev pub IsListedAt : Scope → Scope → ValueType → ℕ → Type 0
-IsListedAt old now (val.Primitive p) i = AddsPrimitive old now p i × (now.content ≡ and_type old.content (value_def (primitive_def p)))
+IsListedAt old now (val.Primitive p) i = AddsPrimitive old now p i × (now.content ≡ and_type old.content (value_def (primitive_def p))) × (i ≡ count (space sort.«Type») old.content)
 IsListedAt old now (val.Defined d) i = value_index now d ≡ Some i
 IsListedAt old now v i = ⊥
 

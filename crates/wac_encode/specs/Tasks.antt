@@ -24,14 +24,17 @@ use Rattle.wac_scopes.specs.Contents.{and_type, count, ContentFits}
 use Rattle.wac_scopes.specs.Scoped.{value_index, named_at, listed_at, and_listed, IsAsBefore, HasToo}
 use Rattle.wac_encode.specs.declared.task.Task.{Task}
 use Rattle.wac_listing.specs.Made.{MadeOf, parts}
-use Rattle.wac_encode.specs.Written.{Says, MaybeSays, GoesOn, IsByRecord, IsKnown, IsHandle, PartOf, NewType, defined, aliased, IsWrittenAs, name_after, WritesFor, LargeOne}
+use Rattle.wac_encode.specs.Written.{Says, MaybeSays, GoesOn, IsByRecord, MaybeByRecord, IsKnown, IsHandle, PartOf, NewType, defined, aliased, IsWrittenAs, name_after, WritesFor, LargeOne}
 
--- a field and a case as they are written
+-- a value type of a tuple, a field and a case as they are written
+abbrev pub ValueSays : Collection → Scope → ValueType → ComponentValType → Type 0
+ValueSays c s v x = Says c s v x × IsByRecord c s v x
+
 abbrev pub FieldSays : Collection → Scope → Name × ValueType → Bor (List ℕ) × ComponentValType → Type 0
 FieldSays c s e y = (y.0.now ≡ e.0) × Says c s e.1 y.1 × IsByRecord c s e.1 y.1
 
 abbrev pub CaseSays : Collection → Scope → Name × Option ValueType → Bor (List ℕ) × Option ComponentValType → Type 0
-CaseSays c s e y = (y.0.now ≡ e.0) × MaybeSays c s e.1 y.1
+CaseSays c s e y = (y.0.now ≡ e.0) × MaybeSays c s e.1 y.1 × MaybeByRecord c s e.1 y.1
 
 -- a name as it is written
 abbrev pub IsText : Name → Bor (List ℕ) → Type 0
@@ -83,7 +86,7 @@ pub record WritesOne (c : Collection) (old new : Scope) (d : DefinedTypeId) : Ty
   pub recorded : HasToo old (ty.Value (val.Defined d)) index new
   pub next : index ≡ count (space sort.«Type») old.content
   pub type : NewType
-  pub source : IsWrittenAs (listed_at old d) type
+  pub source : IsWrittenAs c old (ty.Value (val.Defined d)) (listed_at old d) type
   pub appended : new.content ≡ and_new old.content type
   pub name : named_at new d ≡ name_after None (listed_at old d) None (Some index)
 

@@ -3,6 +3,7 @@ use Rattle.std.specs.Prelude.{ℕ, zero, suc, ◌+◌, ◌≤◌, ◌≡◌, ◌
 use Rattle.std.specs.List.{AllZip, AllByRecursion}
 use Rattle.wac_shapes.specs.Name.{option_case}
 use Rattle.wac_shapes.specs.declared.component.DefinedType.{DefinedType}
+use Rattle.wac_shapes.specs.declared.component.DefinedType.TheVariants as def
 use Rattle.wac_shapes.specs.declared.component.DefinedTypeId.{DefinedTypeId}
 use Rattle.wac_shapes.specs.declared.component.FuncType.{FuncType}
 use Rattle.wac_shapes.specs.declared.component.FuncTypeId.{FuncTypeId}
@@ -18,7 +19,7 @@ use Rattle.wac_binary.specs.declared.types.ComponentValType.{ComponentValType}
 use Rattle.wac_binary.specs.declared.sorts.Sort.TheVariants as sort
 use Rattle.wac_binary.specs.HasMeaning.{IsFunction}
 use Rattle.wac_binary.specs.Indexes.{space}
-use Rattle.wac_binary.specs.Items.{ValueDef, TypeDef, func_def, value_def, Alias, export_alias, outer_alias, Decl, type_decl, alias_decl, Item, type_item, alias_item}
+use Rattle.wac_binary.specs.Items.{ValueDef, record_def, variant_def, list_def, fixed_list_def, tuple_def, flags_def, enum_def, option_def, result_def, stream_def, future_def, TypeDef, func_def, value_def, Alias, export_alias, outer_alias, Decl, type_decl, alias_decl, Item, type_item, alias_item}
 use Rattle.wac_scopes.specs.declared.encodable.Encodable.{Encodable}
 use Rattle.wac_scopes.specs.declared.encodable.Encodable.TheVariants.{Builder, Instance, Component}
 use Rattle.wac_scopes.specs.declared.scope.Listed.{Listed}
@@ -61,6 +62,31 @@ abbrev pub MaybeByRecord : Collection → Scope → Option ValueType → Option 
 MaybeByRecord c s None None = Unit {0}
 MaybeByRecord c s (Some v) (Some x) = IsByRecord c s v x
 MaybeByRecord c s _ _ = ⊥
+
+-- a definition is written with the value types in use that are recorded of its parts, in order; an alias is not written
+abbrev pub IsDefinedByRecord : Collection → Scope → DefinedType → ValueDef → Type 0
+IsDefinedByRecord c s (def.Tuple vs) (tuple_def xs) = AllZip (IsByRecord c s) vs xs
+IsDefinedByRecord c s (def.List v) (list_def x) = IsByRecord c s v x
+IsDefinedByRecord c s (def.FixedSizeList v n) (fixed_list_def x k) = (k ≡ n) × IsByRecord c s v x
+IsDefinedByRecord c s (def.Option v) (option_def x) = IsByRecord c s v x
+IsDefinedByRecord c s (def.Result ok err) (result_def x y) = MaybeByRecord c s ok x × MaybeByRecord c s err y
+IsDefinedByRecord c s (def.Variant v) (variant_def xs) = AllZip (λ e x. (x.0 ≡ e.0) × MaybeByRecord c s e.1 x.1) v.cases xs
+IsDefinedByRecord c s (def.Record r) (record_def xs) = AllZip (λ e x. (x.0 ≡ e.0) × IsByRecord c s e.1 x.1) r.fields xs
+IsDefinedByRecord c s (def.Flags names) (flags_def xs) = xs ≡ names.0
+IsDefinedByRecord c s (def.Enum names) (enum_def xs) = xs ≡ names.0
+IsDefinedByRecord c s (def.Stream v) (stream_def x) = MaybeByRecord c s v x
+IsDefinedByRecord c s (def.Future v) (future_def x) = MaybeByRecord c s v x
+IsDefinedByRecord c s _ _ = ⊥
+
+-- and so is the held one
+abbrev pub IsHeldByRecord : Collection → Scope → Option DefinedType → TypeDef → Type 0
+IsHeldByRecord c s (Some x) (value_def y) = IsDefinedByRecord c s x y
+IsHeldByRecord c s _ _ = ⊥
+
+-- a type that is a definition is written so; for a function type `IsFuncAt` says it, and all others are written otherwise
+abbrev pub IsTypeByRecord : Collection → Scope → AnyType → TypeDef → Type 0
+IsTypeByRecord c s (ty.Value (val.Defined d)) t = IsHeldByRecord c s (item_at c.defined d.0) t
+IsTypeByRecord c s a t = Unit {0}
 
 -- the end of the aliases of a value type is primitive or is written
 abbrev pub IsKnown : Collection → Scope → ValueType → Type 0
@@ -118,15 +144,15 @@ with_types (Builder items) ys = Builder (items ++ map as_item ys)
 with_types (Instance ds) ys = Instance (ds ++ map as_decl ys)
 with_types (Component ds) ys = Component (ds ++ map as_decl ys)
 
--- what is listed is aliased from there; all else is defined
-abbrev pub IsWrittenAs : Option Listed → NewType → Type 0
-IsWrittenAs None (defined t) = Unit {0}
-IsWrittenAs (Some l) (aliased k) = l ≡ k
-IsWrittenAs l y = ⊥
+-- what is listed is aliased from there; all else is defined, by what is recorded
+abbrev pub IsWrittenAs : Collection → Scope → AnyType → Option Listed → NewType → Type 0
+IsWrittenAs c s a None (defined t) = IsTypeByRecord c s a t
+IsWrittenAs c s a (Some l) (aliased k) = l ≡ k
+IsWrittenAs c s a l y = ⊥
 
 -- index i is that of one of the types that are written behind so many, which is written so
-abbrev pub IsWrittenAt : ℕ → List NewType → ℕ → Option Listed → Type 0
-IsWrittenAt k ys i l = (p : ℕ) × (i ≡ k + p) × (y : NewType) × (slice_get ys p ≡ Some y) × IsWrittenAs l y
+abbrev pub IsWrittenAt : Collection → Scope → AnyType → ℕ → List NewType → ℕ → Option Listed → Type 0
+IsWrittenAt c s a k ys i l = (p : ℕ) × (i ≡ k + p) × (y : NewType) × (slice_get ys p ≡ Some y) × IsWrittenAs c s a l y
 
 -- what is aliased is needed, and listed there
 abbrev pub IsListedThere : (AnyType → Type 0) → Scope → NewType → Type 0
@@ -152,8 +178,10 @@ pub record WritesFor (c : Collection) (n : ℕ) (Needed : AnyType → Type 0) (o
   pub needed : (a : AnyType) (i : ℕ) → type_index old a ≡ None → type_index new a ≡ Some i → Needed a
   -- and stands behind what was written
   pub later : (a : AnyType) (i : ℕ) → type_index old a ≡ None → type_index new a ≡ Some i → count (space sort.«Type») old.content ≤ i
-  -- and what is listed is aliased from there, all else defined
-  pub sources : (a : AnyType) (i : ℕ) → type_index old a ≡ None → type_index new a ≡ Some i → IsWrittenAt (count (space sort.«Type») old.content) types i (listing old a)
+  -- and what is listed is aliased from there, all else defined, with the recorded value types in use of its parts
+  pub sources : (a : AnyType) (i : ℕ) → type_index old a ≡ None → type_index new a ≡ Some i → IsWrittenAt c new a (count (space sort.«Type») old.content) types i (listing old a)
+  -- each at an index of its own
+  pub apart : (a b : AnyType) (i : ℕ) → type_index old a ≡ None → type_index old b ≡ None → type_index new a ≡ Some i → type_index new b ≡ Some i → a ≡ b
   pub aliases : AllByRecursion (IsListedThere Needed old) types
   -- what was listed is, and where
   pub listed : (a : AnyType) → listing new a ≡ listing old a

@@ -12,8 +12,8 @@ ghost use Rattle.wac_collection.specs.Collection.{HasDefined, holds_value, item_
 ghost use Rattle.wac_collection.specs.Aliases.{target_of, value_resolved};
 ghost use Rattle.wac_binary.specs.Views.{defined_of};
 ghost use Rattle.wac_scopes.specs.Scoped.{IsAsBefore, listed_at, value_index};
-ghost use Rattle.wac_encode.specs.Written.{Says, MaybeSays, SaysDefinition, IsByRecord, IsKnown, PartOf, WritesFor, IsRefused};
-ghost use Rattle.wac_encode.specs.Tasks.{IsReady, Did, WritesOne, AllKnown, FieldSays, CaseSays, IsText, IsPlain, IsOneRefused, IsMissing, IsStepRefused};
+ghost use Rattle.wac_encode.specs.Written.{Says, MaybeSays, SaysDefinition, IsByRecord, MaybeByRecord, IsDefinedByRecord, IsKnown, PartOf, WritesFor, IsRefused};
+ghost use Rattle.wac_encode.specs.Tasks.{IsReady, Did, WritesOne, AllKnown, ValueSays, FieldSays, CaseSays, IsText, IsPlain, IsOneRefused, IsMissing, IsStepRefused};
 ghost use Rattle.wac_shapes.specs.declared.component.DefinedType.{DefinedType as AnyDefined};
 
 use crate::task::Task;
@@ -54,7 +54,8 @@ impl<'a> TypeEncoder<'a> {
     /// The same of one that may be missing.
     fn optional(&self, scope: &Scope, value: Option<ValueType>) -> Option<ComponentValType>
         requires { (v : AnyValue) → value ≡ Some v → IsKnown self.now.types.now scope.now v }
-        ensures { MaybeSays self.now.types.now scope.now value result }
+        ensures says { MaybeSays self.now.types.now scope.now value result }
+        ensures recorded { MaybeByRecord self.now.types.now scope.now value result }
     {
         match value {
             Some(value) => Some(self.known(scope, value)),
@@ -69,7 +70,7 @@ impl<'a> TypeEncoder<'a> {
         values: &Sequence<ValueType>,
     ) -> Result<Vec<ComponentValType>, AllocError>
         requires { (k : ℕ) (v : AnyValue) → slice_get values.now k ≡ Some v → IsKnown self.now.types.now scope.now v }
-        ensures { IfOk result (λ xs. AllZip (Says self.now.types.now scope.now) values.now xs.items) }
+        ensures { IfOk result (λ xs. AllZip (ValueSays self.now.types.now scope.now) values.now xs.items) }
     {
         let values = values.as_slice();
         let mut written = Vec::new(self.types.allocator());
@@ -131,7 +132,8 @@ impl<'a> TypeEncoder<'a> {
     fn plain(&self, scope: &Scope, held: &HeldType) -> DefinedType<'static>
         requires plain { IsPlain held.now }
         requires known { AllKnown self.now.types.now scope.now held.now }
-        ensures { SaysDefinition self.now.types.now scope.now held.now (defined_of result) }
+        ensures says { SaysDefinition self.now.types.now scope.now held.now (defined_of result) }
+        ensures recorded { IsDefinedByRecord self.now.types.now scope.now held.now (defined_of result) }
     {
         match held {
             HeldType::List(part) => DefinedType::List(self.known(scope, *part)),
@@ -161,6 +163,7 @@ impl<'a> TypeEncoder<'a> {
         requires found { item_at self.now.types.now.defined id.0 ≡ Some held.now }
         requires unlisted { listed_at scope.old id ≡ None }
         requires says { SaysDefinition self.now.types.now scope.old held.now (defined_of definition.now) }
+        requires recorded { IsDefinedByRecord self.now.types.now scope.old held.now (defined_of definition.now) }
         ensures wrote { OnOk result (WritesOne self.now.types.now scope.old scope.new id) }
         ensures refused { OnErr result (IsAsBefore scope.old scope.new) }
         ensures fault { IsOneRefused self.now.types.now scope.old id result }

@@ -89,20 +89,20 @@ module _ (old : Scope) (w : ImportsEnum old) where
       rest_of (Builder (a ∷ b ∷ items)) = items
       rest_of x = []
 
-      there : IsWrittenAt (count (space sort.«Type») old.content) h.written.types 1 (Some place_of_t)
-      there = subst (IsWrittenAt (count (space sort.«Type») old.content) h.written.types 1) listed (h.written.sources (ty.Value (val.Defined the_enum)) 1 (none (ty.Value (val.Defined the_enum))) there_now)
+      there : IsWrittenAt types new (ty.Value (val.Defined the_enum)) (count (space sort.«Type») old.content) h.written.types 1 (Some place_of_t)
+      there = subst (IsWrittenAt types new (ty.Value (val.Defined the_enum)) (count (space sort.«Type») old.content) h.written.types 1) listed (h.written.sources (ty.Value (val.Defined the_enum)) 1 (none (ty.Value (val.Defined the_enum))) there_now)
 
       is_alias : List Item → Bool
       is_alias (alias_item a ∷ items) = true
       is_alias items = false
 
-      by_kind : (y : NewType) (ys : List NewType) → IsWrittenAs (Some place_of_t) y → map as_item (y ∷ ys) ≡ type_item (value_def written_enum) ∷ [] → ⊥
+      by_kind : (y : NewType) (ys : List NewType) → IsWrittenAs types new (ty.Value (val.Defined the_enum)) (Some place_of_t) y → map as_item (y ∷ ys) ≡ type_item (value_def written_enum) ∷ [] → ⊥
       by_kind (defined t) ys source is = source
       by_kind (aliased l) ys source is = no_flag (ap is_alias is)
 
-      by_place : (ys : List NewType) (p : ℕ) (y : NewType) → slice_get ys p ≡ Some y → IsWrittenAs (Some place_of_t) y → map as_item ys ≡ type_item (value_def written_enum) ∷ [] → ⊥
+      by_place : (ys : List NewType) (p : ℕ) (y : NewType) → slice_get ys p ≡ Some y → IsWrittenAs types new (ty.Value (val.Defined the_enum)) (Some place_of_t) y → map as_item ys ≡ type_item (value_def written_enum) ∷ [] → ⊥
       by_place [] p y at source is = no_entry y at
-      by_place (z ∷ ys) zero y at source is = by_kind z ys (subst (IsWrittenAs (Some place_of_t)) (sym (one_entry z y at)) source) is
+      by_place (z ∷ ys) zero y at source is = by_kind z ys (subst (IsWrittenAs types new (ty.Value (val.Defined the_enum)) (Some place_of_t)) (sym (one_entry z y at)) source) is
       by_place (z ∷ []) (suc p) y at source is = no_entry y at
       by_place (z ∷ x ∷ ys) (suc p) y at source is = two_numbers 2 1 refl (ap how_many is) where
         how_many : List Item → ℕ

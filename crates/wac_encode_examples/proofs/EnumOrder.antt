@@ -13,7 +13,7 @@ use Rattle.wac_shapes.specs.declared.component.ValueType.TheVariants as val
 use Rattle.wac_shapes.specs.declared.component.«Type».TheVariants as ty
 use Rattle.wac_collection.specs.Collection.{Collection, item_at}
 use Rattle.wac_listing.specs.Made.{MadeOf, itself, part, parts}
-use Rattle.wac_listing.specs.Order.{listed, Lists, Mentions, IsNext, Takes, is_type_at}
+use Rattle.wac_listing.specs.Order.{listed, Lists, Mentions, IsNext, Takes, is_value_type_at}
 use Rattle.wac_encode.specs.Listing.{IsOrder}
 use Rattle.wac_encode.proofs.Ordered.{is-order}
 use Rattle.wac_encode_examples.proofs.Apart.{no_flag, no_entry, one_entry, two_numbers}
@@ -46,14 +46,14 @@ enum_mentions_none c es p at lists q m =
 
 -- ---- the enum and the function
 
-enum_is_next : IsNext types items (is_type_at items) 0
+enum_is_next : IsNext types items (is_value_type_at items) 0
 enum_is_next = record {
   here = refl;
   free = λ q left. enum_mentions_none types items 0 refl refl q;
   before = λ q less left. absurd (omega (arith, less));
 }
 
-no_more : (q : ℕ) → (is_type_at items q && not (q == 0)) ≡ false
+no_more : (q : ℕ) → (is_value_type_at items q && not (q == 0)) ≡ false
 no_more zero = refl
 no_more (suc zero) = refl
 no_more (suc (suc q)) = refl
@@ -65,10 +65,10 @@ enum_first = is-order types items (0 ∷ []) (enum_item ∷ []) items (enum_is_n
 -- and in no other order
 pub no_other_order : (order : List (Name × ItemKind)) → IsOrder types items order → order ≡ items
 no_other_order order h = h.is ∙ ap (λ (es : List (Name × ItemKind)). es ++ function_item ∷ []) (by_positions h.positions h.types h.ordered h.at) where
-  all_taken : (q : ℕ) (qs : List ℕ) → Takes types items (λ p. is_type_at items p && not (p == 0)) (q ∷ qs) → ⊥
+  all_taken : (q : ℕ) (qs : List ℕ) → Takes types items (λ p. is_value_type_at items p && not (p == 0)) (q ∷ qs) → ⊥
   all_taken q qs takes = no_flag (sym takes.0.here ∙ no_more q)
 
-  by_positions : (ps : List ℕ) (es : List (Name × ItemKind)) → Takes types items (is_type_at items) ps → AllZip (λ p e. slice_get items p ≡ Some e) ps es → es ≡ enum_item ∷ []
+  by_positions : (ps : List ℕ) (es : List (Name × ItemKind)) → Takes types items (is_value_type_at items) ps → AllZip (λ p e. slice_get items p ≡ Some e) ps es → es ≡ enum_item ∷ []
   by_positions [] es takes at = absurd (no_flag (takes 0))
   by_positions (p ∷ ps) [] takes at = absurd at
   by_positions (zero ∷ []) (e ∷ []) takes at = ap (λ (x : Name × ItemKind). x ∷ []) (sym (one_entry enum_item e at.0))
@@ -115,18 +115,18 @@ record_mentions_enum = record {
   first (suc q) less h = omega (arith, less)
 
 -- so the enum is next
-enum_before_record : IsNext with_record record_listed_first (is_type_at record_listed_first) 1
+enum_before_record : IsNext with_record record_listed_first (is_value_type_at record_listed_first) 1
 enum_before_record = record {
   here = refl;
   free = λ q left. enum_mentions_none with_record record_listed_first 1 refl refl q;
   before = before;
 } where
-  before : (q : ℕ) → q < 1 → is_type_at record_listed_first q ≡ true → (r : ℕ) × (is_type_at record_listed_first r ≡ true) × Mentions with_record record_listed_first q r
+  before : (q : ℕ) → q < 1 → is_value_type_at record_listed_first q ≡ true → (r : ℕ) × (is_value_type_at record_listed_first r ≡ true) × Mentions with_record record_listed_first q r
   before zero less left = (1, refl, record_mentions_enum)
   before (suc q) less left = absurd (omega (arith, less))
 
 abbrev without_enum : ℕ → Bool
-without_enum q = is_type_at record_listed_first q && not (q == 1)
+without_enum q = is_value_type_at record_listed_first q && not (q == 1)
 
 -- and then the record, which is left alone
 record_left : (q : ℕ) → without_enum q ≡ true → q ≡ 0
@@ -164,7 +164,7 @@ no_record_first h = by_positions h.positions h.types h.ordered h.at h.is where
   first_is_record ((n, kind.TypeItem (ty.Value (val.Defined d))) ∷ es) = d.0 == 1
   first_is_record es = false
 
-  by_positions : (ps : List ℕ) (es : List (Name × ItemKind)) → Takes with_record record_listed_first (is_type_at record_listed_first) ps → AllZip (λ p e. slice_get record_listed_first p ≡ Some e) ps es
+  by_positions : (ps : List ℕ) (es : List (Name × ItemKind)) → Takes with_record record_listed_first (is_value_type_at record_listed_first) ps → AllZip (λ p e. slice_get record_listed_first p ≡ Some e) ps es
       → record_listed_first ≡ es ++ function_item ∷ [] → ⊥
   by_positions [] es takes at is = no_flag (takes 0)
   by_positions (p ∷ ps) [] takes at is = at

@@ -51,13 +51,13 @@ one_long (y ∷ []) one = (y, refl)
 one_long (y ∷ z ∷ ys) one = absurd (omega (arith, one))
 
 -- one type alone was written: it is at the next index, and defined there, where it is listed nowhere
-at_next : (k i : ℕ) (ys : List NewType) (y : NewType) → ys ≡ y ∷ [] → IsWrittenAt k ys i None → (t : TypeDef) × (y ≡ defined t) × (i ≡ k + 0)
-at_next k i ys y one there = by_place there.0 there.1 there.2 (ap (λ (zs : List NewType). slice_get zs there.0) (sym one) ∙ there.3) there.4 where
-  by_kind : (z : NewType) → IsWrittenAs None z → (t : TypeDef) × (z ≡ defined t)
+at_next : (s : Scope) (a : AnyType) (k i : ℕ) (ys : List NewType) (y : NewType) → ys ≡ y ∷ [] → IsWrittenAt types s a k ys i None → (t : TypeDef) × (y ≡ defined t) × (i ≡ k + 0)
+at_next s a k i ys y one there = by_place there.0 there.1 there.2 (ap (λ (zs : List NewType). slice_get zs there.0) (sym one) ∙ there.3) there.4 where
+  by_kind : (z : NewType) → IsWrittenAs types s a None z → (t : TypeDef) × (z ≡ defined t)
   by_kind (defined t) h = (t, refl)
   by_kind (aliased l) h = absurd h
 
-  by_place : (p : ℕ) → i ≡ k + p → (z : NewType) → slice_get (y ∷ []) p ≡ Some z → IsWrittenAs None z → (t : TypeDef) × (y ≡ defined t) × (i ≡ k + 0)
+  by_place : (p : ℕ) → i ≡ k + p → (z : NewType) → slice_get (y ∷ []) p ≡ Some z → IsWrittenAs types s a None z → (t : TypeDef) × (y ≡ defined t) × (i ≡ k + 0)
   by_place zero is z at h = let t = by_kind z h in (t.0, one_entry y z at ∙ t.1, is)
   by_place (suc p) is z at h = absurd (no_entry z at)
 
@@ -93,9 +93,9 @@ module _ (start named : Scope) (empty : start.content ≡ Instance []) (none : (
 
   enum_placed : (t : TypeDef) × (enum_alone.0 ≡ defined t) × (enum_index.0 ≡ 0)
   enum_placed =
-      let there : IsWrittenAt 0 w.behind.types enum_index.0 None = subst (λ (k : ℕ). IsWrittenAt k w.behind.types enum_index.0 None) (ap (count (space sort.«Type»)) empty)
-      (subst (IsWrittenAt (count (space sort.«Type») start.content) w.behind.types enum_index.0) unlisted (w.behind.sources (ty.Value (val.Defined the_enum)) enum_index.0 (none (ty.Value (val.Defined the_enum))) enum_index.2)) in
-      at_next 0 enum_index.0 w.behind.types enum_alone.0 enum_alone.1 there
+      let there : IsWrittenAt types w.now (ty.Value (val.Defined the_enum)) 0 w.behind.types enum_index.0 None = subst (λ (k : ℕ). IsWrittenAt types w.now (ty.Value (val.Defined the_enum)) k w.behind.types enum_index.0 None) (ap (count (space sort.«Type»)) empty)
+      (subst (IsWrittenAt types w.now (ty.Value (val.Defined the_enum)) (count (space sort.«Type») start.content) w.behind.types enum_index.0) unlisted (w.behind.sources (ty.Value (val.Defined the_enum)) enum_index.0 (none (ty.Value (val.Defined the_enum))) enum_index.2)) in
+      at_next w.now (ty.Value (val.Defined the_enum)) 0 enum_index.0 w.behind.types enum_alone.0 enum_alone.1 there
 
   enum_content : w.now.content ≡ Instance (type_decl enum_placed.0 ∷ [])
   enum_content = w.behind.appended ∙ ap (λ (x : Encodable). with_types x w.behind.types) empty ∙ ap (with_types (Instance [])) (enum_alone.1 ∙ ap (λ (y : NewType). y ∷ []) enum_placed.1)
@@ -125,17 +125,20 @@ module _ (start named : Scope) (empty : start.content ≡ Instance []) (none : (
         named = λ n a where_ is. absurd (no_entry (a, where_) is);
       }
 
-  enum_recorded : (j : ℕ) × HasToo w.now (ty.Value (val.Defined the_enum)) j named
-  enum_recorded = let once = subst (λ (o : Option ℕ). IsNamedOnce o w.now named (codes "t") the_enum) (none (ty.Value (val.Defined the_enum))) w.named in (once.0, once.1)
+  -- it is recorded at the item's own index
+  enum_recorded : HasToo w.now (ty.Value (val.Defined the_enum)) 1 named
+  enum_recorded =
+      let once = subst (λ (o : Option ℕ). IsNamedOnce o w.now named (codes "t") the_enum) (none (ty.Value (val.Defined the_enum))) w.named in
+      subst (λ (j : ℕ). HasToo w.now (ty.Value (val.Defined the_enum)) j named) (once.1 ∙ ap (count (space sort.«Type»)) enum_content) once.2
 
   function_still_none : type_index named (ty.Func the_function) ≡ None
-  function_still_none = enum_recorded.1.types (ty.Func the_function) ∙ no_function_yet
+  function_still_none = enum_recorded.types (ty.Func the_function) ∙ no_function_yet
 
   interface_still_none : type_index named (ty.Interface the_interface) ≡ None
-  interface_still_none = enum_recorded.1.types (ty.Interface the_interface) ∙ no_interface_yet
+  interface_still_none = enum_recorded.types (ty.Interface the_interface) ∙ no_interface_yet
 
-  enum_there : value_index named the_enum ≡ Some enum_recorded.0
-  enum_there = enum_recorded.1.types (ty.Value (val.Defined the_enum))
+  enum_there : value_index named the_enum ≡ Some 1
+  enum_there = enum_recorded.types (ty.Value (val.Defined the_enum))
 
 -- ---- the function's item
 
@@ -167,7 +170,7 @@ last_type (Instance ds) t y c d is = type_of (one_entry (type_decl y) (type_decl
 last_type (Builder its) t y c d is = let never : Builder (its ++ _ ∷ []) ≡ Instance (c ∷ d ∷ type_decl t ∷ []) = is in cc
 last_type (Component ds) t y c d is = cc
 
-module _ (named whole : Scope) (t : TypeDef) (j : ℕ) (content : named.content ≡ Instance (type_decl t ∷ export_decl (codes "t") (e.Equal 0) ∷ [])) (there : value_index named the_enum ≡ Some j)
+module _ (named whole : Scope) (t : TypeDef) (content : named.content ≡ Instance (type_decl t ∷ export_decl (codes "t") (e.Equal 0) ∷ [])) (there : value_index named the_enum ≡ Some 1)
     (no_function : type_index named (ty.Func the_function) ≡ None) (no_interface : type_index named (ty.Interface the_interface) ≡ None)
     (w : WritesItem types named whole (codes "f") (kind.Func the_function)) where
   function_described : (d : Description) → IsDescribed types named w.now (kind.Func the_function) d → (i : ℕ) × (d ≡ e.Func i) × IsFuncFrom (type_index named (ty.Func the_function)) types the_function named w.now i
@@ -188,39 +191,39 @@ module _ (named whole : Scope) (t : TypeDef) (j : ℕ) (content : named.content 
 
   function_alone : (y : NewType) × (w.behind.types ≡ y ∷ [])
   function_alone =
-      let before : unwritten types named ≡ 2 = unwritten_is named (Some j) None None there no_function no_interface in
-      let after : unwritten types w.now ≡ 1 = unwritten_is w.now (Some j) (Some function_index.0) None (w.behind.kept (ty.Value (val.Defined the_enum)) j there) function_index.2.0 interface_never in
+      let before : unwritten types named ≡ 2 = unwritten_is named (Some 1) None None there no_function no_interface in
+      let after : unwritten types w.now ≡ 1 = unwritten_is w.now (Some 1) (Some function_index.0) None (w.behind.kept (ty.Value (val.Defined the_enum)) 1 there) function_index.2.0 interface_never in
       let once : length w.behind.types + unwritten types w.now ≡ 0 + unwritten types named = w.behind.once in
       one_long w.behind.types (omega (arith, before, after, once))
 
   function_placed : (u : TypeDef) × (function_alone.0 ≡ defined u) × (function_index.0 ≡ 2)
-  function_placed = at_next 2 function_index.0 w.behind.types function_alone.0 function_alone.1
-      (subst (λ (k : ℕ). IsWrittenAt k w.behind.types function_index.0 None) (ap (count (space sort.«Type»)) content) (w.behind.sources (ty.Func the_function) function_index.0 no_function function_index.2.0))
+  function_placed = at_next w.now (ty.Func the_function) 2 function_index.0 w.behind.types function_alone.0 function_alone.1
+      (subst (λ (k : ℕ). IsWrittenAt types w.now (ty.Func the_function) k w.behind.types function_index.0 None) (ap (count (space sort.«Type»)) content) (w.behind.sources (ty.Func the_function) function_index.0 no_function function_index.2.0))
 
   function_content : w.now.content ≡ Instance (type_decl t ∷ export_decl (codes "t") (e.Equal 0) ∷ type_decl function_placed.0 ∷ [])
   function_content = w.behind.appended ∙ ap (λ (x : Encodable). with_types x w.behind.types) content
       ∙ ap (with_types (Instance (type_decl t ∷ export_decl (codes "t") (e.Equal 0) ∷ []))) (function_alone.1 ∙ ap (λ (y : NewType). y ∷ []) function_placed.1)
 
-  shape : (u : TypeDef) → IsFuncByRecord types w.now the_function_type u → (a : Bool) × (u ≡ func_def a ((codes "x", Index j) ∷ []) None)
+  shape : (u : TypeDef) → IsFuncByRecord types w.now the_function_type u → (a : Bool) × (u ≡ func_def a ((codes "x", Index 1) ∷ []) None)
   shape (func_def a [] r) h = absurd h.0
   shape (func_def a (p ∷ q ∷ ps) r) h = absurd h.0.1
   shape (func_def a (p ∷ []) (Some r)) h = absurd h.1
   shape (func_def a (p ∷ []) None) h =
-      let kept : value_index w.now the_enum ≡ Some j = w.behind.kept (ty.Value (val.Defined the_enum)) j there in
-      let type : Index j ≡ p.1 = one_entry (Index j) p.1 (sym (ap by_index kept) ∙ h.0.0.1) in
+      let kept : value_index w.now the_enum ≡ Some 1 = w.behind.kept (ty.Value (val.Defined the_enum)) 1 there in
+      let type : Index 1 ≡ p.1 = one_entry (Index 1) p.1 (sym (ap by_index kept) ∙ h.0.0.1) in
       (a, ap (λ (x : Name × ComponentValType). func_def a (x ∷ []) None) (λ i. (h.0.0.0 i, sym type i)))
   shape (value_def v) h = absurd h
   shape (component_def ds) h = absurd h
   shape (instance_def ds) h = absurd h
 
-  function_so : (a : Bool) × (function_placed.0 ≡ func_def a ((codes "x", Index j) ∷ []) None)
+  function_so : (a : Bool) × (function_placed.0 ≡ func_def a ((codes "x", Index 1) ∷ []) None)
   function_so =
       let last : function_ends.3 ≡ function_placed.0 = last_type function_ends.2 function_placed.0 function_ends.3 (type_decl t) (export_decl (codes "t") (e.Equal 0)) (sym function_ends.4 ∙ function_content) in
       let held : function_ends.0 ≡ the_function_type = sym (one_entry the_function_type function_ends.0 function_ends.1) in
       shape function_placed.0 (subst (λ (x : FuncType). IsFuncByRecord types w.now x function_placed.0) held (subst (IsFuncByRecord types w.now function_ends.0) last function_ends.5))
 
   -- one function type, and its export by name
-  function_declared : (a : Bool) × (whole.content ≡ Instance (type_decl t ∷ export_decl (codes "t") (e.Equal 0) ∷ type_decl (func_def a ((codes "x", Index j) ∷ []) None) ∷ export_decl (codes "f") (e.Func 2) ∷ []))
+  function_declared : (a : Bool) × (whole.content ≡ Instance (type_decl t ∷ export_decl (codes "t") (e.Equal 0) ∷ type_decl (func_def a ((codes "x", Index 1) ∷ []) None) ∷ export_decl (codes "f") (e.Func 2) ∷ []))
   function_declared = (
     function_so.0,
     w.appended ∙ ap (and_export w.now.content (codes "f")) (function_index.1 ∙ ap e.Func function_placed.2)
@@ -229,25 +232,24 @@ module _ (named whole : Scope) (t : TypeDef) (j : ℕ) (content : named.content 
 
 -- ---- the declarations
 
--- a type that is the enum and its export `t`, a function type over an index, and the export `f`
-abbrev so : TypeDef → Bool → ℕ → List Decl
-so t a j = type_decl t ∷ export_decl (codes "t") (e.Equal 0) ∷ type_decl (func_def a ((codes "x", Index j) ∷ []) None) ∷ export_decl (codes "f") (e.Func 2) ∷ []
+-- a type that is the enum and its export `t`, the function type over that export, and the export `f`
+abbrev so : TypeDef → Bool → List Decl
+so t a = type_decl t ∷ export_decl (codes "t") (e.Equal 0) ∷ type_decl (func_def a ((codes "x", Index 1) ∷ []) None) ∷ export_decl (codes "f") (e.Func 2) ∷ []
 
 abbrev pub AreSo : List Decl → Type 0
-AreSo ds = (t : TypeDef) × (a : Bool) × (j : ℕ) × (ds ≡ so t a j) × (tree_of t nothing_there [] ≡ enum_of (codes "a" ∷ []))
+AreSo ds = (t : TypeDef) × (a : Bool) × (ds ≡ so t a) × (tree_of t nothing_there [] ≡ enum_of (codes "a" ∷ []))
 
 module _ (start named whole : Scope) (empty : start.content ≡ Instance []) (none : (a : AnyType) → type_index start a ≡ None) (unlisted : (a : AnyType) → listing start a ≡ None)
     (first : WritesItem types start named (codes "t") (kind.TypeItem (ty.Value (val.Defined the_enum)))) (second : WritesItem types named whole (codes "f") (kind.Func the_function)) where
   enum_unlisted : listing start (ty.Value (val.Defined the_enum)) ≡ None
   enum_unlisted = unlisted (ty.Value (val.Defined the_enum))
 
-  both_declared : (t : TypeDef) × (a : Bool) × (j : ℕ) × (whole.content ≡ Instance (so t a j)) × (tree_of t nothing_there [] ≡ enum_of (codes "a" ∷ []))
+  both_declared : (t : TypeDef) × (a : Bool) × (whole.content ≡ Instance (so t a)) × (tree_of t nothing_there [] ≡ enum_of (codes "a" ∷ []))
   both_declared =
       let enum = enum_declared start named empty none enum_unlisted first in
-      let recorded = enum_recorded start named empty none enum_unlisted first in
-      let function = function_declared named whole enum.0 recorded.0 enum.1 (enum_there start named empty none enum_unlisted first)
+      let function = function_declared named whole enum.0 enum.1 (enum_there start named empty none enum_unlisted first)
       (function_still_none start named empty none enum_unlisted first) (interface_still_none start named empty none enum_unlisted first) second in
-      (enum.0, function.0, recorded.0, function.1, enum_meant start named empty none enum_unlisted first unlisted)
+      (enum.0, function.0, function.1, enum_meant start named empty none enum_unlisted first unlisted)
 
 module _ (around : Scope) (nothing : NamesNothing around) (ds : List Decl) (h : WritesInterface types around the_interface ds) where
   in_order : h.order ≡ items
@@ -263,17 +265,17 @@ module _ (around : Scope) (nothing : NamesNothing around) (ds : List Decl) (h : 
     by_place (Some l) is = absurd (no_entry l (sym (ap around_at (nothing d)) ∙ h.opened_.only d l is))
   unlisted_in_it a = refl
 
-  declared : (t : TypeDef) × (a : Bool) × (j : ℕ) × (one_by_one.2.0.content ≡ Instance (so t a j)) × (tree_of t nothing_there [] ≡ enum_of (codes "a" ∷ []))
+  declared : (t : TypeDef) × (a : Bool) × (one_by_one.2.0.content ≡ Instance (so t a)) × (tree_of t nothing_there [] ≡ enum_of (codes "a" ∷ []))
   declared = both_declared h.start one_by_one.0 one_by_one.2.0 h.opened_.content h.opened_.types unlisted_in_it one_by_one.1 one_by_one.2.1
 
   pub only_so : AreSo ds
-  only_so = (declared.0, declared.1, declared.2, ap declarations_in same, declared.4) where
+  only_so = (declared.0, declared.1, ap declarations_in same, declared.3) where
     declarations_in : Encodable → List Decl
     declarations_in (Instance es) = es
     declarations_in x = []
 
-    same : Instance ds ≡ Instance (so declared.0 declared.1 declared.2)
-    same = sym h.is ∙ ap (λ (s : Scope). s.content) one_by_one.2.2 ∙ declared.3
+    same : Instance ds ≡ Instance (so declared.0 declared.1)
+    same = sym h.is ∙ ap (λ (s : Scope). s.content) one_by_one.2.2 ∙ declared.2
 
 -- ---- what is refused
 
@@ -296,26 +298,33 @@ nth i ds = option_case (slice_get ds i) (export_decl [] e.Fresh) (λ d. d)
 module _ (around : Scope) (nothing : NamesNothing around) where
   -- the function before the enum
   pub no_function_before_enum : WritesInterface types around the_interface (type_decl (value_def written_enum) ∷ type_decl (function_of (Index 0)) ∷ export_decl (codes "f") (e.Func 1) ∷ export_decl (codes "t") (e.Equal 0) ∷ []) → ⊥
-  no_function_before_enum h = let these = only_so around nothing _ h in no_flag (sym (ap (λ (ds : List Decl). is_export (nth 1 ds)) these.3))
+  no_function_before_enum h = let these = only_so around nothing _ h in no_flag (sym (ap (λ (ds : List Decl). is_export (nth 1 ds)) these.2))
 
   -- the enum written twice
   pub no_enum_twice : WritesInterface types around the_interface (type_decl (value_def written_enum) ∷ export_decl (codes "t") (e.Equal 0) ∷ type_decl (value_def written_enum) ∷ type_decl (function_of (Index 2)) ∷ export_decl (codes "f") (e.Func 3) ∷ []) → ⊥
-  no_enum_twice h = let these = only_so around nothing _ h in two_numbers 5 4 refl (ap (λ (ds : List Decl). length ds) these.3)
+  no_enum_twice h = let these = only_so around nothing _ h in two_numbers 5 4 refl (ap (λ (ds : List Decl). length ds) these.2)
 
   -- the function missing
   pub no_function_missing : WritesInterface types around the_interface (type_decl (value_def written_enum) ∷ export_decl (codes "t") (e.Equal 0) ∷ []) → ⊥
-  no_function_missing h = let these = only_so around nothing _ h in two_numbers 2 4 refl (ap (λ (ds : List Decl). length ds) these.3)
+  no_function_missing h = let these = only_so around nothing _ h in two_numbers 2 4 refl (ap (λ (ds : List Decl). length ds) these.2)
 
   -- a parameter of another type
   pub no_other_parameter : WritesInterface types around the_interface (type_decl (value_def written_enum) ∷ export_decl (codes "t") (e.Equal 0) ∷ type_decl (function_of (Primitive primitive.String)) ∷ export_decl (codes "f") (e.Func 2) ∷ []) → ⊥
-  no_other_parameter h = let these = only_so around nothing _ h in no_flag (ap (λ (ds : List Decl). is_primitive (nth 2 ds)) these.3) where
+  no_other_parameter h = let these = only_so around nothing _ h in no_flag (ap (λ (ds : List Decl). is_primitive (nth 2 ds)) these.2) where
     is_primitive : Decl → Bool
     is_primitive (type_decl (func_def a ((n, Primitive p) ∷ xs) r)) = true
     is_primitive d = false
+
+  -- the function over the enum's index without its name
+  pub no_index_without_name : WritesInterface types around the_interface (type_decl (value_def written_enum) ∷ export_decl (codes "t") (e.Equal 0) ∷ type_decl (function_of (Index 0)) ∷ export_decl (codes "f") (e.Func 2) ∷ []) → ⊥
+  no_index_without_name h = let these = only_so around nothing _ h in two_numbers 0 1 refl (ap (λ (ds : List Decl). parameter_in (type_in (nth 2 ds))) these.2) where
+    parameter_in : TypeDef → ℕ
+    parameter_in (func_def a ((n, Index i) ∷ xs) r) = i
+    parameter_in t = 2
 
   -- another enum
   pub no_other_enum : WritesInterface types around the_interface (type_decl (value_def (enum_def (codes "b" ∷ []))) ∷ export_decl (codes "t") (e.Equal 0) ∷ type_decl (function_of (Index 1)) ∷ export_decl (codes "f") (e.Func 2) ∷ []) → ⊥
   no_other_enum h =
       let these = only_so around nothing _ h in
-      let same : enum_of (codes "b" ∷ []) ≡ enum_of (codes "a" ∷ []) = ap (λ (ds : List Decl). tree_of (type_in (nth 0 ds)) nothing_there []) these.3 ∙ these.4 in
+      let same : enum_of (codes "b" ∷ []) ≡ enum_of (codes "a" ∷ []) = ap (λ (ds : List Decl). tree_of (type_in (nth 0 ds)) nothing_there []) these.2 ∙ these.3 in
       two_numbers 98 97 refl (ap first_letter same)

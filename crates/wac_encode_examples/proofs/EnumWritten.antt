@@ -18,7 +18,7 @@ use Rattle.wac_scopes.specs.Scoped.{type_index, value_index, listed_at, by_index
 use Rattle.wac_scopes.proofs.ScopedLaws.{adds-value, adds-func, lists-value, there-index}
 use Rattle.wac_stacks.specs.Laws.{DefinesValue, DefinesFunc, Follows, IsRecorded, StaysOnward}
 use Rattle.wac_stacks.specs.Listed.{ListsEqual}
-use Rattle.wac_listing.specs.Made.{itself}
+use Rattle.wac_listing.specs.Made.{itself, listed}
 use Rattle.wac_encode.specs.Written.{WritesFor, PartOf, IsOfFunc, AddsHeldFunc, IsFuncByRecord}
 use Rattle.wac_encode.specs.Listing.{around_at, IsOfItems, WritesItem, WritesInterface}
 use Rattle.wac_encode.proofs.Answering.{as-it-was}
@@ -50,7 +50,7 @@ types_are_well_formed =
 
 -- the interface is made of the enum
 pub enum_is_of_items : IsOfItems types the_interface (ty.Value (val.Defined the_enum))
-enum_is_of_items = (0, enum_item, refl, (0, val.Defined the_enum, refl, itself))
+enum_is_of_items = (enum_item.1, listed 0 enum_item refl, (0, val.Defined the_enum, refl, itself))
 
 module _ (follows : Follows) (stays : StaysOnward) (defines_value : DefinesValue) (defines_func : DefinesFunc) (recorded : IsRecorded) (lists_equal : ListsEqual)
     (around opened_ defined named typed whole : Scope) (w : Steps around opened_ defined named typed whole) where
@@ -75,17 +75,19 @@ module _ (follows : Follows) (stays : StaysOnward) (defines_value : DefinesValue
   in_type : IsOpenType defined.content
   in_type = subst IsOpenType (sym defined_content) tt
 
+  one_type : 1 ≡ count (space sort.«Type») defined.content
+  one_type = types_in defined.content (Instance (type_decl (value_def written_enum) ∷ [])) defined_content
+
   enum_written : WritesFor types 0 (PartOf types (val.Defined the_enum)) opened_ defined
   enum_written = writes-more types follows 0 (PartOf types (val.Defined the_enum)) opened_ opened_ defined the_enum
       (writes-none types stays (PartOf types (val.Defined the_enum)) opened_ opened_ (as-it-was opened_)) itself (omega arith) (w.is_opened.types (ty.Value (val.Defined the_enum)))
-      (writes-one types types_are_well_formed opened_ defined the_enum the_enum_type written_enum 0 unlisted refl (λ m ms o os g. refl)
+      (writes-one types types_are_well_formed opened_ defined the_enum the_enum_type written_enum 0 unlisted refl (λ m ms o os g. refl) refl
       (adds-value opened_ defined the_enum written_enum 0 defines_value (types_in opened_.content (Instance []) w.is_opened.content) w.has_enum w.records_enum)
       w.records_enum w.unnamed w.has_enum (types_in opened_.content (Instance []) w.is_opened.content))
 
   enum_item_written : WritesItem types opened_ named (codes "t") (kind.TypeItem (ty.Value (val.Defined the_enum)))
   enum_item_written = first-wrote types opened_ defined named (codes "t") (val.Defined the_enum) the_enum 0 1 refl (w.is_opened.types (ty.Value (val.Defined the_enum))) enum_written
-      (recorded-there (ty.Value (val.Defined the_enum)) 0 opened_ defined w.records_enum) w.has_item w.records_item w.by_name
-      (lists-value defined named (codes "t") the_enum 0 1 lists_equal in_type (types_in defined.content (Instance (type_decl (value_def written_enum) ∷ [])) defined_content) w.has_item w.records_item)
+      (recorded-there (ty.Value (val.Defined the_enum)) 0 opened_ defined w.records_enum) w.has_item one_type w.records_item w.by_name (lists-value defined named (codes "t") the_enum 0 1 lists_equal in_type one_type w.has_item w.records_item)
 
   -- the function
   by_item : value_index named the_enum ≡ Some 1

@@ -2,6 +2,7 @@ pub mod Apart
 pub mod EnumOrder
 pub mod EnumWritten
 pub mod EnumRefused
+pub mod PartsRefused
 pub mod ListedRows
 pub mod OpenedRows
 pub mod AliasedRows

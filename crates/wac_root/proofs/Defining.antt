@@ -174,12 +174,12 @@ primitive-defined there end tree c wf old now new n v p i k r is index adds same
     (λ good means. stands-new there tree c (own_types c (item_of_type (ty.Value v))) (NeededBy c (item_of_type (ty.Value v))) old now (ty.Value v) i (primitive p) r w (omega (arith, index)) (held-at-end c wf end nothing_bound v (val.Primitive p) (primitive p) is (primitive-held c nothing_bound p)) (at-root now i (primitive p) is_root (adds c nothing_bound [] unbound [] good).1))
     (content-is now new (Builder (items_of now.content ++ export_item n sort.«Type» i ∷ [])) exports) answer
 
-pub primitive-once : (c : Collection) (old now new : Scope) (n : Name) (v : ValueType) (p : PrimitiveType) (i k : ℕ) → value_resolved c v ≡ val.Primitive p → AddsPrimitive old now p i → now ≡ record old { content = and_type old.content (value_def (primitive_def p)) } → new ≡ record now { content = Builder (items_of now.content ++ export_item n sort.«Type» i ∷ []) } → WritesOnce c (ty.Value v) n old new k
-primitive-once c old now new n v p i k is adds same exports = record {
+pub primitive-once : (c : Collection) (old now new : Scope) (n : Name) (v : ValueType) (p : PrimitiveType) (i k : ℕ) → value_resolved c v ≡ val.Primitive p → i ≡ count (space sort.«Type») old.content → AddsPrimitive old now p i → now ≡ record old { content = and_type old.content (value_def (primitive_def p)) } → new ≡ record now { content = Builder (items_of now.content ++ export_item n sort.«Type» i ∷ []) } → WritesOnce c (ty.Value v) n old new k
+primitive-once c old now new n v p i k is index adds same exports = record {
   now = now;
   behind = primitive-behind c old now v p i is adds same;
   index = i;
-  defined = primitive-described c old now v p i is adds same;
+  defined = primitive-described c old now v p i is adds same index;
   appended = content-is now new (Builder (items_of now.content ++ export_item n sort.«Type» i ∷ [])) exports;
   named = subst (λ (w : ValueType). NamesImportedValue old now new w k) (sym is) (records-same now new (Builder (items_of now.content ++ export_item n sort.«Type» i ∷ [])) exports);
 }

@@ -207,12 +207,12 @@ same-records old new n d is = record { types = λ k. ap (λ (s : Scope). type_in
 imported-so : (old new : Scope) (n : Name) (d : Description) → new ≡ record old { content = and_import old.content n d } → new.content ≡ and_import old.content n d
 imported-so old new n d is = ap (λ (s : Scope). s.content) is
 
-pub primitive-written : (c : Collection) (old now new : Scope) (n : Name) (v : ValueType) (p : PrimitiveType) (k j : ℕ) → value_resolved c v ≡ val.Primitive p → AddsPrimitive old now p k → now ≡ record old { content = and_type old.content (value_def (primitive_def p)) } → new ≡ record now { content = and_import now.content n (e.Equal k) } → j ≡ count (space sort.«Type») now.content → WritesImport c old new n (kind.TypeItem (ty.Value v)) j
-primitive-written c old now new n v p k j is adds same imports index = record {
+pub primitive-written : (c : Collection) (old now new : Scope) (n : Name) (v : ValueType) (p : PrimitiveType) (k j : ℕ) → value_resolved c v ≡ val.Primitive p → k ≡ count (space sort.«Type») old.content → AddsPrimitive old now p k → now ≡ record old { content = and_type old.content (value_def (primitive_def p)) } → new ≡ record now { content = and_import now.content n (e.Equal k) } → j ≡ count (space sort.«Type») now.content → WritesImport c old new n (kind.TypeItem (ty.Value v)) j
+primitive-written c old now new n v p k j is at adds same imports index = record {
   now = now;
   behind = primitive-behind c old now v p k is adds same;
   description = e.Equal k;
-  described = primitive-described c old now v p k is adds same;
+  described = primitive-described c old now v p k is adds same at;
   appended = imported-so now new n (e.Equal k) imports;
   index = index;
   named = subst (λ (w : ValueType). NamesImportedValue old now new w j) (sym is) (same-records now new n (e.Equal k) imports);

@@ -194,12 +194,12 @@ same-records side old new n d is = record { types = λ k. ap (λ (s : Scope). ty
 declared-so : (side : Side) (old new : Scope) (n : Name) (d : Description) → new ≡ record old { content = and_declared old.content side n d } → new.content ≡ and_declared old.content side n d
 declared-so side old new n d is = ap (λ (s : Scope). s.content) is
 
-pub primitive-written : (c : Collection) (side : Side) (old now new : Scope) (n : Name) (v : ValueType) (p : PrimitiveType) (k : ℕ) → value_resolved c v ≡ val.Primitive p → AddsPrimitive old now p k → now ≡ record old { content = and_type old.content (value_def (primitive_def p)) } → new ≡ record now { content = and_declared now.content side n (e.Equal k) } → DeclaresItem c side old new n (kind.TypeItem (ty.Value v))
-primitive-written c side old now new n v p k is adds same declares = record {
+pub primitive-written : (c : Collection) (side : Side) (old now new : Scope) (n : Name) (v : ValueType) (p : PrimitiveType) (k : ℕ) → value_resolved c v ≡ val.Primitive p → k ≡ count (space sort.«Type») old.content → AddsPrimitive old now p k → now ≡ record old { content = and_type old.content (value_def (primitive_def p)) } → new ≡ record now { content = and_declared now.content side n (e.Equal k) } → DeclaresItem c side old new n (kind.TypeItem (ty.Value v))
+primitive-written c side old now new n v p k is index adds same declares = record {
   now = now;
   behind = primitive-behind c old now v p k is adds same;
   description = e.Equal k;
-  described = primitive-described c old now v p k is adds same;
+  described = primitive-described c old now v p k is adds same index;
   appended = declared-so side now new n (e.Equal k) declares;
   named = subst (λ (w : ValueType). NamesDefinition old now new w (count (space sort.«Type») now.content)) (sym is) (same-records side now new n (e.Equal k) declares);
 }

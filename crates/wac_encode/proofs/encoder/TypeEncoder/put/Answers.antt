@@ -5,7 +5,7 @@ use Rattle.wac_encode.proofs.Stacks.{writes-one, one-refused}
 use Rattle.wac_encode.proofs.encoder.TypeEncoder.put.Goals as goal
 
 pub returns-clause-wrote : goal.returns-clause-wrote
-returns-clause-wrote c = writes-one c.args.self.now.types.now c.law.ensures c.args.scope.now c.define.new.self c.args.id c.args.held.now (defined_of c.args.definition.now) c.in_ok-define.field-0 c.requires.unlisted c.requires.found c.requires.says c.in_ok-define.ensures.stands c.in_ok-define.ensures.recorded c.in_ok-define.ensures.unnamed c.in_ok-define.ensures.appended c.in_ok-define.ensures.index
+returns-clause-wrote c = writes-one c.args.self.now.types.now c.law.ensures c.args.scope.now c.define.new.self c.args.id c.args.held.now (defined_of c.args.definition.now) c.in_ok-define.field-0 c.requires.unlisted c.requires.found c.requires.says c.requires.recorded c.in_ok-define.ensures.stands c.in_ok-define.ensures.recorded c.in_ok-define.ensures.unnamed c.in_ok-define.ensures.appended c.in_ok-define.ensures.index
 
 pub returns-in_err-define-clause-fault : goal.returns-in_err-define-clause-fault
 returns-in_err-define-clause-fault c =

@@ -27,11 +27,11 @@ returns-in_err-declare_type-clause-fault c =
     let p = err_from_is_err_and c.from_residual-in_err-declare_type.result c.from_residual-in_err-declare_type.ensures.1 in
     rw (p.1, p.2) (item-too-large ℕ (Unit {0}) t (side_of c.args.side) c.args.scope.now c.define_primitive.new.self c.args.name.now (kind.TypeItem (ty.Value c.args.value)) (own_types t (kind.TypeItem (ty.Value c.args.value))) (e.Equal c.in_ok-index.index) c.in_err-declare_type.field-0.0
     (primitive-behind t c.args.scope.now c.define_primitive.new.self c.args.value c.args.primitive c.in_ok-index.index c.requires.end c.in_ok-index.ensures.stands c.in_ok-index.ensures.appended)
-    (primitive-described t c.args.scope.now c.define_primitive.new.self c.args.value c.args.primitive c.in_ok-index.index c.requires.end c.in_ok-index.ensures.stands c.in_ok-index.ensures.appended)
+    (primitive-described t c.args.scope.now c.define_primitive.new.self c.args.value c.args.primitive c.in_ok-index.index c.requires.end c.in_ok-index.ensures.stands c.in_ok-index.ensures.appended c.in_ok-index.ensures.index)
     (exactly-so ℕ _ c.in_err-declare_type.field-0.0 c.in_err-declare_type.ensures.too_large))
 
 pub returns-clause-listed : goal.returns-clause-listed
 returns-clause-listed c = primitive-declared c.args.self.now.types.now c.law.ensures c.alias_law.ensures (side_of c.args.side) c.args.scope.now c.define_primitive.new.self c.declare_type.new.self c.args.name.now c.args.value c.args.primitive c.in_ok-index.index c.in_ok-declare_type.field-0 c.requires.end c.in_ok-index.ensures.stands c.in_ok-declare_type.ensures.stands
 
 pub returns-clause-wrote : goal.returns-clause-wrote
-returns-clause-wrote c = primitive-written c.args.self.now.types.now (side_of c.args.side) c.args.scope.now c.define_primitive.new.self c.declare_type.new.self c.args.name.now c.args.value c.args.primitive c.in_ok-index.index c.requires.end c.in_ok-index.ensures.stands c.in_ok-index.ensures.appended c.in_ok-declare_type.ensures.appended
+returns-clause-wrote c = primitive-written c.args.self.now.types.now (side_of c.args.side) c.args.scope.now c.define_primitive.new.self c.declare_type.new.self c.args.name.now c.args.value c.args.primitive c.in_ok-index.index c.requires.end c.in_ok-index.ensures.index c.in_ok-index.ensures.stands c.in_ok-index.ensures.appended c.in_ok-declare_type.ensures.appended
