@@ -11,3 +11,5 @@ pub mod Naming
 pub mod Plain
 pub mod Together
 pub mod Around
+pub mod Aliasing
+pub mod InstanceTypes

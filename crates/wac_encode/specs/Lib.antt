@@ -2,3 +2,4 @@ pub mod Written
 pub mod Tasks
 pub mod Listing
 pub mod Items
+pub mod Instances

@@ -3,6 +3,7 @@
 
 mod encoder;
 mod functions;
+mod instances;
 mod interfaces;
 mod opening;
 mod task;

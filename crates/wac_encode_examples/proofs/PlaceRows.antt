@@ -15,7 +15,7 @@ use Rattle.wac_stacks.specs.Laws.{StaysOnward}
 use Rattle.wac_encode.specs.Listing.{IsOfItems, WritesInterface}
 use Rattle.wac_encode.proofs.Answering.{as-it-was}
 use Rattle.wac_encode.proofs.Stacks.{writes-none}
-use Rattle.wac_root.specs.Importing.{IsInterfaceFrom, IsInterfaceAt}
+use Rattle.wac_encode.specs.Instances.{IsInterfaceFrom, IsInterfaceAt}
 use Rattle.wac_encode_examples.proofs.Apart.{no_flag, no_entry, two_numbers}
 use Rattle.wac_encode_examples.specs.EnumInterface.{the_interface, types, declarations}
 use Rattle.wac_encode_examples.specs.ImportedEnum.{IsEmptyRoot}

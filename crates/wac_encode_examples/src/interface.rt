@@ -7,7 +7,7 @@ ghost use Rattle.wac_scopes.specs.declared.encodable.Encodable.TheVariants.{Buil
 ghost use Rattle.wac_scopes.specs.declared.scope.Scope.{Scope as AScope};
 ghost use Rattle.wac_scopes.specs.Scoped.{HasToo};
 ghost use Rattle.wac_encode.specs.Listing.{AliasesFor, AllAliased, WritesInterface};
-ghost use Rattle.wac_root.specs.Importing.{IsInterfaceAt};
+ghost use Rattle.wac_encode.specs.Instances.{IsInterfaceAt};
 ghost use Rattle.wac_encode_examples.specs.EnumInterface.{types, the_interface, declarations, Steps};
 ghost use Rattle.wac_encode_examples.specs.ImportedEnum.{ImportsEnum, AliasesEnum, IsEmptyRoot};
 

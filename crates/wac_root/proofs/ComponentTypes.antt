@@ -31,7 +31,8 @@ use Rattle.wac_scopes.specs.Rooted.{unbound, IsRightRoot, IsWrittenThere}
 use Rattle.wac_scopes.specs.Scoped.{type_index, recorded_type, opened, AddsInstance, AddsComponent, ListsInstanceOf, WritesUnlessTooLarge, FitsUnlessTooLarge, listing, place}
 use Rattle.wac_encode.specs.Written.{GoesOn, WritesFor}
 use Rattle.wac_encode.specs.Listing.{lists_plain, SaysInterface, IsInterfaceRefused}
-use Rattle.wac_root.specs.Components.{HasId, held_under_id, component_tree, SaysComponent, IsBare, WritesAlone, under_id, WritesComponent, IsComponentRefused, EndsWithComponent}
+use Rattle.wac_encode.specs.Instances.{IsBare}
+use Rattle.wac_root.specs.Components.{HasId, held_under_id, component_tree, SaysComponent, WritesAlone, under_id, WritesComponent, IsComponentRefused, EndsWithComponent}
 use Rattle.wac_root.specs.Defining.{IsDefinable, WritesDefinition, MadeFor, WritesTypesFor, WritesOnce, IsDefinitionRefused}
 use Rattle.wac_encode.proofs.Answering.{as-it-was}
 use Rattle.wac_root.proofs.Defining.{stands-there, at-root, defined-so, content-is, records-same}

@@ -1,9 +1,8 @@
 -- An interface as a component type, which imports nothing and exports an instance of the interface under its id.
-use Rattle.std.specs.Prelude.{ℕ, ◌≡◌, ◌⊎◌, List, [], ◌∷◌, Some, None, Result, Err}
+use Rattle.std.specs.Prelude.{ℕ, ◌≡◌, ◌⊎◌, List, [], ◌∷◌, Some, Result, Err}
 use Rattle.wac_shapes.specs.Name.{Name, option_case}
 use Rattle.wac_shapes.specs.declared.component.Interface.{Interface}
 use Rattle.wac_shapes.specs.declared.component.InterfaceId.{InterfaceId}
-use Rattle.wac_shapes.specs.declared.component.«Type».{«Type» as AnyType}
 use Rattle.wac_shapes.specs.declared.component.«Type».TheVariants as ty
 use Rattle.wac_collection.specs.Tree.{Tree, absent, component, instance_item}
 use Rattle.wac_collection.specs.Collection.{Collection, item_at}
@@ -20,11 +19,11 @@ use Rattle.wac_scopes.specs.declared.fault.EncodeFault.{EncodeFault}
 use Rattle.wac_scopes.specs.declared.fault.EncodeFault.TheVariants as fault
 use Rattle.wac_scopes.specs.declared.scope.Scope.{Scope}
 use Rattle.wac_scopes.specs.Contents.{and_type, count, ContentFits}
-use Rattle.wac_scopes.specs.Scoped.{type_index, listing}
 use Rattle.wac_stacks.specs.Scopes.{Open, Stack, next_type, with_def}
 use Rattle.wac_stacks.specs.Good.{Good, nothing_bound}
 use Rattle.wac_stacks.specs.Laws.{Adds}
 use Rattle.wac_encode.specs.Listing.{WritesInterface, IsInterfaceRefused}
+use Rattle.wac_encode.specs.Instances.{IsBare}
 
 -- the interface has this id
 abbrev pub HasId : Collection → InterfaceId → Name → Type 0
@@ -42,12 +41,6 @@ component_tree c i = component (λ n. absent) (items_under (held_under_id c i))
 abbrev pub SaysComponent : Collection → InterfaceId → List Decl → Type 0
 SaysComponent c i ds = (m : Bindings) (ms : List Bindings) (o : Open) (os : Stack) → Good c (m ∷ ms) (o ∷ os)
     → Adds c (m ∷ ms) (o ∷ os) (with_def (component_def (decls ds)) o ∷ os) (next_type o) (component_tree c i)
-
--- a component type in which nothing is written and nothing recorded; so nothing has a name in it
-pub record IsBare (s : Scope) : Type 0 where
-  pub content : s.content ≡ Component []
-  pub types : (a : AnyType) → type_index s a ≡ None
-  pub listed : (a : AnyType) → listing s a ≡ None
 
 -- the declarations of the interface where nothing around has a name, and where they are refused
 abbrev pub WritesAlone : Collection → InterfaceId → List Decl → Type 0

@@ -1,9 +1,8 @@
 -- What the writer of imports writes.
 use Rattle.std.specs.Prelude.{ℕ, suc, ◌≡◌, ◌⊎◌, Bool, true, false, List, [], ◌∷◌, ◌++◌, length, Option, Some, None, Result, Ok, Err}
-use Rattle.wac_shapes.specs.Name.{Name, option_case}
+use Rattle.wac_shapes.specs.Name.{Name}
 use Rattle.wac_shapes.specs.declared.component.DefinedTypeId.{DefinedTypeId}
 use Rattle.wac_shapes.specs.declared.component.FuncTypeId.{FuncTypeId}
-use Rattle.wac_shapes.specs.declared.component.InterfaceId.{InterfaceId}
 use Rattle.wac_shapes.specs.declared.component.ItemKind.{ItemKind}
 use Rattle.wac_shapes.specs.declared.component.ItemKind.TheVariants as kind
 use Rattle.wac_shapes.specs.declared.component.ValueType.{ValueType}
@@ -13,9 +12,7 @@ use Rattle.wac_collection.specs.Tree.{imported, Place, position, Tree, function_
 use Rattle.wac_collection.specs.Collection.{Collection, interface_exports}
 use Rattle.wac_collection.specs.Aliases.{value_resolved}
 use Rattle.wac_collection.specs.Bound.{Bindings, held_tree, held_item}
-use Rattle.wac_binary.specs.HasMeaning.{IsInstance}
 use Rattle.wac_binary.specs.Indexes.{space, described_sort}
-use Rattle.wac_binary.specs.Items.{instance_def, Decl, decls}
 use Rattle.wac_binary.specs.declared.sorts.Description.{Description}
 use Rattle.wac_binary.specs.declared.sorts.Description.TheVariants as e
 use Rattle.wac_binary.specs.declared.sorts.Sort.{Sort}
@@ -25,13 +22,13 @@ use Rattle.wac_scopes.specs.declared.fault.EncodeFault.{EncodeFault}
 use Rattle.wac_scopes.specs.declared.fault.EncodeFault.TheVariants as fault
 use Rattle.wac_scopes.specs.declared.fault.WriteFault.{WriteFault}
 use Rattle.wac_scopes.specs.declared.fault.WriteFault.TheVariants as write
-use Rattle.wac_scopes.specs.Contents.{and_type, and_import, count, ContentFits}
+use Rattle.wac_scopes.specs.Contents.{and_import, count, ContentFits}
 use Rattle.wac_stacks.specs.Scopes.{Open, Stack}
 use Rattle.wac_stacks.specs.Good.{At, IsHeld, Good}
-use Rattle.wac_stacks.specs.Laws.{Adds}
-use Rattle.wac_scopes.specs.Scoped.{type_index, value_index, named_at, HasToo, AlsoLists, opened, root_of, IsNewInRoot, RootImports}
+use Rattle.wac_scopes.specs.Scoped.{value_index, named_at, HasToo, AlsoLists, opened, root_of, IsNewInRoot, RootImports}
 use Rattle.wac_encode.specs.Written.{PartOf, WritesFor, HasHandle, IsOfFunc, AddsHeldFunc, IsFuncAt, IsFuncRefused}
-use Rattle.wac_encode.specs.Listing.{lists_plain, AliasesFor, AllAliased, AliasDoesNotFit, WritesInterface, NeededBy, own_types, IsDescribed, SameRecords, TypeDoesNotFit, IsInterfaceRefused}
+use Rattle.wac_encode.specs.Listing.{lists_plain, NeededBy, own_types, IsDescribed, SameRecords, TypeDoesNotFit, IsInterfaceRefused}
+use Rattle.wac_encode.specs.Instances.{IsInterfaceAt, listed_definitions, InterfaceDoesNotFit}
 
 -- a function of the held function type is imported under a name that is new, in each stack that was good with the root as the innermost; index k is that import
 abbrev pub ImportsHeldFunc : Collection → Scope → Scope → Name → FuncTypeId → ℕ → Type 0
@@ -88,31 +85,6 @@ abbrev pub ImportsHeld : Collection → Scope → Scope → Name → ItemKind �
 ImportsHeld c old new n item k = (m : Bindings) (ms : List Bindings) (o : Open) (os : Stack) → Good c (m ∷ ms) (opened old o ∷ os) → IsNewInRoot old n
     → RootImports c (m ∷ ms) old new o os (import_sort item) k n (held_item c m imported (next_place old) item) × IsBoundTo c m new (next_place old) item k
 
--- index k is the held interface's, in each stack that was good with the scope as the innermost; and that stack goes onward
-abbrev pub AddsHeldInterface : Collection → Scope → Scope → InterfaceId → ℕ → Type 0
-AddsHeldInterface c old new i k = (m : Bindings) (ms : List Bindings) (o : Open) (os : Stack) → Good c (m ∷ ms) (opened old o ∷ os)
-    → (t : Tree) × IsHeld c m (ty.Interface i) t × IsInstance t × Adds c (m ∷ ms) (opened old o ∷ os) (opened new o ∷ os) k t
-
--- index j is the instance type that was written last, that of the interface, and is recorded
-pub record EndsWithInterface (c : Collection) (old now : Scope) (i : InterfaceId) (j : ℕ) : Type 0 where
-  -- behind the aliases of all that its items are made of and an instance lists
-  pub around : Scope
-  pub aliases : AliasesFor c i old around
-  pub all : AllAliased c i old around
-  pub declarations : List Decl
-  pub written : WritesInterface c around i declarations
-  pub appended : now.content ≡ and_type around.content (instance_def (decls declarations))
-  pub recorded : HasToo around (ty.Interface i) j now
-  pub index : j ≡ count (space sort.«Type») around.content
-
--- index j is that of the interface: the recorded one, and nothing is written; else it was written last
-abbrev pub IsInterfaceFrom : Option ℕ → Collection → Scope → Scope → InterfaceId → ℕ → Type 0
-IsInterfaceFrom (Some k) c old now i j = (j ≡ k) × (now ≡ old)
-IsInterfaceFrom None c old now i j = EndsWithInterface c old now i j
-
-abbrev pub IsInterfaceAt : Collection → Scope → Scope → InterfaceId → ℕ → Type 0
-IsInterfaceAt c old now i j = IsInterfaceFrom (type_index old (ty.Interface i)) c old now i j
-
 -- what an import is described by, where its types were written since old
 abbrev pub IsImportedAs : Collection → Scope → Scope → ItemKind → Description → Type 0
 IsImportedAs c old now (kind.Instance i) (e.Instance j) = IsInterfaceAt c old now i j
@@ -128,21 +100,6 @@ IsImportedOnce (Some i) now new d k = SameRecords now new
 abbrev pub NamesImportedValue : Scope → Scope → Scope → ValueType → ℕ → Type 0
 NamesImportedValue old now new (val.Defined d) k = IsImportedOnce (value_index old d) now new d k
 NamesImportedValue old now new v k = SameRecords now new
-
--- the definition of a value type
-abbrev pub definition_of : ValueType → Option DefinedTypeId
-definition_of (val.Defined d) = Some d
-definition_of v = None
-
--- the definition that a type item lists: that at which its aliases end
-abbrev pub listed_definition : Collection → ItemKind → Option DefinedTypeId
-listed_definition c (kind.TypeItem (ty.Value v)) = definition_of (value_resolved c v)
-listed_definition c k = None
-
--- the definitions that items list, each with its name, the last first
-abbrev pub listed_definitions : Collection → List (Name × ItemKind) → List (DefinedTypeId × Name)
-listed_definitions c [] = []
-listed_definitions c (e ∷ es) = listed_definitions c es ++ option_case (listed_definition c e.1) [] (λ d. (d, e.0) ∷ [])
 
 -- and what an imported instance lists is aliased from it from then on
 abbrev pub NamesImport : Collection → Scope → Scope → Scope → ItemKind → ℕ → Type 0
@@ -163,21 +120,6 @@ pub record WritesImport (c : Collection) (old new : Scope) (n : Name) (item : It
 -- nothing but types is written that the item is made of
 abbrev pub WritesTypesOf : Collection → ItemKind → Scope → Scope → Type 0
 WritesTypesOf c item old new = (types : ℕ) × WritesFor c types (NeededBy c item) old new
-
--- which of an import's types does not fit behind what is written
-abbrev pub InstanceDoesNotFit : Collection → InterfaceId → Scope → Type 0
-InstanceDoesNotFit c i s = (ds : List Decl) × WritesInterface c s i ds × (ContentFits (and_type s.content (instance_def (decls ds))) → ⊥)
-
--- what does not fit of an interface where the root is this: an alias, an item, or the instance type
-abbrev pub InterfaceDoesNotFit : Collection → InterfaceId → Scope → Type 0
-InterfaceDoesNotFit c i s = AliasDoesNotFit c i s ⊎ (IsInterfaceRefused {A = Unit {0}} c s i (Err fault.TooLarge) ⊎ InstanceDoesNotFit c i s)
-
--- what stands where the interface is not written: behind some of its aliases, its fault, or something does not fit
-abbrev pub IsInstanceRefused : {A : Type 0} → Collection → InterfaceId → Scope → Result A EncodeFault → Type 0
-IsInstanceRefused c i old (Ok x) = Unit {0}
-IsInstanceRefused c i old (Err (fault.Write f)) = (s : Scope) × AliasesFor c i old s × IsInterfaceRefused {A = Unit {0}} c s i (Err (fault.Write f))
-IsInstanceRefused c i old (Err fault.TooLarge) = (s : Scope) × AliasesFor c i old s × InterfaceDoesNotFit c i s
-IsInstanceRefused c i old (Err fault.OutOfMemory) = Unit {0}
 
 abbrev pub ImportedTypeDoesNotFit : Collection → ItemKind → Scope → Type 0
 ImportedTypeDoesNotFit c (kind.Instance i) s = InterfaceDoesNotFit c i s

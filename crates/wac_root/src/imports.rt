@@ -11,14 +11,13 @@ ghost use Rattle.wac_scopes.specs.Contents.{IsRoot};
 ghost use Rattle.wac_scopes.specs.Scoped.{value_index};
 ghost use Rattle.wac_encode.specs.Written.{WritesFor, IsOfFunc};
 ghost use Rattle.wac_root.specs.Importing.{ImportsHeldFunc, EndsWithImport, IsImportRefused};
-ghost use Rattle.wac_encode.specs.Listing.{NeededBy, lists_plain};
-ghost use Rattle.wac_root.specs.Importing.{is_importable as importable, listed_definition, listed_definitions, AddsHeldInterface, IsInterfaceAt, IsInstanceRefused, ImportsHeld, WritesImport, WritesTypesOf, IsItemNotImported, ImportsIfThere, WritesImportIfThere, ImportsOneMore};
+ghost use Rattle.wac_encode.specs.Listing.{lists_plain};
+ghost use Rattle.wac_root.specs.Importing.{is_importable as importable, ImportsHeld, WritesImport, WritesTypesOf, IsItemNotImported, ImportsIfThere, WritesImportIfThere, ImportsOneMore};
 
 use crate::root::RootEncoder;
-use std::alloc::AllocError;
 use wac_binary::{ComponentValType, listed_law};
 use wac_collection::{
-    DefinedTypeId, FuncTypeId, InterfaceId, ItemKind, Named, PrimitiveType, Text, Type, ValueType,
+    DefinedTypeId, FuncTypeId, InterfaceId, ItemKind, PrimitiveType, Type, ValueType,
 };
 use wac_scopes::{EncodeFault, Scope, WriteFault, alias_law, instance_law, step_law, still_law};
 
@@ -176,62 +175,6 @@ impl<'a> RootEncoder<'a> {
         let index = self.func(root, func)?;
         let import = root.import_func(name, index)?;
         Ok(import)
-    }
-
-    /// Writes an interface as an instance type, where it is not written yet, behind the aliases of what its items are made of and an instance
-    /// lists, and answers its type index.
-    fn instance(&self, root: &mut Scope, interface: InterfaceId) -> Result<u32, EncodeFault>
-        requires held { HasInterface self.now.types.now interface }
-        requires plain { lists_plain self.now.types.now interface ≡ true }
-        ensures written { WritesFor self.now.types.now 0 (NeededBy self.now.types.now (kind.Instance interface)) root.old root.new }
-        ensures adds { IfOk result (AddsHeldInterface self.now.types.now root.old root.new interface) }
-        ensures recorded { IfOk result (IsInterfaceAt self.now.types.now root.old root.new interface) }
-        ensures fault { IsInstanceRefused self.now.types.now interface root.old result }
-    {
-        step_law();
-        still_law();
-        if let Some(index) = root.interface(interface) {
-            return Ok(index);
-        }
-        self.alias_listed(root, interface)?;
-        let Some(declarations) = self.interface_type(root, interface)? else {
-            unreachable!()
-        };
-        let index = root.define_instance(interface, &declarations)?;
-        Ok(index)
-    }
-
-    /// The definition that a type item lists, aliases followed to the end.
-    fn listed_definition(&self, item: ItemKind) -> Option<DefinedTypeId>
-        ensures { result ≡ listed_definition self.now.types.now item }
-    {
-        match item {
-            ItemKind::TypeItem(Type::Value(value)) => match self.types.resolve_value_type(value) {
-                ValueType::Defined(id) => Some(id),
-                _ => None,
-            },
-            _ => None,
-        }
-    }
-
-    /// The definitions that items list, each with its name, the last first.
-    fn listed_definitions(
-        &self,
-        items: &Named<ItemKind>,
-    ) -> Result<Vec<(DefinedTypeId, Text)>, AllocError>
-        ensures { IfOk result (λ ds. ds.items ≡ listed_definitions self.now.types.now items.now) }
-    {
-        let alloc = self.types.allocator();
-        let mut definitions = Vec::new(alloc);
-        let mut i = items.len();
-        while i > 0 {
-            i -= 1;
-            let (name, item) = items.entry_at(i);
-            if let Some(id) = self.listed_definition(*item) {
-                definitions.push((id, Text::new(alloc, name)?))?;
-            }
-        }
-        Ok(definitions)
     }
 
     /// Writes an interface as an instance type, and imports an instance of it, from which the definitions that it lists are aliased from then

@@ -1,13 +1,18 @@
 //! The writer of a component's root, and what it takes from the writer of types.
 
-ghost use Rattle.std.specs.Prelude.{◌≡◌, ◌↔◌, true, false, None, Ok as Answers, IfOk, OnOk};
+ghost use Rattle.std.specs.Prelude.{◌≡◌, ◌↔◌, true, false, None, Ok as Answers, IfOk};
+ghost use Rattle.wac_shapes.specs.declared.component.ItemKind.TheVariants as kind;
 ghost use Rattle.wac_collection.specs.Collection.{HasFunc, HasInterface, holds_value};
 ghost use Rattle.wac_collection.specs.Aliases.{value_resolved};
 ghost use Rattle.wac_encode.specs.Written.{IsByRecord, PartOf, WritesFor, IsRefused, IsOfFunc, AddsHeldFunc, IsFuncAt, IsFuncRefused};
-ghost use Rattle.wac_encode.specs.Listing.{AliasesFor, AllAliased, IsAliasRefused, SaysIfThere, WritesIfThere, lists_plain, IsInterfaceRefused};
+ghost use Rattle.wac_encode.specs.Listing.{NeededBy, SaysIfThere, WritesIfThere, lists_plain, IsInterfaceRefused};
+ghost use Rattle.wac_encode.specs.Instances.{AddsHeldInterface, IsInterfaceAt, IsInstanceRefused, listed_definitions};
 
+use std::alloc::AllocError;
 use wac_binary::{ComponentValType, InstanceType};
-use wac_collection::{FuncTypeId, InterfaceId, Types, ValueType};
+use wac_collection::{
+    DefinedTypeId, FuncTypeId, InterfaceId, ItemKind, Named, Text, Types, ValueType,
+};
 use wac_encode::TypeEncoder;
 use wac_scopes::{EncodeFault, Scope};
 
@@ -66,18 +71,30 @@ impl<'a> RootEncoder<'a> {
         TypeEncoder::new(self.types).interface_type(around, interface)
     }
 
-    /// Aliases what an interface's items are made of, as `TypeEncoder::alias_listed` does.
-    pub(crate) fn alias_listed(
+    /// Writes a held interface where it is not written yet, as `TypeEncoder::instance` does.
+    pub(crate) fn instance(
         &self,
         scope: &mut Scope,
         interface: InterfaceId,
-    ) -> Result<(), EncodeFault>
-        requires { HasInterface self.now.types.now interface }
-        ensures written { AliasesFor self.now.types.now interface scope.old scope.new }
-        ensures all { OnOk result (AllAliased self.now.types.now interface scope.old scope.new) }
-        ensures fault { IsAliasRefused self.now.types.now interface scope.new result }
+    ) -> Result<u32, EncodeFault>
+        requires held { HasInterface self.now.types.now interface }
+        requires plain { lists_plain self.now.types.now interface ≡ true }
+        ensures written { WritesFor self.now.types.now 0 (NeededBy self.now.types.now (kind.Instance interface)) scope.old scope.new }
+        ensures adds { IfOk result (AddsHeldInterface self.now.types.now scope.old scope.new interface) }
+        ensures recorded { IfOk result (IsInterfaceAt self.now.types.now scope.old scope.new interface) }
+        ensures fault { IsInstanceRefused self.now.types.now interface scope.old result }
     {
-        TypeEncoder::new(self.types).alias_listed(scope, interface)
+        TypeEncoder::new(self.types).instance(scope, interface)
+    }
+
+    /// The definitions that items list, as `TypeEncoder::listed_definitions` answers them.
+    pub(crate) fn listed_definitions(
+        &self,
+        items: &Named<ItemKind>,
+    ) -> Result<Vec<(DefinedTypeId, Text)>, AllocError>
+        ensures { IfOk result (λ ds. ds.items ≡ listed_definitions self.now.types.now items.now) }
+    {
+        TypeEncoder::new(self.types).listed_definitions(items)
     }
 
     /// Whether all items of an interface are of sorts that are written.

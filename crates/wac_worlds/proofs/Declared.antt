@@ -1,5 +1,5 @@
 -- Items are declared on a side of a component type.
-use Rattle.std.specs.Prelude.{ℕ, ◌<◌, ◌≤◌, ◌≡◌, true, false, List, [], ◌∷◌, length, Option, Some, None, Err, slice_get}
+use Rattle.std.specs.Prelude.{ℕ, ◌≤◌, ◌≡◌, true, List, [], ◌∷◌, Option, Some, None, Err, slice_get}
 use Rattle.std.proofs.Common.{refl, ap, ◌∙◌, sym, subst, arith, inl, inr}
 use Rattle.wac_shapes.specs.Name.{Name, option_case}
 use Rattle.wac_shapes.specs.Named.{NoNameTwice}
@@ -12,7 +12,6 @@ use Rattle.wac_shapes.specs.declared.component.PrimitiveType.{PrimitiveType}
 use Rattle.wac_shapes.specs.declared.component.ValueType.{ValueType}
 use Rattle.wac_shapes.specs.declared.component.ValueType.TheVariants as val
 use Rattle.wac_shapes.specs.declared.component.«Type».TheVariants as ty
-use Rattle.wac_shapes.specs.declared.component.«Type».{«Type» as AnyType}
 use Rattle.wac_shapes.specs.declared.component.ItemKind.{ItemKind}
 use Rattle.wac_collection.specs.Tree.{Side, imported, exported, Tree, primitive, type_equal, function_item, instance_item}
 use Rattle.wac_collection.specs.Collection.{Collection, IsWellFormed, item_at}
@@ -23,7 +22,7 @@ use Rattle.wac_binary.specs.declared.sorts.Description.TheVariants as e
 use Rattle.wac_binary.specs.declared.sorts.Sort.TheVariants as sort
 use Rattle.wac_binary.specs.HasMeaning.{IsFree}
 use Rattle.wac_binary.specs.Indexes.{space}
-use Rattle.wac_binary.specs.Items.{TypeDef, value_def, primitive_def, instance_def, Decl, decls}
+use Rattle.wac_binary.specs.Items.{TypeDef, value_def, primitive_def}
 use Rattle.wac_binary.specs.Unfold.{Scope as Env, with_item}
 use Rattle.wac_scopes.specs.declared.encodable.Encodable.{Encodable}
 use Rattle.wac_scopes.specs.declared.encodable.Encodable.TheVariants.{Builder, Instance, Component}
@@ -34,20 +33,22 @@ use Rattle.wac_scopes.specs.Contents.{and_type, count, ContentFits}
 use Rattle.wac_scopes.specs.Sides.{IsOpenComponent, and_declared, declared_at, DeclaresType, DeclaresValue, DeclaresFunction, DeclaresListing}
 use Rattle.wac_stacks.specs.Scopes.{Open, Stack, env, envs}
 use Rattle.wac_stacks.specs.Good.{Keeps, Kept, Onward}
-use Rattle.wac_stacks.specs.Laws.{Follows, IsItsEnd, IsRecorded, StaysOnward}
+use Rattle.wac_stacks.specs.Laws.{IsItsEnd, IsRecorded, StaysOnward}
 use Rattle.wac_stacks.specs.Listed.{IsNewName, Lists, on_side, other}
 use Rattle.wac_stacks.specs.Instances.{ExportsEnd}
-use Rattle.wac_scopes.specs.Scoped.{type_index, value_index, named_at, opened, HasToo, IsAt, AddsPrimitive, AddsInstance, AlsoLists, WritesUnlessTooLarge, FitsUnlessTooLarge, listing}
+use Rattle.wac_scopes.specs.Scoped.{type_index, value_index, named_at, opened, HasToo, AddsPrimitive, AlsoLists, WritesUnlessTooLarge, FitsUnlessTooLarge, listing}
 use Rattle.wac_stacks.proofs.Values.{primitive-held}
-use Rattle.wac_encode.specs.Written.{GoesOn, PartOf, WritesFor, with_types, IsOfFunc, AddsHeldFunc, IsFuncAt, IsRefused, IsFuncRefused, NewType, defined}
-use Rattle.wac_encode.specs.Listing.{IsOfItems, AliasesFor, AllAliased, IsAliasRefused, SaysInterface, WritesInterface, NeededBy, SameRecords, PrimitiveDoesNotFit, IsInterfaceRefused, lists_plain}
-use Rattle.wac_worlds.specs.Declaring.{AddsHeldInterface, IsInterfaceFrom, IsInterfaceAt, IsInstanceRefused, IsDeclaredAs, IsNamedFrom, NamesDefinition, DeclaresItem, IsItemRefused, listed_definitions}
+use Rattle.wac_encode.specs.Written.{GoesOn, PartOf, WritesFor, with_types, IsOfFunc, AddsHeldFunc, IsFuncAt, IsRefused, IsFuncRefused, NewType}
+use Rattle.wac_encode.specs.Listing.{NeededBy, SameRecords, PrimitiveDoesNotFit, lists_plain}
+use Rattle.wac_encode.specs.Instances.{AddsHeldInterface, IsInterfaceAt, IsInstanceRefused, listed_definitions}
+use Rattle.wac_worlds.specs.Declaring.{IsDeclaredAs, IsNamedFrom, NamesDefinition, DeclaresItem, IsItemRefused}
 use Rattle.wac_worlds.specs.Steps.{DeclaresHeld}
-use Rattle.wac_worlds.proofs.Aliasing.{exports-listed}
+use Rattle.wac_encode.proofs.Aliasing.{exports-listed}
 use Rattle.wac_encode.proofs.Answering.{as-it-was}
 use Rattle.wac_encode.proofs.Listed.{held-at-end, value-is-type}
+use Rattle.wac_encode.proofs.InstanceTypes.{aliases-for}
 use Rattle.wac_encode.proofs.Naming.{primitive-behind, primitive-described, definition-behind, definition-described}
-use Rattle.wac_encode.proofs.Stacks.{writes-none, writes-recorded, writes-as, writes-then}
+use Rattle.wac_encode.proofs.Stacks.{writes-none}
 use Rattle.wac_scopes.proofs.ScopedLaws.{recorded-at}
 
 keeps-both : (a b d : Env) → Keeps a b → Keeps b d → Keeps a d
@@ -111,54 +112,6 @@ instance-declared ends c wf side old now new n i it j k es found plain once list
     let a = adds m ms o os g in
     let l = declares c m ms o os a.0 a.3.0.0 (free-after c m ms side old now o os n a.3.0 free) a.2 a.3.1 (λ p x at. exports-listed ends c wf m i it (declared_at a.0 side n) found plain once a.1 p x (subst (λ (ds : List (DefinedTypeId × Name)). slice_get ds p ≡ Some x) listed at)) in
     (instance_item a.0, a.1, declares-after c m ms side old now new o os n (instance_item a.0) a.3.0 l.0)
-
--- the instance type, which is recorded
-
-pub adds-interface : (c : Collection) (old now : Scope) (i : InterfaceId) (ds : List Decl) (k : ℕ) → SaysInterface c old i ds → AddsInstance old now i ds k → AddsHeldInterface c old now i k
-adds-interface c old now i ds k says adds m ms o os g = let s = says m ms o os g in (s.0, s.1, s.2, adds c m ms o os s.0 s.1 s.2 s.3)
-
-pub instance-behind : (c : Collection) → Follows → StaysOnward → (old now : Scope) (i : InterfaceId) (ds : List Decl) (k : ℕ) → i.0 < length c.interfaces → type_index old (ty.Interface i) ≡ None → AddsHeldInterface c old now i k → HasToo old (ty.Interface i) k now → k ≡ count (space sort.«Type») old.content → now.content ≡ and_type old.content (instance_def (decls ds)) → WritesFor c 0 (NeededBy c (kind.Instance i)) old now
-instance-behind c follows stays old now i ds k held none adds too index is =
-    writes-recorded c follows 0 (NeededBy c (kind.Instance i)) old old now (ty.Interface i) k (defined (instance_def (decls ds))) (writes-none c stays (NeededBy c (kind.Instance i)) old old (as-it-was old)) refl tt tt held none (λ m ms o os g. (adds m ms o os g).3.0) too (λ d same. let both : false ≡ true = same in cc) index is
-
--- behind the aliases of what its items are made of
-
-of-interface : (c : Collection) (i : InterfaceId) (a : AnyType) → IsOfItems c i a → NeededBy c (kind.Instance i) a
-of-interface c i (ty.Value v) h = h
-of-interface c i a h = absurd h
-
-aliases-for : (c : Collection) (i : InterfaceId) (old now : Scope) → AliasesFor c i old now → WritesFor c 0 (NeededBy c (kind.Instance i)) old now
-aliases-for c i old now w = writes-as c 0 (IsOfItems c i) (NeededBy c (kind.Instance i)) old now (of-interface c i) w.written
-
-pub still-unwritten : (c : Collection) (i : InterfaceId) (old now : Scope) → AliasesFor c i old now → type_index old (ty.Interface i) ≡ None → type_index now (ty.Interface i) ≡ None
-still-unwritten c i old now w none = by_index (type_index now (ty.Interface i)) refl
-  where
-    by_index : (o : Option ℕ) → type_index now (ty.Interface i) ≡ o → type_index now (ty.Interface i) ≡ None
-    by_index None is = is
-    by_index (Some k) is = absurd (w.written.needed (ty.Interface i) k none is)
-
-pub written-behind : (c : Collection) → Follows → (i : InterfaceId) (old now new : Scope) → AliasesFor c i old now → WritesFor c 0 (NeededBy c (kind.Instance i)) now new → WritesFor c 0 (NeededBy c (kind.Instance i)) old new
-written-behind c follows i old now new w u = writes-then c follows 0 0 (NeededBy c (kind.Instance i)) (NeededBy c (kind.Instance i)) old now new (aliases-for c i old now w) u (NeededBy c (kind.Instance i)) (λ a h. h) (λ a h. h)
-
-pub adds-behind : (c : Collection) → Follows → (i : InterfaceId) (old now new : Scope) (k : ℕ) → AliasesFor c i old now → AddsHeldInterface c now new i k → AddsHeldInterface c old new i k
-adds-behind c follows i old now new k w adds m ms o os g =
-    let first = w.written.onward m ms o os g in
-    let r = adds m ms o os first.0 in
-    (r.0, r.1, r.2, (follows c (m ∷ ms) (opened old o ∷ os) (opened now o ∷ os) (opened new o ∷ os) first r.3.0, r.3.1))
-
-pub none-else : (o : Option ℕ) → ((k : ℕ) → o ≡ Some k → ⊥) → o ≡ None
-none-else None h = refl
-none-else (Some k) h = absurd (h k refl)
-
--- where it is recorded
-pub interface-there : (c : Collection) → StaysOnward → (s : Scope) (i : InterfaceId) (k : ℕ) → IsAt s (ty.Interface i) k → AddsHeldInterface c s s i k
-interface-there c stays s i k at m ms o os g = let r = at c m ms o os g in (r.0, r.1, r.2, (stays c (m ∷ ms) (opened s o ∷ os) g, r.3))
-
-pub interface-at-there : (c : Collection) (s : Scope) (i : InterfaceId) (k : ℕ) → type_index s (ty.Interface i) ≡ Some k → IsInterfaceAt c s s i k
-interface-at-there c s i k at = subst (λ (o : Option ℕ). IsInterfaceFrom o c s s i k) (sym at) (refl, refl)
-
-pub ends-with-interface : (c : Collection) (old around now : Scope) (i : InterfaceId) (ds : List Decl) (k : ℕ) → type_index old (ty.Interface i) ≡ None → AliasesFor c i old around → AllAliased c i old around → WritesInterface c around i ds → now.content ≡ and_type around.content (instance_def (decls ds)) → HasToo around (ty.Interface i) k now → k ≡ count (space sort.«Type») around.content → IsInterfaceAt c old now i k
-ends-with-interface c old around now i ds k none aliases all written appended too index = subst (λ (o : Option ℕ). IsInterfaceFrom o c old now i k) (sym none) (record { around = around; aliases = aliases; all = all; declarations = ds; written = written; appended = appended; recorded = too; index = index })
 
 -- the component type stays open
 
@@ -265,21 +218,6 @@ pub function-refused : (A B : Type 0) (c : Collection) (side : Side) (old now : 
 function-refused A B c side old now n g (fault.Write h) w refused = refused
 function-refused A B c side old now n g fault.TooLarge w refused = record { scope = now; types = 0; behind = w; large = inl refused }
 function-refused A B c side old now n g fault.OutOfMemory w refused = tt
-
-pub aliases-refused : (A B : Type 0) (c : Collection) (i : InterfaceId) (old s : Scope) (f : EncodeFault) → AliasesFor c i old s → IsAliasRefused {A = A} c i s (Err f) → IsInstanceRefused {A = B} c i old (Err f)
-aliases-refused A B c i old s (fault.Write g) w h = absurd h
-aliases-refused A B c i old s fault.TooLarge w h = (s, w, inl h)
-aliases-refused A B c i old s fault.OutOfMemory w h = tt
-
-pub interface-refused : (A B : Type 0) (c : Collection) (i : InterfaceId) (old s : Scope) (f : EncodeFault) → AliasesFor c i old s → IsInterfaceRefused {A = A} c s i (Err f) → IsInstanceRefused {A = B} c i old (Err f)
-interface-refused A B c i old s (fault.Write g) w h = (s, w, h)
-interface-refused A B c i old s fault.TooLarge w h = (s, w, inr (inl h))
-interface-refused A B c i old s fault.OutOfMemory w h = tt
-
-pub instance-too-large : (A B : Type 0) (c : Collection) (i : InterfaceId) (old s : Scope) (ds : List Decl) (f : EncodeFault) → AliasesFor c i old s → WritesInterface c s i ds → FitsUnlessTooLarge {A = A} (Err f) (ContentFits (and_type s.content (instance_def (decls ds)))) → IsInstanceRefused {A = B} c i old (Err f)
-instance-too-large A B c i old s ds (fault.Write g) w written h = absurd h
-instance-too-large A B c i old s ds fault.TooLarge w written h = (s, w, inr (inr (ds, written, h)))
-instance-too-large A B c i old s ds fault.OutOfMemory w written h = tt
 
 pub instance-refused : (A B : Type 0) (c : Collection) (side : Side) (old : Scope) (n : Name) (i : InterfaceId) (f : EncodeFault) → IsInstanceRefused {A = A} c i old (Err f) → IsItemRefused {A = B} c side n (kind.Instance i) old (Err f)
 instance-refused A B c side old n i (fault.Write g) h = h

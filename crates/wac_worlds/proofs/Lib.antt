@@ -1,4 +1,3 @@
-pub mod Aliasing
 pub mod Declared
 pub mod Ordered
 pub mod Together

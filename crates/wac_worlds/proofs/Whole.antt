@@ -30,7 +30,8 @@ use Rattle.wac_scopes.specs.Scoped.{recorded_type, opened, place}
 use Rattle.wac_stacks.proofs.Moved.{ap2}
 use Rattle.wac_worlds.specs.Declaring.{is_declarable, are_declarable, declared_order, DeclaresItems, AreRefused}
 use Rattle.wac_worlds.specs.Steps.{DeclaresNothing, DeclaresAll, CanDeclare}
-use Rattle.wac_worlds.specs.Worlds.{uses_nothing, is_plain, is_plain_world, SaysWorld, IsBare, WritesWorld, IsWorldRefused}
+use Rattle.wac_encode.specs.Instances.{IsBare}
+use Rattle.wac_worlds.specs.Worlds.{uses_nothing, is_plain, is_plain_world, SaysWorld, WritesWorld, IsWorldRefused}
 
 -- whether all items can be declared
 

@@ -4,7 +4,6 @@ use Rattle.wac_shapes.specs.Name.{Name, option_case}
 use Rattle.wac_shapes.specs.declared.component.UsedType.{UsedType}
 use Rattle.wac_shapes.specs.declared.component.World.{World}
 use Rattle.wac_shapes.specs.declared.component.WorldId.{WorldId}
-use Rattle.wac_shapes.specs.declared.component.«Type».{«Type» as AnyType}
 use Rattle.wac_shapes.specs.declared.component.«Type».TheVariants as ty
 use Rattle.wac_collection.specs.Tree.{imported, exported, Tree}
 use Rattle.wac_collection.specs.Collection.{Collection, item_at}
@@ -15,10 +14,10 @@ use Rattle.wac_scopes.specs.declared.encodable.Encodable.TheVariants.{Component}
 use Rattle.wac_scopes.specs.declared.fault.EncodeFault.{EncodeFault}
 use Rattle.wac_scopes.specs.declared.fault.EncodeFault.TheVariants as fault
 use Rattle.wac_scopes.specs.declared.scope.Scope.{Scope}
-use Rattle.wac_scopes.specs.Scoped.{type_index, listing}
 use Rattle.wac_stacks.specs.Scopes.{Open, Stack, next_type, with_def}
 use Rattle.wac_stacks.specs.Good.{IsHeld, Good}
 use Rattle.wac_stacks.specs.Laws.{Adds}
+use Rattle.wac_encode.specs.Instances.{IsBare}
 use Rattle.wac_worlds.specs.Declaring.{are_declarable, declared_order, DeclaresItems, IsStopped}
 
 -- whether a world uses no types of interfaces
@@ -37,12 +36,6 @@ is_plain_world c w = option_case (item_at c.worlds w.0) true (λ x. is_plain c x
 abbrev pub SaysWorld : Collection → WorldId → List Decl → Type 0
 SaysWorld c w ds = (m : Bindings) (ms : List Bindings) (o : Open) (os : Stack) → Good c (m ∷ ms) (o ∷ os)
     → (t : Tree) × IsHeld c m (ty.World w) t × IsComponent t × Adds c (m ∷ ms) (o ∷ os) (with_def (component_def (decls ds)) o ∷ os) (next_type o) t
-
--- a component type in which nothing is written and nothing recorded; so nothing has a name in it
-pub record IsBare (s : Scope) : Type 0 where
-  pub content : s.content ≡ Component []
-  pub types : (a : AnyType) → type_index s a ≡ None
-  pub listed : (a : AnyType) → listing s a ≡ None
 
 -- the declarations are the imports of the world, then its exports
 pub record WritesWorld (c : Collection) (w : WorldId) (ds : List Decl) : Type 0 where

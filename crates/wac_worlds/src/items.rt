@@ -1,6 +1,6 @@
 //! The writer of what a world declares, item by item.
 
-ghost use Rattle.std.specs.Prelude.{◌≡◌, ◌<◌, true, Some, None, ℕ, List, IfOk, OnOk, length, slice_get};
+ghost use Rattle.std.specs.Prelude.{◌≡◌, ◌<◌, true, Some, None, ℕ, List, OnOk, length, slice_get};
 ghost use Rattle.wac_shapes.specs.Named.{NoNameTwice, named_pairs};
 ghost use Rattle.wac_shapes.specs.declared.component.ItemKind.{ItemKind as AnyItem};
 ghost use Rattle.wac_shapes.specs.declared.component.ItemKind.TheVariants as kind;
@@ -10,17 +10,15 @@ ghost use Rattle.wac_collection.specs.Collection.{HasFunc, HasInterface, holds_v
 ghost use Rattle.wac_collection.specs.Aliases.{value_resolved};
 ghost use Rattle.wac_scopes.specs.Scoped.{value_index};
 ghost use Rattle.wac_scopes.specs.Sides.{side_of, IsOpenComponent};
-ghost use Rattle.wac_encode.specs.Written.{WritesFor};
-ghost use Rattle.wac_encode.specs.Listing.{NeededBy, lists_plain};
-ghost use Rattle.wac_worlds.specs.Declaring.{listed_definition, listed_definitions, declared_order, AddsHeldInterface, IsInterfaceAt, IsInstanceRefused, DeclaresItem, DeclaresItems, IsItemRefused, AreRefused};
+ghost use Rattle.wac_encode.specs.Listing.{lists_plain};
+ghost use Rattle.wac_worlds.specs.Declaring.{declared_order, DeclaresItem, DeclaresItems, IsItemRefused, AreRefused};
 ghost use Rattle.wac_worlds.specs.Steps.{DeclaresHeld, DeclaresAll, CanDeclare};
 
 use crate::order::in_order;
 use crate::worlds::WorldEncoder;
-use std::alloc::AllocError;
 use wac_binary::ComponentValType;
 use wac_collection::{
-    DefinedTypeId, FuncTypeId, InterfaceId, ItemKind, Named, PrimitiveType, Text, Type, ValueType,
+    DefinedTypeId, FuncTypeId, InterfaceId, ItemKind, Named, PrimitiveType, Type, ValueType,
 };
 use wac_scopes::{
     EncodeFault, Scope, Side, WriteFault, alias_law, instance_law, listing_law, step_law, still_law,
@@ -150,62 +148,6 @@ impl<'a> WorldEncoder<'a> {
         let index = self.func(scope, func)?;
         scope.declare_func(side, name, index)?;
         Ok(())
-    }
-
-    /// Writes an interface as an instance type, where it is not written yet, behind the aliases of what its items are made of and an instance
-    /// lists, and answers its type index.
-    fn instance(&self, scope: &mut Scope, interface: InterfaceId) -> Result<u32, EncodeFault>
-        requires held { HasInterface self.now.types.now interface }
-        requires plain { lists_plain self.now.types.now interface ≡ true }
-        ensures written { OnOk result (WritesFor self.now.types.now 0 (NeededBy self.now.types.now (kind.Instance interface)) scope.old scope.new) }
-        ensures adds { IfOk result (AddsHeldInterface self.now.types.now scope.old scope.new interface) }
-        ensures recorded { IfOk result (IsInterfaceAt self.now.types.now scope.old scope.new interface) }
-        ensures fault { IsInstanceRefused self.now.types.now interface scope.old result }
-    {
-        step_law();
-        still_law();
-        if let Some(index) = scope.interface(interface) {
-            return Ok(index);
-        }
-        self.alias_listed(scope, interface)?;
-        let Some(declarations) = self.interface_type(scope, interface)? else {
-            unreachable!()
-        };
-        let index = scope.define_instance(interface, &declarations)?;
-        Ok(index)
-    }
-
-    /// The definition that a type item lists, aliases followed to the end.
-    fn listed_definition(&self, item: ItemKind) -> Option<DefinedTypeId>
-        ensures { result ≡ listed_definition self.now.types.now item }
-    {
-        match item {
-            ItemKind::TypeItem(Type::Value(value)) => match self.types.resolve_value_type(value) {
-                ValueType::Defined(id) => Some(id),
-                _ => None,
-            },
-            _ => None,
-        }
-    }
-
-    /// The definitions that items list, each with its name, the last first.
-    fn listed_definitions(
-        &self,
-        items: &Named<ItemKind>,
-    ) -> Result<Vec<(DefinedTypeId, Text)>, AllocError>
-        ensures { IfOk result (λ ds. ds.items ≡ listed_definitions self.now.types.now items.now) }
-    {
-        let alloc = self.types.allocator();
-        let mut definitions = Vec::new(alloc);
-        let mut i = items.len();
-        while i > 0 {
-            i -= 1;
-            let (name, item) = items.entry_at(i);
-            if let Some(id) = self.listed_definition(*item) {
-                definitions.push((id, Text::new(alloc, name)?))?;
-            }
-        }
-        Ok(definitions)
     }
 
     /// Writes an interface as an instance type, and declares an instance of it, from which the definitions that it lists are aliased from

@@ -9,7 +9,7 @@ use Rattle.wac_root.proofs.Importing.{interface-type-imported, interface-type-wr
 use Rattle.wac_root.proofs.root.RootEncoder.import_interface_type.Goals as goal
 
 pub import_type-requires : goal.import_type-requires
-import_type-requires c = still-root c.args.root.now.content c.instance.new.root.content c.in_ok-index.ensures.written.types c.in_ok-index.ensures.written.appended c.requires.root
+import_type-requires c = still-root c.args.root.now.content c.instance.new.scope.content c.in_ok-index.ensures.written.types c.in_ok-index.ensures.written.appended c.requires.root
 
 pub returns-in_err-index-clause-refused : goal.returns-in_err-index-clause-refused
 returns-in_err-index-clause-refused c =
@@ -24,17 +24,17 @@ returns-in_err-index-clause-fault c =
 pub returns-in_err-import-clause-refused : goal.returns-in_err-import-clause-refused
 returns-in_err-import-clause-refused c =
     let p = err_from_is_err_and c.from_residual-in_err-import.result c.from_residual-in_err-import.ensures.1 in
-    rw p.1 (types-of c.args.self.now.types.now (kind.TypeItem (ty.Interface c.args.interface)) 0 c.args.root.now c.instance.new.root c.import_type.new.self c.in_ok-index.ensures.written c.in_err-import.ensures.refused)
+    rw p.1 (types-of c.args.self.now.types.now (kind.TypeItem (ty.Interface c.args.interface)) 0 c.args.root.now c.instance.new.scope c.import_type.new.self c.in_ok-index.ensures.written c.in_err-import.ensures.refused)
 
 pub returns-in_err-import-clause-fault : goal.returns-in_err-import-clause-fault
 returns-in_err-import-clause-fault c =
     let t = c.args.self.now.types.now in
     let p = err_from_is_err_and c.from_residual-in_err-import.result c.from_residual-in_err-import.ensures.1 in
-    rw (p.1, p.2) (import-too-large ℕ ℕ t c.args.root.now c.instance.new.root c.args.name.now (kind.TypeItem (ty.Interface c.args.interface)) 0 (e.Equal c.in_ok-index.index) c.in_err-import.field-0.0 c.in_ok-index.ensures.written c.in_ok-index.ensures.recorded
+    rw (p.1, p.2) (import-too-large ℕ ℕ t c.args.root.now c.instance.new.scope c.args.name.now (kind.TypeItem (ty.Interface c.args.interface)) 0 (e.Equal c.in_ok-index.index) c.in_err-import.field-0.0 c.in_ok-index.ensures.written c.in_ok-index.ensures.recorded
     (exactly-so ℕ _ c.in_err-import.field-0.0 c.in_err-import.ensures.too_large))
 
 pub returns-clause-imports : goal.returns-clause-imports
-returns-clause-imports c = interface-type-imported c.listed_law.ensures.imports c.args.self.now.types.now c.step_law.ensures.follows c.step_law.ensures.is_its_tree c.args.root.now c.instance.new.root c.import_type.new.self c.args.name.now c.args.interface c.in_ok-index.index c.in_ok-import.import c.in_ok-index.ensures.written c.in_ok-index.ensures.adds c.in_ok-import.ensures.stands
+returns-clause-imports c = interface-type-imported c.listed_law.ensures.imports c.args.self.now.types.now c.step_law.ensures.follows c.step_law.ensures.is_its_tree c.args.root.now c.instance.new.scope c.import_type.new.self c.args.name.now c.args.interface c.in_ok-index.index c.in_ok-import.import c.in_ok-index.ensures.written c.in_ok-index.ensures.adds c.in_ok-import.ensures.stands
 
 pub returns-clause-wrote : goal.returns-clause-wrote
-returns-clause-wrote c = interface-type-written c.args.self.now.types.now c.args.root.now c.instance.new.root c.import_type.new.self c.args.name.now c.args.interface c.in_ok-index.index c.in_ok-import.import c.in_ok-index.ensures.written c.in_ok-index.ensures.recorded c.in_ok-import.ensures.appended c.in_ok-import.ensures.index
+returns-clause-wrote c = interface-type-written c.args.self.now.types.now c.args.root.now c.instance.new.scope c.import_type.new.self c.args.name.now c.args.interface c.in_ok-index.index c.in_ok-import.import c.in_ok-index.ensures.written c.in_ok-index.ensures.recorded c.in_ok-import.ensures.appended c.in_ok-import.ensures.index

@@ -1,6 +1,6 @@
 use Rattle.std.proofs.Common.{◌≡◌, ◌≤◌, length, drop}
-use Rattle.wac_worlds.specs.Declaring.{listed_definitions}
-use Rattle.wac_worlds.proofs.worlds.WorldEncoder.listed_definitions.Given as goal
+use Rattle.wac_encode.specs.Instances.{listed_definitions}
+use Rattle.wac_encode.proofs.encoder.TypeEncoder.listed_definitions.Given as goal
 
 abbrev pub invariant-loop-i : goal.invariant-loop-i
 invariant-loop-i l = record {

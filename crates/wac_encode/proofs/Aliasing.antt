@@ -1,4 +1,4 @@
--- What an imported instance lists.
+-- What an instance lists.
 use Rattle.std.specs.Prelude.{ℕ, zero, suc, ◌≡◌, ◌⊎◌, true, false, List, [], ◌∷◌, ◌++◌, Option, Some, None, slice_get, length}
 use Rattle.std.proofs.Common.{refl, ap, ◌∙◌, sym, inl, inr, drop}
 use Rattle.std.proofs.lemmas.List.{append-nil}
@@ -22,7 +22,7 @@ use Rattle.wac_collection.specs.Collection.{Collection, IsWellFormed, item_at}
 use Rattle.wac_binary.specs.Unfold.{Bound}
 use Rattle.wac_stacks.specs.Good.{IsHeld}
 use Rattle.wac_stacks.specs.Instances.{Exports, ExportsEnd, BindsInstance}
-use Rattle.wac_root.specs.Importing.{definition_of, listed_definition, listed_definitions}
+use Rattle.wac_encode.specs.Instances.{definition_of, listed_definition, listed_definitions}
 use Rattle.wac_encode.specs.Listing.{are_plain, lists_plain}
 use Rattle.wac_encode.proofs.Plain.{plain-of, held-items}
 

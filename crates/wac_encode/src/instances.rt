@@ -1,0 +1,74 @@
+//! The instance type of an interface in a scope, and the definitions that an instance lists.
+
+ghost use Rattle.std.specs.Prelude.{◌≡◌, true, IfOk};
+ghost use Rattle.wac_shapes.specs.declared.component.ItemKind.TheVariants as kind;
+ghost use Rattle.wac_collection.specs.Collection.{HasInterface};
+ghost use Rattle.wac_encode.specs.Written.{WritesFor};
+ghost use Rattle.wac_encode.specs.Listing.{NeededBy, lists_plain};
+ghost use Rattle.wac_encode.specs.Instances.{AddsHeldInterface, IsInterfaceAt, IsInstanceRefused, listed_definition, listed_definitions};
+
+use crate::encoder::TypeEncoder;
+use std::alloc::AllocError;
+use wac_collection::{DefinedTypeId, InterfaceId, ItemKind, Named, Text, Type, ValueType};
+use wac_scopes::{EncodeFault, Scope, step_law, still_law};
+
+impl<'a> TypeEncoder<'a> {
+    /// Writes a held interface as an instance type, where it is not written yet, behind the aliases of what its items are made of and an
+    /// instance lists, and answers its type index.
+    ///
+    /// Answers what `alias_listed` and `interface_type` answer where they refuse the interface, and else `TooLarge` where the instance type
+    /// does not fit and `OutOfMemory` where memory was refused. Then some of the aliases may stand.
+    pub fn instance(&self, scope: &mut Scope, interface: InterfaceId) -> Result<u32, EncodeFault>
+        requires held { HasInterface self.now.types.now interface }
+        requires plain { lists_plain self.now.types.now interface ≡ true }
+        ensures written { WritesFor self.now.types.now 0 (NeededBy self.now.types.now (kind.Instance interface)) scope.old scope.new }
+        ensures adds { IfOk result (AddsHeldInterface self.now.types.now scope.old scope.new interface) }
+        ensures recorded { IfOk result (IsInterfaceAt self.now.types.now scope.old scope.new interface) }
+        ensures fault { IsInstanceRefused self.now.types.now interface scope.old result }
+    {
+        step_law();
+        still_law();
+        if let Some(index) = scope.interface(interface) {
+            return Ok(index);
+        }
+        self.alias_listed(scope, interface)?;
+        let Some(declarations) = self.interface_type(scope, interface)? else {
+            unreachable!()
+        };
+        let index = scope.define_instance(interface, &declarations)?;
+        Ok(index)
+    }
+
+    /// The definition that a type item lists, aliases followed to the end.
+    fn listed_definition(&self, item: ItemKind) -> Option<DefinedTypeId>
+        ensures { result ≡ listed_definition self.now.types.now item }
+    {
+        match item {
+            ItemKind::TypeItem(Type::Value(value)) => match self.types.resolve_value_type(value) {
+                ValueType::Defined(id) => Some(id),
+                _ => None,
+            },
+            _ => None,
+        }
+    }
+
+    /// The definitions that items list, each with its name, the last first.
+    pub fn listed_definitions(
+        &self,
+        items: &Named<ItemKind>,
+    ) -> Result<Vec<(DefinedTypeId, Text)>, AllocError>
+        ensures { IfOk result (λ ds. ds.items ≡ listed_definitions self.now.types.now items.now) }
+    {
+        let alloc = self.types.allocator();
+        let mut definitions = Vec::new(alloc);
+        let mut i = items.len();
+        while i > 0 {
+            i -= 1;
+            let (name, item) = items.entry_at(i);
+            if let Some(id) = self.listed_definition(*item) {
+                definitions.push((id, Text::new(alloc, name)?))?;
+            }
+        }
+        Ok(definitions)
+    }
+}
