@@ -71,3 +71,8 @@ found_export a v id n name position kind had h = by n.item_kind refl there.0 whe
   by (item.Component w) is some = cc
   by (item.Module m) is some = cc
   by (item.Value v) is some = cc
+
+-- what holds whatever a node is
+pub whatever : {A : Type 0} (o : Option A) (P : Type 0) → P → IfSome o (λ x. P)
+whatever None P p = tt
+whatever (Some a) P p = p

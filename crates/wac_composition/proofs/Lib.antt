@@ -3,5 +3,6 @@ pub mod DefiningLemmas
 mod CheckedLemmas
 mod FittingLemmas
 mod NothingLemmas
+mod PositionLemmas
 pub mod ConflictFreeLemmas
 pub mod WantedAskedLemmas

@@ -7,7 +7,6 @@ ghost use Rattle.wac_collection.specs.Collection.{holds_type};
 ghost use Rattle.wac_shapes.specs.Kinds.{kind_type};
 ghost use Rattle.wac_shapes.specs.declared.component.ItemKind.{ItemKind as AnItem};
 ghost use Rattle.wac_fields.specs.Arguments.{HasImport, Fits, CanBeGiven, IsInstantiation};
-ghost use Rattle.wac_composition.specs.Fitting.{FitsImport};
 ghost use Rattle.wac_edges.specs.Edge.{argument_edge as labelled};
 ghost use Rattle.wac_nodes.specs.Graph.{node_at, IsArgumentOf, IsUnsatisfied};
 ghost use Rattle.wac_nodes.specs.Nodes.{IsInstantiationAt, satisfied_at, node_of};
@@ -74,7 +73,7 @@ impl CompositionGraph {
     /// Tests that no node is given for an import.
     ///
     /// Answers `ArgumentAlreadyPassed` where one is, and `OutOfMemory` where memory ran out.
-    fn check_unset(
+    pub(crate) fn check_unset(
         &self,
         instantiation: NodeId,
         name: &str,
@@ -190,34 +189,6 @@ fn is_same(a: ItemKind, b: ItemKind) -> bool
         (ItemKind::Func(a), ItemKind::Func(b)) => a == b,
         (ItemKind::Instance(a), ItemKind::Instance(b)) => a == b,
         _ => false,
-    }
-}
-
-/// Gives a node as the argument of this name to an instantiation, as `set_instantiation_argument` does, where the node's item is
-/// known to be a subtype of the import: no types are compared.
-pub fn set_fitting_argument(
-    graph: &mut CompositionGraph,
-    instantiation: NodeId,
-    argument_name: &str,
-    argument: NodeId,
-) -> Result<(), InstantiationArgumentError>
-    requires instantiation { IsSome (node_at graph.old instantiation) }
-    requires argument { IsSome (node_at graph.old argument) }
-    requires fits { FitsImport graph.old instantiation argument_name.now argument }
-    ensures { SetsArgument graph.old instantiation argument_name.now argument result graph.new }
-{
-    let (position, _) = graph.import_of(instantiation, argument_name)?;
-    match graph.check_unset(instantiation, argument_name, position) {
-        Ok(()) => {
-            graph.give_argument(instantiation, position, argument)?;
-            Ok(())
-        }
-        Err(e) => {
-            if graph.is_given(instantiation, position, argument) {
-                return Ok(());
-            }
-            Err(e)
-        }
     }
 }
 

@@ -1,10 +1,11 @@
 //! The composition graph.
-ghost use Rattle.std.specs.Prelude.{◌≡◌, ◌==◌, ◌↔◌, ℕ, true, false, IsSome, IsTrue, is_some, IfOk, IfSome, IfNone, Some, None, Ok, Err, length, slice_get};
+ghost use Rattle.std.specs.Prelude.{◌≡◌, ◌==◌, ◌↔◌, ℕ, true, false, IsSome, IsTrue, is_some, IfOk, OnErr, IfSome, IfNone, Some, None, Ok, Err, length, slice_get};
 ghost use Rattle.std.specs.Option.{option_map};
 ghost use Rattle.slab.specs.Slab.{ContainsKey, get, with_value};
 ghost use Rattle.semver.specs.Identifiers.{parts_of};
 ghost use Rattle.wac_collection.specs.Collection.{IsWellFormed, holds_type, resource_mentions, func_mentions, defined_mentions, with_resource, with_func, with_defined, with_interface, with_world, with_module};
 ghost use Rattle.wac_shapes.specs.Kinds.{kind_type};
+ghost use Rattle.wac_shapes.specs.Name.{Name as AName};
 ghost use Rattle.wac_collection.specs.Package.{HoldsPackage, with_instance_of, package_fault};
 ghost use Rattle.wac_collection.specs.Uses.{AnswersBy, mention_fault, interface_fault, world_fault};
 ghost use Rattle.wac_subtyping.specs.TreeLaws.{GrowthKeepsTrees};
@@ -15,6 +16,7 @@ ghost use Rattle.wac_nodes.specs.Sound.{IsSound};
 ghost use Rattle.wac_nodes.specs.Steps.{IsEmpty, Adds, Registers, Imports, Instantiates, Aliases, SetsArgument, UnsetsArgument, SetsName, Exports, Unexports};
 ghost use Rattle.wac_nodes.specs.TakenOut.{without, taken_at};
 ghost use Rattle.wac_nodes.specs.Nodes.{names_of};
+ghost use Rattle.wac_composition.specs.Fitting.{HasExport};
 
 use indexmap::IndexMap;
 use semver::Version;
@@ -318,6 +320,24 @@ impl CompositionGraph {
         ensures there { IfOk result (λ alias. IsSome (node_at self.new alias)) }
     {
         let (position, item_kind) = self.export_of(instance, export)?;
+        let alias = self.alias_at(instance, position, item_kind)?;
+        Ok(alias)
+    }
+
+    /// The alias of an instance's export at a position, which is of this kind: the one that is there, or a new one. Where memory runs
+    /// out nothing has changed.
+    pub(crate) fn alias_at(
+        &mut self,
+        instance: NodeId,
+        position: usize,
+        item_kind: ItemKind,
+    ) -> Result<NodeId, AllocError>
+        requires instance { IsSome (node_at self.old instance) }
+        requires export { (name : AName) × HasExport self.old instance name position item_kind }
+        ensures step { IfOk result (λ alias. (name : AName) → HasExport self.old instance name position item_kind → Aliases self.old instance name (Ok alias) self.new) }
+        ensures kept { OnErr result (self.new ≡ self.old) }
+        ensures there { IfOk result (λ alias. IsSome (node_at self.new alias)) }
+    {
         self.types.law();
         let package = self.nodes[instance.0].package;
         if let Some(alias) = self.edges.alias(instance, position) {

@@ -18,13 +18,14 @@ mod imports;
 mod iterators;
 mod lookups;
 mod merging;
+mod positions;
 mod removing;
 mod validating;
 mod wanted;
 mod writing;
 
-pub use arguments::set_fitting_argument;
 pub use arguments_of::Arguments;
 pub use graph::CompositionGraph;
 pub use imports::Imports;
 pub use iterators::{NodeIds, Nodes, Packages};
+pub use positions::{alias_export_at, set_argument_at};

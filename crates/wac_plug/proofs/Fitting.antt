@@ -3,7 +3,7 @@ use Rattle.std.proofs.Common.{◌≡◌, ℕ, zero, suc, List, [], ◌∷◌, sl
 use Rattle.std.specs.Prelude.{IsSomeAnd}
 use Rattle.std.specs.Option.{option_and_then}
 use Rattle.std.specs.FinSet as set
-use Rattle.wac_shapes.specs.Name.{Name}
+use Rattle.wac_shapes.specs.Name.{Name, option_case}
 use Rattle.wac_shapes.specs.Named.{named_at, NoNameTwice}
 use Rattle.wac_shapes.specs.declared.component.InterfaceId.{InterfaceId}
 use Rattle.wac_shapes.specs.declared.component.ItemKind.{ItemKind}
@@ -19,10 +19,13 @@ use Rattle.wac_nodes.specs.Graph.{Graph, GraphNode, node_at, package_at, package
 use Rattle.wac_nodes.specs.Sound.{IsSound, Joins}
 use Rattle.wac_nodes.specs.Steps.{AddsNode, Instantiates, instance_node, Aliases, AliasesOf, GivesAlias, export_named, import_named}
 use Rattle.wac_nodes.proofs.JoinLemmas.{imports_of_package as listed-imports}
-use Rattle.wac_composition.specs.Fitting.{FitsImport}
+use Rattle.wac_composition.specs.Fitting.{FitsImport, HasNamed}
 use Rattle.wac_plug.specs.Matching.{Match, AreMatches, AreMatchesOf, imports_of_package, exports_of_package}
 use Rattle.wac_plug.specs.Plugging.{Keeps}
-use Rattle.wac_plug.specs.Fitting.{Fits, FitsNodes, AllFit, IsNodeOf}
+use Rattle.wac_plug.specs.Fitting.{Fits, FitsNodes, AllFit, IsNodeOf, IsPair, node_imports}
+use Rattle.wac_plug.specs.Pairs.{match_at, matches_at, AreWithin}
+use Rattle.wac_plug.specs.declared.matching.Pair.{Pair}
+use Rattle.wac_plug.proofs.Pairs.{entry-there, named-there, match-there}
 use Rattle.wac_plug.proofs.Steps.{some-of, instance-keeps, keeps-trans}
 use Rattle.wac_plug.proofs.Each.{imports-of, exports-of}
 use Rattle.wac_plug.proofs.Wired.{insert-same, new-edge}
@@ -123,6 +126,42 @@ module _ (old mid : Graph) (plug : PackageId) (node : NodeId) (sound : IsSound o
       subst (λ o. IfSome o (λ q. IfSome (node_at now socket) (λ s. Fits now.types (exports_of now q) (imports_of now s) m))) (sym n.1)
       (subst (λ o. IfSome o (λ s. Fits now.types (exports_of now n.0) (imports_of now s) m)) (sym t.1) taken)
 
+  -- the match at a pair of positions stands there at the nodes
+  pub pair-at : (now : Graph) (socket : NodeId) (ps : List Pair) (i : ℕ) (p : Pair) → IsSome (node_at old socket) → Keeps mid now → NoNameTwice (exports_of_package old plug) → NoNameTwice (node_imports old socket)
+      → AreWithin (exports_of_package old plug) (node_imports old socket) ps → AllFit old plug socket (matches_at (exports_of_package old plug) (node_imports old socket) ps) → slice_get ps i ≡ Some p
+      → IsPair now node socket p (match_at (exports_of_package old plug) (node_imports old socket) p)
+  pair-at now socket ps i q socket_there kept named asked within fit at =
+      let exports = exports_of_package old plug in
+      let imports = node_imports old socket in
+      let m = match_at exports imports q in
+      let first = instance-keeps old mid plug node there made in
+      let all = keeps-trans old mid now first.0 kept in
+      let s = some-of (node_at old socket) socket_there in
+      let t = some-of (node_at now socket) (all.nodes socket socket_there) in
+      let n = some-of (node_at now node) (kept.nodes node first.1) in
+      let item = (kept.same node (instance_node plug p.0) n.0 node-is n.1).0 in
+      let e = entry-there exports q.export (within i q at).0 in
+      let f = entry-there imports q.import (within i q at).1 in
+      let listed : imports_of now t.0 ≡ imports = imports-same old now s.0 t.0 all.types all.slots (all.same socket s.0 t.0 s.1 t.1).1 ∙ ap (λ o. option_case o [] (λ k. imports_of old k)) (sym s.1) in
+      let exported : export_named now n.0 m.export ≡ Some (q.export, e.0.1) = ap (named_at 0 m.export) (exports-now now n.0 all.types item) ∙ named-there exports q.export e.0 named e.1 in
+      let imported : import_named now t.0 m.import ≡ Some (q.import, f.0.1) = ap (named_at 0 m.import) listed ∙ named-there imports q.import f.0 asked f.1 in
+      record {
+        given = e.0.1;
+        taken = f.0.1;
+        exported = subst (λ o. IfSome o (λ k. IsSome (interface_of k.item_kind) × (export_named now k m.export ≡ Some (q.export, e.0.1)))) (sym n.1) (ap (λ k. is_some (interface_of k)) item, exported);
+        imported = subst (λ o. IfSome o (λ k. import_named now k m.import ≡ Some (q.import, f.0.1))) (sym t.1) imported;
+        fits = fits-nodes now socket (matches_at exports imports ps) i m socket_there kept fit (match-there exports imports ps i q at);
+      }
+
+-- an import stands where it stood
+pub named-kept : (old now : Graph) (socket : NodeId) (name : Name) (position : ℕ) (kind : ItemKind) → IsSome (node_at old socket) → Keeps old now → HasNamed old socket name position kind → HasNamed now socket name position kind
+named-kept old now socket name position kind there kept has =
+    let s = some-of (node_at old socket) there in
+    let t = some-of (node_at now socket) (kept.nodes socket there) in
+    let was : import_named old s.0 name ≡ Some (position, kind) = subst (λ o. IfSome o (λ k. import_named old k name ≡ Some (position, kind))) s.1 has in
+    let is : import_named now t.0 name ≡ Some (position, kind) = ap (named_at 0 name) (imports-same old now s.0 t.0 kept.types kept.slots (kept.same socket s.0 t.0 s.1 t.1).1) ∙ was in
+    subst (λ o. IfSome o (λ k. import_named now k name ≡ Some (position, kind))) (sym t.1) is
+
 some-and : {A : Type 0} (o : Option A) (P : A → Type 0) → IsSomeAnd o P → (a : A) × (o ≡ Some a) × P a
 some-and None P h = absurd h
 some-and (Some a) P h = (a, refl, h)
@@ -181,3 +220,13 @@ node-made old new id n there made =
     let step : AddsNode old n (instance_node id p.0) new = subst (λ o. IfSome o (λ p. AddsNode old n (instance_node id p) new)) p.1 made in
     let is : node_at new n ≡ Some (instance_node id p.0) = ap (λ (k : Graph). node_at k n) step.2 ∙ insert-same old.nodes n.0 (instance_node id p.0) in
     subst (λ o. IsSomeAnd o (λ n. n.owner ≡ Some id)) (sym is) refl
+
+-- the lists in which matches were found are those of the plug's package and of the socket's node
+pub found-exports : (g : Graph) (t : Collection) (plug : PackageId) (p : PackageParts) (v : WorldId) → t ≡ g.types → package_at g plug ≡ Some p → v ≡ p.world → world_exports t v ≡ exports_of_package g plug
+found-exports g t plug p v types at is = ap (λ (c : Collection). world_exports c v) types ∙ ap (world_exports g.types) is ∙ sym (exports-of g plug p at)
+
+pub found-imports : (g : Graph) (t : Collection) (socket : PackageId) (q : PackageParts) (w : WorldId) (node : NodeId) → t ≡ g.types → package_at g socket ≡ Some q → w ≡ q.world → IsNodeOf g node socket → world_imports t w ≡ node_imports g node
+found-imports g t socket q w node types at is of =
+    let n = some-and (node_at g node) (λ n. n.owner ≡ Some socket) of in
+    ap (λ (c : Collection). world_imports c w) types ∙ ap (world_imports g.types) is ∙ sym (imports-of g socket q at)
+    ∙ sym (imports-of-node g n.0 socket (ap is_some at) n.2) ∙ ap (λ o. option_case o [] (λ k. imports_of g k)) (sym n.1)

@@ -1,19 +1,20 @@
 -- Matches by their positions: what they name, one by one.
-use Rattle.std.proofs.Common.{◌≡◌, ℕ, zero, suc, ◌==◌, ◌≤◌, true, false, List, [], ◌∷◌, ◌++◌, length, slice_get, refl, ap, ◌∙◌, sym, subst, Some, Ok, arith}
+use Rattle.std.proofs.Common.{◌≡◌, ℕ, zero, suc, ◌==◌, ◌≤◌, ◌+◌, true, false, List, [], ◌∷◌, ◌++◌, ◌<◌, length, slice_get, refl, ap, ◌∙◌, sym, subst, Option, Some, Ok, arith}
 use Rattle.std.specs.Option.{option_map}
 use Rattle.std.proofs.lemmas.Bool.{false≢true}
 use Rattle.std.proofs.lemmas.List.{length-map, map-append}
 use Rattle.std.proofs.lemmas.Option.{slice_get-map}
 use Rattle.wac_shapes.specs.Name.{Name}
+use Rattle.wac_shapes.specs.Named.{named_at, NoNameTwice}
+use Rattle.wac_shapes.proofs.Names.{named_at-at}
 use Rattle.wac_shapes.specs.declared.component.ItemKind.{ItemKind}
-use Rattle.wac_shapes.specs.declared.component.WorldId.{WorldId}
-use Rattle.wac_collection.specs.Collection.{Collection, world_imports, world_exports}
+use Rattle.wac_collection.specs.Collection.{Collection}
 use Rattle.wac_subtyping.specs.Subtype.{IsSubtype}
 use Rattle.wac_edges.specs.declared.node.NodeId.{NodeId}
 use Rattle.wac_nodes.specs.declared.packages.PackageId.{PackageId}
 use Rattle.wac_nodes.specs.Graph.{Graph}
 use Rattle.wac_plug.specs.declared.matching.Pair.{Pair}
-use Rattle.wac_plug.specs.Matching.{Match, IsTarget, IsMatch}
+use Rattle.wac_plug.specs.Matching.{IsTarget, IsMatch}
 use Rattle.wac_plug.specs.Pairs.{name_at, match_at, matches_at, IsWithin, AreWithin}
 use Rattle.wac_plug.specs.Plugging.{PlugsIn}
 
@@ -58,25 +59,26 @@ module _ (exports imports : List (Name × ItemKind)) where
   plugs-none plug socket g [] h = (refl, refl)
   plugs-none plug socket g (p ∷ ps) h = absurd (false≢true (sym (not-zero (length ps)) ∙ h))
 
-module _ (old now : Collection) (plug socket : WorldId) (same : now ≡ old) where
-  -- the match at positions in the worlds of a graph whose types are the same
-  pub match-read : (ps : List Pair) (i : ℕ) (p : Pair) (m : Match) → slice_get ps i ≡ Some p → m ≡ match_at (world_exports now plug) (world_imports now socket) p → slice_get (matches_at (world_exports old plug) (world_imports old socket) ps) i ≡ Some m
-  match-read ps i p m at is =
-      let f : Pair → Match = match_at (world_exports old plug) (world_imports old socket) in
-      let here : match_at (world_exports old plug) (world_imports old socket) p ≡ m = ap (λ c. match_at (world_exports c plug) (world_imports c socket) p) (sym same) ∙ sym is in
-      slice_get-map f ps i ∙ ap (option_map f) at ∙ ap (λ (n : Match). Some n) here
+-- the match at positions
+pub match-there : (exports imports : List (Name × ItemKind)) (ps : List Pair) (i : ℕ) (p : Pair) → slice_get ps i ≡ Some p → slice_get (matches_at exports imports ps) i ≡ Some (match_at exports imports p)
+match-there exports imports ps i p at = slice_get-map (match_at exports imports) ps i ∙ ap (option_map (match_at exports imports)) at
 
-  pub match-there : (ps : List Pair) (i : ℕ) (p : Pair) → slice_get ps i ≡ Some p → slice_get (matches_at (world_exports old plug) (world_imports old socket) ps) i ≡ Some (match_at (world_exports old plug) (world_imports old socket) p)
-  match-there ps i p at =
-      let f : Pair → Match = match_at (world_exports old plug) (world_imports old socket) in
-      slice_get-map f ps i ∙ ap (option_map f) at
+-- what stands at a position of a list that names nothing twice is found there by its name
+pub entry-there : (es : List (Name × ItemKind)) (i : ℕ) → i < length es → (e : Name × ItemKind) × (slice_get es i ≡ Some e)
+entry-there [] i h = absurd (omega (arith, h))
+entry-there (e ∷ es) zero h = (e, refl)
+entry-there (e ∷ es) (suc i) h = entry-there es i (omega (arith, h))
 
-  pub within-read : (ps : List Pair) (i : ℕ) (p : Pair) → slice_get ps i ≡ Some p → AreWithin (world_exports old plug) (world_imports old socket) ps → IsWithin (world_exports now plug) (world_imports now socket) p
-  within-read ps i p at are = subst (λ c. IsWithin (world_exports c plug) (world_imports c socket) p) (sym same) (are i p at)
+pub named-there : (es : List (Name × ItemKind)) (i : ℕ) (e : Name × ItemKind) → NoNameTwice es → slice_get es i ≡ Some e → named_at 0 (name_at es i) es ≡ Some (i, e.1)
+named-there es i e once at =
+    let z : 0 + i ≡ i = omega arith in
+    ap (λ (n : Name). named_at 0 n es) (name-there es i e at) ∙ named_at-at es 0 i e.0 e.1 once at ∙ ap (λ (k : ℕ). some_at k) z where
+      some_at : ℕ → Option (ℕ × ItemKind)
+      some_at k = Some (k, e.1)
 
-  pub named-same : (ps qs : List Pair) → ps ≡ qs → matches_at (world_exports old plug) (world_imports old socket) ps ≡ matches_at (world_exports now plug) (world_imports now socket) qs
-  named-same ps qs is = ap (λ c. matches_at (world_exports c plug) (world_imports c socket) ps) (sym same) ∙ ap (matches_at (world_exports now plug) (world_imports now socket)) is
+-- the same pairs in the same lists
+pub same-matches : (exports es imports is : List (Name × ItemKind)) (ps qs : List Pair) → ps ≡ qs → es ≡ exports → is ≡ imports → matches_at exports imports ps ≡ matches_at es is qs
+same-matches exports es imports is ps qs p e i = ap (matches_at exports imports) p ∙ ap (λ l. matches_at l imports qs) (sym e) ∙ ap (λ l. matches_at es l qs) (sym i)
 
-  pub within-same : (ps qs : List Pair) → ps ≡ qs → AreWithin (world_exports now plug) (world_imports now socket) qs → AreWithin (world_exports old plug) (world_imports old socket) ps
-  within-same ps qs is are =
-      subst (AreWithin (world_exports old plug) (world_imports old socket)) (sym is) (subst (λ c. AreWithin (world_exports c plug) (world_imports c socket) qs) same are)
+pub same-within : (exports es imports is : List (Name × ItemKind)) (ps qs : List Pair) → ps ≡ qs → es ≡ exports → is ≡ imports → AreWithin es is qs → AreWithin exports imports ps
+same-within exports es imports is ps qs p e i are = subst (AreWithin exports imports) (sym p) (subst (λ l. AreWithin exports l qs) i (subst (λ l. AreWithin l is qs) e are))

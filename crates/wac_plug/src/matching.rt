@@ -7,85 +7,18 @@ ghost use Rattle.wac_shapes.specs.Named.{NoNameTwice};
 ghost use Rattle.wac_shapes.specs.declared.component.ItemKind.{ItemKind as AnItem};
 ghost use Rattle.wac_shapes.specs.declared.component.«Type».TheVariants.{World as world_type};
 ghost use Rattle.wac_plug.specs.Matching.{IsTarget, IsMatch, HasNoMatch, AreMatches};
-ghost use Rattle.wac_plug.specs.Pairs.{name_at, match_at, matches_at, IsWithin, AreWithin};
+ghost use Rattle.wac_plug.specs.Pairs.{name_at, matches_at, AreWithin};
 ghost use Rattle.wac_plug.specs.Tracks.{track_key, first_at, PutsFirst, AreFirsts};
 
 use std::alloc::{AllocError, Global};
-use std::marker::Model;
 use wac_names::Track;
 use wac_types::{ItemKind, Named, ShapeError, SubtypeChecker, TypeFault, Types, WorldId};
 
 /// The positions of an export of a plug and of the import of the socket that it goes to, in their worlds.
 #[derive(Clone, Copy, Debug)]
 pub struct Pair {
-    export: usize,
-    import: usize,
-}
-
-/// An export of a plug, and the import of the socket that it goes to.
-#[derive(Drop)]
-pub struct Match {
-    export: String,
-    import: String,
-}
-
-impl Model for Match {
-    ghost use Rattle.std.specs.Prelude.{string_bytes};
-    ghost use Rattle.wac_plug.specs.Matching.{Match};
-
-    ghost Value = { Match };
-
-    ghost view = { λ m. record { export = string_bytes m.export; import = string_bytes m.import } };
-}
-
-impl Match {
-    /// A match of no names, to be read into.
-    pub fn new(alloc: Global) -> Match
-        ensures export { result.export ≡ [] }
-        ensures import { result.«import» ≡ [] }
-    {
-        Match {
-            export: String::new(alloc),
-            import: String::new(alloc),
-        }
-    }
-
-    /// Becomes the match of the export and of the import at these positions in the worlds of a plug and of a socket, in the room
-    /// that the names before took.
-    pub fn read(
-        &mut self,
-        types: &Types,
-        plug: WorldId,
-        socket: WorldId,
-        pair: &Pair,
-    ) -> Result<(), AllocError>
-        requires plug { holds_type types.now (world_type plug) ≡ true }
-        requires socket { holds_type types.now (world_type socket) ≡ true }
-        requires within { IsWithin (world_exports types.now plug) (world_imports types.now socket) pair.now }
-        ensures { OnOk result (self.new ≡ match_at (world_exports types.now plug) (world_imports types.now socket) pair.now) }
-    {
-        self.export.clear();
-        self.export
-            .push_str(types[plug].exports.name_at(pair.export))?;
-        self.import.clear();
-        self.import
-            .push_str(types[socket].imports.name_at(pair.import))?;
-        Ok(())
-    }
-
-    /// The name of the export.
-    pub fn export(&self) -> &str
-        ensures { result.now ≡ self.now.export }
-    {
-        self.export.as_str()
-    }
-
-    /// The name of the import.
-    pub fn import(&self) -> &str
-        ensures { result.now ≡ self.now.import }
-    {
-        self.import.as_str()
-    }
+    pub export: usize,
+    pub import: usize,
 }
 
 /// The text that names share exactly where they are on one track.

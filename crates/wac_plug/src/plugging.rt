@@ -40,7 +40,7 @@ fn plug_one(
     let exporting = graph[plug].ty();
     let importing = graph[socket].ty();
     let pairs = find_matches(graph.types(), exporting, importing, firsts)?;
-    plug_in(graph, plug, exporting, importing, node, &pairs)?;
+    plug_in(graph, plug, node, &pairs)?;
     Ok(!pairs.is_empty())
 }
 

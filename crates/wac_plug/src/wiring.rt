@@ -1,16 +1,17 @@
 //! What plugging adds to a graph.
 ghost use Rattle.std.specs.Prelude.{◌≡◌, true, IsSome, OnOk};
-ghost use Rattle.wac_collection.specs.Collection.{holds_type, world_imports, world_exports};
-ghost use Rattle.wac_shapes.specs.Named.{names_of};
+ghost use Rattle.wac_collection.specs.Collection.{holds_type, world_exports};
+ghost use Rattle.wac_shapes.specs.Named.{NoNameTwice, names_of};
 ghost use Rattle.wac_shapes.specs.declared.component.«Type».TheVariants.{World as world_type};
 ghost use Rattle.wac_nodes.specs.Graph.{node_at, package_at};
-ghost use Rattle.wac_plug.specs.Fitting.{FitsNodes, AllFit};
+ghost use Rattle.wac_plug.specs.Fitting.{AllFit, IsPair, node_imports};
+ghost use Rattle.wac_plug.specs.Matching.{Match, exports_of_package};
 ghost use Rattle.wac_plug.specs.Pairs.{matches_at, AreWithin};
 ghost use Rattle.wac_plug.specs.Plugging.{InOrder, Wires, PlugsIn, PassesOn, Keeps};
 
 use crate::errors::PlugError;
-use crate::matching::{Match, Pair};
-use wac_composition::{CompositionGraph, set_fitting_argument};
+use crate::matching::Pair;
+use wac_composition::{CompositionGraph, alias_export_at, set_argument_at};
 use wac_nodes::{NodeId, PackageId};
 use wac_types::WorldId;
 
@@ -19,37 +20,34 @@ fn wire(
     graph: &mut CompositionGraph,
     plug: NodeId,
     socket: NodeId,
-    found: &Match,
+    pair: Pair,
 ) -> Result<(), PlugError>
     requires plug { IsSome (node_at graph.old plug) }
     requires socket { IsSome (node_at graph.old socket) }
-    requires fits { FitsNodes graph.old plug socket found.now }
-    ensures step { Wires plug socket graph.old found.now result graph.new }
+    requires pair { (m : Match) × IsPair graph.old plug socket pair m }
+    ensures step { (m : Match) → IsPair graph.old plug socket pair m → Wires plug socket graph.old m result graph.new }
     ensures kept { OnOk result (Keeps graph.old graph.new) }
 {
-    let alias = graph.alias_instance_export(plug, found.export())?;
+    let alias = alias_export_at(graph, plug, pair.export)?;
     graph.law();
-    set_fitting_argument(graph, socket, found.import(), alias)?;
+    set_argument_at(graph, socket, pair.import, alias)?;
     Ok(())
 }
 
-/// Plugs in one plug by the matches of its world with that of the socket; without a match it is left out. The names of a
-/// match are copied when it is wired, since none can be borrowed while the graph grows.
+/// Plugs in one plug by the matches of its world with that of the socket; without a match it is left out.
 pub fn plug_in(
     graph: &mut CompositionGraph,
     plug: PackageId,
-    exporting: WorldId,
-    importing: WorldId,
     socket: NodeId,
     pairs: &[Pair],
 ) -> Result<(), PlugError>
     requires plug { IsSome (package_at graph.old plug) }
-    requires exporting { holds_type graph.old.types (world_type exporting) ≡ true }
-    requires importing { holds_type graph.old.types (world_type importing) ≡ true }
     requires socket { IsSome (node_at graph.old socket) }
-    requires within { AreWithin (world_exports graph.old.types exporting) (world_imports graph.old.types importing) pairs.now }
-    requires fit { AllFit graph.old plug socket (matches_at (world_exports graph.old.types exporting) (world_imports graph.old.types importing) pairs.now) }
-    ensures step { PlugsIn plug socket graph.old (matches_at (world_exports graph.old.types exporting) (world_imports graph.old.types importing) pairs.now) result graph.new }
+    requires within { AreWithin (exports_of_package graph.old plug) (node_imports graph.old socket) pairs.now }
+    requires fit { AllFit graph.old plug socket (matches_at (exports_of_package graph.old plug) (node_imports graph.old socket) pairs.now) }
+    requires named { NoNameTwice (exports_of_package graph.old plug) }
+    requires asked { NoNameTwice (node_imports graph.old socket) }
+    ensures step { PlugsIn plug socket graph.old (matches_at (exports_of_package graph.old plug) (node_imports graph.old socket) pairs.now) result graph.new }
     ensures kept { OnOk result (Keeps graph.old graph.new) }
 {
     if pairs.is_empty() {
@@ -57,10 +55,8 @@ pub fn plug_in(
     }
     graph.law();
     let node = graph.instantiate(plug)?;
-    let mut found = Match::new(graph.types().allocator());
     for i in 0..pairs.len() {
-        found.read(graph.types(), exporting, importing, &pairs[i])?;
-        wire(graph, node, socket, &found)?;
+        wire(graph, node, socket, pairs[i])?;
     }
     Ok(())
 }
