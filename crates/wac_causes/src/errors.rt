@@ -63,8 +63,8 @@ pub enum EncodeError {
     #[error("out of memory")]
     OutOfMemory,
     /// What is asked for has an item that is not imported so far, a definition is of a type that is not defined so far, or the options ask
-    /// for imported components. Imported so far are functions and value types that are made of no resource, instances of such, and core
-    /// modules; defined so far are value types and function types that are made of no resource, and interfaces of such items that
+    /// for imported components. Imported so far are functions and type items of value types and function types that are made of no
+    /// resource, instances that list such items and their types, and core modules; defined so far are value types and function types that are made of no resource, and interfaces of such items that
     /// have an id and use no other.
     #[error("the graph holds something that is not written yet")]
     NotYet,
