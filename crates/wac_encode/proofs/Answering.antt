@@ -21,7 +21,7 @@ use Rattle.wac_encode.specs.declared.task.Task.{Task}
 use Rattle.wac_listing.specs.Made.{MadeOf, itself, part}
 use Rattle.wac_encode.specs.Written.{IsHandle, PartOf, IsLargeFrom, LargeOne, IsRefused}
 use Rattle.wac_encode.specs.Tasks.{IsReady, IsNext, IsMissing, IsStepRefused, Did, passed, put_off, IsUnderWay}
-use Rattle.wac_encode.proofs.Saying.{zip-more}
+use Rattle.wac_encode.proofs.Saying.{zip-more, defined-more}
 use Rattle.wac_encode.proofs.Stacks.{writes-none, says-same}
 use Rattle.wac_encode.proofs.Stepping.{all-last}
 
@@ -62,6 +62,7 @@ large-still c now new d same h = subst (λ (l : Option Listed). IsLargeFrom l c 
       found = k.found;
       written = k.written;
       says = says-same c now new k.definition k.written same k.says;
+      recorded = defined-more c now new (λ a i at. same.types a ∙ at) k.definition k.written k.recorded;
       large = λ fits. k.large (subst (λ (x : Encodable). ContentFits (and_type x (value_def k.written))) same.content fits);
     }
     by_place (Some l) k = λ fits. k (subst (λ (x : Encodable). ContentFits (and_listed x l)) same.content fits)

@@ -5,7 +5,7 @@ use Rattle.std.specs.Borrow.{Bor}
 use Rattle.std.proofs.Common.{zero, suc, not, ◌&&◌, ◌==◌, refl, ap, ◌∙◌, sym, subst, take, add-one, append_assoc, arith}
 use Rattle.std.proofs.lemmas.List.{append-nil, length-map, map-append}
 use Rattle.std.proofs.lemmas.List.Sums.{sum_by-cons}
-use Rattle.std.proofs.lemmas.List.Sorted.{IsPermutation-refl, IsPermutation-sym, IsPermutation-trans, IsPermutation-cons, IsPermutation-middle, IsPermutation-append_left, IsPermutation-filter_both, Contains-permutation, sum_by-IsPermutation}
+use Rattle.std.proofs.lemmas.List.Sorted.{IsPermutation-refl, IsPermutation-sym, IsPermutation-trans, IsPermutation-cons, IsPermutation-middle, IsPermutation-append, IsPermutation-filter_both, Contains-permutation, sum_by-IsPermutation}
 use Rattle.std.proofs.lemmas.Option.{slice_get-get_or, get_or_from_slice_get, slice_get_within}
 use Rattle.wac_shapes.specs.Name.{Name, same_name, find_name}
 use Rattle.wac_shapes.specs.Named.{NoNameTwice, named_pairs}
@@ -13,9 +13,11 @@ use Rattle.wac_shapes.proofs.Names.{same_name-true, same_name-refl, find_positio
 use Rattle.wac_shapes.specs.declared.component.Interface.{Interface}
 use Rattle.wac_shapes.specs.declared.component.InterfaceId.{InterfaceId}
 use Rattle.wac_shapes.specs.declared.component.ItemKind.{ItemKind}
+use Rattle.wac_shapes.specs.declared.component.ItemKind.TheVariants as kind
+use Rattle.wac_shapes.specs.declared.component.«Type».TheVariants as ty
 use Rattle.wac_collection.specs.Collection.{Collection, item_at}
 use Rattle.wac_listing.specs.Order.{Takes, is_value_type, is_value_type_at, AreOrdered}
-use Rattle.wac_encode.specs.Listing.{IsOrder}
+use Rattle.wac_encode.specs.Listing.{is_type, is_other_type, IsOrder}
 
 -- how many entries have a name
 abbrev one_if : Bool → ℕ
@@ -98,11 +100,24 @@ pairs-length ps = length-map ps by_now
 abbrev pub Stand : List (Name × ItemKind) → ℕ → Name × ItemKind → Type 0
 Stand es p e = slice_get es p ≡ Some e
 
-abbrev pub no_type : Name × ItemKind → Bool
-no_type e = not (is_value_type e.1)
+abbrev value_item : Name × ItemKind → Bool
+value_item e = is_value_type e.1
 
-abbrev pub one_type : Name × ItemKind → Bool
-one_type e = is_value_type e.1
+abbrev no_value_item : Name × ItemKind → Bool
+no_value_item e = not (is_value_type e.1)
+
+abbrev type_item : Name × ItemKind → Bool
+type_item e = is_type e.1
+
+abbrev pub other_type_item : Name × ItemKind → Bool
+other_type_item e = is_other_type e.1
+
+abbrev pub no_type_item : Name × ItemKind → Bool
+no_type_item e = not (is_type e.1)
+
+-- the other type items, then those that are none
+abbrev pub rest_of : List (Name × ItemKind) → List (Name × ItemKind)
+rest_of es = filter other_type_item es ++ filter no_type_item es
 
 zip-push : {A B : Type 0} (R : A → B → Type 0) (xs : List A) (ys : List B) (x : A) (y : B) → AllZip R xs ys → R x y → AllZip R (xs ++ x ∷ []) (ys ++ y ∷ [])
 zip-push R [] [] x y zip r = (r, tt)
@@ -126,28 +141,70 @@ filter-push p (y ∷ xs) x = by_test (p y) (filter-push p xs x)
     by_test true rest = ap (λ (zs : List (Name × ItemKind)). y ∷ zs) rest
     by_test false rest = rest
 
-rest-taken : (es : List (Name × ItemKind)) (i : ℕ) (e : Name × ItemKind) → slice_get es i ≡ Some e → filter no_type (take (i + 1) es) ≡ filter no_type (take i es) ++ filter no_type (e ∷ [])
-rest-taken es i e at = ap (λ (j : ℕ). filter no_type (take j es)) (add-one i) ∙ ap (filter no_type) (take_at es i e at) ∙ filter-push no_type (take i es) e
+taken-more : (p : Name × ItemKind → Bool) (es : List (Name × ItemKind)) (i : ℕ) (e : Name × ItemKind) → slice_get es i ≡ Some e → filter p (take (i + 1) es) ≡ filter p (take i es) ++ filter p (e ∷ [])
+taken-more p es i e at = ap (λ (j : ℕ). filter p (take j es)) (add-one i) ∙ ap (filter p) (take_at es i e at) ∙ filter-push p (take i es) e
 
--- one more of the others, or a type item that is passed over
-pub rest-more : (es fs : List (Name × ItemKind)) (i : ℕ) (n : Bor (List ℕ)) (k : ItemKind) (old new : List (Bor (List ℕ) × ItemKind)) → slice_get es i ≡ Some (n.now, k) → is_value_type k ≡ false
-    → named_pairs old ≡ fs ++ filter no_type (take i es) → new ≡ old ++ (n, k) ∷ [] → named_pairs new ≡ fs ++ filter no_type (take (i + 1) es)
-rest-more es fs i n k old new at other before is =
-    ap named_pairs is ∙ map-append by_now old ((n, k) ∷ []) ∙ ap (λ (xs : List (Name × ItemKind)). xs ++ (n.now, k) ∷ []) before ∙ append_assoc fs (filter no_type (take i es)) ((n.now, k) ∷ [])
-    ∙ ap (λ (xs : List (Name × ItemKind)). fs ++ (filter no_type (take i es) ++ xs)) (sym (kept (is_value_type k) other)) ∙ ap (λ (xs : List (Name × ItemKind)). fs ++ xs) (sym (rest-taken es i (n.now, k) at))
+-- one more of a group, or an item that is passed over
+pub group-more : (p : Name × ItemKind → Bool) (es fs : List (Name × ItemKind)) (i : ℕ) (n : Bor (List ℕ)) (k : ItemKind) (old new : List (Bor (List ℕ) × ItemKind)) → slice_get es i ≡ Some (n.now, k) → p (n.now, k) ≡ true
+    → named_pairs old ≡ fs ++ filter p (take i es) → new ≡ old ++ (n, k) ∷ [] → named_pairs new ≡ fs ++ filter p (take (i + 1) es)
+group-more p es fs i n k old new at here before is =
+    ap named_pairs is ∙ map-append by_now old ((n, k) ∷ []) ∙ ap (λ (xs : List (Name × ItemKind)). xs ++ (n.now, k) ∷ []) before ∙ append_assoc fs (filter p (take i es)) ((n.now, k) ∷ [])
+    ∙ ap (λ (xs : List (Name × ItemKind)). fs ++ (filter p (take i es) ++ xs)) (sym (kept (p (n.now, k)) here)) ∙ ap (λ (xs : List (Name × ItemKind)). fs ++ xs) (sym (taken-more p es i (n.now, k) at))
   where
-    kept : (b : Bool) → b ≡ false → cond {A = List (Name × ItemKind)} (not b) ((n.now, k) ∷ []) [] ≡ (n.now, k) ∷ []
-    kept false e = refl
-    kept true e = cc
+    kept : (b : Bool) → b ≡ true → cond {A = List (Name × ItemKind)} b ((n.now, k) ∷ []) [] ≡ (n.now, k) ∷ []
+    kept true e = refl
+    kept false e = cc
 
-pub rest-passed : (es fs : List (Name × ItemKind)) (i : ℕ) (n : Bor (List ℕ)) (k : ItemKind) (old : List (Bor (List ℕ) × ItemKind)) → slice_get es i ≡ Some (n.now, k) → is_value_type k ≡ true
-    → named_pairs old ≡ fs ++ filter no_type (take i es) → named_pairs old ≡ fs ++ filter no_type (take (i + 1) es)
-rest-passed es fs i n k old at one before =
-    before ∙ sym (ap (λ (xs : List (Name × ItemKind)). fs ++ xs) (rest-taken es i (n.now, k) at ∙ ap (λ (xs : List (Name × ItemKind)). filter no_type (take i es) ++ xs) (passed (is_value_type k) one) ∙ append-nil (filter no_type (take i es))))
+pub group-passed : (p : Name × ItemKind → Bool) (es fs : List (Name × ItemKind)) (i : ℕ) (n : Bor (List ℕ)) (k : ItemKind) (old : List (Bor (List ℕ) × ItemKind)) → slice_get es i ≡ Some (n.now, k) → p (n.now, k) ≡ false
+    → named_pairs old ≡ fs ++ filter p (take i es) → named_pairs old ≡ fs ++ filter p (take (i + 1) es)
+group-passed p es fs i n k old at other before =
+    before ∙ sym (ap (λ (xs : List (Name × ItemKind)). fs ++ xs) (taken-more p es i (n.now, k) at ∙ ap (λ (xs : List (Name × ItemKind)). filter p (take i es) ++ xs) (passed (p (n.now, k)) other) ∙ append-nil (filter p (take i es))))
   where
-    passed : (b : Bool) → b ≡ true → cond {A = List (Name × ItemKind)} (not b) ((n.now, k) ∷ []) [] ≡ (let none : List (Name × ItemKind) = [] in none)
-    passed true e = refl
-    passed false e = cc
+    passed : (b : Bool) → b ≡ false → cond {A = List (Name × ItemKind)} b ((n.now, k) ∷ []) [] ≡ (let none : List (Name × ItemKind) = [] in none)
+    passed false e = refl
+    passed true e = cc
+
+-- the items that are no type items of value types are these two groups
+
+filter-twice : (p q r : Name × ItemKind → Bool) → ((e : Name × ItemKind) → (q e && p e) ≡ r e) → (es : List (Name × ItemKind)) → filter p (filter q es) ≡ filter r es
+filter-twice p q r same [] = refl
+filter-twice p q r same (e ∷ es) = by_test (q e) (same e) (filter-twice p q r same es)
+  where
+    by_test : (b : Bool) → (b && p e) ≡ r e → filter p (filter q es) ≡ filter r es → filter p (cond b (e ∷ filter q es) (filter q es)) ≡ cond (r e) (e ∷ filter r es) (filter r es)
+    by_test true is further = ap (λ (xs : List (Name × ItemKind)). cond (p e) (e ∷ xs) xs) further ∙ ap (λ (b : Bool). cond b (e ∷ filter r es) (filter r es)) is
+    by_test false is further = further ∙ ap (λ (b : Bool). cond b (e ∷ filter r es) (filter r es)) is
+
+other-types : (k : ItemKind) → (not (is_value_type k) && is_type k) ≡ is_other_type k
+other-types (kind.TypeItem (ty.Value v)) = refl
+other-types (kind.TypeItem (ty.Resource r)) = refl
+other-types (kind.TypeItem (ty.Func f)) = refl
+other-types (kind.TypeItem (ty.Interface i)) = refl
+other-types (kind.TypeItem (ty.World w)) = refl
+other-types (kind.TypeItem (ty.Module m)) = refl
+other-types (kind.Func f) = refl
+other-types (kind.Instance i) = refl
+other-types (kind.Component w) = refl
+other-types (kind.Module m) = refl
+other-types (kind.Value v) = refl
+
+no-types : (k : ItemKind) → (not (is_value_type k) && not (is_type k)) ≡ not (is_type k)
+no-types (kind.TypeItem (ty.Value v)) = refl
+no-types (kind.TypeItem (ty.Resource r)) = refl
+no-types (kind.TypeItem (ty.Func f)) = refl
+no-types (kind.TypeItem (ty.Interface i)) = refl
+no-types (kind.TypeItem (ty.World w)) = refl
+no-types (kind.TypeItem (ty.Module m)) = refl
+no-types (kind.Func f) = refl
+no-types (kind.Instance i) = refl
+no-types (kind.Component w) = refl
+no-types (kind.Module m) = refl
+no-types (kind.Value v) = refl
+
+rest-grouped : (es : List (Name × ItemKind)) → IsPermutation (filter no_value_item es) (rest_of es)
+rest-grouped es =
+    subst (λ (ys : List (Name × ItemKind)). IsPermutation (filter no_value_item es) (ys ++ filter no_type_item es)) (filter-twice type_item no_value_item other_type_item (λ e. other-types e.1) es)
+    (subst (λ (ys : List (Name × ItemKind)). IsPermutation (filter no_value_item es) (filter type_item (filter no_value_item es) ++ ys)) (filter-twice no_type_item no_value_item no_type_item (λ e. no-types e.1) es)
+    (IsPermutation-filter_both type_item no_type_item (λ e. refl) (filter no_value_item es)))
 
 -- the items at the positions that are left
 selected : (ℕ → Bool) → List (Name × ItemKind) → List (Name × ItemKind)
@@ -164,7 +221,7 @@ unfolding selected
 none-selected f [] none = refl
 none-selected f (e ∷ es) none = ap (λ (b : Bool). cond b (e ∷ selected (λ q. f (suc q)) es) (selected (λ q. f (suc q)) es)) (none 0) ∙ none-selected (λ q. f (suc q)) es (λ q. none (suc q))
 
-types-selected : (es : List (Name × ItemKind)) → selected (is_value_type_at es) es ≡ filter one_type es
+types-selected : (es : List (Name × ItemKind)) → selected (is_value_type_at es) es ≡ filter value_item es
 unfolding selected
 types-selected [] = refl
 types-selected (e ∷ es) = ap (λ (xs : List (Name × ItemKind)). cond (is_value_type e.1) (e ∷ xs) xs) (types-selected es)
@@ -218,16 +275,16 @@ taken-all c es all left (p ∷ ps) (x ∷ xs) takes zip =
     IsPermutation-trans (selected left es) (x ∷ selected (λ q. left q && not (q == p)) es) (x ∷ xs) (take-out left p takes.0.here es x zip.0)
     (IsPermutation-cons x (selected (λ q. left q && not (q == p)) es) xs (taken-all c es all (λ q. left q && not (q == p)) ps xs takes.1 zip.1))
 
-pub is-order : (c : Collection) (es : List (Name × ItemKind)) (ps : List ℕ) (xs order : List (Name × ItemKind)) → AreOrdered c es ps → AllZip (Stand es) ps xs → order ≡ xs ++ filter no_type es → IsOrder c es order
+pub is-order : (c : Collection) (es : List (Name × ItemKind)) (ps : List ℕ) (xs order : List (Name × ItemKind)) → AreOrdered c es ps → AllZip (Stand es) ps xs → order ≡ xs ++ rest_of es → IsOrder c es order
 is-order c es ps xs order ordered at is = record {
   positions = ps;
   ordered = ordered;
   types = xs;
   at = at;
   is = is;
-  permutation = subst (λ (ys : List (Name × ItemKind)). IsPermutation es ys) (sym is) (IsPermutation-trans es (filter one_type es ++ filter no_type es) (xs ++ filter no_type es)
-      (IsPermutation-filter_both one_type no_type (λ e. refl) es)
-      (IsPermutation-append_left (filter no_type es) (filter one_type es) xs (subst (λ (ys : List (Name × ItemKind)). IsPermutation ys xs) (types-selected es) (taken-all c es es (is_value_type_at es) ps xs ordered at))));
+  permutation = subst (λ (ys : List (Name × ItemKind)). IsPermutation es ys) (sym is) (IsPermutation-trans es (filter value_item es ++ filter no_value_item es) (xs ++ rest_of es)
+      (IsPermutation-filter_both value_item no_value_item (λ e. refl) es)
+      (IsPermutation-append (filter value_item es) xs (filter no_value_item es) (rest_of es) (subst (λ (ys : List (Name × ItemKind)). IsPermutation ys xs) (types-selected es) (taken-all c es es (is_value_type_at es) ps xs ordered at)) (rest-grouped es)));
 }
 
 -- each position that is taken is one of the list
@@ -240,13 +297,14 @@ taken-within c es left (q ∷ ps) takes few (suc i) p at = taken-within c es (λ
     first true b h = refl
     first false b h = cc
 
--- the items of the interface, ordered
-pub order-of : (c : Collection) (i : InterfaceId) (it : Interface) (ps : List ℕ) (xs order : List (Name × ItemKind)) → item_at c.interfaces i.0 ≡ Some it → ((x : Interface) → item_at c.interfaces i.0 ≡ Some x → AreOrdered c x.exports ps)
-    → AllZip (Stand it.exports) ps xs → order ≡ xs ++ filter no_type it.exports → (x : Interface) → item_at c.interfaces i.0 ≡ Some x → IsOrder c x.exports order
-order-of c i it ps xs order found ordered at is x also =
+-- the items of the interface, ordered: behind the type items of value types the one group, then the other
+pub order-of : (c : Collection) (i : InterfaceId) (it : Interface) (ps : List ℕ) (xs ys order : List (Name × ItemKind)) → item_at c.interfaces i.0 ≡ Some it → ((x : Interface) → item_at c.interfaces i.0 ≡ Some x → AreOrdered c x.exports ps)
+    → AllZip (Stand it.exports) ps xs → ys ≡ xs ++ filter other_type_item it.exports → order ≡ ys ++ filter no_type_item it.exports → (x : Interface) → item_at c.interfaces i.0 ≡ Some x → IsOrder c x.exports order
+order-of c i it ps xs ys order found ordered at types is x also =
     let both : Some it ≡ Some x = sym found ∙ also in
     let same : it ≡ x = cc in
-    subst (λ (y : Interface). IsOrder c y.exports order) same (is-order c it.exports ps xs order (ordered it found) at is)
+    let whole : order ≡ xs ++ rest_of it.exports = is ∙ ap (λ (zs : List (Name × ItemKind)). zs ++ filter no_type_item it.exports) types ∙ append_assoc xs (filter other_type_item it.exports) (filter no_type_item it.exports) in
+    subst (λ (y : Interface). IsOrder c y.exports order) same (is-order c it.exports ps xs order (ordered it found) at whole)
 
 pub type-within : (es : List (Name × ItemKind)) (p : ℕ) → is_value_type_at es p ≡ true → p < length es
 type-within [] p h = cc

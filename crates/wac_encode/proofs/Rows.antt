@@ -257,9 +257,9 @@ func-there c stays s f k at m ms o os g = let r = at c m ms o os g in (r.0, r.1,
 pub func-at-there : (c : Collection) (s : Scope) (f : FuncTypeId) (k : ℕ) → type_index s (ty.Func f) ≡ Some k → IsFuncAt c f s s k
 func-at-there c s f k at = subst (λ (o : Option ℕ). IsFuncFrom o c f s s k) (sym at) (refl, refl)
 
-pub put-refused : (A B : Type 0) (c : Collection) (old new : Scope) (f : FuncTypeId) (x : FuncType) (ys : List (Bor (List ℕ) × ComponentValType)) (y : Option ComponentValType) (e : EncodeFault) → item_at c.funcs f.0 ≡ Some x → AllZip (FieldSays c old) x.params ys → MaybeSays c old x.result y → IsAsBefore old new → FitsUnlessTooLarge {A = A} (Err e) (ContentFits (and_type old.content (func_def x.is_async (named ys) y))) → IsFuncRefused {A = B} c f new (Err e)
-put-refused A B c old new f x ys y (fault.Write g) at z r is h = absurd h
-put-refused A B c old new f x ys y fault.TooLarge at z r is h =
+pub put-refused : (A B : Type 0) (c : Collection) (old new : Scope) (f : FuncTypeId) (x : FuncType) (ys : List (Bor (List ℕ) × ComponentValType)) (y : Option ComponentValType) (e : EncodeFault) → item_at c.funcs f.0 ≡ Some x → AllZip (FieldSays c old) x.params ys → MaybeSays c old x.result y → IsFuncByRecord c old x (func_def x.is_async (named ys) y) → IsAsBefore old new → FitsUnlessTooLarge {A = A} (Err e) (ContentFits (and_type old.content (func_def x.is_async (named ys) y))) → IsFuncRefused {A = B} c f new (Err e)
+put-refused A B c old new f x ys y (fault.Write g) at z r recorded is h = absurd h
+put-refused A B c old new f x ys y fault.TooLarge at z r recorded is h =
     let written : TypeDef = func_def x.is_async (named ys) y in
     let says = func-says c old x x.is_async ys y refl z r in
     let d : FuncDoesNotFit c f new = record {
@@ -267,6 +267,7 @@ put-refused A B c old new f x ys y fault.TooLarge at z r is h =
       found = at;
       written = written;
       says = λ m ms o os. subst (λ (p : Open). Good c (m ∷ ms) (p ∷ os) → IsWrittenFunc c m (env p (envs os)) x written) (sym (opened-same old new is o)) (says m ms o os);
+      recorded = by-record-still c old new (λ d. is.types (ty.Value (val.Defined d))) x written recorded;
       large = λ fits. h (subst (λ (e : Encodable). ContentFits (and_type e written)) is.content fits);
     } in inr d
-put-refused A B c old new f x ys y fault.OutOfMemory at z r is h = tt
+put-refused A B c old new f x ys y fault.OutOfMemory at z r recorded is h = tt

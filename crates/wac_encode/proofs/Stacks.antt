@@ -482,12 +482,12 @@ recorded-so A (Builder items) fits f h = h
 recorded-so A (Instance ds) fits f h = exactly-so A fits f h
 recorded-so A (Component ds) fits f h = h
 
-pub one-refused : (A B : Type 0) (c : Collection) (s : Scope) (d : DefinedTypeId) (x : DefinedType) (y : ValueDef) (f : EncodeFault) → listed_at s d ≡ None → item_at c.defined d.0 ≡ Some x → SaysDefinition c s x y → RecordsUnlessTooLarge {A = A} s.content (Err f) (ContentFits (and_type s.content (value_def y))) → IsOneRefused {A = B} c s d (Err f)
-one-refused A B c s d x y f unlisted at says h = by_fault f (recorded-so A s.content (ContentFits (and_type s.content (value_def y))) f h)
+pub one-refused : (A B : Type 0) (c : Collection) (s : Scope) (d : DefinedTypeId) (x : DefinedType) (y : ValueDef) (f : EncodeFault) → listed_at s d ≡ None → item_at c.defined d.0 ≡ Some x → SaysDefinition c s x y → IsDefinedByRecord c s x y → RecordsUnlessTooLarge {A = A} s.content (Err f) (ContentFits (and_type s.content (value_def y))) → IsOneRefused {A = B} c s d (Err f)
+one-refused A B c s d x y f unlisted at says recorded h = by_fault f (recorded-so A s.content (ContentFits (and_type s.content (value_def y))) f h)
   where
     by_fault : (g : EncodeFault) → FitsUnlessTooLarge {A = A} (Err g) (ContentFits (and_type s.content (value_def y))) → IsOneRefused {A = B} c s d (Err g)
     by_fault (fault.Write w) k = absurd k
-    by_fault fault.TooLarge k = subst (λ (l : Option Listed). IsLargeFrom l c s d) (sym unlisted) (record { definition = x; found = at; written = y; says = says; large = k })
+    by_fault fault.TooLarge k = subst (λ (l : Option Listed). IsLargeFrom l c s d) (sym unlisted) (record { definition = x; found = at; written = y; says = says; recorded = recorded; large = k })
     by_fault fault.OutOfMemory k = tt
 
 pub alias-refused : (A B : Type 0) (c : Collection) (s : Scope) (d : DefinedTypeId) (l : Listed) (f : EncodeFault) → listed_at s d ≡ Some l → FitsUnlessTooLarge {A = A} (Err f) (AliasFits s d) → IsOneRefused {A = B} c s d (Err f)

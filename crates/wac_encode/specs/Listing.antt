@@ -35,7 +35,7 @@ use Rattle.wac_stacks.specs.Good.{IsHeld, Good}
 use Rattle.wac_stacks.specs.Laws.{Adds}
 use Rattle.wac_scopes.specs.Scoped.{type_index, value_index, named_at, listed_at, and_listed, listing, opened, HasToo, AddsPrimitive, ListsValue}
 use Rattle.wac_listing.specs.Made.{OneItemIsMadeOf}
-use Rattle.wac_listing.specs.Order.{is_value_type, AreOrdered}
+use Rattle.wac_listing.specs.Order.{AreOrdered}
 use Rattle.wac_encode.specs.Written.{OfValue, PartOf, WritesFor, HasHandle, DoesNotFit, IsOfFunc, AddsHeldFunc, IsFuncAt, FuncDoesNotFit}
 
 -- closed, these declarations are the held interface, in each stack that is good with the scope around as the innermost, and that stack goes onward
@@ -60,13 +60,25 @@ are_plain es = list_all (λ e. is_plain e.1) es
 abbrev pub lists_plain : Collection → InterfaceId → Bool
 lists_plain c i = option_case (item_at c.interfaces i.0) true (λ it. are_plain it.exports)
 
--- the type items of value types, each the first listed one of those left that mentions none of those left; then the others, as they are listed
+-- whether an item is a type item
+abbrev pub is_type : ItemKind → Bool
+is_type (kind.TypeItem t) = true
+is_type k = false
+
+-- whether it is one of another type than a value type
+abbrev pub is_other_type : ItemKind → Bool
+is_other_type (kind.TypeItem (ty.Value v)) = false
+is_other_type (kind.TypeItem t) = true
+is_other_type k = false
+
+-- the type items of value types, each the first listed one of those left that mentions none of those left; then the other type items, as they are
+-- listed; then the others, as they are listed
 pub record IsOrder (c : Collection) (es order : List (Name × ItemKind)) : Type 0 where
   pub positions : List ℕ
   pub ordered : AreOrdered c es positions
   pub types : List (Name × ItemKind)
   pub at : AllZip (λ p e. slice_get es p ≡ Some e) positions types
-  pub is : order ≡ types ++ filter (λ e. not (is_value_type e.1)) es
+  pub is : order ≡ types ++ (filter (λ e. is_other_type e.1) es ++ filter (λ e. not (is_type e.1)) es)
   -- so they are the same items
   pub permutation : IsPermutation es order
 

@@ -196,6 +196,7 @@ pub record LargeDefinition (c : Collection) (s : Scope) (d : DefinedTypeId) : Ty
   pub found : item_at c.defined d.0 ≡ Some definition
   pub written : ValueDef
   pub says : SaysDefinition c s definition written
+  pub recorded : IsDefinedByRecord c s definition written
   pub large : ContentFits (and_type s.content (value_def written)) → ⊥
 
 -- where it is listed, the alias does not
@@ -267,6 +268,7 @@ pub record FuncDoesNotFit (c : Collection) (f : FuncTypeId) (s : Scope) : Type 0
   pub found : item_at c.funcs f.0 ≡ Some func
   pub written : TypeDef
   pub says : (m : Bindings) (ms : List Bindings) (o : Open) (os : Stack) → Good c (m ∷ ms) (opened s o ∷ os) → IsWrittenFunc c m (env (opened s o) (envs os)) func written
+  pub recorded : IsFuncByRecord c s func written
   pub large : ContentFits (and_type s.content written) → ⊥
 
 -- what stands where a function type is refused: what stands where its value types are, or it does not fit itself

@@ -13,8 +13,7 @@ ghost use Rattle.wac_collection.specs.Aliases.{value_resolved};
 ghost use Rattle.wac_scopes.specs.declared.encodable.Encodable.TheVariants.{Instance};
 ghost use Rattle.wac_scopes.specs.Contents.{IsOpenType};
 ghost use Rattle.wac_scopes.specs.Scoped.{value_index};
-ghost use Rattle.wac_listing.specs.Order.{is_value_type};
-ghost use Rattle.wac_encode.specs.Listing.{SaysIfThere, WritesIfThere, is_plain as plain_item, are_plain as plain_items, lists_plain, IsOrder, WritesItem, WritesItems, IsItemRefused, AreRefused, IsInterfaceRefused};
+ghost use Rattle.wac_encode.specs.Listing.{SaysIfThere, WritesIfThere, is_plain as plain_item, are_plain as plain_items, lists_plain, is_type, is_other_type, IsOrder, WritesItem, WritesItems, IsItemRefused, AreRefused, IsInterfaceRefused};
 ghost use Rattle.wac_encode.specs.Items.{ListsHeld, CanClose, CanList, HasListed};
 
 use crate::encoder::TypeEncoder;
@@ -211,6 +210,7 @@ impl<'a> TypeEncoder<'a> {
         let items = &self.types[interface].exports;
         let positions = type_order(self.types, interface)?;
         let mut order = items_at(self.types.allocator(), items, positions.as_slice())?;
+        add_other_types(items, &mut order)?;
         add_others(items, &mut order)?;
         Ok(order)
     }
@@ -224,7 +224,7 @@ impl<'a> TypeEncoder<'a> {
     }
 
     /// Writes a held interface as an instance type: type items of value types first, the next always the first listed one of those left
-    /// that mentions none of those left; then functions and type items of function types, as they are listed. A definition that a type item lists
+    /// that mentions none of those left; then type items of function types, then functions, as they are listed. A definition that a type item lists
     /// is written by the first such item's index. What has a name in the scope around is aliased from there, and all else is defined, each
     /// once, just before what mentions it.
     ///
@@ -287,12 +287,28 @@ fn items_at<'b>(
     Ok(order)
 }
 
-/// Puts the items that are no type items of value types behind these.
+/// Puts the type items of other types than value types behind these.
+fn add_other_types<'b>(
+    items: &'b Named<ItemKind>,
+    order: &mut Vec<(&'b str, ItemKind)>,
+) -> Result<(), AllocError>
+    ensures { OnOk result (named_pairs order.new.items ≡ named_pairs order.old.items ++ filter (λ e. is_other_type e.1) items.now) }
+{
+    for i in 0..items.len() {
+        let (name, item) = items.entry_at(i);
+        if is_other_type_item(*item) {
+            order.push((name, *item))?;
+        }
+    }
+    Ok(())
+}
+
+/// Puts the items that are no type items behind these.
 fn add_others<'b>(
     items: &'b Named<ItemKind>,
     order: &mut Vec<(&'b str, ItemKind)>,
 ) -> Result<(), AllocError>
-    ensures { OnOk result (named_pairs order.new.items ≡ named_pairs order.old.items ++ filter (λ e. not (is_value_type e.1)) items.now) }
+    ensures { OnOk result (named_pairs order.new.items ≡ named_pairs order.old.items ++ filter (λ e. not (is_type e.1)) items.now) }
 {
     for i in 0..items.len() {
         let (name, item) = items.entry_at(i);
@@ -303,11 +319,22 @@ fn add_others<'b>(
     Ok(())
 }
 
-/// Whether an item is a type item of a value type.
+/// Whether an item is a type item.
 fn is_type_item(item: ItemKind) -> bool
-    ensures { result ≡ is_value_type item }
+    ensures { result ≡ is_type item }
 {
-    matches!(item, ItemKind::TypeItem(Type::Value(_)))
+    matches!(item, ItemKind::TypeItem(_))
+}
+
+/// Whether an item is a type item of another type than a value type.
+fn is_other_type_item(item: ItemKind) -> bool
+    ensures { result ≡ is_other_type item }
+{
+    match item {
+        ItemKind::TypeItem(Type::Value(_)) => false,
+        ItemKind::TypeItem(_) => true,
+        _ => false,
+    }
 }
 
 /// The item at a position, which is one of the list.

@@ -165,8 +165,8 @@ fn writes_the_first_that_mentions_none_left(rt: HostRuntime) {
     assert_imported(&rt, &types, interface, ORDERED);
 }
 
-// A type item of a function type stands behind the type items of value types, also where it is listed first; a function of the same type
-// takes the index of the type itself.
+// A type item of a function type stands behind the type items of value types and before the functions, in whichever order they are listed; a
+// function of the same type takes the index of the type itself.
 #[test]
 fn writes_type_items_of_function_types(rt: HostRuntime) {
     let alloc = rt.alloc();
@@ -177,17 +177,21 @@ fn writes_type_items_of_function_types(rt: HostRuntime) {
         &mut types,
         FuncType::new(alloc, &[("x", x)], None, false),
     );
-    let items = [
-        ("g", ItemKind::TypeItem(Type::Func(f))),
-        ("t", ItemKind::TypeItem(Type::Value(x))),
-        ("f", ItemKind::Func(f)),
-    ];
-    let interface = interface(
+    let g = ("g", ItemKind::TypeItem(Type::Func(f)));
+    let t = ("t", ItemKind::TypeItem(Type::Value(x)));
+    let f = ("f", ItemKind::Func(f));
+    let one = interface(
         &rt,
         &mut types,
-        Interface::new(alloc, Some("n:p/i"), &items),
+        Interface::new(alloc, Some("n:p/i"), &[g, t, f]),
     );
-    assert_imported(&rt, &types, interface, FUNCTION_TYPE);
+    let other = interface(
+        &rt,
+        &mut types,
+        Interface::new(alloc, Some("n:p/j"), &[f, g, t]),
+    );
+    assert_imported(&rt, &types, one, FUNCTION_TYPE);
+    assert_imported(&rt, &types, other, FUNCTION_TYPE);
 }
 
 // A second name equals the first, which is the one that is used, by what is an alias of it too.

@@ -12,5 +12,5 @@ items_at-requires c i p at =
     taken-within c.args.self.now.types.now es (is_value_type_at es) c.in_ok-positions.positions.items (c.in_ok-positions.ensures c.index.result.now c.index.ensures) (type-within es) i p (subst (λ (xs : List ℕ). slice_get xs i ≡ Some p) c.as_slice.ensures.value at)
 
 pub returns : goal.returns
-returns c = order-of c.args.self.now.types.now c.args.interface c.index.result.now c.in_ok-positions.positions.items (named_pairs c.in_ok-order.order.items) (named_pairs c.add_others.new.order.items) c.index.ensures c.in_ok-positions.ensures
-    (subst (λ ps. AllZip (Stand c.index.result.now.exports) ps (named_pairs c.in_ok-order.order.items)) c.as_slice.ensures.value c.in_ok-order.ensures) c.in_ok-add_others.ensures
+returns c = order-of c.args.self.now.types.now c.args.interface c.index.result.now c.in_ok-positions.positions.items (named_pairs c.in_ok-order.order.items) (named_pairs c.add_other_types.new.order.items) (named_pairs c.add_others.new.order.items) c.index.ensures c.in_ok-positions.ensures
+    (subst (λ ps. AllZip (Stand c.index.result.now.exports) ps (named_pairs c.in_ok-order.order.items)) c.as_slice.ensures.value c.in_ok-order.ensures) c.in_ok-add_other_types.ensures c.in_ok-add_others.ensures

@@ -10,4 +10,4 @@ returns-clause-wrote c = writes-one c.args.self.now.types.now c.law.ensures c.ar
 pub returns-in_err-define-clause-fault : goal.returns-in_err-define-clause-fault
 returns-in_err-define-clause-fault c =
     let p = err_from_is_err_and c.from_residual.result c.from_residual.ensures.1 in
-    rw (p.1, p.2) (one-refused ℕ (Unit {0}) c.args.self.now.types.now c.args.scope.now c.args.id c.args.held.now (defined_of c.args.definition.now) c.in_err-define.field-0.0 c.requires.unlisted c.requires.found c.requires.says c.in_err-define.ensures.too_large)
+    rw (p.1, p.2) (one-refused ℕ (Unit {0}) c.args.self.now.types.now c.args.scope.now c.args.id c.args.held.now (defined_of c.args.definition.now) c.in_err-define.field-0.0 c.requires.unlisted c.requires.found c.requires.says c.requires.recorded c.in_err-define.ensures.too_large)

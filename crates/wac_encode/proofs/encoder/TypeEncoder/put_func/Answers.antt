@@ -20,7 +20,9 @@ returns-in_err-index-clause-fault c =
     let t = c.args.self.now.types.now in
     let p = err_from_is_err_and c.from_residual-in_err-index.result c.from_residual-in_err-index.ensures.1 in
     rw (p.1, p.2) (put-refused ℕ ℕ t c.args.scope.now c.define_func.new.self c.args.func c.args.held.now c.as_slice.result.now c.args.output c.in_err-index.field-0.0 c.requires.found
-    (zip-same (FieldSays t c.args.scope.now) c.args.held.now.params c.in_ok-params.params.items c.as_slice.result.now c.as_slice.ensures.value c.in_ok-params.ensures) c.requires.says c.in_err-index.ensures.refused c.in_err-index.ensures.too_large)
+    (zip-same (FieldSays t c.args.scope.now) c.args.held.now.params c.in_ok-params.params.items c.as_slice.result.now c.as_slice.ensures.value c.in_ok-params.ensures) c.requires.says
+    (func-by-record t c.args.scope.now c.args.held.now c.args.held.now.is_async c.as_slice.result.now c.args.output
+    (zip-same (FieldSays t c.args.scope.now) c.args.held.now.params c.in_ok-params.params.items c.as_slice.result.now c.as_slice.ensures.value c.in_ok-params.ensures) c.requires.recorded) c.in_err-index.ensures.refused c.in_err-index.ensures.too_large)
 
 pub returns-clause-written : goal.returns-clause-written
 returns-clause-written c =
