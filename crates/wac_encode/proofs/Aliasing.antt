@@ -18,28 +18,14 @@ use Rattle.wac_shapes.specs.declared.component.ValueType.TheVariants as val
 use Rattle.wac_shapes.specs.declared.component.«Type».TheVariants as ty
 use Rattle.wac_collection.specs.Aliases.{value_resolved}
 use Rattle.wac_collection.specs.Bound.{Bindings, own_name}
-use Rattle.wac_collection.specs.Collection.{Collection, IsWellFormed, item_at}
+use Rattle.wac_collection.specs.Collection.{Collection, IsWellFormed, item_at, size}
 use Rattle.wac_binary.specs.Unfold.{Bound}
 use Rattle.wac_stacks.specs.Good.{IsHeld}
 use Rattle.wac_stacks.specs.Instances.{Exports, ExportsEnd, BindsInstance}
 use Rattle.wac_encode.specs.Instances.{definition_of, listed_definition, listed_definitions}
-use Rattle.wac_encode.specs.Listing.{are_plain, lists_plain}
+use Rattle.wac_encode.specs.Listing.{lists_plain, lists_plain_to}
+use Rattle.wac_encode.proofs.Around.{owns-nothing}
 use Rattle.wac_encode.proofs.Plain.{plain-of, held-items}
-
--- what is plain has no resource of its own
-none-own : (c : Collection) (uses : List (Name × UsedType)) (es : List (Name × ItemKind)) (r : ResourceId) → are_plain es ≡ true → own_name c uses es r ≡ None
-none-own c uses [] r plain = refl
-none-own c uses ((k, kind.TypeItem (ty.Value v)) ∷ es) r plain = none-own c uses es r plain
-none-own c uses ((k, kind.TypeItem (ty.Module v)) ∷ es) r plain = none-own c uses es r plain
-none-own c uses ((k, kind.Func v) ∷ es) r plain = none-own c uses es r plain
-none-own c uses ((k, kind.Component v) ∷ es) r plain = none-own c uses es r plain
-none-own c uses ((k, kind.Module v) ∷ es) r plain = none-own c uses es r plain
-none-own c uses ((k, kind.Value v) ∷ es) r plain = none-own c uses es r plain
-none-own c uses ((k, kind.TypeItem (ty.Resource q)) ∷ es) r plain = let both : false ≡ true = plain in cc
-none-own c uses ((k, kind.TypeItem (ty.Func v)) ∷ es) r plain = none-own c uses es r plain
-none-own c uses ((k, kind.TypeItem (ty.Interface v)) ∷ es) r plain = let both : false ≡ true = plain in cc
-none-own c uses ((k, kind.TypeItem (ty.World v)) ∷ es) r plain = let both : false ≡ true = plain in cc
-none-own c uses ((k, kind.Instance v) ∷ es) r plain = let both : false ≡ true = plain in cc
 
 -- where an entry of two lists in a row stands
 in-row : {A : Type 0} (xs ys : List A) (p : ℕ) (e : A) → slice_get (xs ++ ys) p ≡ Some e → (slice_get xs p ≡ Some e) ⊎ ((q : ℕ) × (slice_get ys q ≡ Some e))
@@ -84,11 +70,16 @@ listed-from c (x ∷ es) p e at = by_row (λ there. listed-from c es p e there) 
     by_row rest (inl there) = let r = rest there in (suc r.0, r.1, r.2, r.3)
     by_row rest (inr here) = let r = by-kind c x.0 x.1 here.0 e here.1 in (zero, r.0, (λ i. Some (r.3 i, r.1 i)), r.2)
 
+-- what is plain has no resource of its own
+owns-none : (c : Collection) (d : ℕ) (i : InterfaceId) (it : Interface) (r : ResourceId) → item_at c.interfaces i.0 ≡ Some it → lists_plain_to d c i ≡ true → own_name c it.uses it.exports r ≡ None
+owns-none c zero i it r found plain = let both : false ≡ true = plain in cc
+owns-none c (suc d) i it r found plain = owns-nothing c (lists_plain_to d c) it.uses it.exports r (sym (plain-of c d i it found) ∙ plain)
+
 -- an instance of the interface exports what it lists
 pub exports-listed : ExportsEnd → (c : Collection) → IsWellFormed c → (m : Bindings) (i : InterfaceId) (it : Interface) (b : Bound) → item_at c.interfaces i.0 ≡ Some it → lists_plain c i ≡ true → NoNameTwice it.exports → IsHeld c m (ty.Interface i) b.type → (p : ℕ) (e : DefinedTypeId × Name) → slice_get (listed_definitions c it.exports) p ≡ Some e → Exports c m b e.0 e.1
 exports-listed ends c wf m i it b found plain once held p e at =
     let from = listed-from c it.exports p e at in
-    let none : BindsInstance c it b.side b.path m = (λ r n own. let both : None ≡ Some n = sym (none-own c it.uses it.exports r (sym (plain-of c i it found) ∙ plain)) ∙ own in cc) in
+    let none : BindsInstance c it b.side b.path m = (λ r n own. let both : None ≡ Some n = sym (owns-none c (size c) i it r found plain) ∙ own in cc) in
     ends c wf m i it b from.1 e.0 e.1 found held none (find_name-at it.exports from.0 e.1 (kind.TypeItem (ty.Value from.1)) once from.2) (held-items c wf i it found from.0 (e.1, kind.TypeItem (ty.Value from.1)) from.2) from.3
 
 -- the definitions that items list from a position on

@@ -16,8 +16,8 @@ use Rattle.wac_scopes.specs.Contents.{and_type, count, ContentFits}
 use Rattle.wac_stacks.specs.Laws.{Follows, StaysOnward}
 use Rattle.wac_scopes.specs.Scoped.{type_index, opened, HasToo, IsAt, AddsInstance, FitsUnlessTooLarge}
 use Rattle.wac_encode.specs.Written.{WritesFor, defined}
-use Rattle.wac_encode.specs.Listing.{IsOfItems, AliasesFor, AllAliased, IsAliasRefused, SaysInterface, WritesInterface, NeededBy, IsInterfaceRefused}
-use Rattle.wac_encode.specs.Instances.{AddsHeldInterface, IsInterfaceFrom, IsInterfaceAt, IsInstanceRefused}
+use Rattle.wac_encode.specs.Listing.{IsOfItems, AliasesFor, AllAliased, IsAliasRefused, SaysInterface, WritesInterface, NeededBy, IsInstanceTypeFrom, IsInstanceTypeAt, IsInterfaceRefused}
+use Rattle.wac_encode.specs.Instances.{AddsHeldInterface, IsInstanceRefused}
 use Rattle.wac_encode.proofs.Answering.{as-it-was}
 use Rattle.wac_encode.proofs.Stacks.{writes-none, writes-recorded, writes-as, writes-then}
 
@@ -63,11 +63,20 @@ none-else (Some k) h = absurd (h k refl)
 pub interface-there : (c : Collection) → StaysOnward → (s : Scope) (i : InterfaceId) (k : ℕ) → IsAt s (ty.Interface i) k → AddsHeldInterface c s s i k
 interface-there c stays s i k at m ms o os g = let r = at c m ms o os g in (r.0, r.1, r.2, (stays c (m ∷ ms) (opened s o ∷ os) g, r.3))
 
-pub interface-at-there : (c : Collection) (s : Scope) (i : InterfaceId) (k : ℕ) → type_index s (ty.Interface i) ≡ Some k → IsInterfaceAt c s s i k
-interface-at-there c s i k at = subst (λ (o : Option ℕ). IsInterfaceFrom o c s s i k) (sym at) (refl, refl)
+pub interface-at-there : (I : Scope → InterfaceId → List Decl → Type 0) (c : Collection) (s : Scope) (i : InterfaceId) (k : ℕ) → type_index s (ty.Interface i) ≡ Some k → IsInstanceTypeAt I c s s i k
+interface-at-there I c s i k at = subst (λ (o : Option ℕ). IsInstanceTypeFrom o I c s s i k) (sym at) (refl, refl)
 
-pub ends-with-interface : (c : Collection) (old around now : Scope) (i : InterfaceId) (ds : List Decl) (k : ℕ) → type_index old (ty.Interface i) ≡ None → AliasesFor c i old around → AllAliased c i old around → WritesInterface c around i ds → now.content ≡ and_type around.content (instance_def (decls ds)) → HasToo around (ty.Interface i) k now → k ≡ count (space sort.«Type») around.content → IsInterfaceAt c old now i k
-ends-with-interface c old around now i ds k none aliases all written appended too index = subst (λ (o : Option ℕ). IsInterfaceFrom o c old now i k) (sym none) (record { around = around; aliases = aliases; all = all; declarations = ds; written = written; appended = appended; recorded = too; index = index })
+pub ends-with-interface : (I : Scope → InterfaceId → List Decl → Type 0) (c : Collection) (old mid now : Scope) (i : InterfaceId) (ds : List Decl) (k : ℕ) → type_index old (ty.Interface i) ≡ None → AliasesFor c i old mid → AllAliased c i old mid → I mid i ds → now.content ≡ and_type mid.content (instance_def (decls ds)) → HasToo mid (ty.Interface i) k now → k ≡ count (space sort.«Type») mid.content → IsInstanceTypeAt I c old now i k
+ends-with-interface I c old mid now i ds k none aliases all written is too index = subst (λ (o : Option ℕ). IsInstanceTypeFrom o I c old now i k) (sym none) (record {
+  around = mid;
+  aliases = aliases;
+  all = all;
+  declarations = ds;
+  written = written;
+  appended = is;
+  recorded = too;
+  index = index;
+})
 
 -- refusals
 

@@ -9,7 +9,10 @@ pub mod Ordered
 pub mod Listed
 pub mod Naming
 pub mod Plain
-pub mod Together
 pub mod Around
 pub mod Aliasing
 pub mod InstanceTypes
+pub mod Levels
+pub mod Chains
+pub mod Remaining
+pub mod Inside

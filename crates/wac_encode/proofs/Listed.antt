@@ -1,5 +1,5 @@
 -- Interfaces, item by item.
-use Rattle.std.specs.Prelude.{ℕ, zero, suc, ◌+◌, ◌≤◌, ◌≡◌, true, List, [], ◌∷◌, ◌++◌, length, map, Option, Some, None, slice_get, Err}
+use Rattle.std.specs.Prelude.{ℕ, zero, suc, ◌+◌, ◌≤◌, ◌≡◌, Bool, true, List, [], ◌∷◌, ◌++◌, length, map, Option, Some, None, slice_get, Err}
 use Rattle.std.proofs.Common.{refl, ap, ◌∙◌, sym, subst, take, add-one, arith}
 use Rattle.std.proofs.Math.Seq.{take-length}
 use Rattle.wac_shapes.specs.Name.{Name, find_name}
@@ -15,7 +15,7 @@ use Rattle.wac_shapes.specs.declared.component.PrimitiveType.{PrimitiveType}
 use Rattle.wac_shapes.specs.declared.component.ValueType.{ValueType}
 use Rattle.wac_shapes.specs.declared.component.ValueType.TheVariants as val
 use Rattle.wac_shapes.specs.declared.component.«Type».TheVariants as ty
-use Rattle.wac_collection.specs.Tree.{exported, Tree, absent, primitive, resource, function, instance, component, type_equal, function_item}
+use Rattle.wac_collection.specs.Tree.{exported, Tree, absent, primitive, resource, function, instance, component, type_equal, function_item, instance_item}
 use Rattle.wac_collection.specs.Collection.{Collection, IsWellFormed, item_at}
 use Rattle.wac_collection.specs.Aliases.{value_resolved}
 use Rattle.wac_collection.specs.Bound.{Bindings, inside_interface}
@@ -32,13 +32,15 @@ use Rattle.wac_stacks.specs.Scopes.{Open, Stack, scope_of, env, envs, opening}
 use Rattle.wac_stacks.specs.Good.{Keeps, IsHeld, Good, Onward, top}
 use Rattle.wac_stacks.specs.Laws.{IsItsEnd, IsRecorded}
 use Rattle.wac_stacks.specs.Listed.{IsUnder, IsNewName, Lists, AreListed, has_own, declaring, ListsOneMore, ListsInAnyOrder, OpensInterface, OpensOver, ClosesInstance, HoldsInterface}
-use Rattle.wac_scopes.specs.Scoped.{value_index, recorded_type, opened, AddsPrimitive, ListsType, ListsValue, ListsFunction}
+use Rattle.wac_scopes.specs.Scoped.{value_index, recorded_type, opened, AddsPrimitive, ListsType, ListsValue, ListsFunction, ListsInstanceOf}
 use Rattle.wac_stacks.proofs.Values.{primitive-held}
 use Rattle.wac_encode.specs.Written.{GoesOn, with_types, AddsHeldFunc, NewType, defined, aliased, as_decl}
 use Rattle.wac_encode.specs.Listing.{SaysInterface, WritesItem, WritesItems, IsOpened, IsItemRefused, IsStopped}
+use Rattle.wac_encode.specs.Instances.{AddsHeldInterface}
 use Rattle.wac_encode.specs.Listing.{are_plain}
 use Rattle.wac_encode.proofs.Around.{starts-good}
 use Rattle.wac_encode.specs.Items.{ListsHeld, CanClose, HasListed}
+use Rattle.wac_encode.specs.Levels.{SoFar}
 use Rattle.wac_scopes.proofs.ScopedLaws.{recorded-at}
 
 keeps-both : (a b d : Env) → Keeps a b → Keeps b d → Keeps a d
@@ -101,6 +103,13 @@ function-listed c old now new n f k adds lists m ms o os g free =
     let l = lists c m ms o os r.0 r.3.0.0 (free-after c m ms old now o os n r.3.0 free) r.2 r.3.1 in
     (function_item r.0, r.1, lists-after c m ms old now new o os n (function_item r.0) r.3.0 l)
 
+-- an instance of an interface
+pub instance-listed : (c : Collection) (old now new : Scope) (n : Name) (i : InterfaceId) (k j : ℕ) → AddsHeldInterface c old now i k → ListsInstanceOf now new n k j → ListsHeld c old new n (kind.Instance i)
+instance-listed c old now new n i k j adds lists m ms o os g free =
+    let r = adds m ms o os g in
+    let l = lists c m ms o os r.0 r.3.0.0 (free-after c m ms old now o os n r.3.0 free) r.2 r.3.1 in
+    (instance_item r.0, r.1, lists-after c m ms old now new o os n (instance_item r.0) r.3.0 l.0)
+
 function-is-type : (t : Tree) → IsFunction t → IsType t
 function-is-type (function a names params result) h = tt
 function-is-type absent h = absurd h
@@ -150,8 +159,8 @@ closes-more (Builder items) ys n d h = absurd h
 closes-more (Instance ds) ys n d h = import-nothing-more ds ys n d h
 closes-more (Component ds) ys n d h = absurd h
 
-still-closes : (c : Collection) (old new : Scope) (n : Name) (k : ItemKind) → WritesItem c old new n k → CanClose old.content → CanClose new.content
-still-closes c old new n k item h = subst CanClose (sym (item.appended ∙ ap (λ (x : Encodable). and_export x n item.description) item.behind.appended)) (closes-more old.content item.behind.types n item.description h)
+still-closes : (I : Scope → InterfaceId → List Decl → Type 0) (c : Collection) (old new : Scope) (n : Name) (k : ItemKind) → WritesItem I c old new n k → CanClose old.content → CanClose new.content
+still-closes I c old new n k item h = subst CanClose (sym (item.appended ∙ ap (λ (x : Encodable). and_export x n item.description) item.behind.appended)) (closes-more old.content item.behind.types n item.description h)
 
 -- what can be closed is a type that is open
 
@@ -179,44 +188,40 @@ still-open-behind x z y is h = subst IsOpenType (sym is) (and-type-open x y h)
 
 -- items, one after the other
 
-writes-one-more : (c : Collection) (old now new : Scope) (es : List (Name × ItemKind)) (n : Name) (k : ItemKind) → WritesItems c old es now → WritesItem c now new n k → WritesItems c old (es ++ (n, k) ∷ []) new
-writes-one-more c old now new [] n k w item = (new, subst (λ (s : Scope). WritesItem c s new n k) w item, refl)
-writes-one-more c old now new (e ∷ es) n k w item = (w.0, w.1, writes-one-more c w.0 now new es n k w.2 item)
+writes-one-more : (I : Scope → InterfaceId → List Decl → Type 0) (c : Collection) (old now new : Scope) (es : List (Name × ItemKind)) (n : Name) (k : ItemKind) → WritesItems I c old es now → WritesItem I c now new n k → WritesItems I c old (es ++ (n, k) ∷ []) new
+writes-one-more I c old now new [] n k w item = (new, subst (λ (s : Scope). WritesItem I c s new n k) w item, refl)
+writes-one-more I c old now new (e ∷ es) n k w item = (w.0, w.1, writes-one-more I c w.0 now new es n k w.2 item)
 
 -- what stands after some of them
-pub record SoFar (c : Collection) (it : Interface) (start now : Scope) (order : List (Name × ItemKind)) (i : ℕ) : Type 0 where
-  pub listed : HasListed c it start now (take i order)
-  pub closes : CanClose now.content
-  pub written : WritesItems c start (take i order) now
 
-pub starts : (c : Collection) → OpensInterface → (it : Interface) (s : Scope) (order : List (Name × ItemKind)) → s.content ≡ Instance [] → SoFar c it s s order 0
-starts c opens it s order empty = record {
+pub starts : (I : Scope → InterfaceId → List Decl → Type 0) (c : Collection) → OpensInterface → (it : Interface) (s : Scope) (order : List (Name × ItemKind)) → s.content ≡ Instance [] → SoFar I c it s s order 0
+starts I c opens it s order empty = record {
   listed = none-listed c opens it s empty;
   closes = subst CanClose (sym empty) tt;
   written = refl;
 }
 
-pub goes-further : (c : Collection) → ListsOneMore → (it : Interface) (start now new : Scope) (order : List (Name × ItemKind)) (i : ℕ) (n : Name) (k : ItemKind) → NoNameTwice order → slice_get order i ≡ Some (n, k) → SoFar c it start now order i → ListsHeld c now new n k → WritesItem c now new n k → SoFar c it start new order (i + 1)
-goes-further c more it start now new order i n k once at so_far item wrote =
+pub goes-further : (I : Scope → InterfaceId → List Decl → Type 0) (c : Collection) → ListsOneMore → (it : Interface) (start now new : Scope) (order : List (Name × ItemKind)) (i : ℕ) (n : Name) (k : ItemKind) → NoNameTwice order → slice_get order i ≡ Some (n, k) → SoFar I c it start now order i → ListsHeld c now new n k → WritesItem I c now new n k → SoFar I c it start new order (i + 1)
+goes-further I c more it start now new order i n k once at so_far item wrote =
     let longer : take (suc i) order ≡ take i order ++ (n, k) ∷ [] = take_at order i (n, k) at in
-    subst (λ (j : ℕ). SoFar c it start new order j) (sym (add-one i)) (record {
+    subst (λ (j : ℕ). SoFar I c it start new order j) (sym (add-one i)) (record {
       listed = subst (λ (es : List (Name × ItemKind)). HasListed c it start new es) (sym longer) (listed-more c more it now new start (take i order) n k so_far.listed item (none_before order i n k once at));
-      closes = still-closes c now new n k wrote so_far.closes;
-      written = subst (λ (es : List (Name × ItemKind)). WritesItems c start es new) (sym longer) (writes-one-more c start now new (take i order) n k so_far.written wrote);
+      closes = still-closes I c now new n k wrote so_far.closes;
+      written = subst (λ (es : List (Name × ItemKind)). WritesItems I c start es new) (sym longer) (writes-one-more I c start now new (take i order) n k so_far.written wrote);
     })
 
 pub all-of : {A : Type 0} (es : List A) (i : ℕ) → i ≡ length es → take i es ≡ es
 all-of {A} es i is = ap (λ (k : ℕ). take k es) is ∙ take-length es
 
 -- all of them
-pub record AtEnd (c : Collection) (it : Interface) (start now : Scope) (order : List (Name × ItemKind)) : Type 0 where
+pub record AtEnd (I : Scope → InterfaceId → List Decl → Type 0) (c : Collection) (it : Interface) (start now : Scope) (order : List (Name × ItemKind)) : Type 0 where
   pub listed : HasListed c it start now order
-  pub written : WritesItems c start order now
+  pub written : WritesItems I c start order now
 
-pub at-end : (c : Collection) (it : Interface) (start now : Scope) (order : List (Name × ItemKind)) (i : ℕ) → i ≡ length order → SoFar c it start now order i → AtEnd c it start now order
-at-end c it start now order i is so_far = record {
+pub at-end : (I : Scope → InterfaceId → List Decl → Type 0) (c : Collection) (it : Interface) (start now : Scope) (order : List (Name × ItemKind)) (i : ℕ) → i ≡ length order → SoFar I c it start now order i → AtEnd I c it start now order
+at-end I c it start now order i is so_far = record {
   listed = subst (λ (es : List (Name × ItemKind)). HasListed c it start now es) (all-of order i is) so_far.listed;
-  written = subst (λ (es : List (Name × ItemKind)). WritesItems c start es now) (all-of order i is) so_far.written;
+  written = subst (λ (es : List (Name × ItemKind)). WritesItems I c start es now) (all-of order i is) so_far.written;
 }
 
 split-at : {A : Type 0} (es : List A) (i : ℕ) (e : A) → slice_get es i ≡ Some e → (rest : List A) × (es ≡ take i es ++ e ∷ rest)
@@ -224,8 +229,8 @@ split-at {A} [] i e at = let none_some : None ≡ Some e = at in cc
 split-at {A} (x ∷ es) zero e at = let both : Some x ≡ Some e = at in let same : x ≡ e = cc in (es, ap (λ (y : A). y ∷ es) same)
 split-at {A} (x ∷ es) (suc i) e at = let r = split-at es i e at in (r.0, ap (λ (ys : List A). x ∷ ys) r.1)
 
-pub stops-at : (c : Collection) (it : Interface) (start now : Scope) (order : List (Name × ItemKind)) (i : ℕ) (n : Name) (k : ItemKind) (e : EncodeFault) → slice_get order i ≡ Some (n, k) → SoFar c it start now order i → IsItemRefused {A = Unit {0}} c n k now (Err e) → IsStopped c start order e
-stops-at c it start now order i n k e at so_far refused = let r = split-at order i (n, k) at in record {
+pub stops-at : (I : Scope → InterfaceId → List Decl → Type 0) (R : Scope → InterfaceId → EncodeFault → Type 0) (c : Collection) (it : Interface) (start now : Scope) (order : List (Name × ItemKind)) (i : ℕ) (n : Name) (k : ItemKind) (e : EncodeFault) → slice_get order i ≡ Some (n, k) → SoFar I c it start now order i → IsItemRefused {A = Unit {0}} I R c n k now (Err e) → IsStopped I R c start order e
+stops-at I R c it start now order i n k e at so_far refused = let r = split-at order i (n, k) at in record {
   before = take i order;
   name = n;
   item = k;
@@ -240,11 +245,11 @@ pub written-content : (x y : Encodable) (ds : List Decl) → y ≡ x → y ≡ I
 written-content x y ds same is = sym same ∙ is
 
 -- the whole
-pub says-interface : (c : Collection) → IsWellFormed c → OpensOver → HoldsInterface → ClosesInstance → ListsInAnyOrder → (i : InterfaceId) (it : Interface) (around start s : Scope) (ds : List Decl) (order : List (Name × ItemKind)) → item_at c.interfaces i.0 ≡ Some it → are_plain it.exports ≡ true → IsOpened c i around start → ((n : Name) → find_name order n ≡ find_name it.exports n) → HasListed c it start s order → s.content ≡ Instance ds → CanClose s.content → SaysInterface c around i ds
-says-interface c wf over holds closes any i it around start s ds order at plain begun same had is imports m ms o os g =
+pub says-interface : (c : Collection) (P : InterfaceId → Bool) → IsWellFormed c → OpensOver → HoldsInterface → ClosesInstance → ListsInAnyOrder → (i : InterfaceId) (it : Interface) (around start s : Scope) (ds : List Decl) (order : List (Name × ItemKind)) → item_at c.interfaces i.0 ≡ Some it → are_plain P it.exports ≡ true → IsOpened c i around start → ((n : Name) → find_name order n ≡ find_name it.exports n) → HasListed c it start s order → s.content ≡ Instance ds → CanClose s.content → SaysInterface c around i ds
+says-interface c P wf over holds closes any i it around start s ds order at plain begun same had is imports m ms o os g =
     let out : Open = opened around o in
     let inner : Open = record (opening (has_own c it)) { memo = recorded_type s } in
-    let first = starts-good c over i it around start plain begun m ms o os g in
+    let first = starts-good c over P i it around start plain begun m ms o os g in
     let h = subst (λ (x : Encodable). Good c (inside_interface c it m ∷ m ∷ ms) (record inner { content = content_of x } ∷ out ∷ os) × AreListed c (inside_interface c it m) exported order ((env (record inner { content = content_of x }) (env out (envs os) ∷ envs os)).exports)) is (had (m ∷ ms) (out ∷ os) first) in
     let items : Name → Tree = (env (declaring ds inner) (env out (envs os) ∷ envs os)).exports in
     let all : AreListed c (inside_interface c it m) exported it.exports items = any c (inside_interface c it m) exported order it.exports items h.1 (λ n. sym (same n)) in

@@ -4,6 +4,7 @@ use Rattle.std.proofs.Common.{refl, ap, ◌∙◌, sym, subst, inl, inr}
 use Rattle.wac_shapes.specs.Name.{Name}
 use Rattle.wac_shapes.specs.declared.component.DefinedTypeId.{DefinedTypeId}
 use Rattle.wac_shapes.specs.declared.component.FuncTypeId.{FuncTypeId}
+use Rattle.wac_shapes.specs.declared.component.InterfaceId.{InterfaceId}
 use Rattle.wac_shapes.specs.declared.component.ItemKind.{ItemKind}
 use Rattle.wac_shapes.specs.declared.component.ItemKind.TheVariants as kind
 use Rattle.wac_shapes.specs.declared.component.PrimitiveType.{PrimitiveType}
@@ -28,7 +29,8 @@ use Rattle.wac_stacks.specs.Laws.{StaysOnward}
 use Rattle.wac_scopes.specs.Scoped.{type_index, value_index, named_at, by_index, in_use, HasToo, AddsPrimitive, ListsValue, WritesUnlessTooLarge, FitsUnlessTooLarge, listing}
 use Rattle.wac_listing.specs.Made.{itself}
 use Rattle.wac_encode.specs.Written.{PartOf, WritesFor, HasHandle, IsHandle, IsByRecord, IsRefused, IsOfFunc, AddsHeldFunc, IsFuncAt, IsFuncRefused}
-use Rattle.wac_encode.specs.Listing.{NeededBy, own_types, one_if_primitive, IsListedAt, IsDescribed, SameRecords, IsNamedOnce, NamesValue, WritesItem, PrimitiveDoesNotFit, IsItemRefused}
+use Rattle.wac_encode.specs.Listing.{NeededBy, own_types, one_if_primitive, IsListedAt, IsDescribed, IsInstanceTypeFrom, IsItemDescribed, SameRecords, IsNamedOnce, NamesValue, WritesItem, PrimitiveDoesNotFit, IsItemRefused}
+use Rattle.wac_encode.specs.Items.{nothing_inside, none_refused}
 use Rattle.wac_encode.proofs.Answering.{as-it-was}
 use Rattle.wac_encode.proofs.Stacks.{writes-none}
 use Rattle.wac_encode.proofs.Rows.{writes-type}
@@ -48,7 +50,7 @@ primitive-behind c old now v p k is adds same = subst (λ (w : ValueType). Write
 pub primitive-described : (c : Collection) (old now : Scope) (v : ValueType) (p : PrimitiveType) (k : ℕ) → value_resolved c v ≡ val.Primitive p → AddsPrimitive old now p k → now ≡ record old { content = and_type old.content (value_def (primitive_def p)) } → k ≡ count (space sort.«Type») old.content → IsDescribed c old now (kind.TypeItem (ty.Value v)) (e.Equal k)
 primitive-described c old now v p k is adds same index = subst (λ (w : ValueType). IsListedAt old now w k) (sym is) (adds, ap (λ (s : Scope). s.content) same, index)
 
-pub primitive-wrote : (c : Collection) (old now new : Scope) (n : Name) (v : ValueType) (p : PrimitiveType) (k : ℕ) → value_resolved c v ≡ val.Primitive p → AddsPrimitive old now p k → now ≡ record old { content = and_type old.content (value_def (primitive_def p)) } → k ≡ count (space sort.«Type») old.content → new ≡ record now { content = and_export now.content n (e.Equal k) } → WritesItem c old new n (kind.TypeItem (ty.Value v))
+pub primitive-wrote : (c : Collection) (old now new : Scope) (n : Name) (v : ValueType) (p : PrimitiveType) (k : ℕ) → value_resolved c v ≡ val.Primitive p → AddsPrimitive old now p k → now ≡ record old { content = and_type old.content (value_def (primitive_def p)) } → k ≡ count (space sort.«Type») old.content → new ≡ record now { content = and_export now.content n (e.Equal k) } → WritesItem nothing_inside c old new n (kind.TypeItem (ty.Value v))
 primitive-wrote c old now new n v p k is adds same index lists = record {
   now = now;
   behind = primitive-behind c old now v p k is adds same;
@@ -64,7 +66,7 @@ definition-behind c old now v d is w = subst (λ (u : ValueType). WritesFor c (o
 pub definition-described : (c : Collection) (old now : Scope) (v : ValueType) (d : DefinedTypeId) (k : ℕ) → value_resolved c v ≡ val.Defined d → value_index now d ≡ Some k → IsDescribed c old now (kind.TypeItem (ty.Value v)) (e.Equal k)
 definition-described c old now v d k is at = subst (λ (w : ValueType). IsListedAt old now w k) (sym is) at
 
-pub second-wrote : (c : Collection) → StaysOnward → (old new : Scope) (n : Name) (v : ValueType) (d : DefinedTypeId) (k : ℕ) → value_resolved c v ≡ val.Defined d → value_index old d ≡ Some k → new ≡ record old { content = and_export old.content n (e.Equal k) } → WritesItem c old new n (kind.TypeItem (ty.Value v))
+pub second-wrote : (c : Collection) → StaysOnward → (old new : Scope) (n : Name) (v : ValueType) (d : DefinedTypeId) (k : ℕ) → value_resolved c v ≡ val.Defined d → value_index old d ≡ Some k → new ≡ record old { content = and_export old.content n (e.Equal k) } → WritesItem nothing_inside c old new n (kind.TypeItem (ty.Value v))
 second-wrote c stays old new n v d k is at lists = record {
   now = old;
   behind = definition-behind c old old v d is (writes-none c stays (PartOf c (value_resolved c v)) old old (as-it-was old));
@@ -81,7 +83,7 @@ still-described c stays s v d k is at = (writes-none c stays (PartOf c (value_re
 same-index : (s : Scope) (d : DefinedTypeId) (k i : ℕ) → value_index s d ≡ Some k → value_index s d ≡ Some i → k ≡ i
 same-index s d k i one two = let both : Some k ≡ Some i = sym one ∙ two in cc
 
-pub first-wrote : (c : Collection) (old now new : Scope) (n : Name) (v : ValueType) (d : DefinedTypeId) (k j : ℕ) → value_resolved c v ≡ val.Defined d → value_index old d ≡ None → WritesFor c 0 (PartOf c (value_resolved c v)) old now → value_index now d ≡ Some k → new.content ≡ and_export now.content n (e.Equal k) → j ≡ count (space sort.«Type») now.content → HasToo now (ty.Value (val.Defined d)) j new → named_at new d ≡ Some j → ListsValue now new n d k j → WritesItem c old new n (kind.TypeItem (ty.Value v))
+pub first-wrote : (c : Collection) (old now new : Scope) (n : Name) (v : ValueType) (d : DefinedTypeId) (k j : ℕ) → value_resolved c v ≡ val.Defined d → value_index old d ≡ None → WritesFor c 0 (PartOf c (value_resolved c v)) old now → value_index now d ≡ Some k → new.content ≡ and_export now.content n (e.Equal k) → j ≡ count (space sort.«Type») now.content → HasToo now (ty.Value (val.Defined d)) j new → named_at new d ≡ Some j → ListsValue now new n d k j → WritesItem nothing_inside c old new n (kind.TypeItem (ty.Value v))
 first-wrote c old now new n v d k j is none w at appended own too name lists = record {
   now = now;
   behind = definition-behind c old now v d is w;
@@ -91,7 +93,7 @@ first-wrote c old now new n v d k j is none w at appended own too name lists = r
   named = subst (λ (u : ValueType). NamesValue old now new n u) (sym is) (subst (λ (o : Option ℕ). IsNamedOnce o now new n d) (sym none) (j, own, too, name, λ i also. subst (λ (i' : ℕ). ListsValue now new n d i' j) (same-index now d k i at also) lists));
 }
 
-pub function-wrote : (c : Collection) (old now new : Scope) (n : Name) (f : FuncTypeId) (k : ℕ) → WritesFor c 0 (IsOfFunc c f) old now → AddsHeldFunc c old now f k → IsFuncAt c f old now k → new ≡ record now { content = and_export now.content n (e.Func k) } → WritesItem c old new n (kind.Func f)
+pub function-wrote : (c : Collection) (old now new : Scope) (n : Name) (f : FuncTypeId) (k : ℕ) → WritesFor c 0 (IsOfFunc c f) old now → AddsHeldFunc c old now f k → IsFuncAt c f old now k → new ≡ record now { content = and_export now.content n (e.Func k) } → WritesItem nothing_inside c old new n (kind.Func f)
 function-wrote c old now new n f k w adds there lists = record {
   now = now;
   behind = w;
@@ -101,7 +103,7 @@ function-wrote c old now new n f k w adds there lists = record {
   named = same-records now new n (e.Func k) lists;
 }
 
-pub function-type-wrote : (c : Collection) (old now new : Scope) (n : Name) (f : FuncTypeId) (k : ℕ) → WritesFor c 0 (IsOfFunc c f) old now → AddsHeldFunc c old now f k → IsFuncAt c f old now k → new ≡ record now { content = and_export now.content n (e.Equal k) } → WritesItem c old new n (kind.TypeItem (ty.Func f))
+pub function-type-wrote : (c : Collection) (old now new : Scope) (n : Name) (f : FuncTypeId) (k : ℕ) → WritesFor c 0 (IsOfFunc c f) old now → AddsHeldFunc c old now f k → IsFuncAt c f old now k → new ≡ record now { content = and_export now.content n (e.Equal k) } → WritesItem nothing_inside c old new n (kind.TypeItem (ty.Func f))
 function-type-wrote c old now new n f k w adds there lists = record {
   now = now;
   behind = w;
@@ -113,7 +115,7 @@ function-type-wrote c old now new n f k w adds there lists = record {
 
 -- refusals
 
-pub primitive-refused : (A B : Type 0) (c : Collection) → StaysOnward → (old : Scope) (n : Name) (v : ValueType) (p : PrimitiveType) (f : EncodeFault) → value_resolved c v ≡ val.Primitive p → WritesUnlessTooLarge {A = A} (Err f) (ContentFits (and_type old.content (value_def (primitive_def p)))) → IsItemRefused {A = B} c n (kind.TypeItem (ty.Value v)) old (Err f)
+pub primitive-refused : (A B : Type 0) (c : Collection) → StaysOnward → (old : Scope) (n : Name) (v : ValueType) (p : PrimitiveType) (f : EncodeFault) → value_resolved c v ≡ val.Primitive p → WritesUnlessTooLarge {A = A} (Err f) (ContentFits (and_type old.content (value_def (primitive_def p)))) → IsItemRefused {A = B} nothing_inside none_refused c n (kind.TypeItem (ty.Value v)) old (Err f)
 primitive-refused A B c stays old n v p (fault.Write g) is h = absurd h
 primitive-refused A B c stays old n v p fault.TooLarge is h = record {
   scope = old;
@@ -124,7 +126,7 @@ primitive-refused A B c stays old n v p fault.TooLarge is h = record {
 primitive-refused A B c stays old n v p fault.OutOfMemory is h = tt
 
 -- where the item does not fit
-pub export-refused : (A B : Type 0) (c : Collection) (old now : Scope) (n : Name) (k : ItemKind) (types : ℕ) (d : Description) (f : EncodeFault) → WritesFor c types (NeededBy c k) old now → IsDescribed c old now k d → FitsUnlessTooLarge {A = A} (Err f) (ContentFits (and_export now.content n d)) → IsItemRefused {A = B} c n k old (Err f)
+pub export-refused : (A B : Type 0) (c : Collection) (old now : Scope) (n : Name) (k : ItemKind) (types : ℕ) (d : Description) (f : EncodeFault) → WritesFor c types (NeededBy c k) old now → IsItemDescribed nothing_inside c old now k d → FitsUnlessTooLarge {A = A} (Err f) (ContentFits (and_export now.content n d)) → IsItemRefused {A = B} nothing_inside none_refused c n k old (Err f)
 export-refused A B c old now n k types d (fault.Write g) w described h = absurd h
 export-refused A B c old now n k types d fault.TooLarge w described h = record {
   scope = now;
@@ -134,20 +136,35 @@ export-refused A B c old now n k types d fault.TooLarge w described h = record {
 }
 export-refused A B c old now n k types d fault.OutOfMemory w described h = tt
 
-pub value-item-refused : (A B : Type 0) (c : Collection) (old now : Scope) (n : Name) (v : ValueType) (f : EncodeFault) → WritesFor c 0 (PartOf c (value_resolved c v)) old now → IsRefused {A = A} c (PartOf c (value_resolved c v)) now (Err f) → IsItemRefused {A = B} c n (kind.TypeItem (ty.Value v)) old (Err f)
+pub value-item-refused : (A B : Type 0) (c : Collection) (old now : Scope) (n : Name) (v : ValueType) (f : EncodeFault) → WritesFor c 0 (PartOf c (value_resolved c v)) old now → IsRefused {A = A} c (PartOf c (value_resolved c v)) now (Err f) → IsItemRefused {A = B} nothing_inside none_refused c n (kind.TypeItem (ty.Value v)) old (Err f)
 value-item-refused A B c old now n v (fault.Write g) w h = h
 value-item-refused A B c old now n v fault.TooLarge w h = record { scope = now; types = 0; behind = w; large = inl (inl h) }
 value-item-refused A B c old now n v fault.OutOfMemory w h = tt
 
-pub function-item-refused : (A B : Type 0) (c : Collection) (old now : Scope) (n : Name) (g : FuncTypeId) (f : EncodeFault) → WritesFor c 0 (IsOfFunc c g) old now → IsFuncRefused {A = A} c g now (Err f) → IsItemRefused {A = B} c n (kind.Func g) old (Err f)
+pub function-item-refused : (A B : Type 0) (c : Collection) (old now : Scope) (n : Name) (g : FuncTypeId) (f : EncodeFault) → WritesFor c 0 (IsOfFunc c g) old now → IsFuncRefused {A = A} c g now (Err f) → IsItemRefused {A = B} nothing_inside none_refused c n (kind.Func g) old (Err f)
 function-item-refused A B c old now n g (fault.Write h) w refused = refused
 function-item-refused A B c old now n g fault.TooLarge w refused = record { scope = now; types = 0; behind = w; large = inl refused }
 function-item-refused A B c old now n g fault.OutOfMemory w refused = tt
 
-pub function-type-refused : (A B : Type 0) (c : Collection) (old now : Scope) (n : Name) (g : FuncTypeId) (f : EncodeFault) → WritesFor c 0 (IsOfFunc c g) old now → IsFuncRefused {A = A} c g now (Err f) → IsItemRefused {A = B} c n (kind.TypeItem (ty.Func g)) old (Err f)
+pub function-type-refused : (A B : Type 0) (c : Collection) (old now : Scope) (n : Name) (g : FuncTypeId) (f : EncodeFault) → WritesFor c 0 (IsOfFunc c g) old now → IsFuncRefused {A = A} c g now (Err f) → IsItemRefused {A = B} nothing_inside none_refused c n (kind.TypeItem (ty.Func g)) old (Err f)
 function-type-refused A B c old now n g (fault.Write h) w refused = refused
 function-type-refused A B c old now n g fault.TooLarge w refused = record { scope = now; types = 0; behind = w; large = inl refused }
 function-type-refused A B c old now n g fault.OutOfMemory w refused = tt
+
+-- an instance whose interface's type is written already
+
+pub instance-described : (c : Collection) (s : Scope) (i : InterfaceId) (k : ℕ) → type_index s (ty.Interface i) ≡ Some k → IsItemDescribed nothing_inside c s s (kind.Instance i) (e.Instance k)
+instance-described c s i k at = subst (λ (o : Option ℕ). IsInstanceTypeFrom o nothing_inside c s s i k) (sym at) (refl, refl)
+
+pub instance-wrote : (c : Collection) → StaysOnward → (old new : Scope) (n : Name) (i : InterfaceId) (k : ℕ) → type_index old (ty.Interface i) ≡ Some k → new ≡ record old { content = and_export old.content n (e.Instance k) } → WritesItem nothing_inside c old new n (kind.Instance i)
+instance-wrote c stays old new n i k at lists = record {
+  now = old;
+  behind = writes-none c stays (NeededBy c (kind.Instance i)) old old (as-it-was old);
+  description = e.Instance k;
+  described = instance-described c old i k at;
+  appended = declared-so old new n (e.Instance k) lists;
+  named = same-records old new n (e.Instance k) lists;
+}
 
 pub handle-fault : (c : Collection) (v w : ValueType) → w ≡ value_resolved c v → IsHandle w → (write.UnboundResource ≡ write.UnboundResource) × HasHandle (PartOf c (value_resolved c v))
 handle-fault c v w is h = (refl, (value_resolved c v, itself, subst IsHandle is h))

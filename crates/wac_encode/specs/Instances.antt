@@ -1,5 +1,5 @@
 -- The instance type of an interface in a scope, and the definitions that an instance lists.
-use Rattle.std.specs.Prelude.{ℕ, ◌≡◌, ◌⊎◌, List, [], ◌∷◌, ◌++◌, Option, Some, None, Result, Ok, Err}
+use Rattle.std.specs.Prelude.{ℕ, ◌≡◌, List, [], ◌∷◌, ◌++◌, Option, Some, None, Result, Ok, Err}
 use Rattle.wac_shapes.specs.Name.{Name, option_case}
 use Rattle.wac_shapes.specs.declared.component.DefinedTypeId.{DefinedTypeId}
 use Rattle.wac_shapes.specs.declared.component.InterfaceId.{InterfaceId}
@@ -14,44 +14,24 @@ use Rattle.wac_collection.specs.Collection.{Collection}
 use Rattle.wac_collection.specs.Aliases.{value_resolved}
 use Rattle.wac_collection.specs.Bound.{Bindings}
 use Rattle.wac_binary.specs.HasMeaning.{IsInstance}
-use Rattle.wac_binary.specs.Indexes.{space}
-use Rattle.wac_binary.specs.Items.{instance_def, Decl, decls}
-use Rattle.wac_binary.specs.declared.sorts.Sort.TheVariants as sort
 use Rattle.wac_scopes.specs.declared.encodable.Encodable.TheVariants.{Component}
 use Rattle.wac_scopes.specs.declared.scope.Scope.{Scope}
 use Rattle.wac_scopes.specs.declared.fault.EncodeFault.{EncodeFault}
 use Rattle.wac_scopes.specs.declared.fault.EncodeFault.TheVariants as fault
-use Rattle.wac_scopes.specs.Contents.{and_type, count, ContentFits}
 use Rattle.wac_stacks.specs.Scopes.{Open, Stack}
 use Rattle.wac_stacks.specs.Good.{IsHeld, Good}
 use Rattle.wac_stacks.specs.Laws.{Adds}
-use Rattle.wac_scopes.specs.Scoped.{type_index, HasToo, opened, listing}
-use Rattle.wac_encode.specs.Listing.{AliasesFor, AllAliased, AliasDoesNotFit, WritesInterface, IsInterfaceRefused}
+use Rattle.wac_scopes.specs.Scoped.{type_index, opened, listing}
+use Rattle.wac_encode.specs.Listing.{AliasesFor, WritesInterface, IsInstanceTypeAt, InsideDoesNotFit, IsInterfaceRefused}
 
 -- index k is the held interface's, in each stack that was good with the scope as the innermost; and that stack goes onward
 abbrev pub AddsHeldInterface : Collection → Scope → Scope → InterfaceId → ℕ → Type 0
 AddsHeldInterface c old new i k = (m : Bindings) (ms : List Bindings) (o : Open) (os : Stack) → Good c (m ∷ ms) (opened old o ∷ os)
     → (t : Tree) × IsHeld c m (ty.Interface i) t × IsInstance t × Adds c (m ∷ ms) (opened old o ∷ os) (opened new o ∷ os) k t
 
--- index j is the instance type that was written last, that of the interface, and is recorded
-pub record EndsWithInterface (c : Collection) (old now : Scope) (i : InterfaceId) (j : ℕ) : Type 0 where
-  -- behind the aliases of all that its items are made of and an instance lists
-  pub around : Scope
-  pub aliases : AliasesFor c i old around
-  pub all : AllAliased c i old around
-  pub declarations : List Decl
-  pub written : WritesInterface c around i declarations
-  pub appended : now.content ≡ and_type around.content (instance_def (decls declarations))
-  pub recorded : HasToo around (ty.Interface i) j now
-  pub index : j ≡ count (space sort.«Type») around.content
-
--- index j is that of the interface: the recorded one, and nothing is written; else it was written last
-abbrev pub IsInterfaceFrom : Option ℕ → Collection → Scope → Scope → InterfaceId → ℕ → Type 0
-IsInterfaceFrom (Some k) c old now i j = (j ≡ k) × (now ≡ old)
-IsInterfaceFrom None c old now i j = EndsWithInterface c old now i j
-
+-- index j is that of the interface's instance type: the recorded one, and nothing is written; else it was written last
 abbrev pub IsInterfaceAt : Collection → Scope → Scope → InterfaceId → ℕ → Type 0
-IsInterfaceAt c old now i j = IsInterfaceFrom (type_index old (ty.Interface i)) c old now i j
+IsInterfaceAt c old now i j = IsInstanceTypeAt (WritesInterface c) c old now i j
 
 -- the definition of a value type
 abbrev pub definition_of : ValueType → Option DefinedTypeId
@@ -68,18 +48,18 @@ abbrev pub listed_definitions : Collection → List (Name × ItemKind) → List 
 listed_definitions c [] = []
 listed_definitions c (e ∷ es) = listed_definitions c es ++ option_case (listed_definition c e.1) [] (λ d. (d, e.0) ∷ [])
 
--- the interface's instance type does not fit behind what is written
-abbrev pub InstanceDoesNotFit : Collection → InterfaceId → Scope → Type 0
-InstanceDoesNotFit c i s = (ds : List Decl) × WritesInterface c s i ds × (ContentFits (and_type s.content (instance_def (decls ds))) → ⊥)
+-- an interface is refused over a scope
+abbrev pub RefusesInterface : Collection → Scope → InterfaceId → EncodeFault → Type 0
+RefusesInterface c s i f = IsInterfaceRefused {A = Unit {0}} c s i (Err f)
 
 -- what does not fit of an interface where the scope is this: an alias, an item, or the instance type
 abbrev pub InterfaceDoesNotFit : Collection → InterfaceId → Scope → Type 0
-InterfaceDoesNotFit c i s = AliasDoesNotFit c i s ⊎ (IsInterfaceRefused {A = Unit {0}} c s i (Err fault.TooLarge) ⊎ InstanceDoesNotFit c i s)
+InterfaceDoesNotFit c i s = InsideDoesNotFit (WritesInterface c) (RefusesInterface c) c i s
 
 -- what stands where the interface is not written: behind some of its aliases, its fault, or something does not fit
 abbrev pub IsInstanceRefused : {A : Type 0} → Collection → InterfaceId → Scope → Result A EncodeFault → Type 0
 IsInstanceRefused c i old (Ok x) = Unit {0}
-IsInstanceRefused c i old (Err (fault.Write f)) = (s : Scope) × AliasesFor c i old s × IsInterfaceRefused {A = Unit {0}} c s i (Err (fault.Write f))
+IsInstanceRefused c i old (Err (fault.Write f)) = (s : Scope) × AliasesFor c i old s × RefusesInterface c s i (fault.Write f)
 IsInstanceRefused c i old (Err fault.TooLarge) = (s : Scope) × AliasesFor c i old s × InterfaceDoesNotFit c i s
 IsInstanceRefused c i old (Err fault.OutOfMemory) = Unit {0}
 

@@ -3,12 +3,14 @@ use Rattle.std.specs.Prelude.{◌≡◌, true, List, ◌∷◌}
 use Rattle.wac_shapes.specs.Name.{Name}
 use Rattle.wac_shapes.specs.Kinds.{kind_type}
 use Rattle.wac_shapes.specs.declared.component.Interface.{Interface}
+use Rattle.wac_shapes.specs.declared.component.InterfaceId.{InterfaceId}
 use Rattle.wac_shapes.specs.declared.component.ItemKind.{ItemKind}
 use Rattle.wac_collection.specs.Tree.{exported, Tree}
 use Rattle.wac_collection.specs.Collection.{Collection, holds_type}
 use Rattle.wac_collection.specs.Bound.{Bindings, inside_interface}
 use Rattle.wac_binary.specs.HasMeaning.{ImportNothing}
-use Rattle.wac_binary.specs.Items.{decls}
+use Rattle.wac_binary.specs.Items.{Decl, decls}
+use Rattle.wac_scopes.specs.declared.fault.EncodeFault.{EncodeFault}
 use Rattle.wac_scopes.specs.declared.encodable.Encodable.{Encodable}
 use Rattle.wac_scopes.specs.declared.encodable.Encodable.TheVariants.{Builder, Instance, Component}
 use Rattle.wac_scopes.specs.declared.scope.Scope.{Scope}
@@ -29,9 +31,16 @@ CanClose (Builder items) = ⊥
 CanClose (Instance ds) = ImportNothing (decls ds)
 CanClose (Component ds) = ⊥
 
--- an item can be listed
+-- nothing is written inside of instances, and nothing refused
+abbrev pub nothing_inside : Scope → InterfaceId → List Decl → Type 0
+nothing_inside s i ds = ⊥
+
+abbrev pub none_refused : Scope → InterfaceId → EncodeFault → Type 0
+none_refused s i e = ⊥
+
+-- an item can be listed, as far as it goes without what is inside of instances
 abbrev pub CanList : Collection → ItemKind → Type 0
-CanList c k = (holds_type c (kind_type k) ≡ true) × (is_plain k ≡ true)
+CanList c k = (holds_type c (kind_type k) ≡ true) × (is_plain (λ i. true) k ≡ true)
 
 -- the scope lists these items of the interface, over each stack that was good with what it was at the start as the innermost
 abbrev pub HasListed : Collection → Interface → Scope → Scope → List (Name × ItemKind) → Type 0

@@ -3,3 +3,5 @@ pub mod Tasks
 pub mod Listing
 pub mod Items
 pub mod Instances
+pub mod Levels
+pub mod Inside

@@ -1,5 +1,5 @@
 -- What the writer of interfaces writes.
-use Rattle.std.specs.Prelude.{ℕ, ◌≡◌, ◌⊎◌, not, Bool, true, false, List, [], ◌∷◌, ◌++◌, Option, Some, None, IsSome, slice_get, Result, Ok, Err, IsPermutation}
+use Rattle.std.specs.Prelude.{ℕ, zero, suc, ◌≡◌, ◌⊎◌, not, Bool, true, false, List, [], ◌∷◌, ◌++◌, Option, Some, None, IsSome, slice_get, Result, Ok, Err, IsPermutation}
 use Rattle.std.specs.List.{AllZip, filter, list_all}
 use Rattle.wac_shapes.specs.Name.{Name, option_case}
 use Rattle.wac_shapes.specs.declared.component.DefinedTypeId.{DefinedTypeId}
@@ -12,7 +12,7 @@ use Rattle.wac_shapes.specs.declared.component.ValueType.TheVariants as val
 use Rattle.wac_shapes.specs.declared.component.«Type».{«Type» as AnyType}
 use Rattle.wac_shapes.specs.declared.component.«Type».TheVariants as ty
 use Rattle.wac_collection.specs.Tree.{Tree}
-use Rattle.wac_collection.specs.Collection.{Collection, interface_exports, item_at}
+use Rattle.wac_collection.specs.Collection.{Collection, interface_exports, item_at, size}
 use Rattle.wac_collection.specs.Aliases.{value_resolved}
 use Rattle.wac_collection.specs.Bound.{Bindings}
 use Rattle.wac_binary.specs.HasMeaning.{IsInstance}
@@ -44,21 +44,26 @@ SaysInterface c around i ds = (m : Bindings) (ms : List Bindings) (o : Open) (os
     → (t : Tree) × IsHeld c m (ty.Interface i) t × IsInstance t
     × Adds c (m ∷ ms) (opened around o ∷ os) (with_def (instance_def (decls ds)) (opened around o) ∷ os) (next_type (opened around o)) t
 
--- whether an item is of a sort that is written so far, or that no instance type can list
-abbrev pub is_plain : ItemKind → Bool
-is_plain (kind.TypeItem (ty.Value v)) = true
-is_plain (kind.TypeItem (ty.Func f)) = true
-is_plain (kind.TypeItem (ty.Module m)) = true
-is_plain (kind.TypeItem t) = false
-is_plain (kind.Instance i) = false
-is_plain k = true
+-- whether an item is of a sort that is written so far, or that no instance type can list; of instances this tells of which
+abbrev pub is_plain : (InterfaceId → Bool) → ItemKind → Bool
+is_plain inside (kind.TypeItem (ty.Value v)) = true
+is_plain inside (kind.TypeItem (ty.Func f)) = true
+is_plain inside (kind.TypeItem (ty.Module m)) = true
+is_plain inside (kind.TypeItem t) = false
+is_plain inside (kind.Instance i) = inside i
+is_plain inside k = true
 
-abbrev pub are_plain : List (Name × ItemKind) → Bool
-are_plain es = list_all (λ e. is_plain e.1) es
+abbrev pub are_plain : (InterfaceId → Bool) → List (Name × ItemKind) → Bool
+are_plain inside es = list_all (λ e. is_plain inside e.1) es
 
--- whether all items of an interface are
+-- whether all items of an interface are, and those of the instances among them, to this depth of instances in instances
+abbrev pub lists_plain_to : ℕ → Collection → InterfaceId → Bool
+lists_plain_to zero c i = false
+lists_plain_to (suc d) c i = option_case (item_at c.interfaces i.0) true (λ it. are_plain (lists_plain_to d c) it.exports)
+
+-- and to any: an interface lists instances of those added before it alone, so that none are deeper than the collection is large
 abbrev pub lists_plain : Collection → InterfaceId → Bool
-lists_plain c i = option_case (item_at c.interfaces i.0) true (λ it. are_plain it.exports)
+lists_plain c i = lists_plain_to (size c) c i
 
 -- whether an item is a type item
 abbrev pub is_type : ItemKind → Bool
@@ -148,6 +153,32 @@ IsDescribed c old now (kind.TypeItem (ty.Func f)) (e.Equal i) = AddsHeldFunc c o
 IsDescribed c old now (kind.Func f) (e.Func i) = AddsHeldFunc c old now f i × IsFuncAt c f old now i
 IsDescribed c old now k d = ⊥
 
+-- How the instance types of interfaces inside are written, and with which faults they are refused, is told by parameters where it matters.
+-- index j is the instance type that was written last, that of the interface, and is recorded
+pub record EndsWithInstanceType (Inside : Scope → InterfaceId → List Decl → Type 0) (c : Collection) (old now : Scope) (i : InterfaceId) (j : ℕ) : Type 0 where
+  -- behind the aliases of all that its items are made of and is listed elsewhere
+  pub around : Scope
+  pub aliases : AliasesFor c i old around
+  pub all : AllAliased c i old around
+  pub declarations : List Decl
+  pub written : Inside around i declarations
+  pub appended : now.content ≡ and_type around.content (instance_def (decls declarations))
+  pub recorded : HasToo around (ty.Interface i) j now
+  pub index : j ≡ count (space sort.«Type») around.content
+
+-- index j is that of the interface: the recorded one, and nothing is written; else it was written last
+abbrev pub IsInstanceTypeFrom : Option ℕ → (Scope → InterfaceId → List Decl → Type 0) → Collection → Scope → Scope → InterfaceId → ℕ → Type 0
+IsInstanceTypeFrom (Some k) Inside c old now i j = (j ≡ k) × (now ≡ old)
+IsInstanceTypeFrom None Inside c old now i j = EndsWithInstanceType Inside c old now i j
+
+abbrev pub IsInstanceTypeAt : (Scope → InterfaceId → List Decl → Type 0) → Collection → Scope → Scope → InterfaceId → ℕ → Type 0
+IsInstanceTypeAt Inside c old now i j = IsInstanceTypeFrom (type_index old (ty.Interface i)) Inside c old now i j
+
+-- and of an instance, by an index of its interface's instance type
+abbrev pub IsItemDescribed : (Scope → InterfaceId → List Decl → Type 0) → Collection → Scope → Scope → ItemKind → Description → Type 0
+IsItemDescribed Inside c old now (kind.Instance i) (e.Instance j) = IsInstanceTypeAt Inside c old now i j
+IsItemDescribed Inside c old now k d = IsDescribed c old now k d
+
 -- the same is recorded, and listed, and has a name
 pub record SameRecords (old new : Scope) : Type 0 where
   pub types : (a : AnyType) → type_index new a ≡ type_index old a
@@ -168,18 +199,18 @@ NamesItem c old now new n (kind.TypeItem (ty.Value v)) = NamesValue old now new 
 NamesItem c old now new n k = SameRecords now new
 
 -- From old to new, an item is listed: what it is made of is written first, once, where it is not written yet.
-pub record WritesItem (c : Collection) (old new : Scope) (n : Name) (k : ItemKind) : Type 0 where
+pub record WritesItem (Inside : Scope → InterfaceId → List Decl → Type 0) (c : Collection) (old new : Scope) (n : Name) (k : ItemKind) : Type 0 where
   pub now : Scope
   pub behind : WritesFor c (own_types c k) (NeededBy c k) old now
   pub description : Description
-  pub described : IsDescribed c old now k description
+  pub described : IsItemDescribed Inside c old now k description
   pub appended : new.content ≡ and_export now.content n description
   pub named : NamesItem c old now new n k
 
 -- items, one after the other
-abbrev pub WritesItems : Collection → Scope → List (Name × ItemKind) → Scope → Type 0
-WritesItems c old [] new = new ≡ old
-WritesItems c old (e ∷ es) new = (now : Scope) × WritesItem c old now e.0 e.1 × WritesItems c now es new
+abbrev pub WritesItems : (Scope → InterfaceId → List Decl → Type 0) → Collection → Scope → List (Name × ItemKind) → Scope → Type 0
+WritesItems Inside c old [] new = new ≡ old
+WritesItems Inside c old (e ∷ es) new = (now : Scope) × WritesItem Inside c old now e.0 e.1 × WritesItems Inside c now es new
 
 -- what has a name around is listed there
 abbrev pub around_at : Option ℕ → Option Listed
@@ -195,7 +226,7 @@ pub record IsOpened (c : Collection) (i : InterfaceId) (around s : Scope) : Type
   pub only : (d : DefinedTypeId) (l : Listed) → listed_at s d ≡ Some l → around_at (named_at around d) ≡ Some l
 
 -- the declarations list exactly the items of the interface, in order
-pub record WritesInterface (c : Collection) (around : Scope) (i : InterfaceId) (ds : List Decl) : Type 0 where
+pub record WritesListed (Inside : Scope → InterfaceId → List Decl → Type 0) (c : Collection) (around : Scope) (i : InterfaceId) (ds : List Decl) : Type 0 where
   pub interface : Interface
   pub found : item_at c.interfaces i.0 ≡ Some interface
   pub order : List (Name × ItemKind)
@@ -203,8 +234,17 @@ pub record WritesInterface (c : Collection) (around : Scope) (i : InterfaceId) (
   pub start : Scope
   pub opened_ : IsOpened c i around start
   pub scope : Scope
-  pub written : WritesItems c start order scope
+  pub written : WritesItems Inside c start order scope
   pub is : scope.content ≡ Instance ds
+
+-- and those of interfaces inside the same, to this depth of instances in instances
+abbrev pub WritesInterfaceTo : ℕ → Collection → Scope → InterfaceId → List Decl → Type 0
+WritesInterfaceTo zero c around i ds = ⊥
+WritesInterfaceTo (suc d) c around i ds = WritesListed (WritesInterfaceTo d c) c around i ds
+
+-- to some depth
+abbrev pub WritesInterface : Collection → Scope → InterfaceId → List Decl → Type 0
+WritesInterface c around i ds = (d : ℕ) × WritesInterfaceTo d c around i ds
 
 -- and so where there are declarations
 abbrev pub SaysIfThere : Collection → Scope → InterfaceId → Option (List Decl) → Type 0
@@ -226,16 +266,28 @@ TypeDoesNotFit c (kind.TypeItem (ty.Func f)) s = DoesNotFit c (IsOfFunc c f) s �
 TypeDoesNotFit c (kind.Func f) s = DoesNotFit c (IsOfFunc c f) s ⊎ FuncDoesNotFit c f s
 TypeDoesNotFit c k s = ⊥
 
+-- the instance type of an interface does not
+abbrev pub InstanceDoesNotFit : (Scope → InterfaceId → List Decl → Type 0) → InterfaceId → Scope → Type 0
+InstanceDoesNotFit Inside i s = (ds : List Decl) × Inside s i ds × (ContentFits (and_type s.content (instance_def (decls ds))) → ⊥)
+
+-- what does not fit of an interface over this scope: an alias, one of its items, or the instance type
+abbrev pub InsideDoesNotFit : (Scope → InterfaceId → List Decl → Type 0) → (Scope → InterfaceId → EncodeFault → Type 0) → Collection → InterfaceId → Scope → Type 0
+InsideDoesNotFit Inside Refused c i s = AliasDoesNotFit c i s ⊎ (Refused s i fault.TooLarge ⊎ InstanceDoesNotFit Inside i s)
+
+abbrev pub ItemTypeDoesNotFit : (Scope → InterfaceId → List Decl → Type 0) → (Scope → InterfaceId → EncodeFault → Type 0) → Collection → ItemKind → Scope → Type 0
+ItemTypeDoesNotFit Inside Refused c (kind.Instance i) s = InsideDoesNotFit Inside Refused c i s
+ItemTypeDoesNotFit Inside Refused c k s = TypeDoesNotFit c k s
+
 -- the item itself does not
-abbrev pub ExportDoesNotFit : Collection → Name → ItemKind → Scope → Scope → Type 0
-ExportDoesNotFit c n k old s = (d : Description) × IsDescribed c old s k d × (ContentFits (and_export s.content n d) → ⊥)
+abbrev pub ExportDoesNotFit : (Scope → InterfaceId → List Decl → Type 0) → Collection → Name → ItemKind → Scope → Scope → Type 0
+ExportDoesNotFit Inside c n k old s = (d : Description) × IsItemDescribed Inside c old s k d × (ContentFits (and_export s.content n d) → ⊥)
 
 -- behind some of what it is made of
-pub record ItemDoesNotFit (c : Collection) (n : Name) (k : ItemKind) (old : Scope) : Type 0 where
+pub record ItemDoesNotFit (Inside : Scope → InterfaceId → List Decl → Type 0) (Refused : Scope → InterfaceId → EncodeFault → Type 0) (c : Collection) (n : Name) (k : ItemKind) (old : Scope) : Type 0 where
   pub scope : Scope
   pub types : ℕ
   pub behind : WritesFor c types (NeededBy c k) old scope
-  pub large : TypeDoesNotFit c k scope ⊎ ExportDoesNotFit c n k old scope
+  pub large : ItemTypeDoesNotFit Inside Refused c k scope ⊎ ExportDoesNotFit Inside c n k old scope
 
 -- which fault stands at an item: a handle, whose resource nothing binds; a core module type; what an instance type cannot list
 abbrev pub IsItemFault : Collection → ItemKind → WriteFault → Type 0
@@ -245,39 +297,46 @@ IsItemFault c (kind.Func g) f = (f ≡ write.UnboundResource) × HasHandle (IsOf
 IsItemFault c (kind.TypeItem (ty.Module m)) f = f ≡ write.ModuleAsType
 IsItemFault c k f = f ≡ write.NestedItem
 
+-- of an instance, that of the first item of its interface that has one, behind some of the interface's aliases
+abbrev pub IsFaultIn : (Scope → InterfaceId → EncodeFault → Type 0) → Collection → Scope → ItemKind → WriteFault → Type 0
+IsFaultIn Refused c old (kind.Instance i) f = (s : Scope) × AliasesFor c i old s × Refused s i (fault.Write f)
+IsFaultIn Refused c old k f = IsItemFault c k f
+
 -- what stands where an item is refused in a scope
-abbrev pub IsItemRefused : {A : Type 0} → Collection → Name → ItemKind → Scope → Result A EncodeFault → Type 0
-IsItemRefused c n k s (Ok x) = Unit {0}
-IsItemRefused c n k s (Err (fault.Write f)) = IsItemFault c k f
-IsItemRefused c n k s (Err fault.TooLarge) = ItemDoesNotFit c n k s
-IsItemRefused c n k s (Err fault.OutOfMemory) = Unit {0}
+abbrev pub IsItemRefused : {A : Type 0} → (Scope → InterfaceId → List Decl → Type 0) → (Scope → InterfaceId → EncodeFault → Type 0) → Collection → Name → ItemKind → Scope → Result A EncodeFault → Type 0
+IsItemRefused Inside Refused c n k s (Ok x) = Unit {0}
+IsItemRefused Inside Refused c n k s (Err (fault.Write f)) = IsFaultIn Refused c s k f
+IsItemRefused Inside Refused c n k s (Err fault.TooLarge) = ItemDoesNotFit Inside Refused c n k s
+IsItemRefused Inside Refused c n k s (Err fault.OutOfMemory) = Unit {0}
 
 -- an item is refused behind those before it
-pub record IsStopped (c : Collection) (start : Scope) (order : List (Name × ItemKind)) (e : EncodeFault) : Type 0 where
+pub record IsStopped (Inside : Scope → InterfaceId → List Decl → Type 0) (Refused : Scope → InterfaceId → EncodeFault → Type 0) (c : Collection) (start : Scope) (order : List (Name × ItemKind)) (e : EncodeFault) : Type 0 where
   pub before : List (Name × ItemKind)
   pub name : Name
   pub item : ItemKind
   pub after : List (Name × ItemKind)
   pub split : order ≡ before ++ (name, item) ∷ after
   pub scope : Scope
-  pub written : WritesItems c start before scope
-  pub refused : IsItemRefused {A = Unit {0}} c name item scope (Err e)
+  pub written : WritesItems Inside c start before scope
+  pub refused : IsItemRefused {A = Unit {0}} Inside Refused c name item scope (Err e)
 
-abbrev pub AreRefused : {A : Type 0} → Collection → Scope → List (Name × ItemKind) → Result A EncodeFault → Type 0
-AreRefused c start order (Ok x) = Unit {0}
-AreRefused c start order (Err e) = IsStopped c start order e
-
--- what stands where an interface is refused: the first of its items, in order, that is; or memory was refused
-pub record HasRefusedItem (c : Collection) (around : Scope) (i : InterfaceId) (e : EncodeFault) : Type 0 where
+-- what stands where an interface is refused: the first of its items, in order, that is
+pub record HasRefusedItem (Inside : Scope → InterfaceId → List Decl → Type 0) (Refused : Scope → InterfaceId → EncodeFault → Type 0) (c : Collection) (around : Scope) (i : InterfaceId) (e : EncodeFault) : Type 0 where
   pub interface : Interface
   pub found : item_at c.interfaces i.0 ≡ Some interface
   pub order : List (Name × ItemKind)
   pub ordered : IsOrder c interface.exports order
   pub start : Scope
   pub opened_ : IsOpened c i around start
-  pub stopped : IsStopped c start order e
+  pub stopped : IsStopped Inside Refused c start order e
 
+-- and so of interfaces inside, to this depth
+abbrev pub IsRefusedTo : ℕ → Collection → Scope → InterfaceId → EncodeFault → Type 0
+IsRefusedTo zero c around i e = ⊥
+IsRefusedTo (suc d) c around i e = HasRefusedItem (WritesInterfaceTo d c) (IsRefusedTo d c) c around i e
+
+-- to some depth; or memory was refused
 abbrev pub IsInterfaceRefused : {A : Type 0} → Collection → Scope → InterfaceId → Result A EncodeFault → Type 0
 IsInterfaceRefused c around i (Ok x) = Unit {0}
 IsInterfaceRefused c around i (Err fault.OutOfMemory) = Unit {0}
-IsInterfaceRefused c around i (Err e) = HasRefusedItem c around i e
+IsInterfaceRefused c around i (Err e) = (d : ℕ) × IsRefusedTo d c around i e

@@ -1,8 +1,9 @@
 //! The writer of interfaces.
 
-ghost use Rattle.std.specs.Prelude.{◌≡◌, ◌<◌, ◌↔◌, ◌++◌, [], not, ℕ, List, true, false, None, Some, IfOk, OnOk, length, slice_get};
+ghost use Rattle.std.specs.Prelude.{◌≡◌, ◌<◌, ◌++◌, not, ℕ, List, true, None, Some, IsSome, IfOk, OnOk, length, slice_get};
 ghost use Rattle.std.specs.List.{AllZip, filter};
 ghost use Rattle.wac_shapes.specs.Named.{NoNameTwice, named_pairs};
+ghost use Rattle.wac_shapes.specs.declared.component.InterfaceId.{InterfaceId as AnId};
 ghost use Rattle.wac_shapes.specs.declared.component.ItemKind.{ItemKind as AnyItem};
 ghost use Rattle.wac_shapes.specs.declared.component.ItemKind.TheVariants as kind;
 ghost use Rattle.wac_shapes.specs.declared.component.ValueType.TheVariants as val;
@@ -12,22 +13,18 @@ ghost use Rattle.wac_collection.specs.Collection.{HasFunc, HasInterface, holds_v
 ghost use Rattle.wac_collection.specs.Aliases.{value_resolved};
 ghost use Rattle.wac_scopes.specs.declared.encodable.Encodable.TheVariants.{Instance};
 ghost use Rattle.wac_scopes.specs.Contents.{IsOpenType};
-ghost use Rattle.wac_scopes.specs.Scoped.{value_index};
-ghost use Rattle.wac_encode.specs.Listing.{SaysIfThere, WritesIfThere, is_plain as plain_item, are_plain as plain_items, lists_plain, is_type, is_other_type, IsOrder, WritesItem, WritesItems, IsItemRefused, AreRefused, IsInterfaceRefused};
-ghost use Rattle.wac_encode.specs.Items.{ListsHeld, CanClose, CanList, HasListed};
+ghost use Rattle.wac_scopes.specs.Scoped.{type_index, value_index};
+ghost use Rattle.wac_encode.specs.Listing.{is_type, is_other_type, IsOrder, WritesItem, IsItemRefused};
+ghost use Rattle.wac_encode.specs.Items.{ListsHeld, CanClose, CanList, nothing_inside, none_refused};
 
 use crate::encoder::TypeEncoder;
 use std::alloc::{AllocError, Global};
 use wac_binary::{ComponentValType, InstanceType};
 use wac_collection::{
-    DefinedTypeId, FuncTypeId, Interface, InterfaceId, ItemKind, Named, PrimitiveType, Type,
-    ValueType,
+    DefinedTypeId, FuncTypeId, InterfaceId, ItemKind, Named, PrimitiveType, Type, ValueType,
 };
 use wac_listing::type_order;
-use wac_scopes::{
-    Encodable, EncodeFault, Scope, WriteFault, alias_law, closing_law, listing_law, step_law,
-    still_law,
-};
+use wac_scopes::{Encodable, EncodeFault, Scope, WriteFault, alias_law, step_law, still_law};
 
 impl<'a> TypeEncoder<'a> {
     /// Lists a primitive as a type item.
@@ -41,8 +38,8 @@ impl<'a> TypeEncoder<'a> {
         requires end { value_resolved self.now.types.now value ≡ val.Primitive primitive }
         requires open { IsOpenType scope.old.content }
         ensures listed { OnOk result (ListsHeld self.now.types.now scope.old scope.new name.now (kind.TypeItem (ty.Value value))) }
-        ensures wrote { OnOk result (WritesItem self.now.types.now scope.old scope.new name.now (kind.TypeItem (ty.Value value))) }
-        ensures fault { IsItemRefused self.now.types.now name.now (kind.TypeItem (ty.Value value)) scope.old result }
+        ensures wrote { OnOk result (WritesItem nothing_inside self.now.types.now scope.old scope.new name.now (kind.TypeItem (ty.Value value))) }
+        ensures fault { IsItemRefused nothing_inside none_refused self.now.types.now name.now (kind.TypeItem (ty.Value value)) scope.old result }
     {
         self.types.law();
         alias_law();
@@ -65,8 +62,8 @@ impl<'a> TypeEncoder<'a> {
         requires written { value_index scope.old id ≡ Some index }
         requires open { IsOpenType scope.old.content }
         ensures listed { OnOk result (ListsHeld self.now.types.now scope.old scope.new name.now (kind.TypeItem (ty.Value value))) }
-        ensures wrote { OnOk result (WritesItem self.now.types.now scope.old scope.new name.now (kind.TypeItem (ty.Value value))) }
-        ensures fault { IsItemRefused self.now.types.now name.now (kind.TypeItem (ty.Value value)) scope.old result }
+        ensures wrote { OnOk result (WritesItem nothing_inside self.now.types.now scope.old scope.new name.now (kind.TypeItem (ty.Value value))) }
+        ensures fault { IsItemRefused nothing_inside none_refused self.now.types.now name.now (kind.TypeItem (ty.Value value)) scope.old result }
     {
         self.types.law();
         alias_law();
@@ -89,8 +86,8 @@ impl<'a> TypeEncoder<'a> {
         requires unwritten { value_index scope.old id ≡ None }
         requires open { IsOpenType scope.old.content }
         ensures listed { OnOk result (ListsHeld self.now.types.now scope.old scope.new name.now (kind.TypeItem (ty.Value value))) }
-        ensures wrote { OnOk result (WritesItem self.now.types.now scope.old scope.new name.now (kind.TypeItem (ty.Value value))) }
-        ensures fault { IsItemRefused self.now.types.now name.now (kind.TypeItem (ty.Value value)) scope.old result }
+        ensures wrote { OnOk result (WritesItem nothing_inside self.now.types.now scope.old scope.new name.now (kind.TypeItem (ty.Value value))) }
+        ensures fault { IsItemRefused nothing_inside none_refused self.now.types.now name.now (kind.TypeItem (ty.Value value)) scope.old result }
     {
         self.types.law();
         alias_law();
@@ -107,8 +104,8 @@ impl<'a> TypeEncoder<'a> {
         requires held { holds_value self.now.types.now value ≡ true }
         requires open { IsOpenType scope.old.content }
         ensures listed { OnOk result (ListsHeld self.now.types.now scope.old scope.new name.now (kind.TypeItem (ty.Value value))) }
-        ensures wrote { OnOk result (WritesItem self.now.types.now scope.old scope.new name.now (kind.TypeItem (ty.Value value))) }
-        ensures fault { IsItemRefused self.now.types.now name.now (kind.TypeItem (ty.Value value)) scope.old result }
+        ensures wrote { OnOk result (WritesItem nothing_inside self.now.types.now scope.old scope.new name.now (kind.TypeItem (ty.Value value))) }
+        ensures fault { IsItemRefused nothing_inside none_refused self.now.types.now name.now (kind.TypeItem (ty.Value value)) scope.old result }
     {
         let end = self.types.resolve_value_type(value);
         match end {
@@ -130,8 +127,8 @@ impl<'a> TypeEncoder<'a> {
         requires held { HasFunc self.now.types.now func }
         requires open { IsOpenType scope.old.content }
         ensures listed { OnOk result (ListsHeld self.now.types.now scope.old scope.new name.now (kind.Func func)) }
-        ensures wrote { OnOk result (WritesItem self.now.types.now scope.old scope.new name.now (kind.Func func)) }
-        ensures fault { IsItemRefused self.now.types.now name.now (kind.Func func) scope.old result }
+        ensures wrote { OnOk result (WritesItem nothing_inside self.now.types.now scope.old scope.new name.now (kind.Func func)) }
+        ensures fault { IsItemRefused nothing_inside none_refused self.now.types.now name.now (kind.Func func) scope.old result }
     {
         let index = self.func(scope, func)?;
         scope.export_func(name, index)?;
@@ -148,26 +145,54 @@ impl<'a> TypeEncoder<'a> {
         requires held { HasFunc self.now.types.now func }
         requires open { IsOpenType scope.old.content }
         ensures listed { OnOk result (ListsHeld self.now.types.now scope.old scope.new name.now (kind.TypeItem (ty.Func func))) }
-        ensures wrote { OnOk result (WritesItem self.now.types.now scope.old scope.new name.now (kind.TypeItem (ty.Func func))) }
-        ensures fault { IsItemRefused self.now.types.now name.now (kind.TypeItem (ty.Func func)) scope.old result }
+        ensures wrote { OnOk result (WritesItem nothing_inside self.now.types.now scope.old scope.new name.now (kind.TypeItem (ty.Func func))) }
+        ensures fault { IsItemRefused nothing_inside none_refused self.now.types.now name.now (kind.TypeItem (ty.Func func)) scope.old result }
     {
         let index = self.func(scope, func)?;
         scope.export_type(name, index)?;
         Ok(())
     }
 
-    /// Writes what an item is made of, and lists it under its name.
-    fn item(&self, scope: &mut Scope, name: &str, item: ItemKind) -> Result<(), EncodeFault>
+    /// Lists an instance of an interface whose instance type is written already.
+    fn instance_item(
+        &self,
+        scope: &mut Scope,
+        name: &str,
+        interface: InterfaceId,
+    ) -> Result<(), EncodeFault>
+        requires written { IsSome (type_index scope.old (ty.Interface interface)) }
+        requires open { IsOpenType scope.old.content }
+        ensures listed { OnOk result (ListsHeld self.now.types.now scope.old scope.new name.now (kind.Instance interface)) }
+        ensures wrote { OnOk result (WritesItem nothing_inside self.now.types.now scope.old scope.new name.now (kind.Instance interface)) }
+        ensures fault { IsItemRefused nothing_inside none_refused self.now.types.now name.now (kind.Instance interface) scope.old result }
+    {
+        still_law();
+        let Some(index) = scope.interface(interface) else {
+            unreachable!()
+        };
+        scope.export_instance(name, index)?;
+        Ok(())
+    }
+
+    /// Writes what an item is made of, and lists it under its name. The instance type of an instance's interface is written already.
+    pub(crate) fn item(
+        &self,
+        scope: &mut Scope,
+        name: &str,
+        item: ItemKind,
+    ) -> Result<(), EncodeFault>
         requires held { CanList self.now.types.now item }
+        requires inside { (i : AnId) → item ≡ kind.Instance i → IsSome (type_index scope.old (ty.Interface i)) }
         requires open { IsOpenType scope.old.content }
         ensures listed { OnOk result (ListsHeld self.now.types.now scope.old scope.new name.now item) }
-        ensures wrote { OnOk result (WritesItem self.now.types.now scope.old scope.new name.now item) }
-        ensures fault { IsItemRefused self.now.types.now name.now item scope.old result }
+        ensures wrote { OnOk result (WritesItem nothing_inside self.now.types.now scope.old scope.new name.now item) }
+        ensures fault { IsItemRefused nothing_inside none_refused self.now.types.now name.now item scope.old result }
     {
         match item {
             ItemKind::TypeItem(Type::Value(value)) => self.type_item(scope, name, value),
             ItemKind::TypeItem(Type::Func(func)) => self.func_type_item(scope, name, func),
             ItemKind::Func(func) => self.func_item(scope, name, func),
+            ItemKind::Instance(interface) => self.instance_item(scope, name, interface),
             ItemKind::TypeItem(Type::Module(_)) => {
                 Err(EncodeFault::Write(WriteFault::ModuleAsType))
             }
@@ -178,32 +203,11 @@ impl<'a> TypeEncoder<'a> {
         }
     }
 
-    /// Writes items into a scope in which nothing is written, in this order.
-    fn items(
-        &self,
-        scope: &mut Scope,
-        held: &Interface,
-        order: &[(&str, ItemKind)],
-    ) -> Result<(), EncodeFault>
-        requires plain { (k : ℕ) (e : List ℕ × AnyItem) → slice_get (named_pairs order.now) k ≡ Some e → CanList self.now.types.now e.1 }
-        requires once { NoNameTwice (named_pairs order.now) }
-        requires empty { scope.old.content ≡ Instance [] }
-        ensures listed { OnOk result (HasListed self.now.types.now held.now scope.old scope.new (named_pairs order.now)) }
-        ensures closes { OnOk result (CanClose scope.new.content) }
-        ensures wrote { OnOk result (WritesItems self.now.types.now scope.old (named_pairs order.now) scope.new) }
-        ensures fault { AreRefused self.now.types.now scope.old (named_pairs order.now) result }
-    {
-        closing_law();
-        listing_law();
-        for i in 0..order.len() {
-            let (name, item) = entry_of(order, i);
-            self.item(scope, name, item)?;
-        }
-        Ok(())
-    }
-
     /// The items of an interface in the order in which they are written.
-    fn order(&self, interface: InterfaceId) -> Result<Vec<(&'a str, ItemKind)>, AllocError>
+    pub(crate) fn order(
+        &self,
+        interface: InterfaceId,
+    ) -> Result<Vec<(&'a str, ItemKind)>, AllocError>
         requires { HasInterface self.now.types.now interface }
         ensures { IfOk result (λ order. (it : AnInterface) → item_at self.now.types.now.interfaces interface.0 ≡ Some it → IsOrder self.now.types.now it.exports (named_pairs order.items)) }
     {
@@ -214,53 +218,10 @@ impl<'a> TypeEncoder<'a> {
         add_others(items, &mut order)?;
         Ok(order)
     }
-
-    /// Whether all items of an interface are of sorts that are written.
-    pub fn lists_plain(&self, interface: InterfaceId) -> bool
-        requires { HasInterface self.now.types.now interface }
-        ensures { result ≡ lists_plain self.now.types.now interface }
-    {
-        are_plain(&self.types[interface].exports)
-    }
-
-    /// Writes a held interface as an instance type: type items of value types first, the next always the first listed one of those left
-    /// that mentions none of those left; then type items of function types, then functions, as they are listed. A definition that a type item lists
-    /// is written by the first such item's index. What has a name in the scope around is aliased from there, and all else is defined, each
-    /// once, just before what mentions it.
-    ///
-    /// Answers none exactly where an item is of a sort that is not written: a resource, an instance, or a type item of an
-    /// interface or a world. Answers `UnboundResource` for an item that is made of a handle, `ModuleAsType` and `NestedItem` for
-    /// one that no instance type can list, and `TooLarge` where what is written next does not fit, the first in order; `OutOfMemory`
-    /// where memory was refused.
-    pub fn interface_type(
-        &self,
-        around: &Scope,
-        interface: InterfaceId,
-    ) -> Result<Option<InstanceType>, EncodeFault>
-        requires { HasInterface self.now.types.now interface }
-        ensures none { (result ≡ Ok None) ↔ (lists_plain self.now.types.now interface ≡ false) }
-        ensures says { IfOk result (SaysIfThere self.now.types.now around.now interface) }
-        ensures written { IfOk result (WritesIfThere self.now.types.now around.now interface) }
-        ensures fault { IsInterfaceRefused self.now.types.now around.now interface result }
-    {
-        self.types.law();
-        closing_law();
-        listing_law();
-        let held = &self.types[interface];
-        if !are_plain(&held.exports) {
-            return Ok(None);
-        }
-        held.exports.law();
-        let order = self.order(interface)?;
-        let mut scope = self.open(around, interface)?;
-        self.items(&mut scope, held, order.as_slice())?;
-        let declarations = instance_type(scope.into_content());
-        Ok(Some(declarations))
-    }
 }
 
 /// The instance type that is written.
-fn instance_type(content: Encodable) -> InstanceType
+pub(crate) fn instance_type(content: Encodable) -> InstanceType
     requires { CanClose content }
     ensures { content ≡ Instance result }
 {
@@ -338,34 +299,9 @@ fn is_other_type_item(item: ItemKind) -> bool
 }
 
 /// The item at a position, which is one of the list.
-fn entry_of<'b>(order: &[(&'b str, ItemKind)], index: usize) -> (&'b str, ItemKind)
+pub(crate) fn entry_of<'b>(order: &[(&'b str, ItemKind)], index: usize) -> (&'b str, ItemKind)
     requires { index < length order.now }
     ensures { slice_get order.now index ≡ Some result }
 {
     order[index]
-}
-
-/// Whether an item is of a sort that is written, or that no instance type can list.
-fn is_plain(item: ItemKind) -> bool
-    ensures { result ≡ plain_item item }
-{
-    match item {
-        ItemKind::TypeItem(Type::Value(_) | Type::Func(_) | Type::Module(_)) => true,
-        ItemKind::TypeItem(_) | ItemKind::Instance(_) => false,
-        ItemKind::Func(_) | ItemKind::Component(_) | ItemKind::Module(_) | ItemKind::Value(_) =>
-            true,
-    }
-}
-
-/// Whether all items are.
-fn are_plain(items: &Named<ItemKind>) -> bool
-    ensures { result ≡ plain_items items.now }
-{
-    for i in 0..items.len() {
-        let (_, item) = items.entry_at(i);
-        if !is_plain(*item) {
-            return false;
-        }
-    }
-    true
 }

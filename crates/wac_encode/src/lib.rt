@@ -5,7 +5,10 @@ mod encoder;
 mod functions;
 mod instances;
 mod interfaces;
+mod level;
+mod nesting;
 mod opening;
+mod sorts;
 mod task;
 
 pub use encoder::TypeEncoder;

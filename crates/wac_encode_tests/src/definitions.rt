@@ -51,7 +51,7 @@ fn defined(types: &Types, definitions: &[(&str, Type)]) -> Result<Vec<u8>, Fail>
     for i in 0..definitions.len() {
         let (name, ty) = definitions[i];
         let encoder = RootEncoder::new(types);
-        if !types.contains(ty) || !encoder.is_definable(ty) {
+        if !types.contains(ty) || !encoder.is_definable(ty)? {
             return Err(Fail::new("not held, or not definable"));
         }
         encoder.definition(&mut root, name, ty)?;
@@ -122,7 +122,7 @@ fn defines_an_interface(rt: HostRuntime) -> Result<(), Fail> {
     let bytes = defined(&types, &[("d", Type::Interface(one))])?;
     assert!(rt; bytes.as_slice() == INTERFACE.as_slice());
     if types.contains(other) {
-        assert!(rt; !RootEncoder::new(&types).is_definable(other));
+        assert!(rt; !RootEncoder::new(&types).is_definable(other)?);
     }
     Ok(())
 }

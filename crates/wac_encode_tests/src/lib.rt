@@ -14,6 +14,8 @@ mod merges;
 #[cfg(test)]
 mod modules;
 #[cfg(test)]
+mod nested;
+#[cfg(test)]
 mod roots;
 #[cfg(test)]
 mod scopes;

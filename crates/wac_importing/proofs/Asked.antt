@@ -1,9 +1,9 @@
 -- Where all that is asked for is imported so far, so is each import of its merge.
-use Rattle.std.proofs.Common.{◌≡◌, ◌≢◌, ℕ, zero, suc, ◌<◌, Bool, true, false, not, cond, List, [], ◌∷◌, ◌++◌, length, map, refl, ap, ◌∙◌, sym, subst, arith, Some, ◌⊎◌, inl, inr}
+use Rattle.std.proofs.Common.{◌≡◌, ◌≢◌, ℕ, zero, suc, ◌<◌, Bool, true, false, not, cond, List, [], ◌∷◌, ◌++◌, length, map, refl, ap, ◌∙◌, sym, subst, arith, Option, Some, None, ◌⊎◌, inl, inr}
 use Rattle.std.specs.Prelude.{slice_get}
 use Rattle.std.specs.List.{AllByRecursion, filter, list_any}
 use Rattle.std.proofs.lemmas.Option.{slice_get_within, get_or_from_slice_get}
-use Rattle.wac_shapes.specs.Name.{Name, same_name}
+use Rattle.wac_shapes.specs.Name.{Name, same_name, find_name, option_case}
 use Rattle.wac_shapes.specs.Kinds.{kind_type}
 use Rattle.wac_shapes.proofs.Names.{same_name-true, same_name-refl}
 use Rattle.wac_shapes.specs.declared.component.Interface.{Interface}
@@ -12,7 +12,9 @@ use Rattle.wac_shapes.specs.declared.component.ItemKind.{ItemKind}
 use Rattle.wac_shapes.specs.declared.component.ItemKind.TheVariants as kind
 use Rattle.wac_shapes.specs.declared.component.«Type».TheVariants as ty
 use Rattle.wac_collection.specs.Tree.{TypeTree, absent, instance, component, module_of, type_equal, instance_item, component_item, module_item}
-use Rattle.wac_collection.specs.Collection.{Collection, IsWellFormed, holds_type, interface_exports}
+use Rattle.wac_collection.specs.Collection.{Collection, IsWellFormed, AddedBefore, IsBefore, size, holds_type, interface_exports, item_at, item_of}
+use Rattle.wac_collection.specs.declared.collection.Held.{Held}
+use Rattle.wac_subtyping.proofs.Unfolding.{type_before}
 use Rattle.wac_subtyping.specs.Subtype.{Sub, IsPlain, IsSubtype, type_tree, kind_tree, listed_in}
 use Rattle.wac_subtyping.proofs.Relation.{plain_sub}
 use Rattle.wac_entries.specs.Bindings.{AreHeld}
@@ -20,10 +22,15 @@ use Rattle.wac_entries.specs.Classes.{Entry, by_names, same_class, members, name
 use Rattle.wac_terms.specs.Merge.{Merged, IsMerge, IsListed, with_names, names_behind, export_list, export_lists}
 use Rattle.wac_meaning.specs.Importable.{HasNoHandle, IsPlainItem, IsPlainWhereThere, IsImportable, IsImportableKind}
 use Rattle.wac_meaning.proofs.AskedMembers.{IsIn, in_filter}
-use Rattle.wac_meaning.proofs.MergeLemmas.{OrderHasClasses}
+use Rattle.wac_meaning.proofs.MergeLemmas.{OrderHasClasses, canonical_in}
+use Rattle.wac_uses.specs.United.{instances_of, listed_by}
+use Rattle.wac_merge.specs.Listed.{interface_in, united_interfaces, Unites, AreListedInOrder}
+use Rattle.wac_encode.proofs.Plain.{listed-before}
 use Rattle.wac_importing.specs.Written.{AllImportable}
 use Rattle.wac_importing.proofs.Handles.{plain_free}
 use Rattle.wac_importing.proofs.Items.{interface_is, interface_there, exports_are}
+use Rattle.wac_importing.proofs.Nested.{listed_held, never}
+use Rattle.wac_importing.proofs.Refusing.{is_held}
 
 -- ---- subtypes of what is importable
 module _ {L : Type 0} where
@@ -37,15 +44,27 @@ module _ {L : Type 0} where
   plain_tree (module_item t) h = absurd h
   plain_tree t h = tt
 
-  below : (a b : TypeTree L) → Sub a b → IsPlainItem b → IsPlainItem a
-  below a b (Sub.same _ q) h = h
-  below a b (Sub.type_items x y s t) h = let P : TypeTree L → Type 0 = λ z. IsPlainItem (type_equal z) in subst P (plain_sub y x (plain_tree y (plain_free y h)) t) h
-  below a b (Sub.instances xs ys f) h = absurd h
-  below a b (Sub.components xi xe yi ye f g) h = absurd h
-  below a b (Sub.modules xi yi xe ye f g) h = absurd h
-  below a b (Sub.instance_items x y s) h = absurd h
-  below a b (Sub.component_items x y s) h = absurd h
-  below a b (Sub.module_items x y s) h = absurd h
+  -- what is no instance
+  below : (a b : TypeTree L) → Sub a b → ((x : TypeTree L) → a ≡ instance_item x → ⊥) → IsPlainItem b → IsPlainItem a
+  below a b (Sub.same _ q) other h = h
+  below a b (Sub.type_items x y s t) other h = let P : TypeTree L → Type 0 = λ z. IsPlainItem (type_equal z) in subst P (plain_sub y x (plain_tree y (plain_free y h)) t) h
+  below a b (Sub.instances xs ys f) other h = absurd h
+  below a b (Sub.components xi xe yi ye f g) other h = absurd h
+  below a b (Sub.modules xi yi xe ye f g) other h = absurd h
+  below a b (Sub.instance_items x y s) other h = absurd (other x refl)
+  below a b (Sub.component_items x y s) other h = absurd h
+  below a b (Sub.module_items x y s) other h = absurd h
+
+  -- a supertype of an instance is one
+  instance_above : (a b : TypeTree L) → Sub a b → (t : TypeTree L) → a ≡ instance_item t → (u : TypeTree L) × (b ≡ instance_item u) × Sub t u
+  instance_above a b (Sub.same _ q) t is = absurd (subst (λ (z : TypeTree L). IsPlain z) is q)
+  instance_above a b (Sub.type_items x y r s) t is = cc
+  instance_above a b (Sub.instances xs ys f) t is = cc
+  instance_above a b (Sub.components xi xe yi ye f g) t is = cc
+  instance_above a b (Sub.modules xi yi xe ye f g) t is = cc
+  instance_above a b (Sub.instance_items x y s) t is = let same : x ≡ t = cc in (y, refl, subst (λ (z : TypeTree L). Sub z y) same s)
+  instance_above a b (Sub.component_items x y s) t is = cc
+  instance_above a b (Sub.module_items x y s) t is = cc
 
   there_or_not : (t : TypeTree L) → (t ≡ absent) ⊎ (t ≢ absent)
   there_or_not absent = inl refl
@@ -116,7 +135,14 @@ module _ {L : Type 0} where
   above a b (Sub.instances xs ys f) n h = absurd h
   above a b (Sub.components xi xe yi ye f g) n h = absurd h
   above a b (Sub.modules xi yi xe ye f g) n h = absurd h
-  above a b (Sub.instance_items x y s) n h = absurd h
+  above a b (Sub.instance_items _ _ (Sub.same _ q)) n h = h
+  above a b (Sub.instance_items _ _ (Sub.instances xs ys f)) n h = λ m. plain_where (ys m) (λ there. above (xs m) (ys m) (f m there) there (h m))
+  above a b (Sub.instance_items _ _ (Sub.components xi xe yi ye f g)) n h = absurd h
+  above a b (Sub.instance_items _ _ (Sub.modules xi yi xe ye f g)) n h = absurd h
+  above a b (Sub.instance_items _ _ (Sub.type_items x y r s)) n h = absurd h
+  above a b (Sub.instance_items _ _ (Sub.instance_items x y s)) n h = absurd h
+  above a b (Sub.instance_items _ _ (Sub.component_items x y s)) n h = absurd h
+  above a b (Sub.instance_items _ _ (Sub.module_items x y s)) n h = absurd h
   above a b (Sub.component_items x y s) n h = absurd h
   above a b (Sub.module_items x y s) n h = absurd h
 
@@ -254,47 +280,217 @@ the_one [] p h = absurd (omega (arith, h))
 the_one (x ∷ xs) zero h = (x, refl)
 the_one (x ∷ xs) (suc p) h = the_one xs p (omega (arith, h))
 
+filter_passes : {A : Type 0} (test : A → Bool) (xs : List A) (x : A) (i : ℕ) → slice_get (filter test xs) i ≡ Some x → test x ≡ true
+filter_passes test [] x i at = cc
+filter_passes {A} test (y ∷ xs) x i at = by (test y) refl i at (filter_passes test xs x) where
+  by : (b : Bool) → test y ≡ b → (i : ℕ) → slice_get (cond b (y ∷ filter test xs) (filter test xs)) i ≡ Some x → ((i : ℕ) → slice_get (filter test xs) i ≡ Some x → test x ≡ true) → test x ≡ true
+  by true is zero at later = let same : y ≡ x = cc in subst (λ (z : A). test z ≡ true) same is
+  by true is (suc i) at later = later i at
+  by false is i at later = later i at
+
+-- ---- what is listed under a name
+is_instance : (k : ItemKind) → ((i : InterfaceId) × (k ≡ kind.Instance i)) ⊎ ((i : InterfaceId) → k ≡ kind.Instance i → ⊥)
+is_instance (kind.Instance i) = inl (i, refl)
+is_instance (kind.TypeItem a) = inr (λ i e. cc)
+is_instance (kind.Func f) = inr (λ i e. cc)
+is_instance (kind.Component w) = inr (λ i e. cc)
+is_instance (kind.Module n) = inr (λ i e. cc)
+is_instance (kind.Value v) = inr (λ i e. cc)
+
+kind_instance : (c : Collection) (x : ItemKind) (u : TypeTree Name) → kind_tree c x ≡ instance_item u → (l : InterfaceId) × (x ≡ kind.Instance l) × (u ≡ type_tree c (ty.Interface l))
+kind_instance c (kind.Instance l) u is = let same : type_tree c (ty.Interface l) ≡ u = cc in (l, refl, sym same)
+kind_instance c (kind.TypeItem a) u is = cc
+kind_instance c (kind.Func f) u is = cc
+kind_instance c (kind.Component w) u is = cc
+kind_instance c (kind.Module n) u is = cc
+kind_instance c (kind.Value v) u is = cc
+
+found_kind : (c : Collection) (es : List (Name × ItemKind)) (n : Name) → listed_in c es n ≢ absent → (k : ItemKind) × (find_name es n ≡ Some k) × (listed_in c es n ≡ kind_tree c k)
+found_kind c [] n there = absurd (there refl)
+found_kind c (e ∷ es) n there = by (same_name n e.0) there (found_kind c es n) where
+  by : (b : Bool) → cond b (kind_tree c e.1) (listed_in c es n) ≢ absent → (listed_in c es n ≢ absent → (k : ItemKind) × (find_name es n ≡ Some k) × (listed_in c es n ≡ kind_tree c k))
+      → (k : ItemKind) × (cond b (Some e.1) (find_name es n) ≡ Some k) × (cond b (kind_tree c e.1) (listed_in c es n) ≡ kind_tree c k)
+  by true is later = (e.1, refl, refl)
+  by false is later = later is
+
+listed_found : (c : Collection) (es : List (Name × ItemKind)) (n : Name) (x : ItemKind) → find_name es n ≡ Some x → listed_in c es n ≡ kind_tree c x
+listed_found c [] n x find = cc
+listed_found c (e ∷ es) n x find = by (same_name n e.0) find (listed_found c es n x) where
+  by : (b : Bool) → cond b (Some e.1) (find_name es n) ≡ Some x → (find_name es n ≡ Some x → listed_in c es n ≡ kind_tree c x) → cond b (kind_tree c e.1) (listed_in c es n) ≡ kind_tree c x
+  by true is later = let same : e.1 ≡ x = cc in ap (kind_tree c) same
+  by false is later = later is
+
+found_place : (es : List (Name × ItemKind)) (n : Name) (x : ItemKind) → find_name es n ≡ Some x → (p : ℕ) × (a : Name) × (slice_get es p ≡ Some (a, x))
+found_place [] n x find = cc
+found_place (e ∷ es) n x find = by (same_name n e.0) find (found_place es n x) where
+  by : (b : Bool) → cond b (Some e.1) (find_name es n) ≡ Some x → (find_name es n ≡ Some x → (p : ℕ) × (a : Name) × (slice_get es p ≡ Some (a, x))) → (p : ℕ) × (a : Name) × (slice_get (e ∷ es) p ≡ Some (a, x))
+  by true is later = let same : e.1 ≡ x = cc in (0, e.0, ap (λ (y : ItemKind). Some (e.0, y)) same)
+  by false is later = let (p, a, at) = later is in (suc p, a, at)
+
+name_found : (es : List (Name × ItemKind)) (n : Name) → NamesHas es n → (x : ItemKind) × (find_name es n ≡ Some x)
+name_found [] n (i, at) = cc
+name_found (e ∷ es) n (i, at) = by (same_name n e.0) refl i at (name_found es n) where
+  by : (b : Bool) → same_name n e.0 ≡ b → (i : ℕ) → slice_get (map (λ (y : Name × ItemKind). y.0) (e ∷ es)) i ≡ Some n → (NamesHas es n → (x : ItemKind) × (find_name es n ≡ Some x)) → (x : ItemKind) × (cond b (Some e.1) (find_name es n) ≡ Some x)
+  by true is i at later = (e.1, refl)
+  by false is zero at later =
+      let same : e.0 ≡ n = cc in
+      let yes : same_name n e.0 ≡ true = ap (same_name n) same ∙ same_name-refl n in
+      let both : true ≡ false = sym yes ∙ is in cc
+  by false is (suc q) at later = later (q, at)
+
+in_map : {A B : Type 0} (f : A → B) (xs : List A) (y : B) (q : ℕ) → slice_get (map f xs) q ≡ Some y → (x : A) × IsIn xs x × (y ≡ f x)
+in_map f [] y q at = cc
+in_map f (x ∷ xs) y zero at = let same : f x ≡ y = cc in (x, (0, refl), sym same)
+in_map f (x ∷ xs) y (suc q) at = let (z, (p, there), is) = in_map f xs y q at in (z, (suc p, there), is)
+
+in_listed_by : (c : Collection) (is : List InterfaceId) (n : Name) (x : ItemKind) (q : ℕ) → slice_get (listed_by c is n) q ≡ Some x → (j : InterfaceId) × IsIn is j × (find_name (interface_exports c j) n ≡ Some x)
+in_listed_by c [] n x q at = cc
+in_listed_by c (j ∷ is) n x q at = by (find_name (interface_exports c j) n) refl q at (in_listed_by c is n x) where
+  more : (k : InterfaceId) × IsIn is k × (find_name (interface_exports c k) n ≡ Some x) → (k : InterfaceId) × IsIn (j ∷ is) k × (find_name (interface_exports c k) n ≡ Some x)
+  more (k, (p, there), find) = (k, (suc p, there), find)
+
+  by : (o : Option ItemKind) → find_name (interface_exports c j) n ≡ o → (q : ℕ) → slice_get (option_case o (listed_by c is n) (λ k. k ∷ listed_by c is n)) q ≡ Some x
+      → ((q : ℕ) → slice_get (listed_by c is n) q ≡ Some x → (k : InterfaceId) × IsIn is k × (find_name (interface_exports c k) n ≡ Some x)) → (k : InterfaceId) × IsIn (j ∷ is) k × (find_name (interface_exports c k) n ≡ Some x)
+  by None is q at later = more (later q at)
+  by (Some k) is zero at later = let same : k ≡ x = cc in (j, (0, refl), is ∙ ap Some same)
+  by (Some k) is (suc q) at later = more (later q at)
+
+in_instances : (ks : List ItemKind) (l : InterfaceId) (q : ℕ) → slice_get (instances_of ks) q ≡ Some l → IsIn ks (kind.Instance l)
+in_instances [] l q at = cc
+in_instances (kind.Instance i ∷ ks) l zero at = let same : i ≡ l = cc in (0, ap (λ (x : InterfaceId). Some (kind.Instance x)) same)
+in_instances (kind.Instance i ∷ ks) l (suc q) at = let (p, there) = in_instances ks l q at in (suc p, there)
+in_instances (kind.TypeItem a ∷ ks) l q at = let (p, there) = in_instances ks l q at in (suc p, there)
+in_instances (kind.Func f ∷ ks) l q at = let (p, there) = in_instances ks l q at in (suc p, there)
+in_instances (kind.Component w ∷ ks) l q at = let (p, there) = in_instances ks l q at in (suc p, there)
+in_instances (kind.Module n ∷ ks) l q at = let (p, there) = in_instances ks l q at in (suc p, there)
+in_instances (kind.Value v ∷ ks) l q at = let (p, there) = in_instances ks l q at in (suc p, there)
+
+-- where all items are instances, the interfaces of all are united
+abbrev AreInstances : List ItemKind → Type 0
+AreInstances ks = (x : ItemKind) → IsIn ks x → (l : InterfaceId) × (x ≡ kind.Instance l)
+
+in_united : (ks : List ItemKind) → AreInstances ks → (l : InterfaceId) (q : ℕ) → slice_get (united_interfaces ks) q ≡ Some l → IsIn ks (kind.Instance l)
+in_united [] all l q at = cc
+in_united (kind.Instance i ∷ ks) all l q at = in_instances (kind.Instance i ∷ ks) l q at
+in_united (kind.TypeItem a ∷ ks) all l q at = let (i, same) = all (kind.TypeItem a) (0, refl) in cc
+in_united (kind.Func f ∷ ks) all l q at = let (i, same) = all (kind.Func f) (0, refl) in cc
+in_united (kind.Component w ∷ ks) all l q at = let (i, same) = all (kind.Component w) (0, refl) in cc
+in_united (kind.Module n ∷ ks) all l q at = let (i, same) = all (kind.Module n) (0, refl) in cc
+in_united (kind.Value v ∷ ks) all l q at = let (i, same) = all (kind.Value v) (0, refl) in cc
+
+-- ---- what a merge unites is plain where that is of which it is united
+module _ (c : Collection) (wf : IsWellFormed c) (es : List Entry) (m : Merged) (ordered : IsWellFormed m.types) (listed : AreListedInOrder by_names c es m) where
+  abbrev IsUnder : InterfaceId → InterfaceId → Type 0
+  IsUnder w j = (holds_type c (ty.Interface j) ≡ true) × Sub (type_tree m.types (ty.Interface w)) (type_tree c (ty.Interface j)) × IsPlainItem (kind_tree c (kind.Instance j))
+
+  abbrev AreUnder : InterfaceId → List InterfaceId → Type 0
+  AreUnder w is = (j : InterfaceId) → IsIn is j → IsUnder w j
+
+  at_member : (w : InterfaceId) (it : Interface) → type_tree m.types (ty.Interface w) ≡ instance (listed_in m.types it.exports) → (n : Name) (j : InterfaceId) → IsUnder w j → (x : ItemKind) → find_name (interface_exports c j) n ≡ Some x
+      → Sub (listed_in m.types it.exports n) (kind_tree c x) × IsPlainItem (kind_tree c x)
+  at_member w it tree n j (held, sub, plain) x find =
+      let (jt, found) = interface_there c wf j held in
+      let y_tree = interface_is c wf j jt held found in
+      let is : listed_in c jt.exports n ≡ kind_tree c x = listed_found c jt.exports n x (ap (λ (xs : List (Name × ItemKind)). find_name xs n) (sym (exports_are c j jt found)) ∙ find) in
+      let both : Sub (instance (listed_in m.types it.exports)) (instance (listed_in c jt.exports)) = subst (λ (t : TypeTree Name). Sub (instance (listed_in m.types it.exports)) t) y_tree (subst (λ (t : TypeTree Name). Sub t (type_tree c (ty.Interface j))) tree sub) in
+      let inner = inside (instance (listed_in m.types it.exports)) (instance (listed_in c jt.exports)) both n (λ e. kind_there c x (sym is ∙ e)) in
+      let all = subst (λ (t : TypeTree Name). IsPlainItem (instance_item t)) y_tree plain in (
+        subst (λ (t : TypeTree Name). Sub (listed_in m.types it.exports n) t) is inner,
+        where_plain (kind_tree c x) (kind_there c x) (subst (λ (t : TypeTree Name). IsPlainWhereThere t) is (all n)),
+      )
+
+  -- where an instance is above an item that is one
+  instance_there : (v : InterfaceId) (t : TypeTree Name) → t ≡ kind_tree m.types (kind.Instance v) → (x : ItemKind) → Sub t (kind_tree c x) → (l : InterfaceId) × (x ≡ kind.Instance l) × Sub (type_tree m.types (ty.Interface v)) (type_tree c (ty.Interface l))
+  instance_there v t is x sub =
+      let (u, k_is, s) = instance_above t (kind_tree c x) sub (type_tree m.types (ty.Interface v)) is in
+      let (l, same, tree) = kind_instance c x u k_is in
+      (l, same, subst (λ (z : TypeTree Name). Sub (type_tree m.types (ty.Interface v)) z) tree s)
+
+  abbrev IsSoTo : ℕ → Type 0
+  IsSoTo d = (w : InterfaceId) (is : List InterfaceId) → Unites by_names c es m w is → IsBefore m.types d (ty.Interface w) → AreUnder w is → IsPlainItem (kind_tree m.types (kind.Instance w))
+
+  of_instances : (d : ℕ) → IsSoTo d → (w : InterfaceId) (is : List InterfaceId) → Unites by_names c es m w is → IsBefore m.types (suc d) (ty.Interface w) → AreUnder w is → (it : Interface) → item_at m.types.interfaces w.0 ≡ Some it
+      → type_tree m.types (ty.Interface w) ≡ instance (listed_in m.types it.exports) → (n : Name) (k : ItemKind) → find_name it.exports n ≡ Some k → listed_in m.types it.exports n ≡ kind_tree m.types k → (v : InterfaceId) → k ≡ kind.Instance v → IsPlainItem (listed_in m.types it.exports n)
+  of_instances d so w is u before under it found tree n k find same v is_v =
+      let (p, a, place) = found_place it.exports n k find in
+      let low : IsBefore m.types d (ty.Interface v) = listed-before m.types ordered d w it before found p (a, kind.Instance v) (place ∙ ap (λ (x : ItemKind). Some (a, x)) is_v) in
+      let item : listed_in m.types it.exports n ≡ kind_tree m.types (kind.Instance v) = same ∙ ap (kind_tree m.types) is_v in
+      subst (λ (t : TypeTree Name). IsPlainItem t) (sym item) (so v (united_interfaces (listed_by c is n)) (Unites.inside w v is it n k u found find (ap interface_in is_v)) low (λ l (q, at).
+      let (r, l_at) = in_united (listed_by c is n) (λ x (r, x_at).
+      let (j, j_in, x_find) = in_listed_by c is n x r x_at in
+      let (l, l_is, s) = instance_there v (listed_in m.types it.exports n) item x (at_member w it tree n j (under j j_in) x x_find).0 in
+      (l, l_is)) l q at in
+      let (j, j_in, l_find) = in_listed_by c is n (kind.Instance l) r l_at in
+      let (sub, plain) = at_member w it tree n j (under j j_in) (kind.Instance l) l_find in
+      let (g, g_is, s) = instance_there v (listed_in m.types it.exports n) item (kind.Instance l) sub in
+      let one : l ≡ g = cc in
+      let (o, b, l_place) = found_place (interface_exports c j) n (kind.Instance l) l_find in
+      (listed_held c wf j o (b, kind.Instance l) l_place, subst (λ (z : InterfaceId). Sub (type_tree m.types (ty.Interface v)) (type_tree c (ty.Interface z))) (sym one) s, plain)))
+
+  united_plain : (d : ℕ) → IsSoTo d
+  united_plain zero w is u before under = absurd (never (slice_get m.types.interfaces w.0) before)
+  united_plain (suc d) w is u before under = by (united_plain d) (slice_get m.types.interfaces w.0) refl before where
+    of_name : IsSoTo d → (it : Interface) → item_at m.types.interfaces w.0 ≡ Some it → type_tree m.types (ty.Interface w) ≡ instance (listed_in m.types it.exports) → (n : Name) → (k : ItemKind) × (find_name it.exports n ≡ Some k) × (listed_in m.types it.exports n ≡ kind_tree m.types k)
+        → IsIn [] n ⊎ ListsHave (map (interface_exports c) is) n → IsPlainItem (listed_in m.types it.exports n)
+    of_name so it found tree n k (inl (q, none)) = cc
+    of_name so it found tree n (k, find, same) (inr (l, (q, in_lists), in_l)) =
+        let (j, j_in, l_is) = in_map (interface_exports c) is l q in_lists in
+        let (x, x_find) = name_found l n in_l in
+        let (sub, plain) = at_member w it tree n j (under j j_in) x (ap (λ (xs : List (Name × ItemKind)). find_name xs n) (sym l_is) ∙ x_find) in
+        split (is_instance k) sub plain
+      where
+        split : ((v : InterfaceId) × (k ≡ kind.Instance v)) ⊎ ((v : InterfaceId) → k ≡ kind.Instance v → ⊥) → {t : TypeTree Name} → Sub (listed_in m.types it.exports n) t → IsPlainItem t → IsPlainItem (listed_in m.types it.exports n)
+        split (inl (v, is_v)) sub plain = of_instances d so w is u before under it found tree n k find same v is_v
+        split (inr other) sub plain = below (listed_in m.types it.exports n) _ sub (λ t e. let (v, is_v, s) = kind_instance m.types k t (sym same ∙ e) in other v is_v) plain
+
+    by : IsSoTo d → (o : Option (Held Interface)) → slice_get m.types.interfaces w.0 ≡ o → AddedBefore (suc d) o → IsPlainItem (kind_tree m.types (kind.Instance w))
+    by so None at low = absurd low
+    by so (Some x) at low =
+        let found : item_at m.types.interfaces w.0 ≡ Some x.item = ap item_of at in
+        let tree = interface_is m.types ordered w x.item (is_held m.types ordered w x.item found) found in
+        subst (λ (t : TypeTree Name). IsPlainItem (instance_item t)) (sym tree) (λ n. plain_where (listed_in m.types x.item.exports n) (λ there. of_name so x.item found tree n (found_kind m.types x.item.exports n there)
+        (in_behind [] (map (interface_exports c) is) n (subst (λ (ns : List Name). IsIn ns n) (listed w is x.item u found) (listed_name m.types x.item.exports n there)))))
+
 module _ (c : Collection) (wf : IsWellFormed c) (es : List Entry) (held : AreHeld c es) (m : Merged) (ordered : IsWellFormed m.types) (held_imports : AreHeld m.types m.imports) (merge : IsMerge by_names c es m) where
   abbrev AllAsked : Type 0
   AllAsked = (i : ℕ) (x : Entry) → slice_get es i ≡ Some x → IsImportableKind c x.kind
 
   -- an instance
-  of_instance : AllAsked → (p k : ℕ) (class : Name) (e : Entry) (i : InterfaceId) → slice_get merge.order p ≡ Some k → slice_get (class_names by_names es) k ≡ Some class → slice_get m.imports p ≡ Some e
+  of_instance : ClassLaws → AreListedInOrder by_names c es m → AllAsked → (p k : ℕ) (class : Name) (e : Entry) (i : InterfaceId) → slice_get merge.order p ≡ Some k → slice_get (class_names by_names es) k ≡ Some class → slice_get m.imports p ≡ Some e
       → e.kind ≡ kind.Instance i → IsImportableKind m.types (kind.Instance i)
-  of_instance all p k class e i placed of_class at is =
-      let held_one : holds_type m.types (ty.Interface i) ≡ true = subst (λ (z : ItemKind). holds_type m.types (kind_type z) ≡ true) is (held_imports p e at) in
-      let (it, found) = interface_there m.types ordered i held_one in
-      let tree = interface_is m.types ordered i it held_one found in
-      let listed = subst (λ (z : ItemKind). IsListed by_names c es class m.types z) is (merge.listed p k class e placed of_class at) in
-      let names : map (λ x. x.0) it.exports ≡ names_behind [] (export_lists c (members by_names es class)) = ap (map (λ x. x.0)) (sym (exports_are m.types i it found)) ∙ listed.0 in
-      subst (λ t. IsImportable (instance_item t)) (sym tree) (λ n. plain_where (listed_in m.types it.exports n) (λ there.
-      of_name it tree n (in_behind [] (export_lists c (members by_names es class)) n (subst (λ (ns : List Name). IsIn ns n) names (listed_name m.types it.exports n there)))))
+  of_instance laws listed all p k class e i placed of_class at is =
+      united_plain c wf es m ordered listed (size m.types) i (united_interfaces (map (λ x. x.kind) (members by_names es e.name))) (Unites.as_import p e i at (ap interface_in is)) (type_before m.types ordered (ty.Interface i) held_one) under
     where
-      of_name : (it : Interface) → type_tree m.types (ty.Interface i) ≡ instance (listed_in m.types it.exports) → (n : Name) → IsIn [] n ⊎ ListsHave (export_lists c (members by_names es class)) n → IsPlainItem (listed_in m.types it.exports n)
-      of_name it tree n (inl (q, none)) = cc
-      of_name it tree n (inr (l, (q, in_lists), in_l)) =
-          let (y, j, within, y_is, l_is) = member_lists c (members by_names es class) l q in_lists in
-          let (r, y_at) = from_filter (λ z. same_class by_names es class z.name) es y within.0 within.1 in
-          let y_held : holds_type c (ty.Interface j) ≡ true = subst (λ (z : ItemKind). holds_type c (kind_type z) ≡ true) y_is (held r y y_at) in
-          let (jt, j_found) = interface_there c wf j y_held in
-          let y_tree = interface_is c wf j jt y_held j_found in
-          let sub : IsSubtype m.types e.kind c y.kind = each (λ z. IsSubtype m.types e.kind c z.kind) (members by_names es class) y (merge.subtypes p k class e placed of_class at) within in
-          let first : kind_tree m.types e.kind ≡ instance_item (instance (listed_in m.types it.exports)) = ap (kind_tree m.types) is ∙ ap (λ t. instance_item t) tree in
-          let second : kind_tree c y.kind ≡ instance_item (instance (listed_in c jt.exports)) = ap (kind_tree c) y_is ∙ ap (λ t. instance_item t) y_tree in
-          let inner = sub_below (instance_item (instance (listed_in m.types it.exports))) (instance_item (instance (listed_in c jt.exports)))
-          (subst (λ (t : TypeTree Name). Sub t (instance_item (instance (listed_in c jt.exports)))) first (subst (λ (t : TypeTree Name). Sub (kind_tree m.types e.kind) t) second sub)) in
-          let has : slice_get (map (λ x. x.0) jt.exports) in_l.0 ≡ Some n = subst (λ (xs : List (Name × ItemKind)). slice_get (map (λ x. x.0) xs) in_l.0 ≡ Some n) (l_is ∙ exports_are c j jt j_found) in_l.1 in
-          let there : listed_in c jt.exports n ≢ absent = name_listed c jt.exports in_l.0 n has in
-          let plain = subst (λ (t : TypeTree Name). IsImportable t) second (all r y y_at) in
-          below (listed_in m.types it.exports n) (listed_in c jt.exports n) (inner n there) (where_plain (listed_in c jt.exports n) there (plain n))
+      held_one : holds_type m.types (ty.Interface i) ≡ true
+      held_one = subst (λ (z : ItemKind). holds_type m.types (kind_type z) ≡ true) is (held_imports p e at)
 
-  is_instance : (k : ItemKind) → ((i : InterfaceId) × (k ≡ kind.Instance i)) ⊎ ((i : InterfaceId) → k ≡ kind.Instance i → ⊥)
-  is_instance (kind.Instance i) = inl (i, refl)
-  is_instance (kind.TypeItem a) = inr (λ i e. cc)
-  is_instance (kind.Func f) = inr (λ i e. cc)
-  is_instance (kind.Component w) = inr (λ i e. cc)
-  is_instance (kind.Module n) = inr (λ i e. cc)
-  is_instance (kind.Value v) = inr (λ i e. cc)
+      -- a member is one of the class
+      asked_for : (y : Entry) → IsIn (members by_names es e.name) y → (r : ℕ) × (slice_get es r ≡ Some y) × IsSubtype m.types (kind.Instance i) c y.kind
+      asked_for y (q, y_in) =
+          let (r, y_at) = from_filter (λ z. same_class by_names es e.name z.name) es y q y_in in
+          let near : same_class by_names es e.name y.name ≡ true = filter_passes (λ z. same_class by_names es e.name z.name) es y q y_in in
+          let first : same_class by_names es class e.name ≡ true = ap (same_class by_names es class) (merge.names p k class e placed of_class at) ∙ canonical_in laws es class in
+          let within : IsIn (members by_names es class) y = in_filter (λ z. same_class by_names es class z.name) es y (r, y_at) (laws.transitive es class e.name y.name first near) in
+          (r, y_at, subst (λ (z : ItemKind). IsSubtype m.types z c y.kind) is (each (λ z. IsSubtype m.types e.kind c z.kind) (members by_names es class) y (merge.subtypes p k class e placed of_class at) within))
+
+      instances : AreInstances (map (λ (x : Entry). x.kind) (members by_names es e.name))
+      instances x (q, x_at) =
+          let (y, y_in, x_is) = in_map (λ (z : Entry). z.kind) (members by_names es e.name) x q x_at in
+          let (r, y_at, sub) = asked_for y y_in in
+          let (l, l_is, s) = instance_there c wf es m ordered listed i (kind_tree m.types (kind.Instance i)) refl y.kind sub in
+          (l, x_is ∙ l_is)
+
+      under : AreUnder c wf es m ordered listed i (united_interfaces (map (λ x. x.kind) (members by_names es e.name)))
+      under j (q, at_q) =
+          let (r, j_at) = in_united (map (λ x. x.kind) (members by_names es e.name)) instances j q at_q in
+          let (y, y_in, j_is) = in_map (λ (z : Entry). z.kind) (members by_names es e.name) (kind.Instance j) r j_at in
+          let (o, y_at, sub) = asked_for y y_in in
+          let (l, l_is, s) = instance_there c wf es m ordered listed i (kind_tree m.types (kind.Instance i)) refl y.kind sub in
+          let one : j ≡ l = (let both : kind.Instance j ≡ kind.Instance l = j_is ∙ l_is in cc) in (
+            subst (λ (z : ItemKind). holds_type c (kind_type z) ≡ true) (sym j_is) (held o y y_at),
+            subst (λ (z : InterfaceId). Sub (type_tree m.types (ty.Interface i)) (type_tree c (ty.Interface z))) (sym one) s,
+            subst (λ (z : ItemKind). IsImportableKind c z) (sym j_is) (all o y y_at),
+          )
 
   not_instance : (k : ItemKind) → ((i : InterfaceId) → k ≡ kind.Instance i → ⊥) → (x : TypeTree Name) → kind_tree m.types k ≡ instance_item x → ⊥
   not_instance (kind.Instance i) other x e = other i refl
@@ -305,8 +501,8 @@ module _ (c : Collection) (wf : IsWellFormed c) (es : List Entry) (held : AreHel
   not_instance (kind.Value v) other x e = cc
 
   -- each import is, where all that is asked for is
-  pub merge_importable : ClassLaws → OrderHasClasses → AllAsked → AllImportable m
-  merge_importable laws has_classes all p e at =
+  pub merge_importable : ClassLaws → AreListedInOrder by_names c es m → OrderHasClasses → AllAsked → AllImportable m
+  merge_importable laws listed has_classes all p e at =
       let (k, placed) = the_one merge.order p (subst (λ n. p < n) merge.count (slice_get_within m.imports p e at)) in
       let (class, of_class) = the_one (class_names by_names es) k ((has_classes c es merge.order merge.written k).0 (p, slice_get_within merge.order p k placed, get_or_from_slice_get merge.order p k k placed)) in
       let (x, within, named) = class_named es es class k of_class in
@@ -316,5 +512,5 @@ module _ (c : Collection) (wf : IsWellFormed c) (es : List Entry) (held : AreHel
     where
       by : (k : ℕ) (class : Name) → slice_get merge.order p ≡ Some k → slice_get (class_names by_names es) k ≡ Some class → ((i : InterfaceId) × (e.kind ≡ kind.Instance i)) ⊎ ((i : InterfaceId) → e.kind ≡ kind.Instance i → ⊥)
           → (((i : InterfaceId) → e.kind ≡ kind.Instance i → ⊥) → IsImportableKind m.types e.kind) → IsImportableKind m.types e.kind
-      by k class placed of_class (inl (i, is)) other = subst (λ (z : ItemKind). IsImportableKind m.types z) (sym is) (of_instance all p k class e i placed of_class at is)
+      by k class placed of_class (inl (i, is)) other = subst (λ (z : ItemKind). IsImportableKind m.types z) (sym is) (of_instance laws listed all p k class e i placed of_class at is)
       by k class placed of_class (inr not) other = other not

@@ -1,9 +1,11 @@
 -- An interface that is defined so far is no fault to the writer of definitions, and what is written is its definition.
-use Rattle.std.proofs.Common.{◌≡◌, ℕ, zero, suc, true, false, List, [], ◌∷◌, refl, ap, ◌∙◌, sym, subst, Option, Some, None, IsSome}
+use Rattle.std.proofs.Common.{◌≡◌, ◌≤◌, ℕ, zero, suc, true, false, arith, length, List, [], ◌∷◌, refl, ap, ◌∙◌, sym, subst, Option, Some, None, IsSome}
+use Rattle.std.specs.Prelude.{slice_get}
 use Rattle.std.proofs.Math.Path.{fun_ext}
 use Rattle.wac_shapes.specs.Name.{Name, option_case}
 use Rattle.wac_shapes.specs.declared.component.Interface.{Interface}
 use Rattle.wac_shapes.specs.declared.component.InterfaceId.{InterfaceId}
+use Rattle.wac_shapes.specs.declared.component.ItemKind.{ItemKind}
 use Rattle.wac_shapes.specs.declared.component.ItemKind.TheVariants as kind
 use Rattle.wac_shapes.specs.declared.component.«Type».TheVariants as ty
 use Rattle.wac_collection.specs.Tree.{Leaf, Tree, absent, imported, exported, component, instance_item}
@@ -17,33 +19,37 @@ use Rattle.wac_root.specs.Defining.{IsDefinitionFault}
 use Rattle.wac_root.specs.Defining.{IsDefinable as IsWritable}
 use Rattle.wac_nodes.specs.Entries.{under_id}
 use Rattle.wac_meaning.specs.Definition.{definition_tree, uses_of, reached_to, reached, as_imports, listed, cut_imports}
-use Rattle.wac_meaning.specs.Importable.{IsDefinableKind, IsDefinableInterface}
-use Rattle.wac_importing.specs.Looked.{ArePlain}
+use Rattle.wac_meaning.specs.Importable.{IsPlainTo, IsDefinableKind}
+use Rattle.wac_importing.specs.Looked.{ArePlainInside}
 use Rattle.wac_importing.proofs.Items.{exports_are}
-use Rattle.wac_importing.proofs.Refusing.{lists, instance_fault}
-
--- what it is, where it is held
-same_interface : (c : Collection) (i : InterfaceId) (it : Interface) → item_at c.interfaces i.0 ≡ Some it → (h : IsDefinableInterface c i) → h.interface ≡ it
-same_interface c i it at h = let both : Some h.interface ≡ Some it = sym h.found ∙ at in cc
-
-pub lists_plain_ones : (c : Collection) (i : InterfaceId) (it : Interface) → item_at c.interfaces i.0 ≡ Some it → IsDefinableInterface c i → ArePlain c it.exports
-lists_plain_ones c i it at h = subst (λ (x : Interface). ArePlain c x.exports) (same_interface c i it at h) h.plain
+use Rattle.wac_importing.proofs.Nested.{to_inside, inside_to}
+use Rattle.wac_importing.proofs.Refusing.{is_held, lists, instance_fault}
 
 the_id : (o : Option Name) → IsSome o → (id : Name) × (o ≡ Some id)
 the_id None h = let both : false ≡ true = h in cc
 the_id (Some id) h = (id, refl)
 
 module _ (c : Collection) (wf : IsWellFormed c) (i : InterfaceId) where
-  lists_plain_items : IsDefinableKind c (kind.TypeItem (ty.Interface i)) → ArePlain c (interface_exports c i)
-  lists_plain_items so = subst (ArePlain c) (sym (exports_are c i so.interface so.found)) so.plain
+  pub lists_plain_items : IsDefinableKind c (kind.TypeItem (ty.Interface i)) → ArePlainInside c i
+  lists_plain_items so = to_inside c i (subst (λ (es : List (Name × ItemKind)). (k : ℕ) (e : Name × ItemKind) → slice_get es k ≡ Some e → (d : ℕ) × IsPlainTo d c e.1) (sym (exports_are c i so.interface so.found)) so.plain)
+
+  pub plain_to_some : (it : Interface) → item_at c.interfaces i.0 ≡ Some it → ArePlainInside c i → (k : ℕ) (e : Name × ItemKind) → slice_get it.exports k ≡ Some e → (d : ℕ) × IsPlainTo d c e.1
+  plain_to_some it at all k e here = inside_to c wf i all (is_held c wf i it at) k e (ap (λ (es : List (Name × ItemKind)). slice_get es k) (exports_are c i it at) ∙ here)
+
+  none_long : {A : Type 0} (xs : List A) → length xs ≤ 0 → xs ≡ []
+  none_long [] few = refl
+  none_long (x ∷ xs) few = absurd (omega (arith, few))
+
+  pub definable : (it : Interface) → item_at c.interfaces i.0 ≡ Some it → IsSome it.id → length it.uses ≤ 0 → ArePlainInside c i → IsDefinableKind c (kind.TypeItem (ty.Interface i))
+  definable it at id few all = record { interface = it; found = at; id = id; uses = none_long it.uses few; plain = plain_to_some it at all }
 
   pub interface_writable : IsDefinableKind c (kind.TypeItem (ty.Interface i)) → IsWritable c (ty.Interface i)
   interface_writable so =
       let (id, named) = the_id so.interface.id so.id in
-      ((id, (so.interface, so.found, named)), lists c wf i (lists_plain_items so))
+      ((id, (so.interface, so.found, named)), lists c wf i (is_held c wf i so.interface so.found) (lists_plain_items so))
 
   pub interface_no_fault : IsDefinableKind c (kind.TypeItem (ty.Interface i)) → (f : WriteFault) → IsDefinitionFault c (ty.Interface i) f → ⊥
-  interface_no_fault so f h = instance_fault c wf i (lists_plain_items so) h.0 f h.2
+  interface_no_fault so f h = instance_fault c wf i (lists_plain_items so) h.0 f h.2.0 h.2.1
 
 -- what is written
 

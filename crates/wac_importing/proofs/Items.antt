@@ -76,7 +76,7 @@ exports_are c i it at = ap (λ o. option_case o [] (λ (x : Interface). x.export
 pub instance_importable : (c : Collection) → IsWellFormed c → (i : InterfaceId) (it : Interface) → holds_type c (ty.Interface i) ≡ true → item_at c.interfaces i.0 ≡ Some it → ArePlain c it.exports → IsImportableKind c (kind.Instance i)
 instance_importable c wf i it held at all = subst (λ t. IsImportable (instance_item t)) (sym (interface_is c wf i it held at)) (all_there c it.exports all)
 
-interface_importable : (c : Collection) → IsWellFormed c → (i : InterfaceId) (it : Interface) → holds_type c (ty.Interface i) ≡ true → item_at c.interfaces i.0 ≡ Some it → ArePlain c it.exports → IsImportableKind c (kind.TypeItem (ty.Interface i))
+pub interface_importable : (c : Collection) → IsWellFormed c → (i : InterfaceId) (it : Interface) → holds_type c (ty.Interface i) ≡ true → item_at c.interfaces i.0 ≡ Some it → ArePlain c it.exports → IsImportableKind c (kind.TypeItem (ty.Interface i))
 interface_importable c wf i it held at all = subst (λ t. IsImportable (type_equal t)) (sym (interface_is c wf i it held at)) (all_there c it.exports all)
 
 pub importable_interface : (c : Collection) → IsWellFormed c → (i : InterfaceId) (it : Interface) → holds_type c (ty.Interface i) ≡ true → item_at c.interfaces i.0 ≡ Some it → NoNameTwice it.exports → IsImportableKind c (kind.TypeItem (ty.Interface i)) → ArePlain c it.exports
@@ -92,19 +92,19 @@ interface_there c wf i held = by (slice_get c.interfaces i.0) refl (type_before 
   by (Some h) is b = (h.item, ap item_of is)
 
 -- a core module
-module_importable : (c : Collection) → IsWellFormed c → (m : ModuleTypeId) → holds_type c (ty.Module m) ≡ true → IsImportableKind c (kind.Module m)
+pub module_importable : (c : Collection) → IsWellFormed c → (m : ModuleTypeId) → holds_type c (ty.Module m) ≡ true → IsImportableKind c (kind.Module m)
 module_importable c wf m held = subst (λ (t : TypeTree Name). IsImportable (module_item t)) (sym (type_step c wf (ty.Module m) held)) (by (slice_get c.modules m.0) (type_before c wf (ty.Module m) held)) where
   by : (o : Option (Held ModuleType)) → AddedBefore (size c) o → IsImportable {L = Name} (module_item (of_held module_tree o))
   by None b = absurd b
   by (Some h) b = tt
 
 -- a type item that is plain, and one of a function type without handles
-plain_importable : {L : Type 0} (t : TypeTree L) → IsPlainItem (type_equal t) → IsImportable (type_equal t)
+pub plain_importable : {L : Type 0} (t : TypeTree L) → IsPlainItem (type_equal t) → IsImportable (type_equal t)
 plain_importable absent h = absurd h
 plain_importable (instance items) h = absurd h
 plain_importable t h = h
 
-func_importable : (c : Collection) → IsWellFormed c → (f : FuncTypeId) → holds_type c (ty.Func f) ≡ true → HasNoHandle (type_tree c (ty.Func f)) → IsImportableKind c (kind.TypeItem (ty.Func f))
+pub func_importable : (c : Collection) → IsWellFormed c → (f : FuncTypeId) → holds_type c (ty.Func f) ≡ true → HasNoHandle (type_tree c (ty.Func f)) → IsImportableKind c (kind.TypeItem (ty.Func f))
 func_importable c wf f held free =
     let steps = type_step c wf (ty.Func f) held in
     subst (λ (t : TypeTree Name). IsImportable (type_equal t)) (sym steps) (by (slice_get c.funcs f.0) (type_before c wf (ty.Func f) held) (subst HasNoHandle steps free)) where
@@ -114,21 +114,6 @@ func_importable c wf f held free =
       by : (o : Option (Held FuncType)) → AddedBefore (size c) o → HasNoHandle (of_held tree o) → IsImportable (type_equal (of_held tree o))
       by None b h = absurd b
       by (Some x) b h = h
-
--- what lists plain items is imported so far
-pub lists_importable : (c : Collection) → IsWellFormed c → (k : ItemKind) → holds_type c (kind_type k) ≡ true → ListsPlain c k → IsImportableKind c k
-lists_importable c wf (kind.Instance i) held all =
-    let (it, at) = interface_there c wf i held in
-    instance_importable c wf i it held at (subst (ArePlain c) (exports_are c i it at) all)
-lists_importable c wf (kind.TypeItem (ty.Interface i)) held all =
-    let (it, at) = interface_there c wf i held in
-    interface_importable c wf i it held at (subst (ArePlain c) (exports_are c i it at) all)
-lists_importable c wf (kind.TypeItem (ty.Func f)) held h = func_importable c wf f held h
-lists_importable c wf (kind.TypeItem a) held h = plain_importable (type_tree c a) h
-lists_importable c wf (kind.Func f) held h = h
-lists_importable c wf (kind.Component w) held h = h
-lists_importable c wf (kind.Module m) held h = module_importable c wf m held
-lists_importable c wf (kind.Value v) held h = h
 
 -- a value type or a function type
 pub is_of_values : (a : AnyType) → ((v : ValueType) × (a ≡ ty.Value v)) ⊎ ((f : FuncTypeId) × (a ≡ ty.Func f)) → IsOfValues a

@@ -1,6 +1,7 @@
 pub mod Lists
 pub mod Handles
 pub mod Items
+pub mod Nested
 pub mod Refusing
 pub mod Loop
 pub mod Merging

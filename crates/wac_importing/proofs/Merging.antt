@@ -15,7 +15,7 @@ use Rattle.wac_scopes.specs.declared.scope.Scope.{Scope}
 use Rattle.wac_meaning.specs.Beginning.{Places}
 use Rattle.wac_importing.specs.Looked.{AreImportable, HasNotYet}
 use Rattle.wac_importing.specs.Written.{AllImportable, HasUnimportable, IsTooLarge, AreRefused, IsNotWritten, merge_of}
-use Rattle.wac_importing.proofs.Items.{lists_importable}
+use Rattle.wac_importing.proofs.Nested.{lists_importable}
 use Rattle.wac_importing.proofs.Loop.{IsBegun, entry_there}
 
 -- the error that a `?` hands on

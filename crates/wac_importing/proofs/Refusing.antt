@@ -1,6 +1,7 @@
 -- What lists plain items is neither none nor a fault to the writer of imports.
-use Rattle.std.proofs.Common.{◌≡◌, ℕ, zero, suc, ◌++◌, true, List, [], ◌∷◌, refl, ap, ◌∙◌, sym, subst, Option, Some, None}
+use Rattle.std.proofs.Common.{◌≡◌, ◌<◌, ℕ, zero, suc, ◌++◌, length, true, List, [], ◌∷◌, refl, ap, ◌∙◌, sym, subst, arith, Option, Some, None}
 use Rattle.std.specs.Prelude.{slice_get}
+use Rattle.std.proofs.lemmas.Option.{slice_get_within}
 use Rattle.std.proofs.lemmas.List.Sorted.{IsPermutation-sym}
 use Rattle.wac_shapes.specs.Name.{Name, option_case}
 use Rattle.wac_shapes.specs.Kinds.{kind_type}
@@ -16,22 +17,27 @@ use Rattle.wac_subtyping.specs.Subtype.{type_tree, kind_tree}
 use Rattle.wac_subtyping.proofs.Unfolding.{all_right, before_held, held_item}
 use Rattle.std.specs.List.{AllByRecursion}
 use Rattle.wac_scopes.specs.declared.fault.WriteFault.{WriteFault}
+use Rattle.wac_scopes.specs.declared.fault.EncodeFault.{EncodeFault}
 use Rattle.wac_scopes.specs.declared.fault.EncodeFault.TheVariants as fault
 use Rattle.wac_scopes.specs.declared.scope.Scope.{Scope}
-use Rattle.wac_encode.specs.Listing.{is_plain, lists_plain, are_plain, IsItemFault, HasRefusedItem}
+use Rattle.wac_encode.specs.Inside.{is_plain_alone}
+use Rattle.wac_encode.specs.Listing.{lists_plain, IsFaultIn, IsRefusedTo}
 use Rattle.wac_root.specs.Importing.{is_importable, IsImportFault}
 use Rattle.wac_encode.proofs.Ordered.{stands-there}
+use Rattle.wac_encode.proofs.Inside.{all-plain}
+use Rattle.wac_encode.proofs.Plain.{each-plain}
 use Rattle.wac_meaning.specs.Importable.{IsPlainItem}
-use Rattle.wac_importing.specs.Looked.{IsOfValues, ArePlain, ListsPlain}
+use Rattle.wac_importing.specs.Looked.{IsOfValues, IsPlainAlone, ArePlainInside, ListsPlain}
 use Rattle.wac_importing.proofs.Handles.{plain_free, value_needs_none, func_needs_none}
 use Rattle.wac_importing.proofs.Items.{type_not_plain}
+use Rattle.wac_importing.proofs.Nested.{listed_held, inside_of}
 
 module _ (c : Collection) (wf : IsWellFormed c) where
   -- a type item that is plain is one of a value type or a function type
   of_value : (a : AnyType) (P : Type 0) → holds_type c a ≡ true → IsPlainItem (kind_tree c (kind.TypeItem a)) → (IsOfValues a → ⊥) → P
   of_value a P held plain other = absurd (type_not_plain c wf a held other plain)
 
-  plain_is : (k : ItemKind) → holds_type c (kind_type k) ≡ true → IsPlainItem (kind_tree c k) → is_plain k ≡ true
+  plain_is : (k : ItemKind) → holds_type c (kind_type k) ≡ true → IsPlainAlone c k → is_plain_alone k ≡ true
   plain_is (kind.TypeItem (ty.Value v)) held plain = refl
   plain_is (kind.TypeItem (ty.Resource r)) held plain = of_value (ty.Resource r) _ held plain (λ of. of)
   plain_is (kind.TypeItem (ty.Func f)) held plain = refl
@@ -39,24 +45,24 @@ module _ (c : Collection) (wf : IsWellFormed c) where
   plain_is (kind.TypeItem (ty.World w)) held plain = of_value (ty.World w) _ held plain (λ of. of)
   plain_is (kind.TypeItem (ty.Module m)) held plain = refl
   plain_is (kind.Func f) held plain = refl
-  plain_is (kind.Instance i) held plain = absurd plain
+  plain_is (kind.Instance i) held plain = refl
   plain_is (kind.Component w) held plain = refl
   plain_is (kind.Module m) held plain = refl
   plain_is (kind.Value v) held plain = refl
 
-  -- no fault stands at a plain item
-  item_fault : (k : ItemKind) → holds_type c (kind_type k) ≡ true → IsPlainItem (kind_tree c k) → (f : WriteFault) → IsItemFault c k f → ⊥
-  item_fault (kind.TypeItem (ty.Value v)) held plain f h = value_needs_none c wf v held (plain_free (type_tree c (ty.Value v)) plain) h.1
-  item_fault (kind.Func g) held plain f h = func_needs_none c wf g held plain h.1
-  item_fault (kind.TypeItem (ty.Resource r)) held plain f h = of_value (ty.Resource r) _ held plain (λ of. of)
-  item_fault (kind.TypeItem (ty.Func g)) held plain f h = func_needs_none c wf g held (plain_free (type_tree c (ty.Func g)) plain) h.1
-  item_fault (kind.TypeItem (ty.Interface i)) held plain f h = of_value (ty.Interface i) _ held plain (λ of. of)
-  item_fault (kind.TypeItem (ty.World w)) held plain f h = of_value (ty.World w) _ held plain (λ of. of)
-  item_fault (kind.TypeItem (ty.Module m)) held plain f h = of_value (ty.Module m) _ held plain (λ of. of)
-  item_fault (kind.Instance i) held plain f h = absurd plain
-  item_fault (kind.Component w) held plain f h = absurd plain
-  item_fault (kind.Module m) held plain f h = absurd plain
-  item_fault (kind.Value v) held plain f h = absurd plain
+  -- no fault stands at a plain item, where none stands inside of it
+  item_fault : (k : ItemKind) → holds_type c (kind_type k) ≡ true → IsPlainAlone c k → (R : Scope → InterfaceId → EncodeFault → Type 0) (s : Scope) (f : WriteFault) → ((l : InterfaceId) → k ≡ kind.Instance l → (s : Scope) → R s l (fault.Write f) → ⊥) → IsFaultIn R c s k f → ⊥
+  item_fault (kind.TypeItem (ty.Value v)) held plain R s f inside h = value_needs_none c wf v held (plain_free (type_tree c (ty.Value v)) plain) h.1
+  item_fault (kind.Func g) held plain R s f inside h = func_needs_none c wf g held plain h.1
+  item_fault (kind.TypeItem (ty.Resource r)) held plain R s f inside h = of_value (ty.Resource r) _ held plain (λ of. of)
+  item_fault (kind.TypeItem (ty.Func g)) held plain R s f inside h = func_needs_none c wf g held (plain_free (type_tree c (ty.Func g)) plain) h.1
+  item_fault (kind.TypeItem (ty.Interface i)) held plain R s f inside h = of_value (ty.Interface i) _ held plain (λ of. of)
+  item_fault (kind.TypeItem (ty.World w)) held plain R s f inside h = of_value (ty.World w) _ held plain (λ of. of)
+  item_fault (kind.TypeItem (ty.Module m)) held plain R s f inside h = of_value (ty.Module m) _ held plain (λ of. of)
+  item_fault (kind.Instance i) held plain R s f inside h = inside i refl h.0 h.2
+  item_fault (kind.Component w) held plain R s f inside h = absurd plain
+  item_fault (kind.Module m) held plain R s f inside h = absurd plain
+  item_fault (kind.Value v) held plain R s f inside h = absurd plain
 
   all_at : (P : AnyType → Type 0) (es : List (Name × ItemKind)) → AllByRecursion P (kind_types es) → (i : ℕ) (e : Name × ItemKind) → slice_get es i ≡ Some e → P (kind_type e.1)
   all_at P [] all i e at = cc
@@ -70,22 +76,21 @@ module _ (c : Collection) (wf : IsWellFormed c) where
       let there : slice_get h.item.exports j ≡ Some e = subst (λ (x : Interface). slice_get x.exports j ≡ Some e) (sym same) at in
       before_held c h.before (kind_type e.1) (all_at (IsBefore c h.before) h.item.exports (all_right (IsBefore c h.before) (used_types h.item.uses) (kind_types h.item.exports) (wf.interfaces i.0 h is).1) j e there)
 
-  all_plain : (es : List (Name × ItemKind)) → ((j : ℕ) (e : Name × ItemKind) → slice_get es j ≡ Some e → is_plain e.1 ≡ true) → are_plain es ≡ true
-  all_plain [] each = refl
-  all_plain (e ∷ es) each = rw (each 0 e refl) (all_plain es (λ j x at. each (suc j) x at))
+  pub is_held : (i : InterfaceId) (it : Interface) → item_at c.interfaces i.0 ≡ Some it → holds_type c (ty.Interface i) ≡ true
+  is_held i it at =
+      let (h, is, same) = held_item (slice_get c.interfaces i.0) it at in
+      let less : i.0 < length c.interfaces = slice_get_within c.interfaces i.0 h is in
+      grind (arith, less)
 
-  pub lists : (i : InterfaceId) → ArePlain c (interface_exports c i) → lists_plain c i ≡ true
-  lists i all = by (item_at c.interfaces i.0) refl all where
-    by : (o : Option Interface) → item_at c.interfaces i.0 ≡ o → ArePlain c (option_case o [] (λ it. it.exports)) → option_case o true (λ it. are_plain it.exports) ≡ true
-    by None is all = refl
-    by (Some it) is all = all_plain it.exports (λ j e at. plain_is e.1 (exports_held i it is j e at) (all j e at))
+  pub lists : (i : InterfaceId) → holds_type c (ty.Interface i) ≡ true → ArePlainInside c i → lists_plain c i ≡ true
+  lists i held all = all-plain c wf i (λ j h. each-plain (λ n. true) (interface_exports c j) (λ k e at. plain_is e.1 (listed_held c wf j k e at) (all j h k e at))) held
 
   pub is_written : (k : ItemKind) → holds_type c (kind_type k) ≡ true → ListsPlain c k → ((m : ModuleTypeId) → k ≡ kind.Module m → ⊥) → is_importable c k ≡ true
-  is_written (kind.Instance i) held plain other = lists i plain
+  is_written (kind.Instance i) held plain other = lists i held plain
   is_written (kind.TypeItem (ty.Value v)) held plain other = refl
   is_written (kind.TypeItem (ty.Resource r)) held plain other = of_value (ty.Resource r) _ held plain (λ of. of)
   is_written (kind.TypeItem (ty.Func f)) held plain other = refl
-  is_written (kind.TypeItem (ty.Interface i)) held plain other = lists i plain
+  is_written (kind.TypeItem (ty.Interface i)) held plain other = lists i held plain
   is_written (kind.TypeItem (ty.World w)) held plain other = of_value (ty.World w) _ held plain (λ of. of)
   is_written (kind.TypeItem (ty.Module m)) held plain other = refl
   is_written (kind.Func f) held plain other = refl
@@ -97,20 +102,23 @@ module _ (c : Collection) (wf : IsWellFormed c) where
   in_split [] x ys = (0, refl)
   in_split (y ∷ xs) x ys = let (k, at) = in_split xs x ys in (suc k, at)
 
-  pub instance_fault : (i : InterfaceId) → ArePlain c (interface_exports c i) → (s : Scope) (f : WriteFault) → HasRefusedItem c s i (fault.Write f) → ⊥
-  instance_fault i all s f h =
+  pub instance_fault : (i : InterfaceId) → ArePlainInside c i → (s : Scope) (f : WriteFault) (d : ℕ) → IsRefusedTo d c s i (fault.Write f) → ⊥
+  instance_fault i all s f zero h = absurd h
+  instance_fault i all s f (suc d) h =
       let e : Name × ItemKind = (h.stopped.name, h.stopped.item) in
       let (k, at) = in_split h.stopped.before e h.stopped.after in
       let (j, there) = stands-there h.order h.interface.exports (IsPermutation-sym h.interface.exports h.order h.ordered.permutation) k e (ap (λ es. slice_get es k) h.stopped.split ∙ at) in
       let exported : interface_exports c i ≡ h.interface.exports = ap (λ o. option_case o [] (λ (x : Interface). x.exports)) h.found in
-      item_fault h.stopped.item (exports_held i h.interface h.found j e there) (subst (ArePlain c) exported all j e there) f h.stopped.refused
+      let listed : slice_get (interface_exports c i) j ≡ Some e = ap (λ (es : List (Name × ItemKind)). slice_get es j) exported ∙ there in
+      item_fault h.stopped.item (exports_held i h.interface h.found j e there) (all i (0, refl) j e listed) (IsRefusedTo d c) h.stopped.scope f
+      (λ l is_instance s' refused. instance_fault l (λ k within. all k (inside_of c i l j h.stopped.name (listed ∙ ap (λ (y : ItemKind). Some (h.stopped.name, y)) is_instance) within.0 k within.1)) s' f d refused) h.stopped.refused
 
   pub no_fault : (k : ItemKind) → holds_type c (kind_type k) ≡ true → ListsPlain c k → (f : WriteFault) → IsImportFault c k f → ⊥
-  no_fault (kind.Instance i) held plain f h = instance_fault i plain h.0 f h.1
+  no_fault (kind.Instance i) held plain f h = instance_fault i plain h.0 f h.1.0 h.1.1
   no_fault (kind.TypeItem (ty.Value v)) held plain f h = value_needs_none c wf v held (plain_free (type_tree c (ty.Value v)) plain) h.1
   no_fault (kind.Func g) held plain f h = func_needs_none c wf g held plain h.1
   no_fault (kind.TypeItem (ty.Func g)) held plain f h = func_needs_none c wf g held plain h.1
-  no_fault (kind.TypeItem (ty.Interface i)) held plain f h = instance_fault i plain h.0 f h.1
+  no_fault (kind.TypeItem (ty.Interface i)) held plain f h = instance_fault i plain h.0 f h.1.0 h.1.1
   no_fault (kind.TypeItem (ty.Module m)) held plain f h = of_value (ty.Module m) _ held plain (λ of. of)
   no_fault (kind.Value v) held plain f h = absurd plain
   no_fault (kind.TypeItem a) held plain f h = absurd h

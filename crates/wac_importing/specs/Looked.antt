@@ -1,6 +1,7 @@
 -- What is looked at before imports are written.
 use Rattle.std.specs.Prelude.{ℕ, ◌≡◌, List, Some, slice_get}
 use Rattle.wac_shapes.specs.Name.{Name}
+use Rattle.wac_shapes.specs.declared.component.InterfaceId.{InterfaceId}
 use Rattle.wac_shapes.specs.declared.component.ItemKind.{ItemKind}
 use Rattle.wac_shapes.specs.declared.component.ItemKind.TheVariants as kind
 use Rattle.wac_shapes.specs.declared.component.ResourceId.{ResourceId}
@@ -9,6 +10,7 @@ use Rattle.wac_shapes.specs.declared.component.«Type».TheVariants as ty
 use Rattle.wac_collection.specs.Collection.{Collection, interface_exports}
 use Rattle.wac_reach.specs.Reach.{IsIn}
 use Rattle.wac_subtyping.specs.Subtype.{type_tree, kind_tree}
+use Rattle.wac_encode.specs.Inside.{IsInside}
 use Rattle.wac_meaning.specs.Importable.{HasNoHandle, IsPlainItem, IsImportableKind}
 
 -- a value type or a function type
@@ -21,14 +23,34 @@ IsOfValues t = ⊥
 abbrev pub HasNoResource : List AnyType → Type 0
 HasNoResource ts = (r : ResourceId) → IsIn (ty.Resource r) ts → ⊥
 
+-- an item is plain, whatever is inside of it where it is an instance
+abbrev pub IsPlainAlone : Collection → ItemKind → Type 0
+IsPlainAlone c (kind.Instance i) = Unit {0}
+IsPlainAlone c k = IsPlainItem (kind_tree c k)
+
+abbrev pub ArePlainAlone : Collection → List (Name × ItemKind) → Type 0
+ArePlainAlone c es = (i : ℕ) (e : Name × ItemKind) → slice_get es i ≡ Some e → IsPlainAlone c e.1
+
+-- so are the items of a held interface
+abbrev pub ListsPlainAlone : Collection → AnyType → Type 0
+ListsPlainAlone c (ty.Interface i) = ArePlainAlone c (interface_exports c i)
+ListsPlainAlone c t = Unit {0}
+
+abbrev pub ListPlainAlone : Collection → List AnyType → Type 0
+ListPlainAlone c ts = (i : ℕ) (t : AnyType) → slice_get ts i ≡ Some t → ListsPlainAlone c t
+
+-- and of each interface inside it
+abbrev pub ArePlainInside : Collection → InterfaceId → Type 0
+ArePlainInside c i = (j : InterfaceId) → IsInside c i j → ArePlainAlone c (interface_exports c j)
+
 -- listed items are all plain
 abbrev pub ArePlain : Collection → List (Name × ItemKind) → Type 0
 ArePlain c es = (i : ℕ) (e : Name × ItemKind) → slice_get es i ≡ Some e → IsPlainItem (kind_tree c e.1)
 
--- an item is plain, an instance that lists plain ones or its type, the type of a function without a resource in it, or a core module
+-- an item is plain, an instance that lists plain ones to any depth or its type, the type of a function without a resource in it, or a core module
 abbrev pub ListsPlain : Collection → ItemKind → Type 0
-ListsPlain c (kind.Instance i) = ArePlain c (interface_exports c i)
-ListsPlain c (kind.TypeItem (ty.Interface i)) = ArePlain c (interface_exports c i)
+ListsPlain c (kind.Instance i) = ArePlainInside c i
+ListsPlain c (kind.TypeItem (ty.Interface i)) = ArePlainInside c i
 ListsPlain c (kind.TypeItem (ty.Func f)) = HasNoHandle (type_tree c (ty.Func f))
 ListsPlain c (kind.Module m) = Unit {0}
 ListsPlain c k = IsPlainItem (kind_tree c k)

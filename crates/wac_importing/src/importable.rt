@@ -7,11 +7,14 @@ ghost use Rattle.wac_shapes.specs.declared.component.ItemKind.TheVariants as kin
 ghost use Rattle.wac_shapes.specs.declared.component.«Type».TheVariants as ty;
 ghost use Rattle.wac_collection.specs.Collection.{HasInterface, holds_type};
 ghost use Rattle.wac_subtyping.specs.Subtype.{type_tree, kind_tree};
+ghost use Rattle.wac_shapes.specs.declared.component.«Type».{«Type» as AnyType};
+ghost use Rattle.wac_encode.specs.Inside.{IsHeldInterface};
 ghost use Rattle.wac_meaning.specs.Importable.{HasNoHandle, IsPlainItem, IsImportableKind, IsDefinableKind};
-ghost use Rattle.wac_importing.specs.Looked.{IsOfValues, HasNoResource, ArePlain, ListsPlain, AreImportable, HasNotYet};
+ghost use Rattle.wac_importing.specs.Looked.{IsOfValues, HasNoResource, IsPlainAlone, ArePlainAlone, ListsPlainAlone, ListPlainAlone, ListsPlain, AreImportable, HasNotYet};
 
 use std::alloc::AllocError;
 use wac_collection::{InterfaceId, ItemKind, Named, Type, Types};
+use wac_encode::TypeEncoder;
 use wac_reach::reach;
 
 /// Whether a held value type or function type is made of no handle.
@@ -60,15 +63,17 @@ fn is_plain_type(types: &Types, ty: Type) -> Result<bool, AllocError>
     }
 }
 
-/// Whether a held item is a function or a type item of a value type or a function type, and made of no handle.
+/// Whether a held item is a function or a type item of a value type or a function type, and made of no handle, or an instance, whatever is
+/// inside.
 fn is_plain(types: &Types, item: ItemKind) -> Result<bool, AllocError>
     requires { holds_type types.now (kind_type item) ≡ true }
-    ensures plain { result ≡ Answers true → IsPlainItem (kind_tree types.now item) }
-    ensures not { result ≡ Answers false → IsPlainItem (kind_tree types.now item) → ⊥ }
+    ensures plain { result ≡ Answers true → IsPlainAlone types.now item }
+    ensures not { result ≡ Answers false → IsPlainAlone types.now item → ⊥ }
 {
     match item {
         ItemKind::Func(func) => has_no_handle(types, Type::Func(func)),
         ItemKind::TypeItem(ty) => is_plain_type(types, ty),
+        ItemKind::Instance(_) => Ok(true),
         _ => Ok(false),
     }
 }
@@ -76,8 +81,8 @@ fn is_plain(types: &Types, item: ItemKind) -> Result<bool, AllocError>
 /// Whether all items are.
 fn are_plain(types: &Types, items: &Named<ItemKind>) -> Result<bool, AllocError>
     requires { (i : ℕ) (e : List ℕ × AnyItem) → slice_get items.now i ≡ Some e → holds_type types.now (kind_type e.1) ≡ true }
-    ensures plain { result ≡ Answers true → ArePlain types.now items.now }
-    ensures not { result ≡ Answers false → ArePlain types.now items.now → ⊥ }
+    ensures plain { result ≡ Answers true → ArePlainAlone types.now items.now }
+    ensures not { result ≡ Answers false → ArePlainAlone types.now items.now → ⊥ }
 {
     for i in 0..items.len() {
         let (_, item) = items.entry_at(i);
@@ -88,17 +93,44 @@ fn are_plain(types: &Types, items: &Named<ItemKind>) -> Result<bool, AllocError>
     Ok(true)
 }
 
-/// Whether a held interface lists plain items alone, so that an instance of it and its type are imported so far.
+/// Whether a held interface lists plain items alone, whatever is inside instances.
+fn lists_plain_alone(types: &Types, ty: Type) -> Result<bool, AllocError>
+    requires { IsHeldInterface types.now ty }
+    ensures plain { result ≡ Answers true → ListsPlainAlone types.now ty }
+    ensures not { result ≡ Answers false → ListsPlainAlone types.now ty → ⊥ }
+{
+    types.law();
+    let Type::Interface(interface) = ty else {
+        unreachable!()
+    };
+    are_plain(types, &types[interface].exports)
+}
+
+/// Whether all of these interfaces do.
+fn list_plain_alone(types: &Types, inside: &[Type]) -> Result<bool, AllocError>
+    requires { (i : ℕ) (t : AnyType) → slice_get inside.now i ≡ Some t → IsHeldInterface types.now t }
+    ensures plain { result ≡ Answers true → ListPlainAlone types.now inside.now }
+    ensures not { result ≡ Answers false → ListPlainAlone types.now inside.now → ⊥ }
+{
+    for i in 0..inside.len() {
+        if !lists_plain_alone(types, inside[i])? {
+            return Ok(false);
+        }
+    }
+    Ok(true)
+}
+
+/// Whether a held interface and all inside it list plain items alone, so that an instance of it and its type are imported so far.
 fn has_plain_items(types: &Types, interface: InterfaceId) -> Result<bool, AllocError>
     requires { holds_type types.now (ty.Interface interface) ≡ true }
     ensures plain { result ≡ Answers true → ListsPlain types.now (kind.Instance interface) }
-    ensures not { result ≡ Answers false → IsImportableKind types.now (kind.Instance interface) → ⊥ }
+    ensures not { result ≡ Answers false → ListsPlain types.now (kind.Instance interface) → ⊥ }
+    ensures not_instance { result ≡ Answers false → IsImportableKind types.now (kind.Instance interface) → ⊥ }
     ensures not_type { result ≡ Answers false → IsImportableKind types.now (kind.TypeItem (ty.Interface interface)) → ⊥ }
 {
     types.law();
-    let exports = &types[interface].exports;
-    exports.law();
-    are_plain(types, exports)
+    let inside = TypeEncoder::new(types).interfaces_inside(interface)?;
+    list_plain_alone(types, inside.as_slice())
 }
 
 /// Whether a held type as an item lists plain ones: a value type or a function type that is made of no handle, or an interface that lists
@@ -128,13 +160,14 @@ fn lists_plain(types: &Types, item: ItemKind) -> Result<bool, AllocError>
         ItemKind::Instance(id) => has_plain_items(types, id),
         ItemKind::TypeItem(ty) => is_importable_type(types, ty),
         ItemKind::Module(_) => Ok(true),
-        _ => is_plain(types, item),
+        ItemKind::Func(func) => has_no_handle(types, Type::Func(func)),
+        _ => Ok(false),
     }
 }
 
 /// Whether a held item is imported so far: it is a core module, or it is a function, a type item of a value type or of a function type, an
-/// instance of functions and type items of such types, or the type of such an instance, and made of no handle. Answers `AllocError` where
-/// memory ran out. Linear in what each of its items reaches.
+/// instance of functions, type items of such types and such instances, or the type of such an instance, and made of no handle. Answers
+/// `AllocError` where memory ran out. Linear in what each of its items reaches.
 pub fn is_importable(types: &Types, item: ItemKind) -> Result<bool, AllocError>
     requires { holds_type types.now (kind_type item) ≡ true }
     ensures importable { result ≡ Answers true → IsImportableKind types.now item }
@@ -144,8 +177,8 @@ pub fn is_importable(types: &Types, item: ItemKind) -> Result<bool, AllocError>
     lists_plain(types, item)
 }
 
-/// Whether a held interface has an id, uses nothing, and lists functions and type items of value types and function types alone, made
-/// of no handle.
+/// Whether a held interface has an id, uses nothing, and lists functions, type items of value types and function types, and instances of
+/// such alone, made of no handle.
 fn is_definable_interface(types: &Types, interface: InterfaceId) -> Result<bool, AllocError>
     requires { HasInterface types.now interface }
     ensures definable { result ≡ Answers true → IsDefinableKind types.now (kind.TypeItem (ty.Interface interface)) }
@@ -156,7 +189,7 @@ fn is_definable_interface(types: &Types, interface: InterfaceId) -> Result<bool,
     if held.id.is_none() || held.uses.len() > 0 {
         return Ok(false);
     }
-    are_plain(types, &held.exports)
+    has_plain_items(types, interface)
 }
 
 /// Whether a held type is a value type or a function type, made of no handle, or an interface that is defined so far.
@@ -174,8 +207,8 @@ fn is_definable_type(types: &Types, ty: Type) -> Result<bool, AllocError>
 }
 
 /// Whether a held item is a type that is defined so far: a type item of a value type or a function type that is made of no handle, or of
-/// an interface that has an id, uses nothing, and lists functions and type items of such types alone, made of no handle. Answers
-/// `AllocError` where memory ran out. Linear in what the type, or each of the interface's items, reaches.
+/// an interface that has an id, uses nothing, and lists functions, type items of such types and instances of such alone, made of no
+/// handle. Answers `AllocError` where memory ran out. Linear in what the type, or each of the interface's items, reaches.
 pub fn is_definable(types: &Types, item: ItemKind) -> Result<bool, AllocError>
     requires { holds_type types.now (kind_type item) ≡ true }
     ensures definable { result ≡ Answers true → IsDefinableKind types.now item }

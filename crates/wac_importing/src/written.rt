@@ -41,8 +41,8 @@ pub struct WrittenImports {
 /// written once.
 ///
 /// Answers none exactly where an import is not importable so far: it is no core module, no function, no type item of a value type, a
-/// function type or an interface, and no instance, or one of an interface that lists other items than functions and type
-/// items of value types and function types, or it is made of a handle; memory may be refused before that is known. Answers `TooLarge` where an import does not
+/// function type or an interface, and no instance, or one of an interface that lists other items than functions, type
+/// items of value types and function types and instances of such, or it is made of a handle; memory may be refused before that is known. Answers `TooLarge` where an import does not
 /// fit behind those before it; `OutOfMemory` where memory was refused.
 pub fn write_imports(
     alloc: Global,

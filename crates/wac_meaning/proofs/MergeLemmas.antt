@@ -84,7 +84,7 @@ all_pass test P each (e ∷ es) = split (test e) refl (all_pass test P each es) 
   split true is rest = subst (λ b. AllByRecursion P (cond b (e ∷ filter test es) (filter test es))) (sym is) (each e is, rest)
   split false is rest = subst (λ b. AllByRecursion P (cond b (e ∷ filter test es) (filter test es))) (sym is) rest
 
-canonical_in : ClassLaws → (es : List Entry) (n : Name) → same_class by_names es n (canonical by_names es n) ≡ true
+pub canonical_in : ClassLaws → (es : List Entry) (n : Name) → same_class by_names es n (canonical by_names es n) ≡ true
 canonical_in laws es n = newest_of by_names (λ m. same_class by_names es n m ≡ true) n (members by_names es n) (laws.reflexive es n) (all_pass (λ e. same_class by_names es n e.name) (λ e. same_class by_names es n e.name ≡ true) (λ e is. is) es)
 
 -- a written order has the number of each class

@@ -1,6 +1,6 @@
 //! The writer of definitions.
 
-ghost use Rattle.std.specs.Prelude.{◌≡◌, true, false, None, Some, IfOk, OnErr};
+ghost use Rattle.std.specs.Prelude.{◌≡◌, true, false, None, Some, Ok as Answers, IfOk, OnErr};
 ghost use Rattle.wac_shapes.specs.declared.component.ValueType.TheVariants as val;
 ghost use Rattle.wac_shapes.specs.declared.component.«Type».TheVariants as ty;
 ghost use Rattle.wac_collection.specs.Collection.{HasFunc, HasInterface, holds_type, holds_value};
@@ -10,6 +10,7 @@ ghost use Rattle.wac_scopes.specs.Rooted.{IsRightRoot};
 ghost use Rattle.wac_root.specs.Defining.{IsDefinable, WritesDefinition, WritesTypesFor, WritesOnce, IsDefinitionRefused};
 
 use crate::root::RootEncoder;
+use std::alloc::AllocError;
 use wac_binary::{ComponentValType, Sort};
 use wac_collection::{DefinedTypeId, FuncTypeId, InterfaceId, PrimitiveType, Type, ValueType};
 use wac_scopes::{EncodeFault, Scope, WriteFault, alias_law, rooted_law, step_law, still_law};
@@ -182,17 +183,22 @@ impl<'a> RootEncoder<'a> {
 
     /// Whether a held type is one that is defined so far: a value type, a function type, or an interface that has an id and lists items
     /// of sorts that are written.
-    pub fn is_definable(&self, ty: Type) -> bool
+    ///
+    /// Answers `AllocError` where memory ran out.
+    pub fn is_definable(&self, ty: Type) -> Result<bool, AllocError>
         requires { holds_type self.now.types.now ty ≡ true }
-        ensures definable { result ≡ true → IsDefinable self.now.types.now ty }
-        ensures not { result ≡ false → IsDefinable self.now.types.now ty → ⊥ }
+        ensures definable { result ≡ Answers true → IsDefinable self.now.types.now ty }
+        ensures not { result ≡ Answers false → IsDefinable self.now.types.now ty → ⊥ }
     {
         match ty {
-            Type::Value(_) | Type::Func(_) => true,
+            Type::Value(_) | Type::Func(_) => Ok(true),
             Type::Interface(interface) => {
-                self.types[interface].id.is_some() && self.lists_plain(interface)
+                if self.types[interface].id.is_none() {
+                    return Ok(false);
+                }
+                self.lists_plain(interface)
             }
-            Type::Resource(_) | Type::World(_) | Type::Module(_) => false,
+            Type::Resource(_) | Type::World(_) | Type::Module(_) => Ok(false),
         }
     }
 

@@ -1,12 +1,13 @@
 //! The writer of imports.
 
-ghost use Rattle.std.specs.Prelude.{◌≡◌, ◌↔◌, true, false, None, Some, Ok as Answers, IfOk, OnOk, OnErr};
+ghost use Rattle.std.specs.Prelude.{◌≡◌, ◌⊎◌, true, false, None, Some, Ok as Answers, Err as Refused, IfOk, OnOk, OnErr};
 ghost use Rattle.wac_shapes.specs.Kinds.{kind_type};
 ghost use Rattle.wac_shapes.specs.declared.component.ItemKind.TheVariants as kind;
 ghost use Rattle.wac_shapes.specs.declared.component.ValueType.TheVariants as val;
 ghost use Rattle.wac_shapes.specs.declared.component.«Type».TheVariants as ty;
 ghost use Rattle.wac_collection.specs.Collection.{HasFunc, HasInterface, holds_type, holds_value};
 ghost use Rattle.wac_collection.specs.Aliases.{value_resolved};
+ghost use Rattle.wac_scopes.specs.declared.fault.EncodeFault.TheVariants.{OutOfMemory};
 ghost use Rattle.wac_scopes.specs.Contents.{IsRoot};
 ghost use Rattle.wac_scopes.specs.Scoped.{value_index};
 ghost use Rattle.wac_encode.specs.Written.{WritesFor, IsOfFunc};
@@ -15,6 +16,7 @@ ghost use Rattle.wac_encode.specs.Listing.{lists_plain};
 ghost use Rattle.wac_root.specs.Importing.{is_importable as importable, ImportsHeld, WritesImport, WritesTypesOf, IsItemNotImported, ImportsIfThere, WritesImportIfThere, ImportsOneMore};
 
 use crate::root::RootEncoder;
+use std::alloc::AllocError;
 use wac_binary::{ComponentValType, listed_law};
 use wac_collection::{
     DefinedTypeId, FuncTypeId, InterfaceId, ItemKind, PrimitiveType, Type, ValueType,
@@ -251,15 +253,15 @@ impl<'a> RootEncoder<'a> {
     }
 
     /// Whether an item is of a sort that the root imports so far, or that it cannot import.
-    fn is_importable(&self, item: ItemKind) -> bool
+    fn is_importable(&self, item: ItemKind) -> Result<bool, AllocError>
         requires { holds_type self.now.types.now (kind_type item) ≡ true }
-        ensures { result ≡ importable self.now.types.now item }
+        ensures { IfOk result (λ may. may ≡ importable self.now.types.now item) }
     {
         match item {
-            ItemKind::TypeItem(Type::Value(_) | Type::Func(_) | Type::Module(_)) => true,
+            ItemKind::TypeItem(Type::Value(_) | Type::Func(_) | Type::Module(_)) => Ok(true),
             ItemKind::TypeItem(Type::Interface(id)) => self.lists_plain(id),
-            ItemKind::TypeItem(_) | ItemKind::Component(_) | ItemKind::Module(_) => false,
-            ItemKind::Func(_) | ItemKind::Value(_) => true,
+            ItemKind::TypeItem(_) | ItemKind::Component(_) | ItemKind::Module(_) => Ok(false),
+            ItemKind::Func(_) | ItemKind::Value(_) => Ok(true),
             ItemKind::Instance(id) => self.lists_plain(id),
         }
     }
@@ -298,9 +300,10 @@ impl<'a> RootEncoder<'a> {
     ///
     /// Answers none, and writes nothing, exactly where the item is of a sort that is not imported yet: a type item of a resource or of a
     /// world, an instance or a type item of an interface that has an item that is not written yet, a component, or a core
-    /// module. Answers `UnboundResource` for an item that is made of a handle, `ModuleAsType` for a type item of a core module
-    /// type, `ValueItem` for a value, what `interface_type` answers where it refuses the interface, and `TooLarge` where what is written
-    /// next does not fit; `OutOfMemory` where memory was refused. Then some of its types may stand, each whole.
+    /// module; memory may be refused before that is known. Answers `UnboundResource` for an item that is made of a handle, `ModuleAsType`
+    /// for a type item of a core module type, `ValueItem` for a value, what `interface_type` answers where it refuses the interface, and
+    /// `TooLarge` where what is written next does not fit; `OutOfMemory` where memory was refused. Then some of its types may stand, each
+    /// whole.
     pub fn import(
         &self,
         root: &mut Scope,
@@ -309,7 +312,8 @@ impl<'a> RootEncoder<'a> {
     ) -> Result<Option<u32>, EncodeFault>
         requires held { holds_type self.now.types.now (kind_type item) ≡ true }
         requires root { IsRoot root.old.content }
-        ensures none { (result ≡ Answers None) ↔ (importable self.now.types.now item ≡ false) }
+        ensures none { result ≡ Answers None → importable self.now.types.now item ≡ false }
+        ensures not { importable self.now.types.now item ≡ false → (result ≡ Answers None) ⊎ (result ≡ Refused OutOfMemory) }
         ensures imports { IfOk result (ImportsIfThere self.now.types.now root.old root.new name.now item) }
         ensures written { IfOk result (WritesImportIfThere self.now.types.now root.old root.new name.now item) }
         ensures refused { OnErr result (WritesTypesOf self.now.types.now item root.old root.new) }
@@ -317,7 +321,7 @@ impl<'a> RootEncoder<'a> {
         ensures root { IsRoot root.new.content }
     {
         still_law();
-        if !self.is_importable(item) {
+        if !self.is_importable(item)? {
             return Ok(None);
         }
         let index = self.import_item(root, name, item)?;

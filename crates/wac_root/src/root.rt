@@ -1,9 +1,10 @@
 //! The writer of a component's root, and what it takes from the writer of types.
 
-ghost use Rattle.std.specs.Prelude.{◌≡◌, ◌↔◌, true, false, None, Ok as Answers, IfOk};
+ghost use Rattle.std.specs.Prelude.{◌≡◌, ◌⊎◌, true, false, None, Ok as Answers, Err as Refused, IfOk};
 ghost use Rattle.wac_shapes.specs.declared.component.ItemKind.TheVariants as kind;
 ghost use Rattle.wac_collection.specs.Collection.{HasFunc, HasInterface, holds_value};
 ghost use Rattle.wac_collection.specs.Aliases.{value_resolved};
+ghost use Rattle.wac_scopes.specs.declared.fault.EncodeFault.TheVariants.{OutOfMemory};
 ghost use Rattle.wac_encode.specs.Written.{IsByRecord, PartOf, WritesFor, IsRefused, IsOfFunc, AddsHeldFunc, IsFuncAt, IsFuncRefused};
 ghost use Rattle.wac_encode.specs.Listing.{NeededBy, SaysIfThere, WritesIfThere, lists_plain, IsInterfaceRefused};
 ghost use Rattle.wac_encode.specs.Instances.{AddsHeldInterface, IsInterfaceAt, IsInstanceRefused, listed_definitions};
@@ -63,7 +64,8 @@ impl<'a> RootEncoder<'a> {
         interface: InterfaceId,
     ) -> Result<Option<InstanceType>, EncodeFault>
         requires { HasInterface self.now.types.now interface }
-        ensures none { (result ≡ Answers None) ↔ (lists_plain self.now.types.now interface ≡ false) }
+        ensures none { result ≡ Answers None → lists_plain self.now.types.now interface ≡ false }
+        ensures not_plain { lists_plain self.now.types.now interface ≡ false → (result ≡ Answers None) ⊎ (result ≡ Refused OutOfMemory) }
         ensures says { IfOk result (SaysIfThere self.now.types.now around.now interface) }
         ensures written { IfOk result (WritesIfThere self.now.types.now around.now interface) }
         ensures fault { IsInterfaceRefused self.now.types.now around.now interface result }
@@ -98,9 +100,9 @@ impl<'a> RootEncoder<'a> {
     }
 
     /// Whether all items of an interface are of sorts that are written.
-    pub(crate) fn lists_plain(&self, interface: InterfaceId) -> bool
+    pub(crate) fn lists_plain(&self, interface: InterfaceId) -> Result<bool, AllocError>
         requires { HasInterface self.now.types.now interface }
-        ensures { result ≡ lists_plain self.now.types.now interface }
+        ensures { IfOk result (λ plain. plain ≡ lists_plain self.now.types.now interface) }
     {
         TypeEncoder::new(self.types).lists_plain(interface)
     }

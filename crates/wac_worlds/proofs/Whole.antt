@@ -1,5 +1,5 @@
 -- A world is written as a component type.
-use Rattle.std.specs.Prelude.{ℕ, zero, suc, ◌+◌, ◌≡◌, ◌↔◌, ◌==◌, ◌&&◌, Bool, true, false, List, [], ◌∷◌, ◌++◌, length, Option, Some, None, slice_get, Result, Ok, Err}
+use Rattle.std.specs.Prelude.{ℕ, zero, suc, ◌+◌, ◌≡◌, ◌==◌, ◌&&◌, Bool, true, false, List, [], ◌∷◌, ◌++◌, length, Option, Some, None, slice_get, Err}
 use Rattle.std.specs.List.{AllByRecursion}
 use Rattle.std.proofs.Common.{refl, ap, ◌∙◌, sym, subst, take, add-one, inl, inr, arith}
 use Rattle.std.proofs.Math.Path.{fun_ext}
@@ -170,14 +170,3 @@ pub exports-refused : (A B : Type 0) (c : Collection) (w : WorldId) (x : World) 
 exports-refused A B c w x start between (fault.Write f) found bare written h = record { world = x; found = found; start = start; bare = bare; stopped = inr (record { between = between; imports = written; stopped = h }) }
 exports-refused A B c w x start between fault.TooLarge found bare written h = record { world = x; found = found; start = start; bare = bare; stopped = inr (record { between = between; imports = written; stopped = h }) }
 exports-refused A B c w x start between fault.OutOfMemory found bare written h = tt
-
--- none where the world is not plain
-
-pub none-answered : (X : Type 0) (c : Collection) (w : WorldId) (r : Result (Option X) EncodeFault) → is_plain_world c w ≡ false → r ≡ Ok None → (r ≡ Ok None) ↔ (is_plain_world c w ≡ false)
-none-answered X c w r plain is = (λ h. plain, λ h. is)
-
-pub some-answered : (X : Type 0) (c : Collection) (w : WorldId) (r : Result (Option X) EncodeFault) (x : X) → is_plain_world c w ≡ true → r ≡ Ok (Some x) → (r ≡ Ok None) ↔ (is_plain_world c w ≡ false)
-some-answered X c w r x plain is = (λ h. let some_none : Some x ≡ None = cc in cc, λ h. let both : true ≡ false = sym plain ∙ h in cc)
-
-pub fault-answered : (X : Type 0) (c : Collection) (w : WorldId) (r : Result (Option X) EncodeFault) (e : EncodeFault) → is_plain_world c w ≡ true → r ≡ Err e → (r ≡ Ok None) ↔ (is_plain_world c w ≡ false)
-fault-answered X c w r e plain is = (λ h. cc, λ h. let both : true ≡ false = sym plain ∙ h in cc)

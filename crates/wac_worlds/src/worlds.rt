@@ -1,11 +1,12 @@
 //! The writer of worlds, and what it takes from the writer of types.
 
-ghost use Rattle.std.specs.Prelude.{◌≡◌, ◌↔◌, true, false, None, Some, ℕ, List, Ok as Answers, IfOk, slice_get};
+ghost use Rattle.std.specs.Prelude.{◌≡◌, ◌⊎◌, true, false, None, Some, ℕ, List, Ok as Answers, Err as Refused, IfOk, slice_get};
 ghost use Rattle.wac_shapes.specs.Kinds.{kind_type};
 ghost use Rattle.wac_shapes.specs.declared.component.ItemKind.{ItemKind as AnyItem};
 ghost use Rattle.wac_shapes.specs.declared.component.ItemKind.TheVariants as kind;
 ghost use Rattle.wac_collection.specs.Collection.{HasFunc, HasInterface, HasWorld, holds_type, holds_value};
 ghost use Rattle.wac_collection.specs.Aliases.{value_resolved};
+ghost use Rattle.wac_scopes.specs.declared.fault.EncodeFault.TheVariants.{OutOfMemory};
 ghost use Rattle.wac_scopes.specs.declared.encodable.Encodable.TheVariants.{Component};
 ghost use Rattle.wac_scopes.specs.Sides.{IsOpenComponent};
 ghost use Rattle.wac_encode.specs.Written.{IsByRecord, PartOf, WritesFor, IsRefused, IsOfFunc, AddsHeldFunc, IsFuncAt, IsFuncRefused};
@@ -89,52 +90,58 @@ impl<'a> WorldEncoder<'a> {
     }
 
     /// Whether all items of an interface are of sorts that are written.
-    fn lists_plain(&self, interface: InterfaceId) -> bool
+    fn lists_plain(&self, interface: InterfaceId) -> Result<bool, AllocError>
         requires { HasInterface self.now.types.now interface }
-        ensures { result ≡ lists_plain self.now.types.now interface }
+        ensures { IfOk result (λ plain. plain ≡ lists_plain self.now.types.now interface) }
     {
         TypeEncoder::new(self.types).lists_plain(interface)
     }
 
     /// Whether an item is of a sort that is written, or that no component type can list.
-    fn is_declarable(&self, item: ItemKind) -> bool
+    fn is_declarable(&self, item: ItemKind) -> Result<bool, AllocError>
         requires { holds_type self.now.types.now (kind_type item) ≡ true }
-        ensures { result ≡ declarable_item self.now.types.now item }
+        ensures { IfOk result (λ may. may ≡ declarable_item self.now.types.now item) }
     {
         match item {
-            ItemKind::TypeItem(Type::Value(_) | Type::Module(_)) => true,
-            ItemKind::TypeItem(_) => false,
+            ItemKind::TypeItem(Type::Value(_) | Type::Module(_)) => Ok(true),
+            ItemKind::TypeItem(_) => Ok(false),
             ItemKind::Instance(id) => self.lists_plain(id),
             ItemKind::Func(_) | ItemKind::Component(_) | ItemKind::Module(_) | ItemKind::Value(_) =>
-                { true }
+                { Ok(true) }
         }
     }
 
     /// Whether all items are.
-    fn are_declarable(&self, items: &Named<ItemKind>) -> bool
+    fn are_declarable(&self, items: &Named<ItemKind>) -> Result<bool, AllocError>
         requires { (k : ℕ) (e : List ℕ × AnyItem) → slice_get items.now k ≡ Some e → holds_type self.now.types.now (kind_type e.1) ≡ true }
-        ensures { result ≡ declarable_items self.now.types.now items.now }
+        ensures { IfOk result (λ may. may ≡ declarable_items self.now.types.now items.now) }
     {
         for i in 0..items.len() {
             let (_, item) = items.entry_at(i);
-            if !self.is_declarable(*item) {
-                return false;
+            if !self.is_declarable(*item)? {
+                return Ok(false);
             }
         }
-        true
+        Ok(true)
     }
 
     /// Whether a world is written so far: it uses no types of interfaces, and its items are of sorts that are written, or that no
     /// component type can list.
-    pub fn is_plain(&self, world: WorldId) -> bool
+    ///
+    /// Answers `AllocError` where memory ran out.
+    pub fn is_plain(&self, world: WorldId) -> Result<bool, AllocError>
         requires { HasWorld self.now.types.now world }
-        ensures { result ≡ is_plain_world self.now.types.now world }
+        ensures { IfOk result (λ plain. plain ≡ is_plain_world self.now.types.now world) }
     {
         self.types.law();
         let held = &self.types[world];
-        held.uses.len() == 0
-            && self.are_declarable(&held.imports)
-            && self.are_declarable(&held.exports)
+        if held.uses.len() > 0 {
+            return Ok(false);
+        }
+        if !self.are_declarable(&held.imports)? {
+            return Ok(false);
+        }
+        self.are_declarable(&held.exports)
     }
 
     /// Writes a held world as a component type: what it imports, then what it exports; each as instances, then type items, then
@@ -143,20 +150,21 @@ impl<'a> WorldEncoder<'a> {
     /// item's index.
     ///
     /// Answers none exactly where the world uses types of interfaces, or an item is of a sort that is not written: a type item of a
-    /// resource, a function type, an interface or a world, or an instance of an interface that `interface_type` does not write.
-    /// Answers `UnboundResource` for an item that is made of a handle, `ModuleAsType` and `NestedItem` for one that no component type
-    /// can list, what `interface_type` answers where it refuses an interface, and `TooLarge` where what is written next does not fit,
-    /// the first in order; `OutOfMemory` where memory was refused.
+    /// resource, a function type, an interface or a world, or an instance of an interface that `interface_type` does not write; memory
+    /// may be refused before that is known. Answers `UnboundResource` for an item that is made of a handle, `ModuleAsType` and
+    /// `NestedItem` for one that no component type can list, what `interface_type` answers where it refuses an interface, and `TooLarge`
+    /// where what is written next does not fit, the first in order; `OutOfMemory` where memory was refused.
     pub fn world_type(&self, world: WorldId) -> Result<Option<ComponentType>, EncodeFault>
         requires { HasWorld self.now.types.now world }
-        ensures none { (result ≡ Answers None) ↔ (is_plain_world self.now.types.now world ≡ false) }
+        ensures none { result ≡ Answers None → is_plain_world self.now.types.now world ≡ false }
+        ensures not_plain { is_plain_world self.now.types.now world ≡ false → (result ≡ Answers None) ⊎ (result ≡ Refused OutOfMemory) }
         ensures says { IfOk result (SaysIfThere self.now.types.now world) }
         ensures written { IfOk result (WritesIfThere self.now.types.now world) }
         ensures fault { IsWorldRefused self.now.types.now world result }
     {
         self.types.law();
         closing_law();
-        if !self.is_plain(world) {
+        if !self.is_plain(world)? {
             return Ok(None);
         }
         let held = &self.types[world];

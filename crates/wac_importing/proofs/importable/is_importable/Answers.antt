@@ -1,4 +1,4 @@
-use Rattle.wac_importing.proofs.Items.{lists_importable}
+use Rattle.wac_importing.proofs.Nested.{lists_importable}
 use Rattle.wac_importing.proofs.importable.is_importable.Goals as goal
 
 pub returns-clause-importable : goal.returns-clause-importable

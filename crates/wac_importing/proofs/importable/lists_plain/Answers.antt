@@ -3,7 +3,7 @@ use Rattle.wac_meaning.specs.Importable.{IsImportableKind}
 use Rattle.wac_importing.proofs.importable.lists_plain.Goals as goal
 
 pub returns-in-Instance-clause-not : goal.returns-in-Instance-clause-not
-returns-in-Instance-clause-not c h so = c.has_plain_items.ensures.not h (subst (IsImportableKind c.args.types.now) c.in-Instance.is so)
+returns-in-Instance-clause-not c h so = c.has_plain_items.ensures.not_instance h (subst (IsImportableKind c.args.types.now) c.in-Instance.is so)
 
 pub returns-in-TypeItem-clause-not : goal.returns-in-TypeItem-clause-not
 returns-in-TypeItem-clause-not c h so = c.is_importable_type.ensures.not h (subst (IsImportableKind c.args.types.now) c.in-TypeItem.is so)

@@ -5,7 +5,7 @@ use Rattle.wac_shapes.specs.declared.component.ItemKind.TheVariants as kind
 use Rattle.wac_shapes.specs.declared.component.«Type».TheVariants as ty
 use Rattle.wac_binary.specs.Items.{Decl}
 use Rattle.wac_scopes.specs.Scoped.{type_index}
-use Rattle.wac_encode.specs.Listing.{NeededBy, SaysIfThere, WritesIfThere}
+use Rattle.wac_encode.specs.Listing.{NeededBy, SaysIfThere, WritesInterface, WritesIfThere}
 use Rattle.wac_encode.proofs.Answering.{as-it-was}
 use Rattle.wac_encode.proofs.InstanceTypes.{none-else, adds-interface, adds-behind, aliases-for, still-unwritten, written-behind, instance-behind, interface-there, interface-at-there, ends-with-interface, aliases-refused, interface-refused, instance-too-large}
 use Rattle.wac_encode.proofs.Stacks.{writes-none, writes-no-more}
@@ -18,7 +18,7 @@ pub returns-in-Some-clause-adds : goal.returns-in-Some-clause-adds
 returns-in-Some-clause-adds c = interface-there c.args.self.now.types.now c.still_law.ensures c.args.scope.now c.args.interface c.in-Some.index c.in-Some.ensures.stands
 
 pub returns-in-Some-clause-recorded : goal.returns-in-Some-clause-recorded
-returns-in-Some-clause-recorded c = interface-at-there c.args.self.now.types.now c.args.scope.now c.args.interface c.in-Some.index (sym c.in-Some.ensures.is)
+returns-in-Some-clause-recorded c = interface-at-there (WritesInterface c.args.self.now.types.now) c.args.self.now.types.now c.args.scope.now c.args.interface c.in-Some.index (sym c.in-Some.ensures.is)
 
 pub returns-in_err-alias_listed-clause-written : goal.returns-in_err-alias_listed-clause-written
 returns-in_err-alias_listed-clause-written c = aliases-for c.args.self.now.types.now c.args.interface c.args.scope.now c.alias_listed.new.scope c.in_err-alias_listed.ensures.written
@@ -65,5 +65,5 @@ returns-clause-adds c =
 pub returns-clause-recorded : goal.returns-clause-recorded
 returns-clause-recorded c =
     let t = c.args.self.now.types.now in
-    ends-with-interface t c.args.scope.now c.alias_listed.new.scope c.define_instance.new.self c.args.interface c.in-Some-2.declarations c.in_ok-index.index (none-else (type_index c.args.scope.now (ty.Interface c.args.interface)) (λ k is. c.in_default.not-Some k (c.interface.ensures.is ∙ is)))
+    ends-with-interface (WritesInterface t) t c.args.scope.now c.alias_listed.new.scope c.define_instance.new.self c.args.interface c.in-Some-2.declarations c.in_ok-index.index (none-else (type_index c.args.scope.now (ty.Interface c.args.interface)) (λ k is. c.in_default.not-Some k (c.interface.ensures.is ∙ is)))
     c.in_ok-alias_listed.ensures.written c.in_ok-alias_listed.ensures.all (subst (WritesIfThere t c.alias_listed.new.scope c.args.interface) c.in-Some-2.is c.in_ok-declarations.ensures.written) c.in_ok-index.ensures.appended c.in_ok-index.ensures.recorded c.in_ok-index.ensures.index

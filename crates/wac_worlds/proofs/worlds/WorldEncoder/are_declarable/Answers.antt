@@ -8,14 +8,14 @@ use Rattle.wac_worlds.proofs.worlds.WorldEncoder.are_declarable.Goals as goal
 pub is_declarable-requires : goal.is_declarable-requires
 is_declarable-requires c = c.requires c.loop-i.i (c.entry_at.result.0.now, c.entry_at.result.1.now) c.entry_at.ensures
 
-pub returns-then-not-is_declarable : goal.returns-then-not-is_declarable
-returns-then-not-is_declarable c =
-    let other : is_declarable c.args.self.now.types.now c.entry_at.result.1.now ≡ false = cc in
+pub returns-then-not-branch : goal.returns-then-not-branch
+returns-then-not-branch c =
+    let other : is_declarable c.args.self.now.types.now c.entry_at.result.1.now ≡ false = sym c.in_ok-is_declarable.ensures ∙ c.if-not-branch.true in
     sym (not-declarable c.args.self.now.types.now c.args.items.now c.loop-i.i (c.entry_at.result.0.now, c.entry_at.result.1.now) c.entry_at.ensures other)
 
 pub loop-i-preserved : goal.loop-i-preserved
 loop-i-preserved c =
-    let this : is_declarable c.args.self.now.types.now c.entry_at.result.1.now ≡ true = cc in
+    let this : is_declarable c.args.self.now.types.now c.entry_at.result.1.now ≡ true = sym c.in_ok-is_declarable.ensures ∙ c.if-not-branch.false in
     declarable-further c.args.self.now.types.now c.args.items.now c.loop-i.i (c.entry_at.result.0.now, c.entry_at.result.1.now) c.entry_at.ensures c.loop-i.invariant this
 
 pub returns : goal.returns

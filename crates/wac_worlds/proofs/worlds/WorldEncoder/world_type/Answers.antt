@@ -1,49 +1,32 @@
-use Rattle.std.specs.Prelude.{◌≡◌, true, false, List, Option}
-use Rattle.std.proofs.Common.{refl, ap, sym, subst, ◌∙◌}
+use Rattle.std.specs.Prelude.{◌≡◌, true, List, Option}
+use Rattle.std.proofs.Common.{ap, sym, subst, ◌∙◌}
 use Rattle.std.proofs.lemmas.Result.{err_from_is_err_and}
 use Rattle.wac_binary.specs.Items.{Decl}
 use Rattle.wac_scopes.specs.declared.encodable.Encodable.TheVariants.{Component}
 use Rattle.wac_scopes.specs.Sides.{IsOpenComponent}
 use Rattle.wac_worlds.specs.Worlds.{is_plain_world}
-use Rattle.wac_worlds.proofs.Whole.{plain-of, can-import, can-export, says-world, writes-world, imports-refused, exports-refused, none-answered, some-answered, fault-answered}
+use Rattle.wac_worlds.proofs.Whole.{plain-of, can-import, can-export, says-world, writes-world, imports-refused, exports-refused}
 use Rattle.wac_worlds.proofs.worlds.WorldEncoder.world_type.Goals as goal
-
-pub returns-then-not-is_plain-clause-none : goal.returns-then-not-is_plain-clause-none
-returns-then-not-is_plain-clause-none c =
-    let plain : is_plain_world c.args.self.now.types.now c.args.world ≡ false = cc in
-    none-answered (List Decl) c.args.self.now.types.now c.args.world _ plain refl
 
 pub declare-requires-clause-plain : goal.declare-requires-clause-plain
 declare-requires-clause-plain c =
     let t = c.args.self.now.types.now in
-    let plain : is_plain_world t c.args.world ≡ true = cc in
+    let plain : is_plain_world t c.args.world ≡ true = sym c.in_ok-is_plain.ensures ∙ c.if-not-branch.false in
     can-import t c.law.ensures c.args.world c.index-held.result.now c.index-held.ensures (sym (plain-of t c.args.world c.index-held.result.now c.index-held.ensures) ∙ plain)
 
 pub declare-requires-clause-open : goal.declare-requires-clause-open
 declare-requires-clause-open c = subst IsOpenComponent (sym (c.new-scope.ensures.content ∙ ap Component c.new.ensures)) tt
 
-pub returns-in_err-declare-clause-none : goal.returns-in_err-declare-clause-none
-returns-in_err-declare-clause-none c =
-    let plain : is_plain_world c.args.self.now.types.now c.args.world ≡ true = cc in
-    let p = err_from_is_err_and c.from_residual.result c.from_residual.ensures.1 in
-    fault-answered (List Decl) c.args.self.now.types.now c.args.world c.from_residual.result p.0 plain p.1
-
 pub returns-in_err-declare-clause-fault : goal.returns-in_err-declare-clause-fault
 returns-in_err-declare-clause-fault c =
-    let p = err_from_is_err_and c.from_residual.result c.from_residual.ensures.1 in
+    let p = err_from_is_err_and c.from_residual-in_err-declare.result c.from_residual-in_err-declare.ensures.1 in
     rw (p.1, p.2) (imports-refused (Unit {0}) (Option (List Decl)) c.args.self.now.types.now c.args.world c.index-held.result.now c.new-scope.result c.in_err-declare.field-0.0 c.index-held.ensures (record { content = c.new-scope.ensures.content ∙ ap Component c.new.ensures; types = c.new-scope.ensures.types; listed = c.new-scope.ensures.listed }) c.in_err-declare.ensures.fault)
 
 pub declare-requires-2-clause-plain : goal.declare-requires-2-clause-plain
 declare-requires-2-clause-plain c =
     let t = c.args.self.now.types.now in
-    let plain : is_plain_world t c.args.world ≡ true = cc in
+    let plain : is_plain_world t c.args.world ≡ true = sym c.in_ok-is_plain.ensures ∙ c.if-not-branch.false in
     can-export t c.law.ensures c.args.world c.index-held.result.now c.index-held.ensures (sym (plain-of t c.args.world c.index-held.result.now c.index-held.ensures) ∙ plain)
-
-pub returns-in_err-declare-2-clause-none : goal.returns-in_err-declare-2-clause-none
-returns-in_err-declare-2-clause-none c =
-    let plain : is_plain_world c.args.self.now.types.now c.args.world ≡ true = cc in
-    let p = err_from_is_err_and c.from_residual-in_err-declare-2.result c.from_residual-in_err-declare-2.ensures.1 in
-    fault-answered (List Decl) c.args.self.now.types.now c.args.world c.from_residual-in_err-declare-2.result p.0 plain p.1
 
 pub returns-in_err-declare-2-clause-fault : goal.returns-in_err-declare-2-clause-fault
 returns-in_err-declare-2-clause-fault c =
@@ -52,11 +35,6 @@ returns-in_err-declare-2-clause-fault c =
 
 pub component_type-declarations-requires : goal.component_type-declarations-requires
 component_type-declarations-requires c = subst IsOpenComponent (sym c.into_content.ensures) c.in_ok-declare-2.ensures.open
-
-pub returns-clause-none : goal.returns-clause-none
-returns-clause-none c =
-    let plain : is_plain_world c.args.self.now.types.now c.args.world ≡ true = cc in
-    some-answered (List Decl) c.args.self.now.types.now c.args.world _ c.component_type-declarations.result plain refl
 
 pub returns-clause-says : goal.returns-clause-says
 returns-clause-says c =

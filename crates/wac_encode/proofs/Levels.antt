@@ -1,0 +1,344 @@
+-- Interfaces inside interfaces, level by level.
+use Rattle.std.specs.Prelude.{ℕ, zero, suc, ◌+◌, ◌<◌, ◌≤◌, ◌≡◌, true, List, [], ◌∷◌, ◌++◌, length, Option, Some, None, slice_get, take, Err}
+use Rattle.std.proofs.Common.{refl, ap, ◌∙◌, sym, subst, arith, inl, inr, nat_lt}
+use Rattle.std.proofs.lemmas.List.Sorted.{IsPermutation-sym}
+use Rattle.wac_shapes.specs.Name.{Name}
+use Rattle.wac_shapes.specs.Named.{named_pairs}
+use Rattle.wac_shapes.specs.declared.component.Interface.{Interface}
+use Rattle.wac_shapes.specs.declared.component.InterfaceId.{InterfaceId}
+use Rattle.wac_shapes.specs.declared.component.ItemKind.{ItemKind}
+use Rattle.wac_shapes.specs.declared.component.ItemKind.TheVariants as kind
+use Rattle.wac_shapes.specs.declared.component.«Type».TheVariants as ty
+use Rattle.wac_collection.specs.declared.collection.Held.{Held}
+use Rattle.wac_collection.specs.Collection.{Collection, IsWellFormed, AddedBefore, IsBefore, holds_type, size}
+use Rattle.wac_collection.proofs.Growth.{type_within}
+use Rattle.wac_binary.specs.Items.{instance_def, Decl, decls}
+use Rattle.wac_binary.specs.declared.sorts.Sort.TheVariants as sort
+use Rattle.wac_binary.specs.Indexes.{space}
+use Rattle.wac_binary.specs.declared.sorts.Description.{Description}
+use Rattle.wac_binary.specs.declared.sorts.Description.TheVariants as e
+use Rattle.wac_scopes.specs.declared.encodable.Encodable.TheVariants.{Instance}
+use Rattle.wac_scopes.specs.declared.fault.EncodeFault.{EncodeFault}
+use Rattle.wac_scopes.specs.declared.fault.EncodeFault.TheVariants as fault
+use Rattle.wac_scopes.specs.declared.fault.WriteFault.{WriteFault}
+use Rattle.wac_scopes.specs.declared.scope.Scope.{Scope}
+use Rattle.wac_scopes.specs.Scoped.{type_index, named_at, listing, HasToo, AddsInstance, FitsUnlessTooLarge}
+use Rattle.wac_scopes.specs.Contents.{IsOpenType, and_type, and_export, count, ContentFits}
+use Rattle.wac_stacks.specs.Laws.{Follows, StaysOnward}
+use Rattle.wac_stacks.specs.Listed.{OpensInterface, OpensOver, ClosesInstance, HoldsInterface, ListsOneMore, ListsInAnyOrder}
+use Rattle.wac_encode.specs.declared.level.Level.{Level}
+use Rattle.wac_encode.specs.Written.{WritesFor}
+use Rattle.wac_encode.specs.Listing.{SaysInterface, lists_plain_to, IsOrder, AliasesFor, AllAliased, IsAliasRefused, NeededBy, IsInstanceTypeFrom, IsItemDescribed, WritesItem, WritesItems, WritesInterfaceTo, ItemTypeDoesNotFit, IsFaultIn, IsItemRefused, IsRefusedTo, IsInterfaceRefused}
+use Rattle.wac_encode.specs.Instances.{AddsHeldInterface}
+use Rattle.wac_encode.specs.Items.{ListsHeld, HasListed, CanList, nothing_inside, none_refused}
+use Rattle.wac_encode.specs.Levels.{SoFar, IsBegun, IsLevel, IsWaiting, IsChain, PutsInstance, InstanceNotPut}
+use Rattle.wac_encode.proofs.InstanceTypes.{adds-interface, instance-behind, aliases-for, still-unwritten, written-behind, adds-behind, ends-with-interface}
+use Rattle.wac_encode.proofs.Ordered.{once-ordered, same-under, stands-there}
+use Rattle.wac_encode.proofs.Plain.{plain-each, plain-of, plain-alone, listed-before, held-items}
+use Rattle.wac_encode.proofs.Listed.{starts, goes-further, stops-at, closes-open, says-interface, instance-listed}
+
+-- an item for which nothing is written inside is written so whatever is inside
+
+described-inside : (I : Scope → InterfaceId → List Decl → Type 0) (c : Collection) (old now : Scope) (k : ItemKind) (d : Description) → IsItemDescribed nothing_inside c old now k d → IsItemDescribed I c old now k d
+described-inside I c old now (kind.Instance i) (e.Instance j) h = by_index (type_index old (ty.Interface i)) h
+  where
+    by_index : (o : Option ℕ) → IsInstanceTypeFrom o nothing_inside c old now i j → IsInstanceTypeFrom o I c old now i j
+    by_index (Some k) is = is
+    by_index None ends = absurd ends.written
+described-inside I c old now (kind.Instance i) (e.CoreModule j) h = h
+described-inside I c old now (kind.Instance i) (e.Func j) h = h
+described-inside I c old now (kind.Instance i) (e.Equal j) h = h
+described-inside I c old now (kind.Instance i) e.Fresh h = h
+described-inside I c old now (kind.Instance i) (e.Component j) h = h
+described-inside I c old now (kind.TypeItem t) d h = h
+described-inside I c old now (kind.Func f) d h = h
+described-inside I c old now (kind.Component w) d h = h
+described-inside I c old now (kind.Module m) d h = h
+described-inside I c old now (kind.Value v) d h = h
+
+pub wrote-inside : (I : Scope → InterfaceId → List Decl → Type 0) (c : Collection) (old new : Scope) (n : Name) (k : ItemKind) → WritesItem nothing_inside c old new n k → WritesItem I c old new n k
+wrote-inside I c old new n k w = record {
+  now = w.now;
+  behind = w.behind;
+  description = w.description;
+  described = described-inside I c old w.now k w.description w.described;
+  appended = w.appended;
+  named = w.named;
+}
+
+fault-inside : (R : Scope → InterfaceId → EncodeFault → Type 0) (c : Collection) (s : Scope) (k : ItemKind) (f : WriteFault) → IsFaultIn none_refused c s k f → IsFaultIn R c s k f
+fault-inside R c s (kind.Instance i) f h = absurd h.2
+fault-inside R c s (kind.TypeItem t) f h = h
+fault-inside R c s (kind.Func g) f h = h
+fault-inside R c s (kind.Component w) f h = h
+fault-inside R c s (kind.Module m) f h = h
+fault-inside R c s (kind.Value v) f h = h
+
+type-inside : (I : Scope → InterfaceId → List Decl → Type 0) (R : Scope → InterfaceId → EncodeFault → Type 0) (c : Collection) (k : ItemKind) (s : Scope) → ItemTypeDoesNotFit nothing_inside none_refused c k s → ItemTypeDoesNotFit I R c k s
+type-inside I R c (kind.Instance i) s (inl alias) = inl alias
+type-inside I R c (kind.Instance i) s (inr (inl none)) = absurd none
+type-inside I R c (kind.Instance i) s (inr (inr none)) = absurd none.1
+type-inside I R c (kind.TypeItem t) s h = h
+type-inside I R c (kind.Func g) s h = h
+type-inside I R c (kind.Component w) s h = h
+type-inside I R c (kind.Module m) s h = h
+type-inside I R c (kind.Value v) s h = h
+
+pub refused-inside : (A B : Type 0) (I : Scope → InterfaceId → List Decl → Type 0) (R : Scope → InterfaceId → EncodeFault → Type 0) (c : Collection) (n : Name) (k : ItemKind) (s : Scope) (f : EncodeFault) → IsItemRefused {A = A} nothing_inside none_refused c n k s (Err f) → IsItemRefused {A = B} I R c n k s (Err f)
+refused-inside A B I R c n k s (fault.Write g) h = fault-inside R c s k g h
+refused-inside A B I R c n k s fault.TooLarge h = record {
+  scope = h.scope;
+  types = h.types;
+  behind = h.behind;
+  large = elim h.large [ inl t ↦ inl (type-inside I R c k h.scope t) | inr x ↦ inr (x.0, described-inside I c s h.scope k x.0 x.1, x.2) ];
+}
+refused-inside A B I R c n k s fault.OutOfMemory h = tt
+
+-- a level
+
+pub begins-level : (c : Collection) → OpensInterface → (d : ℕ) (around : Scope) (i : InterfaceId) (l : Level) → lists_plain_to (suc d) c i ≡ true → IsBefore c (suc d) (ty.Interface i) → IsBegun c around i l → IsLevel d c around i l l.scope
+begins-level c opens d around i l plain before b = record {
+  is = b.is;
+  plain = plain;
+  before = before;
+  interface = b.interface;
+  found = b.found;
+  once = b.once;
+  ordered = b.ordered;
+  start = l.scope;
+  opened_ = b.opened_;
+  so_far = subst (λ (n : ℕ). SoFar (WritesInterfaceTo d c) c b.interface l.scope l.scope (named_pairs l.order.items) n) (sym b.first) (starts (WritesInterfaceTo d c) c opens b.interface l.scope (named_pairs l.order.items) b.opened_.content);
+}
+
+-- the same level with its next item listed
+pub next-level : (c : Collection) → ListsOneMore → (d : ℕ) (around : Scope) (i : InterfaceId) (l m : Level) (now : Scope) (n : Name) (k : ItemKind) → m.interface ≡ l.interface → m.order ≡ l.order → m.next ≡ l.next + 1 → slice_get (named_pairs l.order.items) l.next ≡ Some (n, k) → IsLevel d c around i l now → ListsHeld c now m.scope n k → WritesItem (WritesInterfaceTo d c) c now m.scope n k → IsLevel d c around i m m.scope
+next-level c more d around i l m now n k same order further at x listed wrote = record {
+  is = same ∙ x.is;
+  plain = x.plain;
+  before = x.before;
+  interface = x.interface;
+  found = x.found;
+  once = x.once;
+  ordered = subst (λ o. IsOrder c x.interface.exports (named_pairs o.items)) (sym order) x.ordered;
+  start = x.start;
+  opened_ = x.opened_;
+  so_far = subst (λ o. SoFar (WritesInterfaceTo d c) c x.interface x.start m.scope (named_pairs o.items) m.next) (sym order)
+      (subst (λ (j : ℕ). SoFar (WritesInterfaceTo d c) c x.interface x.start m.scope (named_pairs l.order.items) j) (sym further)
+      (goes-further (WritesInterfaceTo d c) c more x.interface x.start now m.scope (named_pairs l.order.items) l.next n k (once-ordered x.interface.exports (named_pairs l.order.items) x.ordered.permutation x.once) at x.so_far listed wrote));
+}
+
+-- an item of a level
+there-at : (c : Collection) (d : ℕ) (around : Scope) (i : InterfaceId) (l : Level) (now : Scope) (k : Name × ItemKind) → slice_get (named_pairs l.order.items) l.next ≡ Some k → (x : IsLevel d c around i l now) → (j : ℕ) × (slice_get x.interface.exports j ≡ Some k)
+there-at c d around i l now k at x = stands-there (named_pairs l.order.items) x.interface.exports (IsPermutation-sym x.interface.exports (named_pairs l.order.items) x.ordered.permutation) l.next k at
+
+pub can-list : (c : Collection) → IsWellFormed c → (d : ℕ) (around : Scope) (i : InterfaceId) (l : Level) (now : Scope) (k : Name × ItemKind) → slice_get (named_pairs l.order.items) l.next ≡ Some k → IsLevel d c around i l now → CanList c k.1
+can-list c wf d around i l now k at x =
+    let there = there-at c d around i l now k at x in (
+      held-items c wf i x.interface x.found there.0 k there.1,
+      plain-alone (lists_plain_to d c) k.1 (plain-each (lists_plain_to d c) x.interface.exports (sym (plain-of c d i x.interface x.found) ∙ x.plain) there.0 k there.1),
+    )
+
+pub open-level : (c : Collection) (d : ℕ) (around : Scope) (i : InterfaceId) (l : Level) (now : Scope) → IsLevel d c around i l now → IsOpenType now.content
+open-level c d around i l now x = closes-open now.content x.so_far.closes
+
+-- an interface of which an instance is listed
+record Listed (d : ℕ) (c : Collection) (j : InterfaceId) : Type 0 where
+  pub plain : lists_plain_to d c j ≡ true
+  pub before : IsBefore c d (ty.Interface j)
+
+inside-of : (c : Collection) → IsWellFormed c → (d : ℕ) (around : Scope) (i : InterfaceId) (l : Level) (now : Scope) (n : Name) (j : InterfaceId) → slice_get (named_pairs l.order.items) l.next ≡ Some (n, kind.Instance j) → IsLevel d c around i l now → Listed d c j
+inside-of c wf d around i l now n j at x =
+    let there = there-at c d around i l now (n, kind.Instance j) at x in
+    record {
+      plain = plain-each (lists_plain_to d c) x.interface.exports (sym (plain-of c d i x.interface x.found) ∙ x.plain) there.0 (n, kind.Instance j) there.1;
+      before = listed-before c wf d i x.interface x.before x.found there.0 (n, kind.Instance j) there.1;
+    }
+
+pub inside-held : (c : Collection) → IsWellFormed c → (d : ℕ) (around : Scope) (i : InterfaceId) (l : Level) (now : Scope) (n : Name) (j : InterfaceId) → slice_get (named_pairs l.order.items) l.next ≡ Some (n, kind.Instance j) → IsLevel d c around i l now → holds_type c (ty.Interface j) ≡ true
+inside-held c wf d around i l now n j at x = type_within c d (ty.Interface j) (inside-of c wf d around i l now n j at x).before
+
+-- a level all of whose items are listed
+
+taken-all : {A : Type 0} (es : List A) (n : ℕ) → length es ≤ n → take n es ≡ es
+taken-all [] zero le = refl
+taken-all [] (suc n) le = refl
+taken-all (x ∷ es) zero le = absurd (omega (arith, le))
+taken-all {A} (x ∷ es) (suc n) le = ap (λ (ys : List A). x ∷ ys) (taken-all es n (omega (arith, le)))
+
+pub says-level : (c : Collection) → IsWellFormed c → OpensOver → HoldsInterface → ClosesInstance → ListsInAnyOrder → (d : ℕ) (around : Scope) (i : InterfaceId) (l : Level) (ds : List Decl) → length (named_pairs l.order.items) ≤ l.next → l.scope.content ≡ Instance ds → IsLevel d c around i l l.scope → SaysInterface c around i ds
+says-level c wf over holds closes any d around i l ds past is x =
+    let order : List (Name × ItemKind) = named_pairs l.order.items in
+    says-interface c (lists_plain_to d c) wf over holds closes any i x.interface around x.start l.scope ds order x.found (sym (plain-of c d i x.interface x.found) ∙ x.plain) x.opened_
+    (same-under x.interface.exports order x.ordered.permutation x.once) (subst (λ (es : List (Name × ItemKind)). HasListed c x.interface x.start l.scope es) (taken-all order l.next past) x.so_far.listed) is x.so_far.closes
+
+pub writes-level : (c : Collection) (d : ℕ) (around : Scope) (i : InterfaceId) (l : Level) (ds : List Decl) → length (named_pairs l.order.items) ≤ l.next → l.scope.content ≡ Instance ds → IsLevel d c around i l l.scope → WritesInterfaceTo (suc d) c around i ds
+writes-level c d around i l ds past is x = record {
+  interface = x.interface;
+  found = x.found;
+  order = named_pairs l.order.items;
+  ordered = x.ordered;
+  start = x.start;
+  opened_ = x.opened_;
+  scope = l.scope;
+  written = subst (λ (es : List (Name × ItemKind)). WritesItems (WritesInterfaceTo d c) c x.start es l.scope) (taken-all (named_pairs l.order.items) l.next past) x.so_far.written;
+  is = is;
+}
+
+-- what is refused at a level, of a fault that is no want of memory
+abbrev pub Stands : ℕ → Collection → Scope → InterfaceId → EncodeFault → Type 0
+Stands d c around i (fault.Write f) = IsRefusedTo d c around i (fault.Write f)
+Stands d c around i fault.TooLarge = IsRefusedTo d c around i fault.TooLarge
+Stands d c around i fault.OutOfMemory = Unit {0}
+
+pub refused-level : (A : Type 0) (c : Collection) (d : ℕ) (around : Scope) (i : InterfaceId) (l : Level) (now : Scope) (n : Name) (k : ItemKind) (f : EncodeFault) → slice_get (named_pairs l.order.items) l.next ≡ Some (n, k) → IsLevel d c around i l now → IsItemRefused {A = A} (WritesInterfaceTo d c) (IsRefusedTo d c) c n k now (Err f) → Stands (suc d) c around i f
+refused-level A c d around i l now n k (fault.Write g) at x h = record { interface = x.interface; found = x.found; order = named_pairs l.order.items; ordered = x.ordered; start = x.start; opened_ = x.opened_; stopped = stops-at (WritesInterfaceTo d c) (IsRefusedTo d c) c x.interface x.start now (named_pairs l.order.items) l.next n k (fault.Write g) at x.so_far h }
+refused-level A c d around i l now n k fault.TooLarge at x h = record { interface = x.interface; found = x.found; order = named_pairs l.order.items; ordered = x.ordered; start = x.start; opened_ = x.opened_; stopped = stops-at (WritesInterfaceTo d c) (IsRefusedTo d c) c x.interface x.start now (named_pairs l.order.items) l.next n k fault.TooLarge at x.so_far (record { scope = h.scope; types = h.types; behind = h.behind; large = h.large }) }
+refused-level A c d around i l now n k fault.OutOfMemory at x h = tt
+
+-- what is refused inside a level that waits is refused there
+pub waiting-refused : (c : Collection) (d : ℕ) (around : Scope) (i : InterfaceId) (l : Level) (j : InterfaceId) (f : EncodeFault) → IsWaiting d c around i l j → Stands d c l.scope j f → Stands (suc d) c around i f
+waiting-refused c d around i l j (fault.Write g) w h = refused-level (Unit {0}) c d around i l w.now w.name (kind.Instance j) (fault.Write g) w.here w.level (l.scope, w.aliases, h)
+waiting-refused c d around i l j fault.TooLarge w h = refused-level (Unit {0}) c d around i l w.now w.name (kind.Instance j) fault.TooLarge w.here w.level (record { scope = l.scope; types = 0; behind = aliases-for c j w.now l.scope w.aliases; large = inl (inr (inl h)) })
+waiting-refused c d around i l j fault.OutOfMemory w h = tt
+
+-- chains of levels
+
+-- where what is told of a level that waits follows from what is told of the next, it is told of the first
+module _ (c : Collection) (M : ℕ → Scope → InterfaceId → Type 0) where
+  pub of-chain : (ls : List Level) (l : Level) → ((d : ℕ) (a : Scope) (i : InterfaceId) (k : Level) (j : InterfaceId) → IsWaiting d c a i k j → M d k.scope j → M (suc d) a i) → ((d : ℕ) (a : Scope) (i : InterfaceId) → IsLevel d c a i l l.scope → M (suc d) a i)
+      → (d : ℕ) (a : Scope) (i : InterfaceId) → IsChain d c a i ls l → M d a i
+  of-chain ls l step last zero a i h = absurd h
+  of-chain [] l step last (suc d) a i h = last d a i h
+  of-chain (k ∷ ks) l step last (suc d) a i h = step d a i k h.0 h.1 (of-chain ks l step last d k.scope h.0 h.2)
+
+  pub of-chain-closed : (ls : List Level) (k l : Level) → ((d : ℕ) (a : Scope) (i : InterfaceId) (k : Level) (j : InterfaceId) → IsWaiting d c a i k j → M d k.scope j → M (suc d) a i) → ((d : ℕ) (a : Scope) (i : InterfaceId) (j : InterfaceId) → IsWaiting (suc d) c a i k j → IsLevel d c k.scope j l l.scope → M (suc (suc d)) a i)
+      → (d : ℕ) (a : Scope) (i : InterfaceId) → IsChain d c a i (ls ++ k ∷ []) l → M d a i
+  of-chain-closed ls k l step last zero a i h = absurd h
+  of-chain-closed [] k l step last (suc zero) a i h = absurd h.2
+  of-chain-closed [] k l step last (suc (suc d)) a i h = last d a i h.0 h.1 h.2
+  of-chain-closed (x ∷ xs) k l step last (suc d) a i h = step d a i x h.0 h.1 (of-chain-closed xs k l step last d x.scope h.0 h.2)
+
+-- the last level of a chain goes on
+pub chain-on : (c : Collection) (ls : List Level) (l m : Level) → ((d : ℕ) (a : Scope) (i : InterfaceId) → IsLevel d c a i l l.scope → IsLevel d c a i m m.scope) → (d : ℕ) (a : Scope) (i : InterfaceId) → IsChain d c a i ls l → IsChain d c a i ls m
+chain-on c ls l m on zero a i h = absurd h
+chain-on c [] l m on (suc d) a i h = on d a i h
+chain-on c (k ∷ ks) l m on (suc d) a i h = (h.0, h.1, chain-on c ks l m on d k.scope h.0 h.2)
+
+-- it waits for one behind it
+pub chain-opens : (c : Collection) (ls : List Level) (l k m : Level) → ((d : ℕ) (a : Scope) (i : InterfaceId) → IsLevel d c a i l l.scope → IsChain (suc d) c a i (k ∷ []) m) → (d : ℕ) (a : Scope) (i : InterfaceId) → IsChain d c a i ls l → IsChain d c a i (ls ++ k ∷ []) m
+chain-opens c ls l k m on zero a i h = absurd h
+chain-opens c [] l k m on (suc d) a i h = on d a i h
+chain-opens c (x ∷ xs) l k m on (suc d) a i h = (h.0, h.1, chain-opens c xs l k m on d x.scope h.0 h.2)
+
+-- it is closed, and the one before it goes on
+pub chain-closes : (c : Collection) (ls : List Level) (k l m : Level) → ((d : ℕ) (a : Scope) (i j : InterfaceId) → IsWaiting (suc d) c a i k j → IsLevel d c k.scope j l l.scope → IsLevel (suc d) c a i m m.scope) → (d : ℕ) (a : Scope) (i : InterfaceId) → IsChain d c a i (ls ++ k ∷ []) l → IsChain d c a i ls m
+chain-closes c ls k l m on zero a i h = absurd h
+chain-closes c [] k l m on (suc zero) a i h = absurd h.2
+chain-closes c [] k l m on (suc (suc d)) a i h = on d a i h.0 h.1 h.2
+chain-closes c (x ∷ xs) k l m on (suc d) a i h = (h.0, h.1, chain-closes c xs k l m on d x.scope h.0 h.2)
+
+-- a fault at the last level stands at the first
+pub chain-refused : (B : Type 0) (c : Collection) (around : Scope) (i : InterfaceId) (f : EncodeFault) → Stands (size c) c around i f → IsInterfaceRefused {A = B} c around i (Err f)
+chain-refused B c around i (fault.Write g) h = (size c, h)
+chain-refused B c around i fault.TooLarge h = (size c, h)
+chain-refused B c around i fault.OutOfMemory h = tt
+
+-- an interface inside is opened
+
+opens-chain : (c : Collection) → OpensInterface → (d : ℕ) (a : Scope) (i : InterfaceId) (k m : Level) (j : InterfaceId) → IsWaiting d c a i k j → Listed d c j → IsBegun c k.scope j m → IsChain (suc d) c a i (k ∷ []) m
+opens-chain c opens zero a i k m j w h b = absurd (never (slice_get c.interfaces j.0) h.before)
+  where
+    never : (o : Option (Held Interface)) → AddedBefore 0 o → ⊥
+    never None low = low
+    never (Some x) low = omega (arith, low)
+opens-chain c opens (suc d) a i k m j w h b = (j, w, begins-level c opens d k.scope j m h.plain h.before b)
+
+pub opens-inside : (c : Collection) → IsWellFormed c → OpensInterface → (d : ℕ) (a : Scope) (i : InterfaceId) (l k m : Level) (n : Name) (j : InterfaceId) → k.interface ≡ l.interface → k.order ≡ l.order → k.next ≡ l.next → slice_get (named_pairs l.order.items) l.next ≡ Some (n, kind.Instance j) → type_index l.scope (ty.Interface j) ≡ None
+    → AliasesFor c j l.scope k.scope → AllAliased c j l.scope k.scope → IsBegun c k.scope j m → IsLevel d c a i l l.scope → IsChain (suc d) c a i (k ∷ []) m
+opens-inside c wf opens d a i l k m n j same order further at none aliases all b x = opens-chain c opens d a i k m j (record {
+  now = l.scope;
+  level = record {
+    is = same ∙ x.is;
+    plain = x.plain;
+    before = x.before;
+    interface = x.interface;
+    found = x.found;
+    once = x.once;
+    ordered = subst (λ o. IsOrder c x.interface.exports (named_pairs o.items)) (sym order) x.ordered;
+    start = x.start;
+    opened_ = x.opened_;
+    so_far = subst (λ o. SoFar (WritesInterfaceTo d c) c x.interface x.start l.scope (named_pairs o.items) k.next) (sym order) (subst (λ (q : ℕ). SoFar (WritesInterfaceTo d c) c x.interface x.start l.scope (named_pairs l.order.items) q) (sym further) x.so_far);
+  };
+  name = n;
+  here = subst (λ o. slice_get (named_pairs o.items) k.next ≡ Some (n, kind.Instance j)) (sym order) (subst (λ (q : ℕ). slice_get (named_pairs l.order.items) q ≡ Some (n, kind.Instance j)) (sym further) at);
+  unwritten = none;
+  aliases = aliases;
+  all = all;
+}) (inside-of c wf d a i l l.scope n j at x) b
+
+-- its aliases are refused
+pub alias-stands : (A : Type 0) (c : Collection) (d : ℕ) (a : Scope) (i : InterfaceId) (l : Level) (s : Scope) (n : Name) (j : InterfaceId) (f : EncodeFault) → slice_get (named_pairs l.order.items) l.next ≡ Some (n, kind.Instance j) → AliasesFor c j l.scope s → IsAliasRefused {A = A} c j s (Err f) → IsLevel d c a i l l.scope → Stands (suc d) c a i f
+alias-stands A c d a i l s n j (fault.Write g) at aliases h x = absurd h
+alias-stands A c d a i l s n j fault.TooLarge at aliases h x = refused-level (Unit {0}) c d a i l l.scope n (kind.Instance j) fault.TooLarge at x (record { scope = s; types = 0; behind = aliases-for c j l.scope s aliases; large = inl (inl h) })
+alias-stands A c d a i l s n j fault.OutOfMemory at aliases h x = tt
+
+-- an interface inside is closed
+
+adds-now : (c : Collection) → (s now : Scope) (j : InterfaceId) (ds : List Decl) (k : ℕ) → SaysInterface c s j ds → AddsInstance s now j ds k → AddsHeldInterface c s now j k
+adds-now c s now j ds k says adds = adds-interface c s now j ds k says adds
+
+behind-now : (c : Collection) → Follows → StaysOnward → (old mid now : Scope) (j : InterfaceId) (ds : List Decl) (k : ℕ) → holds_type c (ty.Interface j) ≡ true → AliasesFor c j old mid → type_index old (ty.Interface j) ≡ None → SaysInterface c mid j ds → AddsInstance mid now j ds k → HasToo mid (ty.Interface j) k now → k ≡ count (space sort.«Type») mid.content → now.content ≡ and_type mid.content (instance_def (decls ds)) → WritesFor c 0 (NeededBy c (kind.Instance j)) old now
+behind-now c follows stays old mid now j ds k held aliases none says adds too index is =
+    let low : nat_lt j.0 (length c.interfaces) ≡ true = held in
+    let less : j.0 < length c.interfaces = grind (arith, low) in
+    written-behind c follows j old mid now aliases (instance-behind c follows stays mid now j ds k less (still-unwritten c j old mid aliases none) (adds-now c mid now j ds k says adds) too index is)
+
+pub closes-inside : (c : Collection) → IsWellFormed c → Follows → StaysOnward → ListsOneMore → (d : ℕ) (a : Scope) (i : InterfaceId) (k m : Level) (j : InterfaceId) (n : Name) (item : ItemKind) (ds : List Decl) → m.interface ≡ k.interface → m.order ≡ k.order → m.next ≡ k.next + 1 → slice_get (named_pairs k.order.items) k.next ≡ Some (n, item)
+    → PutsInstance c k.scope m.scope n j ds → WritesInterfaceTo d c k.scope j ds → SaysInterface c k.scope j ds → IsWaiting d c a i k j → IsLevel d c a i m m.scope
+closes-inside c wf follows stays more d a i k m j n item ds same order further at p writes says w =
+    let both : Some (n, item) ≡ Some (w.name, kind.Instance j) = sym at ∙ w.here in
+    let same_item : (n, item) ≡ (w.name, kind.Instance j) = cc in
+    let one : n ≡ w.name = ap (λ (x : Name × ItemKind). x.0) same_item in
+    let adds : AddsHeldInterface c w.now p.now j p.index = adds-behind c follows j w.now k.scope p.now p.index w.aliases (adds-now c k.scope p.now j ds p.index says p.adds) in
+    let held = inside-held c wf d a i k w.now w.name j w.here w.level in
+    next-level c more d a i k m w.now n (kind.Instance j) same order further (w.here ∙ ap (λ (x : Name). Some (x, kind.Instance j)) (sym one)) w.level
+    (instance-listed c w.now p.now m.scope n j p.index p.instance adds p.lists)
+    (record {
+      now = p.now;
+      behind = behind-now c follows stays w.now k.scope p.now j ds p.index held w.aliases w.unwritten says p.adds p.recorded p.next p.appended;
+      description = e.Instance p.index;
+      described = ends-with-interface (WritesInterfaceTo d c) c w.now k.scope p.now j ds p.index w.unwritten w.aliases w.all writes p.appended p.recorded p.next;
+      appended = ap (λ (s : Scope). s.content) p.is;
+      named = record { types = λ b. ap (λ (s : Scope). type_index s b) p.is; listed = λ b. ap (λ (s : Scope). listing s b) p.is; names = λ b. ap (λ (s : Scope). named_at s b) p.is };
+    })
+
+-- it, or the instance, does not fit
+pub closed-stands : (A : Type 0) (c : Collection) → IsWellFormed c → Follows → StaysOnward → (d : ℕ) (a : Scope) (i : InterfaceId) (k : Level) (j : InterfaceId) (n : Name) (item : ItemKind) (ds : List Decl) (f : EncodeFault) → slice_get (named_pairs k.order.items) k.next ≡ Some (n, item)
+    → InstanceNotPut {A = A} c k.scope n j ds (Err f) → WritesInterfaceTo d c k.scope j ds → SaysInterface c k.scope j ds → IsWaiting d c a i k j → Stands (suc d) c a i f
+closed-stands A c wf follows stays d a i k j n item ds (fault.Write g) at h writes says w = absurd h
+closed-stands A c wf follows stays d a i k j n item ds fault.OutOfMemory at h writes says w = tt
+closed-stands A c wf follows stays d a i k j n item ds fault.TooLarge at (inl h) writes says w =
+    refused-level (Unit {0}) c d a i k w.now w.name (kind.Instance j) fault.TooLarge w.here w.level (record { scope = k.scope; types = 0; behind = aliases-for c j w.now k.scope w.aliases; large = inl (inr (inr (ds, writes, h))) })
+closed-stands A c wf follows stays d a i k j n item ds fault.TooLarge at (inr (now, index, adds, too, is, next, large)) writes says w =
+    let both : Some (n, item) ≡ Some (w.name, kind.Instance j) = sym at ∙ w.here in
+    let same_item : (n, item) ≡ (w.name, kind.Instance j) = cc in
+    let one : n ≡ w.name = ap (λ (x : Name × ItemKind). x.0) same_item in
+    let held = inside-held c wf d a i k w.now w.name j w.here w.level in
+    refused-level (Unit {0}) c d a i k w.now w.name (kind.Instance j) fault.TooLarge w.here w.level (record {
+      scope = now;
+      types = 0;
+      behind = behind-now c follows stays w.now k.scope now j ds index held w.aliases w.unwritten says adds too next is;
+      large = inr (e.Instance index, ends-with-interface (WritesInterfaceTo d c) c w.now k.scope now j ds index w.unwritten w.aliases w.all writes is too next, subst (λ (x : Name). ContentFits (and_export now.content x (e.Instance index)) → ⊥) one large);
+    })
+
+-- where it is put
+
+pub first-not-put : (A B : Type 0) (c : Collection) (old : Scope) (n : Name) (i : InterfaceId) (ds : List Decl) (f : EncodeFault) → FitsUnlessTooLarge {A = A} (Err f) (ContentFits (and_type old.content (instance_def (decls ds)))) → InstanceNotPut {A = B} c old n i ds (Err f)
+first-not-put A B c old n i ds (fault.Write g) h = absurd h
+first-not-put A B c old n i ds fault.TooLarge h = inl h
+first-not-put A B c old n i ds fault.OutOfMemory h = tt
+
+pub second-not-put : (A B : Type 0) (c : Collection) (old now : Scope) (n : Name) (i : InterfaceId) (ds : List Decl) (index : ℕ) (f : EncodeFault) → AddsInstance old now i ds index → HasToo old (ty.Interface i) index now → now.content ≡ and_type old.content (instance_def (decls ds)) → index ≡ count (space sort.«Type») old.content → FitsUnlessTooLarge {A = A} (Err f) (ContentFits (and_export now.content n (e.Instance index))) → InstanceNotPut {A = B} c old n i ds (Err f)
+second-not-put A B c old now n i ds index (fault.Write g) adds too is next h = absurd h
+second-not-put A B c old now n i ds index fault.TooLarge adds too is next h = inr (now, index, adds, too, is, next, h)
+second-not-put A B c old now n i ds index fault.OutOfMemory adds too is next h = tt

@@ -1,0 +1,95 @@
+-- The levels that are open while interfaces inside interfaces are written. Private functions alone cite this.
+use Rattle.std.specs.Prelude.{ℕ, zero, suc, ◌≤◌, ◌≡◌, ◌⊎◌, true, List, [], ◌∷◌, length, take, Some, None, IsSome, slice_get, Result, Ok, Err}
+use Rattle.wac_shapes.specs.Name.{Name}
+use Rattle.wac_shapes.specs.Named.{NoNameTwice, named_pairs}
+use Rattle.wac_shapes.specs.declared.component.Interface.{Interface}
+use Rattle.wac_shapes.specs.declared.component.InterfaceId.{InterfaceId}
+use Rattle.wac_shapes.specs.declared.component.ItemKind.{ItemKind}
+use Rattle.wac_shapes.specs.declared.component.ItemKind.TheVariants as kind
+use Rattle.wac_shapes.specs.declared.component.«Type».TheVariants as ty
+use Rattle.wac_collection.specs.Collection.{Collection, IsBefore, item_at}
+use Rattle.wac_binary.specs.Items.{instance_def, Decl, decls}
+use Rattle.wac_binary.specs.declared.sorts.Description.TheVariants as e
+use Rattle.wac_binary.specs.declared.sorts.Sort.TheVariants as sort
+use Rattle.wac_binary.specs.Indexes.{space}
+use Rattle.wac_scopes.specs.declared.fault.EncodeFault.{EncodeFault}
+use Rattle.wac_scopes.specs.declared.fault.EncodeFault.TheVariants as fault
+use Rattle.wac_scopes.specs.declared.scope.Scope.{Scope}
+use Rattle.wac_scopes.specs.Contents.{and_type, and_export, count, ContentFits}
+use Rattle.wac_scopes.specs.Scoped.{type_index, HasToo, AddsInstance, ListsInstanceOf}
+use Rattle.wac_encode.specs.declared.level.Level.{Level}
+use Rattle.wac_encode.specs.declared.level.Next.{Next}
+use Rattle.wac_encode.specs.declared.level.Next.TheVariants as step
+use Rattle.wac_encode.specs.Listing.{lists_plain_to, IsOrder, AliasesFor, AllAliased, IsOpened, WritesItems, WritesInterfaceTo}
+use Rattle.wac_encode.specs.Items.{CanClose, HasListed}
+
+-- what stands after some of the items of an interface
+pub record SoFar (Inside : Scope → InterfaceId → List Decl → Type 0) (c : Collection) (it : Interface) (start now : Scope) (order : List (Name × ItemKind)) (i : ℕ) : Type 0 where
+  pub listed : HasListed c it start now (take i order)
+  pub closes : CanClose now.content
+  pub written : WritesItems Inside c start (take i order) now
+
+-- a level that was opened for an interface over a scope
+pub record IsBegun (c : Collection) (around : Scope) (i : InterfaceId) (l : Level) : Type 0 where
+  pub is : l.interface ≡ i
+  pub first : l.next ≡ 0
+  pub interface : Interface
+  pub found : item_at c.interfaces i.0 ≡ Some interface
+  pub once : NoNameTwice interface.exports
+  pub ordered : IsOrder c interface.exports (named_pairs l.order.items)
+  pub opened_ : IsOpened c i around l.scope
+
+-- a level for an interface over a scope, which holds instances in instances to this depth; its items before the next were listed when its scope was now
+pub record IsLevel (d : ℕ) (c : Collection) (around : Scope) (i : InterfaceId) (l : Level) (now : Scope) : Type 0 where
+  pub is : l.interface ≡ i
+  pub plain : lists_plain_to (suc d) c i ≡ true
+  pub before : IsBefore c (suc d) (ty.Interface i)
+  pub interface : Interface
+  pub found : item_at c.interfaces i.0 ≡ Some interface
+  pub once : NoNameTwice interface.exports
+  pub ordered : IsOrder c interface.exports (named_pairs l.order.items)
+  pub start : Scope
+  pub opened_ : IsOpened c i around start
+  pub so_far : SoFar (WritesInterfaceTo d c) c interface start now (named_pairs l.order.items) l.next
+
+-- it waits for the instance type of an interface inside, behind the aliases of that
+pub record IsWaiting (d : ℕ) (c : Collection) (around : Scope) (i : InterfaceId) (l : Level) (j : InterfaceId) : Type 0 where
+  pub now : Scope
+  pub level : IsLevel d c around i l now
+  pub name : Name
+  pub here : slice_get (named_pairs l.order.items) l.next ≡ Some (name, kind.Instance j)
+  pub unwritten : type_index now (ty.Interface j) ≡ None
+  pub aliases : AliasesFor c j now l.scope
+  pub all : AllAliased c j now l.scope
+
+-- levels that wait, each for the next, and behind them the one that is written
+abbrev pub IsChain : ℕ → Collection → Scope → InterfaceId → List Level → Level → Type 0
+IsChain zero c around i ls l = ⊥
+IsChain (suc d) c around i [] l = IsLevel d c around i l l.scope
+IsChain (suc d) c around i (k ∷ ks) l = (j : InterfaceId) × IsWaiting d c around i k j × IsChain d c k.scope j ks l
+
+-- what is next at a level
+abbrev pub IsNextOf : Level → Next → Type 0
+IsNextOf l step.End = length (named_pairs l.order.items) ≤ l.next
+IsNextOf l (step.Inside j) = (n : Name) × (slice_get (named_pairs l.order.items) l.next ≡ Some (n, kind.Instance j)) × (type_index l.scope (ty.Interface j) ≡ None)
+IsNextOf l (step.Item n k) = (slice_get (named_pairs l.order.items) l.next ≡ Some (n.now, k)) × ((j : InterfaceId) → k ≡ kind.Instance j → IsSome (type_index l.scope (ty.Interface j)))
+
+-- an instance type is written, which is the interface's, and recorded, and an instance of it is listed
+pub record PutsInstance (c : Collection) (old new : Scope) (n : Name) (i : InterfaceId) (ds : List Decl) : Type 0 where
+  pub now : Scope
+  pub index : ℕ
+  pub adds : AddsInstance old now i ds index
+  pub recorded : HasToo old (ty.Interface i) index now
+  pub appended : now.content ≡ and_type old.content (instance_def (decls ds))
+  pub next : index ≡ count (space sort.«Type») old.content
+  pub instance : ℕ
+  pub lists : ListsInstanceOf now new n index instance
+  pub is : new ≡ record now { content = and_export now.content n (e.Instance index) }
+
+-- where it is not: the instance type does not fit, or the instance does not
+abbrev pub InstanceNotPut : {A : Type 0} → Collection → Scope → Name → InterfaceId → List Decl → Result A EncodeFault → Type 0
+InstanceNotPut c old n i ds (Ok x) = Unit {0}
+InstanceNotPut c old n i ds (Err (fault.Write f)) = ⊥
+InstanceNotPut c old n i ds (Err fault.TooLarge) = (ContentFits (and_type old.content (instance_def (decls ds))) → ⊥)
+    ⊎ ((now : Scope) × (index : ℕ) × AddsInstance old now i ds index × HasToo old (ty.Interface i) index now × (now.content ≡ and_type old.content (instance_def (decls ds))) × (index ≡ count (space sort.«Type») old.content) × (ContentFits (and_export now.content n (e.Instance index)) → ⊥))
+InstanceNotPut c old n i ds (Err fault.OutOfMemory) = Unit {0}

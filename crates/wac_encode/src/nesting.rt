@@ -1,0 +1,159 @@
+//! The writer of interfaces with instances in them.
+//!
+//! An interface whose instance type is needed inside another is written before the item that needs it, while the levels around it wait in
+//! a list, so that no chain of instances in instances is too long.
+
+ghost use Rattle.std.specs.Prelude.{◌≡◌, ◌<◌, ◌⊎◌, true, false, None, IfOk, OnOk, Ok as Answers, Err as Refused, length, slice_get};
+ghost use Rattle.wac_shapes.specs.declared.component.«Type».TheVariants as ty;
+ghost use Rattle.wac_shapes.specs.Named.{named_pairs};
+ghost use Rattle.wac_collection.specs.Collection.{HasInterface};
+ghost use Rattle.wac_scopes.specs.declared.fault.EncodeFault.TheVariants.{OutOfMemory};
+ghost use Rattle.wac_scopes.specs.Contents.{IsOpenType};
+ghost use Rattle.wac_scopes.specs.Scoped.{type_index};
+ghost use Rattle.wac_encode.specs.Listing.{SaysInterface, SaysIfThere, WritesInterface, WritesIfThere, lists_plain, IsInterfaceRefused};
+ghost use Rattle.wac_encode.specs.Levels.{IsBegun, IsNextOf, PutsInstance, InstanceNotPut};
+
+use crate::encoder::TypeEncoder;
+use crate::interfaces::{entry_of, instance_type};
+use crate::level::{Level, Next};
+use std::alloc::AllocError;
+use wac_binary::InstanceType;
+use wac_collection::{InterfaceId, ItemKind};
+use wac_scopes::{EncodeFault, Scope, closing_law, listing_law, step_law, still_law};
+
+impl<'a> TypeEncoder<'a> {
+    /// Opens a level for an interface over a scope.
+    fn level(&self, around: &Scope, interface: InterfaceId) -> Result<Level<'a>, AllocError>
+        requires { HasInterface self.now.types.now interface }
+        ensures { IfOk result (IsBegun self.now.types.now around.now interface) }
+    {
+        self.types[interface].exports.law();
+        let order = self.order(interface)?;
+        let scope = self.open(around, interface)?;
+        Ok(Level {
+            scope,
+            interface,
+            order,
+            next: 0,
+        })
+    }
+
+    /// Writes the instance type of an interface inside, and lists an instance of it.
+    fn put_instance(
+        &self,
+        scope: &mut Scope,
+        name: &str,
+        inside: InterfaceId,
+        declarations: &InstanceType,
+    ) -> Result<(), EncodeFault>
+        requires held { HasInterface self.now.types.now inside }
+        requires open { IsOpenType scope.old.content }
+        requires unwritten { type_index scope.old (ty.Interface inside) ≡ None }
+        requires says { SaysInterface self.now.types.now scope.old inside declarations.now }
+        ensures put { OnOk result (PutsInstance self.now.types.now scope.old scope.new name.now inside declarations.now) }
+        ensures fault { InstanceNotPut self.now.types.now scope.old name.now inside declarations.now result }
+    {
+        step_law();
+        still_law();
+        let index = scope.define_instance(inside, declarations)?;
+        scope.export_instance(name, index)?;
+        Ok(())
+    }
+
+    /// Writes an interface whose items are of sorts that are written.
+    fn nested_type(
+        &self,
+        around: &Scope,
+        interface: InterfaceId,
+    ) -> Result<InstanceType, EncodeFault>
+        requires held { HasInterface self.now.types.now interface }
+        requires plain { lists_plain self.now.types.now interface ≡ true }
+        ensures says { IfOk result (SaysInterface self.now.types.now around.now interface) }
+        ensures written { IfOk result (WritesInterface self.now.types.now around.now interface) }
+        ensures fault { IsInterfaceRefused self.now.types.now around.now interface result }
+    {
+        self.types.law();
+        closing_law();
+        listing_law();
+        step_law();
+        still_law();
+        let mut levels = Vec::new(self.types.allocator());
+        let mut level = self.level(around, interface)?;
+        'nesting: loop {
+            match next_of(&level) {
+                Next::Item(name, item) => {
+                    self.item(&mut level.scope, name, item)?;
+                    level.next += 1;
+                }
+                Next::Inside(inside) => {
+                    self.alias_listed(&mut level.scope, inside)?;
+                    let inner = self.level(&level.scope, inside)?;
+                    levels.push(level)?;
+                    level = inner;
+                }
+                Next::End => {
+                    let Level {
+                        scope,
+                        interface: inside,
+                        order: _,
+                        next: _,
+                    } = level;
+                    let declarations = instance_type(scope.into_content());
+                    let Some(outer) = levels.pop() else {
+                        return Ok(declarations);
+                    };
+                    level = outer;
+                    let (name, _) = entry_of(level.order.as_slice(), level.next);
+                    self.put_instance(&mut level.scope, name, inside, &declarations)?;
+                    level.next += 1;
+                }
+            }
+        }
+    }
+
+    /// Writes a held interface as an instance type: type items of value types first, the next always the first listed one of those left
+    /// that mentions none of those left; then type items of function types, then the others, as they are listed. A definition that a type
+    /// item lists is written by the first such item's index. What has a name in the scope around is aliased from there, and all else is
+    /// defined, each once, just before what mentions it. So is the instance type of an interface of which an instance is listed, over the
+    /// scope that it stands in, to any depth.
+    ///
+    /// Answers none exactly where an item is of a sort that is not written: a resource, a type item of an interface or a world, or an
+    /// instance of an interface that has such an item; memory may be refused before that is known. Answers `UnboundResource` for an item
+    /// that is made of a handle, `ModuleAsType` and `NestedItem` for one that no instance type can list, and `TooLarge` where what is
+    /// written next does not fit, the first in order; `OutOfMemory` where memory was refused.
+    pub fn interface_type(
+        &self,
+        around: &Scope,
+        interface: InterfaceId,
+    ) -> Result<Option<InstanceType>, EncodeFault>
+        requires { HasInterface self.now.types.now interface }
+        ensures none { result ≡ Answers None → lists_plain self.now.types.now interface ≡ false }
+        ensures not_plain { lists_plain self.now.types.now interface ≡ false → (result ≡ Answers None) ⊎ (result ≡ Refused OutOfMemory) }
+        ensures says { IfOk result (SaysIfThere self.now.types.now around.now interface) }
+        ensures written { IfOk result (WritesIfThere self.now.types.now around.now interface) }
+        ensures fault { IsInterfaceRefused self.now.types.now around.now interface result }
+    {
+        if !self.lists_plain(interface)? {
+            return Ok(None);
+        }
+        let declarations = self.nested_type(around, interface)?;
+        Ok(Some(declarations))
+    }
+}
+
+/// What is done next at a level.
+fn next_of<'b>(level: &Level<'b>) -> Next<'b>
+    ensures { IsNextOf level.now result }
+{
+    if level.next >= level.order.len() {
+        return Next::End;
+    }
+    let (name, item) = entry_of(level.order.as_slice(), level.next);
+    match item {
+        ItemKind::Instance(inside) => match level.scope.interface(inside) {
+            Some(_) => Next::Item(name, item),
+            None => Next::Inside(inside),
+        },
+        _ => Next::Item(name, item),
+    }
+}

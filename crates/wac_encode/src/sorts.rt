@@ -1,0 +1,134 @@
+//! Which interfaces are written, and those inside of them.
+
+ghost use Rattle.std.specs.Prelude.{◌≡◌, ◌∷◌, [], IfOk, OnOk};
+ghost use Rattle.wac_shapes.specs.declared.component.«Type».TheVariants as ty;
+ghost use Rattle.wac_collection.specs.Collection.{HasInterface};
+ghost use Rattle.wac_encode.specs.Listing.{lists_plain};
+ghost use Rattle.wac_reach.specs.Found.{with_all};
+ghost use Rattle.wac_encode.specs.Inside.{AreInside, is_plain_alone, are_plain_alone, lists_plain_alone, and_inside, with_inside, IsHeldInterface, PutsInside};
+
+use crate::encoder::TypeEncoder;
+use indexmap::IndexSet;
+use std::alloc::AllocError;
+use wac_collection::{InterfaceId, ItemKind, Named, Type};
+
+impl<'a> TypeEncoder<'a> {
+    /// An interface, and those inside it: of which it lists instances, or one of those does, to any depth; each once. Linear, without
+    /// recursion.
+    ///
+    /// Answers `AllocError` where memory ran out.
+    pub fn interfaces_inside(&self, interface: InterfaceId) -> Result<IndexSet<Type>, AllocError>
+        requires { HasInterface self.now.types.now interface }
+        ensures { IfOk result (λ found. AreInside self.now.types.now interface found.keys) }
+    {
+        self.types.law();
+        let mut found = IndexSet::new(self.types.allocator());
+        put_interface(interface, &mut found)?;
+        let mut next = 0;
+        while next < found.len() {
+            let ty = found.as_slice()[next];
+            self.put_inside(ty, &mut found)?;
+            next += 1;
+        }
+        Ok(found)
+    }
+
+    /// Puts the interfaces of instances among the items of a found interface.
+    fn put_inside(&self, ty: Type, found: &mut IndexSet<Type>) -> Result<(), AllocError>
+        requires { IsHeldInterface self.now.types.now ty }
+        ensures { OnOk result (PutsInside self.now.types.now ty found.old.keys found.new.keys) }
+    {
+        let Type::Interface(interface) = ty else {
+            unreachable!()
+        };
+        let items = &self.types[interface].exports;
+        items.law();
+        put_items(items, found)?;
+        Ok(())
+    }
+
+    /// Whether all items of an interface are of sorts that are written, and those of the interfaces inside. Linear, without recursion.
+    ///
+    /// Answers `AllocError` where memory ran out.
+    pub fn lists_plain(&self, interface: InterfaceId) -> Result<bool, AllocError>
+        requires { HasInterface self.now.types.now interface }
+        ensures { IfOk result (λ plain. plain ≡ lists_plain self.now.types.now interface) }
+    {
+        self.types.law();
+        let inside = self.interfaces_inside(interface)?;
+        let shown = inside.as_slice();
+        for i in 0..shown.len() {
+            if !self.lists_plain_alone(shown[i]) {
+                return Ok(false);
+            }
+        }
+        Ok(true)
+    }
+
+    /// Whether all items of a held interface are of sorts that are written, whatever is inside instances.
+    fn lists_plain_alone(&self, ty: Type) -> bool
+        requires { IsHeldInterface self.now.types.now ty }
+        ensures { result ≡ lists_plain_alone self.now.types.now ty }
+    {
+        let Type::Interface(interface) = ty else {
+            unreachable!()
+        };
+        are_plain(&self.types[interface].exports)
+    }
+}
+
+/// Puts the interface of an instance.
+fn put_item(item: ItemKind, found: &mut IndexSet<Type>) -> Result<(), AllocError>
+    ensures { OnOk result (found.new.keys ≡ and_inside found.old.keys item) }
+{
+    match item {
+        ItemKind::Instance(inside) => put_interface(inside, found),
+        _ => Ok(()),
+    }
+}
+
+/// Puts an interface.
+fn put_interface(interface: InterfaceId, found: &mut IndexSet<Type>) -> Result<(), AllocError>
+    ensures { OnOk result (found.new.keys ≡ with_all found.old.keys (ty.Interface interface ∷ [])) }
+{
+    found.insert(Type::Interface(interface))?;
+    Ok(())
+}
+
+/// Puts the interfaces of instances among items.
+fn put_items(items: &Named<ItemKind>, found: &mut IndexSet<Type>) -> Result<(), AllocError>
+    ensures { OnOk result (found.new.keys ≡ with_inside found.old.keys items.now) }
+{
+    for i in 0..items.len() {
+        put_item(*items.value_at(i), found)?;
+    }
+    Ok(())
+}
+
+/// Whether an item is of a sort that is written, or that no instance type can list, instances aside.
+fn is_plain(item: ItemKind) -> bool
+    ensures { result ≡ is_plain_alone item }
+{
+    match item {
+        ItemKind::TypeItem(Type::Value(_) | Type::Func(_) | Type::Module(_)) => true,
+        ItemKind::TypeItem(_) => false,
+        ItemKind::Func(_)
+        | ItemKind::Instance(_)
+        | ItemKind::Component(_)
+        | ItemKind::Module(_)
+        | ItemKind::Value(_) => true,
+    }
+}
+
+/// Whether all items are.
+fn are_plain(items: &Named<ItemKind>) -> bool
+    ensures { result ≡ are_plain_alone items.now }
+{
+    for i in 0..items.len() {
+        let (_, item) = items.entry_at(i);
+        if !is_plain(*item) {
+            return false;
+        }
+    }
+    true
+}

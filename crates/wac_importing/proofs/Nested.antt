@@ -1,0 +1,175 @@
+-- What is inside of interfaces that list plain items.
+use Rattle.std.proofs.Common.{◌≡◌, ℕ, zero, suc, ◌<◌, true, List, [], ◌∷◌, refl, ap, ◌∙◌, sym, subst, arith, Option, Some, None}
+use Rattle.std.specs.Prelude.{slice_get}
+use Rattle.wac_shapes.specs.Name.{Name, option_case}
+use Rattle.wac_shapes.specs.Named.{NoNameTwice}
+use Rattle.wac_shapes.specs.Kinds.{kind_type}
+use Rattle.wac_shapes.specs.declared.component.Interface.{Interface}
+use Rattle.wac_shapes.specs.declared.component.InterfaceId.{InterfaceId}
+use Rattle.wac_shapes.specs.declared.component.ItemKind.{ItemKind}
+use Rattle.wac_shapes.specs.declared.component.ItemKind.TheVariants as kind
+use Rattle.wac_shapes.specs.declared.component.«Type».{«Type» as AnyType}
+use Rattle.wac_shapes.specs.declared.component.«Type».TheVariants as ty
+use Rattle.wac_collection.specs.declared.collection.Held.{Held}
+use Rattle.wac_collection.specs.Collection.{Collection, IsWellFormed, AddedBefore, IsBefore, size, holds_type, item_at, item_of, interface_exports}
+use Rattle.wac_subtyping.specs.Subtype.{type_tree, kind_tree}
+use Rattle.wac_subtyping.proofs.Unfolding.{type_before}
+use Rattle.wac_reach.proofs.Lists.{in_at, at_in}
+use Rattle.wac_encode.specs.Inside.{IsInsideBy, IsInside, AreInside, IsHeldInterface}
+use Rattle.wac_encode.proofs.Inside.{inside-further, inside-held}
+use Rattle.wac_encode.proofs.Plain.{held-items, listed-before}
+use Rattle.wac_meaning.specs.Importable.{IsPlainItem, IsPlainTo, IsImportableKind}
+use Rattle.wac_importing.specs.Looked.{IsPlainAlone, ArePlain, ArePlainAlone, ListsPlainAlone, ListPlainAlone, ArePlainInside, ListsPlain}
+use Rattle.wac_importing.proofs.Items.{interface_there, exports_are, instance_importable, interface_importable, importable_instance, importable_interface, module_importable, plain_importable, func_importable}
+
+-- an item, where what is inside of it is plain too
+of_item : (c : Collection) (k : ItemKind) → IsPlainAlone c k → ((l : InterfaceId) → k ≡ kind.Instance l → IsPlainItem (kind_tree c (kind.Instance l))) → IsPlainItem (kind_tree c k)
+of_item c (kind.Instance l) alone inner = inner l refl
+of_item c (kind.TypeItem a) alone inner = alone
+of_item c (kind.Func f) alone inner = alone
+of_item c (kind.Component w) alone inner = alone
+of_item c (kind.Module m) alone inner = alone
+of_item c (kind.Value v) alone inner = alone
+
+pub alone_of : (c : Collection) (k : ItemKind) → IsPlainItem (kind_tree c k) → IsPlainAlone c k
+alone_of c (kind.Instance l) plain = tt
+alone_of c (kind.TypeItem a) plain = plain
+alone_of c (kind.Func f) plain = plain
+alone_of c (kind.Component w) plain = plain
+alone_of c (kind.Module m) plain = plain
+alone_of c (kind.Value v) plain = plain
+
+to_alone : (c : Collection) (d : ℕ) (k : ItemKind) → IsPlainTo d c k → IsPlainAlone c k
+to_alone c d (kind.Instance l) plain = tt
+to_alone c zero (kind.TypeItem a) plain = plain
+to_alone c zero (kind.Func f) plain = plain
+to_alone c zero (kind.Component w) plain = plain
+to_alone c zero (kind.Module m) plain = plain
+to_alone c zero (kind.Value v) plain = plain
+to_alone c (suc d) (kind.TypeItem a) plain = plain
+to_alone c (suc d) (kind.Func f) plain = plain
+to_alone c (suc d) (kind.Component w) plain = plain
+to_alone c (suc d) (kind.Module m) plain = plain
+to_alone c (suc d) (kind.Value v) plain = plain
+
+to_item : (c : Collection) (d : ℕ) (k : ItemKind) → IsPlainAlone c k → ((l : InterfaceId) → k ≡ kind.Instance l → (q : ℕ) (e : Name × ItemKind) → slice_get (interface_exports c l) q ≡ Some e → IsPlainTo d c e.1) → IsPlainTo (suc d) c k
+to_item c d (kind.Instance l) alone inner = inner l refl
+to_item c d (kind.TypeItem a) alone inner = alone
+to_item c d (kind.Func f) alone inner = alone
+to_item c d (kind.Component w) alone inner = alone
+to_item c d (kind.Module m) alone inner = alone
+to_item c d (kind.Value v) alone inner = alone
+
+-- what is inside of what is inside
+pub inside_of : (c : Collection) (i l : InterfaceId) (p : ℕ) (n : Name) → slice_get (interface_exports c i) p ≡ Some (n, kind.Instance l) → (d : ℕ) (j : InterfaceId) → IsInsideBy d c l j → IsInside c i j
+inside_of c i l p n at zero j is = subst (IsInside c i) (sym is) (1, (i, refl, p, n, at))
+inside_of c i l p n at (suc d) j (k, inner, q, m, here) = inside-further c i k j q m (inside_of c i l p n at d k inner) here
+
+pub never : (o : Option (Held Interface)) → AddedBefore 0 o → ⊥
+never None low = low
+never (Some x) low = omega (arith, low)
+
+module _ (c : Collection) (wf : IsWellFormed c) where
+  -- what an interface lists is held
+  pub listed_held : (j : InterfaceId) (k : ℕ) (e : Name × ItemKind) → slice_get (interface_exports c j) k ≡ Some e → holds_type c (kind_type e.1) ≡ true
+  listed_held j k e at = by (item_at c.interfaces j.0) refl at where
+    by : (o : Option Interface) → item_at c.interfaces j.0 ≡ o → slice_get (option_case o [] (λ (x : Interface). x.exports)) k ≡ Some e → holds_type c (kind_type e.1) ≡ true
+    by None is here = let none_some : None ≡ Some e = here in cc
+    by (Some it) is here = held-items c wf j it is k e here
+
+  -- a property of what interfaces list, which holds where it holds of those inside
+  module _ (i : InterfaceId) (all : ArePlainInside c i) where
+    plain_to : (d : ℕ) (j : InterfaceId) → IsInside c i j → IsBefore c d (ty.Interface j) → ArePlain c (interface_exports c j)
+    plain_to zero j h before = absurd (never (slice_get c.interfaces j.0) before)
+    plain_to (suc d) j h before = by (plain_to d) (slice_get c.interfaces j.0) refl before where
+      by : ((l : InterfaceId) → IsInside c i l → IsBefore c d (ty.Interface l) → ArePlain c (interface_exports c l)) → (o : Option (Held Interface)) → slice_get c.interfaces j.0 ≡ o → AddedBefore (suc d) o → ArePlain c (interface_exports c j)
+      by inner None is low k e here = absurd low
+      by inner (Some x) is low k e here = of_item c e.1 (all j h k e here) (λ l is_instance.
+          let found : item_at c.interfaces j.0 ≡ Some x.item = ap item_of is in
+          let listed : slice_get (interface_exports c j) k ≡ Some (e.0, kind.Instance l) = here ∙ ap (λ (y : ItemKind). Some (e.0, y)) is_instance in
+          let held : holds_type c (ty.Interface l) ≡ true = listed_held j k (e.0, kind.Instance l) listed in
+          let low_l : IsBefore c d (ty.Interface l) = listed-before c wf d j x.item before found k (e.0, kind.Instance l) (ap (λ (es : List (Name × ItemKind)). slice_get es k) (sym (exports_are c j x.item found)) ∙ listed) in
+          let (it, at) = interface_there c wf l held in
+          instance_importable c wf l it held at (subst (ArePlain c) (exports_are c l it at) (inner l (inside-further c i j l k e.0 h listed) low_l)))
+
+    pub inside_plain_all : holds_type c (ty.Interface i) ≡ true → ArePlain c (interface_exports c i)
+    inside_plain_all held = plain_to (size c) i (0, refl) (type_before c wf (ty.Interface i) held)
+
+    -- to a depth
+    held_to : (d : ℕ) (j : InterfaceId) → IsInside c i j → IsBefore c d (ty.Interface j) → (k : ℕ) (e : Name × ItemKind) → slice_get (interface_exports c j) k ≡ Some e → IsPlainTo d c e.1
+    held_to zero j h before = absurd (never (slice_get c.interfaces j.0) before)
+    held_to (suc d) j h before = by (held_to d) (slice_get c.interfaces j.0) refl before where
+      by : ((l : InterfaceId) → IsInside c i l → IsBefore c d (ty.Interface l) → (k : ℕ) (e : Name × ItemKind) → slice_get (interface_exports c l) k ≡ Some e → IsPlainTo d c e.1) → (o : Option (Held Interface)) → slice_get c.interfaces j.0 ≡ o → AddedBefore (suc d) o → (k : ℕ) (e : Name × ItemKind) → slice_get (interface_exports c j) k ≡ Some e → IsPlainTo (suc d) c e.1
+      by inner None is low k e here = absurd low
+      by inner (Some x) is low k e here = to_item c d e.1 (all j h k e here) (λ l is_instance.
+          let found : item_at c.interfaces j.0 ≡ Some x.item = ap item_of is in
+          let listed : slice_get (interface_exports c j) k ≡ Some (e.0, kind.Instance l) = here ∙ ap (λ (y : ItemKind). Some (e.0, y)) is_instance in
+          inner l (inside-further c i j l k e.0 h listed) (listed-before c wf d j x.item before found k (e.0, kind.Instance l) (ap (λ (es : List (Name × ItemKind)). slice_get es k) (sym (exports_are c j x.item found)) ∙ listed)))
+
+    pub inside_to : holds_type c (ty.Interface i) ≡ true → (k : ℕ) (e : Name × ItemKind) → slice_get (interface_exports c i) k ≡ Some e → (d : ℕ) × IsPlainTo d c e.1
+    inside_to held k e here = (size c, held_to (size c) i (0, refl) (type_before c wf (ty.Interface i) held) k e here)
+
+  pub inside_plain : (i : InterfaceId) → holds_type c (ty.Interface i) ≡ true → ArePlainInside c i → ArePlain c (interface_exports c i)
+  inside_plain i held all = inside_plain_all i all held
+
+  -- the other way
+  module _ (i : InterfaceId) (ts : List AnyType) (a : AreInside c i ts) (all : ArePlain c (interface_exports c i)) where
+    path : (d : ℕ) (j : InterfaceId) → IsInsideBy d c i j → ArePlain c (interface_exports c j)
+    path zero j is = subst (λ (x : InterfaceId). ArePlain c (interface_exports c x)) (sym is) all
+    path (suc d) j (k, inner, p, n, at) =
+        let plain = path d k inner p (n, kind.Instance j) at in
+        let there = a.all j (suc d, (k, inner, p, n, at)) in
+        let held : holds_type c (ty.Interface j) ≡ true = (a.only (ty.Interface j) there).2 in
+        let (it, found) = interface_there c wf j held in
+        subst (ArePlain c) (sym (exports_are c j it found)) (importable_instance c wf j it held found (subst NoNameTwice (exports_are c j it found) (a.once j there)) plain)
+
+    pub plain_inside : ArePlainInside c i
+    plain_inside j h k e here = alone_of c e.1 (path h.0 j h.1 k e here)
+
+-- of definitions
+pub to_inside : (c : Collection) (i : InterfaceId) → ((k : ℕ) (e : Name × ItemKind) → slice_get (interface_exports c i) k ≡ Some e → (d : ℕ) × IsPlainTo d c e.1) → ArePlainInside c i
+to_inside c i all j h k e here = let plain = path h.0 j h.1 k e here in to_alone c plain.0 e.1 plain.1
+  where
+    inner : (j : InterfaceId) (d : ℕ) → IsPlainTo d c (kind.Instance j) → (k : ℕ) (e : Name × ItemKind) → slice_get (interface_exports c j) k ≡ Some e → (d : ℕ) × IsPlainTo d c e.1
+    inner j zero plain k e here = absurd plain
+    inner j (suc d) plain k e here = (d, plain k e here)
+
+    path : (d : ℕ) (j : InterfaceId) → IsInsideBy d c i j → (k : ℕ) (e : Name × ItemKind) → slice_get (interface_exports c j) k ≡ Some e → (d : ℕ) × IsPlainTo d c e.1
+    path zero j is = subst (λ (x : InterfaceId). (k : ℕ) (e : Name × ItemKind) → slice_get (interface_exports c x) k ≡ Some e → (d : ℕ) × IsPlainTo d c e.1) (sym is) all
+    path (suc d) j (k, within, p, n, at) = let plain = path d k within p (n, kind.Instance j) at in inner j plain.0 plain.1
+
+-- what was found inside
+
+pub found_held : (c : Collection) (i : InterfaceId) (ts : List AnyType) → AreInside c i ts → (p : ℕ) (t : AnyType) → slice_get ts p ≡ Some t → IsHeldInterface c t
+found_held c i ts a p t at = inside-held c i ts p t a at
+
+pub all_inside : (c : Collection) (i : InterfaceId) (ts : List AnyType) → AreInside c i ts → ListPlainAlone c ts → ArePlainInside c i
+all_inside c i ts a all j h = let place = at_in (ty.Interface j) ts (a.all j h) in all place.0 (ty.Interface j) place.2
+
+pub each_inside : (c : Collection) (i : InterfaceId) (ts : List AnyType) → AreInside c i ts → ArePlainInside c i → ListPlainAlone c ts
+each_inside c i ts a all p t at = let here = a.only t (in_at t ts p at) in subst (ListsPlainAlone c) (sym here.1) (all here.0 here.3)
+
+pub instance_inside : (c : Collection) → IsWellFormed c → (i : InterfaceId) (ts : List AnyType) → AreInside c i ts → holds_type c (ty.Interface i) ≡ true → IsImportableKind c (kind.Instance i) → ArePlainInside c i
+instance_inside c wf i ts a held so =
+    let (it, found) = interface_there c wf i held in
+    plain_inside c wf i ts a (subst (ArePlain c) (sym (exports_are c i it found)) (importable_instance c wf i it held found (subst NoNameTwice (exports_are c i it found) (a.once i (a.all i (0, refl)))) so))
+
+pub type_inside : (c : Collection) → IsWellFormed c → (i : InterfaceId) (ts : List AnyType) → AreInside c i ts → holds_type c (ty.Interface i) ≡ true → IsImportableKind c (kind.TypeItem (ty.Interface i)) → ArePlainInside c i
+type_inside c wf i ts a held so =
+    let (it, found) = interface_there c wf i held in
+    plain_inside c wf i ts a (subst (ArePlain c) (sym (exports_are c i it found)) (importable_interface c wf i it held found (subst NoNameTwice (exports_are c i it found) (a.once i (a.all i (0, refl)))) so))
+
+-- what lists plain items is imported so far
+pub lists_importable : (c : Collection) → IsWellFormed c → (k : ItemKind) → holds_type c (kind_type k) ≡ true → ListsPlain c k → IsImportableKind c k
+lists_importable c wf (kind.Instance i) held all =
+    let (it, at) = interface_there c wf i held in
+    instance_importable c wf i it held at (subst (ArePlain c) (exports_are c i it at) (inside_plain c wf i held all))
+lists_importable c wf (kind.TypeItem (ty.Interface i)) held all =
+    let (it, at) = interface_there c wf i held in
+    interface_importable c wf i it held at (subst (ArePlain c) (exports_are c i it at) (inside_plain c wf i held all))
+lists_importable c wf (kind.TypeItem (ty.Func f)) held h = func_importable c wf f held h
+lists_importable c wf (kind.TypeItem a) held h = plain_importable (type_tree c a) h
+lists_importable c wf (kind.Func f) held h = h
+lists_importable c wf (kind.Component w) held h = h
+lists_importable c wf (kind.Module m) held h = module_importable c wf m held
+lists_importable c wf (kind.Value v) held h = h
