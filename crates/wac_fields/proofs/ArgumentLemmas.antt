@@ -17,7 +17,7 @@ use Rattle.wac_collection.specs.Package.{PackageParts}
 use Rattle.wac_subtyping.specs.Subtype.{IsSubtype}
 use Rattle.wac_shapes.specs.declared.component.World.{World}
 use Rattle.wac_shapes.specs.declared.component.ItemKind.{ItemKind}
-use Rattle.wac_types.specs.declared.checker.TypeFault.TheVariants.{Mismatch}
+use Rattle.wac_comparison.specs.declared.fault.TypeFault.TheVariants.{Mismatch}
 use Rattle.wac_nodes.specs.declared.node.Node.{Node}
 use Rattle.wac_edges.specs.declared.node.NodeId.{NodeId}
 use Rattle.wac_nodes.specs.declared.node.NodeKind.{NodeKind}

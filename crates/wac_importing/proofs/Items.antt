@@ -22,8 +22,8 @@ use Rattle.wac_collection.specs.Collection.{Collection, IsWellFormed, AddedBefor
 use Rattle.wac_collection.specs.Held.{resolved, func_tree, interface_tree, module_tree, of_held, unfolded}
 use Rattle.wac_subtyping.specs.Subtype.{IsPlain, by_name, resource_names, type_tree, kind_tree, listed_in}
 use Rattle.wac_subtyping.proofs.Unfolding.{type_before, unfolded_step, type_step, held_item}
-use Rattle.wac_types.proofs.Subtyping.{func_plain}
-use Rattle.wac_types.proofs.Values.{value_plain as value_tree_plain}
+use Rattle.wac_comparison.proofs.Subtyping.{func_plain}
+use Rattle.wac_comparison.proofs.Values.{value_plain as value_tree_plain}
 use Rattle.wac_meaning.specs.Importable.{HasNoHandle, IsPlainItem, IsPlainWhereThere, IsImportable, IsImportableKind, IsDefinable, IsDefinableKind}
 use Rattle.wac_importing.specs.Looked.{IsOfValues, ArePlain, ListsPlain}
 use Rattle.wac_importing.proofs.Handles.{plain_free, plain_reached, reached_none}

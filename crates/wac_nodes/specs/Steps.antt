@@ -13,7 +13,7 @@ use Rattle.wac_shapes.specs.Words.{kind_text}
 use Rattle.wac_shapes.specs.declared.component.ItemKind.{ItemKind}
 use Rattle.wac_shapes.specs.declared.component.ItemKind.TheVariants.{Instance, TypeItem}
 use Rattle.wac_shapes.specs.declared.component.«Type».{«Type» as AnyType}
-use Rattle.wac_types.specs.declared.checker.TypeFault.TheVariants.{Mismatch}
+use Rattle.wac_comparison.specs.declared.fault.TypeFault.TheVariants.{Mismatch}
 use Rattle.wac_collection.specs.declared.collection.AddTypeError.{AddTypeError}
 use Rattle.wac_nodes.specs.declared.errors.RegisterPackageError.{RegisterPackageError}
 use Rattle.wac_nodes.specs.declared.errors.RegisterPackageError.TheVariants as register

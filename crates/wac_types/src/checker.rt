@@ -4,21 +4,9 @@ ghost use Rattle.wac_collection.specs.Collection.{holds_type};
 ghost use Rattle.wac_shapes.specs.Kinds.{kind_type};
 ghost use Rattle.wac_subtyping.specs.Subtype.{IsSubtype};
 
-use crate::comparison::Comparison;
-use crate::questions::Asked;
-use thiserror::Error;
+use crate::answers::answer;
 use wac_collection::{ItemKind, Types};
-
-/// Why an item is not known to be a subtype of another.
-#[derive(Clone, Copy, Debug, PartialEq, Eq, Error)]
-pub enum TypeFault {
-    /// It isn't a subtype.
-    #[error("Mismatch")]
-    Mismatch,
-    /// Memory ran out.
-    #[error("OutOfMemory")]
-    OutOfMemory,
-}
+use wac_comparison::{Asked, Comparison, TypeFault};
 
 /// Compares items of two collections.
 #[derive(Clone, Copy, Debug)]
@@ -56,11 +44,14 @@ impl SubtypeChecker {
         while next < asked.questions.len() {
             let question = asked.questions.as_slice()[next];
             if question.turned {
-                comparison
-                    .turned()
-                    .answer(&mut asked, question.first, question.second)?;
+                answer(
+                    comparison.turned(),
+                    &mut asked,
+                    question.first,
+                    question.second,
+                )?;
             } else {
-                comparison.answer(&mut asked, question.first, question.second)?;
+                answer(comparison, &mut asked, question.first, question.second)?;
             }
             next += 1;
         }

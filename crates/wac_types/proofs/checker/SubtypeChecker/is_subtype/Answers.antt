@@ -1,8 +1,8 @@
 use Rattle.std.proofs.Common.{arith, length, ap, subst, ◌+◌, ◌∙◌, sym, ◌<◌, ◌≤◌, List, slice_get}
-use Rattle.wac_types.specs.declared.questions.Asked.{Asked}
-use Rattle.wac_types.proofs.Agreeing.{get_read}
-use Rattle.wac_types.proofs.Universe.{universe, asked_few}
-use Rattle.wac_types.proofs.Comparing.{Compares, compares_first, compares_next, compares_last, ahead, turned_round}
+use Rattle.wac_comparison.specs.declared.questions.Asked.{Asked}
+use Rattle.wac_comparison.proofs.Agreeing.{get_read}
+use Rattle.wac_comparison.proofs.Universe.{universe, asked_few}
+use Rattle.wac_comparison.proofs.Comparing.{Compares, compares_first, compares_next, compares_last, ahead, turned_round}
 use Rattle.wac_types.proofs.checker.SubtypeChecker.is_subtype.Goals as goal
 use Rattle.wac_types.proofs.checker.SubtypeChecker.is_subtype.Goals.{then-question+in_ok-answer, else-question+in_ok-answer-2}
 

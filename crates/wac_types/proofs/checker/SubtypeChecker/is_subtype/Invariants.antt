@@ -1,6 +1,6 @@
 use Rattle.std.proofs.Common.{◌-◌, length}
-use Rattle.wac_types.proofs.Comparing.{Compares}
-use Rattle.wac_types.proofs.Universe.{universe}
+use Rattle.wac_comparison.proofs.Comparing.{Compares}
+use Rattle.wac_comparison.proofs.Universe.{universe}
 use Rattle.wac_types.proofs.checker.SubtypeChecker.is_subtype.Given as goal
 
 -- the answers to the questions before the next one rest on those to the others, and the first question on all

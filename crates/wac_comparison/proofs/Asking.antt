@@ -1,0 +1,114 @@
+-- Questions that settle a statement, from those that settle its parts.
+use Rattle.std.proofs.Common.{cond, Result, Ok, Err, IfOk, ℕ, zero, suc, Bool, true, false, not, List, [], ◌∷◌, ◌++◌, ◌+◌, ◌≡◌, ◌<◌, ◌≤◌, length, refl, ap, sym, ◌∙◌, subst, arith, append_assoc, slice_index_or, ◌⊎◌, inl, inr}
+use Rattle.std.proofs.lemmas.List.{append-nil}
+use Rattle.std.specs.List.{AllByRecursion, Contains, list_any}
+use Rattle.indexmap.specs.IndexSet.{insert_key}
+use Rattle.indexmap.proofs.CallerLemmas.{Contains-insert_key}
+use Rattle.wac_comparison.specs.declared.questions.Question.{Question}
+use Rattle.wac_comparison.specs.declared.questions.Asked.{Asked}
+use Rattle.wac_shapes.specs.declared.component.«Type».{«Type» as AnyType}
+use Rattle.wac_shapes.specs.Name.{Name}
+use Rattle.wac_collection.specs.Tree.{TypeTree}
+use Rattle.wac_collection.specs.Collection.{Collection, holds_type}
+use Rattle.wac_subtyping.specs.Subtype.{Sub, type_tree}
+use Rattle.wac_comparison.specs.Weights.{type_weight}
+use Rattle.wac_comparison.specs.Questions.{in_order, first_of_pair, second_of_pair, IsAskable, IsAskableQuestion, IsYes, IsYesBelow, AreHeld, AreBelow, Puts}
+use Rattle.wac_comparison.specs.Classes.{AreLinked, AreSame}
+use Rattle.wac_comparison.specs.Settling.{AreJoined, Settles, Asks, RestsOn}
+use Rattle.wac_subtyping.proofs.Unfolding.{all_map, all_left, all_both}
+use Rattle.wac_comparison.proofs.Lighter.{Lowers}
+
+pub all_at : {A : Type 0} (P : A → Type 0) (xs : List A) (x : A) → AllByRecursion P xs → Contains xs x → P x
+all_at P xs x h c = by xs c.0 h c.1 c.2
+  where
+    by : (xs : List _) (k : ℕ) → AllByRecursion P xs → k < length xs → slice_index_or xs k x ≡ x → P x
+    by [] k h lt e = absurd (omega (arith, lt))
+    by (y ∷ ys) zero h lt e = subst P e h.0
+    by (y ∷ ys) (suc k) h lt e = by ys k h.1 (omega (arith, lt)) e
+
+-- what is the same where some answers are yes is so where more are
+pub same_more : (p : Collection × Collection) (qs added : List Question) (u v : _) → AreSame p qs u v → AreSame p (qs ++ added) u v
+same_more p qs added u v s n h = s n (all_left (IsYesBelow p n) qs added h)
+
+pub linked_more : (p : Collection × Collection) (qs added : List Question) (es : _) → AreLinked p qs es → AreLinked p (qs ++ added) es
+linked_more p qs added es h i u l at = let k = h i u l at in (k.0, k.1, same_more p qs added u k.0 k.2)
+
+module _ (p : Collection × Collection) (n : ℕ) where
+  pub settles_now : {E : Type 0} (s : Asked) → E → Settles p n s s E
+  settles_now s e = record { added = []; grown = sym (append-nil s.questions.keys); asked = tt; joined = λ j. j; complete = λ _. tt; sound = λ _ _. e }
+
+  pub settles_then : {E F : Type 0} (o m k : Asked) → Settles p n o m E → Settles p n m k F → Settles p n o k (E × F)
+  settles_then o m k s t =
+      let grown : k.questions.keys ≡ o.questions.keys ++ (s.added ++ t.added) = t.grown ∙ ap (λ x. x ++ t.added) s.grown ∙ append_assoc o.questions.keys s.added t.added in
+      let P : List Question → Type 0 = AllByRecursion (IsYesBelow p n) in
+      record {
+        added = s.added ++ t.added;
+        grown = grown;
+        asked = all_both (IsAskableQuestion p) s.added t.added s.asked t.asked;
+        joined = λ j. t.joined (s.joined j);
+        complete = λ e. all_both (IsYes p) s.added t.added (s.complete e.0) (t.complete e.1);
+        sound = λ j h. (s.sound j (all_left (IsYesBelow p n) m.questions.keys t.added (subst P t.grown h)), t.sound (s.joined j) h);
+      }
+
+  pub settles_iff : {E F : Type 0} (o k : Asked) → (E → F) → (F → E) → Settles p n o k E → Settles p n o k F
+  settles_iff o k f g s = record { added = s.added; grown = s.grown; asked = s.asked; joined = s.joined; complete = λ e. s.complete (g e); sound = λ j h. f (s.sound j h) }
+
+  pub settles_put : (o k : Asked) (q : Question) → Puts o.questions.keys k.questions.keys q → k.classes ≡ o.classes → IsAskableQuestion p q → (type_weight (first_of_pair q.turned p) q.first < n) ⊎ (type_weight (second_of_pair q.turned p) q.second < n)
+      → Settles p n o k (IsYes p q)
+  settles_put o k q s same held below = record {
+    added = s.added;
+    grown = s.grown;
+    asked = all_map (λ r. r ≡ q) (IsAskableQuestion p) (λ r e. let P : Question → Type 0 = IsAskableQuestion p in subst P (sym e) held) s.added s.only;
+    joined = λ j.
+        let P : List Question → Type 0 = λ x. AreLinked p x k.classes.links.entries in
+        let Q : _ → Type 0 = λ x. AreLinked p (o.questions.keys ++ s.added) x.links.entries in
+        subst P (sym s.grown) (subst Q (sym same) (linked_more p o.questions.keys s.added o.classes.links.entries j));
+    complete = λ y. all_map (λ r. r ≡ q) (IsYes p) (λ r e. let P : Question → Type 0 = IsYes p in subst P (sym e) y) s.added s.only;
+    sound = λ _ h. all_at (IsYesBelow p n) k.questions.keys q h s.there below;
+  }
+
+-- a question in the order of the comparison
+abbrev pub ordered : Bool → AnyType → AnyType → Question
+ordered t a b = record { turned = t; first = a; second = b }
+
+-- a question that was put settles what it asks
+pub asks_put : (t : Bool) (x y : Collection) (a b : AnyType) (o k : Asked) → Puts o.questions.keys k.questions.keys (ordered t a b) → k.classes ≡ o.classes
+    → (n : ℕ) → IsAskable x a → IsAskable y b → (type_weight x a < n) ⊎ (type_weight y b < n) → Settles (in_order t x y) n o k (Sub (type_tree x a) (type_tree y b))
+asks_put false x y a b o k s same n ha hb below = settles_put (x, y) n o k _ s same (ha, hb) below
+asks_put true x y a b o k s same n ha hb below = settles_put (y, x) n o k _ s same (ha, hb) below
+
+module _ (t : Bool) (x y : Collection) (a b : AnyType) where
+  pub rests_now : {E : Type 0} (o : Asked) → E → RestsOn t x y a b o o E
+  rests_now o e = record { settles = λ n below. settles_now _ _ o e }
+
+  pub rests_iff : {E F : Type 0} (o k : Asked) → (E → F) → (F → E) → RestsOn t x y a b o k E → RestsOn t x y a b o k F
+  rests_iff o k f g s = record { settles = λ n below. settles_iff _ _ o k f g (s.settles n below) }
+
+-- what mentions types is settled by what they settle
+pub rests_on : {E F : Type 0} (t : Bool) (x y : Collection) (a b : AnyType) (ps qs : List AnyType) (u v : TypeTree Name) (o k : Asked) → Lowers x a ps u → Lowers y b qs v
+    → (E → F) → (F → E) → Asks t x y ps qs o k E → RestsOn t x y a b o k F
+rests_on t x y a b ps qs u v o k la lb f g asks = record {
+  settles = λ n below. settles_iff _ _ o k f g (asks.settles n la.held lb.held (by n below));
+}
+  where
+    below : (c : Collection) (a : AnyType) (ps : List AnyType) (n : ℕ) → AreBelow c (type_weight c a) ps → type_weight c a ≤ n → AreBelow c n ps
+    below c a ps n h le = all_map (λ t. type_weight c t < type_weight c a) (λ t. type_weight c t < n) (λ t lt. omega (arith, lt, le)) ps h
+
+    by : (n : ℕ) → (type_weight x a ≤ n) ⊎ (type_weight y b ≤ n) → AreBelow x n ps ⊎ AreBelow y n qs
+    by n (inl le) = inl (below x a ps n la.lower le)
+    by n (inr le) = inr (below y b qs n lb.lower le)
+
+pub if_ok : {A E : Type 0} (r : Result A E) (P Q : A → Type 0) → ((a : A) → P a → Q a) → IfOk r P → IfOk r Q
+if_ok (Ok a) P Q f h = f a h
+if_ok (Err e) P Q f h = tt
+
+-- a key that was inserted was put
+pub puts_inserted : (eq : Question → Question → Bool) → ((a b : Question) → eq a b ≡ true → a ≡ b) → (o k : List Question) (q : Question) → k ≡ insert_key eq o q → Puts o k q
+puts_inserted eq same o k q e = let P : List Question → Type 0 = λ x. Puts o x q in subst P (sym e) (by (list_any (eq q) o) refl)
+  where
+    by : (b : Bool) → list_any (eq q) o ≡ b → Puts o (insert_key eq o q) q
+    by true h = record { added = []; grown = ap (λ b. cond b o (o ++ q ∷ [])) h ∙ sym (append-nil o); only = tt; there = Contains-insert_key eq same o q }
+    by false h = record { added = q ∷ []; grown = ap (λ b. cond b o (o ++ q ∷ [])) h; only = (refl, tt); there = Contains-insert_key eq same o q }
+
+pub differ : false ≡ true → ⊥
+differ e = cc e

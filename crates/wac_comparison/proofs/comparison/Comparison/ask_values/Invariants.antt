@@ -1,0 +1,10 @@
+use Rattle.std.proofs.Common.{map}
+use Rattle.wac_collection.specs.Collection.{value_types}
+use Rattle.wac_comparison.specs.Compare.{value_in}
+use Rattle.wac_comparison.proofs.Below.{AgreeBelow}
+use Rattle.wac_comparison.specs.Settling.{Asks}
+use Rattle.wac_comparison.proofs.comparison.Comparison.ask_values.Given as goal
+
+-- those so far are settled
+abbrev pub invariant-loop-i : goal.invariant-loop-i
+invariant-loop-i l = Asks l.self.turned l.self.first.now l.self.second.now (value_types l.vs) (value_types l.ws) l.initial.asked l.asked (AgreeBelow l.i (map (value_in l.self.first.now) l.vs) (map (value_in l.self.second.now) l.ws))

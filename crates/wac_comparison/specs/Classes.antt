@@ -1,0 +1,51 @@
+-- Classes of types that are the same where the answers to questions are yes.
+use Rattle.std.specs.Prelude.{ℕ, ◌+◌, ◌<◌, ◌≡◌, Bool, true, false, List, [], ◌∷◌, ◌++◌, Some, slice_get, map, length, ◌⊎◌}
+use Rattle.std.specs.List.{AllByRecursion}
+use Rattle.std.specs.Option.{option_map}
+use Rattle.wac_shapes.specs.Name.{Name}
+use Rattle.wac_collection.specs.Tree.{TypeTree}
+use Rattle.wac_collection.specs.Collection.{Collection}
+use Rattle.wac_subtyping.specs.Subtype.{type_tree}
+use Rattle.wac_comparison.specs.Weights.{weight}
+use Rattle.wac_comparison.specs.Questions.{first_of_pair, IsYesBelow}
+use Rattle.wac_comparison.specs.declared.classes.Node.{Node}
+use Rattle.wac_comparison.specs.declared.classes.Link.{Link}
+use Rattle.wac_comparison.specs.declared.questions.Question.{Question}
+
+-- the nodes, in order
+abbrev pub nodes : List (Node × Link) → List Node
+nodes es = map (λ e. e.0) es
+
+-- the tree of a node
+abbrev pub node_tree : Collection × Collection → Node → TypeTree Name
+node_tree p u = type_tree (first_of_pair u.turned p) u.ty
+
+-- The trees are the same where one is lighter than this and the answers to all lighter questions are yes.
+abbrev pub AreSame : Collection × Collection → List Question → Node → Node → Type 0
+AreSame p qs u v = (n : ℕ) → AllByRecursion (IsYesBelow p n) qs → (weight (node_tree p u) < n) ⊎ (weight (node_tree p v) < n) → node_tree p u ≡ node_tree p v
+
+-- each node is the same as the one above it
+abbrev pub AreLinked : Collection × Collection → List Question → List (Node × Link) → Type 0
+AreLinked p qs es = (i : ℕ) (u : Node) (l : Link) → slice_get es i ≡ Some (u, l) → (v : Node) × (slice_get (nodes es) l.above ≡ Some v) × AreSame p qs u v
+
+-- the node at the one position is the same as that at the other
+abbrev pub LeadsTo : List (Node × Link) → ℕ → ℕ → Type 0
+LeadsTo es i j = (p : Collection × Collection) (qs : List Question) → AreLinked p qs es → (u : Node) → slice_get (nodes es) i ≡ Some u → (v : Node) × (slice_get (nodes es) j ≡ Some v) × AreSame p qs u v
+
+-- the link at a position
+abbrev pub HasLink : List (Node × Link) → ℕ → Link → Type 0
+HasLink es i l = option_map (λ e. e.1) (slice_get es i) ≡ Some l
+
+-- a node at this position, which is there or comes last, in a class of its own
+pub record AddsNode (old new : List (Node × Link)) (u : Node) (i : ℕ) : Type 0 where
+  pub grown : (new ≡ old) ⊎ (new ≡ old ++ (u, record { above = length old; size = 1 }) ∷ [])
+  pub there : slice_get (nodes new) i ≡ Some u
+
+-- one node was put below another
+abbrev pub PutsBelow : List (Node × Link) → List (Node × Link) → ℕ → ℕ → Type 0
+PutsBelow old new low high = (p : Collection × Collection) (qs : List Question) (u v : Node) → slice_get (nodes old) low ≡ Some u → slice_get (nodes old) high ≡ Some v → AreSame p qs u v → AreLinked p qs old → AreLinked p qs new
+
+-- Two nodes were joined. Where they were not apart they are the same; the links hold still, if what was apart is the same.
+pub record Joins (old new : List (Node × Link)) (u v : Node) (apart : Bool) : Type 0 where
+  pub found : (p : Collection × Collection) (qs : List Question) → AreLinked p qs old → apart ≡ false → AreSame p qs u v
+  pub kept : (p : Collection × Collection) (qs : List Question) → AreLinked p qs old → (apart ≡ true → AreSame p qs u v) → AreLinked p qs new

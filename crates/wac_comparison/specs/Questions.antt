@@ -1,0 +1,76 @@
+-- The questions of a comparison: pairs of types of which the first is to be a subtype of the second.
+use Rattle.std.specs.Prelude.{ℕ, ◌<◌, ◌≤◌, ◌≡◌, ◌≢◌, Bool, true, false, not, None, List, ◌++◌, ◌⊎◌}
+use Rattle.std.specs.List.{AllByRecursion, Contains}
+use Rattle.wac_comparison.specs.declared.questions.Question.{Question}
+use Rattle.wac_shapes.specs.declared.component.«Type».{«Type» as AnyType}
+use Rattle.wac_shapes.specs.declared.component.«Type».TheVariants as ty
+use Rattle.wac_collection.specs.Collection.{Collection, holds_type}
+use Rattle.wac_collection.specs.Tree.{absent}
+use Rattle.wac_collection.specs.Aliases.{target_of}
+use Rattle.wac_subtyping.specs.Subtype.{Sub, type_tree}
+use Rattle.wac_comparison.specs.Weights.{type_weight}
+
+-- the collections of a comparison, in the order of its first question
+abbrev pub in_order : Bool → Collection → Collection → Collection × Collection
+in_order false x y = (x, y)
+in_order true x y = (y, x)
+
+-- the collection of a question's first type, and that of its second
+abbrev pub first_of_pair : Bool → Collection × Collection → Collection
+first_of_pair false p = p.0
+first_of_pair true p = p.1
+
+abbrev pub second_of_pair : Bool → Collection × Collection → Collection
+second_of_pair false p = p.1
+second_of_pair true p = p.0
+
+-- a type that is no alias of a value type
+abbrev pub IsEnd : Collection → AnyType → Type 0
+IsEnd c (ty.Value v) = target_of c v ≡ None
+IsEnd c t = Unit {0}
+
+-- a type that is a subtype of its equal alone
+abbrev pub IsPlainType : AnyType → Type 0
+IsPlainType (ty.Interface i) = ⊥
+IsPlainType (ty.World w) = ⊥
+IsPlainType (ty.Module m) = ⊥
+IsPlainType t = Unit {0}
+
+-- a type that is held, and no alias
+abbrev pub IsAskable : Collection → AnyType → Type 0
+IsAskable c t = (holds_type c t ≡ true) × IsEnd c t
+
+module _ (p : Collection × Collection) where
+  abbrev pub IsAskableQuestion : Question → Type 0
+  IsAskableQuestion q = IsAskable (first_of_pair q.turned p) q.first × IsAskable (second_of_pair q.turned p) q.second
+
+  -- the answer is yes
+  abbrev pub IsYes : Question → Type 0
+  IsYes q = Sub (type_tree (first_of_pair q.turned p) q.first) (type_tree (second_of_pair q.turned p) q.second)
+
+  -- yes, where one of the types is lighter than this
+  abbrev pub IsYesBelow : ℕ → Question → Type 0
+  IsYesBelow n q = (type_weight (first_of_pair q.turned p) q.first < n) ⊎ (type_weight (second_of_pair q.turned p) q.second < n) → IsYes q
+
+-- the types are held
+abbrev pub AreHeld : Collection → List AnyType → Type 0
+AreHeld c ts = AllByRecursion (λ t. holds_type c t ≡ true) ts
+
+-- the types are lighter than this
+abbrev pub AreBelow : Collection → ℕ → List AnyType → Type 0
+AreBelow c n ts = AllByRecursion (λ t. type_weight c t < n) ts
+
+-- the types have trees
+abbrev pub AreThere : Collection → List AnyType → Type 0
+AreThere c ts = AllByRecursion (λ t. type_tree c t ≢ absent) ts
+
+-- E, which speaks of these types, does not hold
+pub record Refutes (x y : Collection) (xs ys : List AnyType) (E : Type 0) : Type 0 where
+  pub refutes : AreThere x xs → AreThere y ys → E → ⊥
+
+-- the questions after one was put
+pub record Puts (old new : List Question) (q : Question) : Type 0 where
+  pub added : List Question
+  pub grown : new ≡ old ++ added
+  pub only : AllByRecursion (λ r. r ≡ q) added
+  pub there : Contains new q

@@ -1,0 +1,55 @@
+-- What was asked settles statements: they hold only where the answers to the new questions are yes, and do where all are.
+use Rattle.std.specs.Prelude.{ℕ, ◌<◌, ◌≤◌, ◌≡◌, Bool, true, not, List, ◌++◌, ◌⊎◌}
+use Rattle.std.specs.List.{AllByRecursion}
+use Rattle.wac_comparison.specs.declared.questions.Question.{Question}
+use Rattle.wac_comparison.specs.declared.questions.Asked.{Asked}
+use Rattle.wac_comparison.specs.declared.classes.Node.{Node}
+use Rattle.wac_shapes.specs.declared.component.«Type».{«Type» as AnyType}
+use Rattle.wac_collection.specs.Collection.{Collection, holds_type}
+use Rattle.wac_subtyping.specs.Subtype.{type_tree}
+use Rattle.wac_comparison.specs.Weights.{type_weight}
+use Rattle.wac_comparison.specs.Questions.{in_order, IsEnd, IsYes, IsYesBelow, IsPlainType, IsAskableQuestion, AreHeld, AreBelow, Puts}
+use Rattle.wac_comparison.specs.Classes.{AreLinked, AreSame}
+
+-- the types that are joined are the same, where the answers are yes
+abbrev pub AreJoined : Collection × Collection → Asked → Type 0
+AreJoined p s = AreLinked p s.questions.keys s.classes.links.entries
+
+-- The questions after some were added that settle E: E holds only where these are answered yes, and does where all are that have a type lighter than n.
+pub record Settles (p : Collection × Collection) (n : ℕ) (old new : Asked) (E : Type 0) : Type 0 where
+  pub added : List Question
+  pub grown : new.questions.keys ≡ old.questions.keys ++ added
+  pub asked : AllByRecursion (IsAskableQuestion p) added
+  pub joined : AreJoined p old → AreJoined p new
+  pub complete : E → AllByRecursion (IsYes p) added
+  pub sound : AreJoined p old → AllByRecursion (IsYesBelow p n) new.questions.keys → E
+
+-- the questions after some were added that settle E, which speaks of these types of the one collection and of the other
+pub record Asks (turned : Bool) (x y : Collection) (xs ys : List AnyType) (old new : Asked) (E : Type 0) : Type 0 where
+  pub settles : (n : ℕ) → AreHeld x xs → AreHeld y ys → AreBelow x n xs ⊎ AreBelow y n ys → Settles (in_order turned x y) n old new E
+
+-- the same, where E is the answer for these two types and speaks of what they mention
+pub record RestsOn (turned : Bool) (x y : Collection) (a b : AnyType) (old new : Asked) (E : Type 0) : Type 0 where
+  pub settles : (n : ℕ) → (type_weight x a ≤ n) ⊎ (type_weight y b ≤ n) → Settles (in_order turned x y) n old new E
+
+-- the type at the end of the aliases of a type
+pub record HasEnd (c : Collection) (t e : AnyType) : Type 0 where
+  pub end : IsEnd c e
+  pub held : holds_type c t ≡ true → holds_type c e ≡ true
+  pub is : holds_type c t ≡ true → type_tree c t ≡ type_tree c e
+  pub weight : holds_type c t ≡ true → type_weight c t ≡ type_weight c e
+
+-- the types of a question as nodes
+abbrev pub first_node : Question → Node
+first_node q = record { turned = q.turned; ty = q.first }
+
+abbrev pub second_node : Question → Node
+second_node q = record { turned = not q.turned; ty = q.second }
+
+-- What was asked after a question whether types are the same was put: it was added, or the answer follows from what was asked.
+pub record PutsPlain (old new : Asked) (q : Question) : Type 0 where
+  pub added : List Question
+  pub grown : new.questions.keys ≡ old.questions.keys ++ added
+  pub only : AllByRecursion (λ r. r ≡ q) added
+  pub joined : (p : Collection × Collection) → IsPlainType q.first → IsPlainType q.second → AreJoined p old → AreJoined p new
+  pub same : (p : Collection × Collection) → IsPlainType q.first → IsPlainType q.second → AreJoined p old → AreSame p new.questions.keys (first_node q) (second_node q)

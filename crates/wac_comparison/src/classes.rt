@@ -1,0 +1,141 @@
+//! Which types are asked to be equal, in classes: of each type the class has another that stands above it, up to one that stands above all.
+ghost use Rattle.std.specs.Prelude.{◌≡◌, ◌<◌, [], length, IfOk};
+ghost use Rattle.indexmap.specs.IndexMap.{set_value_at};
+ghost use Rattle.wac_comparison.specs.Classes.{AddsNode, HasLink, LeadsTo, PutsBelow, Joins};
+
+use indexmap::IndexMap;
+use std::alloc::{AllocError, Global};
+use wac_collection::Type;
+
+/// A type of one of two collections.
+#[derive(Clone, Copy, PartialEq, Eq, Hash)]
+pub struct Node {
+    /// Whether it is of the second collection.
+    pub turned: bool,
+    /// The type.
+    pub ty: Type,
+}
+
+/// What is known of a node in its class.
+#[derive(Clone, Copy)]
+pub struct Link {
+    /// The position of the node above it; its own, where none is.
+    pub above: usize,
+    /// How many nodes there were in the class of which it was last above all.
+    pub size: usize,
+}
+
+/// The classes of types that are asked to be equal.
+#[derive(Drop)]
+pub struct Classes {
+    /// What is known of each node.
+    pub links: IndexMap<Node, Link>,
+}
+
+impl Classes {
+    /// No classes.
+    pub(crate) fn new(alloc: Global) -> Classes
+        ensures { result.links.entries ≡ [] }
+    {
+        Classes {
+            links: IndexMap::new(alloc),
+        }
+    }
+
+    // The position of a node, which comes into a class of its own where it is in none.
+    fn position(&mut self, node: Node) -> Result<usize, AllocError>
+        ensures { IfOk result (λ i. AddsNode self.old.links.entries self.new.links.entries node i) }
+    {
+        let next = self.links.len();
+        match self.links.get_full(&node) {
+            Some((position, _, _)) => Ok(position),
+            None => {
+                let link = Link {
+                    above: next,
+                    size: 1,
+                };
+                match self.links.insert(node, link) {
+                    Ok(_) => Ok(next),
+                    Err(_) => Err(AllocError),
+                }
+            }
+        }
+    }
+
+    // The link of a node.
+    fn link(&self, position: usize) -> Link
+        requires { position < length self.now.links.entries }
+        ensures { HasLink self.now.links.entries position result }
+    {
+        *self.links.get_index(position).unwrap().1
+    }
+
+    // The position of the node above all in the class of a node.
+    fn top(&self, position: usize) -> usize
+        requires { position < length self.now.links.entries }
+        ensures within { result < length self.now.links.entries }
+        ensures leads { LeadsTo self.now.links.entries position result }
+    {
+        let mut top = position;
+        let mut link = self.link(position);
+        while let Some((_, above)) = self.links.get_index(link.above) {
+            if above.size <= link.size {
+                break;
+            }
+            top = link.above;
+            link = *above;
+        }
+        top
+    }
+
+    // Changes the link of a node.
+    fn set(&mut self, position: usize, link: Link)
+        requires { position < length self.old.links.entries }
+        ensures { self.new.links.entries ≡ set_value_at self.old.links.entries position link }
+    {
+        self.links[position] = link;
+    }
+
+    // Puts one node, and with it its class, below another.
+    fn put_below(&mut self, low: usize, high: usize)
+        requires low { low < length self.old.links.entries }
+        requires high { high < length self.old.links.entries }
+        ensures { PutsBelow self.old.links.entries self.new.links.entries low high }
+    {
+        let lower = self.link(low).size;
+        let higher = self.link(high).size;
+        self.set(
+            low,
+            Link {
+                above: high,
+                size: lower,
+            },
+        );
+        self.set(
+            high,
+            Link {
+                above: high,
+                size: higher.saturating_add(lower),
+            },
+        );
+    }
+
+    /// Joins the classes of two nodes. Answers whether they were two.
+    pub(crate) fn join(&mut self, a: Node, b: Node) -> Result<bool, AllocError>
+        ensures { IfOk result (λ apart. Joins self.old.links.entries self.new.links.entries a b apart) }
+    {
+        let first = self.position(a)?;
+        let second = self.position(b)?;
+        let first = self.top(first);
+        let second = self.top(second);
+        if first == second {
+            return Ok(false);
+        }
+        if self.link(first).size < self.link(second).size {
+            self.put_below(first, second);
+        } else {
+            self.put_below(second, first);
+        }
+        Ok(true)
+    }
+}

@@ -1,0 +1,412 @@
+//! What a comparison asks: types part by part, listed items name by name.
+ghost use Rattle.std.specs.Prelude.{◌≡◌, ◌≢◌, ◌+◌, ◌↔◌, [], ◌∷◌, map, not, true, None, Err, IfOk, IsTrue};
+ghost use Rattle.std.specs.Option.{option_copied};
+ghost use Rattle.wac_shapes.specs.Name.{find_name};
+ghost use Rattle.wac_collection.specs.Collection.{kind_types, value_types, and_maybe, seconds, case_values, func_mentions, defined_mentions, holds_type};
+ghost use Rattle.wac_shapes.specs.Kinds.{kind_type};
+ghost use Rattle.wac_collection.specs.Held.{resolved};
+ghost use Rattle.wac_subtyping.specs.Subtype.{Sub, type_tree, kind_tree, resource_names};
+ghost use Rattle.wac_collection.specs.Aliases.{aliased};
+ghost use Rattle.wac_comparison.specs.Compare.{value_in, optional_in, func_in, defined_in, entry_in, case_in, Offers};
+ghost use Rattle.wac_comparison.specs.Questions.{IsEnd, IsPlainType, Refutes};
+ghost use Rattle.wac_comparison.specs.Settling.{Asks, RestsOn, HasEnd};
+ghost use Rattle.wac_shapes.specs.declared.component.«Type».TheVariants as ty;
+
+use crate::fault::TypeFault;
+use crate::questions::{Asked, Question};
+use crate::small::has_small_parts;
+use wac_collection::{
+    DefinedType, FuncType, FuncTypeId, ItemKind, Labels, Named, PrimitiveType, ResourceId, Type,
+    Types, ValueType,
+};
+
+/// A comparison of types of two collections: the first is asked to be a subtype of the second, or the same.
+#[derive(Clone, Copy)]
+pub struct Comparison<'a> {
+    /// Whether the collections stand in the other order than those of the first question.
+    pub turned: bool,
+    /// The collection of the first type.
+    pub first: &'a Types,
+    /// The collection of the second type.
+    pub second: &'a Types,
+}
+
+impl<'a> Comparison<'a> {
+    /// The comparison with its collections in the other order.
+    pub fn turned(self) -> Comparison<'a>
+        ensures turned { result.turned ≡ not self.entry.turned }
+        ensures first { result.first.now ≡ self.entry.second.now }
+        ensures second { result.second.now ≡ self.entry.first.now }
+    {
+        Comparison {
+            turned: !self.turned,
+            first: self.second,
+            second: self.first,
+        }
+    }
+
+    // Asks whether one type is a subtype of another.
+    fn ask_type(self, asked: &mut Asked, a: Type, b: Type) -> Result<(), TypeFault>
+        ensures asked { IfOk result (λ _. Asks self.entry.turned self.entry.first.now self.entry.second.now (a ∷ []) (b ∷ []) asked.old asked.new (Sub (type_tree self.entry.first.now a) (type_tree self.entry.second.now b))) }
+        ensures no_mismatch { result ≢ Err TypeFault.Mismatch }
+    {
+        let first = end(self.first, a);
+        let second = end(self.second, b);
+        let question = Question {
+            turned: self.turned,
+            first,
+            second,
+        };
+        if are_plain(first, second) {
+            return asked.put_plain(question);
+        }
+        asked.put(question)
+    }
+
+    /// Asks whether one value type is another, which is a question of its own unless both are primitives.
+    pub(crate) fn ask_part(
+        self,
+        asked: &mut Asked,
+        v: ValueType,
+        w: ValueType,
+    ) -> Result<(), TypeFault>
+        ensures asked { IfOk result (λ _. Asks self.entry.turned self.entry.first.now self.entry.second.now (ty.Value v ∷ []) (ty.Value w ∷ []) asked.old asked.new (value_in self.entry.first.now v ≡ value_in self.entry.second.now w)) }
+        ensures mismatch { result ≡ Err TypeFault.Mismatch → value_in self.entry.first.now v ≡ value_in self.entry.second.now w → ⊥ }
+    {
+        match (v, w) {
+            (ValueType::Primitive(p), ValueType::Primitive(q)) => same_primitive(p, q),
+            _ => self.ask_type(asked, Type::Value(v), Type::Value(w)),
+        }
+    }
+
+    // Asks whether both are there and one is the other, or neither is there.
+    fn ask_optional(
+        self,
+        asked: &mut Asked,
+        v: Option<ValueType>,
+        w: Option<ValueType>,
+    ) -> Result<(), TypeFault>
+        ensures asked { IfOk result (λ _. Asks self.entry.turned self.entry.first.now self.entry.second.now (value_types (and_maybe v [])) (value_types (and_maybe w [])) asked.old asked.new (optional_in self.entry.first.now v ≡ optional_in self.entry.second.now w)) }
+        ensures mismatch { result ≡ Err TypeFault.Mismatch → Refutes self.entry.first.now self.entry.second.now (value_types (and_maybe v [])) (value_types (and_maybe w [])) (optional_in self.entry.first.now v ≡ optional_in self.entry.second.now w) }
+    {
+        match (v, w) {
+            (None, None) => Ok(()),
+            (Some(v), Some(w)) => self.ask_value(asked, v, w),
+            _ => Err(TypeFault::Mismatch),
+        }
+    }
+
+    // Asks whether the value types of one list are those of the other.
+    fn ask_values(
+        self,
+        asked: &mut Asked,
+        vs: &[ValueType],
+        ws: &[ValueType],
+    ) -> Result<(), TypeFault>
+        ensures asked { IfOk result (λ _. Asks self.entry.turned self.entry.first.now self.entry.second.now (value_types vs.now) (value_types ws.now) asked.old asked.new (map (value_in self.entry.first.now) vs.now ≡ map (value_in self.entry.second.now) ws.now)) }
+        ensures mismatch { result ≡ Err TypeFault.Mismatch → map (value_in self.entry.first.now) vs.now ≡ map (value_in self.entry.second.now) ws.now → ⊥ }
+    {
+        if vs.len() != ws.len() {
+            return Err(TypeFault::Mismatch);
+        }
+        for i in 0..vs.len() {
+            self.ask_value(asked, vs[i], ws[i])?;
+        }
+        Ok(())
+    }
+
+    // Asks whether the names of one list are those of the other, and the value types under them.
+    fn ask_named(
+        self,
+        asked: &mut Asked,
+        vs: &Named<ValueType>,
+        ws: &Named<ValueType>,
+    ) -> Result<(), TypeFault>
+        ensures asked { IfOk result (λ _. Asks self.entry.turned self.entry.first.now self.entry.second.now (value_types (seconds vs.now)) (value_types (seconds ws.now)) asked.old asked.new (map (entry_in self.entry.first.now) vs.now ≡ map (entry_in self.entry.second.now) ws.now)) }
+        ensures mismatch { result ≡ Err TypeFault.Mismatch → map (entry_in self.entry.first.now) vs.now ≡ map (entry_in self.entry.second.now) ws.now → ⊥ }
+    {
+        if vs.len() != ws.len() {
+            return Err(TypeFault::Mismatch);
+        }
+        for i in 0..vs.len() {
+            let (name, v) = vs.entry_at(i);
+            let (other, w) = ws.entry_at(i);
+            if name != other {
+                return Err(TypeFault::Mismatch);
+            }
+            self.ask_value(asked, *v, *w)?;
+        }
+        Ok(())
+    }
+
+    // Asks whether the cases of one variant are those of the other.
+    fn ask_cases(
+        self,
+        asked: &mut Asked,
+        cs: &Named<Option<ValueType>>,
+        ds: &Named<Option<ValueType>>,
+    ) -> Result<(), TypeFault>
+        ensures asked { IfOk result (λ _. Asks self.entry.turned self.entry.first.now self.entry.second.now (value_types (case_values cs.now)) (value_types (case_values ds.now)) asked.old asked.new (map (case_in self.entry.first.now) cs.now ≡ map (case_in self.entry.second.now) ds.now)) }
+        ensures mismatch { result ≡ Err TypeFault.Mismatch → Refutes self.entry.first.now self.entry.second.now (value_types (case_values cs.now)) (value_types (case_values ds.now)) (map (case_in self.entry.first.now) cs.now ≡ map (case_in self.entry.second.now) ds.now) }
+    {
+        if cs.len() != ds.len() {
+            return Err(TypeFault::Mismatch);
+        }
+        for i in 0..cs.len() {
+            if cs.name_at(i) != ds.name_at(i) {
+                return Err(TypeFault::Mismatch);
+            }
+            self.ask_optional(asked, *cs.value_at(i), *ds.value_at(i))?;
+        }
+        Ok(())
+    }
+
+    /// Asks whether one function type is the other.
+    pub fn ask_func(self, asked: &mut Asked, f: &FuncType, g: &FuncType) -> Result<(), TypeFault>
+        ensures asked { IfOk result (λ _. Asks self.entry.turned self.entry.first.now self.entry.second.now (func_mentions f.now) (func_mentions g.now) asked.old asked.new (func_in self.entry.first.now f.now ≡ func_in self.entry.second.now g.now)) }
+        ensures mismatch { result ≡ Err TypeFault.Mismatch → Refutes self.entry.first.now self.entry.second.now (func_mentions f.now) (func_mentions g.now) (func_in self.entry.first.now f.now ≡ func_in self.entry.second.now g.now) }
+    {
+        if f.is_async != g.is_async {
+            return Err(TypeFault::Mismatch);
+        }
+        self.ask_optional(asked, f.result, g.result)?;
+        self.ask_named(asked, &f.params, &g.params)
+    }
+
+    // Asks whether one function type is the other. Those of few parameters under short names are looked into at once.
+    fn ask_func_type(self, asked: &mut Asked, i: FuncTypeId, j: FuncTypeId) -> Result<(), TypeFault>
+        ensures asked { IfOk result (λ _. Asks self.entry.turned self.entry.first.now self.entry.second.now (ty.Func i ∷ []) (ty.Func j ∷ []) asked.old asked.new (Sub (type_tree self.entry.first.now (ty.Func i)) (type_tree self.entry.second.now (ty.Func j)))) }
+        ensures mismatch { result ≡ Err TypeFault.Mismatch → Sub (type_tree self.entry.first.now (ty.Func i)) (type_tree self.entry.second.now (ty.Func j)) → ⊥ }
+    {
+        self.first.law();
+        self.second.law();
+        if !self.first.contains(Type::Func(i)) || !self.second.contains(Type::Func(j)) {
+            return self.ask_type(asked, Type::Func(i), Type::Func(j));
+        }
+        let f = &self.first[i];
+        let g = &self.second[j];
+        if !has_small_parts(&f.params) {
+            return self.ask_type(asked, Type::Func(i), Type::Func(j));
+        }
+        self.ask_func(asked, f, g)
+    }
+
+    // Asks whether one definition is the other; neither is an alias.
+    fn ask_defined(
+        self,
+        asked: &mut Asked,
+        d: &DefinedType,
+        e: &DefinedType,
+    ) -> Result<(), TypeFault>
+        requires first { aliased d.now ≡ None }
+        requires second { aliased e.now ≡ None }
+        ensures asked { IfOk result (λ _. Asks self.entry.turned self.entry.first.now self.entry.second.now (defined_mentions d.now) (defined_mentions e.now) asked.old asked.new (defined_in self.entry.first.now d.now ≡ defined_in self.entry.second.now e.now)) }
+        ensures mismatch { result ≡ Err TypeFault.Mismatch → Refutes self.entry.first.now self.entry.second.now (defined_mentions d.now) (defined_mentions e.now) (defined_in self.entry.first.now d.now ≡ defined_in self.entry.second.now e.now) }
+    {
+        match (d, e) {
+            (DefinedType::Tuple(vs), DefinedType::Tuple(ws)) => {
+                self.ask_values(asked, vs.as_slice(), ws.as_slice())
+            }
+            (DefinedType::List(v), DefinedType::List(w)) => self.ask_value(asked, *v, *w),
+            (DefinedType::FixedSizeList(v, m), DefinedType::FixedSizeList(w, n)) => {
+                if *m != *n {
+                    return Err(TypeFault::Mismatch);
+                }
+                self.ask_value(asked, *v, *w)
+            }
+            (DefinedType::Option(v), DefinedType::Option(w)) => self.ask_value(asked, *v, *w),
+            (DefinedType::Result { ok: v, err: f }, DefinedType::Result { ok: w, err: g }) => {
+                self.ask_optional(asked, *v, *w)?;
+                self.ask_optional(asked, *f, *g)
+            }
+            (DefinedType::Variant(v), DefinedType::Variant(w)) => {
+                self.ask_cases(asked, &v.cases, &w.cases)
+            }
+            (DefinedType::Record(v), DefinedType::Record(w)) => {
+                self.ask_named(asked, &v.fields, &w.fields)
+            }
+            (DefinedType::Flags(v), DefinedType::Flags(w)) => ask_labels(&v.0, &w.0),
+            (DefinedType::Enum(v), DefinedType::Enum(w)) => ask_labels(&v.0, &w.0),
+            (DefinedType::Stream(v), DefinedType::Stream(w)) => self.ask_optional(asked, *v, *w),
+            (DefinedType::Future(v), DefinedType::Future(w)) => self.ask_optional(asked, *v, *w),
+            _ => Err(TypeFault::Mismatch),
+        }
+    }
+
+    /// Asks whether two resources have the same name at the ends of their aliases.
+    pub fn ask_resource(self, r: ResourceId, s: ResourceId) -> Result<(), TypeFault>
+        requires first { holds_type self.first.now (ty.Resource r) ≡ true }
+        requires second { holds_type self.second.now (ty.Resource s) ≡ true }
+        ensures same { IfOk result (λ _. resource_names self.entry.first.now (resolved self.entry.first.now r) ≡ resource_names self.entry.second.now (resolved self.entry.second.now s)) }
+        ensures mismatch { result ≡ Err TypeFault.Mismatch → resource_names self.entry.first.now (resolved self.entry.first.now r) ≡ resource_names self.entry.second.now (resolved self.entry.second.now s) → ⊥ }
+    {
+        if same_resource(r, self.first, s, self.second) {
+            Ok(())
+        } else {
+            Err(TypeFault::Mismatch)
+        }
+    }
+
+    /// Asks whether one item is a subtype of the other.
+    pub fn ask_kinds(self, asked: &mut Asked, x: ItemKind, y: ItemKind) -> Result<(), TypeFault>
+        ensures asked { IfOk result (λ _. Asks self.entry.turned self.entry.first.now self.entry.second.now (kind_type x ∷ []) (kind_type y ∷ []) asked.old asked.new (Sub (kind_tree self.entry.first.now x) (kind_tree self.entry.second.now y))) }
+        ensures mismatch { result ≡ Err TypeFault.Mismatch → Sub (kind_tree self.entry.first.now x) (kind_tree self.entry.second.now y) → ⊥ }
+    {
+        match (x, y) {
+            (ItemKind::TypeItem(a), ItemKind::TypeItem(b)) => {
+                self.ask_type(asked, a, b)?;
+                self.turned().ask_type(asked, b, a)
+            }
+            (ItemKind::Func(i), ItemKind::Func(j)) => self.ask_func_type(asked, i, j),
+            (ItemKind::Instance(i), ItemKind::Instance(j)) => {
+                self.ask_type(asked, Type::Interface(i), Type::Interface(j))
+            }
+            (ItemKind::Component(i), ItemKind::Component(j)) => {
+                self.ask_type(asked, Type::World(i), Type::World(j))
+            }
+            (ItemKind::Module(i), ItemKind::Module(j)) => {
+                self.ask_type(asked, Type::Module(i), Type::Module(j))
+            }
+            (ItemKind::Value(v), ItemKind::Value(w)) => self.ask_value(asked, v, w),
+            _ => Err(TypeFault::Mismatch),
+        }
+    }
+
+    /// Asks whether each item of the second list is offered by the first.
+    pub fn ask_items(
+        self,
+        asked: &mut Asked,
+        xs: &Named<ItemKind>,
+        ys: &Named<ItemKind>,
+    ) -> Result<(), TypeFault>
+        ensures asked { IfOk result (λ _. Asks self.entry.turned self.entry.first.now self.entry.second.now (kind_types xs.now) (kind_types ys.now) asked.old asked.new (Offers self.entry.first.now xs.now self.entry.second.now ys.now)) }
+        ensures mismatch { result ≡ Err TypeFault.Mismatch → Offers self.entry.first.now xs.now self.entry.second.now ys.now → ⊥ }
+    {
+        ys.law();
+        for i in 0..ys.len() {
+            match item_near(xs, i, ys.name_at(i)) {
+                Some(x) => self.ask_kinds(asked, *x, *ys.value_at(i))?,
+                None => return Err(TypeFault::Mismatch),
+            }
+        }
+        Ok(())
+    }
+
+    /// Asks what the answer for two value types rests on; neither is an alias.
+    pub fn answer_value(
+        self,
+        asked: &mut Asked,
+        v: ValueType,
+        w: ValueType,
+    ) -> Result<(), TypeFault>
+        requires first { holds_type self.first.now (ty.Value v) ≡ true }
+        requires second { holds_type self.second.now (ty.Value w) ≡ true }
+        requires first_end { IsEnd self.first.now (ty.Value v) }
+        requires second_end { IsEnd self.second.now (ty.Value w) }
+        ensures settled { IfOk result (λ _. RestsOn self.entry.turned self.entry.first.now self.entry.second.now (ty.Value v) (ty.Value w) asked.old asked.new (value_in self.entry.first.now v ≡ value_in self.entry.second.now w)) }
+        ensures mismatch { result ≡ Err TypeFault.Mismatch → value_in self.entry.first.now v ≡ value_in self.entry.second.now w → ⊥ }
+    {
+        self.first.law();
+        self.second.law();
+        match (v, w) {
+            (ValueType::Primitive(p), ValueType::Primitive(q)) => same_primitive(p, q),
+            (ValueType::Own(r), ValueType::Own(s)) => self.ask_resource(r, s),
+            (ValueType::Borrow(r), ValueType::Borrow(s)) => self.ask_resource(r, s),
+            (ValueType::Defined(d), ValueType::Defined(e)) => {
+                self.ask_defined(asked, &self.first[d], &self.second[e])
+            }
+            _ => Err(TypeFault::Mismatch),
+        }
+    }
+}
+
+// The type at the end of the aliases.
+fn end(types: &Types, ty: Type) -> Type
+    ensures { HasEnd types.now ty result }
+{
+    types.law();
+    match ty {
+        Type::Value(value) => Type::Value(types.resolve_value_type(value)),
+        _ => ty,
+    }
+}
+
+// Whether a type is a subtype of its equal alone.
+fn is_plain(ty: Type) -> bool
+    ensures { IsTrue result → IsPlainType ty }
+{
+    match ty {
+        Type::Resource(_) | Type::Func(_) | Type::Value(_) => true,
+        _ => false,
+    }
+}
+
+// Whether each is a subtype of its equal alone.
+fn are_plain(a: Type, b: Type) -> bool
+    ensures { IsTrue result → IsPlainType a × IsPlainType b }
+{
+    is_plain(a) && is_plain(b)
+}
+
+// Whether the names are the same, in the same order.
+fn same_labels(xs: &Labels, ys: &Labels) -> bool
+    ensures { IsTrue result ↔ (xs.now ≡ ys.now) }
+{
+    if xs.len() != ys.len() {
+        return false;
+    }
+    for i in 0..xs.len() {
+        if xs.name_at(i) != ys.name_at(i) {
+            return false;
+        }
+    }
+    true
+}
+
+// The same, with `Mismatch` for no.
+fn ask_labels(xs: &Labels, ys: &Labels) -> Result<(), TypeFault>
+    ensures same { IfOk result (λ _. xs.now ≡ ys.now) }
+    ensures mismatch { result ≡ Err TypeFault.Mismatch → xs.now ≡ ys.now → ⊥ }
+{
+    if same_labels(xs, ys) {
+        Ok(())
+    } else {
+        Err(TypeFault::Mismatch)
+    }
+}
+
+// Whether the resources at the ends of the aliases have the same name.
+fn same_resource(r: ResourceId, at: &Types, s: ResourceId, bt: &Types) -> bool
+    requires first { holds_type at.now (ty.Resource r) ≡ true }
+    requires second { holds_type bt.now (ty.Resource s) ≡ true }
+    ensures { IsTrue result ↔ (resource_names at.now (resolved at.now r) ≡ resource_names bt.now (resolved bt.now s)) }
+{
+    at.law();
+    bt.law();
+    let first = &at[at.resolve_resource(r)];
+    let second = &bt[bt.resolve_resource(s)];
+    first.name.as_str() == second.name.as_str()
+}
+
+// The item under a name, looked for at a position first.
+fn item_near<'a>(items: &'a Named<ItemKind>, index: usize, name: &str) -> Option<&'a ItemKind>
+    ensures { option_copied result ≡ find_name items.now name.now }
+{
+    items.law();
+    if index < items.len() && items.name_at(index) == name {
+        return Some(items.value_at(index));
+    }
+    items.get(name)
+}
+
+// Whether the primitives are the same.
+fn same_primitive(p: PrimitiveType, q: PrimitiveType) -> Result<(), TypeFault>
+    ensures same { IfOk result (λ _. p ≡ q) }
+    ensures mismatch { result ≡ Err TypeFault.Mismatch → p ≡ q → ⊥ }
+{
+    if p == q {
+        Ok(())
+    } else {
+        Err(TypeFault::Mismatch)
+    }
+}

@@ -1,0 +1,169 @@
+//! Subtyping between types of core modules.
+ghost use Rattle.std.specs.Prelude.{◌≡◌, ◌≤◌, ◌↔◌, IsTrue};
+ghost use Rattle.wac_collection.specs.Held.{core_item};
+ghost use Rattle.wac_subtyping.specs.Subtype.{IsCoreSubtype, IsMaximumWithin};
+ghost use Rattle.wac_comparison.specs.Compare.{IsTableSubtype, IsMemorySubtype, OffersCore, OffersModules};
+
+use wac_collection::{CoreExtern, CoreFuncType, CoreImports, CoreType, ModuleType, Named};
+
+// Whether a greatest size is one that the second allows.
+fn is_maximum_within(a: Option<u64>, b: Option<u64>) -> bool
+    ensures { IsTrue result ↔ IsMaximumWithin a b }
+{
+    match (a, b) {
+        (_, None) => true,
+        (None, Some(_)) => false,
+        (Some(a), Some(b)) => a <= b,
+    }
+}
+
+// Whether a size of at least `initial` and at most `maximum` is one of at least `least` and at most `most`.
+fn is_within(initial: u64, maximum: Option<u64>, least: u64, most: Option<u64>) -> bool
+    ensures { IsTrue result ↔ ((least ≤ initial) × IsMaximumWithin maximum most) }
+{
+    least <= initial && is_maximum_within(maximum, most)
+}
+
+// Whether the core types of one list are those of the other.
+fn same_core_types(xs: &[CoreType], ys: &[CoreType]) -> bool
+    ensures { IsTrue result ↔ (xs.now ≡ ys.now) }
+{
+    xs == ys
+}
+
+// Whether the parameters and results of one core function are those of the other.
+fn same_core_func(f: &CoreFuncType, g: &CoreFuncType) -> bool
+    ensures { IsTrue result ↔ ((f.now.params ≡ g.now.params) × (f.now.results ≡ g.now.results)) }
+{
+    same_core_types(f.params.as_slice(), g.params.as_slice())
+        && same_core_types(f.results.as_slice(), g.results.as_slice())
+}
+
+// Whether both are tables, and one is a subtype of the other.
+fn is_table_subtype(x: &CoreExtern, y: &CoreExtern) -> bool
+    ensures { IsTrue result ↔ IsTableSubtype (core_item x.now) (core_item y.now) }
+{
+    match (x, y) {
+        (
+            CoreExtern::Table {
+                element_type,
+                initial,
+                maximum,
+                table64,
+                shared,
+            },
+            CoreExtern::Table {
+                element_type: asked_type,
+                initial: least,
+                maximum: most,
+                table64: wide,
+                shared: together,
+            },
+        ) => {
+            *element_type == *asked_type
+                && *table64 == *wide
+                && *shared == *together
+                && is_within(*initial, *maximum, *least, *most)
+        }
+        _ => false,
+    }
+}
+
+// Whether both are memories, and one is a subtype of the other.
+fn is_memory_subtype(x: &CoreExtern, y: &CoreExtern) -> bool
+    ensures { IsTrue result ↔ IsMemorySubtype (core_item x.now) (core_item y.now) }
+{
+    match (x, y) {
+        (
+            CoreExtern::Memory {
+                memory64,
+                shared,
+                initial,
+                maximum,
+                page_size_log2,
+            },
+            CoreExtern::Memory {
+                memory64: wide,
+                shared: together,
+                initial: least,
+                maximum: most,
+                page_size_log2: page,
+            },
+        ) => {
+            *memory64 == *wide
+                && *shared == *together
+                && *page_size_log2 == *page
+                && is_within(*initial, *maximum, *least, *most)
+        }
+        _ => false,
+    }
+}
+
+// Whether one core item is a subtype of the other.
+fn is_core_subtype(x: &CoreExtern, y: &CoreExtern) -> bool
+    ensures { IsTrue result ↔ IsCoreSubtype (core_item x.now) (core_item y.now) }
+{
+    match (x, y) {
+        (CoreExtern::Func(f), CoreExtern::Func(g)) => same_core_func(f, g),
+        (CoreExtern::Tag(f), CoreExtern::Tag(g)) => same_core_func(f, g),
+        (CoreExtern::Table { .. }, CoreExtern::Table { .. }) => is_table_subtype(x, y),
+        (CoreExtern::Memory { .. }, CoreExtern::Memory { .. }) => is_memory_subtype(x, y),
+        (
+            CoreExtern::Global {
+                val_type,
+                mutable,
+                shared,
+            },
+            CoreExtern::Global {
+                val_type: asked_type,
+                mutable: settable,
+                shared: together,
+            },
+        ) => *val_type == *asked_type && *mutable == *settable && *shared == *together,
+        _ => false,
+    }
+}
+
+// Whether each core item of the second list is offered by the first.
+fn offers_core(xs: &Named<CoreExtern>, ys: &Named<CoreExtern>) -> bool
+    ensures { IsTrue result ↔ OffersCore xs.now ys.now }
+{
+    ys.law();
+    for i in 0..ys.len() {
+        match xs.get(ys.name_at(i)) {
+            Some(x) => {
+                if !is_core_subtype(x, ys.value_at(i)) {
+                    return false;
+                }
+            }
+            None => return false,
+        }
+    }
+    true
+}
+
+// The same by module and name.
+fn offers_modules(xs: &CoreImports<CoreExtern>, ys: &CoreImports<CoreExtern>) -> bool
+    ensures { IsTrue result ↔ OffersModules xs.now ys.now }
+{
+    ys.law();
+    for i in 0..ys.len() {
+        let ((source, name), y) = ys.entry_at(i);
+        match xs.get(source, name) {
+            Some(x) => {
+                if !is_core_subtype(x, y) {
+                    return false;
+                }
+            }
+            None => return false,
+        }
+    }
+    true
+}
+
+/// Whether one type of a core module is a subtype of the other.
+pub fn is_module_subtype(m: &ModuleType, n: &ModuleType) -> bool
+    ensures { IsTrue result ↔ (OffersModules n.now.imports m.now.imports × OffersCore m.now.exports n.now.exports) }
+{
+    offers_modules(&n.imports, &m.imports) && offers_core(&m.exports, &n.exports)
+}

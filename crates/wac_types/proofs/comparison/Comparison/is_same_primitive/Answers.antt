@@ -1,9 +1,0 @@
-use Rattle.std.proofs.Common.{◌∙◌, sym, rules}
-use denote.Enum.Bare.{same_true}
-use Rattle.wac_shapes.specs.contracts.component.PrimitiveType.{the_type}
-use Rattle.wac_types.proofs.Values.{primitives_along}
-use Rattle.wac_types.proofs.comparison.Comparison.is_same_primitive.Goals as goal
-
-pub returns-in-Primitive-Primitive : goal.returns-in-Primitive-Primitive
-returns-in-Primitive-Primitive c = λ h. primitives_along c.args.self.first.now c.args.self.second.now c.args.v c.args.w _ _ c.in-Primitive-Primitive.is-0 c.in-Primitive-Primitive.is-1
-    (same_true the_type (search rules) c.in-Primitive-Primitive.p c.in-Primitive-Primitive.q (sym c.eq.ensures ∙ h))

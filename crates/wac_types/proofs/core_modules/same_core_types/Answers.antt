@@ -1,5 +1,0 @@
-use Rattle.wac_types.proofs.CoreTypes.{core_lists}
-use Rattle.wac_types.proofs.core_modules.same_core_types.Goals as goal
-
-pub returns : goal.returns
-returns c = core_lists c.args.xs.now c.args.ys.now c.eq.result c.eq.ensures

@@ -1,0 +1,73 @@
+//! What the answer to a question of a comparison rests on.
+ghost use Rattle.std.specs.Prelude.{◌≡◌, true, Err, IfOk};
+ghost use Rattle.wac_collection.specs.Collection.{holds_type, world_mentions};
+ghost use Rattle.wac_comparison.specs.Compare.{world_in};
+ghost use Rattle.wac_comparison.specs.Questions.{IsEnd};
+ghost use Rattle.wac_comparison.specs.Settling.{Asks, RestsOn};
+ghost use Rattle.wac_subtyping.specs.Subtype.{Sub, type_tree};
+
+use wac_collection::{Type, World};
+use wac_comparison::{Asked, Comparison, TypeFault, is_module_subtype};
+
+/// Asks what the answer to a question rests on.
+pub(crate) fn answer(
+    comparison: Comparison<'_>,
+    asked: &mut Asked,
+    a: Type,
+    b: Type,
+) -> Result<(), TypeFault>
+    requires first { holds_type comparison.first.now a ≡ true }
+    requires second { holds_type comparison.second.now b ≡ true }
+    requires first_end { IsEnd comparison.first.now a }
+    requires second_end { IsEnd comparison.second.now b }
+    ensures settled { IfOk result (λ _. RestsOn comparison.entry.turned comparison.entry.first.now comparison.entry.second.now a b asked.old asked.new (Sub (type_tree comparison.entry.first.now a) (type_tree comparison.entry.second.now b))) }
+    ensures mismatch { result ≡ Err TypeFault.Mismatch → Sub (type_tree comparison.entry.first.now a) (type_tree comparison.entry.second.now b) → ⊥ }
+{
+    comparison.first.law();
+    comparison.second.law();
+    match (a, b) {
+        (Type::Resource(r), Type::Resource(s)) => comparison.ask_resource(r, s),
+        (Type::Func(f), Type::Func(g)) => {
+            comparison.ask_func(asked, &comparison.first[f], &comparison.second[g])
+        }
+        (Type::Value(v), Type::Value(w)) => comparison.answer_value(asked, v, w),
+        (Type::Interface(i), Type::Interface(j)) => {
+            comparison.ask_items(
+                asked,
+                &comparison.first[i].exports,
+                &comparison.second[j].exports,
+            )
+        }
+        (Type::World(w), Type::World(v)) => {
+            ask_worlds(
+                comparison,
+                asked,
+                &comparison.first[w],
+                &comparison.second[v],
+            )
+        }
+        (Type::Module(m), Type::Module(n)) => {
+            if is_module_subtype(&comparison.first[m], &comparison.second[n]) {
+                Ok(())
+            } else {
+                Err(TypeFault::Mismatch)
+            }
+        }
+        _ => Err(TypeFault::Mismatch),
+    }
+}
+
+// Asks whether one world is a subtype of the other.
+fn ask_worlds(
+    comparison: Comparison<'_>,
+    asked: &mut Asked,
+    w: &World,
+    v: &World,
+) -> Result<(), TypeFault>
+    ensures asked { IfOk result (λ _. Asks comparison.entry.turned comparison.entry.first.now comparison.entry.second.now (world_mentions w.now) (world_mentions v.now) asked.old asked.new (Sub (world_in comparison.entry.first.now w.now) (world_in comparison.entry.second.now v.now))) }
+    ensures mismatch { result ≡ Err TypeFault.Mismatch → Sub (world_in comparison.entry.first.now w.now) (world_in comparison.entry.second.now v.now) → ⊥ }
+{
+    let turned = comparison.turned();
+    turned.ask_items(asked, &v.imports, &w.imports)?;
+    comparison.ask_items(asked, &w.exports, &v.exports)
+}
