@@ -4,4 +4,8 @@
 #[cfg(test)]
 mod names;
 #[cfg(test)]
+mod plain;
+#[cfg(test)]
+mod rows;
+#[cfg(test)]
 mod validation;

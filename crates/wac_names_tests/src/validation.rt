@@ -1,10 +1,11 @@
 //! Names that may stand together, and the first fault of others.
+use crate::rows::{assert_displayed, assert_row};
 use std::alloc::Global;
 use std::process::Abort;
 use wac_validation::{ValidationError, ValidationFault, validate};
 
 /// What is answered, with the names of a fault.
-#[derive(Clone, Copy, Debug, PartialEq, Eq)]
+#[derive(Clone, Copy, PartialEq, Eq)]
 enum Answer<'a> {
     Valid,
     BadName(&'a str),
@@ -118,56 +119,60 @@ fn names<'a>(rt: &(impl Abort + AllocGlobal), text: &'a str) -> Vec<&'a str> {
         .expect(rt, "names")
 }
 
+fn is_answered(alloc: Global, imports: &[&str], exports: &[&str], want: Answer<'_>) -> bool {
+    seen(&answered(alloc, imports, exports)) == want
+}
+
+fn assert_answered(
+    rt: &(impl Abort + AllocGlobal),
+    imports: &str,
+    exports: &str,
+    want: Answer<'_>,
+) {
+    let into = names(rt, imports);
+    let out = names(rt, exports);
+    let holds = is_answered(rt.alloc(), into.as_slice(), out.as_slice(), want);
+    assert_row(rt, holds, imports, exports);
+}
+
 #[test]
 fn examples(rt: HostRuntime) {
     for (imports, exports, want) in TABLE {
-        let into = names(&rt, imports);
-        let out = names(&rt, exports);
-        let answer = answered(rt.alloc(), &into, &out);
-        assert_eq!(rt; seen(&answer), *want, "at {imports} and {exports}");
+        assert_answered(&rt, imports, exports, *want);
     }
 }
 
-/// Names and their constructors.
-fn many(rt: &(impl Abort + AllocGlobal)) -> Vec<String> {
-    let mut made = Vec::new(rt.alloc());
+/// Names and their constructors, and one name behind them.
+fn many(rt: &(impl Abort + AllocGlobal), last: &str) -> String {
+    let mut made = String::new(rt.alloc());
     for i in 0..1000u32 {
-        let name = format!(in rt.alloc(); "n{i}").expect(rt, "a name");
-        made.push(name).expect(rt, "room for a name");
-        let name = format!(in rt.alloc(); "[constructor]n{i}").expect(rt, "a name");
-        made.push(name).expect(rt, "room for a name");
+        let names = format!(in rt.alloc(); "n{i} [constructor]n{i} ").expect(rt, "names");
+        made.push_str(names.as_str()).expect(rt, "room for names");
     }
+    made.push_str(last).expect(rt, "room for a name");
     made
 }
 
 #[test]
 fn many_names(rt: HostRuntime) {
-    let made = many(&rt);
-    let mut texts = Vec::new(rt.alloc());
-    for name in &made {
-        texts.push(name.as_str()).expect(&rt, "room for a text");
-    }
-    let valid = answered(rt.alloc(), &texts, &texts);
-    assert_eq!(rt; seen(&valid), Answer::Valid);
-    texts.push("N7").expect(&rt, "room for a text");
-    let clash = answered(rt.alloc(), &[], &texts);
-    assert_eq!(rt; seen(&clash), Answer::Clash("n7", "N7"));
+    let valid = many(&rt, "");
+    assert_answered(&rt, valid.as_str(), valid.as_str(), Answer::Valid);
+    let clash = many(&rt, "N7");
+    assert_answered(&rt, "", clash.as_str(), Answer::Clash("n7", "N7"));
 }
 
-const FAULTS: &[(&str, &str, &str)] = &[
-    ("1a", "", "BadName"),
-    ("a a", "", "Clash"),
-    ("", "url=<>", "NotExportable"),
+const FAULTS: &[(&[&str], &[&str], &str)] = &[
+    (&["1a"], &[], "BadName"),
+    (&["a", "a"], &[], "Clash"),
+    (&[], &["url=<>"], "NotExportable"),
 ];
 
 #[test]
 fn faults_display_their_names(rt: HostRuntime) {
     for (imports, exports, want) in FAULTS {
-        let into = names(&rt, imports);
-        let out = names(&rt, exports);
-        if let Err(ValidationError::Fault { source }) = answered(rt.alloc(), &into, &out) {
-            let text = format!(in rt.alloc(); "{source}").expect(&rt, "a text");
-            assert_eq!(rt; text.as_str(), *want);
-        }
+        let Err(ValidationError::Fault { source }) = answered(rt.alloc(), imports, exports) else {
+            panic!(rt; "no fault: {want}");
+        };
+        assert_displayed(&rt, &source, want);
     }
 }
