@@ -1,14 +1,17 @@
 -- No entries have a merge, whatever types there are, and it is the same over all of them.
-use Rattle.std.proofs.Common.{◌≡◌, ◌==◌, ℕ, suc, List, [], ◌∷◌, length, map, true, false, Some, ap, sym, subst, ◌∙◌, arith}
+use Rattle.std.proofs.Common.{◌≡◌, ◌==◌, ℕ, suc, List, [], ◌∷◌, length, map, true, false, Some, refl, ap, sym, refl, subst, ◌∙◌, arith}
 use Rattle.std.specs.Prelude.{slice_get}
 use Rattle.std.proofs.lemmas.Bool.{false≢true}
 use Rattle.wac_cycles.specs.Cycles.{Path, step, further}
 use Rattle.wac_shapes.specs.Name.{Name}
-use Rattle.wac_collection.specs.Collection.{Collection}
+use Rattle.wac_shapes.specs.declared.component.InterfaceId.{InterfaceId}
+use Rattle.wac_collection.specs.Collection.{Collection, interface_exports}
 use Rattle.wac_entries.specs.Classes.{Entry, by_names, class_names}
 use Rattle.wac_terms.specs.ClassOrder.{RestsOn, by_use, by_resource, grouped}
-use Rattle.wac_terms.specs.Merge.{Merged, IsMerge}
+use Rattle.wac_terms.specs.Merge.{Merged, IsMerge, names_behind}
+use Rattle.wac_uses.specs.United.{listed_by}
 use Rattle.wac_terms.specs.NoDisagreement.{HasNoDisagreement}
+use Rattle.wac_merge.specs.Listed.{AreListedInOrder, Unites, as_import, inside, united_interfaces}
 use Rattle.wac_agreement.specs.Faults.{Fault, disagree, use_each_other, HasFault, HasNoCircle}
 use Rattle.wac_agreement.proofs.OrderLaws.{arranges_alike}
 use Rattle.wac_nodes.specs.Graph.{Graph}
@@ -51,6 +54,23 @@ nothing_merges c d m h = record {
   subtypes = λ p k class e ordered named there. absurd (no_class k class named);
 }
 
+-- its interfaces unite none, over whatever types
+none_listed : (c : Collection) (is : List InterfaceId) (n : Name) → is ≡ [] → united_interfaces (listed_by c is n) ≡ []
+none_listed c is n none = ap (λ js. united_interfaces (listed_by c js n)) none
+
+unites_nothing : (c d : Collection) (m : Merged) (w : InterfaceId) (is : List InterfaceId) → Unites by_names c [] m w is → (is ≡ []) × Unites by_names d [] m w is
+unites_nothing c d m w is (as_import p e x at of_kind) = (refl, as_import p e x at of_kind)
+unites_nothing c d m w is (inside x v js it n k around at found of_kind) =
+    let (none, other) = unites_nothing c d m x js around in (
+      none_listed c js n none,
+      subst (λ (ks : List InterfaceId). Unites by_names d [] m v ks) (none_listed d js n none ∙ sym (none_listed c js n none)) (inside x v js it n k other at found of_kind),
+    )
+
+nothing_listed : (c d : Collection) (m : Merged) → AreListedInOrder by_names d [] m → AreListedInOrder by_names c [] m
+nothing_listed c d m h w is it united at =
+    let (none, other) = unites_nothing c d m w is united in
+    h w is it other at ∙ ap (λ js. names_behind [] (map (interface_exports d) js)) none ∙ sym (ap (λ js. names_behind [] (map (interface_exports c) js)) none)
+
 -- a graph that asks for nothing
 pub none_asked : {A B : Type 0} (f : A → B) (xs : List A) (ys : List B) → (length xs == 0) ≡ true → map f xs ≡ ys → ys ≡ []
 none_asked f [] ys empty same = sym same
@@ -67,3 +87,8 @@ pub merges_nothing : (g : Graph) (d : Collection) (es : List Entry) (m : Merged)
 merges_nothing g d es m none are h =
     let same : outer_entries g ≡ [] = ap to_merge none in
     subst (λ (l : List Entry). IsMerge by_names g.types l m) (sym same) (nothing_merges g.types d m (subst (λ (l : List Entry). IsMerge by_names d l m) are h))
+
+pub lists_nothing : (g : Graph) (d : Collection) (es : List Entry) (m : Merged) → asked_entries g ≡ [] → es ≡ [] → AreListedInOrder by_names d es m → AreListedInOrder by_names g.types (outer_entries g) m
+lists_nothing g d es m none are h =
+    let same : outer_entries g ≡ [] = ap to_merge none in
+    subst (λ (l : List Entry). AreListedInOrder by_names g.types l m) (sym same) (nothing_listed g.types d m (subst (λ (l : List Entry). AreListedInOrder by_names d l m) are h))

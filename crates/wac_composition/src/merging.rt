@@ -16,6 +16,7 @@ use crate::graph::CompositionGraph;
 use std::alloc::AllocError;
 use wac_asking::AskedEntry;
 use wac_causes::EncodeError;
+use wac_merge::laws::listed_law;
 use wac_merge::{MergeFault, TypeAggregator};
 use wac_nodes::NodeId;
 use wac_types::Types;
@@ -44,6 +45,7 @@ impl CompositionGraph {
                 exports_law(&self.types);
                 exports_law(merge.types());
                 merge.types().law();
+                listed_law();
                 Ok((merge, entries))
             }
             Err(fault) => Err(self.merge_error(entries.as_slice(), fault)?),
@@ -64,6 +66,7 @@ impl CompositionGraph {
             Ok(merge) => {
                 exports_law(merge.types());
                 merge.types().law();
+                listed_law();
                 Ok(merge)
             }
             Err(MergeFault::OutOfMemory) => Err(EncodeError::OutOfMemory),

@@ -4,6 +4,7 @@ use Rattle.std.specs.Prelude.{slice_get}
 use Rattle.wac_shapes.specs.Name.{Name, option_case}
 use Rattle.wac_shapes.specs.declared.component.FuncType.{FuncType}
 use Rattle.wac_shapes.specs.declared.component.Interface.{Interface}
+use Rattle.wac_shapes.specs.declared.component.InterfaceId.{InterfaceId}
 use Rattle.wac_shapes.specs.declared.component.ItemKind.{ItemKind}
 use Rattle.wac_shapes.specs.declared.component.ItemKind.TheVariants as kind
 use Rattle.wac_shapes.specs.declared.component.PrimitiveType.TheVariants as primitive
@@ -32,7 +33,7 @@ use Rattle.wac_stacks.proofs.StepLaws.{is-its-tree}
 use Rattle.wac_scopes.specs.Contents.{content_of, and_type, and_export, count}
 use Rattle.wac_scopes.specs.Scoped.{listed_at, recorded_type, place, opened, type_index, value_index, listing, by_index, HasToo}
 use Rattle.wac_encode.specs.Written.{NewType, defined, aliased, with_types, missing_below, unwritten, IsWrittenAt, IsWrittenAs, IsFuncFrom, IsFuncByRecord, EndsWithFunc}
-use Rattle.wac_encode.specs.Listing.{around_at, IsOrder, IsDescribed, IsNamedOnce, WritesItem, WritesItems, WritesInterface}
+use Rattle.wac_encode.specs.Listing.{around_at, IsOrder, IsDescribed, IsNamedOnce, WritesItem, WritesItems, WritesListed, WritesInterfaceTo, WritesInterface}
 use Rattle.wac_encode_examples.proofs.Apart.{no_flag, no_entry, one_entry, two_numbers}
 use Rattle.wac_encode_examples.proofs.EnumOrder.{no_other_order}
 use Rattle.wac_encode_examples.specs.EnumInterface.{the_enum, the_function, the_function_type, the_interface, the_interface_type, items, types, written_enum, function_of, NamesNothing}
@@ -64,7 +65,7 @@ at_next s a k i ys y one there = by_place there.0 there.1 there.2 (ap (λ (zs : 
 -- ---- the enum's item
 
 module _ (start named : Scope) (empty : start.content ≡ Instance []) (none : (a : AnyType) → type_index start a ≡ None) (unlisted : listing start (ty.Value (val.Defined the_enum)) ≡ None)
-    (w : WritesItem types start named (codes "t") (kind.TypeItem (ty.Value (val.Defined the_enum)))) where
+    (Inside : Scope → InterfaceId → List Decl → Type 0) (w : WritesItem Inside types start named (codes "t") (kind.TypeItem (ty.Value (val.Defined the_enum)))) where
   enum_described : (d : Description) → IsDescribed types start w.now (kind.TypeItem (ty.Value (val.Defined the_enum))) d → (i : ℕ) × (d ≡ e.Equal i) × (value_index w.now the_enum ≡ Some i)
   enum_described (e.Equal i) h = (i, refl, h)
   enum_described d h = absurd h
@@ -172,7 +173,7 @@ last_type (Component ds) t y c d is = cc
 
 module _ (named whole : Scope) (t : TypeDef) (content : named.content ≡ Instance (type_decl t ∷ export_decl (codes "t") (e.Equal 0) ∷ [])) (there : value_index named the_enum ≡ Some 1)
     (no_function : type_index named (ty.Func the_function) ≡ None) (no_interface : type_index named (ty.Interface the_interface) ≡ None)
-    (w : WritesItem types named whole (codes "f") (kind.Func the_function)) where
+    (Inside : Scope → InterfaceId → List Decl → Type 0) (w : WritesItem Inside types named whole (codes "f") (kind.Func the_function)) where
   function_described : (d : Description) → IsDescribed types named w.now (kind.Func the_function) d → (i : ℕ) × (d ≡ e.Func i) × IsFuncFrom (type_index named (ty.Func the_function)) types the_function named w.now i
   function_described (e.Func i) h = (i, refl, h.1)
   function_described d h = absurd h
@@ -240,23 +241,23 @@ abbrev pub AreSo : List Decl → Type 0
 AreSo ds = (t : TypeDef) × (a : Bool) × (ds ≡ so t a) × (tree_of t nothing_there [] ≡ enum_of (codes "a" ∷ []))
 
 module _ (start named whole : Scope) (empty : start.content ≡ Instance []) (none : (a : AnyType) → type_index start a ≡ None) (unlisted : (a : AnyType) → listing start a ≡ None)
-    (first : WritesItem types start named (codes "t") (kind.TypeItem (ty.Value (val.Defined the_enum)))) (second : WritesItem types named whole (codes "f") (kind.Func the_function)) where
+    (Inside : Scope → InterfaceId → List Decl → Type 0) (first : WritesItem Inside types start named (codes "t") (kind.TypeItem (ty.Value (val.Defined the_enum)))) (second : WritesItem Inside types named whole (codes "f") (kind.Func the_function)) where
   enum_unlisted : listing start (ty.Value (val.Defined the_enum)) ≡ None
   enum_unlisted = unlisted (ty.Value (val.Defined the_enum))
 
   both_declared : (t : TypeDef) × (a : Bool) × (whole.content ≡ Instance (so t a)) × (tree_of t nothing_there [] ≡ enum_of (codes "a" ∷ []))
   both_declared =
-      let enum = enum_declared start named empty none enum_unlisted first in
-      let function = function_declared named whole enum.0 enum.1 (enum_there start named empty none enum_unlisted first)
-      (function_still_none start named empty none enum_unlisted first) (interface_still_none start named empty none enum_unlisted first) second in
-      (enum.0, function.0, function.1, enum_meant start named empty none enum_unlisted first unlisted)
+      let enum = enum_declared start named empty none enum_unlisted Inside first in
+      let function = function_declared named whole enum.0 enum.1 (enum_there start named empty none enum_unlisted Inside first)
+      (function_still_none start named empty none enum_unlisted Inside first) (interface_still_none start named empty none enum_unlisted Inside first) Inside second in
+      (enum.0, function.0, function.1, enum_meant start named empty none enum_unlisted Inside first unlisted)
 
-module _ (around : Scope) (nothing : NamesNothing around) (ds : List Decl) (h : WritesInterface types around the_interface ds) where
+module _ (around : Scope) (nothing : NamesNothing around) (ds : List Decl) (Inside : Scope → InterfaceId → List Decl → Type 0) (h : WritesListed Inside types around the_interface ds) where
   in_order : h.order ≡ items
   in_order = no_other_order h.order (subst (λ (it : Interface). IsOrder types it.exports h.order) (sym (one_entry the_interface_type h.interface h.found)) h.ordered)
 
-  one_by_one : WritesItems types h.start items h.scope
-  one_by_one = subst (λ (es : List (Name × ItemKind)). WritesItems types h.start es h.scope) in_order h.written
+  one_by_one : WritesItems Inside types h.start items h.scope
+  one_by_one = subst (λ (es : List (Name × ItemKind)). WritesItems Inside types h.start es h.scope) in_order h.written
 
   unlisted_in_it : (a : AnyType) → listing h.start a ≡ None
   unlisted_in_it (ty.Value (val.Defined d)) = by_place (listed_at h.start d) refl where
@@ -266,16 +267,23 @@ module _ (around : Scope) (nothing : NamesNothing around) (ds : List Decl) (h : 
   unlisted_in_it a = refl
 
   declared : (t : TypeDef) × (a : Bool) × (one_by_one.2.0.content ≡ Instance (so t a)) × (tree_of t nothing_there [] ≡ enum_of (codes "a" ∷ []))
-  declared = both_declared h.start one_by_one.0 one_by_one.2.0 h.opened_.content h.opened_.types unlisted_in_it one_by_one.1 one_by_one.2.1
+  declared = both_declared h.start one_by_one.0 one_by_one.2.0 h.opened_.content h.opened_.types unlisted_in_it Inside one_by_one.1 one_by_one.2.1
 
-  pub only_so : AreSo ds
-  only_so = (declared.0, declared.1, ap declarations_in same, declared.3) where
+  listed_so : AreSo ds
+  listed_so = (declared.0, declared.1, ap declarations_in same, declared.3) where
     declarations_in : Encodable → List Decl
     declarations_in (Instance es) = es
     declarations_in x = []
 
     same : Instance ds ≡ Instance (so declared.0 declared.1)
     same = sym h.is ∙ ap (λ (s : Scope). s.content) one_by_one.2.2 ∙ declared.2
+
+-- to whatever depth
+pub only_so : (around : Scope) → NamesNothing around → (ds : List Decl) → WritesInterface types around the_interface ds → AreSo ds
+only_so around nothing ds (depth, h) = by_depth depth h where
+  by_depth : (d : ℕ) → WritesInterfaceTo d types around the_interface ds → AreSo ds
+  by_depth zero h = absurd h
+  by_depth (suc d) h = listed_so around nothing ds (WritesInterfaceTo d types) h
 
 -- ---- what is refused
 

@@ -20,8 +20,10 @@ use Rattle.wac_stacks.specs.Laws.{DefinesValue, DefinesFunc, Follows, IsRecorded
 use Rattle.wac_stacks.specs.Listed.{ListsEqual}
 use Rattle.wac_listing.specs.Made.{itself, listed}
 use Rattle.wac_encode.specs.Written.{WritesFor, PartOf, IsOfFunc, AddsHeldFunc, IsFuncByRecord}
-use Rattle.wac_encode.specs.Listing.{around_at, IsOfItems, WritesItem, WritesInterface}
+use Rattle.wac_encode.specs.Listing.{around_at, IsOfItems, WritesItem, WritesInterfaceTo, WritesInterface}
+use Rattle.wac_encode.specs.Items.{nothing_inside}
 use Rattle.wac_encode.proofs.Answering.{as-it-was}
+use Rattle.wac_encode.proofs.Levels.{wrote-inside}
 use Rattle.wac_encode.proofs.Naming.{first-wrote, function-wrote}
 use Rattle.wac_encode.proofs.Rows.{adds-held, put-writes, ends-with}
 use Rattle.wac_encode.proofs.Stacks.{recorded-there, writes-none, writes-one, writes-more}
@@ -85,7 +87,7 @@ module _ (follows : Follows) (stays : StaysOnward) (defines_value : DefinesValue
       (adds-value opened_ defined the_enum written_enum 0 defines_value (types_in opened_.content (Instance []) w.is_opened.content) w.has_enum w.records_enum)
       w.records_enum w.unnamed w.has_enum (types_in opened_.content (Instance []) w.is_opened.content))
 
-  enum_item_written : WritesItem types opened_ named (codes "t") (kind.TypeItem (ty.Value (val.Defined the_enum)))
+  enum_item_written : WritesItem nothing_inside types opened_ named (codes "t") (kind.TypeItem (ty.Value (val.Defined the_enum)))
   enum_item_written = first-wrote types opened_ defined named (codes "t") (val.Defined the_enum) the_enum 0 1 refl (w.is_opened.types (ty.Value (val.Defined the_enum))) enum_written
       (recorded-there (ty.Value (val.Defined the_enum)) 0 opened_ defined w.records_enum) w.has_item one_type w.records_item w.by_name (lists-value defined named (codes "t") the_enum 0 1 lists_equal in_type one_type w.has_item w.records_item)
 
@@ -110,20 +112,25 @@ module _ (follows : Follows) (stays : StaysOnward) (defines_value : DefinesValue
   by_record : IsFuncByRecord types named the_function_type (function_of (Index 1))
   by_record = (((refl, ap by_index by_item), tt), tt)
 
-  function_item_written : WritesItem types named whole (codes "f") (kind.Func the_function)
+  function_item_written : WritesItem nothing_inside types named whole (codes "f") (kind.Func the_function)
   function_item_written = function-wrote types named typed whole (codes "f") the_function 2 function_written function_held
       (ends-with types the_function the_function_type (function_of (Index 1)) 2 named typed refl no_function w.has_type w.records_type by_record) w.has_function
 
   -- the interface
   pub interface_written : WritesInterface types around the_interface declarations
-  interface_written = record {
-    interface = the_interface_type;
-    found = refl;
-    order = items;
-    ordered = enum_first;
-    start = opened_;
-    opened_ = w.is_opened;
-    scope = whole;
-    written = (named, enum_item_written, (whole, function_item_written, refl));
-    is = whole_content;
-  }
+  interface_written = (
+    1,
+    record {
+      interface = the_interface_type;
+      found = refl;
+      order = items;
+      ordered = enum_first;
+      start = opened_;
+      opened_ = w.is_opened;
+      scope = whole;
+      written =
+          let inside = wrote-inside (WritesInterfaceTo 0 types) types in
+          (named, inside opened_ named (codes "t") enum_item.1 enum_item_written, (whole, inside named whole (codes "f") (kind.Func the_function) function_item_written, refl));
+      is = whole_content;
+    },
+  )

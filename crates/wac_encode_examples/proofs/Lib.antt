@@ -7,3 +7,4 @@ pub mod ListedRows
 pub mod OpenedRows
 pub mod AliasedRows
 pub mod PlaceRows
+pub mod NestedRows

@@ -3,6 +3,7 @@ use Rattle.std.proofs.Common.{◌≡◌, ℕ, zero, suc, Bool, true, false, List
 use Rattle.std.specs.Prelude.{slice_get}
 use Rattle.wac_shapes.specs.declared.component.DefinedType.TheVariants as def
 use Rattle.wac_shapes.specs.declared.component.DefinedTypeId.{DefinedTypeId}
+use Rattle.wac_shapes.specs.declared.component.InterfaceId.{InterfaceId}
 use Rattle.wac_shapes.specs.declared.component.ItemKind.{ItemKind}
 use Rattle.wac_shapes.specs.declared.component.ItemKind.TheVariants as kind
 use Rattle.wac_shapes.specs.declared.component.PrimitiveType.TheVariants as prim
@@ -76,7 +77,7 @@ module _ (named : Scope) (by_name : value_index named the_enum ≡ Some 1) where
   by_no_other i h = ap index_in (one_entry (Index 1) (Index i) (sym (ap by_index by_name) ∙ h))
 
 module _ (named whole : Scope) (content : named.content ≡ Instance enum_named) (by_name : value_index named the_enum ≡ Some 1) (none : value_index named the_list ≡ None) (unlisted : listed_at named the_list ≡ None)
-    (w : WritesItem list_types named whole (codes "l") (kind.TypeItem (ty.Value (val.Defined the_list)))) where
+    (Inside : Scope → InterfaceId → List Decl → Type 0) (w : WritesItem Inside list_types named whole (codes "l") (kind.TypeItem (ty.Value (val.Defined the_list)))) where
   recorded : (i : ℕ) × (value_index w.now the_list ≡ Some i)
   recorded = described w.description w.described where
     described : (d : Description) → IsDescribed list_types named w.now (kind.TypeItem (ty.Value (val.Defined the_list))) d → (i : ℕ) × (value_index w.now the_list ≡ Some i)
@@ -147,8 +148,8 @@ last_index (Instance (a ∷ b ∷ c ∷ export_decl n (e.Equal i) ∷ ds)) = i
 last_index x = 7
 
 -- it is not described by the first one's index
-pub no_index_of_the_first : (old new : Scope) → old.content ≡ Instance first_item → WritesItem empty old new (codes "u") byte_item → new.content ≡ Instance (first_item ++ second_item 0) → ⊥
-no_index_of_the_first old new content w is = by_description w.description w.described refl where
+pub no_index_of_the_first : (Inside : Scope → InterfaceId → List Decl → Type 0) (old new : Scope) → old.content ≡ Instance first_item → WritesItem Inside empty old new (codes "u") byte_item → new.content ≡ Instance (first_item ++ second_item 0) → ⊥
+no_index_of_the_first Inside old new content w is = by_description w.description w.described refl where
   by_description : (d : Description) → IsDescribed empty old w.now byte_item d → w.description ≡ d → ⊥
   by_description (e.Equal i) h same =
       let index : i ≡ 2 = h.2 ∙ ap (count (space sort.«Type»)) content in

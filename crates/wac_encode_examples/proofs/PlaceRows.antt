@@ -12,10 +12,10 @@ use Rattle.wac_scopes.specs.declared.scope.Scope.{Scope}
 use Rattle.wac_scopes.specs.Contents.{and_type, count}
 use Rattle.wac_scopes.specs.Scoped.{type_index, HasToo}
 use Rattle.wac_stacks.specs.Laws.{StaysOnward}
-use Rattle.wac_encode.specs.Listing.{IsOfItems, WritesInterface}
+use Rattle.wac_encode.specs.Listing.{IsOfItems, IsInstanceTypeFrom, WritesInterface}
 use Rattle.wac_encode.proofs.Answering.{as-it-was}
 use Rattle.wac_encode.proofs.Stacks.{writes-none}
-use Rattle.wac_encode.specs.Instances.{IsInterfaceFrom, IsInterfaceAt}
+use Rattle.wac_encode.specs.Instances.{IsInterfaceAt}
 use Rattle.wac_encode_examples.proofs.Apart.{no_flag, no_entry, two_numbers}
 use Rattle.wac_encode_examples.specs.EnumInterface.{the_interface, types, declarations}
 use Rattle.wac_encode_examples.specs.ImportedEnum.{IsEmptyRoot}
@@ -28,10 +28,10 @@ its_type = type_item (instance_def (decls declarations))
 module _ (old : Scope) (content : old.content ≡ Builder (its_type ∷ [])) (recorded : type_index old (ty.Interface the_interface) ≡ Some 0) where
   -- it is there, and nothing is written
   pub at_its_index : IsInterfaceAt types old old the_interface 0
-  at_its_index = subst (λ (o : Option ℕ). IsInterfaceFrom o types old old the_interface 0) (sym recorded) (refl, refl)
+  at_its_index = subst (λ (o : Option ℕ). IsInstanceTypeFrom o (WritesInterface types) types old old the_interface 0) (sym recorded) (refl, refl)
 
-  there : (now : Scope) (j : ℕ) → IsInterfaceAt types old now the_interface j → IsInterfaceFrom (Some 0) types old now the_interface j
-  there now j h = subst (λ (o : Option ℕ). IsInterfaceFrom o types old now the_interface j) recorded h
+  there : (now : Scope) (j : ℕ) → IsInterfaceAt types old now the_interface j → IsInstanceTypeFrom (Some 0) (WritesInterface types) types old now the_interface j
+  there now j h = subst (λ (o : Option ℕ). IsInstanceTypeFrom o (WritesInterface types) types old now the_interface j) recorded h
 
   -- it is at no other
   pub at_no_other_index : (now : Scope) → IsInterfaceAt types old now the_interface 1 → ⊥
@@ -50,7 +50,7 @@ module _ (old : Scope) (w : IsEmptyRoot old) where
   -- its instance type is written, and recorded at that index
   pub written_at_index : StaysOnward → WritesInterface types old the_interface declarations → (now : Scope) → now.content ≡ Builder (its_type ∷ []) → HasToo old (ty.Interface the_interface) 0 now
       → IsInterfaceAt types old now the_interface 0
-  written_at_index stays written now content too = subst (λ (o : Option ℕ). IsInterfaceFrom o types old now the_interface 0) (sym (w.none (ty.Interface the_interface))) (record {
+  written_at_index stays written now content too = subst (λ (o : Option ℕ). IsInstanceTypeFrom o (WritesInterface types) types old now the_interface 0) (sym (w.none (ty.Interface the_interface))) (record {
     around = old;
     aliases = record {
       written = writes-none types stays (IsOfItems types the_interface) old old (as-it-was old);
@@ -66,7 +66,7 @@ module _ (old : Scope) (w : IsEmptyRoot old) where
 
   -- it is at no index at which it is not recorded
   pub recorded_where_written : (now : Scope) (j : ℕ) → IsInterfaceAt types old now the_interface j → type_index now (ty.Interface the_interface) ≡ Some j
-  recorded_where_written now j h = let at = subst (λ (o : Option ℕ). IsInterfaceFrom o types old now the_interface j) (w.none (ty.Interface the_interface)) h in at.recorded.types (ty.Interface the_interface)
+  recorded_where_written now j h = let at = subst (λ (o : Option ℕ). IsInstanceTypeFrom o (WritesInterface types) types old now the_interface j) (w.none (ty.Interface the_interface)) h in at.recorded.types (ty.Interface the_interface)
 
   pub not_unrecorded : (now : Scope) (j : ℕ) → type_index now (ty.Interface the_interface) ≡ None → IsInterfaceAt types old now the_interface j → ⊥
   not_unrecorded now j unrecorded h = no_entry j (sym unrecorded ∙ recorded_where_written now j h)

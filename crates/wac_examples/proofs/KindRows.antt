@@ -16,9 +16,9 @@ use Rattle.wac_shapes.specs.declared.component.«Type».TheVariants as ty
 use Rattle.wac_collection.specs.Collection.{Collection}
 use Rattle.wac_collection.specs.declared.collection.Held.{Held}
 use Rattle.wac_collection.specs.Held.{part_at}
-use Rattle.wac_collection.specs.Tree.{absent, function, function_item, primitive}
+use Rattle.wac_collection.specs.Tree.{absent, function, function_item, instance, instance_item, primitive}
 use Rattle.wac_subtyping.specs.Subtype.{kind_tree, type_tree}
-use Rattle.wac_meaning.specs.Importable.{HasNoHandle, IsPlainItem, IsPlainWhereThere, IsImportableKind, IsDefinableKind}
+use Rattle.wac_meaning.specs.Importable.{HasNoHandle, IsPlainTo, IsPlainWhereThere, IsImportableKind, IsDefinableKind}
 
 -- functions: of a number, and of a handle
 abbrev function_of : ValueType → ℕ → Held FuncType
@@ -36,7 +36,8 @@ of_handle = kind.Func (record { 0 = 1 })
 abbrev used_type : Name × UsedType
 used_type = (codes "t", record { interface = record { 0 = 0 }; name = None })
 
--- a resource; a list of bytes; and interfaces: with an id, without, with a use, with an instance, with a function of a handle
+-- a resource; a list of bytes; and interfaces: with an id, without, with a use, with an instance, with a function of a handle, with an instance of that
+-- one, with an instance that has an instance
 abbrev types : Collection
 types = record {
   resources = record { item = record { name = codes "r"; alias = None }; before = 0 } ∷ [];
@@ -48,7 +49,9 @@ types = record {
       ∷ interface_of None [] ((codes "f", plain_function) ∷ [])
       ∷ interface_of (Some (codes "a:b/d")) (used_type ∷ []) ((codes "f", plain_function) ∷ [])
       ∷ interface_of (Some (codes "a:b/e")) [] ((codes "i", kind.Instance (record { 0 = 0 })) ∷ [])
-      ∷ interface_of (Some (codes "a:b/g")) [] ((codes "f", of_handle) ∷ []) ∷ [];
+      ∷ interface_of (Some (codes "a:b/g")) [] ((codes "f", of_handle) ∷ [])
+      ∷ interface_of (Some (codes "a:b/h")) [] ((codes "i", kind.Instance (record { 0 = 4 })) ∷ [])
+      ∷ interface_of (Some (codes "a:b/k")) [] ((codes "j", kind.Instance (record { 0 = 3 })) ∷ []) ∷ [];
   worlds = [];
 }
 
@@ -64,8 +67,8 @@ given_back x y is = ap (λ o. option_case o x (λ z. z)) is
 abbrev of_plain : Option Name → List (Name × UsedType) → Interface
 of_plain id uses = record { id = id; uses = uses; exports = (codes "f", plain_function) ∷ [] }
 
-abbrev with_instance : Interface
-with_instance = record { id = Some (codes "a:b/e"); uses = []; exports = (codes "i", instance_of 0) ∷ [] }
+abbrev with_instance : Name → ℕ → Interface
+with_instance id n = record { id = Some id; uses = []; exports = (codes "i", instance_of n) ∷ [] }
 
 -- a function of a number is imported, and one of a handle is not
 byte_parts : (i : ℕ) → HasNoHandle {L = Name} (part_at (primitive prim.U8 ∷ []) i)
@@ -98,7 +101,8 @@ pub resource_is_not : IsImportableKind types (kind.TypeItem (ty.Resource (record
 unfolding type_tree
 resource_is_not h = h
 
--- an instance of functions of numbers is imported, and so is its type; one that holds an instance, or a function of a handle, is not, nor is its type
+-- an instance of functions of numbers is imported, and so is its type; and one that holds such an instance, or one that holds it; one with a function of a
+-- handle is not, nor is its type, at any depth
 one_function : (n : Name) → IsPlainWhereThere {L = Name} (if same_name n (codes "f") then function_item (function false (codes "x" ∷ []) (part_at (primitive prim.U8 ∷ [])) absent) else absent)
 one_function n = by_name (same_name n (codes "f")) refl where
   by_name : (b : Bool) → same_name n (codes "f") ≡ b → IsPlainWhereThere {L = Name} (if b then function_item (function false (codes "x" ∷ []) (part_at (primitive prim.U8 ∷ [])) absent) else absent)
@@ -113,19 +117,50 @@ pub interface_type_is_imported : IsImportableKind types (interface_at 0)
 unfolding type_tree
 interface_type_is_imported n = one_function n
 
-pub nested_interface_type_is_not : IsImportableKind types (interface_at 3) → ⊥
-unfolding type_tree
-nested_interface_type_is_not h = h (codes "i")
+-- under `i`, an instance of that function
+one_instance : (n : Name) → IsPlainWhereThere {L = Name} (if same_name n (codes "i") then instance_item (instance (λ m. if same_name m (codes "f") then function_item (function false (codes "x" ∷ []) (part_at (primitive prim.U8 ∷ [])) absent) else absent)) else absent)
+one_instance n = by_name (same_name n (codes "i")) where
+  by_name : (b : Bool) → IsPlainWhereThere {L = Name} (if b then instance_item (instance (λ m. if same_name m (codes "f") then function_item (function false (codes "x" ∷ []) (part_at (primitive prim.U8 ∷ [])) absent) else absent)) else absent)
+  by_name true = one_function
+  by_name false = tt
 
-pub nested_instance_is_not : IsImportableKind types (instance_of 3) → ⊥
+pub nested_instance_is_imported : IsImportableKind types (instance_of 3)
 unfolding type_tree
-nested_instance_is_not h = h (codes "i")
+nested_instance_is_imported n = one_instance n
+
+pub nested_interface_type_is_imported : IsImportableKind types (interface_at 3)
+unfolding type_tree
+nested_interface_type_is_imported n = one_instance n
+
+pub twice_nested_is_imported : IsImportableKind types (instance_of 6)
+unfolding type_tree
+twice_nested_is_imported n = by_name (same_name n (codes "j")) where
+  by_name : (b : Bool) → IsPlainWhereThere {L = Name} (if b then kind_tree types (instance_of 3) else absent)
+  by_name true = one_instance
+  by_name false = tt
 
 pub handle_inside_is_not : IsImportableKind types (instance_of 4) → ⊥
 unfolding type_tree
 handle_inside_is_not h = (h (codes "f")).0 0
 
--- an interface with an id and a function of numbers is defined; one without an id is not, nor one with a use, nor one with an instance inside
+pub handle_in_a_nested_instance_is_not : IsImportableKind types (instance_of 5) → ⊥
+unfolding type_tree
+handle_in_a_nested_instance_is_not h = (h (codes "i") (codes "f")).0 0
+
+pub handle_in_a_nested_interface_type_is_not : IsImportableKind types (interface_at 5) → ⊥
+unfolding type_tree
+handle_in_a_nested_interface_type_is_not h = (h (codes "i") (codes "f")).0 0
+
+-- an interface with an id and a function of numbers is defined, and so is one with an instance of it inside; one without an id is not, nor one with a use,
+-- nor one with a function of a handle in the instance inside
+plain_function_to : (d k : ℕ) (e : Name × ItemKind) → slice_get ((codes "f", plain_function) ∷ []) k ≡ Some e → IsPlainTo d types e.1
+unfolding type_tree
+plain_function_to d zero e is = subst (λ x. IsPlainTo d types x.1) (given_back (codes "f", plain_function) e is) (by_depth d) where
+  by_depth : (b : ℕ) → IsPlainTo b types plain_function
+  by_depth zero = (byte_parts, tt)
+  by_depth (suc b) = (byte_parts, tt)
+plain_function_to d (suc k) e is = absurd (none-some e is)
+
 pub interface_is_defined : IsDefinableKind types (interface_at 0)
 unfolding type_tree
 interface_is_defined = record {
@@ -133,10 +168,19 @@ interface_is_defined = record {
   found = refl;
   id = refl;
   uses = refl;
+  plain = λ k e is. (0, plain_function_to 0 k e is);
+}
+
+pub nested_interface_is_defined : IsDefinableKind types (interface_at 3)
+nested_interface_is_defined = record {
+  interface = with_instance (codes "a:b/e") 0;
+  found = refl;
+  id = refl;
+  uses = refl;
   plain = only;
 } where
-  only : (k : ℕ) (e : Name × ItemKind) → slice_get ((codes "f", plain_function) ∷ []) k ≡ Some e → IsPlainItem (kind_tree types e.1)
-  only zero e is = subst (λ x. IsPlainItem (kind_tree types x.1)) (given_back (codes "f", plain_function) e is) (byte_parts, tt)
+  only : (k : ℕ) (e : Name × ItemKind) → slice_get ((codes "i", instance_of 0) ∷ []) k ≡ Some e → (d : ℕ) × IsPlainTo d types e.1
+  only zero e is = (1, subst (λ x. IsPlainTo 1 types x.1) (given_back (codes "i", instance_of 0) e is) (plain_function_to 0))
   only (suc k) e is = absurd (none-some e is)
 
 pub no_id_is_not : IsDefinableKind types (interface_at 1) → ⊥
@@ -148,9 +192,16 @@ no_use same = cc
 pub use_is_not : IsDefinableKind types (interface_at 2) → ⊥
 use_is_not h = no_use (ap (λ x. x.uses) (given_back (of_plain (Some (codes "a:b/d")) (used_type ∷ [])) h.interface h.found) ∙ h.uses)
 
-pub instance_inside_is_not : IsDefinableKind types (interface_at 3) → ⊥
+pub handle_in_a_nested_interface_is_not : IsDefinableKind types (interface_at 5) → ⊥
 unfolding type_tree
-instance_inside_is_not h = h.plain 0 (codes "i", instance_of 0) (ap (λ x. slice_get x.exports 0) (sym (given_back with_instance h.interface h.found)))
+handle_in_a_nested_interface_is_not h = let (d, inside) = h.plain 0 (codes "i", instance_of 4) (ap (λ x. slice_get x.exports 0) (sym (given_back (with_instance (codes "a:b/h") 4) h.interface h.found))) in by_depth d inside where
+  by_item : (d : ℕ) → IsPlainTo d types of_handle → ⊥
+  by_item zero g = g.0 0
+  by_item (suc d) g = g.0 0
+
+  by_depth : (d : ℕ) → IsPlainTo d types (instance_of 4) → ⊥
+  by_depth zero g = absurd g
+  by_depth (suc d) g = by_item d (g 0 (codes "f", of_handle) refl)
 
 -- a definition of a function type is written, and of a resource or of a function of a handle is not
 pub function_type_is_defined : IsDefinableKind types (kind.TypeItem (ty.Func (record { 0 = 0 })))

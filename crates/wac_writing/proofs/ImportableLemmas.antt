@@ -24,24 +24,37 @@ plain_type a b (Sub.instance_items _ _ s) h = absurd h
 plain_type a b (Sub.component_items _ _ s) h = absurd h
 plain_type a b (Sub.module_items _ _ s) h = absurd h
 
+-- what stands under a name in what exports less
+at_name : {L : Type 0} (y : TypeTree L) → (y ≢ absent → IsPlainWhereThere y) → IsPlainWhereThere y
+at_name {L} y h = split (is_absent y) refl where
+  two : {e : Bool} → e ≡ true → e ≡ false → ⊥
+  two p q = cc
+
+  split : (e : Bool) → is_absent y ≡ e → IsPlainWhereThere y
+  split true is = subst (λ (t : TypeTree L). IsPlainWhereThere t) (sym (absent_of y is)) tt
+  split false is = h (λ none. two (ap is_absent none) is)
+
+-- an item, and an instance that exports less
 plain_item : {L : Type 0} (a b : TypeTree L) → Sub a b → IsPlainWhereThere a → IsPlainWhereThere b
 plain_item a b (Sub.same _ p) h = h
 plain_item a b (Sub.instances _ _ f) h = absurd h
 plain_item a b (Sub.components _ _ _ _ f g) h = absurd h
 plain_item a b (Sub.modules _ _ _ _ f g) h = absurd h
 plain_item a b (Sub.type_items c d s t) h = plain_type c d s h
-plain_item a b (Sub.instance_items _ _ s) h = absurd h
+plain_item a b (Sub.instance_items _ _ (Sub.same _ p)) h = h
+plain_item a b (Sub.instance_items _ _ (Sub.instances xs ys f)) h = λ n. at_name (ys n) (λ there. plain_item (xs n) (ys n) (f n there) (h n))
+plain_item a b (Sub.instance_items _ _ (Sub.components _ _ _ _ f g)) h = absurd h
+plain_item a b (Sub.instance_items _ _ (Sub.modules _ _ _ _ f g)) h = absurd h
+plain_item a b (Sub.instance_items _ _ (Sub.type_items _ _ s t)) h = absurd h
+plain_item a b (Sub.instance_items _ _ (Sub.instance_items _ _ s)) h = absurd h
+plain_item a b (Sub.instance_items _ _ (Sub.component_items _ _ s)) h = absurd h
+plain_item a b (Sub.instance_items _ _ (Sub.module_items _ _ s)) h = absurd h
 plain_item a b (Sub.component_items _ _ s) h = absurd h
 plain_item a b (Sub.module_items _ _ s) h = absurd h
 
 -- an instance that exports less
 exports_less : {L : Type 0} (xs ys : Name → TypeTree L) → ((n : Name) → ys n ≢ absent → Sub (xs n) (ys n)) → ((n : Name) → IsPlainWhereThere (xs n)) → (n : Name) → IsPlainWhereThere (ys n)
-exports_less {L} xs ys f h n = split (is_absent (ys n)) refl where
-  split : (e : Bool) → is_absent (ys n) ≡ e → IsPlainWhereThere (ys n)
-  split true is = subst (λ (t : TypeTree L). IsPlainWhereThere t) (sym (absent_of (ys n) is)) tt
-  split false is = plain_item (xs n) (ys n) (f n (λ none. two (ap is_absent none) is)) (h n) where
-    two : {e : Bool} → e ≡ true → e ≡ false → ⊥
-    two p q = cc
+exports_less xs ys f h n = at_name (ys n) (λ there. plain_item (xs n) (ys n) (f n there) (h n))
 
 plain_instance : {L : Type 0} (a b : TypeTree L) → Sub a b → IsImportable (instance_item a) → IsImportable (instance_item b)
 plain_instance a b (Sub.same _ p) h = h

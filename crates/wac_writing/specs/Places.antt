@@ -3,6 +3,7 @@ use Rattle.std.specs.Prelude.{ℕ, ◌≡◌, true, length, map, List, Some, sli
 use Rattle.wac_shapes.specs.Name.{Name}
 use Rattle.wac_entries.specs.Classes.{Entry, by_names, imported_as}
 use Rattle.wac_merge.specs.Aggregate.{Aggregate}
+use Rattle.wac_merge.specs.Listed.{AreListedInOrder}
 use Rattle.wac_binary.specs.declared.sorts.Sort.{Sort}
 use Rattle.wac_edges.specs.declared.node.NodeId.{NodeId}
 use Rattle.wac_nodes.specs.Graph as graph
@@ -29,11 +30,12 @@ pub record IsPlaceOf (a : Aggregate) (places : Places) (name : Name) (place : So
   pub named : entry.name ≡ imported_as by_names a.entries name
   pub placed : slice_get places p ≡ Some place
 
--- the merge of all that the graph asks for
+-- the merge of all that the graph asks for, each of whose interfaces lists what those list that it unites, in their order
 pub record IsMergedFor (g : Graph) (a : Aggregate) : Type 0 where
   pub finished : a.is_finished ≡ true
   pub entries : a.entries ≡ outer_entries g
   pub whole : IsMergeOf g a.merge
+  pub listed : AreListedInOrder by_names g.types (outer_entries g) a.merge
 
 -- these are its imports, each with its place
 pub record ArePlaced (g : Graph) (p : ImportPlaces) : Type 0 where

@@ -2,6 +2,7 @@ use Rattle.std.proofs.Common.{◌≡◌, List, map, ap, sym, ◌∙◌, subst}
 use Rattle.std.specs.List.{AllByRecursion}
 use Rattle.wac_collection.specs.Collection.{Collection, IsWellFormed}
 use Rattle.wac_merge.specs.Aggregate.{IsFault}
+use Rattle.wac_merge.specs.Listed.{AreListedInOrder}
 use Rattle.wac_entries.specs.Bindings.{AreHeld}
 use Rattle.wac_terms.specs.Merge.{IsMerge}
 use Rattle.wac_meaning.specs.MergedImports.{ExportsOnce}
@@ -70,4 +71,7 @@ returns-in-Ok-clause-merged c =
         merged_once = subst (λ (t : Collection). ExportsOnce t) c.types.ensures c.exports_law-in-Ok.ensures;
         held = c.in-Ok.ensures.held;
       };
+      listed = subst (λ (t : Collection). AreListedInOrder merge.by_names t (to_merge (asked_entries g)) c.in-Ok.merge.merge) types
+          (subst (λ (es : List merge.Entry). AreListedInOrder merge.by_names c.self.inside.types es c.in-Ok.merge.merge) entries
+          (c.listed_law.ensures c.self.inside.types c.in_ok-aggregator.aggregator.entries c.in-Ok.merge.merge c.in-Ok.ensures.merged c.in-Ok.ensures.once));
     }

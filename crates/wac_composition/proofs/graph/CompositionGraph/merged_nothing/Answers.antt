@@ -4,7 +4,7 @@ use Rattle.wac_merge.specs.Aggregate.{Aggregate}
 use Rattle.wac_meaning.specs.MergedImports.{ExportsOnce}
 use Rattle.wac_nodes.specs.Entries.{to_merge}
 use Rattle.wac_nodes.specs.Graph.{Graph}
-use Rattle.wac_composition.proofs.NothingLemmas.{has_merge, merges_nothing}
+use Rattle.wac_composition.proofs.NothingLemmas.{has_merge, lists_nothing, merges_nothing}
 use Rattle.wac_composition.proofs.graph.CompositionGraph.merged_nothing.Goals as goal
 
 pub returns-in-Ok-clause-merged : goal.returns-in-Ok-clause-merged
@@ -22,6 +22,7 @@ returns-in-Ok-clause-merged c =
         merged_once = subst (λ (t : Collection). ExportsOnce t) c.types.ensures c.exports_law-in-Ok.ensures;
         held = c.in-Ok.ensures.held;
       };
+      listed = lists_nothing g c.new-types.result c.new.result.entries c.in-Ok.merge.merge c.requires entries (c.listed_law.ensures c.new-types.result c.new.result.entries c.in-Ok.merge.merge c.in-Ok.ensures.merged c.in-Ok.ensures.once);
     }
 
 pub returns-in-Ok-clause-merges : goal.returns-in-Ok-clause-merges

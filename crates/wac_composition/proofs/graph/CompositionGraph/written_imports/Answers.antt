@@ -12,9 +12,10 @@ use Rattle.wac_entries.specs.Classes.{ClassLaws}
 use Rattle.wac_nodes.specs.Sound.{IsSound}
 use Rattle.wac_nodes.specs.Entries.{asked_entries}
 use Rattle.wac_nodes.specs.OuterImports.{outer_entries}
-use Rattle.wac_meaning.specs.MergedImports.{IsMergeOf}
 use Rattle.wac_meaning.proofs.MergeLemmas.{OrderHasClasses}
 use Rattle.wac_importing.proofs.Asked.{merge_importable}
+use Rattle.wac_merge.specs.Aggregate.{Aggregate}
+use Rattle.wac_writing.specs.Places.{IsMergedFor}
 use Rattle.wac_writing.proofs.OuterLemmas.{asked_importable}
 use Rattle.wac_writing.proofs.AskedHeld.{held_entries}
 use Rattle.wac_writing.proofs.MergeLemmas.{merge_held}
@@ -30,9 +31,10 @@ refused g m f binary.TooLarge h = inr (refl, f h.0)
 refused g m f binary.OutOfMemory h = inl refl
 
 -- where all that is asked for is importable so are the imports of its merge
-merged_importable : ClassLaws → OrderHasClasses → (g : Graph) → IsSound g → (m : Merged) → IsMergeOf g m → AllImportable g → written.AllImportable m
-merged_importable laws has_classes g sound m whole =
-    merge_importable g.types whole.ordered (outer_entries g) (merge_held g.types (asked_entries g) (held_entries g sound whole.ordered)) m whole.merged_ordered whole.held whole.merge laws has_classes
+merged_importable : ClassLaws → OrderHasClasses → (g : Graph) → IsSound g → (a : Aggregate) → IsMergedFor g a → AllImportable g → written.AllImportable a.merge
+merged_importable laws has_classes g sound a h =
+    let whole = h.whole in
+    merge_importable g.types whole.ordered (outer_entries g) (merge_held g.types (asked_entries g) (held_entries g sound whole.ordered)) a.merge whole.merged_ordered whole.held whole.merge laws h.listed has_classes
 
 not_all : (g : Graph) (m : Merged) (o : Option WrittenImports) → (AllImportable g → written.AllImportable m) → (o ≡ None → written.HasUnimportable m) → IfNone o (AllImportable g → ⊥)
 not_all g m (Some w) each f = tt
@@ -49,5 +51,5 @@ returns-clause-importable c = so c.in_ok-write_imports.field-0 (asked_importable
 pub returns-clause-none : goal.returns-clause-none
 returns-clause-none c =
     not_all c.args.self.now c.args.merge.now.merge c.in_ok-write_imports.field-0
-    (merged_importable c.class_laws.ensures (λ t es order w. (c.order_law.ensures t es order w).each) c.args.self.now c.law.ensures c.args.merge.now.merge c.requires.whole)
+    (merged_importable c.class_laws.ensures (λ t es order w. (c.order_law.ensures t es order w).each) c.args.self.now c.law.ensures c.args.merge.now c.requires)
     (λ none. c.write_imports.ensures.none (c.in_ok-write_imports.was ∙ ap Ok none))

@@ -1,0 +1,91 @@
+-- An interface that lists an instance of another: which interfaces are written, which are inside, and how the instance is described.
+use Rattle.std.proofs.Common.{◌≡◌, ℕ, zero, suc, Bool, true, false, List, [], ◌∷◌, Option, Some, None, ◌⊎◌, inl, inr, refl, ap, sym, subst, codes}
+use Rattle.std.specs.Prelude.{slice_get}
+use Rattle.wac_shapes.specs.Name.{Name}
+use Rattle.wac_shapes.specs.declared.component.InterfaceId.{InterfaceId}
+use Rattle.wac_shapes.specs.declared.component.ItemKind.{ItemKind}
+use Rattle.wac_shapes.specs.declared.component.ItemKind.TheVariants as kind
+use Rattle.wac_shapes.specs.declared.component.«Type».TheVariants as ty
+use Rattle.wac_collection.specs.Collection.{Collection, interface_exports}
+use Rattle.wac_binary.specs.Items.{Decl}
+use Rattle.wac_binary.specs.declared.sorts.Description.TheVariants as e
+use Rattle.wac_scopes.specs.declared.scope.Scope.{Scope}
+use Rattle.wac_scopes.specs.Scoped.{type_index}
+use Rattle.wac_encode.specs.Inside.{IsInside, IsInsideBy}
+use Rattle.wac_encode.specs.Listing.{IsInstanceTypeFrom, IsItemDescribed, lists_plain}
+use Rattle.wac_encode_examples.proofs.Apart.{no_flag, no_entry, one_entry, two_numbers}
+use Rattle.wac_encode_examples.specs.EnumInterface.{items, types}
+
+abbrev interface : ℕ → InterfaceId
+interface n = record { 0 = n }
+
+abbrev listing_instance : ℕ → List (Name × ItemKind)
+listing_instance n = (codes "i", kind.Instance (interface n)) ∷ []
+
+abbrev resource_item : Name × ItemKind
+resource_item = (codes "r", kind.TypeItem (ty.Resource (record { 0 = 0 })))
+
+-- the interface of the enum and the function; one that lists an instance of it; one of a resource; one that lists an instance of that
+abbrev nested : Collection
+nested = record types {
+  resources = record { item = record { name = codes "r"; alias = None }; before = 0 } ∷ [];
+  interfaces = record { item = record { id = None; uses = []; exports = items }; before = 3 }
+      ∷ record { item = record { id = None; uses = []; exports = listing_instance 0 }; before = 4 }
+      ∷ record { item = record { id = None; uses = []; exports = resource_item ∷ [] }; before = 5 }
+      ∷ record { item = record { id = None; uses = []; exports = listing_instance 2 }; before = 6 } ∷ [];
+}
+
+-- an interface with an instance is written, and is not where what is inside is of a sort that is not
+pub instance_is_plain : lists_plain nested (interface 1) ≡ true
+instance_is_plain = refl
+
+pub resource_inside_is_not : lists_plain nested (interface 3) ≡ false
+resource_inside_is_not = refl
+
+-- the interface of the instance is inside
+pub its_interface_is_inside : IsInside nested (interface 1) (interface 0)
+its_interface_is_inside = (1, (interface 1, refl, 0, codes "i", refl))
+
+-- beside the interface itself no other is
+abbrev interface_of : ItemKind → InterfaceId
+interface_of (kind.Instance i) = i
+interface_of k = interface 0
+
+pub no_other_is_inside : (d : ℕ) (j : InterfaceId) → IsInsideBy d nested (interface 1) j → (j ≡ interface 1) ⊎ (j ≡ interface 0)
+no_other_is_inside zero j h = inl h
+no_other_is_inside (suc d) j (k, around, p, n, at) = by_place (no_other_is_inside d k around) p at where
+  by_item : (x : Name × ItemKind) (q : ℕ) → slice_get (x ∷ []) q ≡ Some (n, kind.Instance j) → x.1 ≡ kind.Instance j
+  by_item x zero at = ap (λ (y : Name × ItemKind). y.1) (one_entry x (n, kind.Instance j) at)
+  by_item x (suc q) at = absurd (no_entry (n, kind.Instance j) at)
+
+  by_place : (k ≡ interface 1) ⊎ (k ≡ interface 0) → (q : ℕ) → slice_get (interface_exports nested k) q ≡ Some (n, kind.Instance j) → (j ≡ interface 1) ⊎ (j ≡ interface 0)
+  by_place (inl is) q at =
+      let listed = subst (λ (i : InterfaceId). slice_get (interface_exports nested i) q ≡ Some (n, kind.Instance j)) is at in
+      inr (sym (ap interface_of (by_item (codes "i", kind.Instance (interface 0)) q listed)))
+  by_place (inr is) q at = absurd (none q (subst (λ (i : InterfaceId). slice_get (interface_exports nested i) q ≡ Some (n, kind.Instance j)) is at)) where
+    is_instance : Option (Name × ItemKind) → Bool
+    is_instance (Some (m, kind.Instance i)) = true
+    is_instance x = false
+
+    none : (q : ℕ) → slice_get items q ≡ Some (n, kind.Instance j) → ⊥
+    none zero at = no_flag (sym (ap is_instance at))
+    none (suc zero) at = no_flag (sym (ap is_instance at))
+    none (suc (suc q)) at = no_entry (n, kind.Instance j) at
+
+pub resource_is_not_inside : IsInside nested (interface 1) (interface 2) → ⊥
+resource_is_not_inside (d, h) = by_number (no_other_is_inside d (interface 2) h) where
+  by_number : (interface 2 ≡ interface 1) ⊎ (interface 2 ≡ interface 0) → ⊥
+  by_number (inl is) = two_numbers 2 1 refl (ap (λ (i : InterfaceId). i.0) is)
+  by_number (inr is) = two_numbers 2 0 refl (ap (λ (i : InterfaceId). i.0) is)
+
+-- where the type of the interface inside is recorded at index 0, an instance of it is described by that index, and nothing is written
+module _ (Inside : Scope → InterfaceId → List Decl → Type 0) (old : Scope) (recorded : type_index old (ty.Interface (interface 0)) ≡ Some 0) where
+  pub described_by_its_type : IsItemDescribed Inside nested old old (kind.Instance (interface 0)) (e.Instance 0)
+  described_by_its_type = subst (λ (o : Option ℕ). IsInstanceTypeFrom o Inside nested old old (interface 0) 0) (sym recorded) (refl, refl)
+
+  -- by no other, and not as a type
+  pub by_no_other_type : (now : Scope) → IsItemDescribed Inside nested old now (kind.Instance (interface 0)) (e.Instance 1) → ⊥
+  by_no_other_type now h = two_numbers 1 0 refl (subst (λ (o : Option ℕ). IsInstanceTypeFrom o Inside nested old now (interface 0) 1) recorded h).0
+
+  pub not_as_a_type : (now : Scope) → IsItemDescribed Inside nested old now (kind.Instance (interface 0)) (e.Equal 0) → ⊥
+  not_as_a_type now h = h
