@@ -1,5 +1,5 @@
 -- No entries have a merge, whatever types there are, and it is the same over all of them.
-use Rattle.std.proofs.Common.{◌≡◌, ◌==◌, ℕ, suc, List, [], ◌∷◌, length, map, true, false, Some, refl, ap, sym, refl, subst, ◌∙◌, arith}
+use Rattle.std.proofs.Common.{◌≡◌, ◌==◌, ℕ, suc, List, [], ◌∷◌, length, map, true, false, Some, ap, sym, refl, subst, ◌∙◌, arith}
 use Rattle.std.specs.Prelude.{slice_get}
 use Rattle.std.proofs.lemmas.Bool.{false≢true}
 use Rattle.wac_cycles.specs.Cycles.{Path, step, further}

@@ -19,6 +19,7 @@ ghost use Rattle.wac_writing.specs.Refused.{IsRefusedBefore};
 use crate::graph::CompositionGraph;
 use wac_binary::ComponentBuilder;
 use wac_causes::EncodeError;
+use wac_encoding::write;
 use wac_importing::WrittenImports;
 use wac_merge::TypeAggregator;
 use wac_merge::laws::{class_laws, fault_law, order_law};
@@ -56,7 +57,7 @@ impl CompositionGraph {
         let (merge, entries) = self.merged()?;
         self.check_types(entries)?;
         let (root, imports) = self.begin(options.define_components, merge)?;
-        let bytes = reader.write(root, &imports, &order, named, options)?;
+        let bytes = write(&reader, root, &imports, &order, named, options)?;
         self.check_names(&imports.merge, &order, options.validate)?;
         Ok(bytes)
     }

@@ -1,4 +1,1 @@
-pub mod NoImportLemmas
-mod DefinitionExports
-mod RootLemmas
-mod NamesLemmas
+mod NodeLemmas

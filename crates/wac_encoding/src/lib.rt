@@ -3,14 +3,7 @@
 //! A layer of `wac_graph`, whose crate is the door.
 #![tactic(auto)]
 
-mod encoder;
-mod exports;
-mod lookups;
-mod naming;
-mod order;
-mod reader;
-mod sources;
 mod writer;
 
-pub use lookups::package_in_slots;
-pub use reader::GraphReader;
+pub use wac_reading::{GraphReader, package_in_slots};
+pub use writer::write;

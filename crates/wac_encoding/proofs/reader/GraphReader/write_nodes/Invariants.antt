@@ -1,9 +1,0 @@
-use Rattle.std.proofs.Common.{◌≡◌, length, drop}
-use Rattle.wac_meaning.specs.Encoding.{Progress}
-use Rattle.wac_meaning.specs.Writing.{WroteAll}
-use Rattle.wac_scopes.specs.Rooted.{IsRightRoot}
-use Rattle.wac_encoding.specs.EncoderView.{progress}
-use Rattle.wac_encoding.proofs.reader.GraphReader.write_nodes.Given as goal
-
-abbrev pub invariant-loop-n : goal.invariant-loop-n
-invariant-loop-n l = ((ends : Progress) → WroteAll l.self l.imports.places.items (drop l.n-index l.order) (progress l.encoder) ends → WroteAll l.self l.imports.places.items l.order (progress l.fn.encoder) ends) × (length l.encoder.indexes.items ≡ length l.fn.encoder.indexes.items) × IsRightRoot l.self.types l.encoder.root

@@ -1,7 +1,0 @@
--- What an encoder has written.
-use Rattle.wac_encoding.specs.declared.encoder.Encoder.{Encoder}
-use Rattle.wac_meaning.specs.Encoding.{Progress}
-use Rattle.wac_scopes.specs.Contents.{items_of}
-
-abbrev pub progress : Encoder → Progress
-progress e = record { items = items_of e.root.content; components = e.components.entries; indexes = e.indexes.items }

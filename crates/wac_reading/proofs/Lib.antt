@@ -1,0 +1,4 @@
+pub mod NoImportLemmas
+mod DefinitionExports
+pub mod RootLemmas
+mod NamesLemmas

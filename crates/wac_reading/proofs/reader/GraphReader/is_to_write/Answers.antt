@@ -1,0 +1,12 @@
+use Rattle.std.proofs.Common.{Some, None, false, not, sym, ap, ◌∙◌}
+use Rattle.wac_shapes.specs.Name.{option_case}
+use Rattle.wac_meaning.specs.Means.{is_import}
+use Rattle.wac_writing.proofs.EncodingLemmas.{node_is}
+use Rattle.wac_reading.specs.Inside.{fields_of}
+use Rattle.wac_reading.proofs.reader.GraphReader.is_to_write.Goals as goal
+
+pub returns-in-None : goal.returns-in-None
+returns-in-None c = rw (← c.self.view_is) (sym (ap (λ o. option_case o false (λ x. not (is_import x.kind))) (node_is (fields_of c.self.inside) c.args.n None (sym c.in-None.ensures))))
+
+pub returns-in-Some : goal.returns-in-Some
+returns-in-Some c = rw (← c.self.view_is) (ap not c.is_import.ensures ∙ sym (ap (λ o. option_case o false (λ x. not (is_import x.kind))) (node_is (fields_of c.self.inside) c.args.n (Some c.in-Some.node.now) (sym c.in-Some.ensures))))

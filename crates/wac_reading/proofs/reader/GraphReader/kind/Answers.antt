@@ -1,0 +1,12 @@
+use Rattle.std.proofs.Common.{◌≡◌, refl}
+use Rattle.wac_nodes.specs.Nodes.{kind_of}
+use Rattle.wac_nodes.proofs.NodeLemmas.{there}
+use Rattle.wac_writing.proofs.EncodingLemmas.{if_node}
+use Rattle.wac_reading.specs.Inside.{fields_of}
+use Rattle.wac_reading.proofs.reader.GraphReader.kind.Goals as goal
+
+pub index-requires : goal.index-requires
+index-requires c = let a = fields_of c.self.inside in there a.nodes.slots c.args.n.0 (rw (← c.self.view_is) at c.requires)
+
+pub returns : goal.returns
+returns c = rw (← c.self.view_is) (if_node (fields_of c.self.inside) c.args.n.0 c.index.result.now (λ node. node.kind ≡ kind_of c.index.result.now.kind) c.index.ensures refl)

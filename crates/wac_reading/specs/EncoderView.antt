@@ -1,0 +1,7 @@
+-- What an encoder has written.
+use Rattle.wac_reading.specs.declared.encoder.Encoder.{Encoder}
+use Rattle.wac_meaning.specs.Encoding.{Progress}
+use Rattle.wac_scopes.specs.Contents.{items_of}
+
+abbrev pub progress : Encoder → Progress
+progress e = record { items = items_of e.root.content; components = e.components.entries; indexes = e.indexes.items }

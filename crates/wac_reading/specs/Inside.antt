@@ -1,0 +1,16 @@
+-- What is read of a graph.
+use Rattle.wac_fields.specs.Fields.{Fields}
+use Rattle.wac_reading.specs.declared.reader.GraphReader.TheInside.{Inside}
+
+abbrev pub fields_of : Inside → Fields
+fields_of a = record {
+  types = a.types.now;
+  nodes = a.nodes.now;
+  edges = a.edges.now;
+  imports = a.imports.now;
+  exports = a.exports.now;
+  package_map = a.package_map.now;
+  slots = a.slots.now;
+  vacant = a.vacant.now;
+  lost = a.lost.now;
+}

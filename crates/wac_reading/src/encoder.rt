@@ -1,0 +1,92 @@
+//! A component that is being written.
+ghost use Rattle.std.specs.Prelude.{◌≡◌, [], IfOk, IfErr, None};
+ghost use Rattle.wac_causes.specs.Cause.{cause_of};
+ghost use Rattle.wac_meaning.specs.Means.{sort_of_kind};
+ghost use Rattle.wac_scopes.specs.Contents.{IsRoot, items_of};
+ghost use Rattle.wac_scopes.specs.Rooted.{IsRightRoot};
+
+use indexmap::IndexMap;
+use std::alloc::Global;
+use wac_binary::{ComponentBuilder, Sort};
+use wac_causes::EncodeError;
+use wac_nodes::PackageId;
+use wac_scopes::{Encodable, Scope, rooted_law};
+use wac_types::ItemKind;
+
+/// A component that is being written: the root with its items and the definitions that are recorded there, the component index of
+/// each package, and the index of each node.
+#[derive(Drop)]
+pub struct Encoder {
+    /// What memory is asked of.
+    pub alloc: Global,
+    /// The root, with what is recorded there.
+    pub root: Scope,
+    /// The component index of each package that is written.
+    pub components: IndexMap<PackageId, u32>,
+    /// The index of each node, by its number.
+    pub indexes: Vec<u32>,
+}
+
+impl Encoder {
+    ghost use Rattle.wac_meaning.specs.Encoding.{HasComponent};
+    ghost use Rattle.wac_collection.specs.Collection.{Collection as AnyTypes};
+
+    /// What is written is this, with no component yet, and these are the indexes of nodes.
+    pub fn new(alloc: Global, component: ComponentBuilder, indexes: Vec<u32>) -> Encoder
+        ensures items { items_of result.root.content ≡ component }
+        ensures right { (c : AnyTypes) → IsRightRoot c result.root }
+        ensures components { result.components.entries ≡ [] }
+        ensures indexes { result.indexes ≡ indexes }
+    {
+        rooted_law();
+        Encoder {
+            alloc,
+            root: Scope::new(alloc, Encodable::Builder(component)),
+            components: IndexMap::new(alloc),
+            indexes,
+        }
+    }
+
+    /// What is written, and the indexes of nodes.
+    pub fn finish(self) -> (ComponentBuilder, Vec<u32>)
+        requires { IsRoot self.root.content }
+        ensures items { result.0 ≡ items_of self.root.content }
+        ensures indexes { result.1 ≡ self.indexes }
+    {
+        match self.root.into_content() {
+            Encodable::Builder(component) => (component, self.indexes),
+            Encodable::Instance(_) | Encodable::Component(_) => unreachable!(),
+        }
+    }
+
+    /// The component index of a package, whose bytes are written where they were not.
+    pub fn component(&mut self, id: PackageId, bytes: &[u8]) -> Result<u32, EncodeError>
+        requires { IsRoot self.old.root.content }
+        ensures there { IfOk result (λ c. HasComponent bytes.now id c self.old.components.entries self.new.components.entries (items_of self.old.root.content) (items_of self.new.root.content)) }
+        ensures right { (c : AnyTypes) → IsRightRoot c self.old.root → IsRightRoot c self.new.root }
+        ensures kept { self.new.indexes ≡ self.old.indexes }
+        ensures fault { IfErr result (λ e. cause_of e ≡ None) }
+    {
+        rooted_law();
+        if let Some(index) = self.components.get(&id) {
+            return Ok(*index);
+        }
+        let index = self.root.component(bytes)?;
+        self.components.insert(id, index)?;
+        Ok(index)
+    }
+}
+
+/// The sort of an item's index.
+pub fn sort_of(kind: ItemKind) -> Sort
+    ensures { result ≡ sort_of_kind kind }
+{
+    match kind {
+        ItemKind::TypeItem(_) => Sort::Type,
+        ItemKind::Func(_) => Sort::Func,
+        ItemKind::Instance(_) => Sort::Instance,
+        ItemKind::Component(_) => Sort::Component,
+        ItemKind::Module(_) => Sort::CoreModule,
+        ItemKind::Value(_) => Sort::Value,
+    }
+}

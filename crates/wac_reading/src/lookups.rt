@@ -1,0 +1,97 @@
+//! What is looked up of a graph's instantiations and imports.
+ghost use Rattle.std.specs.Prelude.{◌≡◌, IsSome, IsSomeAnd, IfSome, Some, ◌∷◌, [], MatchOption, slice_get, false};
+ghost use Rattle.wac_edges.specs.Edge.{node_number};
+ghost use Rattle.wac_nodes.specs.Graph.{node_at, package_at, imports_of, instantiation, package_in, definition};
+ghost use Rattle.wac_nodes.specs.Imports.{node_rows};
+ghost use Rattle.wac_nodes.specs.Nodes.{kind_of};
+ghost use Rattle.std.specs.Option.{option_copied};
+ghost use Rattle.wac_edges.specs.declared.node.NodeId.{NodeId as AnId};
+
+use crate::reader::GraphReader;
+use std::alloc::Global;
+use wac_nodes::{NodeId, NodeKind, PackageId, Slot};
+use wac_types::{ItemKind, Named, Package};
+
+impl<'a> GraphReader<'a> {
+    /// What memory is asked of.
+    pub fn allocator(&self) -> Global {
+        self.alloc
+    }
+
+    /// The kind of a node.
+    pub fn kind(&self, n: NodeId) -> &'a NodeKind
+        requires { IsSome (node_at self.now n) }
+        ensures { IfSome (node_at self.now n) (λ node. node.kind ≡ kind_of result.now) }
+    {
+        &self.nodes[n.0].kind
+    }
+
+    /// The item that a node stands for.
+    pub fn item_kind(&self, n: NodeId) -> ItemKind
+        requires { IsSome (node_at self.now n) }
+        ensures { IfSome (node_at self.now n) (λ node. node.item_kind ≡ result) }
+    {
+        self.nodes[n.0].item_kind
+    }
+
+    /// The package of an instantiation, with its id.
+    pub fn package_of(&self, n: usize) -> (PackageId, &'a Package)
+        requires { IsSomeAnd (node_at self.now (node_number n)) (λ node. node.kind ≡ instantiation) }
+        ensures owner { IfSome (node_at self.now (node_number n)) (λ node. node.owner ≡ Some result.0) }
+        ensures registered { package_at self.now result.0 ≡ Some result.1.now }
+    {
+        let Some(id) = self.nodes[n].package else {
+            unreachable!()
+        };
+        match package_in_slots(self.slots, id) {
+            Some(package) => (id, package),
+            None => unreachable!(),
+        }
+    }
+
+    /// What the world of an instantiation's package imports.
+    pub fn imports_at(&self, n: usize) -> &'a Named<ItemKind>
+        requires { IsSomeAnd (node_at self.now (node_number n)) (λ node. node.kind ≡ instantiation) }
+        ensures { IfSome (node_at self.now (node_number n)) (λ node. result.now ≡ imports_of self.now node) }
+    {
+        let (_, package) = self.package_of(n);
+        &self.types[package.ty()].imports
+    }
+
+    /// The name and the kind of the node of this number, where it is an import node.
+    pub fn import_node_at(&self, n: usize) -> Option<(&'a str, ItemKind)>
+        ensures { MatchOption result (node_rows self.now n ≡ []) (λ r. node_rows self.now n ≡ (r.0.now, r.1, Some (node_number n)) ∷ []) }
+    {
+        let node = self.nodes.get(n)?;
+        let name = node.import_name()?;
+        Some((name, node.item_kind))
+    }
+
+    /// Whether a node is a definition. Each has a first name, by which it is exported, so exports tell it.
+    pub fn has_definition(&self) -> bool
+        ensures { result ≡ false → (n : AnId) → IsSomeAnd (node_at self.now n) (λ node. node.kind ≡ definition) → ⊥ }
+    {
+        for i in 0..self.exports.len() {
+            let Some(_) = self.further_export(i) else {
+                return true;
+            };
+        }
+        false
+    }
+}
+
+/// The package of an id, where the slot holds one of the id's generation.
+pub fn package_in_slots(slots: &[Slot], id: PackageId) -> Option<&Package>
+    ensures { option_copied result ≡ package_in (slice_get slots.now id.slot) id }
+{
+    match slots.get(id.slot) {
+        Some(slot) => {
+            if slot.generation == id.generation {
+                slot.package.as_ref()
+            } else {
+                None
+            }
+        }
+        None => None,
+    }
+}

@@ -1,0 +1,190 @@
+//! The parts that are written of a graph: where its imports stand, an alias, a definition, the exports, and what is named.
+ghost use Rattle.std.specs.Prelude.{◌≡◌, ◌++◌, ℕ, IsSomeAnd, false, OnOk, IfOk, IfErr, IfSome, None, List, map};
+ghost use Rattle.wac_binary.specs.declared.sorts.Sort.{Sort as ASort};
+ghost use Rattle.wac_causes.specs.Cause.{cause_of};
+ghost use Rattle.wac_causes.specs.NotYet.{AllDefinable};
+ghost use Rattle.wac_edges.specs.Edge.{node_number};
+ghost use Rattle.wac_edges.specs.declared.node.NodeId.{NodeId as AnId};
+ghost use Rattle.wac_meaning.specs.Encoding.{HasRoom, index_in};
+ghost use Rattle.wac_meaning.specs.Means.{sort_of_kind, custom_item, name_customs, AreNames, processor_customs, export_item_of, further_exports};
+ghost use Rattle.wac_meaning.specs.MergedImports.{IsFoundAt};
+ghost use Rattle.wac_meaning.specs.Writing.{WritesNode};
+ghost use Rattle.wac_nodes.specs.Graph.{node_at, definition, alias, import};
+ghost use Rattle.wac_scopes.specs.Contents.{items_of};
+ghost use Rattle.wac_scopes.specs.Rooted.{IsRightRoot};
+ghost use Rattle.wac_shapes.specs.Name.{Name as AName};
+ghost use Rattle.wac_writing.specs.Naming.{IsNamed};
+ghost use Rattle.wac_writing.specs.Places.{ArePlaced, AreFound};
+ghost use Rattle.std.specs.List.{flat_map};
+ghost use Rattle.wac_writing.specs.Further.{further_at};
+
+use crate::encoder::{Encoder, sort_of};
+use crate::reader::GraphReader;
+use std::alloc::{AllocError, Global};
+use wac_binary::{ComponentBuilder, component_names, producers};
+use wac_causes::EncodeError;
+use wac_importing::write_definition;
+use wac_merge::laws::{class_laws, order_law};
+use wac_nodes::{NodeId, Processor};
+use wac_scopes::rooted_law;
+use wac_types::ItemKind;
+use wac_writing::ImportPlaces;
+
+impl<'a> GraphReader<'a> {
+    /// At each import node's number the index of its import.
+    pub fn import_indexes(&self, imports: &ImportPlaces) -> Result<Vec<u32>, AllocError>
+        requires { ArePlaced self.now imports.now }
+        ensures room { IfOk result (λ v. HasRoom self.now v.items) }
+        ensures found { IfOk result (λ v. AreFound self.now imports.now v.items) }
+    {
+        if self.imports.is_empty() {
+            let zeros = vec![in self.alloc; 0; self.nodes.capacity()]?;
+            return Ok(zeros);
+        }
+        let mut indexes = Vec::new(self.alloc);
+        for n in 0..self.nodes.capacity() {
+            indexes.push(self.import_index(imports, n))?;
+        }
+        Ok(indexes)
+    }
+
+    /// The index of the import of an import node; zero of any other number.
+    fn import_index(&self, imports: &ImportPlaces, n: usize) -> u32
+        requires { ArePlaced self.now imports.now }
+        ensures { IfSome (node_at self.now (node_number n)) (λ node. (name : AName) → node.kind ≡ import name → IsFoundAt self.now imports.now.merge.merge imports.now.places.items name (sort_of_kind node.item_kind) result) }
+    {
+        class_laws();
+        order_law();
+        match self.import_node_at(n) {
+            Some((name, _)) => imports.place_of(name).1,
+            None => 0,
+        }
+    }
+
+    /// Writes an alias, and answers its index.
+    pub fn write_alias(
+        &self,
+        encoder: &mut Encoder,
+        imports: &ImportPlaces,
+        n: NodeId,
+    ) -> Result<u32, EncodeError>
+        requires alias { IsSomeAnd (node_at self.now n) (λ node. node.kind ≡ alias) }
+        requires right { IsRightRoot self.now.types encoder.old.root }
+        requires room { HasRoom self.now encoder.old.indexes.items }
+        ensures written { IfOk result (λ i. IfSome (node_at self.now n) (λ node. WritesNode self.now imports.now.places.items n node (index_in encoder.old.indexes.items) encoder.old.components.entries encoder.new.components.entries (items_of encoder.old.root.content) (items_of encoder.new.root.content) i)) }
+        ensures right { OnOk result (IsRightRoot self.now.types encoder.new.root) }
+        ensures kept { encoder.new.indexes ≡ encoder.old.indexes }
+        ensures fault { IfErr result (λ e. cause_of e ≡ None) }
+    {
+        rooted_law();
+        let Some((source, position)) = self.edges.alias_source(n) else {
+            unreachable!()
+        };
+        let ItemKind::Instance(interface) = self.nodes[source.0].item_kind else {
+            unreachable!()
+        };
+        let name = self.types[interface].exports.name_at(position);
+        let sort = sort_of(self.nodes[n.0].item_kind);
+        let instance = encoder.indexes[source.0];
+        Ok(encoder.root.alias_export(sort, instance, name)?)
+    }
+
+    /// Writes a definition: the types that it is made of, and the export by its first name, whose index it answers.
+    pub fn write_definition(
+        &self,
+        encoder: &mut Encoder,
+        imports: &ImportPlaces,
+        n: NodeId,
+    ) -> Result<u32, EncodeError>
+        requires definition { IsSomeAnd (node_at self.now n) (λ node. node.kind ≡ definition) }
+        requires definable { AllDefinable self.now }
+        requires right { IsRightRoot self.now.types encoder.old.root }
+        ensures written { IfOk result (λ i. IfSome (node_at self.now n) (λ node. WritesNode self.now imports.now.places.items n node (index_in encoder.old.indexes.items) encoder.old.components.entries encoder.new.components.entries (items_of encoder.old.root.content) (items_of encoder.new.root.content) i)) }
+        ensures right { OnOk result (IsRightRoot self.now.types encoder.new.root) }
+        ensures kept { encoder.new.indexes ≡ encoder.old.indexes }
+        ensures fault { IfErr result (λ e. cause_of e ≡ None) }
+    {
+        let node = &self.nodes[n.0];
+        let ItemKind::TypeItem(ty) = node.item_kind else {
+            unreachable!()
+        };
+        let Some(name) = &node.first_name else {
+            unreachable!()
+        };
+        Ok(write_definition(&self.types, &mut encoder.root, name.as_str(), ty)?)
+    }
+
+    /// Writes the graph's exports by other names than definitions' first ones, in its order.
+    pub fn write_exports(
+        &self,
+        component: &mut ComponentBuilder,
+        indexes: &[u32],
+    ) -> Result<(), EncodeError>
+        requires { HasRoom self.now indexes.now }
+        ensures written { OnOk result (component.new ≡ component.old ++ flat_map (export_item_of self.now (index_in indexes.now)) (further_exports self.now)) }
+        ensures fault { IfErr result (λ e. cause_of e ≡ None) }
+    {
+        for i in 0..self.exports.len() {
+            self.write_export(component, indexes, i)?;
+        }
+        Ok(())
+    }
+
+    /// Writes the export at a position, where its name is no definition's first one.
+    fn write_export(
+        &self,
+        component: &mut ComponentBuilder,
+        indexes: &[u32],
+        i: usize,
+    ) -> Result<(), EncodeError>
+        requires { HasRoom self.now indexes.now }
+        ensures written { OnOk result (component.new ≡ component.old ++ flat_map (export_item_of self.now (index_in indexes.now)) (further_at self.now i)) }
+        ensures fault { IfErr result (λ e. cause_of e ≡ None) }
+    {
+        let Some((name, id)) = self.further_export(i) else {
+            return Ok(());
+        };
+        let sort = sort_of(self.nodes[id.0].item_kind);
+        let index = indexes[id.0];
+        component.export(name, sort, index)?;
+        Ok(())
+    }
+
+    /// Writes the custom section with the names of nodes, where any has one.
+    pub fn write_names(
+        &self,
+        component: &mut ComponentBuilder,
+        indexes: &[u32],
+        named: bool,
+    ) -> Result<(), EncodeError>
+        requires room { HasRoom self.now indexes.now }
+        requires named { named ≡ false → (sort : ASort) (n : AnId) → IsNamed self.now sort n → ⊥ }
+        ensures written { OnOk result ((names : List (ASort × ℕ × AName)) × AreNames self.now (index_in indexes.now) names × (component.new ≡ component.old ++ map custom_item (name_customs names))) }
+        ensures fault { IfErr result (λ e. cause_of e ≡ None) }
+    {
+        let names = self.index_names(indexes, named)?;
+        if names.is_empty() {
+            return Ok(());
+        }
+        let content = component_names(self.alloc, &names)?;
+        component.custom("component-name", &content)?;
+        Ok(())
+    }
+}
+
+/// Writes the custom section that names the processor, where one is given.
+pub fn write_processor(
+    alloc: Global,
+    component: &mut ComponentBuilder,
+    processor: Option<Processor<'_>>,
+) -> Result<(), EncodeError>
+    ensures written { OnOk result (component.new ≡ component.old ++ map custom_item (processor_customs processor.entry)) }
+    ensures fault { IfErr result (λ e. cause_of e ≡ None) }
+{
+    let Some(processor) = processor else {
+        return Ok(());
+    };
+    let content = producers(alloc, processor.name, processor.version)?;
+    component.custom("producers", &content)?;
+    Ok(())
+}
