@@ -6,6 +6,8 @@
 #[cfg(test)]
 mod listed;
 #[cfg(test)]
+mod merged;
+#[cfg(test)]
 mod merging;
 #[cfg(test)]
 mod nested_uses;
@@ -13,6 +15,8 @@ mod nested_uses;
 mod one_type;
 #[cfg(test)]
 mod outside;
+#[cfg(test)]
+mod rows;
 #[cfg(test)]
 mod uses;
 #[cfg(test)]

@@ -1,85 +1,58 @@
 //! What is nested in merged interfaces is listed in order of first appearance.
-ghost use Rattle.std.specs.Prelude.{◌≡◌, true};
 
-use crate::merging::merge;
-use std::alloc::Global;
-use std::process::Abort;
-use wac_merge::TypeAggregator;
-use wac_types::{Interface, InterfaceId, ItemKind, PrimitiveType, Type, Types, ValueType};
+use crate::merged::Check::Lists;
+use crate::merged::{Case, assert_merged};
+use crate::rows::Row;
+use crate::rows::Row::{Byte, Instance, TypeOf};
 
-// A type item, a byte.
-fn byte() -> ItemKind {
-    ItemKind::TypeItem(Type::Value(ValueType::Primitive(PrimitiveType::U8)))
-}
+// Two instances, each of which lists an instance as `x`.
+const INSTANCES: &[Row] = &[
+    Byte,
+    Instance(None, &[], &[("b", 0), ("a", 0)]),
+    Instance(None, &[], &[("x", 1)]),
+    Instance(None, &[], &[("a", 0), ("c", 0)]),
+    Instance(None, &[], &[("x", 3)]),
+];
 
-// An interface without id that lists these items.
-fn interface(
-    rt: &impl Abort,
-    types: &mut Types,
-    alloc: Global,
-    items: &[(&str, ItemKind)],
-) -> InterfaceId {
-    let interface = Interface::new(alloc, None, items).expect(rt, "an interface");
-    types.add_interface(interface).expect(rt, "its id")
-}
+// Two instances, each of which lists the type of an instance as `x`.
+const TYPES: &[Row] = &[
+    Byte,
+    Instance(None, &[], &[("b", 0), ("a", 0)]),
+    TypeOf(1),
+    Instance(None, &[], &[("x", 2)]),
+    Instance(None, &[], &[("a", 0), ("b", 0)]),
+    TypeOf(4),
+    Instance(None, &[], &[("x", 5)]),
+];
 
-// An instance that lists an item as `x`.
-fn around(rt: &impl Abort, types: &mut Types, alloc: Global, item: ItemKind) -> ItemKind {
-    ItemKind::Instance(interface(rt, types, alloc, &[("x", item)]))
-}
-
-// The interface of an item that is an instance, or a type item.
-fn interface_in(rt: &impl Abort, item: Option<&ItemKind>) -> InterfaceId {
-    let id = match item {
-        Some(ItemKind::Instance(id)) => Some(*id),
-        Some(ItemKind::TypeItem(Type::Interface(id))) => Some(*id),
-        _ => None,
-    };
-    id.expect(rt, "an interface")
-}
-
-// What is listed as `x` in the import `i` lists these, in order.
-fn assert_listed(rt: &impl Abort, merged: &TypeAggregator, want: &[&str])
-    requires { merged.now.is_finished ≡ true }
-{
-    let types = merged.types();
-    let outer = interface_in(rt, merged.imports().get("i"));
-    assert!(rt; types.contains(Type::Interface(outer)));
-    let inner = interface_in(rt, types[outer].exports.get("x"));
-    assert!(rt; types.contains(Type::Interface(inner)));
-    let exports = &types[inner].exports;
-    assert!(rt; exports.len() == want.len());
-    for i in 0..want.len() {
-        assert!(rt; exports.name_at(i) == want[i]);
-    }
-}
+const LISTED: &[Case] = &[
+    Case {
+        name: "instances inside list in order of first appearance",
+        rows: INSTANCES,
+        asked: &[("i", 2), ("i", 4)],
+        checks: &[Lists(&["i", "x"], &["b", "a", "c"])],
+    },
+    Case {
+        name: "instances inside list in order of first appearance, the other first",
+        rows: INSTANCES,
+        asked: &[("i", 4), ("i", 2)],
+        checks: &[Lists(&["i", "x"], &["a", "c", "b"])],
+    },
+    Case {
+        name: "type items inside list as the first does",
+        rows: TYPES,
+        asked: &[("i", 3), ("i", 6)],
+        checks: &[Lists(&["i", "x"], &["b", "a"])],
+    },
+    Case {
+        name: "type items inside list as the first does, the other first",
+        rows: TYPES,
+        asked: &[("i", 6), ("i", 3)],
+        checks: &[Lists(&["i", "x"], &["a", "b"])],
+    },
+];
 
 #[test]
-fn instances_inside_list_in_order_of_first_appearance(rt: HostRuntime) {
-    let alloc = rt.alloc();
-    let mut types = Types::new(alloc);
-    let first = interface(&rt, &mut types, alloc, &[("b", byte()), ("a", byte())]);
-    let first = around(&rt, &mut types, alloc, ItemKind::Instance(first));
-    let second = interface(&rt, &mut types, alloc, &[("a", byte()), ("c", byte())]);
-    let second = around(&rt, &mut types, alloc, ItemKind::Instance(second));
-    let merged = merge(alloc, &rt, &types, &[("i", first), ("i", second)]);
-    assert_listed(&rt, &merged, &["b", "a", "c"]);
-    let merged = merge(alloc, &rt, &types, &[("i", second), ("i", first)]);
-    assert_listed(&rt, &merged, &["a", "c", "b"]);
-}
-
-#[test]
-fn type_items_inside_list_as_the_first_does(rt: HostRuntime) {
-    let alloc = rt.alloc();
-    let mut types = Types::new(alloc);
-    let first = interface(&rt, &mut types, alloc, &[("b", byte()), ("a", byte())]);
-    let first = ItemKind::TypeItem(Type::Interface(first));
-    let first = around(&rt, &mut types, alloc, first);
-    let second = interface(&rt, &mut types, alloc, &[("a", byte()), ("b", byte())]);
-    let second = ItemKind::TypeItem(Type::Interface(second));
-    let second = around(&rt, &mut types, alloc, second);
-    let merged = merge(alloc, &rt, &types, &[("i", first), ("i", second)]);
-    assert_listed(&rt, &merged, &["b", "a"]);
-    let merged = merge(alloc, &rt, &types, &[("i", second), ("i", first)]);
-    assert_listed(&rt, &merged, &["a", "b"]);
+fn what_is_nested_is_listed_in_order(rt: HostRuntime) {
+    assert_merged(&rt, LISTED);
 }

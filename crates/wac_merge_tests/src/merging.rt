@@ -1,92 +1,17 @@
+//! Which imports are one, which do not agree, and where resources are bound.
 ghost use Rattle.std.specs.Prelude.{◌≡◌, true, IfOk};
 
+use crate::merged::Check::{Bound, Canonical, Differ, Imports, Lists, Resource, Unbound};
+use crate::merged::{Case, assert_merged};
+use crate::rows::Row::{Enumeration, Instance, Plain, Telling, TypeOf};
+use crate::rows::{Item, Items, Row};
 use std::alloc::Global;
 use std::process::Abort;
 use wac_merge::{MergeFault, TypeAggregator};
-use wac_types::{
-    DefinedType, Enum, FuncType, Interface, InterfaceId, ItemKind, PrimitiveType, Resource,
-    ResourceId, Type, Types, ValueType,
-};
-
-// A function without parameters that gives nothing.
-fn plain(rt: &impl Abort, types: &mut Types, alloc: Global) -> ItemKind {
-    let func = FuncType::new(alloc, &[], None, false).expect(rt, "a function type");
-    ItemKind::Func(types.add_func_type(func).expect(rt, "its id"))
-}
-
-// A function without parameters that gives a bool.
-fn telling(rt: &impl Abort, types: &mut Types, alloc: Global) -> ItemKind {
-    let result = Some(ValueType::Primitive(PrimitiveType::Bool));
-    let func = FuncType::new(alloc, &[], result, false).expect(rt, "a function type");
-    ItemKind::Func(types.add_func_type(func).expect(rt, "its id"))
-}
-
-// An instance that exports one item.
-fn exporting(
-    rt: &impl Abort,
-    types: &mut Types,
-    alloc: Global,
-    name: &str,
-    item: ItemKind,
-) -> ItemKind {
-    let interface = Interface::new(alloc, None, &[(name, item)]).expect(rt, "an interface");
-    ItemKind::Instance(types.add_interface(interface).expect(rt, "its id"))
-}
-
-// An interface of this id with an item under a name.
-fn with_type(
-    rt: &impl Abort,
-    types: &mut Types,
-    alloc: Global,
-    id: &str,
-    name: &str,
-    item: ItemKind,
-) -> InterfaceId {
-    let interface = Interface::new(alloc, Some(id), &[(name, item)]).expect(rt, "an interface");
-    types.add_interface(interface).expect(rt, "its id")
-}
-
-// An interface that uses a type of another.
-fn with_use(
-    rt: &impl Abort,
-    types: &mut Types,
-    alloc: Global,
-    id: &str,
-    name: &str,
-    of: InterfaceId,
-    item: ItemKind,
-) -> InterfaceId {
-    let interface = Interface::with_uses(alloc, Some(id), &[(name, of, None)], &[(name, item)]);
-    types
-        .add_interface(interface.expect(rt, "an interface"))
-        .expect(rt, "its id")
-}
-
-// A resource of a name.
-pub(crate) fn resource(
-    rt: &impl Abort,
-    types: &mut Types,
-    alloc: Global,
-    name: &str,
-) -> ResourceId {
-    let resource = Resource::new(alloc, name).expect(rt, "a resource");
-    types.add_resource(resource).expect(rt, "its id")
-}
-
-// A resource of a name, under this name in an interface.
-fn with_resource(
-    rt: &impl Abort,
-    types: &mut Types,
-    alloc: Global,
-    id: &str,
-    name: &str,
-) -> (InterfaceId, ItemKind) {
-    let item = ItemKind::TypeItem(Type::Resource(resource(rt, types, alloc, name)));
-    (with_type(rt, types, alloc, id, name, item), item)
-}
+use wac_types::{ItemKind, Types};
 
 // What `finish` answers where these are asked for.
-fn finished(
+pub(crate) fn finished(
     alloc: Global,
     rt: &impl Abort,
     types: &Types,
@@ -105,243 +30,168 @@ fn finished(
     aggregator.finish(types)
 }
 
-// Two entries do not agree.
-fn assert_disagree(
-    alloc: Global,
-    rt: &impl Abort,
-    types: &Types,
-    asked: &[(&str, ItemKind)],
-    want: (usize, usize, &str),
-) {
-    match finished(alloc, rt, types, asked) {
-        Err(
-            MergeFault::Disagree {
-                first,
-                second,
-                export,
-            },
-        ) => {
-            assert!(rt; first == want.0);
-            assert!(rt; second == want.1);
-            assert!(rt; export.as_str() == want.2);
-        }
-        _ => panic!(rt; "another answer"),
-    }
+// Types, what is asked for of them, and the fault that is answered.
+struct Refusal {
+    rows: &'static [Row],
+    asked: &'static [Item],
+    want: &'static str,
 }
 
-// The merge of these.
-pub(crate) fn merge(
-    alloc: Global,
-    rt: &impl Abort,
-    types: &Types,
-    asked: &[(&str, ItemKind)],
-) -> TypeAggregator
-    ensures { result.is_finished ≡ true }
-{
-    finished(alloc, rt, types, asked).expect(rt, "a merge")
-}
+const REFUSALS: &[Refusal] = &[
+    // Functions of one name are to be equal.
+    Refusal {
+        rows: &[Plain, Telling],
+        asked: &[("x", 0), ("x", 1)],
+        want: "0 and 1 differ at ``",
+    },
+    // The first export that differs is named.
+    Refusal {
+        rows: &[
+            Plain,
+            Telling,
+            Instance(None, &[], &[("f", 0)]),
+            Instance(None, &[], &[("g", 0)]),
+            Instance(None, &[], &[("g", 1)]),
+        ],
+        asked: &[("a:b/c@0.2.0", 2), ("a:b/c@0.2.1", 3), ("a:b/c@0.2.2", 4)],
+        want: "1 and 2 differ at `g`",
+    },
+    // Two instances that export `i`, an instance that exports `f`; the second `f` is another function. The names that lead to
+    // what differs are joined.
+    Refusal {
+        rows: &[
+            Plain,
+            Telling,
+            Instance(None, &[], &[("f", 0)]),
+            Instance(None, &[], &[("f", 1)]),
+            Instance(None, &[], &[("i", 2)]),
+            Instance(None, &[], &[("i", 3)]),
+        ],
+        asked: &[("x", 4), ("x", 5)],
+        want: "0 and 1 differ at `i/f`",
+    },
+    // Imports that use each other.
+    Refusal {
+        rows: &[
+            Enumeration("a"),
+            Enumeration("b"),
+            Instance(Some("a:b/y@1.0.0"), &[], &[("t", 0)]),
+            Instance(Some("a:b/x@1.0.0"), &[("t", 2, None)], &[("t", 0)]),
+            Instance(Some("a:b/x@1.1.0"), &[], &[("u", 1)]),
+            Instance(Some("a:b/y@1.1.0"), &[("u", 4, None)], &[("u", 1)]),
+        ],
+        asked: &[
+            ("a:b/y@1.0.0", 2),
+            ("a:b/x@1.0.0", 3),
+            ("a:b/x@1.1.0", 4),
+            ("a:b/y@1.1.0", 5),
+        ],
+        want: "`a:b/y@1.1.0` uses itself",
+    },
+];
 
-// The names of the merged imports, in order.
-fn assert_imports(rt: &impl Abort, merged: &TypeAggregator, want: &[&str])
-    requires { merged.now.is_finished ≡ true }
-{
-    let imports = merged.imports();
-    assert!(rt; imports.len() == want.len());
-    for i in 0..want.len() {
-        assert!(rt; imports.name_at(i) == want[i]);
-    }
-}
-
-// The names that an import, an instance, lists, in order.
-fn assert_lists(rt: &impl Abort, merged: &TypeAggregator, import: &str, want: &[&str])
-    requires { merged.now.is_finished ≡ true }
-{
-    let types = merged.types();
-    let Some(ItemKind::Instance(id)) = merged.imports().get(import) else {
-        panic!(rt; "no instance");
+// What a fault names.
+fn named(rt: &impl Abort, alloc: Global, fault: MergeFault) -> String {
+    let text = match fault {
+        MergeFault::Disagree {
+            first,
+            second,
+            export,
+        } => format!(in alloc; "{first} and {second} differ at `{export}`"),
+        MergeFault::UseEachOther { import } => format!(in alloc; "`{import}` uses itself"),
+        MergeFault::OutOfMemory => return String::new(alloc),
     };
-    assert!(rt; types.contains(Type::Interface(*id)));
-    let exports = &types[*id].exports;
-    assert!(rt; exports.len() == want.len());
-    for i in 0..want.len() {
-        assert!(rt; exports.name_at(i) == want[i]);
+    text.expect(rt, "a text")
+}
+
+#[test]
+fn imports_that_cannot_be_merged_are_refused(rt: HostRuntime) {
+    for refusal in REFUSALS {
+        let items = Items::new(&rt, rt.alloc(), refusal.rows);
+        let asked = items.asked(&rt, refusal.asked);
+        let Err(fault) = finished(rt.alloc(), &rt, &items.types, &asked) else {
+            panic!(rt; "a merge");
+        };
+        assert_eq!(rt; named(&rt, rt.alloc(), fault).as_str(), refusal.want);
     }
 }
 
-#[test]
-fn functions_of_one_name_are_to_be_equal(rt: HostRuntime) {
-    let alloc = rt.alloc();
-    let mut types = Types::new(alloc);
-    let a = plain(&rt, &mut types, alloc);
-    let b = telling(&rt, &mut types, alloc);
-    assert_disagree(alloc, &rt, &types, &[("x", a), ("x", b)], (0, 1, ""));
-}
+const MERGED: &[Case] = &[
+    Case {
+        name: "versions on one track are one import",
+        rows: &[
+            Plain,
+            Instance(None, &[], &[("f", 0)]),
+            Instance(None, &[], &[("g", 0)]),
+        ],
+        asked: &[("a:b/c@0.2.0", 1), ("a:b/c@0.2.3", 2), ("a:b/c@0.3.0", 2)],
+        checks: &[
+            Imports(&["a:b/c@0.2.3", "a:b/c@0.3.0"]),
+            Lists(&["a:b/c@0.2.3"], &["f", "g"]),
+            Lists(&["a:b/c@0.3.0"], &["g"]),
+            Canonical("a:b/c@0.2.0", "a:b/c@0.2.3"),
+            Canonical("a:b/c@0.2.1", "a:b/c@0.2.1"),
+        ],
+    },
+    Case {
+        name: "one interface under two names is two imports",
+        rows: &[Plain, Instance(None, &[], &[("f", 0)])],
+        asked: &[("primary", 1), ("secondary", 1)],
+        checks: &[
+            Imports(&["primary", "secondary"]),
+            Lists(&["secondary"], &["f"]),
+        ],
+    },
+    Case {
+        name: "what is no instance is joined by its name alone",
+        rows: &[Instance(None, &[], &[]), TypeOf(0)],
+        asked: &[("a:b/d@0.2.0", 1), ("a:b/d@0.2.9", 0), ("a:b/d@0.2.0", 1)],
+        checks: &[Imports(&["a:b/d@0.2.9", "a:b/d@0.2.0"])],
+    },
+    Case {
+        name: "resources of one name keep their interfaces",
+        rows: &[
+            Row::Resource("r"),
+            Instance(Some("n:p/a"), &[], &[("r", 0)]),
+            Row::Resource("r"),
+            Instance(Some("n:p/b"), &[], &[("r", 2)]),
+            Instance(
+                Some("n:p/c"),
+                &[("r", 1, None), ("s", 3, Some("r"))],
+                &[("r", 0), ("s", 2)],
+            ),
+        ],
+        asked: &[("n:p/a", 1), ("n:p/b", 3), ("n:p/c", 4)],
+        checks: &[
+            Imports(&["n:p/a", "n:p/b", "n:p/c"]),
+            Resource("n:p/a", "r", Some(&["n:p/a", "r"])),
+            Resource("n:p/b", "r", Some(&["n:p/b", "r"])),
+            Differ(&["n:p/a", "r"], &["n:p/b", "r"]),
+            Resource("n:p/c", "r", None),
+        ],
+    },
+    // A resource that is imported itself, one that an instance exports, and one that no import binds.
+    Case {
+        name: "resources are bound where their class is imported",
+        rows: &[
+            Row::Resource("s"),
+            Row::Resource("r"),
+            Row::Resource("r"),
+            Instance(Some("n:p/i"), &[], &[("r", 1)]),
+        ],
+        asked: &[("s", 0), ("n:p/i", 3)],
+        checks: &[
+            Imports(&["n:p/i", "s"]),
+            Bound(1, 0, &["r"]),
+            Bound(0, 1, &[]),
+            Unbound(2),
+        ],
+    },
+];
 
 #[test]
-fn the_first_export_that_differs_is_named(rt: HostRuntime) {
-    let alloc = rt.alloc();
-    let mut types = Types::new(alloc);
-    let a = plain(&rt, &mut types, alloc);
-    let b = telling(&rt, &mut types, alloc);
-    let f = exporting(&rt, &mut types, alloc, "f", a);
-    let g = exporting(&rt, &mut types, alloc, "g", a);
-    let h = exporting(&rt, &mut types, alloc, "g", b);
-    let asked = [("a:b/c@0.2.0", f), ("a:b/c@0.2.1", g), ("a:b/c@0.2.2", h)];
-    assert_disagree(alloc, &rt, &types, &asked, (1, 2, "g"));
-}
-
-// Two instances that export `i`, an instance that exports `f`; the second `f` is another function.
-#[test]
-fn the_names_that_lead_to_what_differs_are_joined(rt: HostRuntime) {
-    let alloc = rt.alloc();
-    let mut types = Types::new(alloc);
-    let a = plain(&rt, &mut types, alloc);
-    let b = telling(&rt, &mut types, alloc);
-    let f = exporting(&rt, &mut types, alloc, "f", a);
-    let g = exporting(&rt, &mut types, alloc, "f", b);
-    let first = exporting(&rt, &mut types, alloc, "i", f);
-    let second = exporting(&rt, &mut types, alloc, "i", g);
-    let asked = [("x", first), ("x", second)];
-    assert_disagree(alloc, &rt, &types, &asked, (0, 1, "i/f"));
-}
-
-#[test]
-fn versions_on_one_track_are_one_import(rt: HostRuntime) {
-    let alloc = rt.alloc();
-    let mut types = Types::new(alloc);
-    let a = plain(&rt, &mut types, alloc);
-    let f = exporting(&rt, &mut types, alloc, "f", a);
-    let g = exporting(&rt, &mut types, alloc, "g", a);
-    let asked = [("a:b/c@0.2.0", f), ("a:b/c@0.2.3", g), ("a:b/c@0.3.0", g)];
-    let merged = merge(alloc, &rt, &types, &asked);
-    assert_imports(&rt, &merged, &["a:b/c@0.2.3", "a:b/c@0.3.0"]);
-    assert_lists(&rt, &merged, "a:b/c@0.2.3", &["f", "g"]);
-    assert_lists(&rt, &merged, "a:b/c@0.3.0", &["g"]);
-    assert!(rt; merged.canonical_import_name("a:b/c@0.2.0") == "a:b/c@0.2.3");
-    assert!(rt; merged.canonical_import_name("a:b/c@0.2.1") == "a:b/c@0.2.1");
-}
-
-#[test]
-fn one_interface_under_two_names_is_two_imports(rt: HostRuntime) {
-    let alloc = rt.alloc();
-    let mut types = Types::new(alloc);
-    let a = plain(&rt, &mut types, alloc);
-    let f = exporting(&rt, &mut types, alloc, "f", a);
-    let merged = merge(alloc, &rt, &types, &[("primary", f), ("secondary", f)]);
-    assert_imports(&rt, &merged, &["primary", "secondary"]);
-    assert_lists(&rt, &merged, "secondary", &["f"]);
-}
-
-#[test]
-fn what_is_no_instance_is_joined_by_its_name_alone(rt: HostRuntime) {
-    let alloc = rt.alloc();
-    let mut types = Types::new(alloc);
-    let interface = Interface::new(alloc, None, &[]).expect(&rt, "an interface");
-    let id = types.add_interface(interface).expect(&rt, "its id");
-    let instance = ItemKind::Instance(id);
-    let item = ItemKind::TypeItem(Type::Interface(id));
-    let asked = [
-        ("a:b/d@0.2.0", item),
-        ("a:b/d@0.2.9", instance),
-        ("a:b/d@0.2.0", item),
-    ];
-    let merged = merge(alloc, &rt, &types, &asked);
-    assert_imports(&rt, &merged, &["a:b/d@0.2.9", "a:b/d@0.2.0"]);
-}
-
-#[test]
-fn resources_of_one_name_keep_their_interfaces(rt: HostRuntime) {
-    let alloc = rt.alloc();
-    let mut types = Types::new(alloc);
-    let (a, of_a) = with_resource(&rt, &mut types, alloc, "n:p/a", "r");
-    let (b, of_b) = with_resource(&rt, &mut types, alloc, "n:p/b", "r");
-    let uses = [("r", a, None), ("s", b, Some("r"))];
-    let exports = [("r", of_a), ("s", of_b)];
-    let c = Interface::with_uses(alloc, Some("n:p/c"), &uses, &exports).expect(&rt, "an interface");
-    let c = types.add_interface(c).expect(&rt, "its id");
-    let asked = [
-        ("n:p/a", ItemKind::Instance(a)),
-        ("n:p/b", ItemKind::Instance(b)),
-        ("n:p/c", ItemKind::Instance(c)),
-    ];
-    let merged = merge(alloc, &rt, &types, &asked);
-    assert_imports(&rt, &merged, &["n:p/a", "n:p/b", "n:p/c"]);
-    let of_a = merged.resource("n:p/a", "r");
-    assert!(rt; of_a.is_some());
-    assert!(rt; merged.resource("n:p/b", "r").is_some());
-    assert!(rt; merged.resource("n:p/b", "r") != of_a);
-    assert!(rt; merged.resource("n:p/c", "r").is_none());
-}
-
-// Where a resource is bound at the root: by the import at a position, under these names.
-fn assert_bound(
-    rt: &impl Abort,
-    merged: &TypeAggregator,
-    resource: ResourceId,
-    want: (usize, &[&str]),
-)
-    requires { merged.now.is_finished ≡ true }
-{
-    let Some((position, path)) = merged.root_binding(resource) else {
-        panic!(rt; "bound nowhere");
-    };
-    assert!(rt; position == want.0);
-    assert!(rt; path.len() == want.1.len());
-    for i in 0..path.len() {
-        assert!(rt; path[i].as_str() == want.1[i]);
-    }
-}
-
-// A resource that is imported itself, one that an instance exports, and one that no import binds.
-#[test]
-fn resources_are_bound_where_their_class_is_imported(rt: HostRuntime) {
-    let alloc = rt.alloc();
-    let mut types = Types::new(alloc);
-    let alone = resource(&rt, &mut types, alloc, "s");
-    let listed = resource(&rt, &mut types, alloc, "r");
-    let unbound = resource(&rt, &mut types, alloc, "r");
-    let item = ItemKind::TypeItem(Type::Resource(listed));
-    let i = with_type(&rt, &mut types, alloc, "n:p/i", "r", item);
-    let asked = [
-        ("s", ItemKind::TypeItem(Type::Resource(alone))),
-        ("n:p/i", ItemKind::Instance(i)),
-    ];
-    let merged = merge(alloc, &rt, &types, &asked);
-    assert_imports(&rt, &merged, &["n:p/i", "s"]);
-    assert_bound(&rt, &merged, listed, (0, &["r"]));
-    assert_bound(&rt, &merged, alone, (1, &[]));
-    assert!(rt; merged.root_binding(unbound).is_none());
-}
-
-// A type item of a new enumeration of this case.
-fn enumeration(rt: &impl Abort, types: &mut Types, alloc: Global, case: &str) -> ItemKind {
-    let cases = DefinedType::Enum(Enum::new(alloc, &[case]).expect(rt, "an enumeration"));
-    let id = types.add_defined_type(cases).expect(rt, "its id");
-    ItemKind::TypeItem(Type::Value(ValueType::Defined(id)))
-}
-
-#[test]
-fn imports_that_use_each_other_are_refused(rt: HostRuntime) {
-    let alloc = rt.alloc();
-    let mut types = Types::new(alloc);
-    let t = enumeration(&rt, &mut types, alloc, "a");
-    let u = enumeration(&rt, &mut types, alloc, "b");
-    let y = with_type(&rt, &mut types, alloc, "a:b/y@1.0.0", "t", t);
-    let x = with_use(&rt, &mut types, alloc, "a:b/x@1.0.0", "t", y, t);
-    let later_x = with_type(&rt, &mut types, alloc, "a:b/x@1.1.0", "u", u);
-    let later_y = with_use(&rt, &mut types, alloc, "a:b/y@1.1.0", "u", later_x, u);
-    let asked = [
-        ("a:b/y@1.0.0", ItemKind::Instance(y)),
-        ("a:b/x@1.0.0", ItemKind::Instance(x)),
-        ("a:b/x@1.1.0", ItemKind::Instance(later_x)),
-        ("a:b/y@1.1.0", ItemKind::Instance(later_y)),
-    ];
-    match finished(alloc, &rt, &types, &asked) {
-        Err(MergeFault::UseEachOther { import }) => {
-            assert_eq!(rt; import.as_str(), "a:b/y@1.1.0");
-        }
-        _ => panic!(rt; "another answer"),
-    }
+fn imports_are_merged_by_their_classes(rt: HostRuntime) {
+    assert_merged(&rt, MERGED);
 }
 
 // A fault is displayed so.
@@ -353,18 +203,15 @@ fn assert_displayed(rt: &impl Abort, alloc: Global, fault: MergeFault, want: &st
 #[test]
 fn faults_of_a_merge_display_their_names(rt: HostRuntime) {
     let alloc = rt.alloc();
+    let export = String::from_str(alloc, "i/f").expect(&rt, "a text");
     let disagree = MergeFault::Disagree {
         first: 0,
         second: 1,
-        export: String::from_str(alloc, "i/f").expect(&rt, "a text"),
+        export,
     };
     assert_displayed(&rt, alloc, disagree, "Disagree");
     let import = String::from_str(alloc, "x").expect(&rt, "a text");
-    assert_displayed(
-        &rt,
-        alloc,
-        MergeFault::UseEachOther { import },
-        "UseEachOther",
-    );
+    let each_other = MergeFault::UseEachOther { import };
+    assert_displayed(&rt, alloc, each_other, "UseEachOther");
     assert_displayed(&rt, alloc, MergeFault::OutOfMemory, "OutOfMemory");
 }

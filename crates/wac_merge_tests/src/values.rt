@@ -4,41 +4,14 @@ ghost use Rattle.wac_collection.specs.Collection.{holds_type};
 ghost use Rattle.wac_entries.specs.Bindings.{AreHeld};
 ghost use Rattle.wac_shapes.specs.Kinds.{kind_type};
 
+use crate::rows::Row::{Alias, Enumeration, Instance};
+use crate::rows::{Item, Items, Row, assert_row};
 use std::alloc::Global;
 use std::process::Abort;
 use wac_entries::classes::Classes;
 use wac_entries::entry::Entry;
-use wac_types::{
-    DefinedType, DefinedTypeId, Enum, Interface, InterfaceId, ItemKind, Type, Types, ValueType,
-};
+use wac_types::{ItemKind, Types};
 use wac_values::bindings::value_bindings;
-
-// An enumeration of one case, and an alias of it.
-fn enumeration(rt: &impl Abort, types: &mut Types, alloc: Global) -> (DefinedTypeId, ItemKind) {
-    let cases = Enum::new(alloc, &["a"]).expect(rt, "an enumeration");
-    let id = types
-        .add_defined_type(DefinedType::Enum(cases))
-        .expect(rt, "its id");
-    let alias = DefinedType::Alias(ValueType::Defined(id));
-    let alias = types.add_defined_type(alias).expect(rt, "an alias");
-    let item = ItemKind::TypeItem(Type::Value(ValueType::Defined(alias)));
-    (id, item)
-}
-
-// An interface that lists a type as `t`.
-fn listing(
-    rt: &impl Abort,
-    types: &mut Types,
-    alloc: Global,
-    id: &str,
-    uses: &[(&str, InterfaceId, Option<&str>)],
-    item: ItemKind,
-) -> InterfaceId {
-    let interface = Interface::with_uses(alloc, Some(id), uses, &[("t", item)]);
-    types
-        .add_interface(interface.expect(rt, "an interface"))
-        .expect(rt, "its id")
-}
 
 // The entries that are asked for.
 fn asked_entries(
@@ -59,64 +32,94 @@ fn asked_entries(
     entries
 }
 
-// Which class binds a type, and under which name.
-fn assert_bound(
-    alloc: Global,
-    rt: &impl Abort,
-    types: &Types,
-    asked: &[(&str, ItemKind)],
-    value: DefinedTypeId,
+// Types, what is asked for of them, and which class binds the definition at a place, under which name.
+struct Bound {
+    name: &'static str,
+    rows: &'static [Row],
+    asked: &'static [Item],
+    place: usize,
     class: usize,
-    name: Option<&str>,
-) {
-    let entries = asked_entries(alloc, rt, types, asked);
+    listed: Option<&'static str>,
+}
+
+// An enumeration and its alias, which an interface lists as `t`; the same again, in another version.
+const VERSIONS: &[Row] = &[
+    Enumeration("a"),
+    Alias(0),
+    Instance(Some("a:b/c@0.2.0"), &[], &[("t", 1)]),
+    Enumeration("a"),
+    Alias(3),
+    Instance(Some("a:b/c@0.2.3"), &[], &[("t", 4)]),
+];
+
+// A type that an interface lists, and that another uses and lists.
+const USED: &[Row] = &[
+    Enumeration("a"),
+    Alias(0),
+    Instance(Some("n:p/j"), &[], &[("t", 1)]),
+    Instance(Some("n:p/i"), &[("t", 2, None)], &[("t", 1)]),
+];
+
+const BOUND: &[Bound] = &[
+    Bound {
+        name: "versions on one track bind a type in one class, the older",
+        rows: VERSIONS,
+        asked: &[("a:b/c@0.2.0", 2), ("a:b/c@0.2.3", 5)],
+        place: 0,
+        class: 0,
+        listed: Some("t"),
+    },
+    Bound {
+        name: "versions on one track bind a type in one class, the newer",
+        rows: VERSIONS,
+        asked: &[("a:b/c@0.2.0", 2), ("a:b/c@0.2.3", 5)],
+        place: 3,
+        class: 0,
+        listed: Some("t"),
+    },
+    Bound {
+        name: "a used type is bound where it is used from",
+        rows: USED,
+        asked: &[("n:p/i", 3), ("n:p/j", 2)],
+        place: 0,
+        class: 1,
+        listed: Some("t"),
+    },
+    Bound {
+        name: "a used type is bound where it is listed, if the other is not asked for",
+        rows: USED,
+        asked: &[("n:p/i", 3)],
+        place: 0,
+        class: 0,
+        listed: Some("t"),
+    },
+    Bound {
+        name: "a type item binds its type",
+        rows: &[Enumeration("a"), Alias(0)],
+        asked: &[("t", 1)],
+        place: 0,
+        class: 0,
+        listed: None,
+    },
+];
+
+// The definition is bound so.
+fn is_bound(rt: &impl Abort, alloc: Global, bound: &Bound) -> bool {
+    let items = Items::new(rt, alloc, bound.rows);
+    let asked = items.asked(rt, bound.asked);
+    let entries = asked_entries(alloc, rt, &items.types, &asked);
     let classes = Classes::new(alloc, entries.as_slice()).expect(rt, "classes");
-    let bindings = value_bindings(alloc, types, entries.as_slice(), &classes);
+    let bindings = value_bindings(alloc, &items.types, entries.as_slice(), &classes);
     let bindings = bindings.expect(rt, "bindings");
-    match bindings.of(value) {
-        Some(binding) => {
-            assert!(rt; binding.class == class);
-            assert!(rt; binding.name == name);
-        }
-        None => panic!(rt; "nothing binds it"),
+    match bindings.of(items.definition(rt, bound.place)) {
+        Some(binding) => binding.class == bound.class && binding.name == bound.listed,
+        None => false,
     }
 }
 
 #[test]
-fn versions_on_one_track_bind_a_type_in_one_class(rt: HostRuntime) {
-    let alloc = rt.alloc();
-    let mut types = Types::new(alloc);
-    let (old, item) = enumeration(&rt, &mut types, alloc);
-    let first = listing(&rt, &mut types, alloc, "a:b/c@0.2.0", &[], item);
-    let (new, item) = enumeration(&rt, &mut types, alloc);
-    let second = listing(&rt, &mut types, alloc, "a:b/c@0.2.3", &[], item);
-    let asked = [
-        ("a:b/c@0.2.0", ItemKind::Instance(first)),
-        ("a:b/c@0.2.3", ItemKind::Instance(second)),
-    ];
-    assert_bound(alloc, &rt, &types, &asked, old, 0, Some("t"));
-    assert_bound(alloc, &rt, &types, &asked, new, 0, Some("t"));
-}
-
-#[test]
-fn a_used_type_is_bound_where_it_is_used_from(rt: HostRuntime) {
-    let alloc = rt.alloc();
-    let mut types = Types::new(alloc);
-    let (id, item) = enumeration(&rt, &mut types, alloc);
-    let j = listing(&rt, &mut types, alloc, "n:p/j", &[], item);
-    let i = listing(&rt, &mut types, alloc, "n:p/i", &[("t", j, None)], item);
-    let asked = [
-        ("n:p/i", ItemKind::Instance(i)),
-        ("n:p/j", ItemKind::Instance(j)),
-    ];
-    assert_bound(alloc, &rt, &types, &asked, id, 1, Some("t"));
-    assert_bound(alloc, &rt, &types, &asked[..1], id, 0, Some("t"));
-}
-
-#[test]
-fn a_type_item_binds_its_type(rt: HostRuntime) {
-    let alloc = rt.alloc();
-    let mut types = Types::new(alloc);
-    let (id, item) = enumeration(&rt, &mut types, alloc);
-    assert_bound(alloc, &rt, &types, &[("t", item)], id, 0, None);
+fn a_named_type_is_bound_by_one_class(rt: HostRuntime) {
+    for bound in BOUND {
+        assert_row(&rt, is_bound(&rt, rt.alloc(), bound), bound.name);
+    }
 }
