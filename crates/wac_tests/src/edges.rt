@@ -100,70 +100,79 @@ fn assert_lowest(
     steps: &[(usize, usize)],
     want: Option<usize>,
 ) {
-    assert_eq!(rt; lowest(alloc, count, steps).expect(rt, "an answer"), want);
+    assert!(rt; lowest(alloc, count, steps) == Ok(want), "{want:?}");
 }
 
-#[test]
-fn finds_the_lowest_on_a_cycle(rt: HostRuntime) {
-    let alloc = rt.alloc();
-    assert_lowest(&rt, alloc, 3, &[], None);
-    assert_lowest(&rt, alloc, 3, &[(0, 1), (0, 2), (1, 2)], None);
-    assert_lowest(&rt, alloc, 3, &[(2, 2), (1, 0)], Some(2));
+/// How many numbers there are, the steps between them, and the lowest on a cycle.
+const LOWEST: &[(usize, &[(usize, usize)], Option<usize>)] = &[
+    (3, &[], None),
+    (3, &[(0, 1), (0, 2), (1, 2)], None),
+    (3, &[(2, 2), (1, 0)], Some(2)),
     // 0 is fed by a cycle of 1 and 2, or leads to it, or both.
-    assert_lowest(&rt, alloc, 3, &[(1, 2), (2, 1), (1, 0)], Some(1));
-    assert_lowest(&rt, alloc, 3, &[(1, 2), (2, 1), (0, 2)], Some(1));
-    assert_lowest(&rt, alloc, 3, &[(1, 2), (2, 1), (0, 1), (2, 0)], Some(0));
-}
+    (3, &[(1, 2), (2, 1), (1, 0)], Some(1)),
+    (3, &[(1, 2), (2, 1), (0, 2)], Some(1)),
+    (3, &[(1, 2), (2, 1), (0, 1), (2, 0)], Some(0)),
+    // 0 stands between two cycles.
+    (
+        5,
+        &[(3, 4), (4, 3), (3, 0), (0, 1), (1, 2), (2, 1)],
+        Some(1),
+    ),
+    // Two cycles share 3.
+    (
+        5,
+        &[(4, 3), (3, 4), (3, 1), (1, 3), (2, 1), (1, 0)],
+        Some(1),
+    ),
+];
 
 #[test]
-fn finds_the_lowest_on_two_cycles(rt: HostRuntime) {
-    // 0 stands between them.
-    let apart = [(3, 4), (4, 3), (3, 0), (0, 1), (1, 2), (2, 1)];
-    assert_lowest(&rt, rt.alloc(), 5, &apart, Some(1));
-    // They share 3.
-    let joined = [(4, 3), (3, 4), (3, 1), (1, 3), (2, 1), (1, 0)];
-    assert_lowest(&rt, rt.alloc(), 5, &joined, Some(1));
-}
-
-/// A step from each number to the next, so many from this one on.
-fn chain(rt: &impl Abort, alloc: Global, first: usize, count: usize) -> Vec<(usize, usize)> {
-    let mut steps = Vec::new(alloc);
-    for n in first..first.saturating_add(count) {
-        steps
-            .push((n, n.saturating_add(1)))
-            .expect(rt, "room for a step");
+fn finds_the_lowest_on_cycles(rt: HostRuntime) {
+    for (count, steps, want) in LOWEST {
+        assert_lowest(&rt, rt.alloc(), *count, steps, *want);
     }
-    steps
 }
 
-/// Steps between 100,000 numbers: the lower half lead up, the upper half are cycles of four, each of which leads to the next.
-fn cycles_above(rt: &impl Abort, alloc: Global) -> Vec<(usize, usize)> {
-    let mut steps = chain(rt, alloc, 0, 99_999);
+/// A step from each of 100,000 numbers to the next; from the last back to a number, if one is given.
+fn chain(alloc: Global, back: Option<usize>) -> Result<Vec<(usize, usize)>, AllocError> {
+    let mut steps = Vec::new(alloc);
+    for n in 0..99_999 {
+        steps.push((n, n + 1))?;
+    }
+    if let Some(to) = back {
+        steps.push((99_999, to))?;
+    }
+    Ok(steps)
+}
+
+/// Adds steps, so that the lower half lead up and the upper half are cycles of four, each of which leads to the next.
+fn add_cycles_above(steps: &mut Vec<(usize, usize)>) -> Result<(), AllocError> {
     for n in 0..50_000 {
-        steps.push((n, n * 2 + 1)).expect(rt, "room for a step");
+        steps.push((n, n * 2 + 1))?;
     }
     for n in 12_500..25_000 {
-        steps.push((n * 4 + 3, n * 4)).expect(rt, "room for a step");
+        steps.push((n * 4 + 3, n * 4))?;
     }
-    steps
+    Ok(())
+}
+
+/// The last of 100,000 numbers leads back to this one, and this is the lowest on a cycle.
+fn assert_back(rt: &(impl Abort + AllocGlobal), back: Option<usize>, want: Option<usize>) {
+    let steps = chain(rt.alloc(), back).expect(rt, "steps");
+    assert_lowest(rt, rt.alloc(), 100_000, steps.as_slice(), want);
 }
 
 #[test]
 fn takes_no_walk_from_each_number(rt: HostRuntime) {
-    let alloc = rt.alloc();
-    let mut ring = chain(&rt, alloc, 0, 99_999);
-    assert_lowest(&rt, alloc, 100_000, &ring, None);
-    ring.push((99_999, 0)).expect(&rt, "room for a step");
-    assert_lowest(&rt, alloc, 100_000, &ring, Some(0));
+    assert_back(&rt, None, None);
+    assert_back(&rt, Some(0), Some(0));
 }
 
 #[test]
 fn takes_no_walk_where_all_lead_to_a_cycle(rt: HostRuntime) {
-    let alloc = rt.alloc();
     // All others lead to a cycle of the last two.
-    let mut tail = chain(&rt, alloc, 0, 99_999);
-    tail.push((99_999, 99_998)).expect(&rt, "room for a step");
-    assert_lowest(&rt, alloc, 100_000, &tail, Some(99_998));
-    let above = cycles_above(&rt, alloc);
-    assert_lowest(&rt, alloc, 100_000, &above, Some(50_000));
+    assert_back(&rt, Some(99_998), Some(99_998));
+    let mut above = chain(rt.alloc(), None).expect(&rt, "steps");
+    add_cycles_above(&mut above).expect(&rt, "steps");
+    assert_lowest(&rt, rt.alloc(), 100_000, above.as_slice(), Some(50_000));
 }
