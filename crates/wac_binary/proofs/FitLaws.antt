@@ -7,7 +7,7 @@ use Rattle.wac_binary.specs.Items.{ValueDef, primitive_def, TypeDef, value_def, 
 use Rattle.wac_binary.specs.Bytes.{text, sort, value_def_bytes, type_bytes, module_decl_bytes, decl_bytes, decls_bytes, item_bytes, section_id, is_shared, Section, alone, joins, joined, sections_from, sections, contents, section_bytes, preamble, bytes_of}
 use Rattle.wac_binary.specs.Indexes.{adds, is_in, indexes, decl_adds, declared}
 use Rattle.wac_binary.specs.Fits.{SectionFits, Fits, DeclarationsFit, ModuleFits}
-use Rattle.wac_binary.proofs.DeclLaws.{bytes_all}
+use Rattle.wac_binary.proofs.DeclBytes.{bytes_all}
 use Rattle.wac_binary.proofs.SectionLaws.{joins_id}
 
 -- no part is empty

@@ -1,13 +1,7 @@
-pub mod Vectors
-pub mod Short
 pub mod Counts
+pub mod DeclBytes
 pub mod SectionLaws
-pub mod ItemLaws
-pub mod WrittenLaws
-pub mod DeclLaws
 pub mod FitLaws
-pub mod ModuleLaws
-pub mod CustomLaws
 pub mod CustomReading
 pub mod MeaningLaws
 pub mod ScopeLaws

@@ -40,18 +40,25 @@ pub enum Description {
 
 /// The index spaces of a scope: one for each sort, and one for core types.
 #[derive(Clone, Copy, Debug, PartialEq, Eq)]
-pub(crate) enum IndexSpace {
+pub enum IndexSpace {
+    /// That of core modules.
     CoreModules,
+    /// That of functions.
     Funcs,
+    /// That of values.
     Values,
+    /// That of types.
     Types,
+    /// That of components.
     Components,
+    /// That of instances.
     Instances,
+    /// That of core types.
     CoreTypes,
 }
 
 /// At which place the count of an index space stands.
-pub(crate) fn number(s: IndexSpace) -> usize
+pub fn number(s: IndexSpace) -> usize
     ensures is { result ≡ number_of s }
     ensures small { result < 7 }
 {
@@ -67,7 +74,7 @@ pub(crate) fn number(s: IndexSpace) -> usize
 }
 
 /// The index space of a sort.
-pub(crate) fn space(s: Sort) -> IndexSpace
+pub fn space(s: Sort) -> IndexSpace
     ensures { number_of result ≡ space_of s }
 {
     match s {
@@ -81,7 +88,7 @@ pub(crate) fn space(s: Sort) -> IndexSpace
 }
 
 /// The sort of what a description describes.
-pub(crate) fn described_sort(d: Description) -> Sort
+pub fn described_sort(d: Description) -> Sort
     ensures { result ≡ sort_of d }
 {
     match d {

@@ -1,6 +1,6 @@
 use std::alloc::Global;
 use std::process::Abort;
-use wac_binary::{
+use wac_builder::{
     BinaryFault, ComponentBuilder, ComponentValType, Description, FuncType, InstanceType, Sort,
 };
 use wac_collection::PrimitiveType;

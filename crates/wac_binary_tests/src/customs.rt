@@ -1,5 +1,5 @@
 use crate::components::assert_written;
-use wac_binary::{ComponentBuilder, Sort, component_names, producers};
+use wac_builder::{ComponentBuilder, Sort, component_names, producers};
 
 // The processor `x` with the version `1`.
 #[test]

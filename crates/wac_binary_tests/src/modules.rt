@@ -1,6 +1,6 @@
 use crate::components::assert_written;
 use std::process::Abort;
-use wac_binary::{
+use wac_builder::{
     BinaryFault, ComponentBuilder, ComponentType, EntityType, GlobalType, InstanceType, MemoryType,
     ModuleType, TableType,
 };

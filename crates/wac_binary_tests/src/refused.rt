@@ -1,5 +1,5 @@
 use crate::components::assert_written;
-use wac_binary::{
+use wac_builder::{
     BinaryFault, ComponentBuilder, Description, EntityType, InstanceType, ModuleType, Sort,
 };
 

@@ -1,7 +1,7 @@
 use crate::components::assert_written;
 use std::alloc::Global;
 use std::process::Abort;
-use wac_binary::{
+use wac_builder::{
     BinaryFault, ComponentBuilder, ComponentType, ComponentValType, DefinedType, Description,
     FuncType, InstanceType, Sort,
 };

@@ -17,7 +17,7 @@ ghost use Rattle.wac_validation.specs.Valid.{AreValid};
 ghost use Rattle.wac_writing.specs.Refused.{IsRefusedBefore};
 
 use crate::graph::CompositionGraph;
-use wac_binary::ComponentBuilder;
+use wac_builder::ComponentBuilder;
 use wac_causes::EncodeError;
 use wac_encoding::write;
 use wac_importing::WrittenImports;

@@ -19,7 +19,7 @@ ghost use Rattle.wac_encode.specs.Items.{ListsHeld, CanClose, CanList, nothing_i
 
 use crate::encoder::TypeEncoder;
 use std::alloc::{AllocError, Global};
-use wac_binary::{ComponentValType, InstanceType};
+use wac_builder::{ComponentValType, InstanceType};
 use wac_collection::{
     DefinedTypeId, FuncTypeId, InterfaceId, ItemKind, Named, PrimitiveType, Type, ValueType,
 };

@@ -17,7 +17,7 @@ use crate::encoder::TypeEncoder;
 use crate::interfaces::{entry_of, instance_type};
 use crate::level::{Level, Next};
 use std::alloc::AllocError;
-use wac_binary::InstanceType;
+use wac_builder::InstanceType;
 use wac_collection::{InterfaceId, ItemKind};
 use wac_scopes::{EncodeFault, Scope, closing_law, listing_law, step_law, still_law};
 

@@ -10,7 +10,7 @@ ghost use Rattle.wac_encode.specs.Tasks.{AliasesOne, IsOneAliasRefused};
 
 use crate::encoder::TypeEncoder;
 use std::alloc::AllocError;
-use wac_binary::InstanceType;
+use wac_builder::InstanceType;
 use wac_collection::{DefinedTypeId, InterfaceId, ValueType};
 use wac_listing::definitions_of;
 use wac_scopes::{Encodable, EncodeFault, Scope, step_law, still_law};

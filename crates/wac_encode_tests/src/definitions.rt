@@ -1,7 +1,7 @@
 //! Definitions that are written into the root.
 
 use std::test::Fail;
-use wac_binary::ComponentBuilder;
+use wac_builder::ComponentBuilder;
 use wac_collection::Types;
 use wac_root::RootEncoder;
 use wac_scopes::{Encodable, Scope, rooted_law};

@@ -3,7 +3,7 @@
 use crate::shapes::{defined, function, resource};
 use std::process::Abort;
 use std::test::Fail;
-use wac_binary::{ComponentBuilder, ComponentValType, Description, InstanceType};
+use wac_builder::{ComponentBuilder, ComponentValType, Description, InstanceType};
 use wac_collection::Types;
 use wac_encode::TypeEncoder;
 use wac_scopes::{Encodable, EncodeFault, Scope, WriteFault};

@@ -2,7 +2,7 @@
 
 use crate::shapes::{defined, enumeration, function, interface, resource};
 use std::process::Abort;
-use wac_binary::ComponentBuilder;
+use wac_builder::ComponentBuilder;
 use wac_collection::Types;
 use wac_root::RootEncoder;
 use wac_scopes::{Encodable, EncodeFault, Scope, WriteFault};

@@ -3,7 +3,7 @@
 use std::alloc::Global;
 use std::process::Abort;
 use std::test::Fail;
-use wac_binary::ComponentBuilder;
+use wac_builder::ComponentBuilder;
 use wac_collection::{CoreExtern, CoreFuncType, CoreRefType, CoreType, ModuleType};
 use wac_modules::module_type;
 

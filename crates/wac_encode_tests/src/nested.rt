@@ -4,7 +4,7 @@ ghost use Rattle.wac_collection.specs.Collection.{HasInterface};
 
 use crate::shapes::{enumeration, function, interface};
 use std::process::Abort;
-use wac_binary::{ComponentBuilder, Description};
+use wac_builder::{ComponentBuilder, Description};
 use wac_collection::Types;
 use wac_encode::TypeEncoder;
 use wac_scopes::{Encodable, Scope};

@@ -1,7 +1,7 @@
 //! Types and imports that are written at the root.
 
 use std::test::Fail;
-use wac_binary::{ComponentBuilder, EntityType, MemoryType, ModuleType, Sort};
+use wac_builder::{ComponentBuilder, EntityType, MemoryType, ModuleType, Sort};
 use wac_collection::Types;
 use wac_encode::TypeEncoder;
 use wac_root::RootEncoder;

@@ -1,7 +1,7 @@
 //! What is recorded in an open scope.
 
 use std::process::Abort;
-use wac_binary::{ComponentValType, DefinedType, InstanceType};
+use wac_builder::{ComponentValType, DefinedType, InstanceType};
 use wac_scopes::{Encodable, Scope};
 use wac_shapes::{DefinedTypeId, PrimitiveType, ResourceId, ValueType};
 

@@ -2,7 +2,7 @@
 
 use crate::shapes::{defined, resource};
 use std::process::Abort;
-use wac_binary::{ComponentValType, InstanceType};
+use wac_builder::{ComponentValType, InstanceType};
 use wac_collection::Types;
 use wac_encode::TypeEncoder;
 use wac_scopes::{Encodable, EncodeFault, Scope, WriteFault};

@@ -21,7 +21,7 @@ ghost use Rattle.wac_writing.specs.Places.{ArePlaced};
 ghost use Rattle.wac_reading.specs.EncoderView.{progress};
 
 use std::alloc::AllocError;
-use wac_binary::{ComponentBuilder, Sort};
+use wac_builder::{ComponentBuilder, Sort};
 use wac_causes::EncodeError;
 use wac_merge::laws::{class_laws, order_law};
 use wac_nodes::{EncodeOptions, NodeId, NodeKind};

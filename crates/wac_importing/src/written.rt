@@ -21,7 +21,7 @@ ghost use Rattle.wac_importing.specs.Modules.{WritesOne};
 use crate::importable::are_importable;
 use crate::modules::import_module;
 use std::alloc::Global;
-use wac_binary::{BinaryFault, ComponentBuilder, Sort};
+use wac_builder::{BinaryFault, ComponentBuilder, Sort};
 use wac_collection::{ItemKind, Named, Types};
 use wac_merge::TypeAggregator;
 use wac_root::RootEncoder;

@@ -15,7 +15,7 @@ use wac_collection::{CoreExtern, ModuleType};
 ///
 /// Answers `TooLarge` where the declarations do not fit 32 bits, memory aside, and only there; and `OutOfMemory` where memory was
 /// refused.
-pub fn module_type(alloc: Global, held: &ModuleType) -> Result<wac_binary::ModuleType, BinaryFault>
+pub fn module_type(alloc: Global, held: &ModuleType) -> Result<wac_builder::ModuleType, BinaryFault>
     ensures declared { IfOk result (λ t. t ≡ declarations_of held.now) }
     ensures means { IfOk result (MeansModule held.now) }
     ensures fits { OnOk result (ModuleFits (declarations_of held.now)) }
@@ -23,7 +23,7 @@ pub fn module_type(alloc: Global, held: &ModuleType) -> Result<wac_binary::Modul
 {
     held.imports.law();
     held.exports.law();
-    let mut written = wac_binary::ModuleType::new(alloc);
+    let mut written = wac_builder::ModuleType::new(alloc);
     for i in 0..held.imports.len() {
         let ((source, name), item) = held.imports.entry_at(i);
         declare_import(&mut written, source, name, item)?;
@@ -38,7 +38,7 @@ pub fn module_type(alloc: Global, held: &ModuleType) -> Result<wac_binary::Modul
 
 /// Declares an import, behind the function type that it needs.
 fn declare_import(
-    written: &mut wac_binary::ModuleType,
+    written: &mut wac_builder::ModuleType,
     source: &str,
     name: &str,
     item: &CoreExtern,
@@ -52,7 +52,7 @@ fn declare_import(
 
 /// Declares an export, behind the function type that it needs.
 fn declare_export(
-    written: &mut wac_binary::ModuleType,
+    written: &mut wac_builder::ModuleType,
     name: &str,
     item: &CoreExtern,
 ) -> Result<(), BinaryFault>
@@ -65,7 +65,7 @@ fn declare_export(
 
 /// Declares the function type that an item needs, where it needs one, and answers how the item is described.
 fn entity_type(
-    written: &mut wac_binary::ModuleType,
+    written: &mut wac_builder::ModuleType,
     item: &CoreExtern,
 ) -> Result<EntityType, BinaryFault>
     ensures described { IfOk result (λ x. x ≡ entity (function_types written.old) item.now) }

@@ -7,7 +7,7 @@ ghost use Rattle.wac_scopes.specs.Rooted.{IsRightRoot};
 
 use indexmap::IndexMap;
 use std::alloc::Global;
-use wac_binary::{ComponentBuilder, Sort};
+use wac_builder::{ComponentBuilder, Sort};
 use wac_causes::EncodeError;
 use wac_nodes::PackageId;
 use wac_scopes::{Encodable, Scope, rooted_law};

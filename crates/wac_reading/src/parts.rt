@@ -21,7 +21,7 @@ ghost use Rattle.wac_writing.specs.Further.{further_at};
 use crate::encoder::{Encoder, sort_of};
 use crate::reader::GraphReader;
 use std::alloc::{AllocError, Global};
-use wac_binary::{ComponentBuilder, component_names, producers};
+use wac_builder::{ComponentBuilder, component_names, producers};
 use wac_causes::EncodeError;
 use wac_importing::write_definition;
 use wac_merge::laws::{class_laws, order_law};

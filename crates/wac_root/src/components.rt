@@ -7,7 +7,7 @@ ghost use Rattle.wac_encode.specs.Listing.{lists_plain};
 ghost use Rattle.wac_root.specs.Components.{HasId, SaysComponent, WritesComponent, IsComponentRefused, IsComponent};
 
 use crate::root::RootEncoder;
-use wac_binary::ComponentType;
+use wac_builder::ComponentType;
 use wac_collection::InterfaceId;
 use wac_scopes::{Encodable, EncodeFault, Scope, closing_law, step_law};
 

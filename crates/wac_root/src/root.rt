@@ -10,7 +10,7 @@ ghost use Rattle.wac_encode.specs.Listing.{NeededBy, SaysIfThere, WritesIfThere,
 ghost use Rattle.wac_encode.specs.Instances.{AddsHeldInterface, IsInterfaceAt, IsInstanceRefused, listed_definitions};
 
 use std::alloc::AllocError;
-use wac_binary::{ComponentValType, InstanceType};
+use wac_builder::{ComponentValType, InstanceType};
 use wac_collection::{
     DefinedTypeId, FuncTypeId, InterfaceId, ItemKind, Named, Text, Types, ValueType,
 };

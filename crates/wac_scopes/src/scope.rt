@@ -23,7 +23,7 @@ use crate::laws::rooted_law;
 use crate::side::Side;
 use std::alloc::{AllocError, Global};
 use std::collections::HashMap;
-use wac_binary::{
+use wac_builder::{
     BinaryFault, ComponentType, ComponentValType, DefinedType, Description, FuncType, InstanceType,
     ModuleType, Sort,
 };

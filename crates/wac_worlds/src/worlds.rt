@@ -16,7 +16,7 @@ ghost use Rattle.wac_worlds.specs.Declaring.{is_declarable as declarable_item, a
 ghost use Rattle.wac_worlds.specs.Worlds.{is_plain_world, SaysIfThere, WritesIfThere, IsWorldRefused};
 
 use std::alloc::AllocError;
-use wac_binary::{ComponentType, ComponentValType};
+use wac_builder::{ComponentType, ComponentValType};
 use wac_collection::{
     DefinedTypeId, FuncTypeId, InterfaceId, ItemKind, Named, Text, Type, Types, ValueType, WorldId,
 };

@@ -1,7 +1,7 @@
 //! Worlds as component types: their bytes, and which are not written.
 
 use std::test::Fail;
-use wac_binary::ComponentBuilder;
+use wac_builder::ComponentBuilder;
 use wac_collection::Types;
 use wac_scopes::{Encodable, EncodeFault, Scope, WriteFault};
 use wac_shapes::{

@@ -1,0 +1,329 @@
+//! A component, item by item.
+
+ghost use Rattle.std.specs.Prelude.{◌≡◌, List, ℕ, ◌+◌, ◌<◌, ◌≤◌, ◌^◌, ◌++◌, ◌∷◌, [], length, OnOk, OnErr, IfOk, IfErr, IfSome, Some, None};
+ghost use Rattle.wac_binary.specs.Items.{Item as OfItem, decls, value_def, component_def, instance_def, core_type, custom, nested, instantiate, alias_item, export_alias, outer_alias, type_item, import_item, export_item};
+ghost use Rattle.wac_binary.specs.Bytes.{bytes_of};
+ghost use Rattle.wac_binary.specs.Indexes.{space, core_types, described_sort, adds, indexes};
+ghost use Rattle.wac_binary.specs.Spaces.{number as number_of};
+ghost use Rattle.wac_binary.specs.Fits.{Fits, TooLargeUnless};
+ghost use Rattle.wac_binary.specs.Views.{arguments_of, func_of, defined_of};
+ghost use Rattle.wac_sections.specs.ItemView.{item_of};
+ghost use Rattle.wac_builder.specs.Written.{Written, Written_prop};
+ghost use Rattle.wac_binary.specs.declared.fault.BinaryFault.TheVariants.{OutOfMemory};
+ghost use Rattle.wac_binary.specs.declared.sorts.Sort.TheVariants as s;
+
+use std::alloc::Global;
+use std::marker::Model;
+use wac_binary::fault::BinaryFault;
+use wac_binary::sorts::{Description, IndexSpace, Sort, described_sort, number, space};
+use wac_binary::types::{DefinedType, FuncType};
+use wac_declarations::component_type::ComponentType;
+use wac_declarations::decl::{AliasRef, Scope, TypeRef};
+use wac_declarations::instance_type::InstanceType;
+use wac_declarations::module_type::ModuleType;
+use wac_sections::item::{AloneRef, ItemRef, alone_size, section_id};
+use wac_sections::section::{Open, begin, has_room, put_alone, put_open, put_shared};
+
+/// Writes a component, item by item. Contracts see it as the list of its items.
+///
+/// A writer takes any index: what it stands for is a matter of the items. Each writer adds one item at the end and
+/// answers the index that the item adds to the space of its sort. It answers `TooLarge` exactly where the items with
+/// the new one no longer fit 32 bits, and `OutOfMemory` where memory is refused; then it has added nothing.
+#[derive(Debug)]
+pub struct ComponentBuilder {
+    alloc: Global,
+    bytes: Vec<u8>,
+    things: Vec<u8>,
+    next: Vec<u8>,
+    open_section: Option<Open>,
+    counts: [u64; 7],
+    ghost written: { Written bytes.items open_section things.items } by { Written_prop bytes.items open_section things.items },
+}
+
+/// What is written is let go of here, and not anew at each place where a builder goes out of scope.
+impl Drop for ComponentBuilder {
+    fn drop(self) {
+        let ComponentBuilder {
+            alloc: _,
+            bytes: _,
+            things: _,
+            next: _,
+            open_section: _,
+            counts: _,
+        } = self;
+    }
+}
+
+impl Model for ComponentBuilder {
+    ghost use Rattle.std.specs.Prelude.{List};
+    ghost use Rattle.std.specs.Coded.{coded_list};
+    ghost use Rattle.wac_binary.specs.Items.{Item as OfItem};
+    ghost use Rattle.wac_binary.specs.Code.{coded_item};
+
+    ghost Value = { List OfItem };
+
+    ghost coded = { coded_list coded_item };
+
+    ghost use Rattle.wac_builder.specs.WrittenView.{view as the_items, IsWritten};
+
+    ghost view = { the_items };
+
+    ghost invariant = { IsWritten };
+}
+
+impl ComponentBuilder {
+    /// A component without items.
+    pub fn new(alloc: Global) -> ComponentBuilder
+        ensures { result ≡ [] }
+    {
+        ComponentBuilder {
+            alloc,
+            bytes: Vec::new(alloc),
+            things: Vec::new(alloc),
+            next: Vec::new(alloc),
+            open_section: None,
+            counts: [0; 7],
+        }
+    }
+
+    /// That what is written fits.
+    pub fn fit_law(&self)
+        ensures { Fits self.now }
+    {
+        let _ = &self.bytes;
+    }
+
+    /// Adds an item at the end, and answers the index that it adds to this space.
+    #[inline(always)]
+    fn append(&mut self, item: &ItemRef<'_>, space: IndexSpace) -> Result<u32, BinaryFault>
+        requires { adds (item_of item.now) ≡ Some (number_of space) }
+        ensures index { IfOk result (λ i. i ≡ indexes (number_of space) self.old) }
+        ensures appended { OnOk result (self.new ≡ self.old ++ item_of item.now ∷ []) }
+        ensures fits { OnOk result (Fits self.new) }
+        ensures refused { OnErr result (self.new ≡ self.old) }
+        ensures too_large { TooLargeUnless result (Fits (self.old ++ item_of item.now ∷ [])) }
+    {
+        let at = number(space);
+        let index = self.counts[at];
+        if !has_room(index, &self.open_section, &self.things, item) {
+            return Err(BinaryFault::TooLarge);
+        }
+        let id = section_id(item);
+        begin(&mut self.bytes)?;
+        let count = put_shared(
+            &mut self.bytes,
+            &mut self.things,
+            &mut self.next,
+            &self.open_section,
+            item,
+        )?;
+        self.counts[at] = index + 1;
+        self.open_section = Some(Open { id, count });
+        Ok(index as u32)
+    }
+
+    /// Adds a whole component, as it is, and answers its component index.
+    pub fn component(&mut self, bytes: &[u8]) -> Result<u32, BinaryFault>
+        ensures index { IfOk result (λ i. i ≡ indexes (space s.Component) self.old) }
+        ensures appended { OnOk result (self.new ≡ self.old ++ nested bytes.now ∷ []) }
+        ensures fits { OnOk result (Fits self.new) }
+        ensures refused { OnErr result (self.new ≡ self.old) }
+        ensures too_large { TooLargeUnless result (Fits (self.old ++ nested bytes.now ∷ [])) }
+    {
+        let item = AloneRef::Component(bytes);
+        let at = number(IndexSpace::Components);
+        let index = self.counts[at];
+        let size = alone_size(index, &item)?;
+        begin(&mut self.bytes)?;
+        put_alone(
+            &mut self.bytes,
+            self.open_section,
+            &self.things,
+            &item,
+            size,
+        )?;
+        self.counts[at] = index + 1;
+        self.open_section = None;
+        Ok(index as u32)
+    }
+
+    /// Adds a custom section with this name.
+    pub fn custom(&mut self, name: &str, bytes: &[u8]) -> Result<(), BinaryFault>
+        ensures appended { OnOk result (self.new ≡ self.old ++ custom name.now bytes.now ∷ []) }
+        ensures fits { OnOk result (Fits self.new) }
+        ensures refused { OnErr result (self.new ≡ self.old) }
+        ensures too_large { TooLargeUnless result (Fits (self.old ++ custom name.now bytes.now ∷ [])) }
+    {
+        let item = AloneRef::Custom { name, bytes };
+        let last = self.open_section;
+        let size = alone_size(0, &item)?;
+        begin(&mut self.bytes)?;
+        put_alone(&mut self.bytes, last, &self.things, &item, size)?;
+        self.open_section = None;
+        Ok(())
+    }
+
+    /// Adds an instance of the component with this index, with arguments by name, sort and index, and answers its
+    /// instance index.
+    pub fn instantiate(
+        &mut self,
+        component: u32,
+        arguments: &[(&str, Sort, u32)],
+    ) -> Result<u32, BinaryFault>
+        ensures index { IfOk result (λ i. i ≡ indexes (space s.Instance) self.old) }
+        ensures appended { OnOk result (self.new ≡ self.old ++ instantiate component (arguments_of arguments.now) ∷ []) }
+        ensures fits { OnOk result (Fits self.new) }
+        ensures refused { OnErr result (self.new ≡ self.old) }
+        ensures too_large { TooLargeUnless result (Fits (self.old ++ instantiate component (arguments_of arguments.now) ∷ [])) }
+    {
+        self.append(
+            &ItemRef::Instance {
+                component,
+                arguments,
+            },
+            IndexSpace::Instances,
+        )
+    }
+
+    /// Adds an alias of the export of this sort and name of the instance with this index, and answers its index of
+    /// that sort.
+    pub fn alias_export(
+        &mut self,
+        sort: Sort,
+        instance: u32,
+        name: &str,
+    ) -> Result<u32, BinaryFault>
+        ensures index { IfOk result (λ i. i ≡ indexes (space sort) self.old) }
+        ensures appended { OnOk result (self.new ≡ self.old ++ alias_item (export_alias sort instance name.now) ∷ []) }
+        ensures fits { OnOk result (Fits self.new) }
+        ensures refused { OnErr result (self.new ≡ self.old) }
+        ensures too_large { TooLargeUnless result (Fits (self.old ++ alias_item (export_alias sort instance name.now) ∷ [])) }
+    {
+        let alias = AliasRef::Export(sort, instance, name);
+        self.append(&ItemRef::Alias(alias), space(sort))
+    }
+
+    /// Adds an alias of what has this index of this sort in the scope so many scopes out (0 is the component
+    /// itself), and answers its index of that sort.
+    pub fn alias_outer(&mut self, sort: Sort, count: u32, index: u32) -> Result<u32, BinaryFault>
+        ensures index { IfOk result (λ i. i ≡ indexes (space sort) self.old) }
+        ensures appended { OnOk result (self.new ≡ self.old ++ alias_item (outer_alias sort count index) ∷ []) }
+        ensures fits { OnOk result (Fits self.new) }
+        ensures refused { OnErr result (self.new ≡ self.old) }
+        ensures too_large { TooLargeUnless result (Fits (self.old ++ alias_item (outer_alias sort count index) ∷ [])) }
+    {
+        let alias = AliasRef::Outer(sort, count, index);
+        self.append(&ItemRef::Alias(alias), space(sort))
+    }
+
+    /// Adds a value type, and answers its type index.
+    pub fn defined_type(&mut self, t: &DefinedType<'_>) -> Result<u32, BinaryFault>
+        ensures index { IfOk result (λ i. i ≡ indexes (space s.Type) self.old) }
+        ensures appended { OnOk result (self.new ≡ self.old ++ type_item (value_def (defined_of t.now)) ∷ []) }
+        ensures fits { OnOk result (Fits self.new) }
+        ensures refused { OnErr result (self.new ≡ self.old) }
+        ensures too_large { TooLargeUnless result (Fits (self.old ++ type_item (value_def (defined_of t.now)) ∷ [])) }
+    {
+        self.append(&ItemRef::Type(TypeRef::Defined(t)), IndexSpace::Types)
+    }
+
+    /// Adds a function type, and answers its type index.
+    pub fn func_type(&mut self, f: &FuncType<'_>) -> Result<u32, BinaryFault>
+        ensures index { IfOk result (λ i. i ≡ indexes (space s.Type) self.old) }
+        ensures appended { OnOk result (self.new ≡ self.old ++ type_item (func_of f.now) ∷ []) }
+        ensures fits { OnOk result (Fits self.new) }
+        ensures refused { OnErr result (self.new ≡ self.old) }
+        ensures too_large { TooLargeUnless result (Fits (self.old ++ type_item (func_of f.now) ∷ [])) }
+    {
+        self.append(&ItemRef::Type(TypeRef::Func(f)), IndexSpace::Types)
+    }
+
+    /// Adds a component type with these declarations, and answers its type index.
+    pub fn component_type(&mut self, t: &ComponentType) -> Result<u32, BinaryFault>
+        ensures index { IfOk result (λ i. i ≡ indexes (space s.Type) self.old) }
+        ensures appended { OnOk result (self.new ≡ self.old ++ type_item (component_def (decls t.now)) ∷ []) }
+        ensures fits { OnOk result (Fits self.new) }
+        ensures refused { OnErr result (self.new ≡ self.old) }
+        ensures too_large { TooLargeUnless result (Fits (self.old ++ type_item (component_def (decls t.now)) ∷ [])) }
+    {
+        let t = TypeRef::Scope(Scope::Component, t.declarations());
+        self.append(&ItemRef::Type(t), IndexSpace::Types)
+    }
+
+    /// Adds an instance type with these declarations, and answers its type index.
+    pub fn instance_type(&mut self, t: &InstanceType) -> Result<u32, BinaryFault>
+        ensures index { IfOk result (λ i. i ≡ indexes (space s.Type) self.old) }
+        ensures appended { OnOk result (self.new ≡ self.old ++ type_item (instance_def (decls t.now)) ∷ []) }
+        ensures fits { OnOk result (Fits self.new) }
+        ensures refused { OnErr result (self.new ≡ self.old) }
+        ensures too_large { TooLargeUnless result (Fits (self.old ++ type_item (instance_def (decls t.now)) ∷ [])) }
+    {
+        let t = TypeRef::Scope(Scope::Instance, t.declarations());
+        self.append(&ItemRef::Type(t), IndexSpace::Types)
+    }
+
+    /// Adds a core module type, and answers its index among the core types.
+    pub fn core_module_type(&mut self, t: &ModuleType) -> Result<u32, BinaryFault>
+        ensures index { IfOk result (λ i. i ≡ indexes core_types self.old) }
+        ensures appended { OnOk result (self.new ≡ self.old ++ core_type t.now ∷ []) }
+        ensures fits { OnOk result (Fits self.new) }
+        ensures refused { OnErr result (self.new ≡ self.old) }
+        ensures too_large { TooLargeUnless result (Fits (self.old ++ core_type t.now ∷ [])) }
+    {
+        self.append(&ItemRef::CoreModule(t), IndexSpace::CoreTypes)
+    }
+
+    /// Adds an import of this name, and answers its index of the sort that is described.
+    pub fn import(&mut self, name: &str, d: Description) -> Result<u32, BinaryFault>
+        ensures index { IfOk result (λ i. i ≡ indexes (space (described_sort d)) self.old) }
+        ensures appended { OnOk result (self.new ≡ self.old ++ import_item name.now d ∷ []) }
+        ensures fits { OnOk result (Fits self.new) }
+        ensures refused { OnErr result (self.new ≡ self.old) }
+        ensures too_large { TooLargeUnless result (Fits (self.old ++ import_item name.now d ∷ [])) }
+    {
+        self.append(&ItemRef::Import(name, d), space(described_sort(d)))
+    }
+
+    /// Adds an export, under this name, of what has this index of this sort, and answers the new index of that sort.
+    pub fn export(&mut self, name: &str, sort: Sort, index: u32) -> Result<u32, BinaryFault>
+        ensures index { IfOk result (λ i. i ≡ indexes (space sort) self.old) }
+        ensures appended { OnOk result (self.new ≡ self.old ++ export_item name.now sort index ∷ []) }
+        ensures fits { OnOk result (Fits self.new) }
+        ensures refused { OnErr result (self.new ≡ self.old) }
+        ensures too_large { TooLargeUnless result (Fits (self.old ++ export_item name.now sort index ∷ [])) }
+    {
+        self.append(&ItemRef::Export { name, sort, index }, space(sort))
+    }
+
+    /// The bytes of the component. Refused only where memory is: `OutOfMemory`.
+    pub fn finish(&self) -> Result<Vec<u8>, BinaryFault>
+        ensures bytes { IfOk result (λ v. v.items ≡ bytes_of self.now) }
+        ensures fits { Fits self.now }
+        ensures memory { IfErr result (λ e. e ≡ OutOfMemory) }
+    {
+        let mut out = Vec::new(self.alloc);
+        out.extend_from_slice(&self.bytes)?;
+        begin(&mut out)?;
+        put_open(&mut out, self.open_section, &self.things)?;
+        Ok(out)
+    }
+
+    /// The bytes of the component, handed over. Refused only where memory is: `OutOfMemory`.
+    pub fn into_bytes(self) -> Result<Vec<u8>, BinaryFault>
+        ensures bytes { IfOk result (λ v. v.items ≡ bytes_of self) }
+        ensures fits { Fits self }
+        ensures memory { IfErr result (λ e. e ≡ OutOfMemory) }
+    {
+        let ComponentBuilder {
+            alloc: _,
+            mut bytes,
+            things,
+            next: _,
+            open_section,
+            counts: _,
+        } = self;
+        begin(&mut bytes)?;
+        put_open(&mut bytes, open_section, &things)?;
+        Ok(bytes)
+    }
+}

@@ -1,0 +1,3 @@
+pub mod DeclLaws
+pub mod ModuleLaws
+pub mod AnswerLaws

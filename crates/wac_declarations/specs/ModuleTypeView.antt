@@ -1,0 +1,11 @@
+-- What a core module type keeps.
+use Rattle.std.specs.Prelude.{List}
+use Rattle.wac_binary.specs.Items.{ModuleDecl}
+use Rattle.wac_declarations.specs.WrittenModule.{declarations, ModuleState}
+use Rattle.wac_declarations.specs.declared.module_type.ModuleType.TheInside.{Inside}
+
+abbrev pub view : Inside → List ModuleDecl
+view t = declarations t.written
+
+abbrev pub IsWritten : Inside → Type 0
+IsWritten t = ModuleState (view t) t.bytes.items t.count t.types

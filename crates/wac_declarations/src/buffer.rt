@@ -1,0 +1,108 @@
+//! Bytes that grow at both ends.
+
+ghost use Rattle.std.specs.Prelude.{◌≡◌, List, ℕ, ◌<◌, ◌^◌, ◌++◌, ◌∷◌, [], length, OnOk, OnErr};
+ghost use Rattle.wac_binary.specs.Leb.{unsigned};
+ghost use Rattle.wac_binary.specs.Bytes.{decl_bytes};
+ghost use Rattle.wac_declarations.specs.DeclView.{decl_of, scope_byte};
+
+use crate::decl::{DeclRef, Scope, put_decl, put_scope};
+use std::alloc::{AllocError, Global};
+use std::marker::Model;
+
+/// Bytes that grow at both ends. Contracts see them as a list.
+#[derive(Debug, Drop)]
+pub struct Buffer {
+    alloc: Global,
+    /// The bytes of the first part, the last one first, so that it grows at its end.
+    front: Vec<u8>,
+    back: Vec<u8>,
+}
+
+impl Model for Buffer {
+    ghost use Rattle.std.specs.Prelude.{List, ℕ};
+    ghost use Rattle.std.specs.Coded.{coded_list, coded_ℕ};
+
+    ghost Value = { List ℕ };
+
+    ghost coded = { coded_list coded_ℕ };
+
+    ghost use Rattle.wac_declarations.specs.BufferView.{view as the_bytes};
+
+    ghost view = { the_bytes };
+}
+
+impl Buffer {
+    /// No bytes.
+    pub fn new(alloc: Global) -> Buffer
+        ensures { result ≡ [] }
+    {
+        Buffer {
+            alloc,
+            front: Vec::new(alloc),
+            back: Vec::new(alloc),
+        }
+    }
+
+    /// How many there are.
+    pub fn len(&self) -> u128
+        ensures is { result ≡ length self.now }
+        ensures small { result < 2 ^ 65 }
+    {
+        self.front.len() as u128 + self.back.len() as u128
+    }
+
+    /// Puts a declaration at the end, or leaves the bytes as they were.
+    pub fn append(&mut self, d: &DeclRef<'_>) -> Result<(), AllocError>
+        ensures written { OnOk result (self.new ≡ self.old ++ decl_bytes (decl_of d.now)) }
+        ensures refused { OnErr result (self.new ≡ self.old) }
+    {
+        append_decl(&mut self.back, d)
+    }
+
+    /// Puts the bytes around a type of so many declarations, and its head, before these, or leaves these as they were.
+    pub fn wrap(&mut self, around: &Buffer, scope: Scope, count: u64) -> Result<(), AllocError>
+        ensures written { OnOk result (self.new ≡ (around.now ++ 1 ∷ scope_byte scope ∷ unsigned count) ++ self.old) }
+        ensures refused { OnErr result (self.new ≡ self.old) }
+    {
+        let mut before = Vec::new(self.alloc);
+        around.put(&mut before)?;
+        put_scope(&mut before, scope, count)?;
+        self.prepend(before)
+    }
+
+    /// Puts bytes before these, or leaves these as they were.
+    fn prepend(&mut self, mut before: Vec<u8>) -> Result<(), AllocError>
+        ensures written { OnOk result (self.new ≡ before.items ++ self.old) }
+        ensures refused { OnErr result (self.new ≡ self.old) }
+    {
+        before.reverse();
+        self.front.extend_from_slice(&before)
+    }
+
+    /// Puts the bytes at the end of a buffer.
+    pub fn put(&self, out: &mut Vec<u8>) -> Result<(), AllocError>
+        ensures written { OnOk result (out.new.items ≡ out.old.items ++ self.now) }
+        ensures grows { (more : List ℕ) × (out.new.items ≡ out.old.items ++ more) }
+    {
+        let mut front = Vec::new(self.alloc);
+        front.extend_from_slice(&self.front)?;
+        front.reverse();
+        out.extend_from_slice(&front)?;
+        out.extend_from_slice(&self.back)
+    }
+}
+
+/// Puts a declaration at the end of a buffer, or leaves the buffer as it was.
+fn append_decl(out: &mut Vec<u8>, d: &DeclRef<'_>) -> Result<(), AllocError>
+    ensures written { OnOk result (out.new.items ≡ out.old.items ++ decl_bytes (decl_of d.now)) }
+    ensures refused { OnErr result (out.new.items ≡ out.old.items) }
+{
+    let from = out.len();
+    match put_decl(out, d) {
+        Ok(()) => Ok(()),
+        Err(e) => {
+            out.truncate(from);
+            Err(e)
+        }
+    }
+}

@@ -1,0 +1,182 @@
+//! A core module type that is being written, declaration by declaration.
+
+ghost use Rattle.std.specs.Prelude.{◌≡◌, List, ℕ, ◌+◌, ◌<◌, ◌≤◌, ◌^◌, ◌++◌, ◌∷◌, [], length, OnOk, OnErr, IfOk, IsTrue, ◌↔◌};
+ghost use Rattle.wac_binary.specs.Items.{module_import, module_func, module_export};
+ghost use Rattle.wac_binary.specs.Bytes.{module_decl_bytes, module_bytes};
+ghost use Rattle.wac_binary.specs.Indexes.{function_types};
+ghost use Rattle.wac_binary.specs.Fits.{ModuleFits, TooLargeUnless};
+ghost use Rattle.wac_declarations.specs.ModuleView.{module_decl_of};
+ghost use Rattle.wac_declarations.specs.WrittenModule.{WrittenModule, WrittenModule_prop};
+
+use crate::core_decl::{ModuleDeclRef, put_module_decl};
+use crate::core_size::module_decl_size;
+use crate::size::unsigned_size;
+use std::alloc::{AllocError, Global};
+use std::marker::Model;
+use wac_binary::core_types::EntityType;
+use wac_binary::fault::BinaryFault;
+use wac_bytes::put::put_unsigned;
+use wac_shapes::CoreType;
+
+/// A core module type that is being written. Contracts see it as the list of its declarations.
+///
+/// Each writer adds one declaration at the end. It answers `TooLarge` exactly where the declarations with the new one
+/// no longer fit 32 bits, and `OutOfMemory` where memory is refused; then it has added nothing.
+#[derive(Debug)]
+pub struct ModuleType {
+    bytes: Vec<u8>,
+    count: u64,
+    types: u64,
+    ghost written: { WrittenModule bytes.items count } by { WrittenModule_prop bytes.items count },
+}
+
+/// What is written is let go of here, and not anew at each place where a builder goes out of scope.
+impl Drop for ModuleType {
+    fn drop(self) {
+        let ModuleType {
+            bytes: _,
+            count: _,
+            types: _,
+        } = self;
+    }
+}
+
+impl Model for ModuleType {
+    ghost use Rattle.std.specs.Prelude.{List};
+    ghost use Rattle.std.specs.Coded.{coded_list};
+    ghost use Rattle.wac_binary.specs.Items.{ModuleDecl};
+    ghost use Rattle.wac_binary.specs.Code.{coded_module_decl};
+
+    ghost Value = { List ModuleDecl };
+
+    ghost coded = { coded_list coded_module_decl };
+
+    ghost use Rattle.wac_declarations.specs.ModuleTypeView.{view as the_declarations, IsWritten};
+
+    ghost view = { the_declarations };
+
+    ghost invariant = { IsWritten };
+}
+
+impl ModuleType {
+    /// A core module type without declarations.
+    pub fn new(alloc: Global) -> ModuleType
+        ensures { result ≡ [] }
+    {
+        ModuleType {
+            bytes: Vec::new(alloc),
+            count: 0,
+            types: 0,
+        }
+    }
+
+    /// That what is declared fits.
+    pub fn fit_law(&self)
+        ensures { ModuleFits self.now }
+    {
+        let _ = &self.bytes;
+    }
+
+    /// Adds a declaration at the end, and answers how many function types stood before it.
+    fn append(&mut self, d: &ModuleDeclRef<'_>) -> Result<u32, BinaryFault>
+        ensures index { IfOk result (λ i. i ≡ function_types self.old) }
+        ensures appended { OnOk result (self.new ≡ self.old ++ module_decl_of d.now ∷ []) }
+        ensures fits { OnOk result (ModuleFits self.new) }
+        ensures refused { OnErr result (self.new ≡ self.old) }
+        ensures too_large { TooLargeUnless result (ModuleFits (self.old ++ module_decl_of d.now ∷ [])) }
+    {
+        let index = self.types;
+        if !fits(self.count, self.bytes.len(), module_decl_size(d)) {
+            return Err(BinaryFault::TooLarge);
+        }
+        append_module_decl(&mut self.bytes, d)?;
+        self.count += 1;
+        self.types = index + types_in(d);
+        Ok(index as u32)
+    }
+
+    /// Declares a function type with these parameters and results, and answers its index among the function types.
+    pub fn func(&mut self, params: &[CoreType], results: &[CoreType]) -> Result<u32, BinaryFault>
+        ensures index { IfOk result (λ i. i ≡ function_types self.old) }
+        ensures appended { OnOk result (self.new ≡ self.old ++ module_func params.now results.now ∷ []) }
+        ensures fits { OnOk result (ModuleFits self.new) }
+        ensures refused { OnErr result (self.new ≡ self.old) }
+        ensures too_large { TooLargeUnless result (ModuleFits (self.old ++ module_func params.now results.now ∷ [])) }
+    {
+        self.append(&ModuleDeclRef::Func { params, results })
+    }
+
+    /// Declares an import of this name from the module of that name.
+    pub fn import(&mut self, module: &str, name: &str, item: EntityType) -> Result<(), BinaryFault>
+        ensures appended { OnOk result (self.new ≡ self.old ++ module_import «module».now name.now item ∷ []) }
+        ensures fits { OnOk result (ModuleFits self.new) }
+        ensures refused { OnErr result (self.new ≡ self.old) }
+        ensures too_large { TooLargeUnless result (ModuleFits (self.old ++ module_import «module».now name.now item ∷ [])) }
+    {
+        let _types = self.append(&ModuleDeclRef::Import { module, name, item })?;
+        Ok(())
+    }
+
+    /// Declares an export of this name.
+    pub fn export(&mut self, name: &str, item: EntityType) -> Result<(), BinaryFault>
+        ensures appended { OnOk result (self.new ≡ self.old ++ module_export name.now item ∷ []) }
+        ensures fits { OnOk result (ModuleFits self.new) }
+        ensures refused { OnErr result (self.new ≡ self.old) }
+        ensures too_large { TooLargeUnless result (ModuleFits (self.old ++ module_export name.now item ∷ [])) }
+    {
+        let _types = self.append(&ModuleDeclRef::Export { name, item })?;
+        Ok(())
+    }
+
+    /// How many bytes the type has.
+    pub fn size(&self) -> u128
+        ensures is { result ≡ length (module_bytes self.now) }
+        ensures small { result ≤ 2 ^ 34 }
+    {
+        1 + u128::from(unsigned_size(self.count)) + u128::from(self.bytes.len() as u64)
+    }
+
+    /// Puts the type's bytes at the end of a buffer.
+    pub fn put(&self, out: &mut Vec<u8>) -> Result<(), AllocError>
+        ensures written { OnOk result (out.new.items ≡ out.old.items ++ module_bytes self.now) }
+        ensures grows { (more : List ℕ) × (out.new.items ≡ out.old.items ++ more) }
+    {
+        out.push(0x50)?;
+        put_unsigned(out, self.count)?;
+        out.extend_from_slice(&self.bytes)
+    }
+}
+
+/// How many function types a declaration adds.
+fn types_in(d: &ModuleDeclRef<'_>) -> u64
+    ensures { result ≡ function_types (module_decl_of d.now ∷ []) }
+{
+    match d {
+        ModuleDeclRef::Func { .. } => 1,
+        ModuleDeclRef::Import { .. } => 0,
+        ModuleDeclRef::Export { .. } => 0,
+    }
+}
+
+/// Whether one more declaration of this size fits, where so many declarations have so many bytes.
+fn fits(count: u64, bytes: usize, size: u128) -> bool
+    requires { size ≤ 2 ^ 69 }
+    ensures { IsTrue result ↔ ((count + 1 < 2 ^ 32) × (bytes + size < 2 ^ 32)) }
+{
+    count < (1 << 32) - 1 && bytes as u128 + size < 1 << 32
+}
+
+/// Puts a declaration at the end of a buffer, or leaves the buffer as it was.
+fn append_module_decl(out: &mut Vec<u8>, d: &ModuleDeclRef<'_>) -> Result<(), AllocError>
+    ensures written { OnOk result (out.new.items ≡ out.old.items ++ module_decl_bytes (module_decl_of d.now)) }
+    ensures refused { OnErr result (out.new.items ≡ out.old.items) }
+{
+    let from = out.len();
+    match put_module_decl(out, d) {
+        Ok(()) => Ok(()),
+        Err(e) => {
+            out.truncate(from);
+            Err(e)
+        }
+    }
+}

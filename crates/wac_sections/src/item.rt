@@ -1,0 +1,125 @@
+//! An item that is about to be written.
+
+ghost use Rattle.std.specs.Prelude.{◌≡◌, List, ℕ, ◌++◌, ◌∷◌, [], ◌<◌, ◌^◌, length, OnOk, IfOk, IfErr};
+ghost use Rattle.wac_binary.specs.Bytes.{alone, item_bytes, section_id as id_of};
+ghost use Rattle.wac_binary.specs.Fits.{SectionFits};
+ghost use Rattle.wac_sections.specs.ItemView.{item_of, alone_of};
+ghost use Rattle.wac_binary.specs.declared.fault.BinaryFault.TheVariants.{TooLarge};
+
+use std::alloc::AllocError;
+use wac_binary::fault::BinaryFault;
+use wac_binary::sorts::{Description, Sort};
+use wac_bytes::put::{put_argument, put_arguments, put_named, put_text, put_unsigned};
+use wac_declarations::decl::{AliasRef, TypeRef, put_alias, put_type};
+use wac_declarations::module_type::ModuleType;
+use wac_declarations::size::{bytes_size, text_size};
+
+/// An item that is about to be written, with its parts where they are.
+#[derive(Clone, Copy)]
+pub enum ItemRef<'a> {
+    CoreModule(&'a ModuleType),
+    Instance {
+        component: u32,
+        arguments: &'a [(&'a str, Sort, u32)],
+    },
+    Alias(AliasRef<'a>),
+    Type(TypeRef<'a>),
+    Import(&'a str, Description),
+    Export {
+        name: &'a str,
+        sort: Sort,
+        index: u32,
+    },
+}
+
+/// Puts the bytes of an item at the end of a buffer.
+#[inline(always)]
+pub fn put_item(out: &mut Vec<u8>, item: &ItemRef<'_>) -> Result<(), AllocError>
+    ensures written { OnOk result (out.new.items ≡ out.old.items ++ item_bytes (item_of item.now)) }
+    ensures grows { (more : List ℕ) × (out.new.items ≡ out.old.items ++ more) }
+{
+    match *item {
+        ItemRef::CoreModule(t) => t.put(out),
+        ItemRef::Instance {
+            component,
+            arguments,
+        } => {
+            out.push(0)?;
+            put_unsigned(out, u64::from(component))?;
+            put_arguments(out, arguments)
+        }
+        ItemRef::Alias(a) => put_alias(out, a),
+        ItemRef::Type(t) => put_type(out, t),
+        ItemRef::Import(name, d) => put_named(out, name, d),
+        ItemRef::Export { name, sort, index } => {
+            out.push(0)?;
+            put_argument(out, name, sort, index)?;
+            out.push(0)?;
+            Ok(())
+        }
+    }
+}
+
+/// The id of the section in which an item stands.
+#[inline(always)]
+pub fn section_id(item: &ItemRef<'_>) -> u8
+    ensures { result ≡ id_of (item_of item.now) }
+{
+    match item {
+        ItemRef::CoreModule(_) => 3,
+        ItemRef::Instance { .. } => 5,
+        ItemRef::Alias(_) => 6,
+        ItemRef::Type(_) => 7,
+        ItemRef::Import(..) => 10,
+        ItemRef::Export { .. } => 11,
+    }
+}
+
+/// An item that has a section of its own and is about to be written.
+#[derive(Clone, Copy)]
+pub enum AloneRef<'a> {
+    Component(&'a [u8]),
+    Custom { name: &'a str, bytes: &'a [u8] },
+}
+
+/// Puts the bytes of such an item at the end of a buffer.
+pub fn put_alone_item(out: &mut Vec<u8>, item: &AloneRef<'_>) -> Result<(), AllocError>
+    ensures written { OnOk result (out.new.items ≡ out.old.items ++ item_bytes (alone_of item.now)) }
+    ensures grows { (more : List ℕ) × (out.new.items ≡ out.old.items ++ more) }
+{
+    match *item {
+        AloneRef::Component(bytes) => out.extend_from_slice(bytes),
+        AloneRef::Custom { name, bytes } => {
+            put_text(out, name)?;
+            out.extend_from_slice(bytes)
+        }
+    }
+}
+
+/// The id of the section of such an item.
+pub fn alone_id(item: &AloneRef<'_>) -> u8
+    ensures { result ≡ id_of (alone_of item.now) }
+{
+    match item {
+        AloneRef::Component(_) => 4,
+        AloneRef::Custom { .. } => 0,
+    }
+}
+
+/// How many bytes such an item has, where there is room for it: its space has so many indexes, and its section fits 32
+/// bits; else `TooLarge`.
+pub fn alone_size(indexes: u64, item: &AloneRef<'_>) -> Result<u64, BinaryFault>
+    ensures size { IfOk result (λ n. n ≡ length (item_bytes (alone_of item.now))) }
+    ensures room { OnOk result ((indexes < 2 ^ 32) × SectionFits (alone (alone_of item.now))) }
+    ensures too_large { IfErr result (λ e. (e ≡ TooLarge) × ¬ ((indexes < 2 ^ 32) × SectionFits (alone (alone_of item.now)))) }
+{
+    let size = match *item {
+        AloneRef::Component(bytes) => bytes_size(bytes),
+        AloneRef::Custom { name, bytes } => text_size(name) + bytes_size(bytes),
+    };
+    if indexes < 1 << 32 && size < 1 << 32 {
+        Ok(size as u64)
+    } else {
+        Err(BinaryFault::TooLarge)
+    }
+}
