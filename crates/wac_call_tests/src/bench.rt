@@ -1,15 +1,19 @@
 // Calls on a graph as the rows of a table, each with what it answers.
+ghost use Rattle.std.specs.Prelude.{IsSome};
+ghost use Rattle.wac_nodes.specs.Graph.{node_at, package_at};
+
 use std::alloc::{AllocError, Global};
 use std::fmt::Display;
 use std::process::Abort;
-use wac_graph::types::{
+use wac_causes::EncodeError;
+use wac_composition::CompositionGraph;
+use wac_merge::MergeFault;
+use wac_nodes::{EncodeOptions, NodeId, NodeKind, PackageId};
+use wac_types::{
     CoreExtern, CoreFuncType, DefinedType, Enum, FuncType, Interface, ItemKind, ModuleType,
     PrimitiveType, Type, ValueType, World,
 };
-use wac_graph::{
-    CompositionGraph, EncodeError, EncodeOptions, MergeFault, NodeId, NodeKind, PackageId,
-    ValidationFault,
-};
+use wac_validation::ValidationFault;
 
 const BOOL: ValueType = ValueType::Primitive(PrimitiveType::Bool);
 
@@ -68,6 +72,12 @@ pub enum Call<'a> {
     Has(usize),
     // How many imports of an instantiation have an argument.
     Satisfied(usize),
+    // The nodes, each with what it is, and their ids.
+    Nodes,
+    // The packages, each by its slot.
+    Packages,
+    // The arguments of the node of this number, each by its import's name.
+    Arguments(usize),
 }
 
 impl Call<'_> {
@@ -78,12 +88,22 @@ impl Call<'_> {
 }
 
 // A graph, and what it answered so far.
-#[derive(Drop)]
 pub struct Bench {
     alloc: Global,
     graph: CompositionGraph,
     packages: Vec<PackageId>,
     nodes: Vec<NodeId>,
+}
+
+impl Drop for Bench {
+    fn drop(self) {
+        let Bench {
+            alloc: _,
+            graph: _,
+            packages: _,
+            nodes: _,
+        } = self;
+    }
 }
 
 fn shown<T: Display + Drop>(rt: &impl Abort, alloc: Global, value: T) -> String {
@@ -166,6 +186,11 @@ fn using_instance(
     ItemKind::Instance(graph.add_interface(interface).expect(rt, "its id"))
 }
 
+// An answer is this text.
+pub fn assert_text(rt: &impl Abort, answer: String, want: &str) {
+    assert_eq!(rt; answer.as_str(), want);
+}
+
 // Puts a row behind others.
 fn add(rt: &impl Abort, rows: &mut String, row: Result<String, AllocError>) {
     let row = row.expect(rt, "a row");
@@ -244,12 +269,34 @@ impl Bench {
         }
     }
 
-    fn node(&self, rt: &impl Abort, place: usize) -> NodeId {
+    // The node at a place, there or not.
+    fn node_id(&self, rt: &impl Abort, place: usize) -> NodeId {
         *self.nodes.get(place).expect(rt, "a node")
     }
 
-    fn package(&self, rt: &impl Abort, place: usize) -> PackageId {
+    // The node at a place, which is there.
+    fn node(&self, rt: &impl Abort, place: usize) -> NodeId
+        ensures { IsSome (node_at self.now.graph result) }
+    {
+        let node = self.node_id(rt, place);
+        let held = self.graph.has_node(node);
+        assert!(rt; held);
+        node
+    }
+
+    // The package at a place, registered or not.
+    fn package_id(&self, rt: &impl Abort, place: usize) -> PackageId {
         *self.packages.get(place).expect(rt, "a package")
+    }
+
+    // The package at a place, which is registered.
+    fn package(&self, rt: &impl Abort, place: usize) -> PackageId
+        ensures { IsSome (package_at self.now.graph result) }
+    {
+        let package = self.package_id(rt, place);
+        let held = self.graph.has_package(package);
+        assert!(rt; held);
+        package
     }
 
     // A node that was made is kept, and its number shown.
@@ -265,16 +312,12 @@ impl Bench {
 
     fn instantiate(&mut self, rt: &impl Abort, place: usize) -> String {
         let id = self.package(rt, place);
-        let held = self.graph.has_package(id);
-        assert!(rt; held);
         let answer = self.graph.instantiate(id);
         self.made(rt, answer)
     }
 
     fn alias(&mut self, rt: &impl Abort, place: usize, name: &str) -> String {
         let instance = self.node(rt, place);
-        let held = self.graph.has_node(instance);
-        assert!(rt; held);
         let answer = self.graph.alias_instance_export(instance, name);
         self.made(rt, answer)
     }
@@ -282,10 +325,6 @@ impl Bench {
     fn set(&mut self, rt: &impl Abort, place: usize, name: &str, argument: usize) -> String {
         let instantiation = self.node(rt, place);
         let argument = self.node(rt, argument);
-        let held = self.graph.has_node(instantiation);
-        assert!(rt; held);
-        let held = self.graph.has_node(argument);
-        assert!(rt; held);
         let answer = self
             .graph
             .set_instantiation_argument(instantiation, name, argument);
@@ -294,8 +333,6 @@ impl Bench {
 
     fn export(&mut self, rt: &impl Abort, place: usize, name: &str) -> String {
         let node = self.node(rt, place);
-        let held = self.graph.has_node(node);
-        assert!(rt; held);
         let answer = self.graph.export(node, name);
         answered(rt, self.alloc, answer)
     }
@@ -311,8 +348,6 @@ impl Bench {
     fn unset(&mut self, rt: &impl Abort, place: usize, name: &str, argument: usize) -> String {
         let instantiation = self.node(rt, place);
         let argument = self.node(rt, argument);
-        let held = self.graph.has_node(instantiation);
-        assert!(rt; held);
         let answer = self
             .graph
             .unset_instantiation_argument(instantiation, name, argument);
@@ -321,16 +356,12 @@ impl Bench {
 
     fn unexport(&mut self, rt: &impl Abort, place: usize) -> String {
         let node = self.node(rt, place);
-        let held = self.graph.has_node(node);
-        assert!(rt; held);
         let answer = self.graph.unexport(node);
         answered(rt, self.alloc, answer)
     }
 
     fn name(&mut self, rt: &impl Abort, place: usize, name: &str) -> String {
         let node = self.node(rt, place);
-        let held = self.graph.has_node(node);
-        assert!(rt; held);
         let answer = self.graph.set_node_name(node, name);
         answered(rt, self.alloc, answer)
     }
@@ -341,13 +372,11 @@ impl Bench {
 
     fn named(&self, rt: &impl Abort, place: usize) -> String {
         let node = self.node(rt, place);
-        let held = self.graph.has_node(node);
-        assert!(rt; held);
         self.copied(rt, self.graph[node].name().unwrap_or("no name"))
     }
 
     fn source(&self, rt: &impl Abort, place: usize) -> String {
-        match self.graph.get_alias_source(self.node(rt, place)) {
+        match self.graph.get_alias_source(self.node_id(rt, place)) {
             Some((node, name)) => format!(in self.alloc; "{node} {name}").expect(rt, "a text"),
             None => self.copied(rt, "none"),
         }
@@ -362,16 +391,12 @@ impl Bench {
 
     fn remove(&mut self, rt: &impl Abort, place: usize) -> String {
         let node = self.node(rt, place);
-        let held = self.graph.has_node(node);
-        assert!(rt; held);
         self.graph.remove_node(node);
         String::new(self.alloc)
     }
 
     fn unregister(&mut self, rt: &impl Abort, place: usize) -> String {
         let id = self.package(rt, place);
-        let held = self.graph.has_package(id);
-        assert!(rt; held);
         self.graph.unregister_package(id);
         String::new(self.alloc)
     }
@@ -380,18 +405,16 @@ impl Bench {
         shown(
             rt,
             self.alloc,
-            self.graph.has_package(self.package(rt, place)),
+            self.graph.has_package(self.package_id(rt, place)),
         )
     }
 
     fn has(&self, rt: &impl Abort, place: usize) -> String {
-        shown(rt, self.alloc, self.graph.has_node(self.node(rt, place)))
+        shown(rt, self.alloc, self.graph.has_node(self.node_id(rt, place)))
     }
 
     fn satisfied(&self, rt: &impl Abort, place: usize) -> String {
         let node = self.node(rt, place);
-        let held = self.graph.has_node(node);
-        assert!(rt; held);
         match self.graph[node].kind() {
             NodeKind::Instantiation(positions) => shown(rt, self.alloc, positions.len()),
             _ => self.copied(rt, "none"),
@@ -418,6 +441,9 @@ impl Bench {
             Call::Registered(place) => self.registered(rt, place),
             Call::Has(place) => self.has(rt, place),
             Call::Satisfied(place) => self.satisfied(rt, place),
+            Call::Nodes => self.listed_nodes(rt),
+            Call::Packages => self.listed_packages(rt),
+            Call::Arguments(number) => self.listed_arguments(rt, NodeId(number)),
         }
     }
 
@@ -434,10 +460,15 @@ impl Bench {
         }
     }
 
+    // What `encode` answers once.
+    fn encoded_once(&self, options: EncodeOptions<'_>) -> Result<Vec<u8>, EncodeError> {
+        self.graph.encode(options)
+    }
+
     // What `encode` answers; asked once more where memory was refused.
     fn encode(&self, options: EncodeOptions<'_>) -> Result<Vec<u8>, EncodeError> {
-        match self.graph.encode(options) {
-            Err(EncodeError::OutOfMemory) => self.graph.encode(options),
+        match self.encoded_once(options) {
+            Err(EncodeError::OutOfMemory) => self.encoded_once(options),
             answer => answer,
         }
     }
@@ -451,7 +482,7 @@ impl Bench {
     }
 
     // The export in which two imports differ.
-    fn differing(&self, rt: &impl Abort, fault: MergeFault) -> String {
+    fn differing(&self, rt: &impl Abort, fault: &MergeFault) -> String {
         match fault {
             MergeFault::Disagree { export, .. } => {
                 format!(in self.alloc; "Disagree `{export}`").expect(rt, "a text")
@@ -461,7 +492,7 @@ impl Bench {
     }
 
     // What is wrong with names.
-    fn invalid(&self, rt: &impl Abort, fault: ValidationFault) -> String {
+    fn invalid(&self, rt: &impl Abort, fault: &ValidationFault) -> String {
         let text = match fault {
             ValidationFault::BadName { name } => format!(in self.alloc; "BadName `{name}`"),
             ValidationFault::Clash { first, second } => {
@@ -474,51 +505,51 @@ impl Bench {
         text.expect(rt, "a text")
     }
 
-    // What the refusal names: the node of a cycle, or the import, the instantiation, its package and the name, or an import
+    // What a refusal names: the node of a cycle, or the import, the instantiation, its package and the name, or an import
     // that cannot be merged, the nodes that ask for it and the export that differs, or one of a circle, or names.
-    pub fn refused(&self, rt: &impl Abort) -> String {
+    fn cause(&self, rt: &impl Abort, error: &EncodeError) -> String {
         let alloc = self.alloc;
-        let text = match self.encode(EncodeOptions::default()) {
-            Err(EncodeError::GraphContainsCycle { node }) => format!(in alloc; "{node}"),
-            Err(
-                EncodeError::ImplicitImportConflict {
-                    import,
-                    instantiation,
-                    package,
-                    name,
-                },
-            ) => format!(in alloc; "{import}, {instantiation}, {package}, {name}"),
-            Err(
-                EncodeError::ImportTypeMergeConflict {
-                    import,
-                    first,
-                    second,
-                    source,
-                },
-            ) => {
+        let text = match error {
+            EncodeError::GraphContainsCycle { node } => format!(in alloc; "{node}"),
+            EncodeError::ImplicitImportConflict {
+                import,
+                instantiation,
+                package,
+                name,
+            } => format!(in alloc; "{import}, {instantiation}, {package}, {name}"),
+            EncodeError::ImportTypeMergeConflict {
+                import,
+                first,
+                second,
+                source,
+            } => {
                 let differs = self.differing(rt, source);
                 format!(in alloc; "{import}, {first}, {second}, {differs}")
             }
-            Err(
-                EncodeError::ExplicitImportMergeConflict {
-                    import,
-                    node,
-                    other,
-                },
-            ) => format!(in alloc; "{import}, {node}, {other}"),
-            Err(EncodeError::ImportsUseEachOther { import }) => return import,
-            Err(EncodeError::ValidationFailure { source }) => return self.invalid(rt, source),
+            EncodeError::ExplicitImportMergeConflict {
+                import,
+                node,
+                other,
+            } => format!(in alloc; "{import}, {node}, {other}"),
+            EncodeError::ImportsUseEachOther { import } => format!(in alloc; "{import}"),
+            EncodeError::ValidationFailure { source } => return self.invalid(rt, source),
             _ => return String::new(alloc),
         };
         text.expect(rt, "a text")
+    }
+
+    // What the refusal names; nothing where bytes are answered.
+    pub fn refused(&self, rt: &impl Abort) -> String {
+        match self.encode(EncodeOptions::default()) {
+            Ok(_) => String::new(self.alloc),
+            Err(error) => self.cause(rt, &error),
+        }
     }
 
     // What the node at a place is: its kind, its item, its package, and the names by which it is imported
     // and exported.
     pub fn described(&self, rt: &impl Abort, place: usize) -> String {
         let id = self.node(rt, place);
-        let held = self.graph.has_node(id);
-        assert!(rt; held);
         let node = &self.graph[id];
         let kind = match node.kind() {
             NodeKind::Definition => "definition",
@@ -546,8 +577,6 @@ impl Bench {
     // Whether the node at a place is imported by a name.
     pub fn imports(&self, rt: &impl Abort, place: usize, name: &str) -> bool {
         let node = self.node(rt, place);
-        let held = self.graph.has_node(node);
-        assert!(rt; held);
         self.graph.get_import_name(node) == Some(name)
     }
 
@@ -589,7 +618,7 @@ impl Bench {
     }
 
     // The packages, each by its slot.
-    pub fn listed_packages(&self, rt: &impl Abort) -> String {
+    fn listed_packages(&self, rt: &impl Abort) -> String {
         let mut rows = String::new(self.alloc);
         for (id, package) in self.graph.packages() {
             let slot = id.slot;
@@ -600,7 +629,7 @@ impl Bench {
     }
 
     // The arguments of a node, each by its import's name.
-    pub fn listed_arguments(&self, rt: &impl Abort, id: NodeId) -> String {
+    fn listed_arguments(&self, rt: &impl Abort, id: NodeId) -> String {
         let mut rows = String::new(self.alloc);
         for (name, node) in self.graph.get_instantiation_arguments(id) {
             add(rt, &mut rows, format!(in self.alloc; "{name}: {node}; "));

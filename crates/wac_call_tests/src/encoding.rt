@@ -4,8 +4,8 @@ use super::bench::Call::{
     Unset,
 };
 use super::bench::Item::{Empty, Exporting, ExportingTelling, Other, Plain, Telling, Using};
-use super::bench::{Bench, Call};
-use wac_graph::{EncodeOptions, Processor};
+use super::bench::{Bench, Call, assert_text};
+use wac_nodes::{EncodeOptions, Processor};
 
 const NOT_YET: &str = "the graph holds something that is not written yet";
 
@@ -382,21 +382,21 @@ const DESCRIBED: &[(&[(Call<'static>, &str)], usize, &str)] = &[
 fn graphs_are_encoded(rt: HostRuntime) {
     for (calls, want) in ENCODED {
         let answer = Bench::called(&rt, calls).encoded(&rt, EncodeOptions::default());
-        assert_eq!(rt; answer.as_str(), *want);
+        assert_text(&rt, answer, want);
     }
 }
 
 #[test]
 fn refusals_name_their_cause(rt: HostRuntime) {
     for (calls, want) in REFUSED {
-        assert_eq!(rt; Bench::called(&rt, calls).refused(&rt).as_str(), *want);
+        assert_text(&rt, Bench::called(&rt, calls).refused(&rt), want);
     }
 }
 
 #[test]
 fn imports_are_asked_for_in_order(rt: HostRuntime) {
     for (calls, want) in ASKS {
-        assert_eq!(rt; Bench::called(&rt, calls).asked(&rt).as_str(), *want);
+        assert_text(&rt, Bench::called(&rt, calls).asked(&rt), want);
     }
 }
 
@@ -404,7 +404,7 @@ fn imports_are_asked_for_in_order(rt: HostRuntime) {
 fn ids_give_nodes_and_packages(rt: HostRuntime) {
     for (calls, place, want) in DESCRIBED {
         let described = Bench::called(&rt, calls).described(&rt, *place);
-        assert_eq!(rt; described.as_str(), *want);
+        assert_text(&rt, described, want);
     }
 }
 
@@ -427,7 +427,7 @@ fn options_that_are_not_served_yet(rt: HostRuntime) {
         ..plain
     };
     let answer = Bench::called(&rt, EXPORTED).encoded(&rt, imported);
-    assert_eq!(rt; answer.as_str(), NOT_YET);
+    assert_text(&rt, answer, NOT_YET);
 }
 
 // Calls, and the bytes that `encode` answers after them where it is told a processor.
@@ -455,6 +455,6 @@ fn a_processor_is_named_last(rt: HostRuntime) {
             ..EncodeOptions::default()
         };
         let answer = Bench::called(&rt, calls).encoded(&rt, options);
-        assert_eq!(rt; answer.as_str(), *want);
+        assert_text(&rt, answer, want);
     }
 }

@@ -1,9 +1,9 @@
 // What a composition imports: import nodes, and arguments that are not set.
 use super::bench::Call::{Export, Import, Instantiate, Name, Register, Set, Unset};
 use super::bench::Item::{Empty, Exporting, Module, Plain, Using};
-use super::bench::{Bench, Call};
+use super::bench::{Bench, Call, assert_text};
 use std::process::Abort;
-use wac_graph::EncodeOptions;
+use wac_nodes::EncodeOptions;
 
 const PREAMBLE: &str = "0061736d0d000100";
 
@@ -187,8 +187,7 @@ const INSTANCES: &str =
 
 #[test]
 fn versions_of_an_interface_are_one_import(rt: HostRuntime) {
-    let mut bench = Bench::new(rt.alloc());
-    bench.calls(&rt, VERSIONS);
+    let mut bench = Bench::called(&rt, VERSIONS);
     let both =
         "0719014204014000010004000166010001400001000400016701010a1001000b613a622f6340302e322e330500";
     let answer = bench.encoded(&rt, EncodeOptions::default());
@@ -200,23 +199,21 @@ fn versions_of_an_interface_are_one_import(rt: HostRuntime) {
     assert_joined(&rt, answer, &[both, other, INSTANCES, COMPONENT, last]);
 }
 
+// Names of two imports, and the two that clash.
+const CLASHES: &[(&str, &str, &str)] = &[("a", "A", "Clash `a`, `A`"), ("a", "[constructor]a", "")];
+
 // Names of imports clash where their labels differ in case alone.
 #[test]
 fn names_of_imports_that_clash(rt: HostRuntime) {
-    let alloc = rt.alloc();
-    let rows = [("a", "A", "Clash `a`, `A`"), ("a", "[constructor]a", "")];
-    for (first, second, want) in rows {
-        let mut bench = Bench::new(alloc);
-        bench.calls(&rt, &[(Import(first, Plain), "0")]);
-        bench.calls(&rt, &[(Import(second, Plain), "1")]);
-        assert_eq!(rt; bench.refused(&rt).as_str(), want, "{second}");
+    for (first, second, want) in CLASHES {
+        let calls = [(Import(first, Plain), "0"), (Import(second, Plain), "1")];
+        let bench = Bench::called(&rt, &calls);
+        assert_text(&rt, bench.refused(&rt), want);
         let unchecked = EncodeOptions {
             validate: false,
             ..EncodeOptions::default()
         };
-        assert!(rt;
-            bench.encoded(&rt, unchecked).as_str().starts_with(PREAMBLE),
-            "{second}"
-        );
+        let answer = bench.encoded(&rt, unchecked);
+        assert!(rt; answer.as_str().starts_with(PREAMBLE), "{second}");
     }
 }

@@ -4,8 +4,8 @@ use super::bench::Call::{
     Unset,
 };
 use super::bench::Item::{Empty, Exporting, Plain};
-use super::bench::{Bench, Call};
-use wac_graph::EncodeOptions;
+use super::bench::{Bench, Call, assert_text};
+use wac_nodes::EncodeOptions;
 
 // The number of a node that was removed comes next.
 const NUMBERS: &[(Call<'static>, &str)] = &[
@@ -125,15 +125,10 @@ const TAKEN: &[(Call<'static>, &str)] = &[
     (Exported("z"), "2"),
 ];
 
-#[test]
-fn what_is_taken_away_takes_no_memory(rt: HostRuntime) {
-    Bench::new(rt.alloc()).calls(&rt, TAKEN);
-}
-
-// The number of a removed node comes next, and the name of a removed import is free.
+// The number of a removed node comes next, the name of a removed import is free, and what is taken away takes no memory.
 #[test]
 fn numbers_and_names_are_used_again(rt: HostRuntime) {
-    for calls in [NUMBERS, IMPORT] {
+    for calls in [NUMBERS, IMPORT, TAKEN] {
         Bench::new(rt.alloc()).calls(&rt, calls);
     }
 }
@@ -141,9 +136,10 @@ fn numbers_and_names_are_used_again(rt: HostRuntime) {
 #[test]
 fn exports_go_with_their_node(rt: HostRuntime) {
     let answer = Bench::called(&rt, EXPORTS).encoded(&rt, EncodeOptions::default());
-    assert_eq!(rt;
-        answer.as_str(),
-        "0061736d0d00010004080061736d0d0001000507020000000000000b0d02000164050100000163050000"
+    assert_text(
+        &rt,
+        answer,
+        "0061736d0d00010004080061736d0d0001000507020000000000000b0d02000164050100000163050000",
     );
 }
 
@@ -156,11 +152,11 @@ const ASKS: &[(&[(Call<'static>, &str)], &str)] = &[
 #[test]
 fn arguments_that_are_removed_are_asked_for(rt: HostRuntime) {
     for (calls, want) in ASKS {
-        assert_eq!(rt; Bench::called(&rt, calls).asked(&rt).as_str(), *want);
+        assert_text(&rt, Bench::called(&rt, calls).asked(&rt), want);
     }
 }
 
 #[test]
 fn a_cycle_is_named_after_a_removal(rt: HostRuntime) {
-    assert_eq!(rt; Bench::called(&rt, RING).refused(&rt).as_str(), "1");
+    assert_text(&rt, Bench::called(&rt, RING).refused(&rt), "1");
 }

@@ -1,10 +1,11 @@
 // Packages that are unregistered, and what goes with them.
 use super::bench::Call::{
-    Alias, Export, Exported, Has, Instantiate, Register, Registered, Satisfied, Set, Unregister,
+    Alias, Export, Exported, Has, Instantiate, Packages, Register, Registered, Satisfied, Set,
+    Unregister,
 };
 use super::bench::Item::Plain;
-use super::bench::{Bench, Call};
-use wac_graph::EncodeOptions;
+use super::bench::{Bench, Call, assert_text};
+use wac_nodes::EncodeOptions;
 
 // The nodes of the package go, and their exports; its id is not valid any more, and its key is free.
 const PACKAGE: &[(Call<'static>, &str)] = &[
@@ -40,6 +41,7 @@ const SLOTS: &[(Call<'static>, &str)] = &[
     (Registered(0), "false"),
     (Registered(1), "true"),
     (Registered(2), "true"),
+    (Packages, "0: my:third; 1: my:second; "),
 ];
 
 // The slot that was freed last is used first.
@@ -54,6 +56,7 @@ const LAST: &[(Call<'static>, &str)] = &[
     (Unregister(3), ""),
     (Register("my:sixth", &[], &[]), ""),
     (Registered(3), "false"),
+    (Packages, "0: my:third; 1: my:sixth; 2: my:fifth; "),
 ];
 
 // The exports of another package's nodes keep their order.
@@ -86,37 +89,26 @@ const ARGUMENT: &[(Call<'static>, &str)] = &[
     (Satisfied(2), "0"),
 ];
 
-// Calls, and the packages that are listed after them.
-const LISTED: &[(&[(Call<'static>, &str)], &str)] = &[
-    // A freed slot is used again, that which was freed last first.
-    (SLOTS, "0: my:third; 1: my:second; "),
-    (LAST, "0: my:third; 1: my:sixth; 2: my:fifth; "),
-];
-
+// The nodes and exports of a package go with it, and a freed slot is used again, that which was freed last first.
 #[test]
-fn nodes_and_exports_go_with_their_package(rt: HostRuntime) {
-    Bench::new(rt.alloc()).calls(&rt, PACKAGE);
-}
-
-#[test]
-fn a_freed_slot_is_used_again(rt: HostRuntime) {
-    for (calls, want) in LISTED {
-        let packages = Bench::called(&rt, calls).listed_packages(&rt);
-        assert_eq!(rt; packages.as_str(), *want);
+fn packages_are_unregistered(rt: HostRuntime) {
+    for calls in [PACKAGE, SLOTS, LAST] {
+        Bench::new(rt.alloc()).calls(&rt, calls);
     }
 }
 
 #[test]
 fn the_other_exports_keep_their_order(rt: HostRuntime) {
     let answer = Bench::called(&rt, EXPORTS).encoded(&rt, EncodeOptions::default());
-    assert_eq!(rt;
-        answer.as_str(),
-        "0061736d0d00010004080061736d0d0001000507020000000000000b0d02000162050000000164050100"
+    assert_text(
+        &rt,
+        answer,
+        "0061736d0d00010004080061736d0d0001000507020000000000000b0d02000162050000000164050100",
     );
 }
 
 #[test]
 fn an_argument_of_the_package_is_asked_for(rt: HostRuntime) {
     let asked = Bench::called(&rt, ARGUMENT).asked(&rt);
-    assert_eq!(rt; asked.as_str(), "b: function; ");
+    assert_text(&rt, asked, "b: function; ");
 }

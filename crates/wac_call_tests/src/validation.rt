@@ -1,8 +1,8 @@
 // Names of exports that may stand together, and others.
 use super::bench::Call::{Export, Instantiate, Register};
-use super::bench::{Bench, Call};
+use super::bench::{Bench, Call, assert_text};
 use std::process::Abort;
-use wac_graph::EncodeOptions;
+use wac_nodes::EncodeOptions;
 
 const INVALID: &str = "encoding produced a component that failed validation";
 
@@ -31,6 +31,11 @@ fn answers(rt: &(impl Abort + AllocGlobal), names: &[&str], validate: bool) -> (
     (bench.encoded(rt, options), bench.refused(rt))
 }
 
+// A text ends so.
+fn assert_end(rt: &impl Abort, text: String, want: &str) {
+    assert!(rt; text.as_str().ends_with(want), "{text}");
+}
+
 // Names of exports, and the two that clash.
 const CLASHES: &[(&[&str], &str)] = &[
     (&["a", "A"], "Clash `a`, `A`"),
@@ -49,8 +54,8 @@ const CLASHES: &[(&[&str], &str)] = &[
 fn names_that_clash_are_refused(rt: HostRuntime) {
     for (names, want) in CLASHES {
         let (text, refused) = answers(&rt, names, true);
-        assert_eq!(rt; text.as_str(), INVALID, "{want}");
-        assert_eq!(rt; refused.as_str(), *want);
+        assert_text(&rt, text, INVALID);
+        assert_text(&rt, refused, want);
     }
 }
 
@@ -68,17 +73,14 @@ const APART: &[(&str, &str, &str)] = &[
 fn names_that_may_stand_together(rt: HostRuntime) {
     for (first, second, want) in APART {
         let (text, refused) = answers(&rt, &[*first, *second], true);
-        assert!(rt; text.as_str().ends_with(want), "{text} at {second}");
-        assert_eq!(rt; refused.as_str(), "");
+        assert_end(&rt, text, want);
+        assert_text(&rt, refused, "");
     }
 }
 
 #[test]
 fn names_are_not_looked_at_unless_it_is_asked(rt: HostRuntime) {
     let (text, refused) = answers(&rt, &["a", "A"], false);
-    assert!(rt;
-        text.as_str().ends_with("0b0d02000161050000000141050000"),
-        "{text}"
-    );
-    assert_eq!(rt; refused.as_str(), "Clash `a`, `A`");
+    assert_end(&rt, text, "0b0d02000161050000000141050000");
+    assert_text(&rt, refused, "Clash `a`, `A`");
 }

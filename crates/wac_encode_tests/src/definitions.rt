@@ -1,15 +1,17 @@
 //! Definitions that are written into the root.
 
-use std::test::Fail;
+use crate::rows::Row::{
+    Alias, Async, Enumeration, Func, Instance, List, Optional, Pair, Primitive,
+};
+use crate::rows::{Item, Items, Row};
+use std::process::Abort;
 use wac_builder::ComponentBuilder;
 use wac_collection::Types;
 use wac_root::RootEncoder;
 use wac_scopes::{Encodable, Scope, rooted_law};
-use wac_shapes::{
-    DefinedType, Enum, FuncType, Interface, ItemKind, PrimitiveType, Type, ValueType,
-};
+use wac_shapes::{ItemKind, PrimitiveType, Type};
 
-const ORDERED: [u8; 81] = [
+const ORDERED: &[u8] = &[
     0x00, 0x61, 0x73, 0x6d, 0x0d, 0x00, 0x01, 0x00, // the preamble
     0x07, 0x05, 0x01, 0x6d, 0x01, 0x01, 0x78, // the enum
     0x0b, 0x07, 0x01, 0x00, 0x01, 0x61, 0x03, 0x00, 0x00, // `a`
@@ -23,7 +25,7 @@ const ORDERED: [u8; 81] = [
     0x0b, 0x07, 0x01, 0x00, 0x01, 0x65, 0x03, 0x08, 0x00, // `e`
 ];
 
-const FUNCTION: [u8; 43] = [
+const FUNCTION: &[u8] = &[
     0x00, 0x61, 0x73, 0x6d, 0x0d, 0x00, 0x01, 0x00, // the preamble
     0x07, 0x05, 0x01, 0x6d, 0x01, 0x01, 0x78, // the enum
     0x0b, 0x07, 0x01, 0x00, 0x01, 0x61, 0x03, 0x00, 0x00, // `a`
@@ -31,7 +33,7 @@ const FUNCTION: [u8; 43] = [
     0x0b, 0x07, 0x01, 0x00, 0x01, 0x66, 0x03, 0x02, 0x00, // `f`
 ];
 
-const INTERFACE: [u8; 61] = [
+const INTERFACE: &[u8] = &[
     0x00, 0x61, 0x73, 0x6d, 0x0d, 0x00, 0x01, 0x00, // the preamble
     0x07, 0x2a, 0x01, 0x41, 0x02, // a component type of two declarations
     0x01, 0x42, 0x04, // an instance type of four declarations
@@ -44,85 +46,77 @@ const INTERFACE: [u8; 61] = [
 ];
 
 // The bytes of a component that defines these types, in order.
-fn defined(types: &Types, definitions: &[(&str, Type)]) -> Result<Vec<u8>, Fail> {
+fn defined(rt: &impl Abort, types: &Types, definitions: &[(&str, ItemKind)]) -> Vec<u8> {
     let alloc = types.allocator();
     let mut root = Scope::new(alloc, Encodable::Builder(ComponentBuilder::new(alloc)));
     rooted_law();
     for i in 0..definitions.len() {
-        let (name, ty) = definitions[i];
+        let (name, kind) = definitions[i];
+        let ty = kind.ty();
         let encoder = RootEncoder::new(types);
-        if !types.contains(ty) || !encoder.is_definable(ty)? {
-            return Err(Fail::new("not held, or not definable"));
+        if !types.contains(ty) || !encoder.is_definable(ty).expect(rt, "an answer") {
+            panic!(rt; "not held, or not definable");
         }
-        encoder.definition(&mut root, name, ty)?;
+        encoder
+            .definition(&mut root, name, ty)
+            .expect(rt, "a definition");
     }
     let Encodable::Builder(builder) = root.into_content() else {
-        return Err(Fail::new("no component"));
+        panic!(rt; "no component");
     };
-    Ok(builder.finish()?)
+    builder.finish().expect(rt, "bytes")
 }
 
-// What is defined is written by its export's own index from then on; an alias of a primitive has an index of its own type.
-#[test]
-fn defines_in_order(rt: HostRuntime) -> Result<(), Fail> {
-    let alloc = rt.alloc();
-    let mut types = Types::new(alloc);
-    let a = ValueType::Defined(types.add_defined_type(DefinedType::Enum(Enum::new(
-        alloc,
-        &["x"],
-    )?))?);
-    let b = ValueType::Defined(types.add_defined_type(DefinedType::List(a))?);
-    let c = ValueType::Defined(types.add_defined_type(DefinedType::Option(a))?);
-    let d = ValueType::Defined(types.add_defined_type(DefinedType::tuple(alloc, &[b, c])?)?);
-    let bool_type = ValueType::Primitive(PrimitiveType::Bool);
-    let e = ValueType::Defined(types.add_defined_type(DefinedType::Alias(bool_type))?);
-    let definitions = [
-        ("a", Type::Value(a)),
-        ("c", Type::Value(c)),
-        ("b", Type::Value(b)),
-        ("d", Type::Value(d)),
-        ("e", Type::Value(e)),
-    ];
-    let bytes = defined(&types, &definitions)?;
-    assert!(rt; bytes.as_slice() == ORDERED.as_slice());
-    Ok(())
-}
+// Types, those that are defined, and the bytes of the component that defines them.
+const DEFINED: &[(&[Row], &[Item], &[u8])] = &[
+    // What is defined is written by its export's own index from then on; an alias of a primitive has an index of its own type.
+    (
+        &[
+            Enumeration("x"),
+            List(0),
+            Optional(0),
+            Pair(1, 2),
+            Primitive(PrimitiveType::Bool),
+            Alias(4),
+        ],
+        &[("a", 0), ("c", 2), ("b", 1), ("d", 3), ("e", 5)],
+        ORDERED,
+    ),
+    // A function type goes by the index of the export of what it is made of.
+    (
+        &[Enumeration("x"), Async(&[("p", 0)], None)],
+        &[("a", 0), ("f", 1)],
+        FUNCTION,
+    ),
+    // An interface is defined as a component type that exports it under its id.
+    (
+        &[
+            Enumeration("a"),
+            Func(&[("x", 0)], None),
+            Instance(Some("n:p/i"), &[("t", 0), ("f", 1)]),
+        ],
+        &[("d", 2)],
+        INTERFACE,
+    ),
+];
 
-// A function type goes by the index of the export of what it is made of.
 #[test]
-fn defines_a_function_type(rt: HostRuntime) -> Result<(), Fail> {
-    let alloc = rt.alloc();
-    let mut types = Types::new(alloc);
-    let a = ValueType::Defined(types.add_defined_type(DefinedType::Enum(Enum::new(
-        alloc,
-        &["x"],
-    )?))?);
-    let func = types.add_func_type(FuncType::new(alloc, &[("p", a)], None, true)?)?;
-    let bytes = defined(&types, &[("a", Type::Value(a)), ("f", Type::Func(func))])?;
-    assert!(rt; bytes.as_slice() == FUNCTION.as_slice());
-    Ok(())
-}
-
-// An interface is defined as a component type that exports it under its id; one without an id is not definable.
-#[test]
-fn defines_an_interface(rt: HostRuntime) -> Result<(), Fail> {
-    let alloc = rt.alloc();
-    let mut types = Types::new(alloc);
-    let x = ValueType::Defined(types.add_defined_type(DefinedType::Enum(Enum::new(
-        alloc,
-        &["a"],
-    )?))?);
-    let f = types.add_func_type(FuncType::new(alloc, &[("x", x)], None, false)?)?;
-    let items = [
-        ("t", ItemKind::TypeItem(Type::Value(x))),
-        ("f", ItemKind::Func(f)),
-    ];
-    let one = types.add_interface(Interface::new(alloc, Some("n:p/i"), &items)?)?;
-    let other = Type::Interface(types.add_interface(Interface::new(alloc, None, &items)?)?);
-    let bytes = defined(&types, &[("d", Type::Interface(one))])?;
-    assert!(rt; bytes.as_slice() == INTERFACE.as_slice());
-    if types.contains(other) {
-        assert!(rt; !RootEncoder::new(&types).is_definable(other)?);
+fn definitions_are_written(rt: HostRuntime) {
+    for (rows, definitions, want) in DEFINED {
+        let items = Items::new(&rt, rt.alloc(), rows);
+        let definitions = items.named(&rt, definitions);
+        let bytes = defined(&rt, &items.types, &definitions);
+        assert!(rt; bytes.as_slice() == *want);
     }
-    Ok(())
+}
+
+// An interface of an enumeration that has no id.
+const UNNAMED: &[Row] = &[Enumeration("a"), Instance(None, &[("t", 0)])];
+
+#[test]
+fn an_interface_without_id_is_not_definable(rt: HostRuntime) {
+    let items = Items::new(&rt, rt.alloc(), UNNAMED);
+    let unnamed = Type::Interface(items.interface(&rt, 1));
+    assert!(rt; items.types.contains(unnamed));
+    assert!(rt; RootEncoder::new(&items.types).is_definable(unnamed) == Ok(false));
 }

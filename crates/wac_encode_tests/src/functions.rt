@@ -1,6 +1,7 @@
 //! Functions that are written and listed beside the types that they use.
 
-use crate::shapes::{defined, function, resource};
+use crate::rows::Items;
+use crate::rows::Row::{Async, Func, List, Optional, Own, Primitive, Resource};
 use std::process::Abort;
 use std::test::Fail;
 use wac_builder::{ComponentBuilder, ComponentValType, Description, InstanceType};
@@ -53,24 +54,22 @@ fn takes_the_named_index(rt: HostRuntime) -> Result<(), Fail> {
 #[test]
 fn writes_parameters_in_order(rt: HostRuntime) {
     let alloc = rt.alloc();
-    let mut types = Types::new(alloc);
-    let byte = ValueType::Primitive(PrimitiveType::U8);
-    let list = defined(&rt, &mut types, DefinedType::List(byte));
-    let option = defined(&rt, &mut types, DefinedType::Option(list));
-    let params = [("a", option), ("b", byte)];
-    let f = function(
-        &rt,
-        &mut types,
-        FuncType::new(alloc, &params, Some(list), true),
-    );
+    let rows = [
+        Primitive(PrimitiveType::U8),
+        List(0),
+        Optional(1),
+        Async(&[("a", 2), ("b", 0)], Some(1)),
+    ];
+    let items = Items::new(&rt, alloc, &rows);
+    let f = items.func(&rt, 3);
     let mut scope = Scope::new(alloc, Encodable::Instance(InstanceType::new(alloc)));
-    if types.contains(Type::Func(f)) {
-        assert!(rt; TypeEncoder::new(&types).func(&mut scope, f) == Ok(2));
-        assert!(rt; TypeEncoder::new(&types).func(&mut scope, f) == Ok(2));
-        assert!(rt; scope.func(f) == Some(2));
+    assert!(rt; items.types.contains(Type::Func(f)));
+    for _ in 0..2 {
+        assert!(rt; TypeEncoder::new(&items.types).func(&mut scope, f) == Ok(2));
     }
-    assert!(rt; scope.value(list) == Some(ComponentValType::Index(0)));
-    assert!(rt; scope.value(option) == Some(ComponentValType::Index(1)));
+    assert!(rt; scope.func(f) == Some(2));
+    assert!(rt; scope.value(items.value(&rt, 1)) == Some(ComponentValType::Index(0)));
+    assert!(rt; scope.value(items.value(&rt, 2)) == Some(ComponentValType::Index(1)));
 }
 
 // A type item of a primitive: the primitive has an index of its own there, and is written as itself all the same.
@@ -90,16 +89,10 @@ fn lists_a_primitive(rt: HostRuntime) {
 #[test]
 fn refuses_a_result_of_a_handle(rt: HostRuntime) {
     let alloc = rt.alloc();
-    let mut types = Types::new(alloc);
-    let resource = resource(&rt, &mut types);
-    let f = function(
-        &rt,
-        &mut types,
-        FuncType::new(alloc, &[], Some(ValueType::Own(resource)), false),
-    );
+    let items = Items::new(&rt, alloc, &[Resource, Own(0), Func(&[], Some(1))]);
+    let f = items.func(&rt, 2);
     let mut scope = Scope::new(alloc, Encodable::Instance(InstanceType::new(alloc)));
-    if types.contains(Type::Func(f)) {
-        let refused = TypeEncoder::new(&types).func(&mut scope, f);
-        assert!(rt; refused == Err(EncodeFault::Write(WriteFault::UnboundResource)));
-    }
+    assert!(rt; items.types.contains(Type::Func(f)));
+    let refused = TypeEncoder::new(&items.types).func(&mut scope, f);
+    assert!(rt; refused == Err(EncodeFault::Write(WriteFault::UnboundResource)));
 }

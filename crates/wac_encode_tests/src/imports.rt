@@ -1,12 +1,16 @@
 //! Items that are imported into the root.
 
-use crate::shapes::{defined, enumeration, function, interface, resource};
+use crate::rows::Row::{
+    Alias, Enumeration, Func, Instance, List, Primitive, Resource, TypeOf, Value,
+};
+use crate::rows::{Item, Items, Row, assert_row};
+use std::alloc::Global;
 use std::process::Abort;
 use wac_builder::ComponentBuilder;
 use wac_collection::Types;
 use wac_root::RootEncoder;
 use wac_scopes::{Encodable, EncodeFault, Scope, WriteFault};
-use wac_shapes::{DefinedType, FuncType, Interface, ItemKind, PrimitiveType, Type, ValueType};
+use wac_shapes::{ItemKind, PrimitiveType};
 
 const ITEMS: &[u8] = &[
     0x00, 0x61, 0x73, 0x6d, 0x0d, 0x00, 0x01, 0x00, // the preamble
@@ -152,188 +156,159 @@ fn imported(rt: &impl Abort, types: &Types, items: &[(&str, ItemKind)]) -> Optio
     Some(builder.finish().expect(rt, "bytes"))
 }
 
-// A component that imports these items is written so.
-fn assert_imported(rt: &impl Abort, types: &Types, items: &[(&str, ItemKind)], want: &[u8]) {
-    let bytes = imported(rt, types, items).expect(rt, "all are imported");
-    assert!(rt; bytes.as_slice() == want);
+// Types, the items that are imported, and the bytes of the component that does, where all are imported yet.
+struct ImportRow {
+    name: &'static str,
+    rows: &'static [Row],
+    items: &'static [Item],
+    want: Option<&'static [u8]>,
 }
 
-// An interface as an instance, then a type item, which the instance lists, and a function, which takes the item's index.
-#[test]
-fn imports_each_kind(rt: HostRuntime) {
-    let alloc = rt.alloc();
-    let mut types = Types::new(alloc);
-    let x = enumeration(&rt, &mut types, "a");
-    let f = function(
-        &rt,
-        &mut types,
-        FuncType::new(alloc, &[("x", x)], None, false),
-    );
-    let t = ("t", ItemKind::TypeItem(Type::Value(x)));
-    let f = ("f", ItemKind::Func(f));
-    let i = interface(
-        &rt,
-        &mut types,
-        Interface::new(alloc, Some("n:p/i"), &[t, f]),
-    );
-    let items = [("n:p/i", ItemKind::Instance(i)), t, f];
-    assert_imported(&rt, &types, &items, ITEMS);
+// An interface lists a function over an enumeration, another the enumeration, and the third both.
+const LISTS: &[Row] = &[
+    Enumeration("a"),
+    Func(&[("x", 0)], None),
+    Instance(Some("n:p/j"), &[("t", 0)]),
+    Instance(Some("n:p/i"), &[("f", 1)]),
+    Instance(Some("n:p/i"), &[("t", 0), ("f", 1)]),
+];
+
+// An enumeration and a list, and an interface of a function over each.
+const NAMES_AROUND: &[Row] = &[
+    Enumeration("a"),
+    Func(&[("x", 0)], None),
+    Instance(Some("n:p/i"), &[("f", 1)]),
+    Primitive(PrimitiveType::U8),
+    List(3),
+    Func(&[("x", 4)], None),
+    Instance(Some("n:p/i"), &[("f", 5)]),
+];
+
+// A function, an instance that lists it twice, and one that lists it once.
+const TWICE: &[Row] = &[
+    Primitive(PrimitiveType::U8),
+    Func(&[("x", 0)], None),
+    Instance(None, &[("f", 1), ("g", 1)]),
+    TypeOf(1),
+    Instance(None, &[("f", 1)]),
+    TypeOf(4),
+];
+
+// A resource, and an instance that lists it.
+const BOUND: &[Row] = &[Resource, Instance(None, &[("r", 0)])];
+
+const IMPORT_ROWS: &[ImportRow] = &[
+    ImportRow {
+        name: "an interface as an instance, then a type item, which the instance lists, and a function, which takes the item's index",
+        rows: LISTS,
+        items: &[("n:p/i", 4), ("t", 0), ("f", 1)],
+        want: Some(ITEMS),
+    },
+    ImportRow {
+        name: "what an instance lists that was imported before is aliased from it, once, under the first of its names; what is made of it is written",
+        rows: &[
+            Enumeration("a"),
+            Alias(0),
+            List(1),
+            Func(&[("x", 2)], Some(0)),
+            Instance(Some("n:p/i"), &[("t", 0)]),
+        ],
+        items: &[("n:p/i", 4), ("f", 3)],
+        want: Some(LISTED),
+    },
+    ImportRow {
+        name: "what another instance lists comes into an instance type by an alias of its alias",
+        rows: LISTS,
+        items: &[("n:p/j", 2), ("n:p/i", 3)],
+        want: Some(USED),
+    },
+    ImportRow {
+        name: "what another instance lists comes into one that lists it too by an alias of its alias",
+        rows: LISTS,
+        items: &[("n:p/j", 2), ("n:p/i", 4)],
+        want: Some(USED_AND_LISTED),
+    },
+    ImportRow {
+        name: "so does what a type item names",
+        rows: NAMES_AROUND,
+        items: &[("t", 0), ("n:p/i", 2)],
+        want: Some(NAMED_AROUND),
+    },
+    ImportRow {
+        name: "what has no name is written again",
+        rows: NAMES_AROUND,
+        items: &[("g", 5), ("n:p/i", 6)],
+        want: Some(UNNAMED_AROUND),
+    },
+    ImportRow {
+        name: "a primitive has a definition of its own; a second name of a list equals the first",
+        rows: &[Primitive(PrimitiveType::U8), List(0), Alias(1)],
+        items: &[("b", 0), ("l", 1), ("m", 2)],
+        want: Some(NAMES),
+    },
+    ImportRow {
+        name: "a function type that is imported twice is written once",
+        rows: TWICE,
+        items: &[("x", 1), ("y", 1)],
+        want: Some(FUNCTIONS),
+    },
+    ImportRow {
+        name: "an interface that is imported twice is written once, and so is a function type that it lists twice",
+        rows: TWICE,
+        items: &[("a", 2), ("b", 2)],
+        want: Some(INSTANCES),
+    },
+    ImportRow {
+        name: "type items of a function type equal the type that is written once, whose index a function takes too",
+        rows: TWICE,
+        items: &[("x", 3), ("y", 3), ("z", 1)],
+        want: Some(FUNCTION_TYPES),
+    },
+    ImportRow {
+        name: "a type item of an interface equals the type that is written once, whose index an instance takes too",
+        rows: TWICE,
+        items: &[("a", 5), ("b", 4)],
+        want: Some(INTERFACE_TYPES),
+    },
+    ImportRow {
+        name: "a resource is not imported yet",
+        rows: BOUND,
+        items: &[("r", 0)],
+        want: None,
+    },
+    ImportRow {
+        name: "nor is an instance that lists one",
+        rows: BOUND,
+        items: &[("i", 1)],
+        want: None,
+    },
+];
+
+// What is imported is written so, or not yet.
+fn is_imported(rt: &impl Abort, alloc: Global, row: &ImportRow) -> bool {
+    let items = Items::new(rt, alloc, row.rows);
+    let asked = items.named(rt, row.items);
+    match (imported(rt, &items.types, &asked), row.want) {
+        (Some(bytes), Some(want)) => bytes.as_slice() == want,
+        (None, None) => true,
+        _ => false,
+    }
 }
 
-// What an instance lists that was imported before is aliased from it, once, under the first of its names; what is made of it is written.
 #[test]
-fn imports_from_an_instance(rt: HostRuntime) {
-    let alloc = rt.alloc();
-    let mut types = Types::new(alloc);
-    let x = enumeration(&rt, &mut types, "a");
-    let alias = defined(&rt, &mut types, DefinedType::Alias(x));
-    let list = defined(&rt, &mut types, DefinedType::List(alias));
-    let f = function(
-        &rt,
-        &mut types,
-        FuncType::new(alloc, &[("x", list)], Some(x), false),
-    );
-    let t = ("t", ItemKind::TypeItem(Type::Value(x)));
-    let i = interface(&rt, &mut types, Interface::new(alloc, Some("n:p/i"), &[t]));
-    let items = [("n:p/i", ItemKind::Instance(i)), ("f", ItemKind::Func(f))];
-    assert_imported(&rt, &types, &items, LISTED);
+fn imports_are_written(rt: HostRuntime) {
+    for row in IMPORT_ROWS {
+        assert_row(&rt, is_imported(&rt, rt.alloc(), row), row.name);
+    }
 }
 
-// What another instance lists comes into an instance type by an alias of its alias, be it listed there too or not.
 #[test]
-fn imports_what_another_lists(rt: HostRuntime) {
+fn refuses_what_cannot_be_imported(rt: HostRuntime) {
     let alloc = rt.alloc();
-    let mut types = Types::new(alloc);
-    let x = enumeration(&rt, &mut types, "a");
-    let f = function(
-        &rt,
-        &mut types,
-        FuncType::new(alloc, &[("x", x)], None, false),
-    );
-    let t = ("t", ItemKind::TypeItem(Type::Value(x)));
-    let f = ("f", ItemKind::Func(f));
-    let j = interface(&rt, &mut types, Interface::new(alloc, Some("n:p/j"), &[t]));
-    let used = interface(&rt, &mut types, Interface::new(alloc, Some("n:p/i"), &[f]));
-    let listed = interface(
-        &rt,
-        &mut types,
-        Interface::new(alloc, Some("n:p/i"), &[t, f]),
-    );
-    let j = ("n:p/j", ItemKind::Instance(j));
-    let items = [j, ("n:p/i", ItemKind::Instance(used))];
-    assert_imported(&rt, &types, &items, USED);
-    let items = [j, ("n:p/i", ItemKind::Instance(listed))];
-    assert_imported(&rt, &types, &items, USED_AND_LISTED);
-}
-
-// So does what a type item names; what has no name is written again.
-#[test]
-fn imports_what_has_a_name(rt: HostRuntime) {
-    let alloc = rt.alloc();
-    let mut types = Types::new(alloc);
-    let x = enumeration(&rt, &mut types, "a");
-    let f = function(
-        &rt,
-        &mut types,
-        FuncType::new(alloc, &[("x", x)], None, false),
-    );
-    let i = interface(
-        &rt,
-        &mut types,
-        Interface::new(alloc, Some("n:p/i"), &[("f", ItemKind::Func(f))]),
-    );
-    let t = ("t", ItemKind::TypeItem(Type::Value(x)));
-    let items = [t, ("n:p/i", ItemKind::Instance(i))];
-    assert_imported(&rt, &types, &items, NAMED_AROUND);
-    let byte = ValueType::Primitive(PrimitiveType::U8);
-    let list = defined(&rt, &mut types, DefinedType::List(byte));
-    let g = function(
-        &rt,
-        &mut types,
-        FuncType::new(alloc, &[("x", list)], None, false),
-    );
-    let i = interface(
-        &rt,
-        &mut types,
-        Interface::new(alloc, Some("n:p/i"), &[("f", ItemKind::Func(g))]),
-    );
-    let items = [("g", ItemKind::Func(g)), ("n:p/i", ItemKind::Instance(i))];
-    assert_imported(&rt, &types, &items, UNNAMED_AROUND);
-}
-
-// A primitive has a definition of its own; a second name of a list equals the first.
-#[test]
-fn imports_names(rt: HostRuntime) {
-    let alloc = rt.alloc();
-    let mut types = Types::new(alloc);
-    let byte = ValueType::Primitive(PrimitiveType::U8);
-    let list = defined(&rt, &mut types, DefinedType::List(byte));
-    let alias = defined(&rt, &mut types, DefinedType::Alias(list));
-    let items = [
-        ("b", ItemKind::TypeItem(Type::Value(byte))),
-        ("l", ItemKind::TypeItem(Type::Value(list))),
-        ("m", ItemKind::TypeItem(Type::Value(alias))),
-    ];
-    assert_imported(&rt, &types, &items, NAMES);
-}
-
-// A function type and an interface that are imported twice are written once, and so is a function type that an interface lists twice.
-#[test]
-fn imports_once(rt: HostRuntime) {
-    let alloc = rt.alloc();
-    let mut types = Types::new(alloc);
-    let byte = ValueType::Primitive(PrimitiveType::U8);
-    let f = function(
-        &rt,
-        &mut types,
-        FuncType::new(alloc, &[("x", byte)], None, false),
-    );
-    let f = ItemKind::Func(f);
-    assert_imported(&rt, &types, &[("x", f), ("y", f)], FUNCTIONS);
-    let i = interface(
-        &rt,
-        &mut types,
-        Interface::new(alloc, None, &[("f", f), ("g", f)]),
-    );
-    let i = ItemKind::Instance(i);
-    assert_imported(&rt, &types, &[("a", i), ("b", i)], INSTANCES);
-}
-
-// Type items of a function type and of an interface equal the type that is written once, whose index a function and an instance take too.
-#[test]
-fn imports_types(rt: HostRuntime) {
-    let alloc = rt.alloc();
-    let mut types = Types::new(alloc);
-    let byte = ValueType::Primitive(PrimitiveType::U8);
-    let f = function(
-        &rt,
-        &mut types,
-        FuncType::new(alloc, &[("x", byte)], None, false),
-    );
-    let t = ItemKind::TypeItem(Type::Func(f));
-    let f = ItemKind::Func(f);
-    let items = [("x", t), ("y", t), ("z", f)];
-    assert_imported(&rt, &types, &items, FUNCTION_TYPES);
-    let i = interface(&rt, &mut types, Interface::new(alloc, None, &[("f", f)]));
-    let items = [
-        ("a", ItemKind::TypeItem(Type::Interface(i))),
-        ("b", ItemKind::Instance(i)),
-    ];
-    assert_imported(&rt, &types, &items, INTERFACE_TYPES);
-}
-
-// What is not imported yet gives none; what can't be imported is refused.
-#[test]
-fn refuses_what_is_not_imported(rt: HostRuntime) {
-    let alloc = rt.alloc();
-    let mut types = Types::new(alloc);
-    let resource = resource(&rt, &mut types);
-    let r = ("r", ItemKind::TypeItem(Type::Resource(resource)));
-    let i = interface(&rt, &mut types, Interface::new(alloc, None, &[r]));
-    assert!(rt; imported(&rt, &types, &[r]).is_none());
-    assert!(rt; imported(&rt, &types, &[("i", ItemKind::Instance(i))]).is_none());
-    let value = ValueType::Primitive(PrimitiveType::U8);
+    let items = Items::new(&rt, alloc, &[Primitive(PrimitiveType::U8), Value(0)]);
+    let value = items.kind(&rt, 1);
+    assert!(rt; items.types.contains(value.ty()));
     let mut root = Scope::new(alloc, Encodable::Builder(ComponentBuilder::new(alloc)));
-    let refused = RootEncoder::new(&types).import(&mut root, "v", ItemKind::Value(value));
+    let refused = RootEncoder::new(&items.types).import(&mut root, "v", value);
     assert!(rt; refused == Err(EncodeFault::Write(WriteFault::ValueItem)));
 }

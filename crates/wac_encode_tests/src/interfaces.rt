@@ -2,15 +2,17 @@
 
 ghost use Rattle.wac_collection.specs.Collection.{HasInterface};
 
-use crate::shapes::{defined, enumeration, function, interface, resource};
+use crate::rows::Row::{
+    Alias, Enumeration, Func, Instance, List, Optional, Own, Pair, Primitive, Resource, TypeOf,
+    Value,
+};
+use crate::rows::{Items, Row, assert_row};
 use std::process::Abort;
 use wac_builder::{ComponentBuilder, Description};
 use wac_collection::Types;
 use wac_encode::TypeEncoder;
 use wac_scopes::{Encodable, EncodeFault, Scope, WriteFault};
-use wac_shapes::{
-    DefinedType, FuncType, Interface, InterfaceId, ItemKind, PrimitiveType, Type, ValueType,
-};
+use wac_shapes::{InterfaceId, PrimitiveType, Type};
 
 const NAMED: &[u8] = &[
     0x00, 0x61, 0x73, 0x6d, 0x0d, 0x00, 0x01, 0x00, // the preamble
@@ -75,7 +77,7 @@ fn scope(types: &Types) -> Scope {
 }
 
 // The bytes of a component that imports an interface of these items.
-fn imported(rt: &impl Abort, types: &Types, interface: InterfaceId) -> Vec<u8>
+pub fn imported(rt: &impl Abort, types: &Types, interface: InterfaceId) -> Vec<u8>
     requires { HasInterface types.now interface }
 {
     let mut builder = ComponentBuilder::new(types.allocator());
@@ -89,170 +91,150 @@ fn imported(rt: &impl Abort, types: &Types, interface: InterfaceId) -> Vec<u8>
     builder.finish().expect(rt, "bytes")
 }
 
-// An interface of these items is held, and written so.
-fn assert_imported(rt: &impl Abort, types: &Types, interface: InterfaceId, want: &[u8]) {
-    assert!(rt; types.contains(Type::Interface(interface)));
-    assert!(rt; imported(rt, types, interface).as_slice() == want);
+/// Types, the place of an instance, and the bytes of a component that imports it.
+pub struct Written {
+    pub name: &'static str,
+    pub rows: &'static [Row],
+    pub place: usize,
+    pub want: &'static [u8],
 }
 
-// A function takes the index of the type item of its parameter's type, whichever of the two is listed first.
+/// Each is written so.
+pub fn assert_written(rt: &(impl Abort + AllocGlobal), rows: &[Written]) {
+    for row in rows {
+        let items = Items::new(rt, rt.alloc(), row.rows);
+        let interface = items.interface(rt, row.place);
+        assert!(rt; items.types.contains(Type::Interface(interface)));
+        let bytes = imported(rt, &items.types, interface);
+        assert_row(rt, bytes.as_slice() == row.want, row.name);
+    }
+}
+
+// An enumeration and a function over it, listed in either order.
+const EITHER: &[Row] = &[
+    Enumeration("a"),
+    Func(&[("x", 0)], None),
+    Instance(Some("n:p/i"), &[("t", 0), ("f", 1)]),
+    Instance(Some("n:p/j"), &[("f", 1), ("t", 0)]),
+];
+
+// The same with a type item of the function's type.
+const FUNCTION_TYPES: &[Row] = &[
+    Enumeration("a"),
+    Func(&[("x", 0)], None),
+    TypeOf(1),
+    Instance(Some("n:p/i"), &[("g", 2), ("t", 0), ("f", 1)]),
+    Instance(Some("n:p/j"), &[("f", 1), ("g", 2), ("t", 0)]),
+];
+
+const WRITTEN: &[Written] = &[
+    Written {
+        name: "a function takes the index of the type item of its parameter's type",
+        rows: EITHER,
+        place: 2,
+        want: NAMED,
+    },
+    Written {
+        name: "a function takes the index of a type item that is listed behind it",
+        rows: EITHER,
+        place: 3,
+        want: NAMED,
+    },
+    Written {
+        name: "a type item that mentions another, which is listed later, stands behind it and takes its index",
+        rows: &[
+            Enumeration("a"),
+            List(0),
+            Instance(Some("n:p/i"), &[("l", 1), ("t", 0)]),
+        ],
+        place: 2,
+        want: HOISTED,
+    },
+    Written {
+        name: "of the type items that are left, the first listed one that mentions none of them is next: `c` comes before `b`",
+        rows: &[
+            Enumeration("x"),
+            List(0),
+            Optional(0),
+            Pair(1, 2),
+            Instance(Some("n:p/i"), &[("d", 3), ("c", 2), ("b", 1), ("a", 0)]),
+        ],
+        place: 4,
+        want: ORDERED,
+    },
+    Written {
+        name: "a type item of a function type stands behind those of value types and before the functions; a function of the same type takes the type's own index",
+        rows: FUNCTION_TYPES,
+        place: 3,
+        want: FUNCTION_TYPE,
+    },
+    Written {
+        name: "a type item of a function type stands so too where the function is listed before it",
+        rows: FUNCTION_TYPES,
+        place: 4,
+        want: FUNCTION_TYPE,
+    },
+    Written {
+        name: "a second name equals the first, which is the one that is used, by what is an alias of it too",
+        rows: &[
+            Enumeration("a"),
+            Alias(0),
+            Func(&[("x", 1)], None),
+            Instance(Some("n:p/i"), &[("t", 0), ("u", 1), ("f", 2)]),
+        ],
+        place: 3,
+        want: TWICE,
+    },
+];
+
 #[test]
-fn writes_type_items_first(rt: HostRuntime) {
-    let alloc = rt.alloc();
-    let mut types = Types::new(alloc);
-    let x = enumeration(&rt, &mut types, "a");
-    let f = function(
-        &rt,
-        &mut types,
-        FuncType::new(alloc, &[("x", x)], None, false),
-    );
-    let t = ("t", ItemKind::TypeItem(Type::Value(x)));
-    let f = ("f", ItemKind::Func(f));
-    let one = interface(
-        &rt,
-        &mut types,
-        Interface::new(alloc, Some("n:p/i"), &[t, f]),
-    );
-    let other = interface(
-        &rt,
-        &mut types,
-        Interface::new(alloc, Some("n:p/j"), &[f, t]),
-    );
-    assert_imported(&rt, &types, one, NAMED);
-    assert_imported(&rt, &types, other, NAMED);
+fn interfaces_are_written(rt: HostRuntime) {
+    assert_written(&rt, WRITTEN);
 }
 
-// A type item that mentions another, which is listed later, stands behind it and takes its index.
-#[test]
-fn writes_what_is_mentioned_first(rt: HostRuntime) {
-    let alloc = rt.alloc();
-    let mut types = Types::new(alloc);
-    let t = enumeration(&rt, &mut types, "a");
-    let list = defined(&rt, &mut types, DefinedType::List(t));
-    let items = [
-        ("l", ItemKind::TypeItem(Type::Value(list))),
-        ("t", ItemKind::TypeItem(Type::Value(t))),
-    ];
-    let interface = interface(
-        &rt,
-        &mut types,
-        Interface::new(alloc, Some("n:p/i"), &items),
-    );
-    assert_imported(&rt, &types, interface, HOISTED);
+/// Types, the place of an instance whose interface is not written, and the fault, where it is one.
+pub type Refused = (&'static [Row], usize, Option<WriteFault>);
+
+/// Each is refused by its fault, or is not written yet.
+pub fn assert_refused(rt: &(impl Abort + AllocGlobal), rows: &[Refused]) {
+    for (rows, place, want) in rows {
+        let items = Items::new(rt, rt.alloc(), rows);
+        let interface = items.interface(rt, *place);
+        assert!(rt; items.types.contains(Type::Interface(interface)));
+        let around = scope(&items.types);
+        let written = TypeEncoder::new(&items.types).interface_type(&around, interface);
+        assert!(rt; !matches!(written, Ok(Some(_))));
+        assert!(rt; written.err() == want.map(EncodeFault::Write));
+    }
 }
 
-// Of the type items that are left, the first listed one that mentions none of them is next: `c` comes before `b`.
-#[test]
-fn writes_the_first_that_mentions_none_left(rt: HostRuntime) {
-    let alloc = rt.alloc();
-    let mut types = Types::new(alloc);
-    let a = enumeration(&rt, &mut types, "x");
-    let b = defined(&rt, &mut types, DefinedType::List(a));
-    let c = defined(&rt, &mut types, DefinedType::Option(a));
-    let tuple = DefinedType::tuple(alloc, &[b, c]).expect(&rt, "a tuple");
-    let d = defined(&rt, &mut types, tuple);
-    let items = [
-        ("d", ItemKind::TypeItem(Type::Value(d))),
-        ("c", ItemKind::TypeItem(Type::Value(c))),
-        ("b", ItemKind::TypeItem(Type::Value(b))),
-        ("a", ItemKind::TypeItem(Type::Value(a))),
-    ];
-    let interface = interface(
-        &rt,
-        &mut types,
-        Interface::new(alloc, Some("n:p/i"), &items),
-    );
-    assert_imported(&rt, &types, interface, ORDERED);
-}
+const REFUSED: &[Refused] = &[
+    // A resource is not written yet.
+    (&[Resource, Instance(None, &[("r", 0)])], 1, None),
+    // A handle to a resource that is bound nowhere.
+    (
+        &[
+            Resource,
+            Own(0),
+            Func(&[], Some(1)),
+            Instance(None, &[("f", 2)]),
+        ],
+        3,
+        Some(WriteFault::UnboundResource),
+    ),
+    // A value.
+    (
+        &[
+            Primitive(PrimitiveType::U8),
+            Value(0),
+            Instance(None, &[("v", 1)]),
+        ],
+        2,
+        Some(WriteFault::NestedItem),
+    ),
+];
 
-// A type item of a function type stands behind the type items of value types and before the functions, in whichever order they are listed; a
-// function of the same type takes the index of the type itself.
-#[test]
-fn writes_type_items_of_function_types(rt: HostRuntime) {
-    let alloc = rt.alloc();
-    let mut types = Types::new(alloc);
-    let x = enumeration(&rt, &mut types, "a");
-    let f = function(
-        &rt,
-        &mut types,
-        FuncType::new(alloc, &[("x", x)], None, false),
-    );
-    let g = ("g", ItemKind::TypeItem(Type::Func(f)));
-    let t = ("t", ItemKind::TypeItem(Type::Value(x)));
-    let f = ("f", ItemKind::Func(f));
-    let one = interface(
-        &rt,
-        &mut types,
-        Interface::new(alloc, Some("n:p/i"), &[g, t, f]),
-    );
-    let other = interface(
-        &rt,
-        &mut types,
-        Interface::new(alloc, Some("n:p/j"), &[f, g, t]),
-    );
-    assert_imported(&rt, &types, one, FUNCTION_TYPE);
-    assert_imported(&rt, &types, other, FUNCTION_TYPE);
-}
-
-// A second name equals the first, which is the one that is used, by what is an alias of it too.
-#[test]
-fn keeps_the_first_name(rt: HostRuntime) {
-    let alloc = rt.alloc();
-    let mut types = Types::new(alloc);
-    let t = enumeration(&rt, &mut types, "a");
-    let u = defined(&rt, &mut types, DefinedType::Alias(t));
-    let f = function(
-        &rt,
-        &mut types,
-        FuncType::new(alloc, &[("x", u)], None, false),
-    );
-    let items = [
-        ("t", ItemKind::TypeItem(Type::Value(t))),
-        ("u", ItemKind::TypeItem(Type::Value(u))),
-        ("f", ItemKind::Func(f)),
-    ];
-    let interface = interface(
-        &rt,
-        &mut types,
-        Interface::new(alloc, Some("n:p/i"), &items),
-    );
-    assert_imported(&rt, &types, interface, TWICE);
-}
-
-// An interface is held, and not written for this reason.
-fn assert_refused(rt: &impl Abort, types: &Types, interface: InterfaceId, want: WriteFault) {
-    assert!(rt; types.contains(Type::Interface(interface)));
-    let around = scope(types);
-    let refused = TypeEncoder::new(types)
-        .interface_type(&around, interface)
-        .err();
-    assert!(rt; refused == Some(EncodeFault::Write(want)));
-}
-
-// What is not written yet gives none; what can't be written is refused.
 #[test]
 fn refuses_what_no_instance_type_lists(rt: HostRuntime) {
-    let alloc = rt.alloc();
-    let mut types = Types::new(alloc);
-    let resource = resource(&rt, &mut types);
-    let f = function(
-        &rt,
-        &mut types,
-        FuncType::new(alloc, &[], Some(ValueType::Own(resource)), false),
-    );
-    let r = ("r", ItemKind::TypeItem(Type::Resource(resource)));
-    let own = interface(&rt, &mut types, Interface::new(alloc, None, &[r]));
-    let f = ("f", ItemKind::Func(f));
-    let unbound = interface(&rt, &mut types, Interface::new(alloc, None, &[f]));
-    let v = (
-        "v",
-        ItemKind::Value(ValueType::Primitive(PrimitiveType::U8)),
-    );
-    let nested = interface(&rt, &mut types, Interface::new(alloc, None, &[v]));
-    assert!(rt; types.contains(Type::Interface(own)));
-    let around = scope(&types);
-    let written = TypeEncoder::new(&types).interface_type(&around, own);
-    assert!(rt; matches!(written, Ok(None)));
-    assert_refused(&rt, &types, unbound, WriteFault::UnboundResource);
-    assert_refused(&rt, &types, nested, WriteFault::NestedItem);
+    assert_refused(&rt, REFUSED);
 }

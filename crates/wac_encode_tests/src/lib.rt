@@ -18,8 +18,8 @@ mod nested;
 #[cfg(test)]
 mod roots;
 #[cfg(test)]
-mod scopes;
+mod rows;
 #[cfg(test)]
-mod shapes;
+mod scopes;
 #[cfg(test)]
 mod values;

@@ -1,14 +1,10 @@
 //! Interfaces with instances in them.
 
-ghost use Rattle.wac_collection.specs.Collection.{HasInterface};
-
-use crate::shapes::{enumeration, function, interface};
+use crate::interfaces::{Refused, Written, assert_refused, assert_written, imported};
+use crate::rows::Row::{Enumeration, Func, Instance, Resource};
 use std::process::Abort;
-use wac_builder::{ComponentBuilder, Description};
 use wac_collection::Types;
-use wac_encode::TypeEncoder;
-use wac_scopes::{Encodable, Scope};
-use wac_shapes::{FuncType, Interface, InterfaceId, ItemKind, Type};
+use wac_shapes::{Interface, InterfaceId, ItemKind, Type};
 
 const USES_AROUND: &[u8] = &[
     0x00, 0x61, 0x73, 0x6d, 0x0d, 0x00, 0x01, 0x00, // the preamble
@@ -34,76 +30,33 @@ const ONE_TYPE: &[u8] = &[
     0x0a, 0x0a, 0x01, 0x00, 0x05, 0x6e, 0x3a, 0x70, 0x2f, 0x69, 0x05, 0x00, // the import
 ];
 
-// A scope in which nothing is written.
-fn scope(types: &Types) -> Scope {
-    let alloc = types.allocator();
-    Scope::new(alloc, Encodable::Builder(ComponentBuilder::new(alloc)))
-}
+const NESTED: &[Written] = &[
+    Written {
+        name: "an interface inside takes an enumeration that the outer one lists from there, by the name that it has",
+        rows: &[
+            Enumeration("a"),
+            Func(&[("x", 0)], None),
+            Instance(None, &[("f", 1)]),
+            Instance(Some("n:p/i"), &[("n", 2), ("t", 0)]),
+        ],
+        place: 3,
+        want: USES_AROUND,
+    },
+    Written {
+        name: "two instances of one interface share its type",
+        rows: &[
+            Func(&[], None),
+            Instance(None, &[("f", 0)]),
+            Instance(Some("n:p/i"), &[("m", 1), ("n", 1)]),
+        ],
+        place: 2,
+        want: ONE_TYPE,
+    },
+];
 
-// The bytes of a component that imports an interface of these items.
-fn imported(rt: &impl Abort, types: &Types, interface: InterfaceId) -> Vec<u8>
-    requires { HasInterface types.now interface }
-{
-    let mut builder = ComponentBuilder::new(types.allocator());
-    let around = scope(types);
-    let written = TypeEncoder::new(types).interface_type(&around, interface);
-    if let Some(written) = written.expect(rt, "an instance type") {
-        let index = builder.instance_type(&written).expect(rt, "an index");
-        let imported = builder.import("n:p/i", Description::Instance(index));
-        imported.expect(rt, "an import");
-    }
-    builder.finish().expect(rt, "bytes")
-}
-
-// An interface is held, and written so.
-fn assert_imported(rt: &impl Abort, types: &Types, interface: InterfaceId, want: &[u8]) {
-    assert!(rt; types.contains(Type::Interface(interface)));
-    assert!(rt; imported(rt, types, interface).as_slice() == want);
-}
-
-// An interface inside takes an enumeration that the outer one lists from there, by the name that it has.
 #[test]
-fn takes_from_around(rt: HostRuntime) {
-    let alloc = rt.alloc();
-    let mut types = Types::new(alloc);
-    let x = enumeration(&rt, &mut types, "a");
-    let f = function(
-        &rt,
-        &mut types,
-        FuncType::new(alloc, &[("x", x)], None, false),
-    );
-    let f = ("f", ItemKind::Func(f));
-    let inner = interface(&rt, &mut types, Interface::new(alloc, None, &[f]));
-    let items = [
-        ("n", ItemKind::Instance(inner)),
-        ("t", ItemKind::TypeItem(Type::Value(x))),
-    ];
-    let outer = interface(
-        &rt,
-        &mut types,
-        Interface::new(alloc, Some("n:p/i"), &items),
-    );
-    assert_imported(&rt, &types, outer, USES_AROUND);
-}
-
-// Two instances of one interface share its type.
-#[test]
-fn shares_one_type(rt: HostRuntime) {
-    let alloc = rt.alloc();
-    let mut types = Types::new(alloc);
-    let f = function(&rt, &mut types, FuncType::new(alloc, &[], None, false));
-    let f = ("f", ItemKind::Func(f));
-    let inner = interface(&rt, &mut types, Interface::new(alloc, None, &[f]));
-    let items = [
-        ("m", ItemKind::Instance(inner)),
-        ("n", ItemKind::Instance(inner)),
-    ];
-    let outer = interface(
-        &rt,
-        &mut types,
-        Interface::new(alloc, Some("n:p/i"), &items),
-    );
-    assert_imported(&rt, &types, outer, ONE_TYPE);
+fn instances_inside_are_written(rt: HostRuntime) {
+    assert_written(&rt, NESTED);
 }
 
 // The bytes of so many levels: the instance type of none is empty, and each around it lists an instance of the next.
@@ -124,16 +77,24 @@ fn levels(rt: &impl Abort, types: &Types, count: u32) -> Vec<u8> {
     bytes
 }
 
+// An instance in instances, so many deep.
+fn deep(rt: &impl Abort, types: &mut Types, count: u32) -> InterfaceId {
+    let alloc = types.allocator();
+    let empty = Interface::new(alloc, None, &[]).expect(rt, "an interface");
+    let mut last = types.add_interface(empty).expect(rt, "its id");
+    for _ in 0..count {
+        let n = ("n", ItemKind::Instance(last));
+        let around = Interface::new(alloc, None, &[n]).expect(rt, "an interface");
+        last = types.add_interface(around).expect(rt, "its id");
+    }
+    last
+}
+
 // Instances in instances, two hundred deep.
 #[test]
 fn writes_two_hundred_levels(rt: HostRuntime) {
-    let alloc = rt.alloc();
-    let mut types = Types::new(alloc);
-    let mut last = interface(&rt, &mut types, Interface::new(alloc, None, &[]));
-    for _ in 0..200 {
-        let n = ("n", ItemKind::Instance(last));
-        last = interface(&rt, &mut types, Interface::new(alloc, None, &[n]));
-    }
+    let mut types = Types::new(rt.alloc());
+    let last = deep(&rt, &mut types, 200);
     assert!(rt; types.contains(Type::Interface(last)));
     let bytes = imported(&rt, &types, last);
     let want = levels(&rt, &types, 200);
@@ -143,18 +104,18 @@ fn writes_two_hundred_levels(rt: HostRuntime) {
     assert!(rt; body == want.as_slice());
 }
 
-// What cannot be written inside is not written.
+// A resource is not written inside yet.
+const REFUSED: &[Refused] = &[(
+    &[
+        Resource,
+        Instance(None, &[("r", 0)]),
+        Instance(None, &[("n", 1)]),
+    ],
+    2,
+    None,
+)];
+
 #[test]
 fn refuses_what_is_inside(rt: HostRuntime) {
-    let alloc = rt.alloc();
-    let mut types = Types::new(alloc);
-    let resource = crate::shapes::resource(&rt, &mut types);
-    let r = ("r", ItemKind::TypeItem(Type::Resource(resource)));
-    let own = interface(&rt, &mut types, Interface::new(alloc, None, &[r]));
-    let n = ("n", ItemKind::Instance(own));
-    let outer = interface(&rt, &mut types, Interface::new(alloc, None, &[n]));
-    assert!(rt; types.contains(Type::Interface(outer)));
-    let around = scope(&types);
-    let written = TypeEncoder::new(&types).interface_type(&around, outer);
-    assert!(rt; matches!(written, Ok(None)));
+    assert_refused(&rt, REFUSED);
 }

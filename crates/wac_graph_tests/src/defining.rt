@@ -1,14 +1,18 @@
 // Definitions of types.
-use crate::parts::{encode, export, function, import, instantiate, register};
+use crate::parts::{encode, export, function, import};
+use crate::tables::Row::{Alias, Bool, Enumeration, Func, Handle, List, Optional, Pair, Record};
+use crate::tables::Step::{Define, Export, Import, Instantiate, Register};
+use crate::tables::Want::{Parts, Text};
+use crate::tables::{Case, Row, assert_answers};
 use std::process::Abort;
-use wac_graph::types::{
-    DefinedType, Enum, FuncType, FuncTypeId, Interface, ItemKind, PrimitiveType, Record, Resource,
+use wac_causes::EncodeError;
+use wac_composition::CompositionGraph;
+use wac_nodes::{DefineTypeError, EncodeOptions, NodeId};
+use wac_types::{
+    DefinedType, Enum, FuncType, FuncTypeId, Interface, ItemKind, PrimitiveType, Resource,
     ResourceId, Type, ValueType, World,
 };
-use wac_graph::{
-    CompositionGraph, DefineTypeError, EncodeError, EncodeOptions, NodeId, PackageId,
-    ValidationFault,
-};
+use wac_validation::ValidationFault;
 
 const BOOL: Type = Type::Value(ValueType::Primitive(PrimitiveType::Bool));
 
@@ -35,7 +39,7 @@ fn answer(
 }
 
 // Defines a type that may be defined.
-fn define(rt: &impl Abort, graph: &mut CompositionGraph, name: &str, ty: Type) -> NodeId {
+pub fn define(rt: &impl Abort, graph: &mut CompositionGraph, name: &str, ty: Type) -> NodeId {
     answer(rt, graph, name, ty).expect(rt, "a node")
 }
 
@@ -83,26 +87,38 @@ fn enumeration(
     defined(rt, graph, DefinedType::Enum(cases))
 }
 
-// The package `my:package`, which imports and exports nothing.
-fn package(rt: &(impl Abort + AllocGlobal), graph: &mut CompositionGraph) -> PackageId {
-    register(rt, rt.alloc(), graph, "my:package", &[], &[]).expect(rt, "a package")
-}
-
-const NAMES: [&str; 4] = ["a", "b", "c", "d"];
-
-// An enum, a list and an option of it, and a tuple of these two.
-fn diamond(rt: &(impl Abort + AllocGlobal), graph: &mut CompositionGraph) -> [Type; 4] {
+// An enum, a list and an option of it, and a tuple of these two, each with a name.
+fn diamond(
+    rt: &(impl Abort + AllocGlobal),
+    graph: &mut CompositionGraph,
+) -> [(&'static str, Type); 4] {
     let a = enumeration(rt, graph, "x");
     let b = defined(rt, graph, DefinedType::List(a));
     let c = defined(rt, graph, DefinedType::Option(a));
     let d = DefinedType::tuple(rt.alloc(), &[b, c]).expect(rt, "a tuple");
     let d = defined(rt, graph, d);
     [
-        Type::Value(a),
-        Type::Value(b),
-        Type::Value(c),
-        Type::Value(d),
+        ("a", Type::Value(a)),
+        ("b", Type::Value(b)),
+        ("c", Type::Value(c)),
+        ("d", Type::Value(d)),
     ]
+}
+
+// Defines types, of whose names none is exported, in order.
+fn define_all(rt: &impl Abort, graph: &mut CompositionGraph, types: &[(&str, Type)]) {
+    for (name, ty) in types {
+        assert!(rt; graph.get_export(name).is_none());
+        define(rt, graph, name, *ty);
+    }
+}
+
+// Defines types, of whose names none is exported, the last one first.
+fn define_backwards(rt: &impl Abort, graph: &mut CompositionGraph, types: &[(&str, Type)]) {
+    for (name, ty) in types.iter().rev() {
+        assert!(rt; graph.get_export(name).is_none());
+        define(rt, graph, name, *ty);
+    }
 }
 
 fn remove(rt: &impl Abort, graph: &mut CompositionGraph, name: &str) {
@@ -161,15 +177,10 @@ fn a_definition_stays_exported(rt: HostRuntime) {
 fn definitions_go_with_what_they_are_made_of(rt: HostRuntime) {
     let mut graph = CompositionGraph::new(rt.alloc());
     let types = diamond(&rt, &mut graph);
-    for (i, ty) in types.iter().enumerate() {
-        define(&rt, &mut graph, NAMES[i], *ty);
-    }
+    define_all(&rt, &mut graph, &types);
     remove(&rt, &mut graph, "a");
     assert!(rt; graph.node_ids().next().is_none());
-    for (i, ty) in types.iter().enumerate().rev() {
-        assert!(rt; graph.get_export(NAMES[i]).is_none());
-        define(&rt, &mut graph, NAMES[i], *ty);
-    }
+    define_backwards(&rt, &mut graph, &types);
     remove(&rt, &mut graph, "b");
     assert!(rt; graph.get_export("a").is_some() && graph.get_export("c").is_some());
     assert!(rt; graph.get_export("b").is_none() && graph.get_export("d").is_none());
@@ -208,114 +219,100 @@ fn assert_not_yet(rt: &(impl Abort + AllocGlobal), graph: &CompositionGraph) {
     assert_eq!(rt; text.as_str(), NOT_YET);
 }
 
-// Each definition stands behind those that it is made of, and a later one goes by the export's index.
-#[test]
-fn definitions_are_written_behind_what_they_are_made_of(rt: HostRuntime) {
-    let mut graph = CompositionGraph::new(rt.alloc());
-    let types = diamond(&rt, &mut graph);
-    for (i, ty) in types.iter().enumerate().rev() {
-        define(&rt, &mut graph, NAMES[i], *ty);
-    }
-    assert_written(
-        &rt,
-        &graph,
-        "0705016d0101780b07010001610300000703016b010b070100016303020007030170010b07010001620304000705016f0205030b0701000164030600",
-    );
-}
+// An enum, a list and an option of it, and a tuple of these two.
+const DIAMOND: &[Row] = &[Enumeration("x"), List(0), Optional(0), Pair(1, 2)];
 
-// A second name of a definition is exported behind all that is written, of the definition's own index.
-#[test]
-fn a_definition_is_exported_by_further_names(rt: HostRuntime) {
-    let mut graph = CompositionGraph::new(rt.alloc());
-    let alias = DefinedType::Alias(ValueType::Primitive(PrimitiveType::Bool));
-    let alias = Type::Value(defined(&rt, &mut graph, alias));
-    let node = define(&rt, &mut graph, "foo", alias);
-    export(&rt, &mut graph, node, "bar");
-    assert_written(
-        &rt,
-        &graph,
-        "0702017f0b11020003666f6f0300000003626172030100",
-    );
-}
+const DEFINED: &[Case] = &[
+    // Each definition stands behind those that it is made of, and a later one goes by the export's index.
+    Case {
+        rows: DIAMOND,
+        steps: &[
+            Define("d", 3),
+            Define("c", 2),
+            Define("b", 1),
+            Define("a", 0),
+        ],
+        want: Parts(&[
+            "0705016d010178",
+            "0b0701000161030000",
+            "0703016b01",
+            "0b0701000163030200",
+            "0703017001",
+            "0b0701000162030400",
+            "0705016f020503",
+            "0b0701000164030600",
+        ]),
+    },
+    // A second name of a definition is exported behind all that is written, of the definition's own index.
+    Case {
+        rows: &[Bool, Alias(0)],
+        steps: &[Define("foo", 1), Export(0, "bar")],
+        want: Parts(&["0702017f", "0b1102", "0003666f6f030000", "0003626172030100"]),
+    },
+    // The function type, and its export as a type.
+    Case {
+        rows: &[Func(&[], None)],
+        steps: &[Define("f", 0)],
+        want: Parts(&["07050140000100", "0b0701000166030000"]),
+    },
+    // A function type stands behind the record that it is made of, and goes by the index of the record's export.
+    Case {
+        rows: &[Bool, Record(0), Func(&[("x", 1)], Some(1))],
+        steps: &[Define("f", 2), Define("r", 1)],
+        want: Parts(&[
+            "070601720101627f",
+            "0b0701000172030000",
+            "07080140010178010001",
+            "0b0701000166030200",
+        ]),
+    },
+    // Over a handle it is not written yet.
+    Case {
+        rows: &[Handle, Func(&[("x", 0)], None)],
+        steps: &[Define("f", 1)],
+        want: Text(NOT_YET),
+    },
+    // A definition beside an import: the import stands first.
+    Case {
+        rows: &[Bool, Func(&[], None)],
+        steps: &[Import("x", 1), Define("foo", 0)],
+        want: Parts(&[
+            "07050140000100",
+            "0a06010001780100",
+            "0702017f",
+            "0b09010003666f6f030100",
+        ]),
+    },
+    // Nodes are written by number where none waits for another, so a definition may stand between two instances.
+    Case {
+        rows: &[Bool],
+        steps: &[Register(&[]), Instantiate, Define("foo", 0), Instantiate],
+        want: Parts(&[
+            "04080061736d0d000100",
+            "050401000000",
+            "0702017f",
+            "0b09010003666f6f030000",
+            "050401000000",
+        ]),
+    },
+    // A component and its instance may stand between two definitions, of which the later goes by the index of the earlier's export.
+    Case {
+        rows: DIAMOND,
+        steps: &[Register(&[]), Define("a", 0), Instantiate, Define("b", 1)],
+        want: Parts(&[
+            "0705016d010178",
+            "0b0701000161030000",
+            "04080061736d0d000100",
+            "050401000000",
+            "0703017001",
+            "0b0701000162030200",
+        ]),
+    },
+];
 
-// The function type, and its export as a type.
 #[test]
-fn definitions_of_function_types_are_written(rt: HostRuntime) {
-    let mut graph = CompositionGraph::new(rt.alloc());
-    let func = function_type(&rt, &mut graph, &[], None);
-    define(&rt, &mut graph, "f", Type::Func(func));
-    assert_written(&rt, &graph, "070501400001000b0701000166030000");
-}
-
-// A function type stands behind the record that it is made of, and goes by the index of the record's export.
-#[test]
-fn definitions_of_function_types_go_by_defined_records(rt: HostRuntime) {
-    let mut graph = CompositionGraph::new(rt.alloc());
-    let flag = ValueType::Primitive(PrimitiveType::Bool);
-    let record = Record::new(rt.alloc(), &[("b", flag)]).expect(&rt, "a record");
-    let record = defined(&rt, &mut graph, DefinedType::Record(record));
-    let func = function_type(&rt, &mut graph, &[("x", record)], Some(record));
-    define(&rt, &mut graph, "f", Type::Func(func));
-    define(&rt, &mut graph, "r", Type::Value(record));
-    assert_written(
-        &rt,
-        &graph,
-        "070601720101627f0b0701000172030000070801400101780100010b0701000166030200",
-    );
-}
-
-#[test]
-fn definitions_of_function_types_over_handles_are_not_written(rt: HostRuntime) {
-    let mut graph = CompositionGraph::new(rt.alloc());
-    let handle = ValueType::Own(resource(&rt, &mut graph));
-    let func = function_type(&rt, &mut graph, &[("x", handle)], None);
-    define(&rt, &mut graph, "f", Type::Func(func));
-    assert_not_yet(&rt, &graph);
-}
-
-// A definition beside an import: the import stands first.
-#[test]
-fn definitions_stand_behind_imports(rt: HostRuntime) {
-    let mut graph = CompositionGraph::new(rt.alloc());
-    let kind = function(&rt, rt.alloc(), &mut graph);
-    import(&rt, &mut graph, "x", kind);
-    define(&rt, &mut graph, "foo", BOOL);
-    assert_written(
-        &rt,
-        &graph,
-        "070501400001000a060100017801000702017f0b09010003666f6f030100",
-    );
-}
-
-// Nodes are written by number where none waits for another, so a definition may stand between two instances.
-#[test]
-fn definitions_stand_among_instances(rt: HostRuntime) {
-    let mut graph = CompositionGraph::new(rt.alloc());
-    let package = package(&rt, &mut graph);
-    instantiate(&rt, &mut graph, package);
-    define(&rt, &mut graph, "foo", BOOL);
-    instantiate(&rt, &mut graph, package);
-    assert_written(
-        &rt,
-        &graph,
-        "04080061736d0d0001000504010000000702017f0b09010003666f6f030000050401000000",
-    );
-}
-
-// A component and its instance may stand between two definitions, of which the later goes by the index of the earlier's export.
-#[test]
-fn instances_stand_among_definitions(rt: HostRuntime) {
-    let mut graph = CompositionGraph::new(rt.alloc());
-    let package = package(&rt, &mut graph);
-    let types = diamond(&rt, &mut graph);
-    define(&rt, &mut graph, "a", types[0]);
-    instantiate(&rt, &mut graph, package);
-    define(&rt, &mut graph, "b", types[1]);
-    assert_written(
-        &rt,
-        &graph,
-        "0705016d0101780b070100016103000004080061736d0d00010005040100000007030170010b0701000162030200",
-    );
+fn definitions_are_written(rt: HostRuntime) {
+    assert_answers(&rt, DEFINED);
 }
 
 // A name that may not be exported is refused where validation is asked for.

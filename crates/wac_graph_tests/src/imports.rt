@@ -1,11 +1,12 @@
 // Types that import nodes ask for.
 use crate::parts::{empty_instance, encode, function, import};
 use std::process::Abort;
-use wac_graph::types::{
+use wac_composition::CompositionGraph;
+use wac_nodes::EncodeOptions;
+use wac_types::{
     DefinedType, Enum, FuncType, Interface, ItemKind, PrimitiveType, Resource, ShapeError, Type,
     ValueType,
 };
-use wac_graph::{CompositionGraph, EncodeOptions};
 
 const PREAMBLE: &str = "0061736d0d000100";
 

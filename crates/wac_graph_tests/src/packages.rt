@@ -1,8 +1,8 @@
 // Packages are found by name and version.
 use crate::parts::register;
 use semver::Version;
-use wac_graph::CompositionGraph;
-use wac_graph::types::World;
+use wac_composition::CompositionGraph;
+use wac_types::World;
 
 #[test]
 fn packages_are_found_by_name_and_version(rt: HostRuntime) {

@@ -1,10 +1,10 @@
 // What the graphs of tests are made of.
 use std::alloc::Global;
 use std::process::Abort;
-use wac_graph::types::{FuncType, Interface, ItemKind, World};
-use wac_graph::{
-    CompositionGraph, EncodeError, EncodeOptions, NodeId, PackageId, RegisterPackageError,
-};
+use wac_causes::EncodeError;
+use wac_composition::CompositionGraph;
+use wac_nodes::{EncodeOptions, NodeId, PackageId, RegisterPackageError};
+use wac_types::{FuncType, Interface, ItemKind, World};
 
 // A component with nothing in it: the eight bytes of the preamble alone.
 const EMPTY_COMPONENT: [u8; 8] = [0x00, 0x61, 0x73, 0x6d, 0x0d, 0x00, 0x01, 0x00];
@@ -58,13 +58,21 @@ pub fn export(rt: &impl Abort, graph: &mut CompositionGraph, node: NodeId, name:
     graph.export(node, name).expect(rt, "an export");
 }
 
+// What `encode` answers once.
+fn encode_once(
+    graph: &CompositionGraph,
+    options: EncodeOptions<'_>,
+) -> Result<Vec<u8>, EncodeError> {
+    graph.encode(options)
+}
+
 // What `encode` answers; asked once more where memory was refused.
 pub fn encode(
     graph: &CompositionGraph,
     options: EncodeOptions<'_>,
 ) -> Result<Vec<u8>, EncodeError> {
-    match graph.encode(options) {
-        Err(EncodeError::OutOfMemory) => graph.encode(options),
+    match encode_once(graph, options) {
+        Err(EncodeError::OutOfMemory) => encode_once(graph, options),
         answer => answer,
     }
 }

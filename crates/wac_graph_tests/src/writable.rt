@@ -1,138 +1,95 @@
 // Types that cannot be written, whatever stands around them.
-use crate::parts::{empty_instance, encode, function, import, instantiate, register};
-use std::process::Abort;
-use wac_graph::types::{Interface, ItemKind, ModuleType, PrimitiveType, Type, ValueType};
-use wac_graph::{CompositionGraph, EncodeError, EncodeOptions, NodeId, PackageId, WriteFault};
+use crate::tables::Row::{Func, Instance, Module, TypeOf, Value};
+use crate::tables::Step::{Define, Import, Instantiate, Register, Set};
+use crate::tables::Want::{Fault, Parts, Text};
+use crate::tables::{Case, Row, Step, assert_answers};
+use wac_scopes::WriteFault;
 
-const VALUE: ItemKind = ItemKind::Value(ValueType::Primitive(PrimitiveType::Bool));
+// A function, a value, an instance that lists the type of a core module, and an instance of the empty interface.
+const LOWEST: &[Row] = &[
+    Func(&[], None),
+    Value,
+    Module,
+    TypeOf(2),
+    Instance(None, &[("x", 3)]),
+];
 
-fn define(rt: &impl Abort, graph: &mut CompositionGraph, ty: Type) -> NodeId {
-    let held = graph.types().contains(ty);
-    assert!(rt; held);
-    graph.define_type("t", ty).expect(rt, "a node")
-}
+// A value is imported behind a function, and the package asks for what lists the module's type.
+const VALUE_FIRST: &[Step] = &[
+    Import("f", 0),
+    Import("v", 1),
+    Register(&[("i", 4)]),
+    Instantiate,
+];
 
-// An interface that lists this item.
-fn listing(
-    rt: &(impl Abort + AllocGlobal),
-    graph: &mut CompositionGraph,
-    id: Option<&str>,
-    item: ItemKind,
-) -> Type {
-    let interface = Interface::new(rt.alloc(), id, &[("x", item)]).expect(rt, "an interface");
-    Type::Interface(graph.add_interface(interface).expect(rt, "its id"))
-}
-
-// The type of a core module.
-fn module(rt: &(impl Abort + AllocGlobal), graph: &mut CompositionGraph) -> Type {
-    let module = graph.add_module_type(ModuleType::new(rt.alloc()));
-    Type::Module(module.expect(rt, "its id"))
-}
-
-// A package with the import `i`.
-fn package(
-    rt: &(impl Abort + AllocGlobal),
-    graph: &mut CompositionGraph,
-    item: ItemKind,
-) -> PackageId {
-    let answer = register(rt, rt.alloc(), graph, "my:package", &[("i", item)], &[]);
-    answer.expect(rt, "a package")
-}
-
-// This fault of this node is the cause of the refusal.
-fn assert_cause(rt: &impl Abort, graph: &CompositionGraph, wanted: NodeId, why: WriteFault) {
-    let Err(EncodeError::TypeNotWritable { node, fault }) = encode(graph, EncodeOptions::default())
-    else {
-        panic!(rt; "no type is refused");
-    };
-    assert!(rt; node == wanted);
-    assert!(rt; fault == why);
-}
-
-#[test]
-fn a_module_type_is_no_item(rt: HostRuntime) {
-    let mut graph = CompositionGraph::new(rt.alloc());
-    let ty = module(&rt, &mut graph);
-    let instance = listing(&rt, &mut graph, None, ItemKind::TypeItem(ty));
-    let instance = ItemKind::TypeItem(instance).promote();
-    let node = import(&rt, &mut graph, "i", instance);
-    assert_cause(&rt, &graph, node, WriteFault::ModuleAsType);
-}
-
-#[test]
-fn a_module_type_is_no_definition(rt: HostRuntime) {
-    let mut graph = CompositionGraph::new(rt.alloc());
-    let ty = module(&rt, &mut graph);
-    let node = define(&rt, &mut graph, ty);
-    assert_cause(&rt, &graph, node, WriteFault::ModuleAsType);
-}
-
-// An interface of a function, by which a type is defined.
-fn defined(
-    rt: &(impl Abort + AllocGlobal),
-    graph: &mut CompositionGraph,
-    id: Option<&str>,
-) -> NodeId {
-    let item = function(rt, rt.alloc(), graph);
-    let interface = listing(rt, graph, id, item);
-    define(rt, graph, interface)
-}
-
-#[test]
-fn a_definition_needs_an_id(rt: HostRuntime) {
-    let mut graph = CompositionGraph::new(rt.alloc());
-    let node = defined(&rt, &mut graph, None);
-    assert_cause(&rt, &graph, node, WriteFault::UnnamedDefinition);
-}
-
-#[test]
-fn a_definition_with_an_id_is_written(rt: HostRuntime) {
-    let mut graph = CompositionGraph::new(rt.alloc());
-    defined(&rt, &mut graph, Some("n:p/i"));
-    assert!(rt; encode(&graph, EncodeOptions::default()).is_ok());
-}
-
-// Two instances deep.
-#[test]
-fn a_value_is_not_listed(rt: HostRuntime) {
-    let mut graph = CompositionGraph::new(rt.alloc());
-    let inner = listing(&rt, &mut graph, None, VALUE);
-    let outer = listing(&rt, &mut graph, None, ItemKind::TypeItem(inner));
-    let outer = ItemKind::TypeItem(outer).promote();
-    let node = import(&rt, &mut graph, "i", outer);
-    assert_cause(&rt, &graph, node, WriteFault::NestedItem);
-}
-
-// The node of the lowest number counts, also where another is asked for first.
-#[test]
-fn the_lowest_node_is_named(rt: HostRuntime) {
-    let mut graph = CompositionGraph::new(rt.alloc());
-    let item = function(&rt, rt.alloc(), &mut graph);
-    import(&rt, &mut graph, "f", item);
-    let node = import(&rt, &mut graph, "v", VALUE);
-    let ty = module(&rt, &mut graph);
-    let listed = listing(&rt, &mut graph, None, ItemKind::TypeItem(ty));
-    let package = package(&rt, &mut graph, ItemKind::TypeItem(listed).promote());
-    instantiate(&rt, &mut graph, package);
-    assert_cause(&rt, &graph, node, WriteFault::ValueItem);
-    let Err(error) = encode(&graph, EncodeOptions::default()) else {
-        panic!(rt; "a value is written");
-    };
-    let text = format!(in rt.alloc(); "{error}").expect(&rt, "a text");
-    assert_eq!(rt; text.as_str(), "the type of node 1 cannot be written");
-}
+const WRITABLE: &[Case] = &[
+    // A module type is no item.
+    Case {
+        rows: &[Module, TypeOf(0), Instance(None, &[("x", 1)])],
+        steps: &[Import("i", 2)],
+        want: Fault(0, WriteFault::ModuleAsType),
+    },
+    // Nor is it a definition.
+    Case {
+        rows: &[Module],
+        steps: &[Define("t", 0)],
+        want: Fault(0, WriteFault::ModuleAsType),
+    },
+    // A definition needs an id.
+    Case {
+        rows: &[Func(&[], None), Instance(None, &[("x", 0)])],
+        steps: &[Define("t", 1)],
+        want: Fault(0, WriteFault::UnnamedDefinition),
+    },
+    // With one it is written: the component type of an instance, which it exports under the id.
+    Case {
+        rows: &[Func(&[], None), Instance(Some("n:p/i"), &[("x", 0)])],
+        steps: &[Define("t", 1)],
+        want: Parts(&[
+            "071b014102", // a component type of two declarations
+            "014202", // an instance type of two declarations
+            "0140000100", // a function type
+            "040001780100", // a function
+            "0400056e3a702f690500", // an instance under the id
+            "0b0701000174030000", // `t`
+        ]),
+    },
+    // A value is not listed, two instances deep.
+    Case {
+        rows: &[
+            Value,
+            Instance(None, &[("x", 0)]),
+            TypeOf(1),
+            Instance(None, &[("x", 2)]),
+        ],
+        steps: &[Import("i", 3)],
+        want: Fault(0, WriteFault::NestedItem),
+    },
+    // The node of the lowest number counts, also where another is asked for first.
+    Case {
+        rows: LOWEST,
+        steps: VALUE_FIRST,
+        want: Fault(1, WriteFault::ValueItem),
+    },
+    Case {
+        rows: LOWEST,
+        steps: VALUE_FIRST,
+        want: Text("the type of node 1 cannot be written"),
+    },
+    // A cycle comes before types.
+    Case {
+        rows: &[Value, Instance(None, &[])],
+        steps: &[
+            Import("v", 0),
+            Register(&[("i", 1)]),
+            Instantiate,
+            Set(1, "i", 1),
+        ],
+        want: Text("the graph contains a cycle and cannot be encoded"),
+    },
+];
 
 #[test]
-fn a_cycle_comes_before_types(rt: HostRuntime) {
-    let mut graph = CompositionGraph::new(rt.alloc());
-    import(&rt, &mut graph, "v", VALUE);
-    let instance = empty_instance(&rt, rt.alloc(), &mut graph);
-    let package = package(&rt, &mut graph, instance);
-    let node = instantiate(&rt, &mut graph, package);
-    let held = graph.has_node(node);
-    assert!(rt; held);
-    let answer = graph.set_instantiation_argument(node, "i", node);
-    answer.expect(&rt, "an argument");
-    let answer = encode(&graph, EncodeOptions::default());
-    assert!(rt; matches!(answer, Err(EncodeError::GraphContainsCycle { .. })));
+fn types_that_cannot_be_written_are_refused(rt: HostRuntime) {
+    assert_answers(&rt, WRITABLE);
 }

@@ -1,0 +1,207 @@
+//! Types as the rows of a table.
+
+use std::alloc::Global;
+use std::process::Abort;
+use wac_collection::Types;
+use wac_shapes::{
+    DefinedType, Enum, FuncType, FuncTypeId, Interface, InterfaceId, ItemKind, PrimitiveType,
+    Resource, ResourceId, Type, ValueType,
+};
+
+/// A name, and the place of what it is of.
+pub type Item = (&'static str, usize);
+
+/// An item that a row adds to those before it, each of which it means by its place.
+#[derive(Clone, Copy)]
+pub enum Row {
+    /// A primitive type.
+    Primitive(PrimitiveType),
+    /// The type of a new enumeration of this case.
+    Enumeration(&'static str),
+    /// An alias of a type.
+    Alias(usize),
+    /// A list of a type.
+    List(usize),
+    /// An optional value of a type.
+    Optional(usize),
+    /// A tuple of two types.
+    Pair(usize, usize),
+    /// A new resource.
+    Resource,
+    /// The type of a handle to a resource.
+    Own(usize),
+    /// A function of these parameters, and of what it gives.
+    Func(&'static [Item], Option<usize>),
+    /// A function that is async, of these parameters, and of what it gives.
+    Async(&'static [Item], Option<usize>),
+    /// An instance of an interface of this id, which lists these.
+    Instance(Option<&'static str>, &'static [Item]),
+    /// The type of a function or of an instance.
+    TypeOf(usize),
+    /// A value of a type.
+    Value(usize),
+}
+
+/// The items of a table, and the collection of their types.
+#[derive(Drop)]
+pub struct Items {
+    pub types: Types,
+    kinds: Vec<ItemKind>,
+}
+
+/// What a row of a table says is true.
+pub fn assert_row(rt: &impl Abort, holds: bool, name: &str) {
+    assert!(rt; holds, "{name}");
+}
+
+fn value_item(value: ValueType) -> ItemKind {
+    ItemKind::TypeItem(Type::Value(value))
+}
+
+impl Items {
+    /// The items of these rows.
+    pub fn new(rt: &impl Abort, alloc: Global, rows: &[Row]) -> Items {
+        let mut items = Items {
+            types: Types::new(alloc),
+            kinds: Vec::new(alloc),
+        };
+        for row in rows {
+            let kind = items.made(rt, *row);
+            items.kinds.push(kind).expect(rt, "room for an item");
+        }
+        items
+    }
+
+    fn made(&mut self, rt: &impl Abort, row: Row) -> ItemKind {
+        match row {
+            Row::Primitive(primitive) => value_item(ValueType::Primitive(primitive)),
+            Row::Enumeration(case) => self.enumeration(rt, case),
+            Row::Alias(of) => {
+                let value = self.value(rt, of);
+                self.defined(rt, DefinedType::Alias(value))
+            }
+            Row::List(of) => {
+                let value = self.value(rt, of);
+                self.defined(rt, DefinedType::List(value))
+            }
+            Row::Optional(of) => {
+                let value = self.value(rt, of);
+                self.defined(rt, DefinedType::Option(value))
+            }
+            Row::Pair(first, second) => self.pair(rt, first, second),
+            Row::Resource => self.new_resource(rt),
+            Row::Own(of) => value_item(ValueType::Own(self.resource(rt, of))),
+            Row::Func(params, returned) => self.function(rt, params, returned, false),
+            Row::Async(params, returned) => self.function(rt, params, returned, true),
+            Row::Instance(id, exports) => self.instance(rt, id, exports),
+            Row::TypeOf(of) => ItemKind::TypeItem(self.kind(rt, of).ty()),
+            Row::Value(of) => ItemKind::Value(self.value(rt, of)),
+        }
+    }
+
+    /// The item at a place.
+    pub fn kind(&self, rt: &impl Abort, place: usize) -> ItemKind {
+        *self.kinds.get(place).expect(rt, "an item")
+    }
+
+    /// The value type at a place.
+    pub fn value(&self, rt: &impl Abort, place: usize) -> ValueType {
+        match self.kind(rt, place) {
+            ItemKind::TypeItem(Type::Value(value)) => value,
+            _ => panic!(rt; "no value type"),
+        }
+    }
+
+    /// The function type at a place.
+    pub fn func(&self, rt: &impl Abort, place: usize) -> FuncTypeId {
+        match self.kind(rt, place) {
+            ItemKind::Func(id) => id,
+            _ => panic!(rt; "no function"),
+        }
+    }
+
+    /// The interface of the instance at a place.
+    pub fn interface(&self, rt: &impl Abort, place: usize) -> InterfaceId {
+        match self.kind(rt, place) {
+            ItemKind::Instance(id) => id,
+            _ => panic!(rt; "no instance"),
+        }
+    }
+
+    fn resource(&self, rt: &impl Abort, place: usize) -> ResourceId {
+        match self.kind(rt, place) {
+            ItemKind::TypeItem(Type::Resource(id)) => id,
+            _ => panic!(rt; "no resource"),
+        }
+    }
+
+    fn defined(&mut self, rt: &impl Abort, definition: DefinedType) -> ItemKind {
+        let id = self.types.add_defined_type(definition).expect(rt, "its id");
+        value_item(ValueType::Defined(id))
+    }
+
+    fn enumeration(&mut self, rt: &impl Abort, case: &str) -> ItemKind {
+        let cases = Enum::new(self.types.allocator(), &[case]).expect(rt, "an enumeration");
+        self.defined(rt, DefinedType::Enum(cases))
+    }
+
+    fn pair(&mut self, rt: &impl Abort, first: usize, second: usize) -> ItemKind {
+        let parts = [self.value(rt, first), self.value(rt, second)];
+        let pair = DefinedType::tuple(self.types.allocator(), &parts).expect(rt, "a tuple");
+        self.defined(rt, pair)
+    }
+
+    fn new_resource(&mut self, rt: &impl Abort) -> ItemKind {
+        let resource = Resource::new(self.types.allocator(), "r").expect(rt, "a resource");
+        ItemKind::TypeItem(Type::Resource(self.types.add_resource(resource).expect(rt, "its id")))
+    }
+
+    fn params<'a>(&self, rt: &impl Abort, items: &[(&'a str, usize)]) -> Vec<(&'a str, ValueType)> {
+        let mut params = Vec::new(self.types.allocator());
+        for (name, place) in items {
+            let value = self.value(rt, *place);
+            params
+                .push((*name, value))
+                .expect(rt, "room for a parameter");
+        }
+        params
+    }
+
+    fn function(
+        &mut self,
+        rt: &impl Abort,
+        params: &[Item],
+        returned: Option<usize>,
+        is_async: bool,
+    ) -> ItemKind {
+        let params = self.params(rt, params);
+        let returned = match returned {
+            Some(place) => Some(self.value(rt, place)),
+            None => None,
+        };
+        let function = FuncType::new(self.types.allocator(), &params, returned, is_async);
+        let function = function.expect(rt, "a function type");
+        ItemKind::Func(self.types.add_func_type(function).expect(rt, "its id"))
+    }
+
+    /// These items, each under its name.
+    pub fn named<'a>(
+        &self,
+        rt: &impl Abort,
+        items: &[(&'a str, usize)],
+    ) -> Vec<(&'a str, ItemKind)> {
+        let mut named = Vec::new(self.types.allocator());
+        for (name, place) in items {
+            let kind = self.kind(rt, *place);
+            named.push((*name, kind)).expect(rt, "room for an item");
+        }
+        named
+    }
+
+    fn instance(&mut self, rt: &impl Abort, id: Option<&str>, exports: &[Item]) -> ItemKind {
+        let exports = self.named(rt, exports);
+        let interface = Interface::new(self.types.allocator(), id, &exports);
+        let interface = interface.expect(rt, "an interface");
+        ItemKind::Instance(self.types.add_interface(interface).expect(rt, "its id"))
+    }
+}
