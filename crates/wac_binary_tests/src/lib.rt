@@ -11,3 +11,5 @@ mod modules;
 mod refused;
 #[cfg(test)]
 mod types;
+#[cfg(test)]
+mod writers;

@@ -375,6 +375,39 @@ fn an_interface_is_written_with_what_it_is_made_of(rt: HostRuntime) {
     );
 }
 
+// An interface that lists an instance `n` of one that lists this item.
+fn outer(rt: &(impl Abort + AllocGlobal), graph: &mut CompositionGraph, item: ItemKind) -> Type {
+    let inner = Interface::new(rt.alloc(), None, &[("f", item)]).expect(rt, "an interface");
+    let inner = graph.add_interface(inner).expect(rt, "its id");
+    let items = [("n", ItemKind::Instance(inner))];
+    let outer = Interface::new(rt.alloc(), Some("n:p/i"), &items).expect(rt, "an interface");
+    Type::Interface(graph.add_interface(outer).expect(rt, "its id"))
+}
+
+// The instance type of what is inside is written in that of the interface.
+#[test]
+fn interfaces_with_instances_are_defined(rt: HostRuntime) {
+    let mut graph = CompositionGraph::new(rt.alloc());
+    let f = function(&rt, rt.alloc(), &mut graph);
+    let outer = outer(&rt, &mut graph, f);
+    define(&rt, &mut graph, "d", outer);
+    assert_written(
+        &rt,
+        &graph,
+        "072401410201420201420201400001000400016601000400016e05000400056e3a702f6905000b0701000164030000",
+    );
+}
+
+#[test]
+fn interfaces_with_handles_inside_are_not_defined_yet(rt: HostRuntime) {
+    let mut graph = CompositionGraph::new(rt.alloc());
+    let handle = ValueType::Own(resource(&rt, &mut graph));
+    let f = function_type(&rt, &mut graph, &[("x", handle)], None);
+    let outer = outer(&rt, &mut graph, ItemKind::Func(f));
+    define(&rt, &mut graph, "d", outer);
+    assert_not_yet(&rt, &graph);
+}
+
 #[test]
 fn definitions_of_worlds_are_not_written(rt: HostRuntime) {
     let mut graph = CompositionGraph::new(rt.alloc());

@@ -54,6 +54,19 @@ fn instance(
     ItemKind::Instance(graph.add_interface(interface).expect(rt, "its id"))
 }
 
+// An instance that lists an instance `i`, in which this item is listed.
+fn nested(
+    rt: &(impl Abort + AllocGlobal),
+    graph: &mut CompositionGraph,
+    name: &str,
+    item: ItemKind,
+) -> ItemKind {
+    let inner = Interface::new(rt.alloc(), None, &[(name, item)]);
+    let inner = instance(rt, graph, inner);
+    let outer = Interface::new(rt.alloc(), None, &[("i", inner)]);
+    instance(rt, graph, outer)
+}
+
 #[test]
 fn an_interface_is_imported(rt: HostRuntime) {
     let alloc = rt.alloc();
@@ -129,6 +142,49 @@ fn a_function_type_is_imported(rt: HostRuntime) {
     );
 }
 
+// The instance type of the inner instance is written before it, in that of the outer one.
+#[test]
+fn an_instance_in_an_instance_is_imported(rt: HostRuntime) {
+    let alloc = rt.alloc();
+    let mut graph = CompositionGraph::new(alloc);
+    let inner = empty_instance(&rt, alloc, &mut graph);
+    let other = function(&rt, alloc, &mut graph);
+    let outer = Interface::new(alloc, None, &[("i", inner), ("f", other)]);
+    let outer = instance(&rt, &mut graph, outer);
+    import(&rt, &mut graph, "o", outer);
+    assert_joined(
+        &rt,
+        encoded(&rt, &graph),
+        &[
+            "0717014204014200040001690500",
+            "0140000100040001660101",
+            "0a060100016f0500",
+        ],
+    );
+}
+
+// Two imports of one class: what is under one name in both is one instance, with what each lists in it.
+#[test]
+fn instances_in_instances_are_merged(rt: HostRuntime) {
+    let alloc = rt.alloc();
+    let mut graph = CompositionGraph::new(alloc);
+    let other = function(&rt, alloc, &mut graph);
+    let older = nested(&rt, &mut graph, "f", other);
+    import(&rt, &mut graph, "n:p/i@1.0.0", older);
+    let newer = nested(&rt, &mut graph, "g", other);
+    import(&rt, &mut graph, "n:p/i@1.1.0", newer);
+    assert_joined(
+        &rt,
+        encoded(&rt, &graph),
+        &[
+            "071d0142020142030140000100040001660100040001670100",
+            "040001690500",
+            "0a100100",
+            "0b6e3a702f6940312e312e300500",
+        ],
+    );
+}
+
 // An interface as a type item: the instance type, and no instance.
 #[test]
 fn the_type_of_an_instance_is_imported(rt: HostRuntime) {
@@ -162,7 +218,7 @@ fn a_shared_type_is_written_once(rt: HostRuntime) {
 
 const NOT_YET: &str = "the graph holds something that is not written yet";
 
-// Resources, and instances in instances, are not imported yet.
+// Resources are not imported yet.
 #[test]
 fn a_resource_is_not_imported_yet(rt: HostRuntime) {
     let alloc = rt.alloc();
@@ -174,14 +230,15 @@ fn a_resource_is_not_imported_yet(rt: HostRuntime) {
     assert_eq!(rt; encoded(&rt, &graph).as_str(), NOT_YET);
 }
 
+// Nor are they inside an instance in an instance.
 #[test]
-fn an_instance_in_an_instance_is_not_imported_yet(rt: HostRuntime) {
+fn a_resource_in_an_inner_instance_is_not_imported_yet(rt: HostRuntime) {
     let alloc = rt.alloc();
     let mut graph = CompositionGraph::new(alloc);
-    let inner = empty_instance(&rt, alloc, &mut graph);
-    let other = function(&rt, alloc, &mut graph);
-    let outer = Interface::new(alloc, None, &[("i", inner), ("f", other)]);
-    let outer = instance(&rt, &mut graph, outer);
+    let resource = Resource::new(alloc, "r").expect(&rt, "a resource");
+    let resource = graph.add_resource(resource).expect(&rt, "its id");
+    let item = ItemKind::TypeItem(Type::Resource(resource));
+    let outer = nested(&rt, &mut graph, "r", item);
     import(&rt, &mut graph, "o", outer);
     assert_eq!(rt; encoded(&rt, &graph).as_str(), NOT_YET);
 }
