@@ -2,8 +2,8 @@
 //! options, a tuple of aliases of each other, interfaces of functions over records, and levels of equal tuples that share their
 //! parts in one way in the one collection and in another in the other.
 
-use crate::times::{ROUNDS, Times, print_power, print_times};
-use crate::types::{defined, export, function, instance, primitive, record};
+use crate::times::{OF_EIGHT, ROUNDS, Times, print_power, print_times};
+use crate::types::{Collection, export, function, instance, primitive, record};
 use anyhow::Result;
 use std::alloc::Global;
 use std::time::{Duration, Instant};
@@ -20,6 +20,15 @@ enum Sort {
     Functions,
     Sharing,
 }
+
+/// What is compared, by its words.
+const SORTS: &[(&str, Sort)] = &[
+    ("tuples", Sort::Tuples),
+    ("chain", Sort::Chain),
+    ("aliases", Sort::Aliases),
+    ("functions", Sort::Functions),
+    ("sharing", Sort::Sharing),
+];
 
 /// How many levels of equal tuples there are.
 const LEVELS: u64 = 16;
@@ -44,7 +53,7 @@ fn tuples(alloc: Global, types: &mut Types, count: u64) -> Result<ItemKind> {
     let mut value = primitive(PrimitiveType::Bool);
     for _ in 0..count {
         let pair = Sequence::new(alloc, &[value, value])?;
-        value = defined(types, DefinedType::Tuple(pair))?;
+        value = types.defined(DefinedType::Tuple(pair))?;
     }
     Ok(ItemKind::Value(value))
 }
@@ -62,7 +71,7 @@ fn link(number: u64, before: ValueType) -> DefinedType {
 fn chain(types: &mut Types, count: u64) -> Result<ItemKind> {
     let mut value = primitive(PrimitiveType::Bool);
     for number in 0..count {
-        value = defined(types, link(number, value))?;
+        value = types.defined(link(number, value))?;
     }
     Ok(ItemKind::Value(value))
 }
@@ -72,11 +81,11 @@ fn aliases(alloc: Global, types: &mut Types, count: u64) -> Result<ItemKind> {
     let mut value = primitive(PrimitiveType::Bool);
     let mut listed = Vec::new(alloc);
     for _ in 0..count {
-        value = defined(types, DefinedType::Alias(value))?;
+        value = types.defined(DefinedType::Alias(value))?;
         listed.push(value)?;
     }
     let tuple = Sequence::new(alloc, listed.as_slice())?;
-    Ok(ItemKind::Value(defined(types, DefinedType::Tuple(tuple))?))
+    Ok(ItemKind::Value(types.defined(DefinedType::Tuple(tuple))?))
 }
 
 /// Adds a function over two records of its own.
@@ -107,7 +116,7 @@ fn doubled(
 ) -> Result<ValueType> {
     let parts = if crossed { [a, b, a, b] } else { [a, a, b, b] };
     let tuple = Sequence::new(alloc, parts.as_slice())?;
-    defined(types, DefinedType::Tuple(tuple))
+    types.defined(DefinedType::Tuple(tuple))
 }
 
 /// Adds a tuple for each type of a level, of it and of the one so many after it.
@@ -138,7 +147,7 @@ fn sharing(alloc: Global, types: &mut Types, count: u64, crossed: bool) -> Resul
         step = step.saturating_mul(2);
     }
     let tuple = Sequence::new(alloc, level.as_slice())?;
-    Ok(ItemKind::Value(defined(types, DefinedType::Tuple(tuple))?))
+    Ok(ItemKind::Value(types.defined(DefinedType::Tuple(tuple))?))
 }
 
 /// Adds an item of so many parts, which are shared in one of two ways.
@@ -222,8 +231,9 @@ fn measure_growth(rt: &HostRuntime, what: &str, sort: Sort, count: u32) -> Resul
     let _ = measured(rt, what, sort, 4 * count)?;
     let last = measured(rt, what, sort, 8 * count)?;
     println!(rt; "{what}, adding and comparing:")?;
-    print_power(rt, "  added", first.added, last.added)?;
-    print_power(rt, "  compared", first.compared, last.compared)
+    print_power(rt, "  added", first.added.least, last.added.least, OF_EIGHT)?;
+    let (first, last) = (first.compared.least, last.compared.least);
+    print_power(rt, "  compared", first, last, OF_EIGHT)
 }
 
 /// Whether tuples doubled 60 deep are subtypes of each other, such a tuple of a list, and chains of 100,000 of each other.
@@ -252,9 +262,8 @@ pub fn show(rt: &HostRuntime) -> Result<()> {
 
 /// Adds and compares each, and prints how the times grow.
 pub fn measure(rt: &HostRuntime) -> Result<()> {
-    measure_growth(rt, "tuples", Sort::Tuples, 12_500)?;
-    measure_growth(rt, "chain", Sort::Chain, 12_500)?;
-    measure_growth(rt, "aliases", Sort::Aliases, 12_500)?;
-    measure_growth(rt, "functions", Sort::Functions, 12_500)?;
-    measure_growth(rt, "sharing", Sort::Sharing, 12_500)
+    for (what, sort) in SORTS {
+        measure_growth(rt, what, *sort, 12_500)?;
+    }
+    Ok(())
 }

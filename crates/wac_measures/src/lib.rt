@@ -1,11 +1,19 @@
-//! Workloads of what stands below the graph, how long each takes, and how that grows: names that are read, items that are compared,
-//! imports that are merged, sections that are written. For the program `wac_bench`.
+//! Workloads, how long each takes, and how that grows: names that are read, items that are compared, imports that are merged,
+//! sections that are written, and graphs. For the program `wac_bench`, which gives the graph.
 #![tactic(auto)]
 
-pub mod comparing;
-pub mod merging;
-pub mod names;
+mod churn;
+mod comparing;
+pub mod graph;
+mod graphs;
+mod growth;
+mod merging;
+mod names;
 mod nesting;
-pub mod times;
+mod plan;
+pub mod program;
+mod step;
+mod times;
 pub mod types;
-pub mod writing;
+mod wide;
+mod writing;

@@ -1,37 +1,50 @@
-//! How long imports take to merge: instances of functions and instances over records, four versions on each track, and a
-//! chain of instances of which each uses the resource of the one before.
+//! How long imports take to merge: instances of functions and instances over records, four versions on each track, a chain of
+//! instances of which each uses the resource of the one before, and what is nested.
 
 ghost use Rattle.std.specs.Prelude.{◌≡◌, IfOk, true};
 ghost use Rattle.wac_entries.specs.Bindings.{AreHeld};
 
-use crate::nesting;
-use crate::times::{ROUNDS, Times, print_power, print_times};
-use crate::types::{defined, export, function, instance, primitive, record};
+use crate::nesting::{circle, nested};
+use crate::times::{Workload, measure as measure_work};
+use crate::types::{FUNCTIONS, export, function, instance, primitive, records, versioned};
 use anyhow::{Result, bail};
 use std::alloc::Global;
-use std::time::Instant;
-use wac_merge::TypeAggregator;
+use wac_merge::{MergeFault, TypeAggregator};
 use wac_types::{
-    DefinedType, Interface, InterfaceId, ItemKind, Named, PrimitiveType, Resource, ResourceId,
-    Type, Types, ValueType, Variant,
+    Interface, InterfaceId, ItemKind, Named, PrimitiveType, Resource, ResourceId, Type, Types,
+    ValueType,
 };
 
-/// How many functions an interface exports.
-const FUNCTIONS: u64 = 20;
-
-/// What instances on tracks export.
-#[derive(Clone, Copy)]
-enum Content {
-    Functions,
-    Records,
-}
-
-/// What is asked for: so many versions, or a chain of uses.
+/// What is asked for.
 #[derive(Clone, Copy)]
 enum Sort {
-    Versions(Content),
+    /// Instances of functions, four versions on each track.
+    Functions,
+    /// Instances over records, four versions on each track.
+    Records,
+    /// A chain of instances, each of which uses the resource of the one before.
     Chain,
+    /// Two instances on one track, so many levels deep, each level with a function over a resource of a third import.
+    Nested,
+    /// Two that do not agree at the bottom.
+    Apart,
+    /// So many instances, each of which uses the one before, and a later version of the first that uses the last.
+    Circle,
 }
+
+/// What is measured, by its words, at these counts.
+const MEASURED: &[(&str, Sort, &[u64])] = &[
+    ("functions", Sort::Functions, &[1_250, 2_500, 5_000, 10_000]),
+    ("records", Sort::Records, &[1_250, 2_500, 5_000, 10_000]),
+    ("resources", Sort::Chain, &[100, 200, 400, 800]),
+    ("nested", Sort::Nested, &[250, 500, 1_000, 2_000]),
+    (
+        "apart at the bottom",
+        Sort::Apart,
+        &[250, 500, 1_000, 2_000],
+    ),
+    ("a circle", Sort::Circle, &[250, 500, 1_000, 2_000]),
+];
 
 /// An import that is asked for.
 #[derive(Drop)]
@@ -45,6 +58,60 @@ pub struct Import {
 pub struct Owned {
     pub interface: InterfaceId,
     pub resource: ResourceId,
+}
+
+/// Imports that are merged, and the collection that holds them.
+struct Merge {
+    sort: Sort,
+    types: Types,
+    imports: Vec<Import>,
+}
+
+impl Drop for Merge {
+    fn drop(self) {
+        let Merge {
+            sort: _,
+            types: _,
+            imports: _,
+        } = self;
+    }
+}
+
+impl Workload for Merge {
+    type Sort = Sort;
+
+    type Made = Option<TypeAggregator>;
+
+    fn of(alloc: Global, sort: Sort, count: u64) -> Result<Merge> {
+        let mut merge = Merge {
+            sort,
+            types: Types::new(alloc),
+            imports: Vec::new(alloc),
+        };
+        ask(alloc, &mut merge.types, sort, count, &mut merge.imports)?;
+        Ok(merge)
+    }
+
+    /// Answers the merge of what is not nested; that of what is, if there is one, is let go of at once.
+    fn round(&self, alloc: Global) -> Result<Option<TypeAggregator>> {
+        match self.sort {
+            Sort::Functions | Sort::Records | Sort::Chain => {
+                Ok(Some(merged(alloc, &self.types, &self.imports)?))
+            }
+            Sort::Nested | Sort::Apart | Sort::Circle => {
+                try_merge(alloc, &self.types, &self.imports)?;
+                Ok(None)
+            }
+        }
+    }
+}
+
+/// An import of this name.
+pub fn import_of(alloc: Global, name: &str, kind: ItemKind) -> Result<Import> {
+    Ok(Import {
+        name: String::from_str(alloc, name)?,
+        kind,
+    })
 }
 
 /// Adds an interface of functions, of which every second takes a text.
@@ -62,51 +129,29 @@ fn functions(alloc: Global, types: &mut Types, id: &str) -> Result<ItemKind> {
     instance(alloc, types, Some(id), exports)
 }
 
-/// Adds a variant with a list of a type under one case.
-fn variant(alloc: Global, types: &mut Types, element: ValueType) -> Result<ValueType> {
-    let list = defined(types, DefinedType::List(element))?;
-    let variant = Variant::new(
-        alloc,
-        &[
-            ("none", None),
-            ("num", Some(primitive(PrimitiveType::U32))),
-            ("text", Some(primitive(PrimitiveType::String))),
-            ("recs", Some(list)),
-        ],
-    )?;
-    defined(types, DefinedType::Variant(variant))
-}
-
-/// Adds an interface of a record, a variant, and functions over both.
-fn records(alloc: Global, types: &mut Types, id: &str) -> Result<ItemKind> {
-    let x = record(alloc, types)?;
-    let case = variant(alloc, types, x)?;
-    let mut exports = Named::new(alloc);
-    exports.insert(alloc, "rec", ItemKind::TypeItem(Type::Value(x)))?;
-    exports.insert(alloc, "var", ItemKind::TypeItem(Type::Value(case)))?;
-    for number in 0..FUNCTIONS {
-        let y = defined(types, DefinedType::List(case))?;
-        let returned = defined(types, DefinedType::Option(x))?;
-        let kind = function(alloc, types, &[("x", x), ("y", y)], Some(returned))?;
-        export(alloc, &mut exports, number, kind)?;
-    }
-    instance(alloc, types, Some(id), exports)
+/// Adds the version of this number, of functions or over records.
+fn version(alloc: Global, types: &mut Types, of_records: bool, number: u64) -> Result<Import> {
+    let name = versioned(alloc, "a:b", number)?;
+    let kind = if of_records {
+        records(alloc, types, name.as_str())?
+    } else {
+        functions(alloc, types, name.as_str())?
+    };
+    Ok(Import { name, kind })
 }
 
 /// Adds so many interfaces, four versions on each track.
-fn versions(alloc: Global, types: &mut Types, content: Content, count: u64) -> Result<Vec<Import>> {
-    let mut imports = Vec::new(alloc);
+fn versions(
+    alloc: Global,
+    types: &mut Types,
+    of_records: bool,
+    count: u64,
+    imports: &mut Vec<Import>,
+) -> Result<()> {
     for number in 0..count {
-        let track = number / 4;
-        let minor = number % 4;
-        let name = format!(in alloc; "a:b/i{track}@1.{minor}.0")?;
-        let kind = match content {
-            Content::Functions => functions(alloc, types, name.as_str())?,
-            Content::Records => records(alloc, types, name.as_str())?,
-        };
-        imports.push(Import { name, kind })?;
+        imports.push(version(alloc, types, of_records, number)?)?;
     }
-    Ok(imports)
+    Ok(())
 }
 
 /// Adds an interface with a resource of its own.
@@ -155,32 +200,59 @@ pub fn next_owned<'a>(
     })
 }
 
-/// Adds a chain of so many interfaces, each using the resource of the one before.
-fn chain(alloc: Global, types: &mut Types, count: u64) -> Result<Vec<Import>> {
-    let mut imports = Vec::new(alloc);
-    let mut before: Option<Owned> = None;
-    for number in 0..count {
-        let id = format!(in alloc; "a:b/i{number}")?;
-        let name = format!(in alloc; "r{number}")?;
-        let last = number.saturating_sub(1);
-        let there = format!(in alloc; "r{last}")?;
-        let (id_text, text, there) = (id.as_str(), name.as_str(), there.as_str());
-        let next = match before {
-            Some(before) => next_owned(alloc, types, id_text, text, before, there)?,
-            None => first_owned(alloc, types, id_text, text)?,
-        };
-        let kind = ItemKind::Instance(next.interface);
-        imports.push(Import { name: id, kind })?;
-        before = Some(next);
-    }
-    Ok(imports)
+/// Adds the next interface of a chain, which uses the resource of the one before.
+fn link(
+    alloc: Global,
+    types: &mut Types,
+    version: &str,
+    before: Option<Owned>,
+    imports: &mut Vec<Import>,
+) -> Result<Owned> {
+    let number = imports.len();
+    let id = format!(in alloc; "a:b/i{number}{version}")?;
+    let name = format!(in alloc; "r{number}")?;
+    let last = number.saturating_sub(1);
+    let there = format!(in alloc; "r{last}")?;
+    let (id_text, text, there) = (id.as_str(), name.as_str(), there.as_str());
+    let next = match before {
+        Some(before) => next_owned(alloc, types, id_text, text, before, there)?,
+        None => first_owned(alloc, types, id_text, text)?,
+    };
+    let kind = ItemKind::Instance(next.interface);
+    imports.push(Import { name: id, kind })?;
+    Ok(next)
 }
 
-/// Adds what so many imports are of.
-fn imports(alloc: Global, types: &mut Types, sort: Sort, count: u64) -> Result<Vec<Import>> {
+/// Adds a chain of so many interfaces of a version, each using the resource of the one before, and answers the last.
+pub fn chain(
+    alloc: Global,
+    types: &mut Types,
+    version: &str,
+    count: u64,
+    imports: &mut Vec<Import>,
+) -> Result<Option<Owned>> {
+    let mut last = None;
+    for _ in 0..count {
+        last = Some(link(alloc, types, version, last, imports)?);
+    }
+    Ok(last)
+}
+
+/// Adds what so many imports are of, and asks for them.
+fn ask(
+    alloc: Global,
+    types: &mut Types,
+    sort: Sort,
+    count: u64,
+    imports: &mut Vec<Import>,
+) -> Result<()> {
     match sort {
-        Sort::Versions(content) => versions(alloc, types, content, count),
-        Sort::Chain => chain(alloc, types, count),
+        Sort::Functions => versions(alloc, types, false, count, imports),
+        Sort::Records => versions(alloc, types, true, count, imports),
+        Sort::Chain => chain(alloc, types, "", count, imports).map(|_| ()),
+        Sort::Nested => nested(alloc, types, true, count, imports),
+        Sort::Apart => nested(alloc, types, false, count, imports),
+        Sort::Circle => circle(alloc, types, count, imports),
     }
 }
 
@@ -206,38 +278,19 @@ fn merged(alloc: Global, types: &Types, imports: &[Import]) -> Result<TypeAggreg
     Ok(aggregator.finish(types)?)
 }
 
-/// Merges so many imports, and prints how long that takes.
-fn measured(rt: &HostRuntime, what: &str, sort: Sort, count: u64) -> Result<Times> {
-    let mut types = Types::new(rt.alloc());
-    let imports = imports(rt.alloc(), &mut types, sort, count)?;
-    let mut rounds = Vec::new(rt.alloc());
-    for _ in 0..ROUNDS {
-        let start = Instant::now(rt)?;
-        let merged = merged(rt.alloc(), &types, imports.as_slice())?;
-        rounds.push(start.elapsed(rt)?)?;
-        drop(merged);
+/// Merges all imports if they have a merge.
+fn try_merge(alloc: Global, types: &Types, imports: &[Import]) -> Result<()> {
+    match aggregated(alloc, types, imports)?.finish(types) {
+        Err(MergeFault::OutOfMemory) => bail!("there was no memory"),
+        Ok(_) | Err(_) => Ok(()),
     }
-    let times = Times::of(rounds)?;
-    print_times(rt, what, count, times)?;
-    Ok(times)
-}
-
-/// Measures at a count, twice, four and eight times it, and prints how the time grows.
-fn measure_growth(rt: &HostRuntime, what: &str, sort: Sort, count: u32) -> Result<()> {
-    let count = u64::from(count);
-    let first = measured(rt, what, sort, count)?;
-    let _ = measured(rt, what, sort, 2 * count)?;
-    let _ = measured(rt, what, sort, 4 * count)?;
-    let last = measured(rt, what, sort, 8 * count)?;
-    print_power(rt, what, first, last)
 }
 
 /// The name under which the first of so many imports is imported once they are merged.
 fn first_name(alloc: Global, sort: Sort, count: u64) -> Result<String> {
-    let mut types = Types::new(alloc);
-    let imports = imports(alloc, &mut types, sort, count)?;
-    let merged = merged(alloc, &types, imports.as_slice())?;
-    let name = match imports.first() {
+    let asked = Merge::of(alloc, sort, count)?;
+    let merged = merged(alloc, &asked.types, &asked.imports)?;
+    let name = match asked.imports.first() {
         Some(import) => merged.canonical_import_name(import.name.as_str()),
         None => "",
     };
@@ -246,8 +299,8 @@ fn first_name(alloc: Global, sort: Sort, count: u64) -> Result<String> {
 
 /// Merges a hundred of each, and prints the name of the first import.
 pub fn show(rt: &HostRuntime) -> Result<()> {
-    let functions = first_name(rt.alloc(), Sort::Versions(Content::Functions), 100)?;
-    let records = first_name(rt.alloc(), Sort::Versions(Content::Records), 100)?;
+    let functions = first_name(rt.alloc(), Sort::Functions, 100)?;
+    let records = first_name(rt.alloc(), Sort::Records, 100)?;
     let resources = first_name(rt.alloc(), Sort::Chain, 50)?;
     println!(rt;
         "the first of 100 instances of functions is imported as {functions}, of 100 over records as {records}, of a chain of 50 as {resources}"
@@ -257,8 +310,8 @@ pub fn show(rt: &HostRuntime) -> Result<()> {
 
 /// Merges each, and prints how the time grows.
 pub fn measure(rt: &HostRuntime) -> Result<()> {
-    measure_growth(rt, "functions", Sort::Versions(Content::Functions), 1250)?;
-    measure_growth(rt, "records", Sort::Versions(Content::Records), 1250)?;
-    measure_growth(rt, "resources", Sort::Chain, 100)?;
-    nesting::measure(rt)
+    for (what, sort, counts) in MEASURED {
+        measure_work::<Merge>(rt, what, what, *sort, counts)?;
+    }
+    Ok(())
 }

@@ -1,16 +1,44 @@
 //! How long names take to read: labels, and interface names with a version.
 
-use crate::times::{ROUNDS, Times, print_power, print_times};
+use crate::times::{Workload, measure as measure_work};
 use anyhow::Result;
 use std::alloc::{AllocError, Global};
-use std::time::Instant;
 use wac_names::ComponentName;
+
+/// At how many names the time is measured.
+const COUNTS: &[u64] = &[100_000, 800_000];
 
 /// The names that are read.
 #[derive(Clone, Copy)]
 enum Sort {
     Label,
     Versioned,
+}
+
+/// Names that are read.
+struct Names {
+    names: Vec<String>,
+}
+
+impl Drop for Names {
+    fn drop(self) {
+        let Names { names: _ } = self;
+    }
+}
+
+impl Workload for Names {
+    type Sort = Sort;
+
+    type Made = usize;
+
+    fn of(alloc: Global, sort: Sort, count: u64) -> Result<Names> {
+        let names = made(alloc, sort, count)?;
+        Ok(Names { names })
+    }
+
+    fn round(&self, alloc: Global) -> Result<usize> {
+        Ok(accepted(alloc, &self.names))
+    }
 }
 
 /// The name of this number.
@@ -24,7 +52,7 @@ fn generated(alloc: Global, sort: Sort, number: u64) -> Result<String, AllocErro
 }
 
 /// So many names.
-fn names(alloc: Global, sort: Sort, count: u64) -> Result<Vec<String>, AllocError> {
+fn made(alloc: Global, sort: Sort, count: u64) -> Result<Vec<String>, AllocError> {
     let mut names = Vec::new(alloc);
     for number in 0..count {
         names.push(generated(alloc, sort, number)?)?;
@@ -43,36 +71,23 @@ fn accepted(alloc: Global, names: &[String]) -> usize {
     count
 }
 
-/// Reads so many names, and prints how long that takes.
-fn measured(rt: &HostRuntime, what: &str, sort: Sort, count: u64) -> Result<Times> {
-    let names = names(rt.alloc(), sort, count)?;
-    let mut rounds = Vec::new(rt.alloc());
-    for _ in 0..ROUNDS {
-        let start = Instant::now(rt)?;
-        let _ = accepted(rt.alloc(), names.as_slice());
-        rounds.push(start.elapsed(rt)?)?;
-    }
-    let times = Times::of(rounds)?;
-    print_times(rt, what, count, times)?;
-    Ok(times)
+/// How many of a hundred names of a sort are component names.
+fn accepted_of(alloc: Global, sort: Sort) -> Result<usize> {
+    let names = made(alloc, sort, 100)?;
+    Ok(accepted(alloc, &names))
 }
 
 /// Reads a hundred names of each sort, and prints how many were accepted.
 pub fn show(rt: &HostRuntime) -> Result<()> {
-    let labels = names(rt.alloc(), Sort::Label, 100)?;
-    let versioned = names(rt.alloc(), Sort::Versioned, 100)?;
-    let labels = accepted(rt.alloc(), labels.as_slice());
-    let versioned = accepted(rt.alloc(), versioned.as_slice());
+    let labels = accepted_of(rt.alloc(), Sort::Label)?;
+    let versioned = accepted_of(rt.alloc(), Sort::Versioned)?;
     println!(rt; "{labels} labels and {versioned} versioned names")?;
     Ok(())
 }
 
 /// Reads names of each sort, and prints how the times grow.
 pub fn measure(rt: &HostRuntime) -> Result<()> {
-    let first = measured(rt, "labels", Sort::Label, 100_000)?;
-    let last = measured(rt, "labels", Sort::Label, 800_000)?;
-    print_power(rt, "labels", first, last)?;
-    let first = measured(rt, "versioned names", Sort::Versioned, 100_000)?;
-    let last = measured(rt, "versioned names", Sort::Versioned, 800_000)?;
-    print_power(rt, "versioned names", first, last)
+    measure_work::<Names>(rt, "labels", "labels", Sort::Label, COUNTS)?;
+    let what = "versioned names";
+    measure_work::<Names>(rt, what, what, Sort::Versioned, COUNTS)
 }

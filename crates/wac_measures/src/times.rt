@@ -1,8 +1,8 @@
 //! Times of rounds, and how they grow.
 
 use anyhow::Result;
-use std::alloc::AllocError;
-use std::time::Duration;
+use std::alloc::{AllocError, Global};
+use std::time::{Duration, Instant};
 
 /// How often each is timed.
 pub const ROUNDS: usize = 5;
@@ -10,19 +10,19 @@ pub const ROUNDS: usize = 5;
 /// How many times as long a larger count takes for each tenth of the power, and the square root of that, to round to the
 /// nearest tenth.
 #[derive(Clone, Copy)]
-struct Tenth {
+pub struct Tenth {
     whole: f64,
     half: f64,
 }
 
 /// Of eight times the count: the tenth root of 8.
-const OF_EIGHT: Tenth = Tenth {
+pub const OF_EIGHT: Tenth = Tenth {
     whole: 1.2311444133449163,
     half: 1.109569472067845,
 };
 
 /// Of ten times the count: the tenth root of 10.
-const OF_TEN: Tenth = Tenth {
+pub const OF_TEN: Tenth = Tenth {
     whole: 1.2589254117941673,
     half: 1.1220184543019633,
 };
@@ -38,14 +38,68 @@ impl Times {
     /// The least and the middle one of these.
     pub fn of(mut rounds: Vec<Duration>) -> Result<Times, AllocError> {
         rounds.sort()?;
+        let middle = rounds.len() / 2;
         Ok(Times {
             least: rounds.first().copied().unwrap_or(Duration::ZERO),
-            middle: rounds
-                .get(rounds.len() / 2)
-                .copied()
-                .unwrap_or(Duration::ZERO),
+            middle: rounds.get(middle).copied().unwrap_or(Duration::ZERO),
         })
     }
+}
+
+/// Work of a size, done in rounds that are timed.
+pub trait Workload: Drop {
+    /// What it is done with.
+    type Sort: Copy;
+    /// What a round makes: it is let go of once the round is timed.
+    type Made: Drop;
+
+    /// Work of so many.
+    fn of(alloc: Global, sort: Self::Sort, count: u64) -> Result<Self>;
+
+    /// Does it once.
+    fn round(&self, alloc: Global) -> Result<Self::Made>;
+}
+
+/// How long work takes.
+pub fn timed<W: Workload>(rt: &HostRuntime, work: &W, rounds: usize) -> Result<Times> {
+    let mut times = Vec::new(rt.alloc());
+    for _ in 0..rounds {
+        let start = Instant::now(rt)?;
+        let _made = work.round(rt.alloc())?;
+        times.push(start.elapsed(rt)?)?;
+    }
+    Ok(Times::of(times)?)
+}
+
+/// Does work of so many, and prints how long that takes.
+pub fn measured<W: Workload>(
+    rt: &HostRuntime,
+    what: &str,
+    sort: W::Sort,
+    count: u64,
+) -> Result<Duration> {
+    let work = W::of(rt.alloc(), sort, count)?;
+    let times = timed(rt, &work, ROUNDS)?;
+    print_times(rt, what, count, times)?;
+    Ok(times.least)
+}
+
+/// Does work of these counts, of which the last is eight times the first, and prints how long each takes and how the time of the
+/// whole grows.
+pub fn measure<W: Workload>(
+    rt: &HostRuntime,
+    each: &str,
+    whole: &str,
+    sort: W::Sort,
+    counts: &[u64],
+) -> Result<()> {
+    let mut first = None;
+    let mut last = Duration::ZERO;
+    for count in counts {
+        last = measured::<W>(rt, each, sort, *count)?;
+        first = first.or(Some(last));
+    }
+    print_power(rt, whole, first.unwrap_or(last), last, OF_EIGHT)
 }
 
 /// Prints what was done so many times, and how long it took.
@@ -56,23 +110,15 @@ pub fn print_times(rt: &HostRuntime, what: &str, count: u64, times: Times) -> Re
     Ok(())
 }
 
-/// Prints by which power of the count the time grows, where `last` was of eight times the count of `first`.
-pub fn print_power(rt: &HostRuntime, what: &str, first: Times, last: Times) -> Result<()> {
-    print_tenths(rt, what, power_in_tenths(first.least, last.least, OF_EIGHT))
-}
-
-/// Prints by which power of the count the time grows, where `last` was of ten times the count of `first`.
-pub fn print_power_of_ten(
+/// Prints by which power of the count the time grows from the first to the last.
+pub fn print_power(
     rt: &HostRuntime,
     what: &str,
     first: Duration,
     last: Duration,
+    tenth: Tenth,
 ) -> Result<()> {
-    print_tenths(rt, what, power_in_tenths(first, last, OF_TEN))
-}
-
-/// Prints a power in tenths.
-fn print_tenths(rt: &HostRuntime, what: &str, tenths: u32) -> Result<()> {
+    let tenths = power_in_tenths(first, last, tenth);
     let whole = tenths / 10;
     let rest = tenths % 10;
     println!(rt; "{what}: the time grows by the power {whole}.{rest} of the count")?;

@@ -3,45 +3,112 @@
 use anyhow::Result;
 use std::alloc::Global;
 use wac_types::{
-    DefinedType, FuncType, Interface, ItemKind, Named, PrimitiveType, Record, Text, Types,
-    ValueType,
+    DefinedType, FuncType, Interface, ItemKind, Named, PrimitiveType, Record, Text, Type, Types,
+    ValueType, Variant,
 };
+
+/// How many functions an interface exports.
+pub const FUNCTIONS: u64 = 20;
+
+/// What types are added to: a collection, or a graph that has one.
+pub trait Collection: Drop {
+    /// Adds a defined type.
+    fn defined(&mut self, defined: DefinedType) -> Result<ValueType>;
+
+    /// Adds a function type.
+    fn func(&mut self, function: FuncType) -> Result<ItemKind>;
+
+    /// Adds an interface, as the type of an instance.
+    fn instance(&mut self, interface: Interface) -> Result<ItemKind>;
+}
+
+impl Collection for Types {
+    fn defined(&mut self, defined: DefinedType) -> Result<ValueType> {
+        Ok(ValueType::Defined(self.add_defined_type(defined)?))
+    }
+
+    fn func(&mut self, function: FuncType) -> Result<ItemKind> {
+        Ok(ItemKind::Func(self.add_func_type(function)?))
+    }
+
+    fn instance(&mut self, interface: Interface) -> Result<ItemKind> {
+        Ok(ItemKind::Instance(self.add_interface(interface)?))
+    }
+}
 
 /// The value type that is this primitive type.
 pub fn primitive(primitive: PrimitiveType) -> ValueType {
     ValueType::Primitive(primitive)
 }
 
-/// Adds a defined type.
-pub fn defined(types: &mut Types, defined: DefinedType) -> Result<ValueType> {
-    Ok(ValueType::Defined(types.add_defined_type(defined)?))
+/// Adds a list, an option, and a record with fields of them.
+pub fn record<T: Collection>(alloc: Global, types: &mut T) -> Result<ValueType> {
+    let list = types.defined(DefinedType::List(primitive(PrimitiveType::U8)))?;
+    let option = types.defined(DefinedType::Option(primitive(PrimitiveType::U64)))?;
+    let fields = [
+        ("a", primitive(PrimitiveType::U32)),
+        ("b", primitive(PrimitiveType::String)),
+        ("c", list),
+        ("d", option),
+    ];
+    let record = Record::new(alloc, &fields)?;
+    types.defined(DefinedType::Record(record))
 }
 
-/// Adds a list, an option, and a record with fields of them.
-pub fn record(alloc: Global, types: &mut Types) -> Result<ValueType> {
-    let list = defined(types, DefinedType::List(primitive(PrimitiveType::U8)))?;
-    let option = defined(types, DefinedType::Option(primitive(PrimitiveType::U64)))?;
-    let record = Record::new(
-        alloc,
-        &[
-            ("a", primitive(PrimitiveType::U32)),
-            ("b", primitive(PrimitiveType::String)),
-            ("c", list),
-            ("d", option),
-        ],
-    )?;
-    defined(types, DefinedType::Record(record))
+/// Adds a variant with a list of a type under one case.
+fn variant<T: Collection>(alloc: Global, types: &mut T, element: ValueType) -> Result<ValueType> {
+    let list = types.defined(DefinedType::List(element))?;
+    let cases = [
+        ("none", None),
+        ("num", Some(primitive(PrimitiveType::U32))),
+        ("text", Some(primitive(PrimitiveType::String))),
+        ("recs", Some(list)),
+    ];
+    let variant = Variant::new(alloc, &cases)?;
+    types.defined(DefinedType::Variant(variant))
 }
 
 /// Adds a function type.
-pub fn function(
+pub fn function<T: Collection>(
     alloc: Global,
-    types: &mut Types,
+    types: &mut T,
     params: &[(&str, ValueType)],
     returned: Option<ValueType>,
 ) -> Result<ItemKind> {
     let function = FuncType::new(alloc, params, returned, false)?;
-    Ok(ItemKind::Func(types.add_func_type(function)?))
+    types.func(function)
+}
+
+/// Adds a function type over a record and a list of a variant.
+fn function_of<T: Collection>(
+    alloc: Global,
+    types: &mut T,
+    x: ValueType,
+    case: ValueType,
+) -> Result<ItemKind> {
+    let y = types.defined(DefinedType::List(case))?;
+    let returned = types.defined(DefinedType::Option(x))?;
+    function(alloc, types, &[("x", x), ("y", y)], Some(returned))
+}
+
+/// Puts a record, a variant, and functions over both among the exports of an interface.
+fn fill<T: Collection>(alloc: Global, types: &mut T, exports: &mut Named<ItemKind>) -> Result<()> {
+    let x = record(alloc, types)?;
+    let case = variant(alloc, types, x)?;
+    exports.insert(alloc, "rec", ItemKind::TypeItem(Type::Value(x)))?;
+    exports.insert(alloc, "var", ItemKind::TypeItem(Type::Value(case)))?;
+    for number in 0..FUNCTIONS {
+        let kind = function_of(alloc, types, x, case)?;
+        export(alloc, exports, number, kind)?;
+    }
+    Ok(())
+}
+
+/// Adds an interface of a record, a variant, and functions over both.
+pub fn records<T: Collection>(alloc: Global, types: &mut T, id: &str) -> Result<ItemKind> {
+    let mut exports = Named::new(alloc);
+    fill(alloc, types, &mut exports)?;
+    instance(alloc, types, Some(id), exports)
 }
 
 /// Puts an export under the name `f` with a number.
@@ -57,9 +124,9 @@ pub fn export(
 }
 
 /// Adds an interface that uses no other.
-pub fn instance(
+pub fn instance<T: Collection>(
     alloc: Global,
-    types: &mut Types,
+    types: &mut T,
     id: Option<&str>,
     exports: Named<ItemKind>,
 ) -> Result<ItemKind> {
@@ -67,10 +134,16 @@ pub fn instance(
         Some(id) => Some(Text::new(alloc, id)?),
         None => None,
     };
-    let interface = Interface {
+    types.instance(Interface {
         id,
         uses: Named::new(alloc),
         exports,
-    };
-    Ok(ItemKind::Instance(types.add_interface(interface)?))
+    })
+}
+
+/// The name of a version on a track: four to each.
+pub fn versioned(alloc: Global, package: &str, number: u64) -> Result<String> {
+    let track = number / 4;
+    let minor = number % 4;
+    Ok(format!(in alloc; "{package}/i{track}@1.{minor}.0")?)
 }

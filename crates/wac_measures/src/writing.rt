@@ -1,10 +1,9 @@
 //! How fast components are written, beside a plain copy of the same bytes: packages of 4 MiB, function imports, instance types
 //! beside each other in one, and instance types nested one in another.
 
-use crate::times::{ROUNDS as FEW_ROUNDS, Times, print_power, print_times};
+use crate::times::{Workload, measure as measure_work, timed};
 use anyhow::Result;
 use std::alloc::Global;
-use std::time::Instant;
 use wac_builder::{BinaryFault, ComponentBuilder, Description, FuncType, InstanceType};
 
 /// How often each is written, so that the least and the median of the times say more than one does.
@@ -12,10 +11,62 @@ const ROUNDS: usize = 41;
 
 /// What is written.
 #[derive(Clone, Copy)]
-enum Workload {
+enum Sort {
+    /// Packages of these bytes.
     Packages,
+    /// Function imports.
     Imports,
+    /// Instance types, nested in one.
     InstanceTypes,
+    /// Instance types, nested one in another.
+    Nested,
+    /// A copy of these bytes.
+    Copy,
+}
+
+/// What is written beside a copy of its bytes, by its words, and how many.
+const BESIDE_COPIES: &[(&str, Sort, u64)] = &[
+    ("imports", Sort::Imports, 200_000),
+    ("instance types", Sort::InstanceTypes, 50_000),
+    ("packages", Sort::Packages, 16),
+];
+
+/// How deep instance types are nested.
+const DEPTHS: &[u64] = &[12_500, 25_000, 50_000, 100_000];
+
+/// So many that are written, and the bytes of which they are made.
+struct Writing {
+    sort: Sort,
+    count: u64,
+    bytes: Vec<u8>,
+}
+
+impl Drop for Writing {
+    fn drop(self) {
+        let Writing {
+            sort: _,
+            count: _,
+            bytes: _,
+        } = self;
+    }
+}
+
+impl Workload for Writing {
+    type Sort = Sort;
+
+    type Made = Vec<u8>;
+
+    fn of(alloc: Global, sort: Sort, count: u64) -> Result<Writing> {
+        let mut bytes = Vec::new(alloc);
+        if let Sort::Packages = sort {
+            bytes.resize(4 << 20, 0u8)?;
+        }
+        Ok(Writing { sort, count, bytes })
+    }
+
+    fn round(&self, alloc: Global) -> Result<Vec<u8>> {
+        Ok(written(alloc, self.sort, self.count, &self.bytes)?)
+    }
 }
 
 /// A function type without parameters and without a result.
@@ -28,7 +79,7 @@ fn plain() -> FuncType<'static> {
 }
 
 /// A component of so many packages with these bytes.
-fn packages(alloc: Global, count: u32, package: &[u8]) -> Result<Vec<u8>, BinaryFault> {
+fn packages(alloc: Global, count: u64, package: &[u8]) -> Result<Vec<u8>, BinaryFault> {
     let mut b = ComponentBuilder::new(alloc);
     for _ in 0..count {
         let _c = b.component(package)?;
@@ -37,7 +88,7 @@ fn packages(alloc: Global, count: u32, package: &[u8]) -> Result<Vec<u8>, Binary
 }
 
 /// A component of so many function imports.
-fn imports(alloc: Global, count: u32) -> Result<Vec<u8>, BinaryFault> {
+fn imports(alloc: Global, count: u64) -> Result<Vec<u8>, BinaryFault> {
     let mut b = ComponentBuilder::new(alloc);
     let f = b.func_type(&plain())?;
     for _ in 0..count {
@@ -56,7 +107,7 @@ fn instance_type(alloc: Global) -> Result<InstanceType, BinaryFault> {
 }
 
 /// A component of one instance type in which so many are nested, each built by itself.
-fn instance_types(alloc: Global, count: u32) -> Result<Vec<u8>, BinaryFault> {
+fn instance_types(alloc: Global, count: u64) -> Result<Vec<u8>, BinaryFault> {
     let mut outer = InstanceType::new(alloc);
     for _ in 0..count {
         let t = instance_type(alloc)?;
@@ -82,60 +133,32 @@ fn nested_types(alloc: Global, depth: u64) -> Result<Vec<u8>, BinaryFault> {
     b.into_bytes()
 }
 
+/// A copy of bytes.
+fn copied(alloc: Global, bytes: &[u8]) -> Result<Vec<u8>, BinaryFault> {
+    let mut copy = Vec::new(alloc);
+    copy.extend_from_slice(bytes)?;
+    Ok(copy)
+}
+
 /// A component of so many of these.
-fn written(
-    alloc: Global,
-    workload: Workload,
-    count: u32,
-    package: &[u8],
-) -> Result<Vec<u8>, BinaryFault> {
-    match workload {
-        Workload::Packages => packages(alloc, count, package),
-        Workload::Imports => imports(alloc, count),
-        Workload::InstanceTypes => instance_types(alloc, count),
+fn written(alloc: Global, sort: Sort, count: u64, bytes: &[u8]) -> Result<Vec<u8>, BinaryFault> {
+    match sort {
+        Sort::Packages => packages(alloc, count, bytes),
+        Sort::Imports => imports(alloc, count),
+        Sort::InstanceTypes => instance_types(alloc, count),
+        Sort::Nested => nested_types(alloc, count),
+        Sort::Copy => copied(alloc, bytes),
     }
-}
-
-/// How long writing takes.
-fn time_of_writing(
-    rt: &HostRuntime,
-    workload: Workload,
-    count: u32,
-    package: &[u8],
-) -> Result<Times> {
-    let mut rounds = Vec::new(rt.alloc());
-    for _ in 0..ROUNDS {
-        let start = Instant::now(rt)?;
-        let _bytes = written(rt.alloc(), workload, count, package)?;
-        rounds.push(start.elapsed(rt)?)?;
-    }
-    Ok(Times::of(rounds)?)
-}
-
-/// How long copying bytes takes.
-fn time_of_copying(rt: &HostRuntime, bytes: &[u8]) -> Result<Times> {
-    let mut rounds = Vec::new(rt.alloc());
-    for _ in 0..ROUNDS {
-        let start = Instant::now(rt)?;
-        let mut copy = Vec::new(rt.alloc());
-        copy.extend_from_slice(bytes)?;
-        rounds.push(start.elapsed(rt)?)?;
-    }
-    Ok(Times::of(rounds)?)
 }
 
 /// Writes so many, copies their bytes, and prints how long each takes.
-fn measured(
-    rt: &HostRuntime,
-    what: &str,
-    workload: Workload,
-    count: u32,
-    package: &[u8],
-) -> Result<()> {
-    let writing = time_of_writing(rt, workload, count, package)?;
-    let bytes = written(rt.alloc(), workload, count, package)?;
-    let copying = time_of_copying(rt, bytes.as_slice())?;
-    let length = bytes.len();
+fn measured(rt: &HostRuntime, what: &str, sort: Sort, count: u64) -> Result<()> {
+    let mut work = Writing::of(rt.alloc(), sort, count)?;
+    let writing = timed(rt, &work, ROUNDS)?;
+    work.bytes = work.round(rt.alloc())?;
+    work.sort = Sort::Copy;
+    let copying = timed(rt, &work, ROUNDS)?;
+    let length = work.bytes.len();
     let (least, median) = (writing.least.as_nanos(), writing.middle.as_nanos());
     let (least_copy, median_copy) = (copying.least.as_nanos(), copying.middle.as_nanos());
     println!(rt;
@@ -144,35 +167,13 @@ fn measured(
     Ok(())
 }
 
-/// Writes an instance type so many deep, and prints how long that takes.
-fn measured_depth(rt: &HostRuntime, depth: u64) -> Result<Times> {
-    let mut rounds = Vec::new(rt.alloc());
-    for _ in 0..FEW_ROUNDS {
-        let start = Instant::now(rt)?;
-        let _bytes = nested_types(rt.alloc(), depth)?;
-        rounds.push(start.elapsed(rt)?)?;
-    }
-    let times = Times::of(rounds)?;
-    print_times(rt, "instance types nested so deep:", depth, times)?;
-    Ok(times)
-}
-
-/// Writes instance types nested at most 100,000 deep, and prints how the time grows with the depth.
-fn measure_depths(rt: &HostRuntime) -> Result<()> {
-    let first = measured_depth(rt, 12_500)?;
-    let _ = measured_depth(rt, 25_000)?;
-    let _ = measured_depth(rt, 50_000)?;
-    let last = measured_depth(rt, 100_000)?;
-    print_power(rt, "nested instance types", first, last)
-}
-
 /// Writes a few of each, and prints how many bytes they have.
 pub fn show(rt: &HostRuntime) -> Result<()> {
     let alloc = rt.alloc();
-    let packages = packages(alloc, 2, &[0; 16])?.len();
-    let imports = imports(alloc, 100)?.len();
-    let types = instance_types(alloc, 100)?.len();
-    let nested = nested_types(alloc, 100)?.len();
+    let packages = written(alloc, Sort::Packages, 2, &[0; 16])?.len();
+    let imports = written(alloc, Sort::Imports, 100, &[])?.len();
+    let types = written(alloc, Sort::InstanceTypes, 100, &[])?.len();
+    let nested = written(alloc, Sort::Nested, 100, &[])?.len();
     println!(rt;
         "2 packages: {packages} bytes, 100 imports: {imports} bytes, 100 instance types: {types} bytes, 100 deep: {nested} bytes"
     )?;
@@ -181,10 +182,9 @@ pub fn show(rt: &HostRuntime) -> Result<()> {
 
 /// Writes each beside a copy of its bytes, and instance types nested ever deeper.
 pub fn measure(rt: &HostRuntime) -> Result<()> {
-    let mut package = Vec::new(rt.alloc());
-    package.resize(4 << 20, 0u8)?;
-    measured(rt, "imports", Workload::Imports, 200_000, &[])?;
-    measured(rt, "instance types", Workload::InstanceTypes, 50_000, &[])?;
-    measured(rt, "packages", Workload::Packages, 16, package.as_slice())?;
-    measure_depths(rt)
+    for (what, sort, count) in BESIDE_COPIES {
+        measured(rt, what, *sort, *count)?;
+    }
+    let (each, whole) = ("instance types nested so deep:", "nested instance types");
+    measure_work::<Writing>(rt, each, whole, Sort::Nested, DEPTHS)
 }

@@ -1,0 +1,215 @@
+//! What graphs are made of, and the steps by which they are.
+
+use crate::churn::{self, Triple};
+use crate::graph::Graph;
+use crate::graphs::{Parts, aliases, chain, fan, numbered, plug_and_socket, refused, shared};
+use crate::step::Step;
+use crate::wide;
+use anyhow::Result;
+use std::alloc::{AllocError, Global};
+
+/// How often half of the triples are removed and made again.
+const TURNS: u32 = 10;
+
+/// What a graph is made of.
+#[derive(Clone, Copy)]
+pub enum Sort {
+    Chain,
+    Fan,
+    Aliases,
+    Plug,
+    Shared,
+    Churn,
+    Wide,
+}
+
+impl Sort {
+    /// The sort of a word.
+    pub fn of_word(word: &str) -> Option<Sort> {
+        match word {
+            "chain" => Some(Sort::Chain),
+            "fan" => Some(Sort::Fan),
+            "aliases" => Some(Sort::Aliases),
+            "plug" => Some(Sort::Plug),
+            "shared" => Some(Sort::Shared),
+            "churn" => Some(Sort::Churn),
+            "wide" => Some(Sort::Wide),
+            _ => None,
+        }
+    }
+
+    /// The counts at which it is measured.
+    pub fn counts(self) -> &'static [u32] {
+        match self {
+            Sort::Chain | Sort::Fan | Sort::Shared | Sort::Churn => &[1_000, 10_000, 100_000],
+            Sort::Aliases | Sort::Plug => &[1_000, 10_000],
+            Sort::Wide => &[100, 1_000, 10_000],
+        }
+    }
+
+    /// The names of which it is made.
+    fn names(self, alloc: Global, count: u64) -> Result<Vec<String>> {
+        match self {
+            Sort::Chain | Sort::Fan | Sort::Shared | Sort::Wide => Ok(Vec::new(alloc)),
+            Sort::Aliases | Sort::Plug => numbered(alloc, "f", count),
+            Sort::Churn => numbered(alloc, "e", count),
+        }
+    }
+
+    /// How often a step is done.
+    pub fn times(self, step: Step) -> u32 {
+        match (self, step) {
+            (Sort::Churn, Step::Turned) => TURNS,
+            (_, Step::Turned) => 0,
+            (_, Step::Prepared | Step::Made | Step::Encoded) => 1,
+        }
+    }
+}
+
+/// So many parts of a graph of a sort, and the names of which it is made.
+pub struct Plan {
+    pub sort: Sort,
+    pub count: u64,
+    pub names: Vec<String>,
+}
+
+impl Drop for Plan {
+    fn drop(self) {
+        let Plan {
+            sort: _,
+            count: _,
+            names: _,
+        } = self;
+    }
+}
+
+impl Plan {
+    /// So many parts of a graph of a sort.
+    pub fn of(alloc: Global, sort: Sort, count: u64) -> Result<Plan> {
+        let names = sort.names(alloc, count)?;
+        Ok(Plan { sort, count, names })
+    }
+}
+
+/// A graph, with what is kept of it from step to step.
+pub struct Stand<G: Graph> {
+    graph: G,
+    parts: Option<Parts>,
+    triples: Vec<Triple>,
+    written: Vec<u8>,
+}
+
+impl<G: Graph> Drop for Stand<G> {
+    fn drop(self) {
+        let Stand {
+            graph: _,
+            parts: _,
+            triples: _,
+            written: _,
+        } = self;
+    }
+}
+
+impl<G: Graph> Stand<G> {
+    /// The empty graph.
+    fn new(alloc: Global) -> Stand<G> {
+        Stand {
+            graph: G::new(alloc),
+            parts: None,
+            triples: Vec::new(alloc),
+            written: Vec::new(alloc),
+        }
+    }
+
+    /// Registers what is not timed: the packages of aliases, plugs and triples.
+    fn prepare(&mut self, alloc: Global, plan: &Plan) -> Result<()> {
+        self.parts = match plan.sort {
+            Sort::Chain | Sort::Fan | Sort::Shared | Sort::Wide => None,
+            Sort::Aliases | Sort::Plug => {
+                Some(plug_and_socket(alloc, &mut self.graph, &plan.names)?)
+            }
+            Sort::Churn => Some(churn::register(alloc, &mut self.graph)?),
+        };
+        Ok(())
+    }
+
+    /// Makes of its packages what is timed.
+    fn make_of(&mut self, alloc: Global, plan: &Plan, parts: Parts) -> Result<()> {
+        match plan.sort {
+            Sort::Chain | Sort::Fan | Sort::Shared | Sort::Wide => Ok(()),
+            Sort::Aliases => refused(aliases(&mut self.graph, parts.giver, &plan.names)),
+            Sort::Plug => self.graph.plug(alloc, parts.giver, parts.taker),
+            Sort::Churn => { churn::make(&mut self.graph, parts, &plan.names, &mut self.triples) }
+        }
+    }
+
+    /// Makes what is timed.
+    fn make(&mut self, alloc: Global, plan: &Plan) -> Result<()> {
+        match plan.sort {
+            Sort::Chain => chain(alloc, &mut self.graph, plan.count),
+            Sort::Fan => fan(alloc, &mut self.graph, plan.count),
+            Sort::Shared => shared(alloc, &mut self.graph, plan.count),
+            Sort::Wide => wide::make(alloc, &mut self.graph, plan.count),
+            Sort::Aliases | Sort::Plug | Sort::Churn => {
+                let parts = refused(self.parts)?;
+                self.make_of(alloc, plan, parts)
+            }
+        }
+    }
+
+    /// Removes every other triple and makes it again.
+    fn turn(&mut self, plan: &Plan) -> Result<()> {
+        let parts = refused(self.parts)?;
+        refused(churn::turn(&mut self.graph, parts, &plan.names, &mut self.triples))
+    }
+
+    /// Encodes it, and keeps the bytes.
+    fn encode(&mut self) -> Result<()> {
+        self.written = self.graph.encode()?;
+        Ok(())
+    }
+
+    /// Does a step once.
+    pub fn step(&mut self, alloc: Global, plan: &Plan, step: Step) -> Result<()> {
+        match step {
+            Step::Prepared => self.prepare(alloc, plan),
+            Step::Made => self.make(alloc, plan),
+            Step::Turned => self.turn(plan),
+            Step::Encoded => self.encode(),
+        }
+    }
+}
+
+/// So many empty graphs.
+pub fn empty<G: Graph>(alloc: Global, count: u32) -> Result<Vec<Stand<G>>, AllocError> {
+    let mut stands = Vec::new(alloc);
+    for _ in 0..count {
+        stands.push(Stand::new(alloc))?;
+    }
+    Ok(stands)
+}
+
+/// Does a step in each of these graphs, as often as it is done in one.
+pub fn do_all<G: Graph>(
+    alloc: Global,
+    stands: &mut [Stand<G>],
+    plan: &Plan,
+    step: Step,
+) -> Result<()> {
+    for _ in 0..plan.sort.times(step) {
+        for stand in stands.iter_mut() {
+            stand.step(alloc, plan, step)?;
+        }
+    }
+    Ok(())
+}
+
+/// Makes one graph of a sort and of so many parts by these steps, and answers how many bytes it is encoded to.
+pub fn take<G: Graph>(alloc: Global, sort: Sort, count: u64, steps: &[Step]) -> Result<usize> {
+    let plan = Plan::of(alloc, sort, count)?;
+    let mut stands: Vec<Stand<G>> = empty(alloc, 1)?;
+    for step in steps {
+        do_all(alloc, &mut stands, &plan, *step)?;
+    }
+    Ok(stands.first().map_or(0, |stand| stand.written.len()))
+}
