@@ -64,7 +64,7 @@ pub enum EncodeError {
     OutOfMemory,
     /// What is asked for has an item that is not imported so far, a definition is of a type that is not defined so far, or the options ask
     /// for imported components. Imported so far are functions and type items of value types and function types that are made of no
-    /// resource, instances that list such items and their types, and core modules; defined so far are value types and function types
+    /// resource, instances of such, to any depth, and their types, and core modules; defined so far are value types and function types
     /// that are made of no resource, and interfaces of such items that have an id and use no other.
     #[error("the graph holds something that is not written yet")]
     NotYet,

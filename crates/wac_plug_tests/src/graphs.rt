@@ -1,7 +1,7 @@
 // Graphs that packages are registered in, and what they are after a call.
 use std::process::Abort;
 use wac_graph::types::{FuncType, Interface, ItemKind, World};
-use wac_graph::{CompositionGraph, EncodeOptions, NodeId, NodeKind, PackageId};
+use wac_graph::{CompositionGraph, EncodeError, EncodeOptions, NodeId, NodeKind, PackageId};
 
 // What a package imports or exports.
 #[derive(Clone, Copy)]
@@ -156,10 +156,19 @@ pub fn asked(rt: &(impl Abort + AllocGlobal), graph: &CompositionGraph) -> Strin
     names
 }
 
-// The bytes in hexadecimal, or the error's text.
-pub fn encoded(rt: &(impl Abort + AllocGlobal), graph: &CompositionGraph) -> String {
-    match graph.encode(EncodeOptions::default()) {
+fn encode(graph: &CompositionGraph) -> Result<Vec<u8>, EncodeError> {
+    graph.encode(EncodeOptions::default())
+}
+
+// Bytes in hexadecimal, or an error's text.
+fn text(rt: &(impl Abort + AllocGlobal), answer: Result<Vec<u8>, EncodeError>) -> String {
+    match answer {
         Ok(bytes) => hex::encode(rt.alloc(), &bytes).expect(rt, "a text"),
         Err(error) => format!(in rt.alloc(); "{error}").expect(rt, "a text"),
     }
+}
+
+// The bytes in hexadecimal, or the error's text.
+pub fn encoded(rt: &(impl Abort + AllocGlobal), graph: &CompositionGraph) -> String {
+    text(rt, encode(graph))
 }

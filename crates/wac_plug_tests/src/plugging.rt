@@ -4,8 +4,8 @@ use std::process::Abort;
 use wac_graph::{CompositionGraph, ExportError, PackageId, PlugError, PlugFault, plug};
 
 // Plugs with these exports are plugged into a socket with these imports and exports.
-#[derive(Clone, Copy)]
 struct Row {
+    what: &'static str,
     plugs: &'static [Items],
     // The places of the plugs that are plugged in, in order.
     order: (usize, Option<usize>),
@@ -68,7 +68,7 @@ fn plugged(
 }
 
 // Registers the packages of a row in a new graph, and plugs them together.
-fn answered(rt: &(impl Abort + AllocGlobal), graph: &mut CompositionGraph, row: Row) -> String {
+fn answered(rt: &(impl Abort + AllocGlobal), graph: &mut CompositionGraph, row: &Row) -> String {
     let plugs = register_all(rt, graph, row.plugs);
     let socket = register(rt, graph, "my:socket", row.imports, row.exports);
     let first = at(rt, &plugs, row.order.0);
@@ -80,7 +80,12 @@ fn answered(rt: &(impl Abort + AllocGlobal), graph: &mut CompositionGraph, row: 
 }
 
 // What a graph asks for once it has so many of the nodes of a row.
-fn assert_asked(rt: &(impl Abort + AllocGlobal), graph: &CompositionGraph, row: Row, count: usize) {
+fn assert_asked(
+    rt: &(impl Abort + AllocGlobal),
+    graph: &CompositionGraph,
+    row: &Row,
+    count: usize,
+) {
     let asked = asked(rt, graph);
     let want = match row.passed {
         _ if count == 0 => "",
@@ -88,54 +93,73 @@ fn assert_asked(rt: &(impl Abort + AllocGlobal), graph: &CompositionGraph, row: 
         Some((passed, left)) if count == passed && asked.as_str() == left => left,
         _ => row.asked,
     };
-    assert!(rt; asked.as_str() == want);
+    assert_holds(rt, row, asked.as_str() == want);
+}
+
+// What a row says of a graph holds.
+fn assert_holds(rt: &impl Abort, row: &Row, holds: bool) {
+    assert!(rt; holds, "{}", row.what);
+}
+
+// Memory was not refused.
+fn assert_answered(rt: &impl Abort, answer: &str) {
+    assert!(rt; answer != REFUSED, "{REFUSED}");
+}
+
+// Whether these are the first nodes of a row; the last may lack its export.
+fn are_begun(nodes: &[String], wanted: &[&str]) -> bool {
+    for (i, (node, want)) in nodes.iter().zip(wanted).enumerate() {
+        let made = node.as_str() == *want;
+        let begun = i + 1 == nodes.len() && want.starts_with(node.as_str());
+        if !made && !begun {
+            return false;
+        }
+    }
+    nodes.len() <= wanted.len()
+}
+
+fn are_made(nodes: &[String], wanted: &[&str]) -> bool {
+    for (node, want) in nodes.iter().zip(wanted) {
+        if node.as_str() != *want {
+            return false;
+        }
+    }
+    nodes.len() == wanted.len()
 }
 
 // What a refused growth left is what the steps before it made.
-fn assert_begun(rt: &(impl Abort + AllocGlobal), graph: &CompositionGraph, row: Row) {
+fn assert_begun(rt: &(impl Abort + AllocGlobal), graph: &CompositionGraph, row: &Row) {
     let nodes = first_nodes(rt, graph, row.nodes.len() + 1);
-    let count = nodes.len();
-    for i in 0..count {
-        let Some(want) = row.nodes.get(i) else {
-            panic!(rt; "there is a node too many");
-        };
-        if i + 1 < count {
-            assert!(rt; nodes[i].as_str() == *want);
-        } else {
-            assert!(rt; want.starts_with(nodes[i].as_str()));
-        }
-    }
-    assert_asked(rt, graph, row, count);
+    assert_holds(rt, row, are_begun(nodes.as_slice(), row.nodes));
+    assert_asked(rt, graph, row, nodes.len());
 }
 
 // All the nodes of a row are made.
-fn assert_made(rt: &(impl Abort + AllocGlobal), graph: &CompositionGraph, row: Row) {
+fn assert_made(rt: &(impl Abort + AllocGlobal), graph: &CompositionGraph, row: &Row) {
     let nodes = first_nodes(rt, graph, row.nodes.len() + 1);
-    assert!(rt; nodes.len() == row.nodes.len());
-    for (node, want) in nodes.iter().zip(row.nodes) {
-        assert!(rt; node.as_str() == *want);
-    }
+    assert_holds(rt, row, are_made(nodes.as_slice(), row.nodes));
     let asked = asked(rt, graph);
     let want = match row.passed {
         Some((_, left)) => left,
         None => row.asked,
     };
-    assert!(rt; asked.as_str() == want);
+    assert_holds(rt, row, asked.as_str() == want);
 }
 
-fn assert_row(rt: &(impl Abort + AllocGlobal), row: Row) {
+fn assert_row(rt: &(impl Abort + AllocGlobal), row: &Row) {
     let mut graph = CompositionGraph::new(rt.alloc());
     let answer = answered(rt, &mut graph, row);
     if answer.as_str() == REFUSED {
         assert_begun(rt, &graph, row);
-    } else {
-        assert_eq!(rt; answer.as_str(), row.answer);
-        assert_made(rt, &graph, row);
+        return;
     }
+    assert_holds(rt, row, answer.as_str() == row.answer);
+    assert_made(rt, &graph, row);
 }
 
 // The function `a` of a plug is the argument `a` of the socket, whose function `run` is exported.
 const ONE: Row = Row {
+    what: "exports become arguments",
     plugs: &[FUNCTION_A],
     order: (0, None),
     imports: FUNCTION_A,
@@ -157,6 +181,7 @@ const ONE_ENCODED: &str =
 
 // Two plugs with one export.
 const TWO: Row = Row {
+    what: "two plugs match an import",
     plugs: &[FUNCTION_A, FUNCTION_A],
     order: (0, Some(1)),
     imports: FUNCTION_A,
@@ -175,6 +200,7 @@ const TWO: Row = Row {
 
 // One plug twice.
 const TWICE: Row = Row {
+    what: "a plug is plugged in twice",
     plugs: &[FUNCTION_A],
     order: (0, Some(0)),
     imports: FUNCTION_A,
@@ -193,6 +219,7 @@ const TWICE: Row = Row {
 
 // No import has the name of the plug's export.
 const OTHER: Row = Row {
+    what: "no import has the name",
     plugs: &[&[("b", Item::Function)]],
     order: (0, None),
     imports: FUNCTION_A,
@@ -205,6 +232,7 @@ const OTHER: Row = Row {
 
 // The socket has no imports.
 const UNASKED: Row = Row {
+    what: "a socket has no imports",
     plugs: &[FUNCTION_A],
     order: (0, None),
     imports: &[],
@@ -217,6 +245,7 @@ const UNASKED: Row = Row {
 
 // The import of the export's name is of another type, and one on its track of the same.
 const OTHER_TYPE: Row = Row {
+    what: "the import of the name is of another type",
     plugs: &[&[("a:b/c@1.0.0", Item::Exporting("f"))]],
     order: (0, None),
     imports: &[
@@ -232,6 +261,7 @@ const OTHER_TYPE: Row = Row {
 
 // Two exports on the track of one import.
 const ONE_TRACK: Row = Row {
+    what: "two exports match an import",
     plugs: &[&[
         ("a:b/c@1.0.0", Item::Exporting("f")),
         ("a:b/c@1.1.0", Item::Exporting("f")),
@@ -252,6 +282,7 @@ const ONE_TRACK: Row = Row {
 
 // No import has the export's name, and two are on its track: the first is taken, whose version is the higher one.
 const FIRST_ON_TRACK: Row = Row {
+    what: "the first import on a track is given",
     plugs: &[&[("a:b/c@1.0.0", Item::Exporting("f"))]],
     order: (0, None),
     imports: &[
@@ -272,6 +303,7 @@ const FIRST_ON_TRACK: Row = Row {
 
 // The first plug matches nothing.
 const SECOND_ALONE: Row = Row {
+    what: "one of two plugs matches",
     plugs: &[&[("b", Item::Function)], FUNCTION_A],
     order: (0, Some(1)),
     imports: FUNCTION_A,
@@ -289,6 +321,7 @@ const SECOND_ALONE: Row = Row {
 
 // The socket exports what may not be exported.
 const BAD_EXPORT: Row = Row {
+    what: "an export is refused",
     plugs: &[FUNCTION_A],
     order: (0, None),
     imports: FUNCTION_A,
@@ -304,69 +337,39 @@ const BAD_EXPORT: Row = Row {
     passed: Some((3, "")),
 };
 
+const ROWS: &[Row] = &[
+    ONE,
+    TWO,
+    TWICE,
+    OTHER,
+    UNASKED,
+    OTHER_TYPE,
+    ONE_TRACK,
+    FIRST_ON_TRACK,
+    SECOND_ALONE,
+    BAD_EXPORT,
+];
+
 #[test]
-fn exports_become_arguments(rt: HostRuntime) {
-    assert_row(&rt, ONE);
+fn packages_are_plugged_together(rt: HostRuntime) {
+    for row in ROWS {
+        assert_row(&rt, row);
+    }
+}
+
+// What is plugged is encoded.
+fn plugged_and_encoded(rt: &(impl Abort + AllocGlobal)) -> String {
+    let mut graph = CompositionGraph::new(rt.alloc());
+    let answer = answered(rt, &mut graph, &ONE);
+    assert_answered(rt, answer.as_str());
+    encoded(rt, &graph)
 }
 
 #[test]
 fn what_is_plugged_is_encoded(rt: HostRuntime) {
-    let mut graph = CompositionGraph::new(rt.alloc());
-    let answer = answered(&rt, &mut graph, ONE);
-    assert!(rt; answer.as_str() != REFUSED, "{REFUSED}");
-    let bytes = encoded(&rt, &graph);
-    assert!(rt; bytes.as_str() != REFUSED, "{REFUSED}");
+    let bytes = plugged_and_encoded(&rt);
+    assert_answered(&rt, bytes.as_str());
     assert!(rt; bytes.as_str() == ONE_ENCODED);
-}
-
-// What stays is the socket, each plug and its alias, and the argument from the first.
-#[test]
-fn two_plugs_match_an_import(rt: HostRuntime) {
-    assert_row(&rt, TWO);
-}
-
-#[test]
-fn a_plug_is_plugged_in_twice(rt: HostRuntime) {
-    assert_row(&rt, TWICE);
-}
-
-// What stays is the socket, the plug and two aliases, and the argument from the first.
-#[test]
-fn two_exports_match_an_import(rt: HostRuntime) {
-    assert_row(&rt, ONE_TRACK);
-}
-
-// What stays is all but the export.
-#[test]
-fn an_export_is_refused(rt: HostRuntime) {
-    assert_row(&rt, BAD_EXPORT);
-}
-
-// What stays is the socket.
-#[test]
-fn no_import_has_the_name(rt: HostRuntime) {
-    assert_row(&rt, OTHER);
-}
-
-#[test]
-fn a_socket_has_no_imports(rt: HostRuntime) {
-    assert_row(&rt, UNASKED);
-}
-
-#[test]
-fn the_import_of_the_name_is_of_another_type(rt: HostRuntime) {
-    assert_row(&rt, OTHER_TYPE);
-}
-
-#[test]
-fn the_first_import_on_a_track_is_given(rt: HostRuntime) {
-    assert_row(&rt, FIRST_ON_TRACK);
-}
-
-// A plug without a match is left out.
-#[test]
-fn one_of_two_plugs_matches(rt: HostRuntime) {
-    assert_row(&rt, SECOND_ALONE);
 }
 
 fn found(rt: &impl Abort, graph: &CompositionGraph, name: &str) -> PackageId {
@@ -376,36 +379,44 @@ fn found(rt: &impl Abort, graph: &CompositionGraph, name: &str) -> PackageId {
         .0
 }
 
-// The same packages once more: the socket's name is taken, and all but its export is made.
-#[test]
-fn an_export_is_there_already(rt: HostRuntime) {
-    let mut graph = CompositionGraph::new(rt.alloc());
-    let first = answered(&rt, &mut graph, ONE);
-    let plug = found(&rt, &graph, "my:plug0");
-    let socket = found(&rt, &graph, "my:socket");
-    let second = plugged(&rt, &mut graph, plug, None, socket);
-    assert!(rt; first.as_str() != REFUSED, "{REFUSED}");
-    assert!(rt; second.as_str() != REFUSED, "{REFUSED}");
-    assert!(rt; second.as_str() == "an export with the name `run` already exists");
-    let nodes = first_nodes(&rt, &graph, 9);
+// The packages of a row are plugged together once more.
+fn plugged_again(rt: &(impl Abort + AllocGlobal), graph: &mut CompositionGraph) -> String {
+    let plug = found(rt, graph, "my:plug0");
+    let socket = found(rt, graph, "my:socket");
+    plugged(rt, graph, plug, None, socket)
+}
+
+// All but the export is made again.
+fn assert_made_again(rt: &(impl Abort + AllocGlobal), graph: &CompositionGraph) {
+    let nodes = first_nodes(rt, graph, 9);
     assert!(rt; nodes.len() == 8);
     assert!(rt; nodes[3].as_str() == "alias my:socket as run");
     assert!(rt; nodes[7].as_str() == "alias my:socket");
 }
 
+// The same packages once more: the socket's name is taken, and all but its export is made.
+#[test]
+fn an_export_is_there_already(rt: HostRuntime) {
+    let mut graph = CompositionGraph::new(rt.alloc());
+    let first = answered(&rt, &mut graph, &ONE);
+    assert_answered(&rt, first.as_str());
+    let second = plugged_again(&rt, &mut graph);
+    assert_answered(&rt, second.as_str());
+    assert!(rt; second.as_str() == "an export with the name `run` already exists");
+    assert_made_again(&rt, &graph);
+}
+
+fn assert_text(rt: &(impl Abort + AllocGlobal), error: PlugError, want: &str) {
+    let text = format!(in rt.alloc(); "{error}").expect(rt, want);
+    assert!(rt; text.as_str() == want, "{want}");
+}
+
 #[test]
 fn refusals_have_texts(rt: HostRuntime) {
     let source = PlugFault::Export(ExportError::OutOfMemory);
-    let rows = [
-        (PlugError::NoPlugHappened, NONE),
-        (
-            PlugError::GraphError { source },
-            "an error occurred when building the composition graph",
-        ),
-        (PlugError::OutOfMemory, REFUSED),
-    ];
-    for (error, want) in &rows {
-        let text = format!(in rt.alloc(); "{error}").expect(&rt, "a text");
-        assert_eq!(rt; text.as_str(), *want);
-    }
+    let graph = PlugError::GraphError { source };
+    let want = "an error occurred when building the composition graph";
+    assert_text(&rt, PlugError::NoPlugHappened, NONE);
+    assert_text(&rt, graph, want);
+    assert_text(&rt, PlugError::OutOfMemory, REFUSED);
 }

@@ -2,6 +2,7 @@
 use std::env::{Env, FillError};
 use std::io;
 use std::io::Write;
+use std::process::Abort;
 use wac_graph::EncodeError;
 use wac_printing::args::asked_word;
 use wac_printing::compositions::cycle_refusal;
@@ -36,23 +37,33 @@ const WORDS: &[(&str, &str, u8)] = &[
     ("readme ", UNKNOWN, 2),
 ];
 
+fn assert_row(rt: &impl Abort, holds: bool, row: &str) {
+    assert!(rt; holds, "{row}");
+}
+
 #[test]
 fn a_word_is_answered_by_a_line(rt: HostRuntime) {
     for (word, want, status) in WORDS {
         let mut out = Vec::new(rt.alloc());
-        assert!(rt; run(rt.alloc(), word, &mut out) == *status, "{word}");
-        assert!(rt; out.as_slice() == want.as_bytes(), "{word}");
+        let answer = run(rt.alloc(), word, &mut out);
+        assert_row(&rt, answer == *status, word);
+        assert_row(&rt, out.as_slice() == want.as_bytes(), word);
     }
+}
+
+// The number of the node that a cycle is refused by, as a text.
+fn refused_by(rt: &(impl Abort + AllocGlobal), refusal: &EncodeError) -> String {
+    let EncodeError::GraphContainsCycle { node } = refusal else {
+        panic!(rt; "no cycle is named");
+    };
+    format!(in rt.alloc(); "{node}").expect(rt, "a text")
 }
 
 #[test]
 fn a_cycle_is_refused_by_its_node(rt: HostRuntime) {
     let refusal = cycle_refusal(rt.alloc()).expect(&rt, "a refusal");
-    let EncodeError::GraphContainsCycle { node } = refusal else {
-        panic!(rt; "no cycle is named");
-    };
-    let text = format!(in rt.alloc(); "{node}").expect(&rt, "a text");
-    assert_eq!(rt; text.as_str(), "0");
+    let node = refused_by(&rt, &refusal);
+    assert_row(&rt, node.as_str() == "0", "a cycle");
 }
 
 // A writer that takes so many bytes, and whose flush fails where it is said to.
@@ -149,6 +160,6 @@ const ARGUMENTS: &[(&[&[u8]], &str)] = &[
 fn the_arguments_ask_for_a_word(rt: HostRuntime) {
     for (given, want) in ARGUMENTS {
         let word = asked_word(&(Given(given), rt.alloc())).expect(&rt, "a word");
-        assert_eq!(rt; word.as_str(), *want);
+        assert_row(&rt, word.as_str() == *want, want);
     }
 }
