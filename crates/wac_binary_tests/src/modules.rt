@@ -199,7 +199,7 @@ fn importing(
     alloc: Global,
     held: &wac_collection::ModuleType,
 ) -> Result<ComponentBuilder, BinaryFault> {
-    let mut module_type = wac_binary::ModuleType::new(alloc);
+    let mut module_type = wac_builder::ModuleType::new(alloc);
     for ((source, name), _) in &held.imports {
         let f = module_type.func(&[], &[])?;
         module_type.import(source, name, EntityType::Function(f))?;
