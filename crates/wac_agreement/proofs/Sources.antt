@@ -10,7 +10,7 @@ use Rattle.wac_subtyping.specs.Called.{Called, by_binding}
 use Rattle.wac_collection.specs.Collection.{Collection, item_at, item_of, holds_type, interface_exports}
 use Rattle.wac_shapes.specs.Kinds.{kind_type}
 use Rattle.wac_collection.specs.Held as held
-use Rattle.wac_collection.specs.Held.{Names, unfolded}
+use Rattle.wac_collection.specs.Held.{unfolded}
 use Rattle.wac_shapes.specs.declared.component.Interface.{Interface}
 use Rattle.wac_shapes.specs.declared.component.InterfaceId.{InterfaceId}
 use Rattle.wac_shapes.specs.declared.component.DefinedTypeId.{DefinedTypeId}
@@ -29,13 +29,14 @@ use Rattle.wac_entries.specs.Classes.{Entry, by_names, class_names, is_instance,
 use Rattle.wac_coding.specs.Coding.{tree_in, defined_number, func_number, HasTree, IsGrown, IsRight}
 use Rattle.wac_agreement.specs.Compared.{AreCompared, IsItemOf}
 use Rattle.wac_coding.specs.ItemCoding.{AreItems, HasItem, listing_under}
-use Rattle.wac_coding.specs.Listings.{at_scope, AreListings, IsAround, IsAroundIn, OpensAt}
+use Rattle.wac_coding.specs.Listings.{at_scope, AreInnerListings, AreListings, AreOpen, IsAround, IsAroundIn}
 use Rattle.wac_entries.specs.NodeViews.{item_view}
 use Rattle.wac_entries.specs.Nodes.{Node, Item, a_type, a_func, an_instance, a_component, a_module, a_value, type_of, item_tree, tree_at}
-use Rattle.wac_entries.specs.Scopes.{called_in, called_in_root, listed_in, opened_by, scope_tree}
+use Rattle.wac_entries.specs.Scopes.{called_in, called_in_root, inside, listed_in, opened_by, scope_tree}
 use Rattle.wac_terms.proofs.Alike.{compared_alike}
 use Rattle.wac_coding.proofs.CodingGrowth.{longer}
 use Rattle.wac_terms.proofs.Found.{no_some, one_some}
+use Rattle.wac_entries.proofs.Inserting.{at-of, of-at}
 use Rattle.wac_entries.proofs.Lists.{push-cases, some-at}
 use Rattle.wac_terms.proofs.Found.{mapped_length}
 use Rattle.wac_entries.proofs.Opening.{below}
@@ -67,11 +68,16 @@ plain_kind c es class (kind.Value v) e = refl
 
 module _ (c : Collection) (s : Calls) (named : AreNamed c s) where
   -- the scopes that the item itself opens
-  pub opens : s.scope ≡ None → OpensAt s s.kind 0
-  opens none j o at =
-      let w = named.scopes.rooted j o at in
-      let behind : j ≡ 0 + j = omega arith in
-      (w.0, subst (λ (n : ℕ). slice_get s.scopes.now n ≡ Some w.0) behind w.1, w.2, w.3 ∙ sym none)
+  pub opens : s.scope ≡ None → AreOpen s (opened_by s.kind)
+  opens none o among =
+      let j = at-of (opened_by s.kind) o among in
+      let w = named.scopes.rooted j.0 o j.1 in
+      let here : w.0 ≡ inside s.scope o = (λ i. record { opener = w.2 i; parent = (w.3 ∙ sym none) i }) in
+      of-at s.scopes.now j.0 (inside s.scope o) (w.1 ∙ ap (λ x. Some x) here)
+
+  -- what each scope lists, each in the item itself
+  pub inner : (ns : List Node) (ls : List (Vec AnItem Global)) → AreListings ns c s 0 ls → AreInnerListings ns c s ls
+  inner ns ls are i t xs outer at there = are i t xs (omega arith) at there
 
   pub around : is_instance s.kind ≡ false → s.scope ≡ None → IsAround s
   around plain none = subst (λ (o : Option ℕ). IsAroundIn s.kind o) (sym none) plain

@@ -50,7 +50,7 @@ fn source_item(memo: &mut Memo, nodes: &mut Nodes, source: &Source) -> Result<It
         return Ok(Item::Instance(number));
     }
     memo.clear();
-    listed_item(memo, nodes, source, kind, 0, listings.as_slice())
+    listed_item(memo, nodes, source, kind, listings.as_slice())
 }
 
 /// What an entry of a class is compared as.

@@ -24,7 +24,6 @@ use Rattle.wac_collection.specs.Tree.{module_of}
 use Rattle.wac_collection.specs.Held.{core_item, core_imports, module_tree}
 use Rattle.wac_collection.specs.Held as held
 use Rattle.wac_shapes.specs.declared.core_types.CoreExtern.{CoreExtern}
-use Rattle.wac_shapes.specs.declared.core_types.CoreExtern.TheVariants as ext
 use Rattle.wac_shapes.specs.declared.core_types.ModuleType.{ModuleType}
 use Rattle.wac_entries.specs.declared.nodes.Core.{Core}
 use Rattle.wac_entries.specs.declared.nodes.Core.TheVariants as core

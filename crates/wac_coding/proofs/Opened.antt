@@ -1,6 +1,6 @@
 -- The scopes that an item opens: what resources are called in them, what they list, and the tree of the item's type from theirs.
 use Rattle.std.specs.Global.{Global}
-use Rattle.std.proofs.Common.{◌≡◌, ◌≢◌, ℕ, suc, ◌+◌, ◌<◌, ◌≤◌, true, false, List, [], ◌∷◌, map, length, Vec, Option, Some, None, slice_get, get_or, refl, sym, ap, ◌∙◌, subst, arith}
+use Rattle.std.proofs.Common.{◌≡◌, ◌≢◌, ℕ, suc, ◌+◌, ◌<◌, true, false, List, [], ◌∷◌, map, length, Vec, Option, Some, None, Contains, slice_get, get_or, refl, sym, ap, ◌∙◌, subst, arith}
 use Rattle.std.proofs.Math.Path.{fun_ext}
 use Rattle.std.proofs.lemmas.Option.{slice_get_read, slice_get_within}
 use Rattle.wac_shapes.specs.Name.{Name, option_case}
@@ -32,9 +32,10 @@ use Rattle.wac_entries.specs.Agreement.{called_in_class}
 use Rattle.wac_coding.specs.CallsView.{names_of, names_in, AreNamed}
 use Rattle.wac_coding.specs.Coding.{tree_in, source_tree}
 use Rattle.wac_coding.specs.ItemCoding.{AreItems, component_tree}
-use Rattle.wac_coding.specs.Listings.{at_scope, OpenAt, OpensAt, IsAroundIn, IsAround, AreListings}
+use Rattle.wac_coding.specs.Listings.{at_scope, AreOpen, IsAroundIn, IsAround, AreListings, AreInnerListings}
 use Rattle.wac_entries.specs.Nodes.{Node}
-use Rattle.wac_entries.specs.Scopes.{listed_in, binds, opened, opened_by, opened_by_type, called_in_root, scope_tree}
+use Rattle.wac_entries.specs.Scopes.{listed_in, binds, opened, opened_by, opened_by_type, inside, IsBelow, called_in_root, scope_tree}
+use Rattle.wac_entries.proofs.Inserting.{of-at}
 use Rattle.wac_entries.proofs.Opening.{opened-kind, there, lists}
 use Rattle.wac_entries.proofs.ScopeLaws.{around-same, called-at-root, called-inside}
 
@@ -92,13 +93,6 @@ module _ (c : Collection) (m : Names Called) (deep : IsDeepEnough (by_binding c)
 
 -- ---- what resources are called
 
--- a scope that is opened here, at its position
-pub record IsOpened (c : Collection) (s : Calls) (o : Opener) (i : ℕ) : Type 0 where
-  pub scope : Scope
-  pub at : slice_get s.scopes.now i ≡ Some scope
-  pub opener : scope.opener ≡ o
-  pub names : (r : ResourceId) → names_in c (at_scope s i) r ≡ or_around c (binds c o r) (names_in c s) r
-
 module _ (c : Collection) (s : Calls) (named : AreNamed c s) (around : IsAround s) where
   abbrev in_root : Opener → Names Called
   in_root = called_in_root by_names c s.entries.now named.name s.kind
@@ -127,47 +121,34 @@ module _ (c : Collection) (s : Calls) (named : AreNamed c s) (around : IsAround 
       ∙ (called-there s.scope around i t r at outer
       ∙ around-same c (binds c t.opener r) (names_of c s.entries.now named.name s.kind s.scopes.now s.scope) (names_in c s) r (sym (called-is s.scope r)))
 
-  opened-there : (k : ItemKind) (first j i : ℕ) (o : Opener) → OpensAt s k first → slice_get (opened_by k) j ≡ Some o → first + j ≡ i → IsOpened c s o i
-  opened-there k first j i o opens at e =
-      let w = opens j o at in
-      let here : slice_get s.scopes.now i ≡ Some w.0 = ap (slice_get s.scopes.now) (sym e) ∙ w.1 in
-      record {
-        scope = w.0;
-        at = here;
-        opener = w.2;
-        names = λ r. names-there i w.0 r here w.3 ∙ ap (λ (x : Opener). or_around c (binds c x r) (names_in c s) r) w.2;
-      }
+  -- in a scope of this one
+  pub inner-names : (o : Opener) (i : ℕ) → slice_get s.scopes.now i ≡ Some (inside s.scope o) → (r : ResourceId) → names_in c (at_scope s i) r ≡ or_around c (binds c o r) (names_in c s) r
+  inner-names o i at r = names-there i (inside s.scope o) r at refl
 
-  -- the scope of an interface, and the two of a world
-  pub interface-opened : (k : ItemKind) (first : ℕ) (id : InterfaceId) → OpensAt s k first → kind_type k ≡ ty.Interface id → IsOpened c s (opener.Interface id) first
-  interface-opened k first id opens is = opened-there k first 0 first (opener.Interface id) opens (ap (λ l. slice_get l 0) (opened-kind k ∙ ap opened_by_type is)) (omega arith)
+-- the scope of an interface, and the two of a world
+pub interface-listed : (k : ItemKind) (id : InterfaceId) → kind_type k ≡ ty.Interface id → Contains (opened_by k) (opener.Interface id)
+interface-listed k id is = of-at (opened_by k) 0 (opener.Interface id) (ap (λ l. slice_get l 0) (opened-kind k ∙ ap opened_by_type is))
 
-  pub imports-opened : (k : ItemKind) (first : ℕ) (id : WorldId) → OpensAt s k first → kind_type k ≡ ty.World id → IsOpened c s (opener.Imports id) first
-  imports-opened k first id opens is = opened-there k first 0 first (opener.Imports id) opens (ap (λ l. slice_get l 0) (opened-kind k ∙ ap opened_by_type is)) (omega arith)
+pub imports-listed : (k : ItemKind) (id : WorldId) → kind_type k ≡ ty.World id → Contains (opened_by k) (opener.Imports id)
+imports-listed k id is = of-at (opened_by k) 0 (opener.Imports id) (ap (λ l. slice_get l 0) (opened-kind k ∙ ap opened_by_type is))
 
-  pub exports-opened : (k : ItemKind) (first : ℕ) (id : WorldId) → OpensAt s k first → kind_type k ≡ ty.World id → IsOpened c s (opener.Exports id) (first + 1)
-  exports-opened k first id opens is = opened-there k first 1 (first + 1) (opener.Exports id) opens (ap (λ l. slice_get l 1) (opened-kind k ∙ ap opened_by_type is)) refl
+pub exports-listed : (k : ItemKind) (id : WorldId) → kind_type k ≡ ty.World id → Contains (opened_by k) (opener.Exports id)
+exports-listed k id is = of-at (opened_by k) 1 (opener.Exports id) (ap (λ l. slice_get l 1) (opened-kind k ∙ ap opened_by_type is))
 
 -- ---- what the scopes list
 
--- what the scope at a position lists
-pub listing-there : (ns : List Node) (c : Collection) (s : Calls) (from i : ℕ) (o : Opener) (ls : List (Vec Item Global)) (xs : Vec Item Global) → AreListings ns c s from ls → from ≤ i → IsOpened c s o i → slice_get ls i ≡ Some xs
-    → AreItems ns (tree_in c (names_in c (at_scope s i))) (listed_in c o) xs.items
-listing-there ns c s from i o ls xs listings le opened at =
-    subst (λ (x : Opener). AreItems ns (tree_in c (names_in c (at_scope s i))) (listed_in c x) xs.items) opened.opener (listings i opened.scope xs le opened.at at)
-
--- it is what is read at the position, in a source of that scope
-pub listing-read : (ns : List Node) (c : Collection) (s : Calls) (from i : ℕ) (o : Opener) (ls : List (Vec Item Global)) (xs : Vec Item Global) (ys : List Item) (source : Source) → AreListings ns c s from ls → from ≤ i → IsOpened c s o i
+-- what is read at the position of a scope is what it lists, in a source of that scope
+pub listing-read : (ns : List Node) (c : Collection) (s : Calls) (i : ℕ) (o : Opener) (ls : List (Vec Item Global)) (xs : Vec Item Global) (ys : List Item) (source : Source) → AreInnerListings ns c s ls → slice_get s.scopes.now i ≡ Some (inside s.scope o)
     → i < length ls → xs ≡ get_or ls i xs → ys ≡ xs.items → source.types.now ≡ c → source.calls.now ≡ at_scope s i → AreItems ns (source_tree source) (listed_in source.types.now o) ys
-listing-read ns c s from i o ls xs ys source listings le opened lt read value types calls =
+listing-read ns c s i o ls xs ys source listings there lt read value types calls =
     subst (λ (x : Calls). AreItems ns (tree_in source.types.now (names_in source.types.now x)) (listed_in source.types.now o) ys) (sym calls)
     (subst (λ (d : Collection). AreItems ns (tree_in d (names_in d (at_scope s i))) (listed_in d o) ys) (sym types)
     (subst (λ (l : List Item). AreItems ns (tree_in c (names_in c (at_scope s i))) (listed_in c o) l) (sym value)
-    (listing-there ns c s from i o ls xs listings le opened (slice_get_read ls (length ls) i xs refl lt read))))
+    (listings i (inside s.scope o) xs refl there (slice_get_read ls (length ls) i xs refl lt read))))
 
 -- the scope is one of those that are listed
-pub opened-within : (c : Collection) (s : Calls) (o : Opener) (i n : ℕ) → n ≡ length s.scopes.now → IsOpened c s o i → i < n
-opened-within c s o i n counted opened = let lt = slice_get_within s.scopes.now i opened.scope opened.at in omega (arith, lt, counted)
+pub listed-within : (s : Calls) (i n : ℕ) (t : Scope) → n ≡ length s.scopes.now → slice_get s.scopes.now i ≡ Some t → i < n
+listed-within s i n t counted at = let lt = slice_get_within s.scopes.now i t at in omega (arith, lt, counted)
 
 -- an item of such a type opens a scope
 pub interface-opens : (k : ItemKind) (id : InterfaceId) → kind_type k ≡ ty.Interface id → opened_by k ≢ []
@@ -186,7 +167,14 @@ listed-all c wf s i t d es named at same listed =
     subst (λ (x : Collection). holds_all x (kind_types es) ≡ true) (sym same)
     (subst (λ (x : List (Name × ItemKind)). holds_all c (kind_types x) ≡ true) listed (all_within c l.before (kind_types (listed_in c t.opener)) l.listed))
 
--- the scopes that it opens follow one another
-pub listed-opens : (c : Collection) (s : Calls) (i : ℕ) (t : Scope) (calls : Calls) (es : List (Name × ItemKind)) → AreNamed c s → slice_get s.scopes.now i ≡ Some t → calls ≡ at_scope s i → listed_in c t.opener ≡ es → OpenAt calls es t.first
+-- the scopes that it opens are there
+pub listed-opens : (c : Collection) (s : Calls) (i : ℕ) (t : Scope) (calls : Calls) (es : List (Name × ItemKind)) → AreNamed c s → slice_get s.scopes.now i ≡ Some t → calls ≡ at_scope s i → listed_in c t.opener ≡ es → AreOpen calls (opened es)
 listed-opens c s i t calls es named at same listed =
-    subst (λ (x : Calls). OpenAt x es t.first) (sym same) (λ j o there. named.scopes.nested i j t o at (ap (λ (l : List (Name × ItemKind)). slice_get (opened l) j) listed ∙ there))
+    subst (λ (x : Calls). AreOpen x (opened es)) (sym same) (λ o among. named.scopes.nested i t o at (subst (λ (l : List (Name × ItemKind)). Contains (opened l) o) (sym listed) among))
+
+-- what stands behind a scope stands also in it
+pub listed-behind : (ns : List Node) (c : Collection) (s : Calls) (i : ℕ) (d : Collection) (calls : Calls) (ls : List (Vec Item Global)) → AreNamed c s → d ≡ c → calls ≡ at_scope s i → AreListings ns c s (i + 1) ls → AreInnerListings ns d calls ls
+listed-behind ns c s i d calls ls named types same known =
+    subst (λ (x : Calls). AreInnerListings ns d x ls) (sym same) (subst (λ (x : Collection). AreInnerListings ns x (at_scope s i) ls) (sym types) inner) where
+      inner : AreInnerListings ns c (at_scope s i) ls
+      inner k t xs outer at there = let below : i < k = subst (IsBelow k) outer (named.scopes.around k t at) in known k t xs (omega (arith, below)) at there

@@ -1,8 +1,8 @@
 -- Items of a scope while they are listed: the scopes that each opens, and what is listed already.
 use Rattle.std.specs.Global.{Global}
-use Rattle.std.proofs.Common.{◌≡◌, ℕ, zero, suc, ◌+◌, ◌<◌, ◌≤◌, true, List, [], ◌∷◌, ◌++◌, take, length, Vec, Some, slice_get, ◌⊎◌, inl, inr, refl, sym, ap, ◌∙◌, subst, add-one, length-append, arith}
+use Rattle.std.proofs.Common.{◌≡◌, ℕ, zero, suc, ◌+◌, ◌<◌, true, List, [], ◌∷◌, ◌++◌, take, length, Vec, Some, Contains, slice_get, inl, inr, sym, ap, ◌∙◌, subst, add-one, arith}
 use Rattle.std.proofs.Math.ListN.{set}
-use Rattle.std.proofs.lemmas.Option.{slice_get_within}
+use Rattle.std.proofs.lemmas.List.Elements.{Contains-append_left, Contains-append_right}
 use Rattle.std.specs.List.{AllByRecursion}
 use Rattle.std.specs.Option.{option_map}
 use Rattle.wac_shapes.specs.Name.{Name}
@@ -21,14 +21,14 @@ use Rattle.wac_entries.specs.declared.scopes.Scope.{Scope}
 use Rattle.wac_coding.specs.CallsView.{names_in}
 use Rattle.wac_coding.specs.Coding.{tree_in, IsGrown}
 use Rattle.wac_coding.specs.ItemCoding.{HasItem, AreItems}
-use Rattle.wac_coding.specs.Listings.{at_scope, OpenAt, OpensAt, AreListings}
+use Rattle.wac_coding.specs.Listings.{at_scope, AreOpen, AreListings, AreInnerListings}
 use Rattle.wac_entries.specs.NodeViews.{item_view}
 use Rattle.wac_entries.specs.Nodes.{Node, type_of, item_tree, tree_at}
 use Rattle.wac_entries.specs.Nodes as table
 use Rattle.wac_entries.specs.Scopes.{listed_in, opened_by, opened}
 use Rattle.wac_coding.proofs.CodingGrowth.{longer}
-use Rattle.wac_entries.proofs.Lists.{some-at, set-cases, zip_all, zip_push}
-use Rattle.wac_entries.proofs.Opening.{get-left, get-right, entry-at}
+use Rattle.wac_entries.proofs.Lists.{set-cases, zip_all, zip_push}
+use Rattle.wac_entries.proofs.Opening.{entry-at}
 
 -- ---- what was listed stays as the table grows
 
@@ -47,8 +47,8 @@ module _ (t : AnyType → TypeTree Called) (old new : List Node) (g : IsGrown ol
   pub items-grown : (es : List (Name × ItemKind)) (xs : List Item) → AreItems old t es xs → AreItems new t es xs
   items-grown es xs h = zip_all (λ e x. HasItem old t e.1 (item_view x)) (λ e x. HasItem new t e.1 (item_view x)) (λ e x k. item-grown e.1 (item_view x) k) es xs h
 
-pub listings-grown : (old new : List Node) (c : Collection) (s : Calls) (from next : ℕ) (ls : List (Vec Item Global)) → IsGrown old new → from ≤ next → AreListings old c s from ls → AreListings new c s next ls
-listings-grown old new c s from next ls g le h = λ i t xs lt at there. items-grown (tree_in c (names_in c (at_scope s i))) old new g (listed_in c t.opener) xs.items (h i t xs (omega (arith, le, lt)) at there)
+pub listings-grown : (old new : List Node) (c : Collection) (s : Calls) (ls : List (Vec Item Global)) → IsGrown old new → AreInnerListings old c s ls → AreInnerListings new c s ls
+listings-grown old new c s ls g h = λ i t xs inner at there. items-grown (tree_in c (names_in c (at_scope s i))) old new g (listed_in c t.opener) xs.items (h i t xs inner at there)
 
 -- one more item
 pub items-more : (t : AnyType → TypeTree Called) (old new : List Node) (es : List (Name × ItemKind)) (i : ℕ) (k : ItemKind) (xs ys : List Item) (x : Item) → IsGrown old new → option_map (λ e. e.1) (slice_get es i) ≡ Some k
@@ -61,63 +61,19 @@ items-more t old new es i k xs ys x g at is were now =
 
 -- ---- the scopes that one of the items opens
 
--- how many scopes the items before a position open
-abbrev count_before : List (Name × ItemKind) → ℕ → ℕ
-count_before es i = length (opened (take i es))
-
-entry-opens : (es : List (Name × ItemKind)) (i j : ℕ) (e : Name × ItemKind) (o : Opener) → slice_get es i ≡ Some e → slice_get (opened_by e.1) j ≡ Some o → slice_get (opened es) (count_before es i + j) ≡ Some o
-entry-opens [] i j e o at there = cc
-entry-opens (x ∷ es) zero j e o at there =
+entry-opens : (es : List (Name × ItemKind)) (i : ℕ) (e : Name × ItemKind) (o : Opener) → slice_get es i ≡ Some e → Contains (opened_by e.1) o → Contains (opened es) o
+entry-opens [] i e o at there = cc
+entry-opens (x ∷ es) zero e o at there =
     let same : x ≡ e = cc in
-    let first : slice_get (opened_by x.1) j ≡ Some o = ap (λ (y : Name × ItemKind). slice_get (opened_by y.1) j) same ∙ there in
-    let none : 0 + j ≡ j = omega arith in
-    ap (slice_get (opened_by x.1 ++ opened es)) none ∙ get-left (opened_by x.1) (opened es) j o first
-entry-opens (x ∷ es) (suc i) j e o at there =
-    let sum = length-append (opened_by x.1) (opened (take i es)) in
-    get-right (opened_by x.1) (opened es) (count_before es i + j) (count_before (x ∷ es) (suc i) + j) (omega (arith, sum)) ∙ entry-opens es i j e o at there
+    Contains-append_left (opened_by x.1) (opened es) o (subst (λ (y : Name × ItemKind). Contains (opened_by y.1) o) (sym same) there)
+entry-opens (x ∷ es) (suc i) e o at there = Contains-append_right (opened_by x.1) (opened es) o (entry-opens es i e o at there)
 
-entry-counts : (es : List (Name × ItemKind)) (i : ℕ) (e : Name × ItemKind) → slice_get es i ≡ Some e → count_before es (suc i) ≡ count_before es i + length (opened_by e.1)
-entry-counts [] i e at = cc
-entry-counts (x ∷ es) zero e at =
-    let same : x ≡ e = cc in
-    let sum = length-append (opened_by x.1) [] in
-    let count = ap (λ (y : Name × ItemKind). length (opened_by y.1)) same in
-    omega (arith, sum, count)
-entry-counts (x ∷ es) (suc i) e at =
-    let rest = entry-counts es i e at in
-    let sum = length-append (opened_by x.1) (opened (take i es)) in
-    let next = length-append (opened_by x.1) (opened (take (suc i) es)) in
-    omega (arith, rest, sum, next)
-
--- they stand behind those that the items before it open
-pub opens-at : (s : Calls) (es : List (Name × ItemKind)) (i first next : ℕ) (k : ItemKind) → option_map (λ e. e.1) (slice_get es i) ≡ Some k → next ≡ first + length (opened (take i es)) → OpenAt s es first → OpensAt s k next
-opens-at s es i first next k at is all =
-    λ j o there.
+-- they are among those that all of the items open
+pub opens-at : (s : Calls) (es : List (Name × ItemKind)) (i : ℕ) (k : ItemKind) → option_map (λ e. e.1) (slice_get es i) ≡ Some k → AreOpen s (opened es) → AreOpen s (opened_by k)
+opens-at s es i k at all =
+    λ o there.
     let w = entry-at es i k at in
-    let mine : slice_get (opened_by w.0.1) j ≡ Some o = ap (λ (y : ItemKind). slice_get (opened_by y) j) w.2 ∙ there in
-    let u = all (count_before es i + j) o (entry-opens es i j w.0 o w.1 mine) in
-    let place : next + j ≡ first + (count_before es i + j) = omega (arith, is) in
-    (u.0, ap (slice_get s.scopes.now) place ∙ u.1, u.2, u.3)
-
-pub opens-next : (es : List (Name × ItemKind)) (i first next more : ℕ) (k : ItemKind) → option_map (λ e. e.1) (slice_get es i) ≡ Some k → next ≡ first + length (opened (take i es)) → more ≡ length (opened_by k)
-    → next + more ≡ first + length (opened (take (i + 1) es))
-opens-next es i first next more k at is count =
-    let w = entry-at es i k at in
-    let sum = entry-counts es i w.0 w.1 in
-    let same = ap (λ (y : ItemKind). length (opened_by y)) w.2 in
-    rw add-one (omega (arith, sum, same, is, count))
-
-ends-within : (s : Calls) (k : ItemKind) (next : ℕ) → OpensAt s k next → (n : ℕ) → length (opened_by k) ≡ n → (length (opened_by k) ≡ 0) ⊎ (next + length (opened_by k) ≤ length s.scopes.now)
-ends-within s k next opens zero e = inl e
-ends-within s k next opens (suc n) e =
-    let o = some-at (opened_by k) n (omega (arith, e)) in
-    let w = opens n o.0 o.1 in
-    let lt = slice_get_within s.scopes.now (next + n) w.0 w.1 in
-    inr (omega (arith, lt, e))
-
--- the scopes of an item end among all scopes, if it opens any
-pub opens-within : (s : Calls) (k : ItemKind) (next : ℕ) → OpensAt s k next → (length (opened_by k) ≡ 0) ⊎ (next + length (opened_by k) ≤ length s.scopes.now)
-opens-within s k next opens = ends-within s k next opens (length (opened_by k)) refl
+    all o (entry-opens es i w.0 o w.1 (subst (λ (y : ItemKind). Contains (opened_by y) o) (sym w.2) there))
 
 -- ---- what is held
 

@@ -1,7 +1,6 @@
 -- What the scopes of an entry list, as items of a table. Private functions alone cite this.
 use Rattle.std.specs.Global.{Global}
-use Rattle.std.specs.Prelude.{ℕ, ◌+◌, ◌≡◌, ◌≤◌, false, List, Option, Some, None, Vec, slice_get}
-use Rattle.wac_shapes.specs.Name.{Name}
+use Rattle.std.specs.Prelude.{ℕ, ◌≡◌, ◌≤◌, false, List, Option, Some, None, Vec, Contains, slice_get}
 use Rattle.wac_collection.specs.Collection.{Collection}
 use Rattle.wac_shapes.specs.declared.component.ItemKind.{ItemKind}
 use Rattle.wac_coding.specs.declared.calls.Calls.{Calls}
@@ -13,19 +12,15 @@ use Rattle.wac_coding.specs.CallsView.{names_in}
 use Rattle.wac_coding.specs.Coding.{tree_in}
 use Rattle.wac_coding.specs.ItemCoding.{AreItems}
 use Rattle.wac_entries.specs.Nodes.{Node}
-use Rattle.wac_entries.specs.Scopes.{listed_in, opened, opened_by}
+use Rattle.wac_entries.specs.Scopes.{listed_in, inside}
 
 -- in another scope of the same entry
 abbrev pub at_scope : Calls → ℕ → Calls
 at_scope s i = record { entries = s.entries; bindings = s.bindings; class = s.class; kind = s.kind; scopes = s.scopes; bound = s.bound; outward = s.outward; scope = Some i }
 
--- the scopes that an item opens where it is listed stand at a position and behind it
-abbrev pub OpensAt : Calls → ItemKind → ℕ → Type 0
-OpensAt s k first = (j : ℕ) (o : Opener) → slice_get (opened_by k) j ≡ Some o → (t : Scope) × (slice_get s.scopes.now (first + j) ≡ Some t) × (t.opener ≡ o) × (t.parent ≡ s.scope)
-
--- so do those that listed items open, one after another
-abbrev pub OpenAt : Calls → List (Name × ItemKind) → ℕ → Type 0
-OpenAt s es first = (j : ℕ) (o : Opener) → slice_get (opened es) j ≡ Some o → (t : Scope) × (slice_get s.scopes.now (first + j) ≡ Some t) × (t.opener ≡ o) × (t.parent ≡ s.scope)
+-- these stand as scopes in this one
+abbrev pub AreOpen : Calls → List Opener → Type 0
+AreOpen s os = (o : Opener) → Contains os o → Contains s.scopes.now (inside s.scope o)
 
 -- resources are called by what is around where they are listed, but in the outermost scope of an instance, which has its own rule
 abbrev pub IsAroundIn : ItemKind → Option ℕ → Type 0
@@ -38,4 +33,9 @@ IsAround s = IsAroundIn s.kind s.scope
 -- what is listed in each scope from a position on
 abbrev pub AreListings : List Node → Collection → Calls → ℕ → List (Vec Item Global) → Type 0
 AreListings ns c s from ls = (i : ℕ) (t : Scope) (xs : Vec Item Global) → from ≤ i → slice_get s.scopes.now i ≡ Some t → slice_get ls i ≡ Some xs
+    → AreItems ns (tree_in c (names_in c (at_scope s i))) (listed_in c t.opener) xs.items
+
+-- what is listed in each scope in this one
+abbrev pub AreInnerListings : List Node → Collection → Calls → List (Vec Item Global) → Type 0
+AreInnerListings ns c s ls = (i : ℕ) (t : Scope) (xs : Vec Item Global) → t.parent ≡ s.scope → slice_get s.scopes.now i ≡ Some t → slice_get ls i ≡ Some xs
     → AreItems ns (tree_in c (names_in c (at_scope s i))) (listed_in c t.opener) xs.items

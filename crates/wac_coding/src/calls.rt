@@ -1,8 +1,9 @@
 //! What the resources of a scope are called.
-ghost use Rattle.std.specs.Prelude.{◌≡◌, Some, IfOk};
+ghost use Rattle.std.specs.Prelude.{◌≡◌, Some, Contains, IfOk, slice_get};
 ghost use Rattle.wac_collection.specs.Collection.{HasResource};
 ghost use Rattle.wac_collection.specs.Held.{resolved};
 ghost use Rattle.wac_entries.specs.CalledViews.{called_view};
+ghost use Rattle.wac_entries.specs.Scopes.{inside};
 ghost use Rattle.wac_coding.specs.CallsView.{names_in, AreNamed};
 ghost use Rattle.wac_coding.specs.Listings.{at_scope};
 
@@ -14,7 +15,7 @@ use wac_entries::called::Called;
 use wac_entries::entry::Entry;
 use wac_entries::naming::{called, called_outside};
 use wac_entries::outward::Outward;
-use wac_entries::scopes::Scopes;
+use wac_entries::scopes::{Opener, Scope, Scopes};
 
 /// What resources are called in a scope of an entry of a class.
 #[derive(Clone, Copy)]
@@ -74,5 +75,16 @@ impl<'a> Calls<'a> {
             scope: Some(scope),
             ..*self
         }
+    }
+
+    /// The position of a scope in this one.
+    pub fn position(&self, opener: Opener) -> usize
+        requires { Contains self.now.scopes.now (inside self.now.scope opener) }
+        ensures { slice_get self.now.scopes.now result ≡ Some (inside self.now.scope opener) }
+    {
+        self.scopes.position(Scope {
+            opener,
+            parent: self.scope,
+        })
     }
 }

@@ -10,8 +10,8 @@ ghost use Rattle.wac_entries.specs.NodeViews.{item_view};
 ghost use Rattle.wac_coding.specs.CallsView.{AreNamed, names_in};
 ghost use Rattle.wac_coding.specs.Coding.{source_tree, tree_in, HasTree, IsGrown, IsRight};
 ghost use Rattle.wac_coding.specs.ItemCoding.{AreItems, HasItem};
-ghost use Rattle.wac_coding.specs.Listings.{at_scope, OpenAt, OpensAt, IsAround, AreListings};
-ghost use Rattle.wac_entries.specs.Scopes.{listed_in, opened_by};
+ghost use Rattle.wac_coding.specs.Listings.{at_scope, AreOpen, IsAround, AreListings, AreInnerListings};
+ghost use Rattle.wac_entries.specs.Scopes.{listed_in, opened, opened_by};
 ghost use Rattle.wac_entries.specs.declared.scopes.Scope.{Scope as AScope};
 
 use crate::coder::Source;
@@ -34,40 +34,44 @@ fn opened_item(kind: ItemKind, number: usize) -> Item
     }
 }
 
-/// What an item is listed as where the scopes that it opens begin at a position.
+/// What an item of a scope is listed as, where it is known what the scopes in it list.
 pub fn listed_item(
     memo: &mut Memo,
     nodes: &mut Nodes,
     source: &Source,
     kind: ItemKind,
-    first: usize,
     listings: &[Vec<Item>],
 ) -> Result<Item, AllocError>
     requires held { holds_type source.now.types.now (kind_type kind) ≡ true }
     requires named { AreNamed source.now.types.now source.now.calls.now }
     requires right { IsRight (source_tree source.now) memo.old nodes.old }
     requires around { IsAround source.now.calls.now }
-    requires opened { OpensAt source.now.calls.now kind first }
+    requires opened { AreOpen source.now.calls.now (opened_by kind) }
     requires counted { length listings.now ≡ length source.now.calls.now.scopes.now }
-    requires listings { AreListings nodes.old source.now.types.now source.now.calls.now first listings.now }
+    requires listings { AreInnerListings nodes.old source.now.types.now source.now.calls.now listings.now }
     ensures grown { IsGrown nodes.old nodes.new }
     ensures right { OnOk result (IsRight (source_tree source.now) memo.new nodes.new) }
     ensures item { IfOk result (λ x. HasItem nodes.new (source_tree source.now) kind (item_view x)) }
 {
     trees_are_whole(source.types);
-    let calls = source.calls.at(first);
-    let inside = source.with(&calls);
     match kind.ty() {
         Type::Interface(id) => {
-            let items = listings[first].as_slice();
+            let position = source.calls.position(Opener::Interface(id));
+            let calls = source.calls.at(position);
+            let inside = source.with(&calls);
+            let items = listings[position].as_slice();
             let number = scope_instance(nodes, &inside, Opener::Interface(id), items)?;
             Ok(opened_item(kind, number))
         }
         Type::World(id) => {
-            let calls = source.calls.at(first + 1);
+            let imports = source.calls.position(Opener::Imports(id));
+            let calls = source.calls.at(imports);
+            let inside = source.with(&calls);
+            let exports = source.calls.position(Opener::Exports(id));
+            let calls = source.calls.at(exports);
             let outside = source.with(&calls);
-            let imported = listings[first].as_slice();
-            let exported = listings[first + 1].as_slice();
+            let imported = listings[imports].as_slice();
+            let exported = listings[exports].as_slice();
             let number = component(nodes, id, &inside, imported, &outside, exported)?;
             Ok(opened_item(kind, number))
         }
@@ -75,42 +79,28 @@ pub fn listed_item(
     }
 }
 
-/// How many scopes an item opens.
-fn opens(kind: ItemKind) -> usize
-    ensures { result ≡ length (opened_by kind) }
-{
-    match kind.ty() {
-        Type::Interface(_) => 1,
-        Type::World(_) => 2,
-        _ => 0,
-    }
-}
-
-/// What items of a scope are listed as, where the scopes that they open begin at a position.
+/// What items of a scope are listed as, where it is known what the scopes in it list.
 fn listed_items(
     memo: &mut Memo,
     nodes: &mut Nodes,
     source: &Source,
     kinds: &Named<ItemKind>,
-    first: usize,
     listings: &[Vec<Item>],
 ) -> Result<Vec<Item>, AllocError>
     requires held { holds_all source.now.types.now (kind_types kinds.now) ≡ true }
     requires named { AreNamed source.now.types.now source.now.calls.now }
     requires around { IsAround source.now.calls.now }
-    requires opened { OpenAt source.now.calls.now kinds.now first }
+    requires opened { AreOpen source.now.calls.now (opened kinds.now) }
     requires counted { length listings.now ≡ length source.now.calls.now.scopes.now }
-    requires listings { AreListings nodes.old source.now.types.now source.now.calls.now first listings.now }
+    requires listings { AreInnerListings nodes.old source.now.types.now source.now.calls.now listings.now }
     ensures grown { IsGrown nodes.old nodes.new }
     ensures items { IfOk result (λ xs. AreItems nodes.new (source_tree source.now) kinds.now xs.items) }
 {
     memo.clear();
     let mut items = Vec::with_capacity(source.alloc, kinds.len())?;
-    let mut next = first;
     for i in 0..kinds.len() {
         let kind = *kinds.value_at(i);
-        items.push(listed_item(memo, nodes, source, kind, next, listings)?)?;
-        next += opens(kind);
+        items.push(listed_item(memo, nodes, source, kind, listings)?)?;
     }
     Ok(items)
 }
@@ -133,39 +123,13 @@ fn listing_at(
     source.types.law();
     let calls = source.calls.at(position);
     let inside = source.with(&calls);
-    let scope = calls.scopes.scope(position);
     let types = source.types;
-    match scope.opener {
+    match calls.scopes.scope(position).opener {
         Opener::Interface(id) => {
-            listed_items(
-                memo,
-                nodes,
-                &inside,
-                &types[id].exports,
-                scope.first,
-                listings,
-            )
+            listed_items(memo, nodes, &inside, &types[id].exports, listings)
         }
-        Opener::Imports(id) => {
-            listed_items(
-                memo,
-                nodes,
-                &inside,
-                &types[id].imports,
-                scope.first,
-                listings,
-            )
-        }
-        Opener::Exports(id) => {
-            listed_items(
-                memo,
-                nodes,
-                &inside,
-                &types[id].exports,
-                scope.first,
-                listings,
-            )
-        }
+        Opener::Imports(id) => listed_items(memo, nodes, &inside, &types[id].imports, listings),
+        Opener::Exports(id) => listed_items(memo, nodes, &inside, &types[id].exports, listings),
     }
 }
 

@@ -44,18 +44,18 @@ impl<'a> TypeEncoder<'a> {
         scope: &mut Scope,
         name: &str,
         inside: InterfaceId,
-        declarations: &InstanceType,
+        declarations: InstanceType,
     ) -> Result<(), EncodeFault>
         requires held { HasInterface self.now.types.now inside }
         requires open { IsOpenType scope.old.content }
         requires unwritten { type_index scope.old (ty.Interface inside) ≡ None }
-        requires says { SaysInterface self.now.types.now scope.old inside declarations.now }
-        ensures put { OnOk result (PutsInstance self.now.types.now scope.old scope.new name.now inside declarations.now) }
-        ensures fault { InstanceNotPut self.now.types.now scope.old name.now inside declarations.now result }
+        requires says { SaysInterface self.now.types.now scope.old inside declarations }
+        ensures put { OnOk result (PutsInstance self.now.types.now scope.old scope.new name.now inside declarations) }
+        ensures fault { InstanceNotPut self.now.types.now scope.old name.now inside declarations result }
     {
         step_law();
         still_law();
-        let index = scope.define_instance(inside, declarations)?;
+        let index = scope.take_instance(inside, declarations)?;
         scope.export_instance(name, index)?;
         Ok(())
     }
@@ -104,7 +104,7 @@ impl<'a> TypeEncoder<'a> {
                     };
                     level = outer;
                     let (name, _) = entry_of(level.order.as_slice(), level.next);
-                    self.put_instance(&mut level.scope, name, inside, &declarations)?;
+                    self.put_instance(&mut level.scope, name, inside, declarations)?;
                     level.next += 1;
                 }
             }

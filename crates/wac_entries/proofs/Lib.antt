@@ -10,6 +10,8 @@ pub mod Telling
 pub mod CalledKeys
 pub mod NodeKeys
 pub mod NodeAdding
+pub mod Inserting
+pub mod ScopeKeys
 pub mod Opening
 pub mod ScopeLaws
 pub mod Walking

@@ -1,5 +1,5 @@
 -- What resources are called in a scope, from what they are called in the one around it.
-use Rattle.std.proofs.Common.{◌≡◌, ℕ, zero, suc, ◌+◌, ◌<◌, List, Option, Some, None, slice_get, refl, ap, ◌∙◌, subst, arith}
+use Rattle.std.proofs.Common.{◌≡◌, ℕ, zero, suc, ◌<◌, List, Option, Some, None, slice_get, refl, ap, ◌∙◌, subst, arith}
 use Rattle.wac_shapes.specs.Name.{option_case, first_some}
 use Rattle.wac_collection.specs.Tree.{Leaf}
 use Rattle.wac_collection.specs.Collection.{Collection}
@@ -8,7 +8,7 @@ use Rattle.wac_subtyping.specs.Called.{Called, called_at, one_out, or_around}
 use Rattle.wac_shapes.specs.declared.component.ResourceId.{ResourceId}
 use Rattle.wac_entries.specs.declared.scopes.Opener.{Opener}
 use Rattle.wac_entries.specs.declared.scopes.Scope.{Scope}
-use Rattle.wac_entries.specs.Scopes.{listed_in, binds, opened, IsBelow, AreScopes, called_to, called_in}
+use Rattle.wac_entries.specs.Scopes.{binds, IsBelow, AreScopes, called_to, called_in}
 
 -- what is called there asks of what is around it only about the resource
 pub around-same : (c : Collection) (here : Option Leaf) (m n : Names Called) (r : ResourceId) → m r ≡ n r → or_around c here m r ≡ or_around c here n r
@@ -53,10 +53,3 @@ module _ (c : Collection) (roots : List Opener) (ss : List Scope) (are : AreScop
   called-rooted j o r at =
       let w = are.rooted j o at in
       called-at-root j w.0 r w.1 w.3 ∙ ap (λ x. root x r) w.2
-
-  -- in the scopes that the listed items of a scope open
-  pub called-nested : (i j : ℕ) (s : Scope) (o : Opener) (r : ResourceId) → slice_get ss i ≡ Some s → slice_get (opened (listed_in c s.opener)) j ≡ Some o
-      → called_in c root ss (s.first + j) r ≡ or_around c (binds c o r) (called_in c root ss i) r
-  called-nested i j s o r at listed =
-      let w = are.nested i j s o at listed in
-      called-inside (s.first + j) i w.0 r w.1 w.3 ∙ ap (λ x. or_around c (binds c x r) (called_in c root ss i) r) w.2

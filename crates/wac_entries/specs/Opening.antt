@@ -1,22 +1,20 @@
 -- Scopes while they are found. Private functions alone cite this.
-use Rattle.std.specs.Prelude.{ℕ, zero, suc, ◌+◌, ◌≡◌, ◌<◌, true, List, [], ◌∷◌, ◌++◌, length, map, Option, Some, None, slice_get, slice_set}
+use Rattle.std.specs.Prelude.{ℕ, zero, suc, ◌+◌, ◌≡◌, ◌<◌, true, List, [], ◌∷◌, map, Option, Some, None, Contains, slice_get}
+use Rattle.indexmap.specs.IndexSet.{insert_all}
 use Rattle.wac_collection.specs.Collection.{Collection, holds_type}
 use Rattle.wac_subtyping.specs.Ranks.{type_rank}
+use Rattle.wac_entries.specs.contracts.scopes.ScopePartialEq.TheImpl as ScopeEq
 use Rattle.wac_entries.specs.declared.scopes.Opener.{Opener}
 use Rattle.wac_entries.specs.declared.scopes.Scope.{Scope}
-use Rattle.wac_entries.specs.Scopes.{opener_type, listed_in, opened, IsBelow, ComesFrom}
+use Rattle.wac_entries.specs.Scopes.{opener_type, listed_in, opened, IsBelow, ComesFrom, inside}
 
--- a scope in another that is not yet opened
-abbrev pub inside : Option ℕ → Opener → Scope
-inside parent o = record { opener = o; parent = parent; first = 0 }
-
--- the scopes after what the one at a position lists was put behind them
-abbrev pub with_opened : Collection → List Scope → ℕ → Scope → List Scope
-with_opened c ss n s = slice_set ss n (record { opener = s.opener; parent = s.parent; first = length ss }) ++ map (inside (Some n)) (opened (listed_in c s.opener))
+-- the scopes after these were put behind them, but those that are there
+abbrev pub with_opened : List Scope → Option ℕ → List Opener → List Scope
+with_opened ss parent os = insert_all (ScopeEq.ghosts).eq ss (map (inside parent) os)
 
 -- what the scope at a position lists was put behind the others
 abbrev pub Opens : Collection → List Scope → ℕ → List Scope → Type 0
-Opens c ss n more = (s : Scope) → slice_get ss n ≡ Some s → more ≡ with_opened c ss n s
+Opens c ss n more = (s : Scope) → slice_get ss n ≡ Some s → more ≡ with_opened ss (Some n) (opened (listed_in c s.opener))
 
 -- the scope at a position is of a type that is held
 abbrev pub IsHeldAt : Collection → List Scope → ℕ → Type 0
@@ -25,14 +23,10 @@ IsHeldAt c ss n = (s : Scope) → slice_get ss n ≡ Some s → holds_type c (op
 -- the scopes of an item of which the first n are opened
 pub record AreOpened (c : Collection) (roots : List Opener) (n : ℕ) (ss : List Scope) : Type 0 where
   pub rooted : (j : ℕ) (o : Opener) → slice_get roots j ≡ Some o → (s : Scope) × (slice_get ss j ≡ Some s) × (s.opener ≡ o) × (s.parent ≡ None)
-  pub nested : (i j : ℕ) (s : Scope) (o : Opener) → i < n → slice_get ss i ≡ Some s → slice_get (opened (listed_in c s.opener)) j ≡ Some o
-      → (t : Scope) × (slice_get ss (s.first + j) ≡ Some t) × (t.opener ≡ o) × (t.parent ≡ Some i)
-  pub later : (i : ℕ) (s : Scope) → i < n → slice_get ss i ≡ Some s → i < s.first
+  pub nested : (i : ℕ) (s : Scope) (o : Opener) → i < n → slice_get ss i ≡ Some s → Contains (opened (listed_in c s.opener)) o → Contains ss (inside (Some i) o)
   pub around : (i : ℕ) (s : Scope) → slice_get ss i ≡ Some s → IsBelow i s.parent
   pub held : (i : ℕ) → IsHeldAt c ss i
   pub known : (i : ℕ) (s : Scope) → slice_get ss i ≡ Some s → ComesFrom c roots ss i s.opener s.parent
-  -- only opened scopes have others in them
-  pub parents : (i : ℕ) (s : Scope) → slice_get ss i ≡ Some s → IsBelow n s.parent
 
 -- a sum over scopes' openers
 abbrev pub total : (Opener → ℕ) → List Opener → ℕ

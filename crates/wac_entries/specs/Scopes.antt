@@ -1,5 +1,5 @@
 -- The scopes of an item, and what resources are called in each. Private functions alone cite this.
-use Rattle.std.specs.Prelude.{ℕ, zero, suc, ◌+◌, ◌≡◌, ◌<◌, true, false, List, [], ◌∷◌, ◌++◌, map, Option, Some, None, slice_get}
+use Rattle.std.specs.Prelude.{ℕ, zero, suc, ◌≡◌, ◌<◌, true, false, List, [], ◌∷◌, ◌++◌, map, Option, Some, None, Contains, slice_get}
 use Rattle.wac_shapes.specs.Name.{Name, option_case}
 use Rattle.wac_collection.specs.Tree.{Leaf, TypeTree, instance}
 use Rattle.wac_collection.specs.Collection.{Collection, item_at, holds_type, interface_exports, world_imports, world_exports}
@@ -58,14 +58,17 @@ IsBelow i (Some p) = p < i
 -- where a scope comes from: the item itself at its own place, or what the scope around it lists
 abbrev pub ComesFrom : Collection → List Opener → List Scope → ℕ → Opener → Option ℕ → Type 0
 ComesFrom c roots ss i o None = slice_get roots i ≡ Some o
-ComesFrom c roots ss i o (Some p) = (t : Scope) × (j : ℕ) × (slice_get ss p ≡ Some t) × (slice_get (opened (listed_in c t.opener)) j ≡ Some o) × (i ≡ t.first + j)
+ComesFrom c roots ss i o (Some p) = (t : Scope) × (slice_get ss p ≡ Some t) × Contains (opened (listed_in c t.opener)) o
 
--- The scopes of an item, and no others: first those that it opens itself, and for each scope those that its listed items open, in order, one after another from `first` on.
+-- a scope in another, or in none
+abbrev pub inside : Option ℕ → Opener → Scope
+inside parent o = record { opener = o; parent = parent }
+
+-- The scopes of an item, each once, and no others: first those that it opens itself, and for each scope those that its listed items open.
 pub record AreScopes (c : Collection) (roots : List Opener) (ss : List Scope) : Type 0 where
   pub rooted : (j : ℕ) (o : Opener) → slice_get roots j ≡ Some o → (s : Scope) × (slice_get ss j ≡ Some s) × (s.opener ≡ o) × (s.parent ≡ None)
-  pub nested : (i j : ℕ) (s : Scope) (o : Opener) → slice_get ss i ≡ Some s → slice_get (opened (listed_in c s.opener)) j ≡ Some o
-      → (t : Scope) × (slice_get ss (s.first + j) ≡ Some t) × (t.opener ≡ o) × (t.parent ≡ Some i)
-  pub later : (i : ℕ) (s : Scope) → slice_get ss i ≡ Some s → i < s.first
+  pub nested : (i : ℕ) (s : Scope) (o : Opener) → slice_get ss i ≡ Some s → Contains (opened (listed_in c s.opener)) o → Contains ss (inside (Some i) o)
+  pub once : (i j : ℕ) (s : Scope) → slice_get ss i ≡ Some s → slice_get ss j ≡ Some s → i ≡ j
   pub around : (i : ℕ) (s : Scope) → slice_get ss i ≡ Some s → IsBelow i s.parent
   pub held : (i : ℕ) (s : Scope) → slice_get ss i ≡ Some s → holds_type c (opener_type s.opener) ≡ true
   pub known : (i : ℕ) (s : Scope) → slice_get ss i ≡ Some s → ComesFrom c roots ss i s.opener s.parent

@@ -1,16 +1,17 @@
 //! The scopes of an item: instance types, and the two sides of component types.
-ghost use Rattle.std.specs.Prelude.{◌≡◌, ◌∷◌, [], ◌++◌, ◌<◌, length, map, true, Some, IfOk, OnOk, slice_get};
+ghost use Rattle.std.specs.Prelude.{◌≡◌, ◌∷◌, [], ◌<◌, length, true, Some, Contains, IfOk, OnOk, slice_get};
 ghost use Rattle.wac_collection.specs.Collection.{holds_type};
 ghost use Rattle.wac_shapes.specs.Kinds.{kind_type};
 ghost use Rattle.wac_entries.specs.Scopes.{AreScopes, opened, opened_by};
-ghost use Rattle.wac_entries.specs.Opening.{IsHeldAt, Opens, inside};
+ghost use Rattle.wac_entries.specs.Opening.{IsHeldAt, Opens, with_opened};
 
+use indexmap::IndexSet;
 use std::alloc::{AllocError, Global};
 use std::marker::Model;
 use wac_collection::{InterfaceId, ItemKind, Named, Type, Types, WorldId};
 
 /// What a scope is of.
-#[derive(Clone, Copy, PartialEq, Eq)]
+#[derive(Clone, Copy, PartialEq, Eq, Hash)]
 pub enum Opener {
     /// An interface, as an instance type.
     Interface(InterfaceId),
@@ -21,35 +22,33 @@ pub enum Opener {
 }
 
 /// A scope of an item.
-#[derive(Clone, Copy)]
+#[derive(Clone, Copy, PartialEq, Eq, Hash)]
 pub struct Scope {
     /// What it is of.
     pub opener: Opener,
     /// The position of the scope around it.
     pub parent: Option<usize>,
-    /// The position of the first scope in it. The others follow.
-    pub first: usize,
 }
 
-/// Puts a scope behind the others.
-fn push(scopes: &mut Vec<Scope>, opener: Opener, parent: Option<usize>) -> Result<(), AllocError>
-    ensures { OnOk result (scopes.new.items ≡ scopes.old.items ++ inside parent opener ∷ []) }
+/// Puts a scope behind the others, unless it is one of them.
+fn push(
+    scopes: &mut IndexSet<Scope>,
+    opener: Opener,
+    parent: Option<usize>,
+) -> Result<(), AllocError>
+    ensures { OnOk result (scopes.new.keys ≡ with_opened scopes.old.keys parent (opener ∷ [])) }
 {
-    scopes.push(Scope {
-        opener,
-        parent,
-        first: 0,
-    })?;
+    scopes.insert(Scope { opener, parent })?;
     Ok(())
 }
 
-/// Puts the scopes that an item opens behind the others.
+/// Puts the scopes that an item opens behind the others, but those that are there.
 fn push_item(
-    scopes: &mut Vec<Scope>,
+    scopes: &mut IndexSet<Scope>,
     kind: ItemKind,
     parent: Option<usize>,
 ) -> Result<(), AllocError>
-    ensures { OnOk result (scopes.new.items ≡ scopes.old.items ++ map (inside parent) (opened_by kind)) }
+    ensures { OnOk result (scopes.new.keys ≡ with_opened scopes.old.keys parent (opened_by kind)) }
 {
     match kind.ty() {
         Type::Interface(id) => push(scopes, Opener::Interface(id), parent),
@@ -61,13 +60,13 @@ fn push_item(
     }
 }
 
-/// Puts the scopes that listed items open behind the others.
+/// Puts the scopes that listed items open behind the others, but those that are there.
 fn push_listed(
-    scopes: &mut Vec<Scope>,
+    scopes: &mut IndexSet<Scope>,
     listed: &Named<ItemKind>,
     parent: usize,
 ) -> Result<(), AllocError>
-    ensures { OnOk result (scopes.new.items ≡ scopes.old.items ++ map (inside (Some parent)) (opened listed.now)) }
+    ensures { OnOk result (scopes.new.keys ≡ with_opened scopes.old.keys (Some parent) (opened listed.now)) }
 {
     for index in 0..listed.len() {
         push_item(scopes, *listed.value_at(index), Some(parent))?;
@@ -76,25 +75,22 @@ fn push_listed(
 }
 
 /// Puts the scopes in the one at a position behind the others.
-fn open(scopes: &mut Vec<Scope>, types: &Types, position: usize) -> Result<(), AllocError>
-    requires within { position < length scopes.old.items }
-    requires held { IsHeldAt types.now scopes.old.items position }
-    ensures { OnOk result (Opens types.now scopes.old.items position scopes.new.items) }
+fn open(scopes: &mut IndexSet<Scope>, types: &Types, position: usize) -> Result<(), AllocError>
+    requires within { position < length scopes.old.keys }
+    requires held { IsHeldAt types.now scopes.old.keys position }
+    ensures { OnOk result (Opens types.now scopes.old.keys position scopes.new.keys) }
 {
-    let scope = scopes[position];
-    let first = scopes.len();
-    scopes[position] = Scope { first, ..scope };
-    match scope.opener {
+    match scopes[position].opener {
         Opener::Interface(id) => push_listed(scopes, &types[id].exports, position),
         Opener::Imports(id) => push_listed(scopes, &types[id].imports, position),
         Opener::Exports(id) => push_listed(scopes, &types[id].exports, position),
     }
 }
 
-/// The scopes of an item.
+/// The scopes of an item, one for what is listed in one scope however often.
 #[derive(Drop)]
 pub struct Scopes {
-    scopes: Vec<Scope>,
+    scopes: IndexSet<Scope>,
 }
 
 impl Model for Scopes {
@@ -103,7 +99,7 @@ impl Model for Scopes {
 
     ghost Value = { List declared.Scope };
 
-    ghost view = { λ s. s.scopes.items };
+    ghost view = { λ s. s.scopes.keys };
 }
 
 impl Scopes {
@@ -113,7 +109,7 @@ impl Scopes {
         ensures { IfOk result (λ ss. AreScopes types.now (opened_by kind) ss) }
     {
         types.law();
-        let mut scopes = Vec::new(alloc);
+        let mut scopes = IndexSet::new(alloc);
         push_item(&mut scopes, kind, None)?;
         let mut position = 0;
         while position < scopes.len() {
@@ -136,5 +132,13 @@ impl Scopes {
         ensures { slice_get self.now position ≡ Some result }
     {
         self.scopes[position]
+    }
+
+    /// The position of a scope.
+    pub fn position(&self, scope: Scope) -> usize
+        requires { Contains self.now scope }
+        ensures { slice_get self.now result ≡ Some scope }
+    {
+        self.scopes.get_index_of(&scope).unwrap()
     }
 }

@@ -6,3 +6,4 @@ pub mod Placing
 pub mod Reached
 pub mod Flagged
 pub mod Making
+pub mod Owning

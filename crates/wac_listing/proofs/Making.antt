@@ -474,7 +474,7 @@ is-definition (ty.Interface p) d h = let no_some : None ≡ Some d = h in cc
 is-definition (ty.World p) d h = let no_some : None ≡ Some d = h in cc
 is-definition (ty.Module p) d h = let no_some : None ≡ Some d = h in cc
 
-definition-at : (ts : List AnyType) (d : DefinedTypeId) → IsIn (ty.Value (val.Defined d)) ts → (k : ℕ) × (slice_get (definitions_in ts) k ≡ Some d)
+pub definition-at : (ts : List AnyType) (d : DefinedTypeId) → IsIn (ty.Value (val.Defined d)) ts → (k : ℕ) × (slice_get (definitions_in ts) k ≡ Some d)
 definition-at [] d h = absurd h
 definition-at (t ∷ ts) d (inl e) = subst (λ (u : AnyType). (k : ℕ) × (slice_get (option_case (definition_in u) (definitions_in ts) (λ x. x ∷ definitions_in ts)) k ≡ Some d)) e (0, refl)
 definition-at (t ∷ ts) d (inr h) = behind (definition_in t) (definition-at ts d h)

@@ -1,5 +1,6 @@
 -- What value types are made of.
-use Rattle.std.specs.Prelude.{ℕ, ◌≡◌, ◌↔◌, List, [], ◌∷◌, map, Option, Some, slice_get}
+use Rattle.std.specs.Prelude.{ℕ, ◌≡◌, ◌↔◌, Bool, true, false, List, [], ◌∷◌, map, Option, Some, slice_get}
+use Rattle.std.specs.List.{filter}
 use Rattle.wac_shapes.specs.Name.{Name, option_case}
 use Rattle.wac_shapes.specs.declared.component.DefinedType.{DefinedType}
 use Rattle.wac_shapes.specs.declared.component.DefinedType.TheVariants as def
@@ -45,6 +46,14 @@ pub data MadeOf (c : Collection) (v : ValueType) : ValueType → Type 0 where
 -- what one of these value types is made of, aliases followed to the ends
 abbrev pub OneIsMadeOf : Collection → List ValueType → ValueType → Type 0
 OneIsMadeOf c vs w = (k : ℕ) × (v : ValueType) × (slice_get vs k ≡ Some v) × MadeOf c (value_resolved c v) w
+
+-- the items that are no instances
+abbrev pub is_own : ItemKind → Bool
+is_own (kind.Instance i) = false
+is_own k = true
+
+abbrev pub own_items : List (Name × ItemKind) → List (Name × ItemKind)
+own_items es = filter (λ e. is_own e.1) es
 
 -- the value types that an item mentions: that of a type item, those of a function or of its type
 abbrev pub item_values : Collection → ItemKind → List ValueType

@@ -5,11 +5,13 @@ ghost use Rattle.wac_shapes.specs.declared.component.DefinedType.{DefinedType as
 ghost use Rattle.wac_shapes.specs.declared.component.DefinedTypeId.{DefinedTypeId as AnId};
 ghost use Rattle.wac_shapes.specs.declared.component.Interface.{Interface as AnInterface};
 ghost use Rattle.wac_shapes.specs.declared.component.ItemKind.{ItemKind as AnyItem};
+ghost use Rattle.wac_shapes.specs.declared.component.ValueType.TheVariants as val;
 ghost use Rattle.wac_shapes.specs.declared.component.«Type».TheVariants as ty;
 ghost use Rattle.wac_shapes.specs.Kinds.{kind_type};
 ghost use Rattle.wac_collection.specs.Collection.{HasDefined, HasInterface, and_maybe, holds_type, item_at, seconds};
 ghost use Rattle.wac_reach.specs.Found.{with_all};
-ghost use Rattle.wac_listing.specs.Made.{AreMadeOf, parts};
+ghost use Rattle.wac_reach.specs.Reach.{IsIn};
+ghost use Rattle.wac_listing.specs.Made.{AreMadeOf, is_own as is_no_instance, own_items, parts};
 ghost use Rattle.wac_listing.specs.Found.{somes, with_ends, func_ends, item_ends, items_ends, found_ends, definition_in as definition_that, definitions_in};
 
 use crate::parts::part_at;
@@ -104,6 +106,31 @@ fn put_items(
     Ok(())
 }
 
+/// Whether an item is no instance.
+fn is_own(item: ItemKind) -> bool
+    ensures { result ≡ is_no_instance item }
+{
+    !matches!(item, ItemKind::Instance(_))
+}
+
+/// The same of items that are no instances.
+fn put_own_items(
+    types: &Types,
+    found: &mut IndexSet<Type>,
+    items: &Named<ItemKind>,
+) -> Result<(), AllocError>
+    requires { (k : ℕ) (e : List ℕ × AnyItem) → slice_get items.now k ≡ Some e → holds_type types.now (kind_type e.1) ≡ true }
+    ensures { OnOk result (found.new.keys ≡ items_ends types.now found.old.keys (own_items items.now)) }
+{
+    for i in 0..items.len() {
+        let item = *items.value_at(i);
+        if is_own(item) {
+            put_item(types, found, item)?;
+        }
+    }
+    Ok(())
+}
+
 /// The same of the parts of a definition.
 fn put_parts(types: &Types, found: &mut IndexSet<Type>, id: DefinedTypeId) -> Result<(), AllocError>
     requires { HasDefined types.now id }
@@ -177,4 +204,39 @@ pub fn definitions_of(
         next += 1;
     }
     definitions_among(alloc, found.as_slice())
+}
+
+/// The definitions that the items of an interface are made of that are no instances, among types of which each stands once. Linear,
+/// without recursion.
+pub(crate) fn own_found(types: &Types, interface: InterfaceId) -> Result<IndexSet<Type>, AllocError>
+    requires { HasInterface types.now interface }
+    ensures held { IfOk result (λ found. (d : AnId) → IsIn (ty.Value (val.Defined d)) found.keys → HasDefined types.now d) }
+    ensures made { IfOk result (λ found. (it : AnInterface) → item_at types.now.interfaces interface.0 ≡ Some it → AreMadeOf types.now (own_items it.exports) (definitions_in found.keys)) }
+{
+    types.law();
+    let mut found = IndexSet::new(types.allocator());
+    put_own_items(types, &mut found, &types[interface].exports)?;
+    let mut place = 0;
+    while place < found.len() {
+        let ty = found.as_slice()[place];
+        put_type(types, &mut found, ty)?;
+        place += 1;
+    }
+    Ok(found)
+}
+
+/// The definitions that the items of an interface are made of that are no instances, each once. So what instances list is left out. Linear,
+/// without recursion.
+///
+/// Answers `AllocError` where memory ran out.
+pub fn own_definitions_of(
+    types: &Types,
+    interface: InterfaceId,
+) -> Result<Vec<DefinedTypeId>, AllocError>
+    requires { HasInterface types.now interface }
+    ensures held { IfOk result (λ ds. (k : ℕ) (d : AnId) → slice_get ds.items k ≡ Some d → HasDefined types.now d) }
+    ensures made { IfOk result (λ ds. (it : AnInterface) → item_at types.now.interfaces interface.0 ≡ Some it → AreMadeOf types.now (own_items it.exports) ds.items) }
+{
+    let found = own_found(types, interface)?;
+    definitions_among(types.allocator(), found.as_slice())
 }

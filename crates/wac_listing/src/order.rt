@@ -6,17 +6,18 @@ ghost use Rattle.wac_collection.specs.Collection.{HasInterface, item_at};
 ghost use Rattle.wac_listing.specs.Order.{AreOrdered};
 ghost use Rattle.wac_listing.specs.Before.{AreReached, items_of};
 
+use crate::made::own_found;
 use crate::places::Places;
 use std::alloc::{AllocError, Global};
-use wac_collection::{InterfaceId, Type, Types};
+use wac_collection::{InterfaceId, Types};
 use wac_edges::edges::Edges;
 use wac_edges::node::NodeId;
 use wac_edges::order::order;
-use wac_reach::reach;
+use wac_reach::Reached;
 
 /// The positions of an interface's type items of value types in the order in which they are written: the next is always the first listed one of
 /// those left that mentions none of those left. An item mentions another where its definition is made of that which the other names,
-/// being the first that lists it. This takes as many steps as the definitions that the interface reaches have parts, but for a logarithm.
+/// being the first that lists it. This takes as many steps as the definitions that its items are made of have parts, those of instances left out, but for a logarithm.
 ///
 /// Answers `AllocError` where memory ran out.
 #[tactic(none)]
@@ -26,7 +27,8 @@ pub fn type_order(types: &Types, interface: InterfaceId) -> Result<Vec<usize>, A
 {
     types.law();
     let items = &types[interface].exports;
-    let reached = reach(types, Type::Interface(interface))?;
+    let found = own_found(types, interface)?;
+    let reached = Reached::of(found);
     let places = Places {
         types,
         items,

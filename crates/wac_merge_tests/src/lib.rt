@@ -4,6 +4,8 @@
 #![tactic(auto)]
 
 #[cfg(test)]
+mod doubled;
+#[cfg(test)]
 mod listed;
 #[cfg(test)]
 mod merged;

@@ -41,6 +41,13 @@ impl Reached {
         }
     }
 
+    /// These types.
+    pub fn of(types: IndexSet<Type>) -> Reached
+        ensures { result ≡ types.keys }
+    {
+        Reached { types }
+    }
+
     /// Whether the type is one of them.
     pub fn contains(&self, ty: Type) -> bool
         ensures { IsTrue result ↔ IsIn ty self.now }

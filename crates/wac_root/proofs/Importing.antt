@@ -56,10 +56,10 @@ use Rattle.wac_scopes.proofs.ScopedLaws.{recorded-at}
 imports-since : ListsOneMore → (old now : Scope) (ys : List NewType) → now.content ≡ with_types old.content ys → (root_of now).imports ≡ (root_of old).imports
 imports-since law old now ys appended = ap (λ (x : Encodable). (meaning (items_of x)).imports) appended ∙ same-imports law old.content ys
 
-still-new : ListsOneMore → (old now : Scope) (n : Name) (ys : List NewType) → now.content ≡ with_types old.content ys → IsNewInRoot old n → IsNewInRoot now n
+pub still-new : ListsOneMore → (old now : Scope) (n : Name) (ys : List NewType) → now.content ≡ with_types old.content ys → IsNewInRoot old n → IsNewInRoot now n
 still-new law old now n ys appended new_name = subst (λ (es : List (Name × Tree)). IsNew n (map (λ e. e.0) es)) (sym (imports-since law old now ys appended)) new_name
 
-imports-after : ListsOneMore → (c : Collection) → Follows → (ms : List Bindings) (old now new : Scope) (o : Open) (os : Stack) (t : Sort) (k : ℕ) (n : Name) (item : Tree) (ys : List NewType) → now.content ≡ with_types old.content ys → Onward c ms (opened old o ∷ os) (opened now o ∷ os) → RootImports c ms now new o os t k n item → RootImports c ms old new o os t k n item
+pub imports-after : ListsOneMore → (c : Collection) → Follows → (ms : List Bindings) (old now new : Scope) (o : Open) (os : Stack) (t : Sort) (k : ℕ) (n : Name) (item : Tree) (ys : List NewType) → now.content ≡ with_types old.content ys → Onward c ms (opened old o ∷ os) (opened now o ∷ os) → RootImports c ms now new o os t k n item → RootImports c ms old new o os t k n item
 imports-after law c follows ms old now new o os t k n item ys appended on r =
     let same : (root_of now).imports ≡ (root_of old).imports = imports-since law old now ys appended in record {
       onward = follows c ms (opened old o ∷ os) (opened now o ∷ os) (opened new o ∷ os) on r.onward;
@@ -69,7 +69,7 @@ imports-after law c follows ms old now new o os t k n item ys appended on r =
 
 -- the item, as it is held
 
-as-held : (c : Collection) (ms : List Bindings) (old new : Scope) (o : Open) (os : Stack) (t : Sort) (k : ℕ) (n : Name) (f : Tree → Tree) (a b : Tree) → b ≡ a → RootImports c ms old new o os t k n (f a) → RootImports c ms old new o os t k n (f b)
+pub as-held : (c : Collection) (ms : List Bindings) (old new : Scope) (o : Open) (os : Stack) (t : Sort) (k : ℕ) (n : Name) (f : Tree → Tree) (a b : Tree) → b ≡ a → RootImports c ms old new o os t k n (f a) → RootImports c ms old new o os t k n (f b)
 as-held c ms old new o os t k n f a b same r = subst (λ (u : Tree). RootImports c ms old new o os t k n (f u)) (sym same) r
 
 -- a primitive

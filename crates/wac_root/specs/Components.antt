@@ -3,8 +3,9 @@ use Rattle.std.specs.Prelude.{ℕ, ◌≡◌, ◌⊎◌, List, [], ◌∷◌, So
 use Rattle.wac_shapes.specs.Name.{Name, option_case}
 use Rattle.wac_shapes.specs.declared.component.Interface.{Interface}
 use Rattle.wac_shapes.specs.declared.component.InterfaceId.{InterfaceId}
+use Rattle.wac_shapes.specs.declared.component.WorldId.{WorldId}
 use Rattle.wac_shapes.specs.declared.component.«Type».TheVariants as ty
-use Rattle.wac_collection.specs.Tree.{Tree, absent, component, instance_item}
+use Rattle.wac_collection.specs.Tree.{Tree, absent, component, instance_item, component_item}
 use Rattle.wac_collection.specs.Collection.{Collection, item_at}
 use Rattle.wac_collection.specs.Held.{items_under}
 use Rattle.wac_collection.specs.Bound.{Bindings, held_tree}
@@ -37,7 +38,14 @@ held_under_id c i = option_case (item_at c.interfaces i.0) [] (λ it. option_cas
 abbrev pub component_tree : Collection → InterfaceId → Tree
 component_tree c i = component (λ n. absent) (items_under (held_under_id c i))
 
--- closed, these declarations are that component type, in each good stack, and that goes onward
+-- a world under its id, and the component type that exports that
+abbrev pub held_world_under_id : Collection → WorldId → List (Name × Tree)
+held_world_under_id c w = option_case (item_at c.worlds w.0) [] (λ x. option_case x.id [] (λ id. (id, component_item (held_tree c nothing_bound (ty.World w))) ∷ []))
+
+abbrev pub world_component_tree : Collection → WorldId → Tree
+world_component_tree c w = component (λ n. absent) (items_under (held_world_under_id c w))
+
+-- closed, these declarations are the component type of the interface, in each good stack, and that goes onward
 abbrev pub SaysComponent : Collection → InterfaceId → List Decl → Type 0
 SaysComponent c i ds = (m : Bindings) (ms : List Bindings) (o : Open) (os : Stack) → Good c (m ∷ ms) (o ∷ os)
     → Adds c (m ∷ ms) (o ∷ os) (with_def (component_def (decls ds)) o ∷ os) (next_type o) (component_tree c i)

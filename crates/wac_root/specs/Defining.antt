@@ -26,7 +26,7 @@ use Rattle.wac_stacks.specs.Good.{nothing_bound}
 use Rattle.wac_encode.specs.Written.{WritesFor, HasHandle, AddsHeldFunc, IsFuncAt}
 use Rattle.wac_encode.specs.Listing.{lists_plain, NeededBy, own_types, IsListedAt, SameRecords, TypeDoesNotFit}
 use Rattle.wac_root.specs.Importing.{NamesImportedValue}
-use Rattle.wac_root.specs.Components.{HasId, component_tree, IsRefusedAlone, IsComponentRefused, EndsWithComponent, ComponentDoesNotFit}
+use Rattle.wac_root.specs.Components.{HasId, component_tree, world_component_tree, IsRefusedAlone, IsComponentRefused, EndsWithComponent, ComponentDoesNotFit}
 
 -- whether a type is one that is defined so far: an interface has an id, and its items are of sorts that are written
 abbrev pub IsDefinable : Collection → AnyType → Type 0
@@ -35,9 +35,10 @@ IsDefinable c (ty.Func f) = Unit {0}
 IsDefinable c (ty.Interface i) = ((id : Name) × HasId c i id) × (lists_plain c i ≡ true)
 IsDefinable c t = ⊥
 
--- the tree of what is defined: of an interface the component type that exports it under its id
+-- the tree of what is defined: of an interface or a world the component type that exports it under its id
 abbrev pub defined_tree : Collection → AnyType → Tree
 defined_tree c (ty.Interface i) = component_tree c i
+defined_tree c (ty.World w) = world_component_tree c w
 defined_tree c t = held_tree c nothing_bound t
 
 -- From old to new: types alone behind what stood, then the export of one of them under the name, at index k.

@@ -2,20 +2,20 @@
 use Rattle.std.specs.Prelude.{ℕ, ◌≡◌, List, [], ◌∷◌}
 use Rattle.std.proofs.Common.{refl, sym, subst}
 use Rattle.wac_shapes.specs.Name.{Name}
-use Rattle.wac_collection.specs.Tree.{exported, named, Tree, type_equal, function_item, instance_item}
+use Rattle.wac_collection.specs.Tree.{exported, named, Tree, type_equal, function_item, instance_item, component_item}
 use Rattle.wac_collection.specs.Collection.{Collection}
 use Rattle.wac_collection.specs.Bound.{Bindings}
 use Rattle.wac_binary.specs.declared.sorts.Description.TheVariants as e
 use Rattle.wac_binary.specs.declared.sorts.Sort.TheVariants as s
 use Rattle.wac_binary.specs.Items.{TypeDef, ModuleDecl, export_alias, outer_alias}
 use Rattle.wac_binary.specs.Indexes.{space, core_types}
-use Rattle.wac_binary.specs.HasMeaning.{IsType, IsFunction, IsInstance}
+use Rattle.wac_binary.specs.HasMeaning.{IsType, IsFunction, IsInstance, IsComponent}
 use Rattle.wac_scopes.specs.declared.encodable.Encodable.{Encodable}
 use Rattle.wac_scopes.specs.declared.encodable.Encodable.TheVariants.{Builder, Instance, Component}
 use Rattle.wac_stacks.specs.Scopes.{Open, Stack, env, envs, type_count, and_def, and_alias}
 use Rattle.wac_stacks.specs.Good.{At, Good}
 use Rattle.wac_stacks.specs.Modules.{and_module, module_count}
-use Rattle.wac_stacks.specs.Listed.{Lists, IsNewName, ListsEqual, ListsFunc, ListsInstance}
+use Rattle.wac_stacks.specs.Listed.{Lists, IsNewName, ListsEqual, ListsFunc, ListsComponent, ListsInstance}
 use Rattle.wac_scopes.specs.Contents.{content_of, IsOpenType, and_type, and_alias_of, and_alias_around, and_core_module, and_export, count}
 
 pub content-and-type : (x : Encodable) (t : TypeDef) → content_of (and_type x t) ≡ and_def t (content_of x)
@@ -64,6 +64,11 @@ ListsFunctionIn x y n i = (c : Collection) (m : Bindings) (ms : List Bindings) (
     → Good c (m ∷ ms) (filled x o ∷ os) → IsNewName (filled x o) os exported n → IsFunction t → At ((env (filled x o) (envs os)).types) i t
     → Lists c m ms (filled x o) (filled y o) os exported n (function_item t)
 
+abbrev pub ListsComponentIn : Encodable → Encodable → Name → ℕ → Type 0
+ListsComponentIn x y n i = (c : Collection) (m : Bindings) (ms : List Bindings) (o : Open) (os : Stack) (t : Tree)
+    → Good c (m ∷ ms) (filled x o ∷ os) → IsNewName (filled x o) os exported n → IsComponent t → At ((env (filled x o) (envs os)).types) i t
+    → Lists c m ms (filled x o) (filled y o) os exported n (component_item t)
+
 abbrev pub ListsInstanceIn : Encodable → Encodable → Name → ℕ → ℕ → Type 0
 ListsInstanceIn x y n i k = (c : Collection) (m : Bindings) (ms : List Bindings) (o : Open) (os : Stack) (t : Tree)
     → Good c (m ∷ ms) (filled x o ∷ os) → IsNewName (filled x o) os exported n → IsInstance t → At ((env (filled x o) (envs os)).types) i t
@@ -79,6 +84,11 @@ function-in law (Builder items) n i h = absurd h
 function-in law (Instance ds) n i h = λ c m ms o os t g free fun at. law c m ms ds o os exported n i t g free fun at
 function-in law (Component ds) n i h = λ c m ms o os t g free fun at. law c m ms ds o os exported n i t g free fun at
 
+component-in : ListsComponent → (x : Encodable) (n : Name) (i : ℕ) → IsOpenType x → ListsComponentIn x (and_export x n (e.Component i)) n i
+component-in law (Builder items) n i h = absurd h
+component-in law (Instance ds) n i h = λ c m ms o os t g free is at. law c m ms ds o os exported n i t g free is at
+component-in law (Component ds) n i h = λ c m ms o os t g free is at. law c m ms ds o os exported n i t g free is at
+
 instance-in : ListsInstance → (x : Encodable) (n : Name) (i : ℕ) → IsOpenType x → ListsInstanceIn x (and_export x n (e.Instance i)) n i (count (space s.Instance) x)
 instance-in law (Builder items) n i h = absurd h
 instance-in law (Instance ds) n i h = λ c m ms o os t g free is at. law c m ms ds o os exported n i t g free is at
@@ -89,6 +99,9 @@ lists-type-in law x y n i k h index appended = subst (λ (z : Encodable). ListsT
 
 pub lists-function-in : ListsFunc → (x y : Encodable) (n : Name) (i : ℕ) → IsOpenType x → y ≡ and_export x n (e.Func i) → ListsFunctionIn x y n i
 lists-function-in law x y n i h appended = subst (λ (z : Encodable). ListsFunctionIn x z n i) (sym appended) (function-in law x n i h)
+
+pub lists-component-in : ListsComponent → (x y : Encodable) (n : Name) (i : ℕ) → IsOpenType x → y ≡ and_export x n (e.Component i) → ListsComponentIn x y n i
+lists-component-in law x y n i h appended = subst (λ (z : Encodable). ListsComponentIn x z n i) (sym appended) (component-in law x n i h)
 
 pub lists-instance-in : ListsInstance → (x y : Encodable) (n : Name) (i k : ℕ) → IsOpenType x → k ≡ count (space s.Instance) x → y ≡ and_export x n (e.Instance i) → ListsInstanceIn x y n i k
 lists-instance-in law x y n i k h index appended = subst (λ (z : Encodable). ListsInstanceIn x z n i k) (sym appended) (subst (λ (j : ℕ). ListsInstanceIn x (and_export x n (e.Instance i)) n i j) (sym index) (instance-in law x n i h))

@@ -9,7 +9,7 @@ use Rattle.wac_shapes.specs.declared.component.DefinedTypeId.{DefinedTypeId}
 use Rattle.wac_shapes.specs.declared.component.ValueType.TheVariants as val
 use Rattle.wac_shapes.specs.declared.component.«Type».{«Type» as AnyType}
 use Rattle.wac_shapes.specs.declared.component.«Type».TheVariants as ty
-use Rattle.wac_collection.specs.Tree.{Tree, type_equal, function_item, instance_item, module_item}
+use Rattle.wac_collection.specs.Tree.{Tree, type_equal, function_item, instance_item, component_item, module_item}
 use Rattle.wac_collection.specs.Uses.{same_type}
 use Rattle.wac_collection.specs.Collection.{Collection}
 use Rattle.wac_collection.specs.Bound.{Bindings}
@@ -18,7 +18,7 @@ use Rattle.wac_binary.specs.declared.sorts.Sort.{Sort}
 use Rattle.wac_binary.specs.declared.sorts.Sort.TheVariants as s
 use Rattle.wac_binary.specs.Items.{Item}
 use Rattle.wac_binary.specs.Indexes.{space}
-use Rattle.wac_binary.specs.HasMeaning.{IsType, IsFunction, IsInstance, IsModule}
+use Rattle.wac_binary.specs.HasMeaning.{IsType, IsFunction, IsInstance, IsComponent, IsModule}
 use Rattle.wac_binary.specs.Meaning.{import_at, stands_for, meaning}
 use Rattle.wac_binary.specs.Unfold.{Scope as Env, Bound}
 use Rattle.wac_scopes.specs.declared.encodable.Encodable.{Encodable}
@@ -29,8 +29,8 @@ use Rattle.wac_scopes.specs.declared.scope.Scope.{Scope}
 use Rattle.wac_scopes.specs.Contents.{content_of, items_of, IsRoot, and_import, count}
 use Rattle.wac_stacks.specs.Scopes.{Where, at_type, at_export, Open, Stack, env, envs, remember_at}
 use Rattle.wac_stacks.specs.Good.{At, StandsFrom, IsHeld, IsOf, Good, GoodScope, top, Onward}
-use Rattle.wac_stacks.specs.Instances.{Exports, holding, IsNewImport, ImportsInstance, ImportsType, ImportsFunc, ImportsModule, ListsImport}
-use Rattle.wac_scopes.specs.Scoped.{type_index, named_at, listed_at, place_listed, listing, place, recorded_type, first_of, listed_by, listed_too, HasToo, IsAsBefore, AlsoLists, opened, imported_at, RootImportsListing, RootImports, RootImportsType, RootImportsValue, RootImportsFunction, RootImportsInstance, RootImportsModule}
+use Rattle.wac_stacks.specs.Instances.{Exports, holding, IsNewImport, ImportsInstance, ImportsType, ImportsFunc, ImportsModule, ImportsComponent, ListsImport}
+use Rattle.wac_scopes.specs.Scoped.{type_index, named_at, listed_at, place_listed, listing, place, recorded_type, first_of, listed_by, listed_too, HasToo, IsAsBefore, AlsoLists, opened, imported_at, RootImportsListing, RootImports, RootImportsType, RootImportsValue, RootImportsFunction, RootImportsInstance, RootImportsModule, RootImportsComponent}
 use Rattle.wac_scopes.proofs.ContentLaws.{filled}
 use Rattle.wac_stacks.proofs.Grow.{at-type_at}
 use Rattle.wac_stacks.proofs.Meant.{value-type}
@@ -100,6 +100,18 @@ module-in law lists (Builder items) n i h = λ c m ms o os t g new module_type a
 module-in law lists (Instance ds) n i h = absurd h
 module-in law lists (Component ds) n i h = absurd h
 
+abbrev ImportsComponentIn : Encodable → Encodable → Name → ℕ → ℕ → Type 0
+ImportsComponentIn x y n i k = (c : Collection) (m : Bindings) (ms : List Bindings) (o : Open) (os : Stack) (t : Tree)
+    → Good c (m ∷ ms) (filled x o ∷ os) → IsNewImport (items_of x) n → IsComponent t → At ((env (filled x o) (envs os)).types) i t
+    → Imported c (m ∷ ms) x y o os s.Component k n (component_item t)
+
+component-in : ImportsComponent → ListsImport → (x : Encodable) (n : Name) (i : ℕ) → IsRoot x → ImportsComponentIn x (and_import x n (e.Component i)) n i (count (space s.Component) x)
+component-in law lists (Builder items) n i h = λ c m ms o os t g new component_type at.
+    alone (λ ms os. Imported c (m ∷ ms) (Builder items) (and_import (Builder items) n (e.Component i)) o os s.Component (count (space s.Component) (Builder items)) n (component_item t)) c m ms items o os g
+    (λ g. (law c m items o n i t g new component_type at, (lists items n (e.Component i)).0 ∙ ap (λ (u : Tree). (meaning items).imports ++ (n, component_item u) ∷ []) (at-type_at (meaning items).scope.types i t at), (lists items n (e.Component i)).1))
+component-in law lists (Instance ds) n i h = absurd h
+component-in law lists (Component ds) n i h = absurd h
+
 as-imports : (c : Collection) (ms : List Bindings) (old : Scope) (x : Encodable) (o : Open) (os : Stack) (sort : Sort) (k : ℕ) (n : Name) (item : Tree) → Imported c ms old.content x (record o { memo = recorded_type old }) os sort k n item → RootImports c ms old (record old { content = x }) o os sort k n item
 as-imports c ms old x o os sort k n item h = record { onward = h.0; listed = h.1; stands = h.2 }
 
@@ -129,6 +141,11 @@ pub imports-core-module : (old : Scope) (x : Encodable) (n : Name) (i k : ℕ) �
 imports-core-module old x n i k law lists is_root index appended c m ms o os t g new module_type at =
     let into : ImportsModuleIn old.content x n i k = subst (λ (z : Encodable). ImportsModuleIn old.content z n i k) (sym appended) (subst (λ (j : ℕ). ImportsModuleIn old.content (and_import old.content n (e.CoreModule i)) n i j) (sym index) (module-in law lists old.content n i is_root)) in
     as-imports c (m ∷ ms) old x o os s.CoreModule k n (module_item t) (into c m ms (record o { memo = recorded_type old }) os t g new module_type at)
+
+pub imports-component : (old : Scope) (x : Encodable) (n : Name) (i k : ℕ) → ImportsComponent → ListsImport → IsRoot old.content → k ≡ count (space s.Component) old.content → x ≡ and_import old.content n (e.Component i) → RootImportsComponent old (record old { content = x }) n i k
+imports-component old x n i k law lists is_root index appended c m ms o os t g new component_type at =
+    let into : ImportsComponentIn old.content x n i k = subst (λ (z : Encodable). ImportsComponentIn old.content z n i k) (sym appended) (subst (λ (j : ℕ). ImportsComponentIn old.content (and_import old.content n (e.Component i)) n i j) (sym index) (component-in law lists old.content n i is_root)) in
+    as-imports c (m ∷ ms) old x o os s.Component k n (component_item t) (into c m ms (record o { memo = recorded_type old }) os t g new component_type at)
 
 pub imports-instance-item : (old : Scope) (x : Encodable) (n : Name) (i k : ℕ) → ImportsInstance → ListsImport → IsRoot old.content → k ≡ count (space s.Instance) old.content → x ≡ and_import old.content n (e.Instance i) → RootImportsInstance old (record old { content = x }) n i k
 imports-instance-item old x n i k law lists is_root index appended c m ms o os t g new inst at =

@@ -35,10 +35,10 @@ use Rattle.wac_scopes.specs.Contents.{content_of, IsOpenType, and_type, and_core
 use Rattle.wac_stacks.specs.Scopes.{at_type, at_export, Open, Stack, env, envs, next_type, and_def, and_alias, with_def, with_alias_of, remember_at}
 use Rattle.wac_stacks.specs.Good.{At, IsHeld, IsOf, Onward, top}
 use Rattle.wac_stacks.specs.Laws.{Adds, DefinesValue, DefinesFunc, DefinesPrimitive, SettlesValue, BringsValue, IsRecorded, StandsRecorded}
-use Rattle.wac_stacks.specs.Listed.{Lists, ListsEqual, ListsFunc, ListsInstance}
+use Rattle.wac_stacks.specs.Listed.{Lists, ListsEqual, ListsFunc, ListsComponent, ListsInstance}
 use Rattle.wac_stacks.specs.Modules.{and_module, module_count, with_module, DefinesModule}
-use Rattle.wac_scopes.specs.Scoped.{index_of, named_index, type_index, value_index, named_at, listed_at, and_listed, IsAsBefore, listed_type, listing, place, recorded_type, opened, HasToo, IsThere, IsAt, AliasesValue, AddsValue, AddsFunc, AddsPrimitive, AddsInstance, AddsClosed, AddsModule, ListsType, ListsValue, ListsFunction, ListsInstanceOf, AliasFits, FitsUnlessTooLarge}
-use Rattle.wac_scopes.proofs.ContentLaws.{content-and-type, content-and-alias, content-and-around, content-and-module, types-counted, modules-counted, lists-type-in, lists-function-in, lists-instance-in}
+use Rattle.wac_scopes.specs.Scoped.{index_of, named_index, type_index, value_index, named_at, listed_at, and_listed, IsAsBefore, listed_type, listing, place, recorded_type, opened, HasToo, IsThere, IsAt, AliasesValue, AddsValue, AddsFunc, AddsPrimitive, AddsInstance, AddsClosed, AddsModule, ListsType, ListsValue, ListsFunction, ListsInstanceOf, ListsComponentOf, AliasFits, FitsUnlessTooLarge}
+use Rattle.wac_scopes.proofs.ContentLaws.{content-and-type, content-and-alias, content-and-around, content-and-module, types-counted, modules-counted, lists-type-in, lists-function-in, lists-component-in, lists-instance-in}
 use Rattle.wac_stacks.proofs.Meant.{value-type}
 use Rattle.wac_stacks.proofs.Moved.{ap2}
 use Rattle.wac_stacks.proofs.Steps.{good-remember_at, some-equal}
@@ -230,6 +230,9 @@ lists-type old x n i k law in_type index appended c m ms o os t = lists-type-in 
 
 pub lists-function : (old : Scope) (x : Encodable) (n : Name) (i : ℕ) → ListsFunc → IsOpenType old.content → x ≡ and_export old.content n (e.Func i) → ListsFunction old (record old { content = x }) n i
 lists-function old x n i law in_type appended c m ms o os t = lists-function-in law old.content x n i in_type appended c m ms (record o { memo = recorded_type old }) os t
+
+pub lists-component-of : (old : Scope) (x : Encodable) (n : Name) (i : ℕ) → ListsComponent → IsOpenType old.content → x ≡ and_export old.content n (e.Component i) → ListsComponentOf old (record old { content = x }) n i
+lists-component-of old x n i law in_type appended c m ms o os t = lists-component-in law old.content x n i in_type appended c m ms (record o { memo = recorded_type old }) os t
 
 pub lists-instance-of : (old : Scope) (x : Encodable) (n : Name) (i k : ℕ) → ListsInstance → IsOpenType old.content → k ≡ count (space s.Instance) old.content → x ≡ and_export old.content n (e.Instance i) → ListsInstanceOf old (record old { content = x }) n i k
 lists-instance-of old x n i k law in_type index appended c m ms o os t = lists-instance-in law old.content x n i k in_type index appended c m ms (record o { memo = recorded_type old }) os t

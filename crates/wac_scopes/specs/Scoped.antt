@@ -13,7 +13,7 @@ use Rattle.wac_shapes.specs.declared.component.InterfaceId.{InterfaceId}
 use Rattle.wac_shapes.specs.declared.component.«Type».{«Type» as AnyType}
 use Rattle.wac_shapes.specs.declared.component.«Type».TheVariants as ty
 use Rattle.wac_collection.specs.Uses.{same_type}
-use Rattle.wac_collection.specs.Tree.{imported, exported, named, Tree, primitive, type_equal, function_item, instance_item, module_item}
+use Rattle.wac_collection.specs.Tree.{imported, exported, named, Tree, primitive, type_equal, function_item, instance_item, component_item, module_item}
 use Rattle.wac_collection.specs.Collection.{Collection, IsWellFormed, item_at}
 use Rattle.wac_collection.specs.Bound.{Bindings}
 use Rattle.wac_binary.specs.declared.types.ComponentValType.{ComponentValType}
@@ -23,7 +23,7 @@ use Rattle.wac_binary.specs.declared.sorts.Sort.TheVariants as s
 use Rattle.wac_binary.specs.Items.{ValueDef, TypeDef, component_def, instance_def, ModuleDecl, Decl, decls, Item}
 use Rattle.wac_binary.specs.Unfold.{Bound, no_module, module_tree}
 use Rattle.wac_binary.specs.Meaning.{import_at, Root, stands_for, meaning}
-use Rattle.wac_binary.specs.HasMeaning.{IsValue, IsFunction, IsType, IsInstance, IsModule, ModuleHasMeaning}
+use Rattle.wac_binary.specs.HasMeaning.{IsValue, IsFunction, IsType, IsInstance, IsComponent, IsModule, ModuleHasMeaning}
 use Rattle.wac_scopes.specs.declared.encodable.Encodable.{Encodable}
 use Rattle.wac_scopes.specs.declared.encodable.Encodable.TheVariants.{Builder, Instance, Component}
 use Rattle.wac_scopes.specs.declared.fault.EncodeFault.{EncodeFault}
@@ -237,6 +237,12 @@ ListsInstanceOf old new n i k = (c : Collection) (m : Bindings) (ms : List Bindi
     → Lists c m ms (opened old o) (opened new o) os exported n (instance_item t)
     × At ((env (opened new o) (envs os)).instances) k (record { type = t; side = exported; path = named n ∷ [] })
 
+-- and a component of the component type at index i
+abbrev pub ListsComponentOf : Scope → Scope → Name → ℕ → Type 0
+ListsComponentOf old new n i = (c : Collection) (m : Bindings) (ms : List Bindings) (o : Open) (os : Stack) (t : Tree)
+    → Good c (m ∷ ms) (opened old o ∷ os) → IsNewName (opened old o) os exported n → IsComponent t → At ((env (opened old o) (envs os)).types) i t
+    → Lists c m ms (opened old o) (opened new o) os exported n (component_item t)
+
 -- what the items of the root mean
 abbrev pub root_of : Scope → Root
 root_of s = meaning (items_of s.content)
@@ -291,6 +297,12 @@ abbrev pub RootImportsModule : Scope → Scope → Name → ℕ → ℕ → Type
 RootImportsModule old new n i k = (c : Collection) (m : Bindings) (ms : List Bindings) (o : Open) (os : Stack) (t : Tree)
     → Good c (m ∷ ms) (opened old o ∷ os) → IsNewInRoot old n → IsModule t → At ((env (opened old o) (envs os)).core_types) i t
     → RootImports c (m ∷ ms) old new o os s.CoreModule k n (module_item t)
+
+-- and a component of the component type at index i
+abbrev pub RootImportsComponent : Scope → Scope → Name → ℕ → ℕ → Type 0
+RootImportsComponent old new n i k = (c : Collection) (m : Bindings) (ms : List Bindings) (o : Open) (os : Stack) (t : Tree)
+    → Good c (m ∷ ms) (opened old o ∷ os) → IsNewInRoot old n → IsComponent t → At ((env (opened old o) (envs os)).types) i t
+    → RootImports c (m ∷ ms) old new o os s.Component k n (component_item t)
 
 -- an answer is `TooLarge` exactly where something does not fit, also where memory is refused; and all can be written where it stands
 abbrev pub WritesUnlessTooLarge : {A : Type 0} → Result A EncodeFault → Type 0 → Type 0

@@ -146,6 +146,20 @@ impl Encodable {
         }
     }
 
+    /// The same of declarations that are handed over, which a type that is open does not copy where they are the longer part.
+    pub(crate) fn take_instance_type(&mut self, t: InstanceType) -> Result<u32, BinaryFault>
+        ensures index { IfOk result (λ i. i ≡ count (space s.Type) self.old) }
+        ensures appended { OnOk result (self.new ≡ and_type self.old (instance_def (decls t))) }
+        ensures refused { OnErr result (self.new ≡ self.old) }
+        ensures too_large { TooLargeUnless result (ContentFits (and_type self.old (instance_def (decls t)))) }
+    {
+        match self {
+            Encodable::Builder(content) => content.instance_type(&t),
+            Encodable::Instance(content) => content.take_instance_type(t),
+            Encodable::Component(content) => content.take_instance_type(t),
+        }
+    }
+
     /// Writes a component type with these declarations, and answers its type index.
     pub(crate) fn component_type(&mut self, t: &ComponentType) -> Result<u32, BinaryFault>
         ensures index { IfOk result (λ i. i ≡ count (space s.Type) self.old) }

@@ -13,7 +13,7 @@ ghost use Rattle.wac_binary.specs.Indexes.{space};
 ghost use Rattle.wac_binary.specs.Views.{arguments_of, defined_of, func_of};
 ghost use Rattle.wac_scopes.specs.declared.encodable.Encodable.TheVariants.{Builder};
 ghost use Rattle.wac_scopes.specs.Contents.{IsRoot, IsOpenType, and_type, and_core_module, and_export, and_import, count, items_of, ContentFits};
-ghost use Rattle.wac_scopes.specs.Scoped.{IfThere, IsThere, AddsValue, AddsFunc, AddsPrimitive, AddsInstance, AddsComponent, AddsModule, ListsType, ListsValue, ListsFunction, ListsInstanceOf, RootImportsType, RootImportsValue, RootImportsFunction, RootImportsInstance, RootImportsModule, RootImportsListing, HasToo, IsAsBefore, AlsoLists, ListsAround, AliasesValue, IsAliased, AliasFits, IsAt, type_index, value_index, named_at, listed_at, listing, in_use, WritesUnlessTooLarge, FitsUnlessTooLarge, RecordsUnlessTooLarge};
+ghost use Rattle.wac_scopes.specs.Scoped.{IfThere, IsThere, AddsValue, AddsFunc, AddsPrimitive, AddsInstance, AddsComponent, AddsModule, ListsType, ListsValue, ListsFunction, ListsInstanceOf, ListsComponentOf, RootImportsType, RootImportsValue, RootImportsFunction, RootImportsInstance, RootImportsModule, RootImportsComponent, RootImportsListing, HasToo, IsAsBefore, AlsoLists, ListsAround, AliasesValue, IsAliased, AliasFits, IsAt, type_index, value_index, named_at, listed_at, listing, in_use, WritesUnlessTooLarge, FitsUnlessTooLarge, RecordsUnlessTooLarge};
 ghost use Rattle.wac_scopes.specs.Rooted.{ExportsRight};
 ghost use Rattle.wac_scopes.specs.Sides.{side_of, IsOpenComponent, and_declared, DeclaresType, DeclaresValue, DeclaresFunction, DeclaresInstance, DeclaresListing};
 
@@ -317,6 +317,25 @@ impl Scope {
         Ok(index)
     }
 
+    /// The same of declarations that are handed over. In a type that is open they are not copied where they are longer than what is written, so
+    /// types nested ever deeper take time linear in their size. What is handed over is let go of where it is refused.
+    ///
+    /// Answers `TooLarge` where what is written would not fit, and `OutOfMemory` where memory was refused, be it before it is known
+    /// whether it fits. Then nothing is written or recorded.
+    pub fn take_instance(&mut self, id: InterfaceId, t: InstanceType) -> Result<u32, EncodeFault>
+        ensures index { IfOk result (λ k. k ≡ count (space s.Type) self.old.content) }
+        ensures stands { IfOk result (λ k. AddsInstance self.old self.new id t k) }
+        ensures recorded { IfOk result (λ k. HasToo self.old (ty.Interface id) k self.new) }
+        ensures appended { OnOk result (self.new.content ≡ and_type self.old.content (instance_def (decls t))) }
+        ensures refused { OnErr result (IsAsBefore self.old self.new) }
+        ensures too_large { FitsUnlessTooLarge result (ContentFits (and_type self.old.content (instance_def (decls t)))) }
+    {
+        self.make_interface_room()?;
+        let own = self.content.take_instance_type(t)?;
+        self.record_interface(id, own);
+        Ok(own)
+    }
+
     /// Writes a component type with these declarations. Answers its type index.
     ///
     /// Answers `TooLarge` exactly where what is written would not fit, and `OutOfMemory` where memory was refused; then it has
@@ -425,6 +444,22 @@ impl Scope {
         listing_law();
         let instance = self.content.export(name, Description::Instance(index))?;
         Ok(instance)
+    }
+
+    /// Lists a component of the component type at an index.
+    ///
+    /// Answers `TooLarge` exactly where what is written would not fit, and `OutOfMemory` where memory was refused; then it has
+    /// written nothing.
+    pub fn export_component(&mut self, name: &str, index: u32) -> Result<(), EncodeFault>
+        requires { IsOpenType self.old.content }
+        ensures stands { OnOk result (ListsComponentOf self.old self.new name.now index) }
+        ensures appended { OnOk result (self.new ≡ record self.old { content = and_export self.old.content name.now (e.Component index) }) }
+        ensures refused { OnErr result (self.new ≡ self.old) }
+        ensures too_large { WritesUnlessTooLarge result (ContentFits (and_export self.old.content name.now (e.Component index))) }
+    {
+        listing_law();
+        self.content.export(name, Description::Component(index))?;
+        Ok(())
     }
 
     /// Imports a type item that equals the type at an index, into the root. Answers its own type index.
@@ -595,6 +630,23 @@ impl Scope {
         root_law();
         let module = self.content.import(name, Description::CoreModule(index))?;
         Ok(module)
+    }
+
+    /// Imports a component of the component type at an index, into the root. Answers the component's index.
+    ///
+    /// Answers `TooLarge` exactly where what is written would not fit, and `OutOfMemory` where memory was refused; then it has
+    /// written nothing.
+    pub fn import_component(&mut self, name: &str, index: u32) -> Result<u32, EncodeFault>
+        requires { IsRoot self.old.content }
+        ensures index { IfOk result (λ k. k ≡ count (space s.Component) self.old.content) }
+        ensures stands { IfOk result (λ k. RootImportsComponent self.old self.new name.now index k) }
+        ensures appended { OnOk result (self.new ≡ record self.old { content = and_import self.old.content name.now (e.Component index) }) }
+        ensures refused { OnErr result (self.new ≡ self.old) }
+        ensures too_large { WritesUnlessTooLarge result (ContentFits (and_import self.old.content name.now (e.Component index))) }
+    {
+        root_law();
+        let component = self.content.import(name, Description::Component(index))?;
+        Ok(component)
     }
 
     /// Adds a whole component to the root, as it is, and answers its component index.

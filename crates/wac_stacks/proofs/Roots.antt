@@ -12,11 +12,11 @@ use Rattle.wac_binary.specs.Items.{Item, import_item}
 use Rattle.wac_binary.specs.Indexes.{described_sort}
 use Rattle.wac_binary.specs.Unfold.{Scope, Bound, counted_up, with_bound, described_item}
 use Rattle.wac_binary.specs.Meaning.{Root, meaning}
-use Rattle.wac_binary.specs.HasMeaning.{IsType, IsFunction, IsInstance, IsModule, HasMeaning}
+use Rattle.wac_binary.specs.HasMeaning.{IsType, IsFunction, IsInstance, IsComponent, IsModule, HasMeaning}
 use Rattle.wac_stacks.specs.Reads.{Reads}
 use Rattle.wac_stacks.specs.Scopes.{root, at_type, Open, next_type, next_instance}
 use Rattle.wac_stacks.specs.Good.{At, Keeps, Good, top, Onward}
-use Rattle.wac_stacks.specs.Instances.{position_of, holding, ImportsInstance, ImportsType, ImportsFresh, ImportsFunc, ImportsModule, ListsImport}
+use Rattle.wac_stacks.specs.Instances.{position_of, holding, ImportsInstance, ImportsType, ImportsFresh, ImportsFunc, ImportsModule, ImportsComponent, ListsImport}
 use Rattle.wac_stacks.proofs.Grow.{at-last, at-type_at, keeps-refl, keeps-type, keeps-instance, good-pushed}
 use Rattle.wac_stacks.proofs.Steps.{good-bind_at}
 
@@ -83,6 +83,9 @@ imports-func reads c m items o n i t g new fun at = good-root c m items (items +
 
 pub imports-module : Reads → ImportsModule
 imports-module reads c m items o n i t g new module_type at = good-root c m items (items ++ import_item n (e.CoreModule i) ∷ []) o (counted_up (meaning items).scope s.CoreModule) g (reads.item_meant items (import_item n (e.CoreModule i)) g.0.meaning (new, subst IsModule (sym (at-type_at (meaning items).scope.core_types i t at)) module_type)) ((with-import reads) items n (e.CoreModule i)) (record { core_types = λ j u h. h; types = λ j u h. h; instances = λ j b h. h; modules = omega arith; components = omega arith }) refl refl
+
+pub imports-component : Reads → ImportsComponent
+imports-component reads c m items o n i t g new component_type at = good-root c m items (items ++ import_item n (e.Component i) ∷ []) o (counted_up (meaning items).scope s.Component) g (reads.item_meant items (import_item n (e.Component i)) g.0.meaning (new, subst IsComponent (sym (at-type_at (meaning items).scope.types i t at)) component_type)) ((with-import reads) items n (e.Component i)) (record { core_types = λ j u h. h; types = λ j u h. h; instances = λ j b h. h; modules = omega arith; components = omega arith }) refl refl
 
 pub lists-import : Reads → ListsImport
 lists-import reads items n d = (reads.imports_after items (import_item n d), reads.thing_new items (import_item n d) (described_sort d) refl)

@@ -20,7 +20,7 @@ use Rattle.wac_binary.specs.Indexes.{space, described_sort, indexes}
 use Rattle.wac_binary.specs.Items.{Item, import_item}
 use Rattle.wac_binary.specs.Unfold.{Scope, Bound, bound_type, described_item}
 use Rattle.wac_binary.specs.Meaning.{import_at, stands_for, meaning}
-use Rattle.wac_binary.specs.HasMeaning.{IsValue, IsType, IsFunction, IsInstance, IsModule, IsNew}
+use Rattle.wac_binary.specs.HasMeaning.{IsValue, IsType, IsFunction, IsInstance, IsComponent, IsModule, IsNew}
 use Rattle.wac_stacks.specs.Scopes.{root, Where, at_type, at_export, Open, Stack, env, envs, next_type, next_instance, bind_at, remember_at, name_at}
 use Rattle.wac_stacks.specs.Good.{At, Stands, IsHeld, Carries, Good, Onward}
 use Rattle.wac_stacks.specs.Laws.{Adds}
@@ -126,6 +126,12 @@ abbrev pub ImportsModule : Type 0
 ImportsModule = (c : Collection) (m : Bindings) (items : List Item) (o : Open) (n : Name) (i : ℕ) (t : Tree)
     → Good c (m ∷ []) (holding items o ∷ []) → IsNewImport items n → IsModule t → At ((meaning items).scope.core_types) i t
     → Onward c (m ∷ []) (holding items o ∷ []) (holding (items ++ import_item n (e.CoreModule i) ∷ []) o ∷ [])
+
+-- an import of a component into the root
+abbrev pub ImportsComponent : Type 0
+ImportsComponent = (c : Collection) (m : Bindings) (items : List Item) (o : Open) (n : Name) (i : ℕ) (t : Tree)
+    → Good c (m ∷ []) (holding items o ∷ []) → IsNewImport items n → IsComponent t → At ((meaning items).scope.types) i t
+    → Onward c (m ∷ []) (holding items o ∷ []) (holding (items ++ import_item n (e.Component i) ∷ []) o ∷ [])
 
 -- an import stands behind those before it, and the index that it adds is the import of that position
 abbrev pub ListsImport : Type 0

@@ -2,7 +2,7 @@
 
 ghost use Rattle.wac_stacks.specs.Laws.{DefinesValue, DefinesFunc, DefinesPrimitive, DefinesHandles, Reaches, BringsResource, BringsType, SettlesResource, SettlesValue, BringsValue, GoesOnAround, Follows, StaysIs, IsRecorded, StandsRecorded, IsItsTree, IsItsEnd, StaysOnward};
 ghost use Rattle.wac_stacks.specs.Listed.{ListsEqual, ListsFresh, ListsFunc, ListsComponent, ListsModule, ListsInstance, ListsOneMore, ListsInAnyOrder, OpensInterface, OpensOver, ClosesInstance, HoldsInterface, OpensWorld, TurnsToExports, ClosesComponent, HoldsWorld, FreshInInterface, CallsOwn};
-ghost use Rattle.wac_stacks.specs.Instances.{BindsOwn, HasExported, ExportsEnd, HeldFurtherIn, CalledInside, HoldsValue, NamesType, ImportsInstance, ImportsType, ImportsFresh, ImportsFunc, ImportsModule, ListsImport};
+ghost use Rattle.wac_stacks.specs.Instances.{BindsOwn, HasExported, ExportsEnd, HeldFurtherIn, CalledInside, HoldsValue, NamesType, ImportsInstance, ImportsType, ImportsFresh, ImportsFunc, ImportsModule, ImportsComponent, ListsImport};
 ghost use Rattle.wac_stacks.specs.Inside.{ByStep, ByItem, ByBoth, KeepsIs, SettlesThere, HasIndexHere, HasIndexAround, StartsRoot, RootGoesOn, RootBindsMore};
 ghost use Rattle.wac_stacks.specs.Beside.{GoesOnBeside};
 ghost use Rattle.wac_stacks.specs.Reads.{Reads};
@@ -92,6 +92,7 @@ pub fn root_law()
     ensures imports_fresh { ImportsFresh }
     ensures imports_func { ImportsFunc }
     ensures imports_module { ImportsModule }
+    ensures imports_component { ImportsComponent }
     ensures lists_import { ListsImport }
     ensures starts_root { StartsRoot }
     ensures root_goes_on { RootGoesOn }

@@ -25,18 +25,24 @@ use Rattle.wac_uniting.proofs.UnionWeights.{left_at, left_set, left_united}
 
 -- ---- what is united comes behind
 
-module _ (c : Collection) (us vs : List Union) (ps qs : List Part) where
-  pub extends_united : (is : List (ℕ × InterfaceId)) → IsUnited us ps is vs qs → Extends us vs × Extends ps qs
-  extends_united [] h = (subst (λ (l : List Union). Extends us l) (sym h.0) (extends_refl us), subst (λ (l : List Part). Extends ps l) (sym h.1) (extends_refl ps))
-  extends_united (i ∷ is) h = push_extends us vs ps qs (map (inside_part (length us)) (i ∷ is)) h
+module _ (c : Collection) (us vs : List Union) (ps qs : List Part) (is : List (ℕ × InterfaceId)) where
+  pub extends_united : IsUnited us ps is vs qs → Extends us vs × Extends ps qs
+  extends_united h = elim h [
+    | inl same ↦ (subst (λ (l : List Union). Extends us l) (sym same.0) (extends_refl us), subst (λ (l : List Part). Extends ps l) (sym same.1) (extends_refl ps))
+    | inr put ↦ push_extends us vs ps qs (map (inside_part (length us)) is) put.1
+  ]
 
-  seated_united : (is : List (ℕ × InterfaceId)) → AllByRecursion (λ i. IsHeldPart c ps i.0 × HasInterface c i.1) is → IsUnited us ps is vs qs → AreSeated c us ps → AreSeated c vs qs
-  seated_united [] held h was = subst (λ (l : List Union). AreSeated c l qs) (sym h.0) (subst (λ (l : List Part). AreSeated c us l) (sym h.1) was)
-  seated_united (i ∷ is) held h was = inner_seated c us ps (i ∷ is) held vs qs h was
+  seated_united : AllByRecursion (λ i. IsHeldPart c ps i.0 × HasInterface c i.1) is → IsUnited us ps is vs qs → AreSeated c us ps → AreSeated c vs qs
+  seated_united held h was = elim h [
+    | inl same ↦ subst (λ (l : List Union). AreSeated c l qs) (sym same.0) (subst (λ (l : List Part). AreSeated c us l) (sym same.1) was)
+    | inr put ↦ inner_seated c us ps is held vs qs put.1 was
+  ]
 
-  placed_united : (count : ℕ) (is : List (ℕ × InterfaceId)) → AllByRecursion (λ i. IsHeldPart c ps i.0 × HasInterface c i.1) is → IsUnited us ps is vs qs → AreSeated c us ps → ArePlaced c count us ps → ArePlaced c count vs qs
-  placed_united count [] held h seated was = subst (λ (l : List Union). ArePlaced c count l qs) (sym h.0) (subst (λ (l : List Part). ArePlaced c count us l) (sym h.1) was)
-  placed_united count (i ∷ is) held h seated was = inner_placed c us ps (i ∷ is) held count vs qs h seated was
+  placed_united : (count : ℕ) → AllByRecursion (λ i. IsHeldPart c ps i.0 × HasInterface c i.1) is → IsUnited us ps is vs qs → AreSeated c us ps → ArePlaced c count us ps → ArePlaced c count vs qs
+  placed_united count held h seated was = elim h [
+    | inl same ↦ subst (λ (l : List Union). ArePlaced c count l qs) (sym same.0) (subst (λ (l : List Part). ArePlaced c count us l) (sym same.1) was)
+    | inr put ↦ inner_placed c us ps is held count vs qs put.1 seated was
+  ]
 
 -- ---- one export more
 
@@ -73,7 +79,7 @@ module _ (c : Collection) where
         unions = λ i x at. more.0 i x (was.unions i x at);
         parts = λ i x at. more.1 i x (was.parts i x at);
         seated = seated_united c vs ws qs rs (united g.1) inner joined was.seated;
-        placed = λ count h. placed_united c vs ws qs rs count (united g.1) inner joined was.seated (was.placed count h);
+        placed = λ count h. placed_united c vs ws qs rs (united g.1) count inner joined was.seated (was.placed count h);
         exports = zip_push (IsExportOf c ws rs u) gs es g (g.0, e)
             (zip_known (IsHeldGroup c ps) (IsExportOf c vs qs u) (IsExportOf c ws rs u)
             (λ f d h k. (k.0, export_still c vs ws qs rs u f.0 f.1 d.1 (keeps_from vs ws more.0) more.1 (listing_parts qs f.1 (listing_still ps qs was.parts f.1 h.1)) k.1)) gs es groups was.exports)

@@ -1,8 +1,8 @@
 -- Unions and parts that stay while more come behind them.
-use Rattle.std.proofs.Common.{◌≡◌, ◌==◌, ◌≢◌, ℕ, zero, suc, ◌+◌, ◌<◌, ◌≤◌, Bool, true, false, ◌||◌, List, [], ◌∷◌, ◌++◌, map, take, length, slice_get, get_or, Option, Some, None, is_some, inl, inr, refl, sym, ap, ◌∙◌, subst, arith, add-one}
+use Rattle.std.proofs.Common.{◌≡◌, ◌≢◌, ℕ, zero, suc, ◌+◌, ◌<◌, ◌≤◌, Bool, true, false, ◌||◌, List, [], ◌∷◌, ◌++◌, map, take, length, slice_get, get_or, Option, Some, None, is_some, inl, inr, refl, sym, ap, ◌∙◌, subst, arith, add-one}
 use Rattle.std.proofs.Math.ListN.{set}
 use Rattle.std.specs.List.{AllByRecursion, AllZip, Contains, list_any}
-use Rattle.std.proofs.lemmas.Bool.{or_parts, or_from, eqb-true}
+use Rattle.std.proofs.lemmas.Bool.{or_parts, or_from}
 use Rattle.std.proofs.lemmas.Option.{slice_get_within}
 use Rattle.std.proofs.lemmas.List.{length-append, append-nil}
 use Rattle.wac_shapes.proofs.Names.{take_at}
@@ -18,9 +18,9 @@ use Rattle.wac_terms.specs.declared.parts.Part.{Part}
 use Rattle.wac_terms.specs.declared.parts.Export.{Export}
 use Rattle.wac_terms.specs.declared.parts.Union.{Union}
 use Rattle.wac_terms.specs.Unions.{part, part_lists, listed_under, instances_in, united, is_own_of, AreParts, IsInner, IsExport}
-use Rattle.wac_uniting.specs.UnionSteps.{IsHeldPart, IsHeldListing, numbered, IsPushed, inside_part, root_part, IsUnited, Extends, KeepsParts, AreSeated, ArePlaced, AreRoots}
+use Rattle.wac_uniting.specs.UnionSteps.{IsHeldPart, IsHeldListing, numbered, IsPushed, inside_part, root_part, Extends, KeepsParts, AreSeated, ArePlaced, AreRoots}
 use Rattle.wac_entries.proofs.Lists.{at-push, at-end, push-cases, set-cases}
-use Rattle.wac_uniting.proofs.UnionLists.{some-same, contains_at, at_contains, append_left, append_right, append_cases, all_from, all_at, numbered_at, at_numbered, get_map, map_cases, map_push, zip_all, numbered_zip}
+use Rattle.wac_uniting.proofs.UnionLists.{some-same, contains_at, at_contains, append_left, append_right, append_cases, all_from, all_at, numbered_at, at_numbered, get_map, map_cases, zip_all, numbered_zip}
 
 -- ---- parts that stay
 
@@ -330,12 +330,11 @@ instances_both ((p, kind.Module m) ∷ ls) ms = instances_both ls ms
 instances_both ((p, kind.Value v) ∷ ls) ms = instances_both ls ms
 
 -- an instance more
-pub instance_next : (u : ℕ) (ls : List (ℕ × ItemKind)) (qs rs : List Part) (i p : ℕ) (k : ItemKind) (id : InterfaceId) → slice_get ls i ≡ Some (p, k) → k ≡ kind.Instance id
-    → qs ≡ map (inside_part u) (instances_in (take i ls)) → rs ≡ qs ++ part id (Some p) u ∷ [] → rs ≡ map (inside_part u) (instances_in (take (i + 1) ls))
-instance_next u ls qs rs i p k id at same was is =
+pub instance_next : (ls : List (ℕ × ItemKind)) (is js : List (ℕ × InterfaceId)) (i p : ℕ) (k : ItemKind) (id : InterfaceId) → slice_get ls i ≡ Some (p, k) → k ≡ kind.Instance id
+    → is ≡ instances_in (take i ls) → js ≡ is ++ (p, id) ∷ [] → js ≡ instances_in (take (i + 1) ls)
+instance_next ls is js i p k id at same was next =
     rw (add-one, take_at ls i (p, k) at)
-    (is ∙ ap (λ l. l ++ part id (Some p) u ∷ []) was
-    ∙ sym (ap (map (inside_part u)) (instances_both (take i ls) ((p, k) ∷ []) ∙ ap (λ j. instances_in (take i ls) ++ instances_in ((p, j) ∷ [])) same) ∙ map_push (inside_part u) (instances_in (take i ls)) (p, id)))
+    (next ∙ ap (λ l. l ++ (p, id) ∷ []) was ∙ sym (instances_both (take i ls) ((p, k) ∷ []) ∙ ap (λ j. instances_in (take i ls) ++ instances_in ((p, j) ∷ [])) same))
 
 -- no instance
 no_instance : (p : ℕ) (k : ItemKind) → ((i : InterfaceId) → k ≡ kind.Instance i → ⊥) → instances_in ((p, k) ∷ []) ≡ []
@@ -346,11 +345,11 @@ no_instance p (kind.Component w) other = refl
 no_instance p (kind.Module m) other = refl
 no_instance p (kind.Value v) other = refl
 
-pub no_instance_next : (u : ℕ) (ls : List (ℕ × ItemKind)) (qs : List Part) (i p : ℕ) (k : ItemKind) → slice_get ls i ≡ Some (p, k) → ((i : InterfaceId) → k ≡ kind.Instance i → ⊥)
-    → qs ≡ map (inside_part u) (instances_in (take i ls)) → qs ≡ map (inside_part u) (instances_in (take (i + 1) ls))
-no_instance_next u ls qs i p k at other was =
+pub no_instance_next : (ls : List (ℕ × ItemKind)) (is : List (ℕ × InterfaceId)) (i p : ℕ) (k : ItemKind) → slice_get ls i ≡ Some (p, k) → ((i : InterfaceId) → k ≡ kind.Instance i → ⊥)
+    → is ≡ instances_in (take i ls) → is ≡ instances_in (take (i + 1) ls)
+no_instance_next ls is i p k at other was =
     rw (add-one, take_at ls i (p, k) at)
-    (was ∙ ap (map (inside_part u)) (sym (instances_both (take i ls) ((p, k) ∷ []) ∙ ap (λ l. instances_in (take i ls) ++ l) (no_instance p k other) ∙ append-nil (instances_in (take i ls)))))
+    (was ∙ sym (instances_both (take i ls) ((p, k) ∷ []) ∙ ap (λ l. instances_in (take i ls) ++ l) (no_instance p k other) ∙ append-nil (instances_in (take i ls))))
 
 -- ---- what is united, in one step
 
@@ -367,51 +366,16 @@ any_next {A = A} f xs i x at was none = rw (add-one, take_at xs i x at) (any_bot
     any_both [] h = or_from (f x) false none refl
     any_both (y ∷ ys) h = let q = or_parts (f y) (list_any f ys) h in or_from (f y) (list_any f (ys ++ x ∷ [])) q.0 (any_both ys q.1)
 
-module _ (us vs : List Union) (ps qs more : List Part) (is : List (ℕ × InterfaceId)) (are : more ≡ map (inside_part (length us)) is) where
-  pub some_united : 0 < length more → IsPushed us ps more vs qs → IsUnited us ps is vs qs
-  some_united lt pushed = by is are
-    where
-      by : (js : List (ℕ × InterfaceId)) → more ≡ map (inside_part (length us)) js → IsUnited us ps js vs qs
-      by [] e = let n : length more ≡ 0 = ap length e in absurd (omega (arith, n, lt))
-      by (j ∷ js) e = subst (λ (l : List Part). IsPushed us ps l vs qs) e pushed
-
-  pub some_inner : (u : ℕ) → u < length us → 0 < length more → IsPushed us ps more vs qs → IsInner vs qs u is (Some (length us))
-  some_inner u before lt pushed = by is are
-    where
-      by : (js : List (ℕ × InterfaceId)) → more ≡ map (inside_part (length us)) js → IsInner vs qs u js (Some (length us))
-      by [] e = let n : length more ≡ 0 = ap length e in absurd (omega (arith, n, lt))
-      by (j ∷ js) e =
-          let new = map (inside_part (length us)) (j ∷ js) in
-          let there : slice_get vs (length us) ≡ Some pushed.0 = ap (λ l. slice_get l (length us)) pushed.1 ∙ at-end us pushed.0 in
-          let named : pushed.0.parts.items ≡ numbered (length ps) new = pushed.2 ∙ ap (numbered (length ps)) e in
-          let are-parts : qs ≡ ps ++ new = pushed.3 ∙ ap (λ l. ps ++ l) e in
-          let zip = numbered_zip (inside_part (length us)) qs (length ps) (j ∷ js) (λ k i at. ap (λ l. slice_get l (length ps + k)) are-parts ∙ append_right ps new k ∙ get_map (inside_part (length us)) (j ∷ js) k i at) in
-          (length us, pushed.0, refl, before, there, subst (λ (l : List ℕ). AreParts qs (length us) (j ∷ js) l) (sym named) zip)
-
-  pub none_united : length more ≤ 0 → vs ≡ us → qs ≡ ps → IsUnited us ps is vs qs
-  none_united le same-unions same-parts = by is are
-    where
-      by : (js : List (ℕ × InterfaceId)) → more ≡ map (inside_part (length us)) js → IsUnited us ps js vs qs
-      by [] e = (same-unions, same-parts)
-      by (j ∷ js) e = let n : length more ≡ suc (length (map (inside_part (length us)) js)) = ap length e in absurd (omega (arith, n, le))
-
-  pub none_inner : (u : ℕ) → length more ≤ 0 → IsInner vs qs u is None
-  none_inner u le = by is are
-    where
-      by : (js : List (ℕ × InterfaceId)) → more ≡ map (inside_part (length us)) js → IsInner vs qs u js None
-      by [] e = refl
-      by (j ∷ js) e = let n : length more ≡ suc (length (map (inside_part (length us)) js)) = ap length e in absurd (omega (arith, n, le))
+-- the union that was put behind the others is that of what is united
+pub put_inner : (us vs : List Union) (ps qs : List Part) (u : ℕ) (is : List (ℕ × InterfaceId)) → u < length us → is ≢ [] → IsPushed us ps (map (inside_part (length us)) is) vs qs → IsInner vs qs u is (Some (length us))
+put_inner us vs ps qs u [] before some pushed = absurd (some refl)
+put_inner us vs ps qs u (i ∷ is) before some pushed =
+    let new = map (inside_part (length us)) (i ∷ is) in
+    let there : slice_get vs (length us) ≡ Some pushed.0 = ap (λ l. slice_get l (length us)) pushed.1 ∙ at-end us pushed.0 in
+    let zip = numbered_zip (inside_part (length us)) qs (length ps) (i ∷ is) (λ k j at. ap (λ l. slice_get l (length ps + k)) pushed.3 ∙ append_right ps new k ∙ get_map (inside_part (length us)) (i ∷ is) k j at) in
+    (length us, pushed.0, refl, before, there, subst (λ (l : List ℕ). AreParts qs (length us) (i ∷ is) l) (sym pushed.2) zip)
 
 -- the first of those that are listed
 pub first_listed : (ls : List (ℕ × ItemKind)) (d : ℕ × ItemKind) → ls ≢ [] → (more : List (ℕ × ItemKind)) × (ls ≡ ((get_or ls 0 d).0, (get_or ls 0 d).1) ∷ more)
 first_listed [] d some = absurd (some refl)
 first_listed (l ∷ ls) d some = (ls, refl)
-
--- ---- whether a number is none
-
-pub not_zero : (n : ℕ) → (n == 0) ≡ false → 0 < n
-not_zero zero e = cc
-not_zero (suc n) e = omega arith
-
-pub is_zero : (n : ℕ) → (n == 0) ≡ true → n ≤ 0
-is_zero n e = let none : n ≡ 0 = eqb-true n 0 e in omega (arith, none)

@@ -1,5 +1,5 @@
 -- Fewer are left with each union that is opened.
-use Rattle.std.proofs.Common.{◌≡◌, ℕ, zero, suc, ◌+◌, ◌<◌, ◌≤◌, true, List, [], ◌∷◌, ◌++◌, map, length, slice_get, Some, refl, ap, ◌∙◌, arith}
+use Rattle.std.proofs.Common.{◌≡◌, ◌≢◌, inl, inr, ℕ, zero, suc, ◌+◌, ◌<◌, ◌≤◌, true, List, [], ◌∷◌, ◌++◌, map, length, slice_get, Some, refl, ap, ◌∙◌, arith}
 use Rattle.std.proofs.Math.ListN.{set}
 use Rattle.std.specs.List.{AllByRecursion}
 use Rattle.wac_shapes.specs.Name.{option_case}
@@ -14,7 +14,7 @@ use Rattle.wac_terms.specs.declared.parts.Union.{Union}
 use Rattle.wac_entries.specs.Scopes.{opened}
 use Rattle.wac_entries.specs.Opening.{total, count_in}
 use Rattle.wac_terms.specs.Unions.{part_lists, instances_in, united}
-use Rattle.wac_uniting.specs.UnionSteps.{IsHeldPart, IsHeldListing, numbered, inside_part, IsUnited, Extends, AreSeated, listed_weight, parts_weight, kind_weight, group_weight, left_over}
+use Rattle.wac_uniting.specs.UnionSteps.{IsHeldPart, IsHeldListing, numbered, inside_part, IsPushed, IsUnited, Extends, AreSeated, listed_weight, parts_weight, kind_weight, group_weight, left_over}
 use Rattle.wac_entries.proofs.Opening.{count-inner}
 use Rattle.wac_uniting.proofs.UnionLists.{some-same, append_left, append_right, get_map}
 use Rattle.wac_uniting.proofs.UnionPlaces.{part_still, members_held, after_push}
@@ -110,11 +110,11 @@ module _ (c : Collection) where
     united_less ps ((p, kind.Value v) ∷ ls) h = omega arith
 
     module _ (us vs : List Union) (ps qs : List Part) (n : ℕ) (le : n ≤ length us) (seated : AreSeated c us ps) where
-      left_inner : (is : List (ℕ × InterfaceId)) (w : ℕ) → with_themselves is ≤ w → IsUnited us ps is vs qs → left_over c vs qs n ≤ left_over c us ps n + w
-      left_inner [] w most h = let e : left_over c vs qs n ≡ left_over c us ps n = (λ i. left_over c (h.0 i) (h.1 i) n) in omega (arith, e)
-      left_inner (i ∷ is) w most h =
+      left_pushed : (is : List (ℕ × InterfaceId)) (w : ℕ) → is ≢ [] → with_themselves is ≤ w → IsPushed us ps (map (inside_part (length us)) is) vs qs → left_over c vs qs n ≤ left_over c us ps n + w
+      left_pushed [] w some most pushed = absurd (some refl)
+      left_pushed (i ∷ is) w some most pushed =
           let more = map (inside_part (length us)) (i ∷ is) in
-          after_push (λ l m. left_over c l m n ≤ left_over c us ps n + w) us vs ps qs more h (λ x named.
+          after_push (λ l m. left_over c l m n ≤ left_over c us ps n + w) us vs ps qs more pushed (λ x named.
           let a = left_push us x (ps ++ more) n le in
           let b = left_still us ps (ps ++ more) n (append_left ps more) (λ u y at. members_held c us ps u y seated at) in
           let d : parts_weight c (ps ++ more) x.parts.items ≡ inner_weight (i ∷ is) =
@@ -124,4 +124,7 @@ module _ (c : Collection) where
           omega (arith, a, b, d, e, most))
 
       pub left_united : (ls : List (ℕ × ItemKind)) → AllByRecursion (IsHeldListing c ps) ls → IsUnited us ps (united ls) vs qs → left_over c vs qs n ≤ left_over c us ps n + group_weight c ls
-      left_united ls held h = left_inner (united ls) (group_weight c ls) (united_less ps ls held) h
+      left_united ls held h = elim h [
+        | inl same ↦ let e : left_over c vs qs n ≡ left_over c us ps n = (λ i. left_over c (same.0 i) (same.1 i) n) in omega (arith, e)
+        | inr put ↦ left_pushed (united ls) (group_weight c ls) put.0 (united_less ps ls held) put.1
+      ]

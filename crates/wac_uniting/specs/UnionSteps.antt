@@ -1,5 +1,6 @@
 -- Unions while they are found. Private functions alone cite this.
-use Rattle.std.specs.Prelude.{ℕ, zero, suc, ◌+◌, ◌≡◌, ◌≢◌, ◌<◌, ◌≤◌, true, if◌then◌else◌, List, [], ◌∷◌, ◌++◌, map, length, Some, None, slice_get, Contains}
+use Rattle.std.specs.Prelude.{ℕ, zero, suc, ◌+◌, ◌≡◌, ◌≢◌, ◌<◌, ◌≤◌, true, if◌then◌else◌, List, [], ◌∷◌, ◌++◌, map, length, Some, None, slice_get, Contains, ◌⊎◌, Vec}
+use Rattle.std.specs.Global.{Global}
 use Rattle.std.specs.List.{AllByRecursion, AllZip}
 use Rattle.std.specs.Option.{MatchOption}
 use Rattle.wac_shapes.specs.Name.{Name, same_name, find_name}
@@ -13,7 +14,7 @@ use Rattle.wac_terms.specs.declared.parts.Part.{Part}
 use Rattle.wac_terms.specs.declared.parts.Export.{Export}
 use Rattle.wac_terms.specs.declared.parts.Union.{Union}
 use Rattle.wac_terms.specs.Merge.{names_behind}
-use Rattle.wac_terms.specs.Unions.{part, part_lists, listed_under, IsExport, AreAround}
+use Rattle.wac_terms.specs.Unions.{part, part_lists, listed_under, IsInner, IsExport, AreAround}
 
 -- ---- what is listed, by name
 
@@ -63,10 +64,13 @@ inside_part u i = part i.1 (Some i.0) u
 abbrev pub root_part : ℕ → InterfaceId → Part
 root_part u i = part i None u
 
--- the union of these interfaces was put behind the others, where there are any
+-- these interfaces were united: their union is one that was there, or was put behind the others
 abbrev pub IsUnited : List Union → List Part → List (ℕ × InterfaceId) → List Union → List Part → Type 0
-IsUnited us ps [] vs qs = (vs ≡ us) × (qs ≡ ps)
-IsUnited us ps (i ∷ is) vs qs = IsPushed us ps (map (inside_part (length us)) (i ∷ is)) vs qs
+IsUnited us ps is vs qs = ((vs ≡ us) × (qs ≡ ps)) ⊎ ((is ≢ []) × IsPushed us ps (map (inside_part (length us)) is) vs qs)
+
+-- each of these is the union of the interfaces that it stands under, in the one at a position
+abbrev pub AreKnown : List Union → List Part → ℕ → List (Vec (ℕ × InterfaceId) Global × ℕ) → Type 0
+AreKnown us ps u known = AllByRecursion (λ e. IsInner us ps u e.0.items (Some e.1)) known
 
 -- ---- what there is while they are found
 

@@ -2,10 +2,11 @@
 ghost use Rattle.std.specs.Prelude.{◌≡◌, ◌≢◌, ◌<◌, [], length, map, IfOk, OnOk};
 ghost use Rattle.std.specs.List.{AllByRecursion, list_any};
 ghost use Rattle.wac_collection.specs.Collection.{HasInterface, IsWellFormed};
-ghost use Rattle.wac_uniting.specs.UnionSteps.{AreOpen, AreSeated, inside_part, IsHeldGroup, IsHeldListing, IsJoined, IsPushed, IsUnited, root_part};
-ghost use Rattle.wac_terms.specs.Unions.{AreUnions, instances_in, is_own_of, IsExport, united};
+ghost use Rattle.wac_uniting.specs.UnionSteps.{AreKnown, AreOpen, AreSeated, inside_part, IsHeldGroup, IsHeldListing, IsJoined, IsPushed, IsUnited, root_part};
+ghost use Rattle.wac_terms.specs.Unions.{AreUnions, instances_in, is_own_of, IsExport, IsInner, united};
 
 use crate::grouped::Grouped;
+use indexmap::IndexMap;
 use std::alloc::{AllocError, Global};
 use wac_collection::{InterfaceId, ItemKind, Named, ShapeError, Type, Types};
 use wac_entries::bound::own_resource;
@@ -20,48 +21,41 @@ pub struct Unions {
     pub parts: Vec<Part>,
 }
 
-/// The parts of the union at a position for the instances among what is listed.
+/// The union of each list of interfaces, each of which is listed in a part, under the names of one union.
+type Known = IndexMap<Vec<(usize, InterfaceId)>, usize>;
+
+/// The instances among what is listed, with the parts that list them.
 fn instances(
     alloc: Global,
     listed: &[(usize, ItemKind)],
-    union: usize,
-) -> Result<Vec<Part>, AllocError>
-    ensures { IfOk result (λ ps. ps.items ≡ map (inside_part union) (instances_in listed.now)) }
+) -> Result<Vec<(usize, InterfaceId)>, AllocError>
+    ensures { IfOk result (λ is. is.items ≡ instances_in listed.now) }
 {
-    let mut parts = Vec::new(alloc);
+    let mut instances = Vec::new(alloc);
     for index in 0..listed.len() {
         let (part, kind) = listed[index];
         if let ItemKind::Instance(interface) = kind {
-            parts.push(Part {
-                interface,
-                outer: Some(part),
-                union,
-            })?;
+            instances.push((part, interface))?;
         }
     }
-    Ok(parts)
+    Ok(instances)
 }
 
-/// The parts of the union at a position for what is listed under a name.
+/// The interfaces that are united under a name where these are listed, with the parts that list them.
 fn united(
     alloc: Global,
     listed: &[(usize, ItemKind)],
-    union: usize,
-) -> Result<Vec<Part>, AllocError>
+) -> Result<Vec<(usize, InterfaceId)>, AllocError>
     requires { listed.now ≢ [] }
-    ensures { IfOk result (λ ps. ps.items ≡ map (inside_part union) (united listed.now)) }
+    ensures { IfOk result (λ is. is.items ≡ united listed.now) }
 {
     let (part, kind) = listed[0];
     match kind {
-        ItemKind::Instance(_) => instances(alloc, listed, union),
+        ItemKind::Instance(_) => instances(alloc, listed),
         ItemKind::TypeItem(Type::Interface(interface)) => {
-            let mut parts = Vec::new(alloc);
-            parts.push(Part {
-                interface,
-                outer: Some(part),
-                union,
-            })?;
-            Ok(parts)
+            let mut interfaces = Vec::new(alloc);
+            interfaces.push((part, interface))?;
+            Ok(interfaces)
         }
         _ => Ok(Vec::new(alloc)),
     }
@@ -140,7 +134,54 @@ impl Unions {
         self.push(alloc, parts.as_slice())
     }
 
-    /// What stands under a name in the union at a position. Puts the union of the interfaces under it behind the others.
+    /// Puts the union of these interfaces, each of which is listed in a part, behind the others.
+    fn push_inner(
+        &mut self,
+        alloc: Global,
+        interfaces: &[(usize, InterfaceId)],
+    ) -> Result<(), AllocError>
+        ensures { OnOk result (IsPushed self.old.unions.items self.old.parts.items (map (inside_part (length self.old.unions.items)) interfaces.now) self.new.unions.items self.new.parts.items) }
+    {
+        let union = self.unions.len();
+        let mut parts = Vec::new(alloc);
+        for index in 0..interfaces.len() {
+            let (part, interface) = interfaces[index];
+            parts.push(Part {
+                interface,
+                outer: Some(part),
+                union,
+            })?;
+        }
+        self.push(alloc, parts.as_slice())
+    }
+
+    /// The union of these interfaces, if there are any, in the one at a position. It is put behind the others where none is known.
+    fn inner(
+        &mut self,
+        alloc: Global,
+        position: usize,
+        interfaces: Vec<(usize, InterfaceId)>,
+        known: &mut Known,
+    ) -> Result<Option<usize>, AllocError>
+        requires within { position < length self.old.unions.items }
+        requires known { AreKnown self.old.unions.items self.old.parts.items position known.old.entries }
+        ensures united { OnOk result (IsUnited self.old.unions.items self.old.parts.items interfaces.items self.new.unions.items self.new.parts.items) }
+        ensures inner { IfOk result (λ o. IsInner self.new.unions.items self.new.parts.items position interfaces.items o) }
+        ensures known { OnOk result (AreKnown self.new.unions.items self.new.parts.items position known.new.entries) }
+    {
+        if interfaces.is_empty() {
+            return Ok(None);
+        }
+        if let Some((_, _, union)) = known.get_full(interfaces.as_slice()) {
+            return Ok(Some(*union));
+        }
+        let union = self.unions.len();
+        self.push_inner(alloc, interfaces.as_slice())?;
+        known.insert(interfaces, union)?;
+        Ok(Some(union))
+    }
+
+    /// What stands under a name in the union at a position. Puts the union of the interfaces under it behind the others, where none is known.
     fn export(
         &mut self,
         alloc: Global,
@@ -148,23 +189,20 @@ impl Unions {
         position: usize,
         name: &str,
         listed: &[(usize, ItemKind)],
+        known: &mut Known,
     ) -> Result<Export, AllocError>
         requires some { listed.now ≢ [] }
         requires within { position < length self.old.unions.items }
         requires held { AllByRecursion (IsHeldListing types.now self.old.parts.items) listed.now }
+        requires known { AreKnown self.old.unions.items self.old.parts.items position known.old.entries }
         ensures united { OnOk result (IsUnited self.old.unions.items self.old.parts.items (united listed.now) self.new.unions.items self.new.parts.items) }
         ensures export { IfOk result (λ e. IsExport types.now self.new.unions.items self.new.parts.items position name.now listed.now e) }
+        ensures known { OnOk result (AreKnown self.new.unions.items self.new.parts.items position known.new.entries) }
     {
         let (part, kind) = listed[0];
         let is_own = is_own(types, self.parts.as_slice(), name, listed);
-        let union = self.unions.len();
-        let parts = united(alloc, listed, union)?;
-        let inner = if parts.is_empty() {
-            None
-        } else {
-            self.push(alloc, parts.as_slice())?;
-            Some(union)
-        };
+        let interfaces = united(alloc, listed)?;
+        let inner = self.inner(alloc, position, interfaces, known)?;
         Ok(Export {
             kind,
             part,
@@ -189,9 +227,10 @@ impl Unions {
     {
         grouped.law();
         let mut exports = Named::with_capacity(alloc, grouped.len())?;
+        let mut known = IndexMap::new(alloc);
         for index in 0..grouped.len() {
             let (name, listed) = grouped.entry_at(index);
-            let export = self.export(alloc, types, position, name, listed)?;
+            let export = self.export(alloc, types, position, name, listed, &mut known)?;
             match exports.insert(alloc, name, export) {
                 Ok(()) => {}
                 Err(ShapeError::OutOfMemory) => return Err(AllocError),

@@ -17,8 +17,7 @@ use Rattle.wac_collection.specs.Collection.{Collection, item_at}
 use Rattle.wac_entries.proofs.Lists.{set-cases, some-at}
 use Rattle.wac_terms.proofs.Found.{no_some, one_some, some_same}
 use Rattle.wac_uses.specs.KeptUses.{with_instance}
-use Rattle.wac_uses.specs.United.{instances_of, listed_by}
-use Rattle.wac_uses.specs.Using.{HaveListed, HaveMore, inner_users, with_users}
+use Rattle.wac_uses.specs.Using.{HaveListed, HaveMore}
 use Rattle.wac_uses.proofs.Inside.{named-next}
 
 -- the instance under a name among items
@@ -151,12 +150,3 @@ module _ (es : List (Name × ItemKind)) where
         let v = some-at old j (omega (arith, low, count)) in
         more.each j n k v.0 w here v.1 w-at ∙ (ap (λ l. l ++ under it.exports n) (have.each j n k v.0 here v.1) ∙ sym (named-next c is q i it n (find_name it.exports n) at there refl));
   }
-
--- what an item is made of, by its list
-pub made-of : (c : Collection) (is : List InterfaceId) (n : Name) (k : ItemKind) (js : List InterfaceId) → js ≡ instances_of (listed_by c is n) → with_users k js ≡ inner_users c is ((n, k) ∷ [])
-made-of c is n (kind.Instance i) js same = ap (λ l. l ∷ []) same
-made-of c is n (kind.TypeItem t) js same = refl
-made-of c is n (kind.Func f) js same = refl
-made-of c is n (kind.Component w) js same = refl
-made-of c is n (kind.Module y) js same = refl
-made-of c is n (kind.Value v) js same = refl

@@ -1,8 +1,8 @@
 -- The interfaces inside one, as they are put one after another, and that fewer are left with each.
-use Rattle.std.proofs.Common.{◌≡◌, ℕ, zero, suc, ◌+◌, ◌<◌, ◌≤◌, true, List, [], ◌∷◌, ◌++◌, length, map, slice_get, take, Option, Some, None, inl, inr, refl, sym, ap, ◌∙◌, subst, arith}
-use Rattle.std.specs.Prelude.{◌⊎◌}
-use Rattle.std.proofs.lemmas.Bool.{false≢true}
-use Rattle.std.proofs.lemmas.List.{append_assoc, length-append}
+use Rattle.std.proofs.Common.{◌≡◌, ℕ, zero, suc, ◌+◌, ◌<◌, ◌≤◌, true, List, [], ◌∷◌, ◌++◌, length, slice_get, take, Option, Some, None, inl, inr, refl, sym, ap, ◌∙◌, subst, arith}
+use Rattle.std.specs.Global.{Global}
+use Rattle.std.specs.Prelude.{◌⊎◌, Vec}
+use Rattle.std.proofs.lemmas.List.{length-append}
 use Rattle.std.proofs.lemmas.Option.{slice_get_within}
 use Rattle.wac_shapes.specs.Name.{Name, find_name, option_case}
 use Rattle.wac_shapes.specs.Kinds.{kind_type}
@@ -10,68 +10,24 @@ use Rattle.wac_shapes.specs.declared.component.Interface.{Interface}
 use Rattle.wac_shapes.specs.declared.component.InterfaceId.{InterfaceId}
 use Rattle.wac_shapes.specs.declared.component.ItemKind.{ItemKind}
 use Rattle.wac_shapes.specs.declared.component.ItemKind.TheVariants as kind
-use Rattle.wac_shapes.specs.declared.component.«Type».TheVariants as ty
-use Rattle.wac_shapes.specs.Named.{NoNameTwice}
 use Rattle.wac_shapes.proofs.Names.{find_name-at, take_at}
 use Rattle.wac_collection.specs.Collection.{Collection, HasInterface, IsWellFormed, holds_type, interface_exports, item_at}
-use Rattle.wac_entries.specs.Classes.{is_instance}
 use Rattle.wac_entries.specs.Opening.{count_in, total}
-use Rattle.wac_entries.specs.Scopes.{opened, opened_by, opened_by_type}
+use Rattle.wac_entries.specs.Scopes.{opened, opened_by}
 use Rattle.wac_entries.specs.declared.scopes.Opener.{Opener}
 use Rattle.wac_entries.specs.declared.scopes.Opener.TheVariants as opener
-use Rattle.wac_entries.proofs.Lists.{push-cases}
-use Rattle.wac_entries.proofs.Opening.{below, count-inner, get-left, get-right}
+use Rattle.wac_entries.proofs.Lists.{at-end, at-push, push-cases, some-at}
+use Rattle.wac_entries.proofs.Opening.{below, count-inner}
 use Rattle.wac_entries.proofs.Places.{exports_held}
 use Rattle.wac_terms.proofs.Found.{no_some, one_some, some_same}
 use Rattle.wac_uses.specs.KeptUses.{with_instance}
 use Rattle.wac_uses.specs.United.{instances_of, listed_by}
-use Rattle.wac_uses.specs.Using.{AreBare, AreInside, AreInterfaces, IsAmong, IsOpened, inner_places, inner_users, left_inside}
+use Rattle.wac_uses.specs.Using.{AreBare, AreInside, AreInterfaces, AreKnown, ArePlaced, IsAmong, IsItemPlaced, IsOpened, Keeps, left_inside}
 use Rattle.wac_uses.proofs.Growing.{found-held, interface-there}
-
-abbrev kinds : List (Name × ItemKind) → List ItemKind
-kinds es = map (λ e. e.1) es
 
 abbrev interface-of : InterfaceId → ItemKind → InterfaceId
 interface-of d (kind.Instance i) = i
 interface-of d k = d
-
-get-cases : {A : Type 0} (xs ys : List A) (i : ℕ) (x : A) → slice_get (xs ++ ys) i ≡ Some x → (slice_get xs i ≡ Some x) ⊎ ((j : ℕ) × (i ≡ length xs + j) × (slice_get ys j ≡ Some x))
-get-cases [] ys i x at = inr (i, omega arith, at)
-get-cases (z ∷ xs) ys zero x at = inl at
-get-cases (z ∷ xs) ys (suc i) x at = elim (get-cases xs ys i x at) [
-  | inl h ↦ inl h
-  | inr h ↦ let e = h.1 in inr (h.0, omega (arith, e), h.2)
-]
-
--- ---- one item more
-
-pub instances-push : (xs : List (Name × ItemKind)) (e : Name × ItemKind) → instances_of (kinds (xs ++ e ∷ [])) ≡ instances_of (kinds xs) ++ instances_of (e.1 ∷ [])
-instances-push [] e = refl
-instances-push ((n, kind.Instance i) ∷ xs) e = ap (λ l. i ∷ l) (instances-push xs e)
-instances-push ((n, k) ∷ xs) e = instances-push xs e
-
-pub users-push : (c : Collection) (is : List InterfaceId) (xs : List (Name × ItemKind)) (e : Name × ItemKind) → inner_users c is (xs ++ e ∷ []) ≡ inner_users c is xs ++ inner_users c is (e ∷ [])
-users-push c is [] e = refl
-users-push c is ((n, kind.Instance i) ∷ xs) e = ap (λ l. instances_of (listed_by c is n) ∷ l) (users-push c is xs e)
-users-push c is ((n, k) ∷ xs) e = users-push c is xs e
-
-one-place : (b : ℕ) (e : Name × ItemKind) → inner_places b (e ∷ []) ≡ (b + 0) ∷ []
-one-place b (n, kind.Instance i) = let same : b ≡ b + 0 = omega arith in ap (λ p. p ∷ []) same
-one-place b (n, k) = let same : b ≡ b + 0 = omega arith in ap (λ p. p ∷ []) same
-
-pub places-push : (b : ℕ) (xs : List (Name × ItemKind)) (e : Name × ItemKind) → inner_places b (xs ++ e ∷ []) ≡ inner_places b xs ++ (b + length (instances_of (kinds xs))) ∷ []
-places-push b [] e = one-place b e
-places-push b ((n, kind.Instance i) ∷ xs) e =
-    let count = length (instances_of (kinds xs)) in
-    let same : suc b + count ≡ b + suc count = omega arith in
-    ap (λ l. b ∷ l) (places-push (suc b) xs e ∙ ap (λ p. inner_places (suc b) xs ++ p ∷ []) same)
-places-push b ((n, k) ∷ xs) e = ap (λ l. b ∷ l) (places-push b xs e)
-
--- what was put for items that were read, with one item more
-pub items-grown : {A : Type 0} (F : List (Name × ItemKind) → List A) (first xs ys : List A) (es : List (Name × ItemKind)) (j : ℕ) (e : Name × ItemKind) → slice_get es j ≡ Some e → F (take j es ++ e ∷ []) ≡ F (take j es) ++ F (e ∷ [])
-    → xs ≡ first ++ F (take j es) → ys ≡ xs ++ F (e ∷ []) → ys ≡ first ++ F (take (suc j) es)
-items-grown F first xs ys es j e at push seen new =
-    new ∙ (ap (λ l. l ++ F (e ∷ [])) seen ∙ (append_assoc first (F (take j es)) (F (e ∷ [])) ∙ ap (λ l. first ++ l) (sym (ap F (take_at es j e at) ∙ push))))
 
 -- ---- one interface more
 
@@ -111,35 +67,6 @@ named-next c is j i it n o at there found =
       one None = refl
       one (Some k) = one-instance k
 
--- ---- what stands where
-
-users-counted : (c : Collection) (is : List InterfaceId) (es : List (Name × ItemKind)) → length (inner_users c is es) ≡ length (instances_of (kinds es))
-users-counted c is [] = refl
-users-counted c is ((n, kind.Instance i) ∷ es) = ap suc (users-counted c is es)
-users-counted c is ((n, k) ∷ es) = users-counted c is es
-
--- an interface that is put stands as an instance in the items
-instance-at : (es : List (Name × ItemKind)) (d : ℕ) (k : InterfaceId) → slice_get (instances_of (kinds es)) d ≡ Some k → (j : ℕ) × (n : Name) × (slice_get es j ≡ Some (n, kind.Instance k))
-instance-at [] d k at = absurd (no_some k at)
-instance-at ((n, kind.Instance i) ∷ es) zero k at = (0, n, ap (λ x. Some (n, kind.Instance x)) (some_same i k at))
-instance-at ((n, kind.Instance i) ∷ es) (suc d) k at = let r = instance-at es d k at in (suc r.0, r.1, r.2)
-instance-at ((n, other) ∷ es) d k at = let r = instance-at es d k at in (suc r.0, r.1, r.2)
-
--- the interface of an instance is put at its place, with what it is made of
-inner-at : (c : Collection) (is : List InterfaceId) (es : List (Name × ItemKind)) (b j : ℕ) (n : Name) (k : InterfaceId) → slice_get es j ≡ Some (n, kind.Instance k)
-    → (d : ℕ) × (slice_get (inner_places b es) j ≡ Some (b + d)) × (slice_get (instances_of (kinds es)) d ≡ Some k) × (slice_get (inner_users c is es) d ≡ Some (instances_of (listed_by c is n)))
-inner-at c is [] b j n k at = absurd (no_some (n, kind.Instance k) at)
-inner-at c is ((o, kind.Instance i) ∷ es) b zero n k at =
-    let same : ◌≡◌ {A = Name × ItemKind} (o, kind.Instance i) (n, kind.Instance k) = some_same (o, kind.Instance i) (n, kind.Instance k) at in
-    let plus : b ≡ b + 0 = omega arith in
-    (0, ap Some plus, ap (λ (e : Name × ItemKind). Some (interface-of i e.1)) same, ap (λ (e : Name × ItemKind). Some (instances_of (listed_by c is e.0))) same)
-inner-at c is ((o, kind.Instance i) ∷ es) b (suc j) n k at =
-    let r = inner-at c is es (suc b) j n k at in
-    let plus : suc b + r.0 ≡ b + suc r.0 = omega arith in
-    (suc r.0, r.1 ∙ ap Some plus, r.2, r.3)
-inner-at c is ((o, other) ∷ es) b zero n k at = absurd (false≢true (ap (λ x. option_case x true (λ (e : Name × ItemKind). is_instance e.1)) at))
-inner-at c is ((o, other) ∷ es) b (suc j) n k at = inner-at c is es b j n k at
-
 -- ---- they are held
 
 -- the interfaces of the instances that are listed under a name
@@ -165,11 +92,185 @@ listed-held c wf (x ∷ is) n held j i at = by (find_name (interface_exports c x
   by None is-o l there rest = rest l there
   by (Some k) is-o l there rest = one k (found k is-o) l there rest
 
-users-held : (c : Collection) → IsWellFormed c → (is : List InterfaceId) (es : List (Name × ItemKind)) → AreInterfaces c is → (d : ℕ) (js : List InterfaceId) → slice_get (inner_users c is es) d ≡ Some js → AreInterfaces c js
-users-held c wf is [] held d js at = absurd (no_some js at)
-users-held c wf is ((n, kind.Instance i) ∷ es) held zero js at = subst (AreInterfaces c) (some_same (instances_of (listed_by c is n)) js at) (listed-held c wf is n held)
-users-held c wf is ((n, kind.Instance i) ∷ es) held (suc d) js at = users-held c wf is es held d js at
-users-held c wf is ((n, k) ∷ es) held d js at = users-held c wf is es held d js at
+-- ---- what stays
+
+pub keeps-same : {A : Type 0} (xs ys : List A) → ys ≡ xs → Keeps xs ys
+keeps-same xs ys same p x at = ap (λ l. slice_get l p) same ∙ at
+
+pub keeps-push : {A : Type 0} (xs ys : List A) (y : A) → ys ≡ xs ++ y ∷ [] → Keeps xs ys
+keeps-push xs ys y same p x at = ap (λ l. slice_get l p) same ∙ at-push xs y p x at
+
+pub keeps-length : {A : Type 0} (xs ys : List A) → Keeps xs ys → length xs ≤ length ys
+keeps-length [] ys keeps = omega arith
+keeps-length (x ∷ xs) [] keeps = absurd (no_some x (keeps 0 x refl))
+keeps-length (x ∷ xs) (y ∷ ys) keeps = let r = keeps-length xs ys (λ p z at. keeps (suc p) z at) in omega (arith, r)
+
+-- what stands at a position that there was stood there
+earlier : {A : Type 0} (xs ys : List A) (p : ℕ) (x : A) → Keeps xs ys → p < length xs → slice_get ys p ≡ Some x → slice_get xs p ≡ Some x
+earlier xs ys p x keeps low at = let w = some-at xs p low in w.1 ∙ (sym (keeps p w.0 w.1) ∙ at)
+
+low-or-high : (p n : ℕ) → (p < n) ⊎ (n ≤ p)
+low-or-high p zero = inr (omega arith)
+low-or-high zero (suc n) = inl (omega arith)
+low-or-high (suc p) (suc n) = elim (low-or-high p n) [ inl low ↦ inl (omega (arith, low)) | inr high ↦ inr (omega (arith, high)) ]
+
+-- ---- what is known
+
+module _ (q : ℕ) where
+  pub known-still : (is js : List InterfaceId) (us vs : List (List InterfaceId)) (known : List ((InterfaceId × Vec InterfaceId Global) × ℕ)) → Keeps is js → Keeps us vs → AreKnown q is us known → AreKnown q js vs known
+  known-still is js us vs [] keeps keeps-users h = tt
+  known-still is js us vs (e ∷ known) keeps keeps-users h = ((h.0.0, keeps e.1 e.0.0 h.0.1, keeps-users e.1 e.0.1.items h.0.2), known-still is js us vs known keeps keeps-users h.1)
+
+-- ---- fewer are left
+
+module _ (m : Collection) where
+  left-push : (is : List InterfaceId) (i : InterfaceId) (n : ℕ) → n ≤ length is → left_inside m (is ++ i ∷ []) n ≡ left_inside m is n + count_in m (opener.Interface i)
+  unfolding left_inside
+  left-push [] i zero low = omega arith
+  left-push [] i (suc n) low = absurd (omega (arith, low))
+  left-push (x ∷ is) i zero low = let r = left-push is i zero (omega arith) in omega (arith, r)
+  left-push (x ∷ is) i (suc n) low = left-push is i n (omega (arith, low))
+
+  left-end : (is : List InterfaceId) → left_inside m is (length is) ≡ 0
+  unfolding left_inside
+  left-end [] = refl
+  left-end (i ∷ is) = left-end is
+
+  -- those that were there, and those behind them
+  left-both : (is js : List InterfaceId) (n : ℕ) → Keeps is js → n ≤ length is → left_inside m js n ≡ left_inside m is n + left_inside m js (length is)
+  unfolding left_inside
+  left-both [] js zero keeps low = let r : left_inside m js 0 ≡ 0 + left_inside m js 0 = omega arith in r
+  left-both [] js (suc n) keeps low = absurd (omega (arith, low))
+  left-both (i ∷ is) [] n keeps low = absurd (no_some i (keeps 0 i refl))
+  left-both (i ∷ is) (j ∷ js) zero keeps low =
+      let same : count_in m (opener.Interface j) ≡ count_in m (opener.Interface i) = ap (λ y. count_in m (opener.Interface y)) (some_same j i (keeps 0 i refl)) in
+      let r = left-both is js zero (λ p x at. keeps (suc p) x at) (omega arith) in
+      omega (arith, same, r)
+  left-both (i ∷ is) (j ∷ js) (suc n) keeps low = left-both is js n (λ p x at. keeps (suc p) x at) (omega (arith, low))
+
+  left-at : (xs : List InterfaceId) (n : ℕ) (i : InterfaceId) → slice_get xs n ≡ Some i → left_inside m xs n ≡ count_in m (opener.Interface i) + left_inside m xs (suc n)
+  unfolding left_inside
+  left-at [] n i at = absurd (no_some i at)
+  left-at (x ∷ xs) zero i at = ap (λ y. count_in m (opener.Interface y) + left_inside m xs 0) (some_same x i at)
+  left-at (x ∷ xs) (suc n) i at = left-at xs n i at
+
+total-both : (f : Opener → ℕ) (xs ys : List Opener) → total f (xs ++ ys) ≡ total f xs + total f ys
+total-both f [] ys = omega arith
+total-both f (x ∷ xs) ys = let r = total-both f xs ys in omega (arith, r)
+
+total-push : (f : Opener → ℕ) (es : List (Name × ItemKind)) (e : Name × ItemKind) → total f (opened (es ++ e ∷ [])) ≡ total f (opened es) + total f (opened_by e.1)
+total-push f [] e = let r = total-both f (opened_by e.1) [] in omega (arith, r)
+total-push f (x ∷ es) e =
+    let a = total-both f (opened_by x.1) (opened (es ++ e ∷ [])) in
+    let b = total-both f (opened_by x.1) (opened es) in
+    let r = total-push f es e in
+    omega (arith, a, b, r)
+
+-- ---- one item more
+
+module _ (c m : Collection) (q : ℕ) (is : List InterfaceId) (us : List (List InterfaceId)) (made_of : List InterfaceId) where
+  pub placed-first : length us ≡ length is → ArePlaced c m q is us made_of [] is us []
+  placed-first counted = record {
+    kept = λ p x at. at;
+    kept_users = λ p x at. at;
+    counted = counted;
+    each = refl;
+    stand = λ j n k at. absurd (no_some (n, kind.Instance k) at);
+    others = λ p k high at. let low = slice_get_within is p k at in absurd (omega (arith, low, high));
+    lighter = let e = left-end m is in omega (arith, e);
+  }
+
+  module _ (es : List (Name × ItemKind)) (js ks : List InterfaceId) (vs ws : List (List InterfaceId)) (places : List ℕ) (p : ℕ) (was : ArePlaced c m q is us made_of es js vs places) where
+    push-counted : (e : Name × ItemKind) → length (places ++ p ∷ []) ≡ length (es ++ e ∷ [])
+    push-counted e = let a = length-append places (p ∷ []) in let b = length-append es (e ∷ []) in let same = was.each in omega (arith, a, b, same)
+
+    -- where those that were there stand still
+    stand-still : Keeps js ks → Keeps vs ws → (j : ℕ) (n : Name) (k : InterfaceId) → slice_get es j ≡ Some (n, kind.Instance k) → (r : ℕ) × (slice_get (places ++ p ∷ []) j ≡ Some r) × (q < r) × (slice_get ks r ≡ Some k) × (slice_get ws r ≡ Some (instances_of (listed_by c made_of n)))
+    stand-still keeps keeps-users j n k at =
+        let w = was.stand j n k at in
+        (w.0, at-push places p j w.0 w.1, w.2, keeps w.0 k w.3, keeps-users w.0 (instances_of (listed_by c made_of n)) w.4)
+
+    plain-next : (n : Name) (x : ItemKind) → ((i : InterfaceId) → x ≡ kind.Instance i → ⊥) → ks ≡ js → ws ≡ vs → ArePlaced c m q is us made_of (es ++ (n, x) ∷ []) ks ws (places ++ p ∷ [])
+    plain-next n x plain same same-users = record {
+      kept = λ r k at. keeps-same js ks same r k (was.kept r k at);
+      kept_users = λ r k at. keeps-same vs ws same-users r k (was.kept_users r k at);
+      counted = ap length same-users ∙ was.counted ∙ ap length (sym same);
+      each = push-counted (n, x);
+      stand = λ j o k at. elim (push-cases es (n, x) j (o, kind.Instance k) at) [
+        | inl old ↦ stand-still (keeps-same js ks same) (keeps-same vs ws same-users) j o k old
+        | inr new ↦ absurd (plain k (sym (ap (λ (e : Name × ItemKind). e.1) new.1)))
+      ];
+      others = λ r k high at.
+          let w = was.others r k high (ap (λ l. slice_get l r) (sym same) ∙ at) in
+          (w.0, w.1, at-push es (n, x) w.0 (w.1, kind.Instance k) w.2, ap (λ l. slice_get l r) same-users ∙ w.3);
+      lighter =
+          let e : left_inside m ks (length is) ≡ left_inside m js (length is) = ap (λ l. left_inside m l (length is)) same in
+          let a = was.lighter in
+          let b = total-push (count_in m) es (n, x) in
+          omega (arith, e, a, b);
+    }
+
+    instance-next : (n : Name) (i : InterfaceId) → IsItemPlaced q js vs (kind.Instance i) (instances_of (listed_by c made_of n)) ks ws p → ArePlaced c m q is us made_of (es ++ (n, kind.Instance i) ∷ []) ks ws (places ++ p ∷ [])
+    instance-next n i put = record {
+      kept = λ r k at. keeps r k (was.kept r k at);
+      kept_users = λ r k at. keeps-users r k (was.kept_users r k at);
+      counted = elim put.1 [
+        | inl same ↦ ap length same.1 ∙ was.counted ∙ ap length (sym same.0)
+        | inr more ↦
+            let a = ap length more.0 ∙ length-append js (i ∷ []) in
+            let b = ap length more.1 ∙ length-append vs (instances_of (listed_by c made_of n) ∷ []) in
+            let e = was.counted in
+            omega (arith, a, b, e)
+      ];
+      each = push-counted (n, kind.Instance i);
+      stand = λ j o k at. elim (push-cases es (n, kind.Instance i) j (o, kind.Instance k) at) [
+        | inl old ↦ stand-still keeps keeps-users j o k old
+        | inr new ↦
+            let here : j ≡ length places = new.0 ∙ sym was.each in
+            let name : n ≡ o = sym (ap (λ (e : Name × ItemKind). e.0) new.1) in
+            let one : i ≡ k = sym (same-instance k i (ap (λ (e : Name × ItemKind). e.1) new.1)) in
+            (p, ap (slice_get (places ++ p ∷ [])) here ∙ at-end places p, put.0.0, put.0.1 ∙ ap Some one, put.0.2 ∙ ap (λ t. Some (instances_of (listed_by c made_of t))) name)
+      ];
+      others = λ r k high at. elim put.1 [
+        | inl same ↦
+            let w = was.others r k high (ap (λ l. slice_get l r) (sym same.0) ∙ at) in
+            (w.0, w.1, at-push es (n, kind.Instance i) w.0 (w.1, kind.Instance k) w.2, ap (λ l. slice_get l r) same.1 ∙ w.3)
+        | inr more ↦ elim (push-cases js i r k (ap (λ l. slice_get l r) (sym more.0) ∙ at)) [
+          | inl old ↦
+              let w = was.others r k high old in
+              (w.0, w.1, at-push es (n, kind.Instance i) w.0 (w.1, kind.Instance k) w.2, keeps-users r (instances_of (listed_by c made_of w.1)) w.3)
+          | inr new ↦
+              let there : r ≡ length vs = new.0 ∙ sym was.counted in
+              (length es, n, at-end es (n, kind.Instance i) ∙ ap (λ t. Some (n, kind.Instance t)) (sym new.1), ap (λ l. slice_get l r) more.1 ∙ ap (slice_get (vs ++ instances_of (listed_by c made_of n) ∷ [])) there ∙ at-end vs (instances_of (listed_by c made_of n)))
+        ]
+      ];
+      lighter =
+          let a = was.lighter in
+          let b = total-push (count_in m) es (n, kind.Instance i) in
+          elim put.1 [
+            | inl same ↦ let e : left_inside m ks (length is) ≡ left_inside m js (length is) = ap (λ l. left_inside m l (length is)) same.0 in omega (arith, a, b, e)
+            | inr more ↦
+                let e : left_inside m ks (length is) ≡ left_inside m (js ++ i ∷ []) (length is) = ap (λ l. left_inside m l (length is)) more.0 in
+                let d = left-push m js i (length is) (keeps-length is js was.kept) in
+                omega (arith, a, b, d, e)
+          ];
+    } where
+      keeps : Keeps js ks
+      keeps = elim put.1 [ inl same ↦ keeps-same js ks same.0 | inr more ↦ keeps-push js ks i more.0 ]
+
+      keeps-users : Keeps vs ws
+      keeps-users = elim put.1 [ inl same ↦ keeps-same vs ws same.1 | inr more ↦ keeps-push vs ws (instances_of (listed_by c made_of n)) more.1 ]
+
+      same-instance : (a b : InterfaceId) → kind.Instance a ≡ kind.Instance b → a ≡ b
+      same-instance a b e = ap (λ x. interface-of a x) e
+
+    pub placed-next : (e : Name × ItemKind) → IsItemPlaced q js vs e.1 (instances_of (listed_by c made_of e.0)) ks ws p → ArePlaced c m q is us made_of (es ++ e ∷ []) ks ws (places ++ p ∷ [])
+    placed-next (n, kind.Instance i) put = instance-next n i put
+    placed-next (n, kind.TypeItem t) put = plain-next n (kind.TypeItem t) (λ i e. cc) put.0 put.1
+    placed-next (n, kind.Func f) put = plain-next n (kind.Func f) (λ i e. cc) put.0 put.1
+    placed-next (n, kind.Component w) put = plain-next n (kind.Component w) (λ i e. cc) put.0 put.1
+    placed-next (n, kind.Module y) put = plain-next n (kind.Module y) (λ i e. cc) put.0 put.1
+    placed-next (n, kind.Value v) put = plain-next n (kind.Value v) (λ i e. cc) put.0 put.1
 
 -- ---- one opened more
 
@@ -193,148 +294,80 @@ module _ (c m : Collection) (root : InterfaceId) (made_of : List InterfaceId) (w
     first-held zero is at = subst (AreInterfaces c) (some_same made_of is at) held
     first-held (suc q) is at = absurd (no_some is at)
 
-  module _ (is : List InterfaceId) (us : List (List InterfaceId)) (inner : List (List ℕ)) (a : AreInside c m root made_of is us inner) (i : InterfaceId) (js : List InterfaceId)
-      (at : slice_get is (length inner) ≡ Some i) (at-users : slice_get us (length inner) ≡ Some js) (once : NoNameTwice (interface_exports m i)) where
+  module _ (is : List InterfaceId) (us : List (List InterfaceId)) (inner : List (List ℕ)) (a : AreInside c m root made_of is us inner) (js : List InterfaceId) (vs : List (List InterfaceId)) (new-inner : List (List ℕ)) (q : ℕ) (here : q ≡ length inner)
+      (o : IsOpened c m q is us inner js vs new-inner) where
     abbrev es : List (Name × ItemKind)
-    es = interface_exports m i
+    es = interface_exports m o.interface
 
-    abbrev more : List InterfaceId
-    more = instances_of (kinds es)
+    more-bare : (j : ℕ) (n : Name) (k : InterfaceId) → slice_get es j ≡ Some (n, kind.Instance k) → IsAmong a.ws k
+    more-bare j n k there =
+        let among = a.bare q o.interface o.at in
+        let it = interface-there m o.interface (a.are.held o.interface among) in
+        a.are.inner o.interface k it.0 n among it.1 (ap (λ x. find_name (option_case x [] (λ (y : Interface). y.exports)) n) (sym it.1) ∙ find_name-at es j n (kind.Instance k) o.once there)
 
-    abbrev more-users : List (List InterfaceId)
-    more-users = inner_users c js es
-
-    more-bare : (d : ℕ) (k : InterfaceId) → slice_get more d ≡ Some k → IsAmong a.ws k
-    more-bare d k there =
-        let w = instance-at es d k there in
-        let among = a.bare (length inner) i at in
-        let it = interface-there m i (a.are.held i among) in
-        a.are.inner i k it.0 w.1 among it.1 (ap (λ o. find_name (option_case o [] (λ (y : Interface). y.exports)) w.1) (sym it.1) ∙ find_name-at es w.0 w.1 (kind.Instance k) once w.2)
-
-    next-bare : (q : ℕ) (k : InterfaceId) → slice_get (is ++ more) q ≡ Some k → IsAmong a.ws k
-    next-bare q k there = elim (get-cases is more q k there) [
-      | inl old ↦ a.bare q k old
-      | inr new ↦ more-bare new.0 k new.2
+    next-bare : (p : ℕ) (k : InterfaceId) → slice_get js p ≡ Some k → IsAmong a.ws k
+    next-bare p k there = elim (low-or-high p (length is)) [
+      | inl low ↦ a.bare p k (earlier is js p k o.placed.kept low there)
+      | inr high ↦ let w = o.placed.others p k high there in more-bare w.0 w.1 k w.2
     ]
 
-    next-held : (q : ℕ) (ks : List InterfaceId) → slice_get (us ++ more-users) q ≡ Some ks → AreInterfaces c ks
-    next-held q ks there = elim (get-cases us more-users q ks there) [
-      | inl old ↦ a.held q ks old
-      | inr new ↦ users-held c wf js es (a.held (length inner) js at-users) new.0 ks new.2
+    next-held : (p : ℕ) (ks : List InterfaceId) → slice_get vs p ≡ Some ks → AreInterfaces c ks
+    next-held p ks there = elim (low-or-high p (length us)) [
+      | inl low ↦ a.held p ks (earlier us vs p ks o.placed.kept_users low there)
+      | inr high ↦
+          let within = slice_get_within vs p ks there in
+          let old = a.counted in
+          let new = o.placed.counted in
+          let k = some-at js p (omega (arith, within, new)) in
+          let w = o.placed.others p k.0 (omega (arith, high, old)) k.1 in
+          subst (AreInterfaces c) (one_some (slice_get vs p) (instances_of (listed_by c o.made_of w.1)) ks w.3 there) (listed-held c wf o.made_of w.1 (a.held q o.made_of o.at_users))
     ]
 
-    abbrev Stands : ℕ → ℕ → InterfaceId → List InterfaceId → List ℕ → Name → Type 0
-    Stands q j k ks places n = (p : ℕ) × (slice_get places j ≡ Some p) × (q < p) × (slice_get (is ++ more) p ≡ Some k) × (slice_get (us ++ more-users) p ≡ Some (instances_of (listed_by c ks n)))
-
-    earlier : {A : Type 0} (xs ys : List A) (q : ℕ) (x : A) → q < length xs → slice_get (xs ++ ys) q ≡ Some x → slice_get xs q ≡ Some x
-    earlier xs ys q x low there = elim (get-cases xs ys q x there) [
-      | inl old ↦ old
-      | inr new ↦ let high = new.1 in absurd (omega (arith, low, high))
-    ]
-
-    next-opened : (q j : ℕ) (w k : InterfaceId) (ks : List InterfaceId) (places : List ℕ) (n : Name) → slice_get (is ++ more) q ≡ Some w → slice_get (us ++ more-users) q ≡ Some ks → slice_get (inner ++ inner_places (length is) es ∷ []) q ≡ Some places
-        → slice_get (interface_exports m w) j ≡ Some (n, kind.Instance k) → Stands q j k ks places n
-    next-opened q j w k ks places n here also given listed =
-        let within = slice_get_within is (length inner) i at in
+    next-opened : (p j : ℕ) (w k : InterfaceId) (ks : List InterfaceId) (places : List ℕ) (n : Name) → slice_get js p ≡ Some w → slice_get vs p ≡ Some ks → slice_get (inner ++ o.places ∷ []) p ≡ Some places
+        → slice_get (interface_exports m w) j ≡ Some (n, kind.Instance k) → (r : ℕ) × (slice_get places j ≡ Some r) × (p < r) × (slice_get js r ≡ Some k) × (slice_get vs r ≡ Some (instances_of (listed_by c ks n)))
+    next-opened p j w k ks places n there also given listed =
+        let within = slice_get_within is q o.interface o.at in
         let counted = a.counted in
-        elim (push-cases inner (inner_places (length is) es) q places given) [
+        elim (push-cases inner o.places p places given) [
           | inl old ↦
-              let low = slice_get_within inner q places old in
-              let o = a.opened q j w k ks places n (earlier is more q w (omega (arith, low, within)) here) (earlier us more-users q ks (omega (arith, low, within, counted)) also) old listed in
-              (o.0, o.1, o.2, get-left is more o.0 k o.3, get-left us more-users o.0 (instances_of (listed_by c ks n)) o.4)
+              let low = slice_get_within inner p places old in
+              let was = a.opened p j w k ks places n (earlier is js p w o.placed.kept (omega (arith, low, within, here)) there) (earlier us vs p ks o.placed.kept_users (omega (arith, low, within, counted, here)) also) old listed in
+              (was.0, was.1, was.2, o.placed.kept was.0 k was.3, o.placed.kept_users was.0 (instances_of (listed_by c ks n)) was.4)
           | inr new ↦
-              let place = new.0 in
-              let w-is : w ≡ i = one_some (slice_get is (length inner)) w i (earlier is more (length inner) w within (ap (slice_get (is ++ more)) (sym place) ∙ here)) at in
-              let ks-is : ks ≡ js = one_some (slice_get us (length inner)) ks js (earlier us more-users (length inner) ks (omega (arith, within, counted)) (ap (slice_get (us ++ more-users)) (sym place) ∙ also)) at-users in
-              let r = inner-at c js es (length is) j n k (ap (λ x. slice_get (interface_exports m x) j) (sym w-is) ∙ listed) in
-              let behind : length is + r.0 ≡ length us + r.0 = omega (arith, counted) in (
-                length is + r.0,
-                ap (λ l. slice_get l j) new.1 ∙ r.1,
-                omega (arith, place, within),
-                get-right is more r.0 (length is + r.0) refl ∙ r.2,
-                get-right us more-users r.0 (length is + r.0) behind ∙ (r.3 ∙ ap (λ l. Some (instances_of (listed_by c l n))) (sym ks-is)),
-              )
+              let place : p ≡ q = new.0 ∙ sym here in
+              let w-is : o.interface ≡ w = one_some (slice_get js q) o.interface w (o.placed.kept q o.interface o.at) (ap (slice_get js) (sym place) ∙ there) in
+              let ks-is : o.made_of ≡ ks = one_some (slice_get vs q) o.made_of ks (o.placed.kept_users q o.made_of o.at_users) (ap (slice_get vs) (sym place) ∙ also) in
+              let r = o.placed.stand j n k (ap (λ x. slice_get (interface_exports m x) j) w-is ∙ listed) in
+              let behind = r.2 in
+              (r.0, ap (λ l. slice_get l j) new.1 ∙ r.1, omega (arith, place, behind), r.3, r.4 ∙ ap (λ l. Some (instances_of (listed_by c l n))) ks-is)
         ]
 
-    inside-more : AreInside c m root made_of (is ++ more) (us ++ more-users) (inner ++ inner_places (length is) es ∷ [])
-    inside-more =
-        let counted = a.counted in
-        let one = length-append is more in
-        let two = length-append us more-users in
-        let same = users-counted c js es in
-        record {
-          ws = a.ws;
-          are = a.are;
-          counted = omega (arith, counted, one, two, same);
-          first = get-left is more 0 root a.first;
-          first_of = get-left us more-users 0 made_of a.first_of;
-          bare = next-bare;
-          held = next-held;
-          opened = next-opened;
-        }
-
-  pub inside-next : (is : List InterfaceId) (us : List (List InterfaceId)) (inner : List (List ℕ)) (js : List InterfaceId) (vs : List (List InterfaceId)) (places : List (List ℕ)) (q : ℕ) → q ≡ length inner
-      → AreInside c m root made_of is us inner → IsOpened c m q is us inner js vs places → AreInside c m root made_of js vs places
-  inside-next is us inner js vs places q here a o =
-      let at = ap (slice_get is) (sym here) ∙ o.at in
-      let users = ap (slice_get us) (sym here) ∙ o.at_users in
-      let all = inside-more is us inner a o.interface o.made_of at users o.once in
-      subst (λ l. AreInside c m root made_of l vs places) (sym o.interfaces_more)
-      (subst (λ l. AreInside c m root made_of (is ++ instances_of (kinds (interface_exports m o.interface))) l places) (sym o.users_more)
-      (subst (λ l. AreInside c m root made_of (is ++ instances_of (kinds (interface_exports m o.interface))) (us ++ inner_users c o.made_of (interface_exports m o.interface)) l) (sym o.inner_more) all))
-
--- ---- fewer are left
-
-module _ (m : Collection) where
-  left-both : (xs ys : List InterfaceId) (n : ℕ) → n ≤ length xs → left_inside m (xs ++ ys) n ≡ left_inside m xs n + left_inside m ys 0
-  unfolding left_inside
-  left-both [] ys zero low = let r : left_inside m ys 0 ≡ 0 + left_inside m ys 0 = omega arith in r
-  left-both [] ys (suc n) low = absurd (omega (arith, low))
-  left-both (x ∷ xs) ys zero low = let r = left-both xs ys zero (omega arith) in omega (arith, r)
-  left-both (x ∷ xs) ys (suc n) low = left-both xs ys n (omega (arith, low))
-
-  left-at : (xs : List InterfaceId) (n : ℕ) (i : InterfaceId) → slice_get xs n ≡ Some i → left_inside m xs n ≡ count_in m (opener.Interface i) + left_inside m xs (suc n)
-  unfolding left_inside
-  left-at [] n i at = absurd (no_some i at)
-  left-at (x ∷ xs) zero i at = ap (λ y. count_in m (opener.Interface y) + left_inside m xs 0) (some_same x i at)
-  left-at (x ∷ xs) (suc n) i at = left-at xs n i at
-
-  total-more : (f : Opener → ℕ) (xs ys : List Opener) → total f ys ≤ total f (xs ++ ys)
-  total-more f [] ys = omega arith
-  total-more f (x ∷ xs) ys = let r = total-more f xs ys in omega (arith, r)
-
-  inner-less : (es : List (Name × ItemKind)) → left_inside m (instances_of (kinds es)) 0 ≤ total (count_in m) (opened es)
-  unfolding left_inside
-  inner-less [] = omega arith
-  inner-less ((n, kind.Instance i) ∷ es) = let r = inner-less es in omega (arith, r)
-  inner-less ((n, kind.TypeItem t) ∷ es) = let r = inner-less es in let s = total-more (count_in m) (opened_by_type t) (opened es) in omega (arith, r, s)
-  inner-less ((n, kind.Func f) ∷ es) = inner-less es
-  inner-less ((n, kind.Component w) ∷ es) = let r = inner-less es in let s = total-more (count_in m) (opened_by (kind.Component w)) (opened es) in omega (arith, r, s)
-  inner-less ((n, kind.Module y) ∷ es) = inner-less es
-  inner-less ((n, kind.Value v) ∷ es) = inner-less es
-
-  pub fewer-left : IsWellFormed m → (is : List InterfaceId) (q : ℕ) (i : InterfaceId) → slice_get is q ≡ Some i → holds_type m (ty.Interface i) ≡ true → left_inside m (is ++ instances_of (kinds (interface_exports m i))) (suc q) < left_inside m is q
-  fewer-left wf is q i at held =
-      let low = slice_get_within is q i at in
-      let both = left-both is (instances_of (kinds (interface_exports m i))) (suc q) (omega (arith, low)) in
-      let here = left-at is q i at in
-      let less = inner-less (interface_exports m i) in
-      let count : total (count_in m) (opened (interface_exports m i)) < count_in m (opener.Interface i) = count-inner m wf (opener.Interface i) held in
-      omega (arith, both, here, less, count)
+    pub inside-next : AreInside c m root made_of js vs new-inner
+    inside-next = subst (λ l. AreInside c m root made_of js vs l) (sym o.inner_more) (record {
+      ws = a.ws;
+      are = a.are;
+      counted = o.placed.counted;
+      first = o.placed.kept 0 root a.first;
+      first_of = o.placed.kept_users 0 made_of a.first_of;
+      bare = next-bare;
+      held = next-held;
+      opened = next-opened;
+    })
 
 module _ (c m : Collection) (q : ℕ) (is : List InterfaceId) (us : List (List InterfaceId)) (inner : List (List ℕ)) (js : List InterfaceId) (vs : List (List InterfaceId)) (places : List (List ℕ)) (o : IsOpened c m q is us inner js vs places) where
   pub opened-counted : length places ≡ length inner + 1
-  opened-counted = ap length o.inner_more ∙ length-append inner (inner_places (length is) (interface_exports m o.interface) ∷ [])
+  opened-counted = ap length o.inner_more ∙ length-append inner (o.places ∷ [])
 
   pub opened-within : suc q ≤ length js
-  opened-within =
-      let low = slice_get_within is q o.interface o.at in
-      let more = instances_of (kinds (interface_exports m o.interface)) in
-      let count : length js ≡ length is + length more = ap length o.interfaces_more ∙ length-append is more in
-      omega (arith, low, count)
+  opened-within = let low = slice_get_within js q o.interface (o.placed.kept q o.interface o.at) in omega (arith, low)
 
 pub opened-smaller : (c m : Collection) (root : InterfaceId) (made_of : List InterfaceId) → IsWellFormed m → (q : ℕ) (is : List InterfaceId) (us : List (List InterfaceId)) (inner : List (List ℕ)) (js : List InterfaceId) (vs : List (List InterfaceId)) (places : List (List ℕ))
     → AreInside c m root made_of is us inner → IsOpened c m q is us inner js vs places → left_inside m js (suc q) < left_inside m is q
 opened-smaller c m root made_of wf q is us inner js vs places a o =
-    let low = a.are.held o.interface (a.bare q o.interface o.at) in
-    subst (λ l. left_inside m l (suc q) < left_inside m is q) (sym o.interfaces_more) (fewer-left m wf is q o.interface o.at (grind (arith, low)))
+    let there = a.are.held o.interface (a.bare q o.interface o.at) in
+    let low = slice_get_within is q o.interface o.at in
+    let both = left-both m is js (suc q) o.placed.kept (omega (arith, low)) in
+    let here = left-at m is q o.interface o.at in
+    let less = o.placed.lighter in
+    let count : total (count_in m) (opened (interface_exports m o.interface)) < count_in m (opener.Interface o.interface) = count-inner m wf (opener.Interface o.interface) (grind (arith, there)) in
+    omega (arith, both, here, less, count)

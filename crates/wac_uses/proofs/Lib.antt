@@ -4,6 +4,7 @@ pub mod KeptUses
 pub mod FirstKept
 pub mod UsingRight
 pub mod Inside
+pub mod KnownPlaces
 pub mod InnerUsers
 pub mod NestedAlike
 pub mod NestedBinds

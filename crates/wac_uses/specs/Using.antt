@@ -1,7 +1,7 @@
 -- Imports whose interfaces use no other, and the same with what they use. Private functions alone cite this.
-use Rattle.std.specs.Prelude.{ℕ, zero, suc, ◌+◌, ◌<◌, ◌≤◌, ◌≡◌, ◌&&◌, Bool, true, false, not, is_some, if◌then◌else◌, List, [], ◌∷◌, ◌++◌, fold, length, map, take, Option, Some, None, Vec, slice_get}
+use Rattle.std.specs.Prelude.{ℕ, zero, suc, ◌+◌, ◌<◌, ◌≤◌, ◌≡◌, ◌&&◌, Bool, true, false, not, is_some, if◌then◌else◌, List, [], ◌∷◌, ◌++◌, fold, length, take, Option, Some, None, Vec, slice_get, ◌⊎◌}
 use Rattle.std.specs.Global.{Global}
-use Rattle.std.specs.List.{AllZip, list_any}
+use Rattle.std.specs.List.{AllByRecursion, AllZip, list_any}
 use Rattle.wac_shapes.specs.Name.{Name, find_name, option_case}
 use Rattle.wac_shapes.specs.Named.{NoNameTwice}
 use Rattle.wac_shapes.specs.declared.component.Interface.{Interface}
@@ -14,7 +14,8 @@ use Rattle.wac_collection.specs.Collection.{Collection, HasInterface, interface_
 use Rattle.wac_collection.specs.Bound.{own_name}
 use Rattle.wac_collection.specs.Uses.{interface_fault, is_listed_as_used, is_there, is_used_by_id}
 use Rattle.wac_entries.specs.Classes.{AreClasses, Entry, NameRules, by_names, class_names, is_instance, members}
-use Rattle.wac_entries.specs.Opening.{count_in}
+use Rattle.wac_entries.specs.Opening.{count_in, total}
+use Rattle.wac_entries.specs.Scopes.{opened}
 use Rattle.wac_entries.specs.declared.scopes.Opener.TheVariants as opener
 use Rattle.wac_terms.specs.Merge.{import_entries}
 use Rattle.wac_uses.specs.KeptUses.{imported_interface, instances, lists_resource, of_interface, uses_of, with_instance}
@@ -127,17 +128,6 @@ pub record AreUsing (rules : NameRules) (c : Collection) (es : List Entry) (m : 
 
 -- ---- interfaces inside an import, before they have uses
 
--- of the instances that are listed, those that these interfaces list under the name
-abbrev pub inner_users : Collection → List InterfaceId → List (Name × ItemKind) → List (List InterfaceId)
-inner_users c is [] = []
-inner_users c is ((n, kind.Instance k) ∷ es) = instances_of (listed_by c is n) ∷ inner_users c is es
-inner_users c is (e ∷ es) = inner_users c is es
-
--- what an item is made of, where it is an instance
-abbrev pub with_users : ItemKind → List InterfaceId → List (List InterfaceId)
-with_users (kind.Instance k) is = is ∷ []
-with_users k is = []
-
 -- each list, for a name of items, has behind what it had the interface of the instance under that name among others
 pub record HaveMore (listed others : List (Name × ItemKind)) (old new : List (Vec InterfaceId Global)) : Type 0 where
   pub counted : length new ≡ length old
@@ -147,12 +137,6 @@ pub record HaveMore (listed others : List (Name × ItemKind)) (old new : List (V
 pub record HaveListed (c : Collection) (is : List InterfaceId) (listed : List (Name × ItemKind)) (lists : List (Vec InterfaceId Global)) : Type 0 where
   pub counted : length lists ≡ length listed
   pub each : (j : ℕ) (n : Name) (k : ItemKind) (v : Vec InterfaceId Global) → slice_get listed j ≡ Some (n, k) → slice_get lists j ≡ Some v → v.items ≡ instances_of (listed_by c is n)
-
--- where the interface of each instance among items stands, which are put one after another from a position on
-abbrev pub inner_places : ℕ → List (Name × ItemKind) → List ℕ
-inner_places p [] = []
-inner_places p ((n, kind.Instance k) ∷ es) = p ∷ inner_places (suc p) es
-inner_places p (e ∷ es) = p ∷ inner_places p es
 
 -- Interfaces inside one that is made of these, which is the first: what each is made of, and where the interfaces of the instances stand that it lists, for those whose items were looked at.
 pub record AreInside (c m : Collection) (root : InterfaceId) (made_of : List InterfaceId) (interfaces : List InterfaceId) (users : List (List InterfaceId)) (inner : List (List ℕ)) : Type 0 where
@@ -167,26 +151,53 @@ pub record AreInside (c m : Collection) (root : InterfaceId) (made_of : List Int
       → slice_get (interface_exports m i) j ≡ Some (n, kind.Instance k)
       → (p : ℕ) × (slice_get places j ≡ Some p) × (q < p) × (slice_get interfaces p ≡ Some k) × (slice_get users p ≡ Some (instances_of (listed_by c is n)))
 
--- behind the others stand the interfaces of the instances that the one at a position lists
-pub record IsOpened (c m : Collection) (q : ℕ) (interfaces : List InterfaceId) (users : List (List InterfaceId)) (inner : List (List ℕ)) (interfaces_new : List InterfaceId) (users_new : List (List InterfaceId)) (inner_new : List (List ℕ)) : Type 0 where
-  pub interface : InterfaceId
-  pub made_of : List InterfaceId
-  pub at : slice_get interfaces q ≡ Some interface
-  pub at_users : slice_get users q ≡ Some made_of
-  pub once : NoNameTwice (interface_exports m interface)
-  pub interfaces_more : interfaces_new ≡ interfaces ++ instances_of (map (λ e. e.1) (interface_exports m interface))
-  pub users_more : users_new ≡ users ++ inner_users c made_of (interface_exports m interface)
-  pub inner_more : inner_new ≡ inner ++ inner_places (length interfaces) (interface_exports m interface) ∷ []
-
--- those from a position on are with what they use, each of what it is made of
-abbrev pub AreUsingFrom : Collection → Collection → (List InterfaceId → List (Name × ItemKind) → List (Name × UsedType)) → List InterfaceId → List (List InterfaceId) → ℕ → List InterfaceId → Type 0
-AreUsingFrom c m uses interfaces users from done = (p : ℕ) (i w : InterfaceId) (is : List InterfaceId) → from ≤ p → slice_get interfaces p ≡ Some i → slice_get users p ≡ Some is → slice_get done p ≡ Some w → IsUsing c m uses i w is
-
 -- how many interfaces are to come, in those from a position on
 unfoldable pub left_inside : Collection → List InterfaceId → ℕ → ℕ
 left_inside m [] n = 0
 left_inside m (i ∷ is) zero = count_in m (opener.Interface i) + left_inside m is zero
 left_inside m (i ∷ is) (suc n) = left_inside m is n
+
+-- what stands at a position stands there still
+abbrev pub Keeps : {A : Type 0} → List A → List A → Type 0
+Keeps xs ys = (p : ℕ) (x : _) → slice_get xs p ≡ Some x → slice_get ys p ≡ Some x
+
+-- an interface that is made of these stands at a place behind a position
+abbrev pub StandsBehind : ℕ → List InterfaceId → List (List InterfaceId) → InterfaceId → List InterfaceId → ℕ → Type 0
+StandsBehind q interfaces users i of p = (q < p) × (slice_get interfaces p ≡ Some i) × (slice_get users p ≡ Some of)
+
+-- each of these stands at its place
+abbrev pub AreKnown : ℕ → List InterfaceId → List (List InterfaceId) → List ((InterfaceId × Vec InterfaceId Global) × ℕ) → Type 0
+AreKnown q interfaces users known = AllByRecursion (λ e. StandsBehind q interfaces users e.0.0 e.0.1.items e.1) known
+
+-- the interface of an instance stands at a place, which was there or is a new one behind the others
+abbrev pub IsItemPlaced : ℕ → List InterfaceId → List (List InterfaceId) → ItemKind → List InterfaceId → List InterfaceId → List (List InterfaceId) → ℕ → Type 0
+IsItemPlaced q interfaces users (kind.Instance i) of interfaces_new users_new p = StandsBehind q interfaces_new users_new i of p × (((interfaces_new ≡ interfaces) × (users_new ≡ users)) ⊎ ((interfaces_new ≡ interfaces ++ i ∷ []) × (users_new ≡ users ++ of ∷ [])))
+IsItemPlaced q interfaces users k of interfaces_new users_new p = (interfaces_new ≡ interfaces) × (users_new ≡ users)
+
+-- behind the others stand the interfaces of the instances that are listed in one that is made of these, each at the place of its item, and no others
+pub record ArePlaced (c m : Collection) (q : ℕ) (interfaces : List InterfaceId) (users : List (List InterfaceId)) (made_of : List InterfaceId) (listed : List (Name × ItemKind)) (interfaces_new : List InterfaceId) (users_new : List (List InterfaceId)) (places : List ℕ) : Type 0 where
+  pub kept : Keeps interfaces interfaces_new
+  pub kept_users : Keeps users users_new
+  pub counted : length users_new ≡ length interfaces_new
+  pub each : length places ≡ length listed
+  pub stand : (j : ℕ) (n : Name) (k : InterfaceId) → slice_get listed j ≡ Some (n, kind.Instance k) → (p : ℕ) × (slice_get places j ≡ Some p) × (q < p) × (slice_get interfaces_new p ≡ Some k) × (slice_get users_new p ≡ Some (instances_of (listed_by c made_of n)))
+  pub others : (p : ℕ) (k : InterfaceId) → length interfaces ≤ p → slice_get interfaces_new p ≡ Some k → (j : ℕ) × (n : Name) × (slice_get listed j ≡ Some (n, kind.Instance k)) × (slice_get users_new p ≡ Some (instances_of (listed_by c made_of n)))
+  pub lighter : left_inside m interfaces_new (length interfaces) ≤ total (count_in m) (opened listed)
+
+-- the interfaces of the instances that the one at a position lists were placed
+pub record IsOpened (c m : Collection) (q : ℕ) (interfaces : List InterfaceId) (users : List (List InterfaceId)) (inner : List (List ℕ)) (interfaces_new : List InterfaceId) (users_new : List (List InterfaceId)) (inner_new : List (List ℕ)) : Type 0 where
+  pub interface : InterfaceId
+  pub made_of : List InterfaceId
+  pub places : List ℕ
+  pub at : slice_get interfaces q ≡ Some interface
+  pub at_users : slice_get users q ≡ Some made_of
+  pub once : NoNameTwice (interface_exports m interface)
+  pub placed : ArePlaced c m q interfaces users made_of (interface_exports m interface) interfaces_new users_new places
+  pub inner_more : inner_new ≡ inner ++ places ∷ []
+
+-- those from a position on are with what they use, each of what it is made of
+abbrev pub AreUsingFrom : Collection → Collection → (List InterfaceId → List (Name × ItemKind) → List (Name × UsedType)) → List InterfaceId → List (List InterfaceId) → ℕ → List InterfaceId → Type 0
+AreUsingFrom c m uses interfaces users from done = (p : ℕ) (i w : InterfaceId) (is : List InterfaceId) → from ≤ p → slice_get interfaces p ≡ Some i → slice_get users p ≡ Some is → slice_get done p ≡ Some w → IsUsing c m uses i w is
 
 -- an item under a name, and the same or another held instance under it
 pub data IsAlike (m : Collection) : Name × ItemKind → Name × ItemKind → Type 0 where

@@ -10,10 +10,11 @@ ghost use Rattle.wac_terms.specs.Merge.{import_entries};
 ghost use Rattle.wac_terms.specs.Renaming.{IsExtended};
 ghost use Rattle.wac_uses.specs.KeptUses.{with_instance};
 ghost use Rattle.wac_uses.specs.United.{instances_of};
-ghost use Rattle.wac_uses.specs.Using.{AreAlike, AreBare, AreInside, AreInterfaces, HasClasses, HaveListed, HaveMore, HaveUses, IsAmong, IsOpened, IsUsing, IsWithUses, MayHave, placed, placed_from, uses_among, with_users};
+ghost use Rattle.wac_uses.specs.Using.{AreAlike, AreBare, AreInside, AreInterfaces, AreKnown, HasClasses, HaveListed, HaveMore, HaveUses, IsAmong, IsItemPlaced, IsOpened, IsUsing, IsWithUses, MayHave, placed, placed_from, uses_among};
 
 use crate::imports::no_interfaces;
 use crate::uses::{Asked, Place, copied, kept_uses};
+use indexmap::IndexMap;
 use std::alloc::{AllocError, Global};
 use wac_collection::{
     AddTypeError, Interface, InterfaceId, ItemKind, Named, ShapeError, Types, UsedType,
@@ -84,6 +85,18 @@ fn listed_users(
     Ok(lists)
 }
 
+/// These interfaces once more.
+fn copied_ids(alloc: Global, ids: &[InterfaceId]) -> Result<Vec<InterfaceId>, AllocError>
+    ensures { IfOk result (λ v. v.items ≡ ids.now) }
+{
+    let mut copied = Vec::new(alloc);
+    copied.extend_from_slice(ids)?;
+    Ok(copied)
+}
+
+/// Where the interface of an instance stands, by what it is and what it is made of.
+type Known = IndexMap<(InterfaceId, Vec<InterfaceId>), usize>;
+
 /// Interfaces inside one, which is the first; each stands before those of the instances that it lists.
 #[derive(Drop)]
 pub struct Inside {
@@ -139,34 +152,45 @@ impl Inside {
         listed.law();
         let lists = listed_users(asked, self.users[position].as_slice(), listed)?;
         let mut places = Vec::new(asked.alloc);
+        let mut known = IndexMap::new(asked.alloc);
         for j in 0..listed.len() {
             let (_, kind) = listed.entry_at(j);
-            places.push(self.interfaces.len())?;
-            self.put(asked.alloc, lists[j].as_slice(), *kind)?;
+            let users = lists[j].as_slice();
+            let place = self.place(asked.alloc, position, users, *kind, &mut known)?;
+            places.push(place)?;
         }
         self.inner.push(places)?;
         Ok(())
     }
 
-    /// Puts the interface of an instance that is made of these behind the others.
-    fn put(
+    /// Where the interface of an instance stands that is made of these, behind a position. It is put behind the others where no such place is known.
+    fn place(
         &mut self,
         alloc: Global,
+        position: usize,
         users: &[InterfaceId],
         kind: ItemKind,
-    ) -> Result<(), AllocError>
-        ensures interfaces { OnOk result (self.new.interfaces.items ≡ self.old.interfaces.items ++ instances_of (kind ∷ [])) }
-        ensures users { OnOk result (map (λ v. v.items) self.new.users.items ≡ map (λ v. v.items) self.old.users.items ++ with_users kind users.now) }
+        known: &mut Known,
+    ) -> Result<usize, AllocError>
+        requires within { position < length self.old.interfaces.items }
+        requires counted { length self.old.users.items ≡ length self.old.interfaces.items }
+        requires known { AreKnown position self.old.interfaces.items (map (λ v. v.items) self.old.users.items) known.old.entries }
+        ensures placed { IfOk result (λ p. IsItemPlaced position self.old.interfaces.items (map (λ v. v.items) self.old.users.items) kind users.now self.new.interfaces.items (map (λ v. v.items) self.new.users.items) p) }
+        ensures known { OnOk result (AreKnown position self.new.interfaces.items (map (λ v. v.items) self.new.users.items) known.new.entries) }
         ensures inner { self.new.inner ≡ self.old.inner }
     {
+        let place = self.interfaces.len();
         let ItemKind::Instance(id) = kind else {
-            return Ok(());
+            return Ok(place);
         };
-        let mut of = Vec::new(alloc);
-        of.extend_from_slice(users)?;
-        self.users.push(of)?;
+        let key = (id, copied_ids(alloc, users)?);
+        if let Some((_, _, there)) = known.get_full(&key) {
+            return Ok(*there);
+        }
+        known.insert(key, place)?;
+        self.users.push(copied_ids(alloc, users)?)?;
         self.interfaces.push(id)?;
-        Ok(())
+        Ok(place)
     }
 
     /// The first interface with what it and those inside use of imports, from the innermost on.

@@ -13,14 +13,14 @@ use Rattle.wac_shapes.specs.declared.component.ValueType.{ValueType}
 use Rattle.wac_shapes.specs.declared.component.ValueType.TheVariants as val
 use Rattle.wac_shapes.specs.declared.component.«Type».TheVariants as ty
 use Rattle.wac_shapes.specs.declared.component.ItemKind.{ItemKind}
-use Rattle.wac_collection.specs.Tree.{Side, imported, exported, Tree, primitive, type_equal, function_item, instance_item}
+use Rattle.wac_collection.specs.Tree.{Side, imported, exported, Tree, primitive, function, type_equal, function_item, instance_item}
 use Rattle.wac_collection.specs.Collection.{Collection, IsWellFormed, item_at}
 use Rattle.wac_collection.specs.Aliases.{value_resolved}
 use Rattle.wac_collection.specs.Bound.{Bindings}
 use Rattle.wac_binary.specs.declared.sorts.Description.{Description}
 use Rattle.wac_binary.specs.declared.sorts.Description.TheVariants as e
 use Rattle.wac_binary.specs.declared.sorts.Sort.TheVariants as sort
-use Rattle.wac_binary.specs.HasMeaning.{IsFree}
+use Rattle.wac_binary.specs.HasMeaning.{IsType, IsFunction, IsFree}
 use Rattle.wac_binary.specs.Indexes.{space}
 use Rattle.wac_binary.specs.Items.{TypeDef, value_def, primitive_def}
 use Rattle.wac_binary.specs.Unfold.{Scope as Env, with_item}
@@ -106,6 +106,17 @@ function-declared c side old now new n f k adds declares m ms o os g free =
     let l = declares c m ms o os r.0 r.3.0.0 (free-after c m ms side old now o os n r.3.0 free) r.2 r.3.1 in
     (function_item r.0, r.1, declares-after c m ms side old now new o os n (function_item r.0) r.3.0 l)
 
+-- its type, as a type item
+function-is-type : (t : Tree) → IsFunction t → IsType t
+function-is-type (function a names params result) h = tt
+function-is-type t h = absurd h
+
+pub function-type-declared : (c : Collection) (side : Side) (old now new : Scope) (n : Name) (f : FuncTypeId) (k j : ℕ) → AddsHeldFunc c old now f k → DeclaresType side now new n k j → DeclaresHeld c side old new n (kind.TypeItem (ty.Func f))
+function-type-declared c side old now new n f k j adds declares m ms o os g free =
+    let r = adds m ms o os g in
+    let l = declares c m ms o os r.0 r.3.0.0 (free-after c m ms side old now o os n r.3.0 free) (function-is-type r.0 r.2) r.3.1 in
+    (type_equal r.0, (refl, r.1), declares-after c m ms side old now new o os n (type_equal r.0) r.3.0 l.0)
+
 -- an instance
 pub instance-declared : ExportsEnd → (c : Collection) → IsWellFormed c → (side : Side) (old now new : Scope) (n : Name) (i : InterfaceId) (it : Interface) (j k : ℕ) (es : List (DefinedTypeId × Name)) → item_at c.interfaces i.0 ≡ Some it → lists_plain c i ≡ true → NoNameTwice it.exports → es ≡ listed_definitions c it.exports → AddsHeldInterface c old now i j → DeclaresListing side now new n j es k → DeclaresHeld c side old new n (kind.Instance i)
 instance-declared ends c wf side old now new n i it j k es found plain once listed adds declares m ms o os g free =
@@ -187,6 +198,16 @@ function-written c side old now new n f k w adds there declares = record {
   named = same-records side now new n (e.Func k) declares;
 }
 
+pub function-type-written : (c : Collection) (side : Side) (old now new : Scope) (n : Name) (f : FuncTypeId) (k : ℕ) → WritesFor c 0 (IsOfFunc c f) old now → AddsHeldFunc c old now f k → IsFuncAt c f old now k → new ≡ record now { content = and_declared now.content side n (e.Equal k) } → DeclaresItem c side old new n (kind.TypeItem (ty.Func f))
+function-type-written c side old now new n f k w adds there declares = record {
+  now = now;
+  behind = w;
+  description = e.Equal k;
+  described = (adds, there);
+  appended = declared-so side now new n (e.Equal k) declares;
+  named = same-records side now new n (e.Equal k) declares;
+}
+
 pub instance-written : (c : Collection) (side : Side) (old now new : Scope) (n : Name) (i : InterfaceId) (it : Interface) (k j : ℕ) (es : List (DefinedTypeId × Name)) → item_at c.interfaces i.0 ≡ Some it → es ≡ listed_definitions c it.exports → WritesFor c 0 (NeededBy c (kind.Instance i)) old now → IsInterfaceAt c old now i k → new.content ≡ and_declared now.content side n (e.Instance k) → AlsoLists now j es new → j ≡ count (space sort.Instance) now.content → DeclaresItem c side old new n (kind.Instance i)
 instance-written c side old now new n i it k j es found listed w there declares lists index = record {
   now = now;
@@ -218,6 +239,11 @@ pub function-refused : (A B : Type 0) (c : Collection) (side : Side) (old now : 
 function-refused A B c side old now n g (fault.Write h) w refused = refused
 function-refused A B c side old now n g fault.TooLarge w refused = record { scope = now; types = 0; behind = w; large = inl refused }
 function-refused A B c side old now n g fault.OutOfMemory w refused = tt
+
+pub function-type-refused : (A B : Type 0) (c : Collection) (side : Side) (old now : Scope) (n : Name) (g : FuncTypeId) (f : EncodeFault) → WritesFor c 0 (IsOfFunc c g) old now → IsFuncRefused {A = A} c g now (Err f) → IsItemRefused {A = B} c side n (kind.TypeItem (ty.Func g)) old (Err f)
+function-type-refused A B c side old now n g (fault.Write h) w refused = refused
+function-type-refused A B c side old now n g fault.TooLarge w refused = record { scope = now; types = 0; behind = w; large = inl refused }
+function-type-refused A B c side old now n g fault.OutOfMemory w refused = tt
 
 pub instance-refused : (A B : Type 0) (c : Collection) (side : Side) (old : Scope) (n : Name) (i : InterfaceId) (f : EncodeFault) → IsInstanceRefused {A = A} c i old (Err f) → IsItemRefused {A = B} c side n (kind.Instance i) old (Err f)
 instance-refused A B c side old n i (fault.Write g) h = h

@@ -9,10 +9,12 @@ use Rattle.wac_shapes.specs.Named.{named_pairs}
 use Rattle.wac_shapes.proofs.Names.{take_at}
 use Rattle.wac_shapes.specs.declared.component.ItemKind.{ItemKind}
 use Rattle.wac_shapes.specs.declared.component.ItemKind.TheVariants as kind
+use Rattle.wac_shapes.specs.declared.component.«Type».{«Type» as AnyType}
+use Rattle.wac_shapes.specs.declared.component.«Type».TheVariants as ty
 use Rattle.wac_encode.proofs.Ordered.{by_now}
 use Rattle.wac_worlds.specs.Declaring.{is_in, group, declared_order}
 use Rattle.wac_worlds.specs.declared.order.Group.{Group}
-use Rattle.wac_worlds.specs.declared.order.Group.TheVariants.{Instances, Types, Others}
+use Rattle.wac_worlds.specs.declared.order.Group.TheVariants.{Instances, ValueTypes, OtherTypes, Others}
 
 -- one item more
 
@@ -48,7 +50,7 @@ group-passed g es fs i n k old at other before =
     passed false e = refl
     passed true e = cc
 
--- the three groups are the items
+-- the four groups are the items
 
 behind-some : (xs : List (Name × ItemKind)) (e : Name × ItemKind) (ys es : List (Name × ItemKind)) → IsPermutation es (xs ++ ys) → IsPermutation (e ∷ es) (xs ++ e ∷ ys)
 behind-some xs e ys es p = IsPermutation-trans (e ∷ es) (e ∷ (xs ++ ys)) (xs ++ e ∷ ys) (IsPermutation-cons e es (xs ++ ys) p) (IsPermutation-sym (xs ++ e ∷ ys) (e ∷ (xs ++ ys)) (IsPermutation-middle xs e ys))
@@ -57,14 +59,35 @@ pub in-order : (es : List (Name × ItemKind)) → IsPermutation es (declared_ord
 in-order [] = IsPermutation-refl []
 in-order ((n, k) ∷ es) = by_kind k (in-order es)
   where
-    other : (j : ItemKind) → IsPermutation es (declared_order es) → IsPermutation ((n, j) ∷ es) (group Instances es ++ (group Types es ++ (n, j) ∷ group Others es))
-    other j p = subst (λ (ys : List (Name × ItemKind)). IsPermutation ((n, j) ∷ es) ys) (append_assoc (group Instances es) (group Types es) ((n, j) ∷ group Others es))
-        (behind-some (group Instances es ++ group Types es) (n, j) (group Others es) es (subst (λ (ys : List (Name × ItemKind)). IsPermutation es ys) (sym (append_assoc (group Instances es) (group Types es) (group Others es))) p))
+    a : List (Name × ItemKind)
+    a = group Instances es
+
+    b : List (Name × ItemKind)
+    b = group ValueTypes es
+
+    d : List (Name × ItemKind)
+    d = group OtherTypes es
+
+    f : List (Name × ItemKind)
+    f = group Others es
+
+    of_type : (t : AnyType) → IsPermutation es (declared_order es) → IsPermutation ((n, kind.TypeItem t) ∷ es) (a ++ (b ++ (n, kind.TypeItem t) ∷ (d ++ f)))
+    of_type t p = subst (IsPermutation ((n, kind.TypeItem t) ∷ es)) (append_assoc a b ((n, kind.TypeItem t) ∷ (d ++ f)))
+        (behind-some (a ++ b) (n, kind.TypeItem t) (d ++ f) es (subst (IsPermutation es) (sym (append_assoc a b (d ++ f))) p))
+
+    other : (j : ItemKind) → IsPermutation es (declared_order es) → IsPermutation ((n, j) ∷ es) (a ++ (b ++ (d ++ (n, j) ∷ f)))
+    other j p = subst (IsPermutation ((n, j) ∷ es)) (append_assoc a (b ++ d) ((n, j) ∷ f) ∙ ap (λ (ys : List (Name × ItemKind)). a ++ ys) (append_assoc b d ((n, j) ∷ f)))
+        (behind-some (a ++ (b ++ d)) (n, j) f es (subst (IsPermutation es) (sym (append_assoc a (b ++ d) f ∙ ap (λ (ys : List (Name × ItemKind)). a ++ ys) (append_assoc b d f))) p))
 
     by_kind : (j : ItemKind) → IsPermutation es (declared_order es) → IsPermutation ((n, j) ∷ es) (declared_order ((n, j) ∷ es))
     by_kind (kind.Instance i) p = IsPermutation-cons (n, kind.Instance i) es (declared_order es) p
-    by_kind (kind.TypeItem t) p = behind-some (group Instances es) (n, kind.TypeItem t) (group Types es ++ group Others es) es p
-    by_kind (kind.Func f) p = other (kind.Func f) p
+    by_kind (kind.TypeItem (ty.Value v)) p = behind-some a (n, kind.TypeItem (ty.Value v)) (b ++ (d ++ f)) es p
+    by_kind (kind.TypeItem (ty.Resource r)) p = of_type (ty.Resource r) p
+    by_kind (kind.TypeItem (ty.Func g)) p = of_type (ty.Func g) p
+    by_kind (kind.TypeItem (ty.Interface i)) p = of_type (ty.Interface i) p
+    by_kind (kind.TypeItem (ty.World w)) p = of_type (ty.World w) p
+    by_kind (kind.TypeItem (ty.Module m)) p = of_type (ty.Module m) p
+    by_kind (kind.Func g) p = other (kind.Func g) p
     by_kind (kind.Component w) p = other (kind.Component w) p
     by_kind (kind.Module m) p = other (kind.Module m) p
     by_kind (kind.Value v) p = other (kind.Value v) p

@@ -121,7 +121,7 @@ can-export c wf w x at plain k e here = (held-exports c wf w x at k e here, each
 
 -- a component type in which nothing is written
 
-new-opened : (s : Scope) → IsBare s → opened s unbound ≡ unbound
+pub new-opened : (s : Scope) → IsBare s → opened s unbound ≡ unbound
 new-opened s bare = let memo_same : recorded_type s ≡ (λ a. None) = fun_ext (λ a. ap2 place (bare.types a) (bare.listed a)) in (λ i. record unbound { content = content_of (bare.content i); memo = memo_same i })
 
 -- what is written into it says the world

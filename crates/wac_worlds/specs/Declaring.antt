@@ -26,11 +26,12 @@ use Rattle.wac_encode.specs.Written.{PartOf, WritesFor, HasHandle, IsOfFunc}
 use Rattle.wac_encode.specs.Listing.{lists_plain, NeededBy, own_types, IsDescribed, SameRecords, TypeDoesNotFit}
 use Rattle.wac_encode.specs.Instances.{IsInterfaceAt, listed_definitions, InterfaceDoesNotFit, IsInstanceRefused}
 use Rattle.wac_worlds.specs.declared.order.Group.{Group}
-use Rattle.wac_worlds.specs.declared.order.Group.TheVariants.{Instances, Types, Others}
+use Rattle.wac_worlds.specs.declared.order.Group.TheVariants.{Instances, ValueTypes, OtherTypes, Others}
 
 -- whether an item is of a sort that is written so far, or that no component type can list
 abbrev pub is_declarable : Collection → ItemKind → Bool
 is_declarable c (kind.TypeItem (ty.Value v)) = true
+is_declarable c (kind.TypeItem (ty.Func f)) = true
 is_declarable c (kind.TypeItem (ty.Module m)) = true
 is_declarable c (kind.TypeItem t) = false
 is_declarable c (kind.Instance i) = lists_plain c i
@@ -42,7 +43,9 @@ are_declarable c es = list_all (λ e. is_declarable c e.1) es
 -- which items belong to a group
 abbrev pub is_in : Group → ItemKind → Bool
 is_in Instances (kind.Instance i) = true
-is_in Types (kind.TypeItem t) = true
+is_in ValueTypes (kind.TypeItem (ty.Value v)) = true
+is_in OtherTypes (kind.TypeItem (ty.Value v)) = false
+is_in OtherTypes (kind.TypeItem t) = true
 is_in Others (kind.Func f) = true
 is_in Others (kind.Component w) = true
 is_in Others (kind.Module m) = true
@@ -52,9 +55,9 @@ is_in g k = false
 abbrev pub group : Group → List (Name × ItemKind) → List (Name × ItemKind)
 group g es = filter (λ e. is_in g e.1) es
 
--- items in the order in which they are declared: instances, then type items, then the others, each group as it is listed
+-- items in the order in which they are declared: instances, then type items of value types, then the other type items, then the others, each group as it is listed
 abbrev pub declared_order : List (Name × ItemKind) → List (Name × ItemKind)
-declared_order es = group Instances es ++ (group Types es ++ group Others es)
+declared_order es = group Instances es ++ (group ValueTypes es ++ (group OtherTypes es ++ group Others es))
 
 -- what an item is described by, where its types were written since old
 abbrev pub IsDeclaredAs : Collection → Scope → Scope → ItemKind → Description → Type 0
@@ -110,6 +113,7 @@ pub record ItemDoesNotFit (c : Collection) (side : Side) (n : Name) (k : ItemKin
 -- has one; what no component type can list
 abbrev pub IsItemFault : Collection → ItemKind → Scope → WriteFault → Type 0
 IsItemFault c (kind.TypeItem (ty.Value v)) s f = (f ≡ write.UnboundResource) × HasHandle (PartOf c (value_resolved c v))
+IsItemFault c (kind.TypeItem (ty.Func g)) s f = (f ≡ write.UnboundResource) × HasHandle (IsOfFunc c g)
 IsItemFault c (kind.Func g) s f = (f ≡ write.UnboundResource) × HasHandle (IsOfFunc c g)
 IsItemFault c (kind.TypeItem (ty.Module m)) s f = f ≡ write.ModuleAsType
 IsItemFault c (kind.Instance i) s f = IsInstanceRefused {A = Unit {0}} c i s (Err (fault.Write f))

@@ -150,6 +150,25 @@ impl<'a> WorldEncoder<'a> {
         Ok(())
     }
 
+    /// Writes a function type, and declares it as a type item. It is still written by the index that it has.
+    fn func_type_item(
+        &self,
+        scope: &mut Scope,
+        side: Side,
+        name: &str,
+        func: FuncTypeId,
+    ) -> Result<(), EncodeFault>
+        requires held { HasFunc self.now.types.now func }
+        requires open { IsOpenComponent scope.old.content }
+        ensures listed { OnOk result (DeclaresHeld self.now.types.now (side_of side) scope.old scope.new name.now (kind.TypeItem (ty.Func func))) }
+        ensures wrote { OnOk result (DeclaresItem self.now.types.now (side_of side) scope.old scope.new name.now (kind.TypeItem (ty.Func func))) }
+        ensures fault { IsItemRefused self.now.types.now (side_of side) name.now (kind.TypeItem (ty.Func func)) scope.old result }
+    {
+        let index = self.func(scope, func)?;
+        scope.declare_type(side, name, index)?;
+        Ok(())
+    }
+
     /// Writes an interface as an instance type, and declares an instance of it, from which the definitions that it lists are aliased from
     /// then on.
     fn instance_item(
@@ -192,6 +211,7 @@ impl<'a> WorldEncoder<'a> {
     {
         match item {
             ItemKind::TypeItem(Type::Value(value)) => self.type_item(scope, side, name, value),
+            ItemKind::TypeItem(Type::Func(func)) => self.func_type_item(scope, side, name, func),
             ItemKind::Func(func) => self.func_item(scope, side, name, func),
             ItemKind::Instance(interface) => self.instance_item(scope, side, name, interface),
             ItemKind::TypeItem(Type::Module(_)) => {
@@ -227,7 +247,7 @@ impl<'a> WorldEncoder<'a> {
         Ok(())
     }
 
-    /// Declares what a world lists on one side: instances, then type items, then the others.
+    /// Declares what a world lists on one side: instances, then type items of value types, then the other type items, then the others.
     pub(crate) fn declare(
         &self,
         scope: &mut Scope,

@@ -5,15 +5,17 @@ ghost use Rattle.wac_shapes.specs.Named.{named_pairs};
 ghost use Rattle.wac_worlds.specs.Declaring.{is_in as in_group, group as grouped, declared_order};
 
 use std::alloc::{AllocError, Global};
-use wac_collection::{ItemKind, Named};
+use wac_collection::{ItemKind, Named, Type};
 
 /// A group of items, which are declared together.
 #[derive(Clone, Copy, Debug)]
 pub(crate) enum Group {
     /// Instances, from which the others alias what these list.
     Instances,
-    /// Type items.
-    Types,
+    /// Type items of value types.
+    ValueTypes,
+    /// The other type items, which name what they mention by those.
+    OtherTypes,
     /// Functions, and all else.
     Others,
 }
@@ -24,7 +26,12 @@ fn is_in(group: Group, item: ItemKind) -> bool
 {
     match group {
         Group::Instances => matches!(item, ItemKind::Instance(_)),
-        Group::Types => matches!(item, ItemKind::TypeItem(_)),
+        Group::ValueTypes => matches!(item, ItemKind::TypeItem(Type::Value(_))),
+        Group::OtherTypes => match item {
+            ItemKind::TypeItem(Type::Value(_)) => false,
+            ItemKind::TypeItem(_) => true,
+            _ => false,
+        },
         Group::Others => !matches!(item, ItemKind::Instance(_) | ItemKind::TypeItem(_)),
     }
 }
@@ -46,7 +53,8 @@ fn add_group<'b>(
     Ok(())
 }
 
-/// The items in the order in which they are declared: instances, then type items, then the others, each group as it is listed.
+/// The items in the order in which they are declared: instances, then type items of value types, then the other type items, then the others,
+/// each group as it is listed.
 pub(crate) fn in_order<'b>(
     alloc: Global,
     items: &'b Named<ItemKind>,
@@ -55,7 +63,8 @@ pub(crate) fn in_order<'b>(
 {
     let mut order = Vec::new(alloc);
     add_group(items, Group::Instances, &mut order)?;
-    add_group(items, Group::Types, &mut order)?;
+    add_group(items, Group::ValueTypes, &mut order)?;
+    add_group(items, Group::OtherTypes, &mut order)?;
     add_group(items, Group::Others, &mut order)?;
     Ok(order)
 }

@@ -103,7 +103,7 @@ impl<'a> WorldEncoder<'a> {
         ensures { IfOk result (λ may. may ≡ declarable_item self.now.types.now item) }
     {
         match item {
-            ItemKind::TypeItem(Type::Value(_) | Type::Module(_)) => Ok(true),
+            ItemKind::TypeItem(Type::Value(_) | Type::Func(_) | Type::Module(_)) => Ok(true),
             ItemKind::TypeItem(_) => Ok(false),
             ItemKind::Instance(id) => self.lists_plain(id),
             ItemKind::Func(_) | ItemKind::Component(_) | ItemKind::Module(_) | ItemKind::Value(_) =>
@@ -144,13 +144,13 @@ impl<'a> WorldEncoder<'a> {
         self.are_declarable(&held.exports)
     }
 
-    /// Writes a held world as a component type: what it imports, then what it exports; each as instances, then type items, then
-    /// functions, in listed order. What an item is made of is written just before it, once, and the instance type of an interface once;
+    /// Writes a held world as a component type: what it imports, then what it exports; each as instances, then type items of value
+    /// types, then those of function types, then functions, in listed order. What an item is made of is written just before it, once, and the instance type of an interface once;
     /// what an instance lists is aliased from it from then on, and a definition that a type item lists is written by the first such
     /// item's index.
     ///
     /// Answers none exactly where the world uses types of interfaces, or an item is of a sort that is not written: a type item of a
-    /// resource, a function type, an interface or a world, or an instance of an interface that `interface_type` does not write; memory
+    /// resource, an interface or a world, or an instance of an interface that `interface_type` does not write; memory
     /// may be refused before that is known. Answers `UnboundResource` for an item that is made of a handle, `ModuleAsType` and
     /// `NestedItem` for one that no component type can list, what `interface_type` answers where it refuses an interface, and `TooLarge`
     /// where what is written next does not fit, the first in order; `OutOfMemory` where memory was refused.

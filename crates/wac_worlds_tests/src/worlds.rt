@@ -31,6 +31,15 @@ const EMPTY: [u8; 13] = [
     0x07, 0x03, 0x01, 0x41, 0x00, // a component type without declarations
 ];
 
+const FUNCTION_TYPE: [u8; 40] = [
+    0x00, 0x61, 0x73, 0x6d, 0x0d, 0x00, 0x01, 0x00, // the preamble
+    0x07, 0x1e, 0x01, 0x41, 0x04, // a component type of four declarations
+    0x01, 0x6d, 0x01, 0x01, 0x61, // the enum
+    0x03, 0x00, 0x01, 0x74, 0x03, 0x00, 0x00, // `t` is imported
+    0x01, 0x40, 0x01, 0x01, 0x78, 0x01, 0x01, 0x00, // a function type over `t`
+    0x03, 0x00, 0x01, 0x67, 0x03, 0x00, 0x02, // `g` is that type
+];
+
 // The bytes of a component that defines this world's component type alone.
 fn written(types: &Types, world: WorldId) -> Result<Vec<u8>, Fail> {
     let alloc = types.allocator();
@@ -73,6 +82,26 @@ fn declares_both_sides(rt: HostRuntime) -> Result<(), Fail> {
     let world = types.add_world(World::new(alloc, None, &imports, &exports)?)?;
     let bytes = written(&types, world)?;
     assert!(rt; bytes.as_slice() == BOTH_SIDES.as_slice());
+    Ok(())
+}
+
+// The type of a function comes behind the type items of value types, also where it is listed before them, and names what it mentions by those.
+#[test]
+fn declares_a_function_type(rt: HostRuntime) -> Result<(), Fail> {
+    let alloc = rt.alloc();
+    let mut types = Types::new(alloc);
+    let x = ValueType::Defined(types.add_defined_type(DefinedType::Enum(Enum::new(
+        alloc,
+        &["a"],
+    )?))?);
+    let f = types.add_func_type(FuncType::new(alloc, &[("x", x)], None, false)?)?;
+    let imports = [
+        ("g", ItemKind::TypeItem(Type::Func(f))),
+        ("t", ItemKind::TypeItem(Type::Value(x))),
+    ];
+    let world = types.add_world(World::new(alloc, None, &imports, &[])?)?;
+    let bytes = written(&types, world)?;
+    assert!(rt; bytes.as_slice() == FUNCTION_TYPE.as_slice());
     Ok(())
 }
 

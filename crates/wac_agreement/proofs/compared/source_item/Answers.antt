@@ -53,7 +53,8 @@ listed_item-requires c =
       around = source.around s.types.now s.calls.now c.requires.named plain c.requires.outermost;
       opened = source.opens s.types.now s.calls.now c.requires.named c.requires.outermost;
       counted = ap (λ (l : List (Vec AnItem Global)). length l) c.as_slice.ensures.value ∙ c.in_ok-listings.ensures.counted;
-      listings = subst (λ (l : List (Vec AnItem Global)). AreListings c.listings.new.nodes s.types.now s.calls.now 0 l) (sym c.as_slice.ensures.value) c.in_ok-listings.ensures.listings;
+      listings = source.inner s.types.now s.calls.now c.requires.named c.listings.new.nodes c.as_slice.result.now
+          (subst (λ (l : List (Vec AnItem Global)). AreListings c.listings.new.nodes s.types.now s.calls.now 0 l) (sym c.as_slice.ensures.value) c.in_ok-listings.ensures.listings);
     }
 
 pub returns : goal.returns

@@ -1,4 +1,4 @@
-use Rattle.std.proofs.Common.{rules, ◌≡◌, ◌≤◌, ◌+◌, length, take, [], inl, inr, subst, sym, ap, ◌∙◌, arith}
+use Rattle.std.proofs.Common.{◌≡◌, length, take, [], subst, sym, ap, ◌∙◌, arith}
 use Rattle.wac_shapes.specs.declared.component.ItemKind.{ItemKind}
 use Rattle.wac_shapes.specs.Name.{Name}
 use Rattle.std.specs.Prelude.{List}
@@ -7,7 +7,7 @@ use Rattle.wac_entries.specs.declared.nodes.Item.{Item}
 use Rattle.wac_coding.specs.Coding.{source_tree}
 use Rattle.wac_coding.specs.ItemCoding.{AreItems}
 use Rattle.wac_coding.proofs.CodingGrowth.{grown_not, grown_twice}
-use Rattle.wac_coding.proofs.OpenedItems.{listings-grown, items-more, opens-at, opens-next, opens-within, listed-held}
+use Rattle.wac_coding.proofs.OpenedItems.{listings-grown, items-more, opens-at, listed-held}
 use Rattle.wac_coding.proofs.listings.listed_items.Goals as goal
 
 pub loop-i-init : goal.loop-i-init
@@ -15,7 +15,6 @@ loop-i-init c = record {
   grown = grown_not c.args.nodes.now;
   right = record { defined = λ d n is. (let none = c.clear.ensures.defined d in cc); funcs = λ f n is. (let none = c.clear.ensures.funcs f in cc) };
   items = subst (λ (xs : List Item). AreItems c.args.nodes.now (source_tree c.args.source.now) [] xs) (sym c.in_ok-items.ensures.items) tt;
-  next = omega arith;
 }
 
 pub listed_item-requires-clause-held : goal.listed_item-requires-clause-held
@@ -25,13 +24,12 @@ pub listed_item-requires-clause-right : goal.listed_item-requires-clause-right
 listed_item-requires-clause-right c = c.loop-i.invariant.right
 
 pub listed_item-requires-clause-opened : goal.listed_item-requires-clause-opened
-listed_item-requires-clause-opened c =
-    opens-at c.args.source.now.calls.now c.args.kinds.now c.loop-i.i c.args.first c.loop-i.next c.value_at-kind.result.now c.value_at-kind.ensures c.loop-i.invariant.next c.requires.opened
+listed_item-requires-clause-opened c = opens-at c.args.source.now.calls.now c.args.kinds.now c.loop-i.i c.value_at-kind.result.now c.value_at-kind.ensures c.requires.opened
 
 pub listed_item-requires-clause-listings : goal.listed_item-requires-clause-listings
 listed_item-requires-clause-listings c =
     let s = c.args.source.now in
-    listings-grown c.args.nodes.now c.loop-i.nodes s.types.now s.calls.now c.args.first c.loop-i.next c.args.listings.now c.loop-i.invariant.grown (omega (arith, c.loop-i.invariant.next)) c.requires.listings
+    listings-grown c.args.nodes.now c.loop-i.nodes s.types.now s.calls.now c.args.listings.now c.loop-i.invariant.grown c.requires.listings
 
 pub returns-in_err-listed_item-clause-grown : goal.returns-in_err-listed_item-clause-grown
 returns-in_err-listed_item-clause-grown c = grown_twice c.args.nodes.now c.loop-i.nodes c.listed_item.new.nodes c.loop-i.invariant.grown c.listed_item.ensures.grown
@@ -39,22 +37,12 @@ returns-in_err-listed_item-clause-grown c = grown_twice c.args.nodes.now c.loop-
 pub returns-in_err-push-clause-grown : goal.returns-in_err-push-clause-grown
 returns-in_err-push-clause-grown c = grown_twice c.args.nodes.now c.loop-i.nodes c.listed_item.new.nodes c.loop-i.invariant.grown c.listed_item.ensures.grown
 
-pub overflow_add-next : goal.overflow_add-next
-overflow_add-next c =
-    let k = c.value_at-kind.result.now in
-    let opens = opens-at c.args.source.now.calls.now c.args.kinds.now c.loop-i.i c.args.first c.loop-i.next k c.value_at-kind.ensures c.loop-i.invariant.next c.requires.opened in
-    elim (opens-within c.args.source.now.calls.now k c.loop-i.next opens) [
-      | inl none ↦ (let same : c.loop-i.next + c.opens.result ≡ c.loop-i.next = omega (arith, none, c.opens.ensures) in search rules)
-      | inr le ↦ (let low : c.loop-i.next + c.opens.result ≤ length c.args.listings.now = omega (arith, le, c.opens.ensures, c.requires.counted) in search rules)
-    ]
-
 pub loop-i-preserved : goal.loop-i-preserved
 loop-i-preserved c = record {
   grown = grown_twice c.args.nodes.now c.loop-i.nodes c.listed_item.new.nodes c.loop-i.invariant.grown c.listed_item.ensures.grown;
   right = c.in_ok-listed_item.ensures.right;
   items = items-more (source_tree c.args.source.now) c.loop-i.nodes c.listed_item.new.nodes c.args.kinds.now c.loop-i.i c.value_at-kind.result.now c.loop-i.items.items c.push.new.self.items c.in_ok-listed_item.field-0 c.listed_item.ensures.grown
       c.value_at-kind.ensures c.in_ok-push.ensures.items c.loop-i.invariant.items c.in_ok-listed_item.ensures.item;
-  next = opens-next c.args.kinds.now c.loop-i.i c.args.first c.loop-i.next c.opens.result c.value_at-kind.result.now c.value_at-kind.ensures c.loop-i.invariant.next c.opens.ensures;
 }
 
 pub returns-clause-grown : goal.returns-clause-grown

@@ -1,7 +1,6 @@
-use Rattle.std.proofs.Common.{◌≡◌, ◌+◌, take, length}
+use Rattle.std.proofs.Common.{take}
 use Rattle.wac_coding.specs.Coding.{source_tree, IsGrown, IsRight}
 use Rattle.wac_coding.specs.ItemCoding.{AreItems}
-use Rattle.wac_entries.specs.Scopes.{opened}
 use Rattle.wac_coding.proofs.listings.listed_items.Given as goal
 
 abbrev pub invariant-loop-i : goal.invariant-loop-i
@@ -9,5 +8,4 @@ invariant-loop-i l = record {
   grown : IsGrown l.fn.nodes l.nodes;
   right : IsRight (source_tree l.source) l.memo l.nodes;
   items : AreItems l.nodes (source_tree l.source) (take l.i l.kinds) l.items.items;
-  next : l.next ≡ l.first + length (opened (take l.i l.kinds));
 }

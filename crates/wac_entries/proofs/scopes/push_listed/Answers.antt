@@ -3,5 +3,5 @@ use Rattle.wac_entries.proofs.Opening.{listed-next}
 use Rattle.wac_entries.proofs.scopes.push_listed.Goals as goal
 
 pub loop-index-preserved : goal.loop-index-preserved
-loop-index-preserved c = listed-next c.args.scopes.now.items c.loop-index.scopes.items c.push_item.new.scopes.items (Some c.args.parent) c.args.listed.now c.loop-index.index c.value_at.result.now
+loop-index-preserved c = listed-next c.args.scopes.now.keys c.loop-index.scopes.keys c.push_item.new.scopes.keys (Some c.args.parent) c.args.listed.now c.loop-index.index c.value_at.result.now
     c.value_at.ensures c.loop-index.invariant c.in_ok-push_item.ensures

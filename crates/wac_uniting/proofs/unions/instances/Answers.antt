@@ -15,6 +15,6 @@ loop-index-preserved c =
     let l : ℕ × ItemKind = get_or ls i d in
     let at = element_at ls i d c.loop-index-test.true in
     elim c.match-kind.branch [
-      | in-Instance+in_ok-push w ↦ instance_next c.args.union ls c.loop-index.parts.items c.match-kind.parts.items i l.0 l.1 w.in-Instance.interface at w.in-Instance.is c.loop-index.invariant (ap (λ p. p.items) w.parts-is ∙ w.in_ok-push.ensures.items)
-      | in_default w ↦ ap (λ p. p.items) w.parts-is ∙ no_instance_next c.args.union ls c.loop-index.parts.items i l.0 l.1 at w.in_default.not-Instance c.loop-index.invariant
+      | in-Instance+in_ok-push w ↦ instance_next ls c.loop-index.instances.items c.match-kind.instances.items i l.0 l.1 w.in-Instance.interface at w.in-Instance.is c.loop-index.invariant (ap (λ p. p.items) w.instances-is ∙ w.in_ok-push.ensures.items)
+      | in_default w ↦ ap (λ p. p.items) w.instances-is ∙ no_instance_next ls c.loop-index.instances.items i l.0 l.1 at w.in_default.not-Instance c.loop-index.invariant
     ]

@@ -9,20 +9,20 @@ use Rattle.wac_encode.proofs.encoder.TypeEncoder.put_instance.Goals as goal
 pub returns-in_err-index-clause-fault : goal.returns-in_err-index-clause-fault
 returns-in_err-index-clause-fault c =
     let p = err_from_is_err_and c.from_residual.result c.from_residual.ensures.1 in
-    rw (p.1, p.2) (first-not-put ℕ (Unit {0}) c.args.self.now.types.now c.args.scope.now c.args.name.now c.args.inside c.args.declarations.now c.in_err-index.field-0.0 c.in_err-index.ensures.too_large)
+    rw (p.1, p.2) (first-not-put ℕ (Unit {0}) c.args.self.now.types.now c.args.scope.now c.args.name.now c.args.inside c.args.declarations c.in_err-index.field-0.0 c.in_err-index.ensures.too_large)
 
 pub export_instance-requires : goal.export_instance-requires
-export_instance-requires c = still-open-behind c.args.scope.now.content c.define_instance.new.self.content (instance_def (decls c.args.declarations.now)) c.in_ok-index.ensures.appended c.requires.open
+export_instance-requires c = still-open-behind c.args.scope.now.content c.take_instance.new.self.content (instance_def (decls c.args.declarations)) c.in_ok-index.ensures.appended c.requires.open
 
 pub returns-in_err-export_instance-clause-fault : goal.returns-in_err-export_instance-clause-fault
 returns-in_err-export_instance-clause-fault c =
     let p = err_from_is_err_and c.from_residual-in_err-export_instance.result c.from_residual-in_err-export_instance.ensures.1 in
-    rw (p.1, p.2) (second-not-put ℕ (Unit {0}) c.args.self.now.types.now c.args.scope.now c.define_instance.new.self c.args.name.now c.args.inside c.args.declarations.now c.in_ok-index.index c.in_err-export_instance.field-0.0 c.in_ok-index.ensures.stands c.in_ok-index.ensures.recorded c.in_ok-index.ensures.appended c.in_ok-index.ensures.index
+    rw (p.1, p.2) (second-not-put ℕ (Unit {0}) c.args.self.now.types.now c.args.scope.now c.take_instance.new.self c.args.name.now c.args.inside c.args.declarations c.in_ok-index.index c.in_err-export_instance.field-0.0 c.in_ok-index.ensures.stands c.in_ok-index.ensures.recorded c.in_ok-index.ensures.appended c.in_ok-index.ensures.index
     (exactly-so ℕ _ c.in_err-export_instance.field-0.0 c.in_err-export_instance.ensures.too_large))
 
 pub returns-clause-put : goal.returns-clause-put
 returns-clause-put c = record {
-  now = c.define_instance.new.self;
+  now = c.take_instance.new.self;
   index = c.in_ok-index.index;
   adds = c.in_ok-index.ensures.stands;
   recorded = c.in_ok-index.ensures.recorded;

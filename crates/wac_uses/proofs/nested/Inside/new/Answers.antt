@@ -20,7 +20,7 @@ loop-position-preserved c =
     let old = mapped_length (λ (v : Vec ℕ Global). v.items) c.loop-position.inside.inner.items in
     let new = mapped_length (λ (v : Vec ℕ Global). v.items) c.open.new.self.inner.items in
     record {
-      inside = inside-next t m c.args.id c.args.users.now c.law-2.ensures _ _ _ _ _ _ q (sym (old ∙ inv.opened)) inv.inside o;
+      inside = inside-next t m c.args.id c.args.users.now c.law-2.ensures _ _ _ inv.inside _ _ _ q (sym (old ∙ inv.opened)) o;
       opened = let one = opened-counted t m q _ _ _ _ _ _ o in omega (arith, one, old, new, inv.opened);
       within = let more = opened-within t m q _ _ _ _ _ _ o in omega (arith, more);
     }

@@ -23,3 +23,9 @@ pub returns-in-Instance-clause-listed : goal.returns-in-Instance-clause-listed
 returns-in-Instance-clause-listed c =
     let same : c.args.item ≡ kind.Instance c.in-Instance.interface = cc in
     subst (λ (k : ItemKind). OnOk c.instance_item.result (DeclaresHeld c.args.self.now.types.now (side_of c.args.side) c.args.scope.now c.instance_item.new.scope c.args.name.now k)) (sym same) c.instance_item.ensures.listed
+
+pub returns-in-TypeItem-Func-clause-listed : goal.returns-in-TypeItem-Func-clause-listed
+returns-in-TypeItem-Func-clause-listed c =
+    let inner = rw c.in-TypeItem-Func.is at c.in-TypeItem-Func.field-0-is in
+    let same : c.args.item ≡ kind.TypeItem (ty.Func c.in-TypeItem-Func.func) = c.in-TypeItem-Func.is ∙ ap (λ (w : AnyType). kind.TypeItem w) inner in
+    subst (λ (k : ItemKind). OnOk c.func_type_item.result (DeclaresHeld c.args.self.now.types.now (side_of c.args.side) c.args.scope.now c.func_type_item.new.scope c.args.name.now k)) (sym same) c.func_type_item.ensures.listed
