@@ -202,8 +202,9 @@ impl Memo {
     {
         let mut numbers = Vec::with_capacity(source.alloc, fields.len())?;
         for i in 0..fields.len() {
-            let number = self.part(nodes, source, *fields.value_at(i))?;
-            let name = String::from_str(source.alloc, fields.name_at(i))?;
+            let (name, value) = fields.entry_at(i);
+            let number = self.part(nodes, source, *value)?;
+            let name = String::from_str(source.alloc, name)?;
             numbers.push((name, number))?;
         }
         Ok(numbers)
@@ -225,8 +226,9 @@ impl Memo {
     {
         let mut numbers = Vec::with_capacity(source.alloc, cases.len())?;
         for i in 0..cases.len() {
-            let number = self.optional(nodes, source, *cases.value_at(i))?;
-            let name = String::from_str(source.alloc, cases.name_at(i))?;
+            let (name, value) = cases.entry_at(i);
+            let number = self.optional(nodes, source, *value)?;
+            let name = String::from_str(source.alloc, name)?;
             numbers.push((name, number))?;
         }
         Ok(numbers)
