@@ -3,7 +3,7 @@
 use wac_shapes::PrimitiveType;
 
 /// A value type in use.
-#[derive(Clone, Copy, PartialEq, Eq)]
+#[derive(Clone, Copy, Debug, PartialEq, Eq)]
 pub enum ComponentValType {
     /// A primitive type.
     Primitive(PrimitiveType),
@@ -12,7 +12,7 @@ pub enum ComponentValType {
 }
 
 /// A function type.
-#[derive(Clone, Copy)]
+#[derive(Clone, Copy, Debug)]
 pub struct FuncType<'a> {
     /// Whether the function is async.
     pub is_async: bool,
@@ -23,7 +23,7 @@ pub struct FuncType<'a> {
 }
 
 /// A value type that a type item defines.
-#[derive(Clone, Copy)]
+#[derive(Clone, Copy, Debug)]
 pub enum DefinedType<'a> {
     /// A primitive type under an index of its own.
     Primitive(PrimitiveType),

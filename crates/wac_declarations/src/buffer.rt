@@ -10,7 +10,7 @@ use std::alloc::{AllocError, Global};
 use std::marker::Model;
 
 /// Bytes that grow at both ends. Contracts see them as a list.
-#[derive(Drop)]
+#[derive(Debug, Drop)]
 pub struct Buffer {
     alloc: Global,
     /// The bytes of the first part, the last one first, so that it grows at its end.

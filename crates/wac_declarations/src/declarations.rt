@@ -22,7 +22,7 @@ use wac_binary::sorts::{IndexSpace, number};
 use wac_bytes::put::put_unsigned;
 
 /// The declarations of a component type or an instance type. Contracts see them as a list.
-#[derive(Drop)]
+#[derive(Debug, Drop)]
 pub struct Declarations {
     bytes: Buffer,
     count: u64,

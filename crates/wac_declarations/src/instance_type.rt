@@ -23,6 +23,7 @@ use wac_binary::types::{DefinedType, FuncType};
 /// the end and answers the index that it adds to the space of its sort, in the scope of the instance type. It
 /// answers `TooLarge` exactly where the declarations with the new one no longer fit 32 bits, and `OutOfMemory` where
 /// memory is refused; then it has added nothing.
+#[derive(Debug)]
 pub struct InstanceType {
     declarations: Declarations,
 }

@@ -22,6 +22,7 @@ use wac_shapes::CoreType;
 ///
 /// Each writer adds one declaration at the end. It answers `TooLarge` exactly where the declarations with the new one
 /// no longer fit 32 bits, and `OutOfMemory` where memory is refused; then it has added nothing.
+#[derive(Debug)]
 pub struct ModuleType {
     bytes: Vec<u8>,
     count: u64,

@@ -20,7 +20,7 @@ use std::alloc::Global;
 use std::hash::{Hash, Hasher};
 
 /// A component name: a text that the grammar allows, and its kind.
-#[derive(Clone, Copy)]
+#[derive(Clone, Copy, Debug)]
 pub struct ComponentName<'a> {
     text: &'a str,
     kind: ComponentNameKind<'a>,

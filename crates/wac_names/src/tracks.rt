@@ -19,7 +19,7 @@ use std::cmp::Ordering;
 
 /// What names have in common of which one may stand for the other. Two names have one track exactly
 /// where their tracks are equal, so a track serves as the key of a map.
-#[derive(Clone, Copy, PartialEq, Eq, Hash)]
+#[derive(Clone, Copy, Debug, PartialEq, Eq, Hash)]
 pub enum Track<'a> {
     /// The whole text of what has no release.
     Text(&'a str),
