@@ -2,7 +2,7 @@
 use crate::tables::Row::{Func, Instance, Module, TypeOf, Value};
 use crate::tables::Step::{Define, Import, Instantiate, Register, Set};
 use crate::tables::Want::{Fault, Parts, Text};
-use crate::tables::{Case, Row, Step, assert_answers};
+use crate::tables::{Case, Row, Step};
 use wac_scopes::WriteFault;
 
 // A function, a value, an instance that lists the type of a core module, and an instance of the empty interface.
@@ -22,7 +22,7 @@ const VALUE_FIRST: &[Step] = &[
     Instantiate,
 ];
 
-const WRITABLE: &[Case] = &[
+pub const WRITABLE: &[Case] = &[
     // A module type is no item.
     Case {
         rows: &[Module, TypeOf(0), Instance(None, &[("x", 1)])],
@@ -88,8 +88,3 @@ const WRITABLE: &[Case] = &[
         want: Text("the graph contains a cycle and cannot be encoded"),
     },
 ];
-
-#[test]
-fn types_that_cannot_be_written_are_refused(rt: HostRuntime) {
-    assert_answers(&rt, WRITABLE);
-}
