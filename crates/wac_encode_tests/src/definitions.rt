@@ -1,14 +1,16 @@
 //! Definitions that are written into the root.
+ghost use Rattle.std.specs.Prelude.{OnOk};
+ghost use Rattle.wac_scopes.specs.Rooted.{IsRightRoot};
 
 use crate::rows::Row::{
     Alias, Async, Enumeration, Func, Instance, List, Optional, Pair, Primitive,
 };
-use crate::rows::{Item, Items, Row};
+use crate::rows::{Item, Items, Row, component};
 use std::process::Abort;
 use wac_builder::ComponentBuilder;
 use wac_collection::Types;
 use wac_root::RootEncoder;
-use wac_scopes::{Encodable, Scope, rooted_law};
+use wac_scopes::{Encodable, EncodeFault, Scope, rooted_law};
 use wac_shapes::{ItemKind, PrimitiveType, Type};
 
 const ORDERED: &[u8] = &[
@@ -45,6 +47,26 @@ const INTERFACE: &[u8] = &[
     0x0b, 0x07, 0x01, 0x00, 0x01, 0x64, 0x03, 0x00, 0x00, // `d`
 ];
 
+// Defines a type in the root.
+fn define(
+    rt: &impl Abort,
+    types: &Types,
+    root: &mut Scope,
+    name: &str,
+    kind: ItemKind,
+) -> Result<(), EncodeFault>
+    requires { IsRightRoot types.now root.old }
+    ensures { OnOk result (IsRightRoot types.now root.new) }
+{
+    let ty = kind.ty();
+    assert!(rt; types.contains(ty));
+    let encoder = RootEncoder::new(types);
+    let definable = encoder.is_definable(ty).expect(rt, "an answer");
+    assert!(rt; definable);
+    encoder.definition(root, name, ty)?;
+    Ok(())
+}
+
 // The bytes of a component that defines these types, in order.
 fn defined(rt: &impl Abort, types: &Types, definitions: &[(&str, ItemKind)]) -> Vec<u8> {
     let alloc = types.allocator();
@@ -52,19 +74,9 @@ fn defined(rt: &impl Abort, types: &Types, definitions: &[(&str, ItemKind)]) -> 
     rooted_law();
     for i in 0..definitions.len() {
         let (name, kind) = definitions[i];
-        let ty = kind.ty();
-        let encoder = RootEncoder::new(types);
-        if !types.contains(ty) || !encoder.is_definable(ty).expect(rt, "an answer") {
-            panic!(rt; "not held, or not definable");
-        }
-        encoder
-            .definition(&mut root, name, ty)
-            .expect(rt, "a definition");
+        define(rt, types, &mut root, name, kind).expect(rt, "a definition");
     }
-    let Encodable::Builder(builder) = root.into_content() else {
-        panic!(rt; "no component");
-    };
-    builder.finish().expect(rt, "bytes")
+    component(rt, root).finish().expect(rt, "bytes")
 }
 
 // Types, those that are defined, and the bytes of the component that defines them.

@@ -1,9 +1,11 @@
 //! Items that are imported into the root.
+ghost use Rattle.std.specs.Prelude.{OnOk};
+ghost use Rattle.wac_scopes.specs.Contents.{IsRoot};
 
 use crate::rows::Row::{
     Alias, Enumeration, Func, Instance, List, Primitive, Resource, TypeOf, Value,
 };
-use crate::rows::{Item, Items, Row, assert_row};
+use crate::rows::{Item, Items, Row, assert_row, component};
 use std::alloc::Global;
 use std::process::Abort;
 use wac_builder::ComponentBuilder;
@@ -138,22 +140,43 @@ const UNNAMED_AROUND: &[u8] = &[
     0x0a, 0x0a, 0x01, 0x00, 0x05, 0x6e, 0x3a, 0x70, 0x2f, 0x69, 0x05, 0x02, // an instance of it
 ];
 
+// Imports an item into the root, and answers whether it is imported yet.
+fn import(
+    rt: &impl Abort,
+    types: &Types,
+    root: &mut Scope,
+    name: &str,
+    item: ItemKind,
+) -> Result<bool, EncodeFault>
+    requires { IsRoot root.old.content }
+    ensures { OnOk result (IsRoot root.new.content) }
+{
+    assert!(rt; types.contains(item.ty()));
+    let index = RootEncoder::new(types).import(root, name, item)?;
+    Ok(index.is_some())
+}
+
+// Whether these items are imported into the root, in order, up to the first that is not yet.
+fn import_all(rt: &impl Abort, types: &Types, root: &mut Scope, items: &[(&str, ItemKind)]) -> bool
+    requires { IsRoot root.old.content }
+{
+    for i in 0..items.len() {
+        let (name, item) = items[i];
+        if !import(rt, types, root, name, item).expect(rt, "an import") {
+            return false;
+        }
+    }
+    true
+}
+
 // The bytes of a component that imports these items, in order; none where one is not imported yet.
 fn imported(rt: &impl Abort, types: &Types, items: &[(&str, ItemKind)]) -> Option<Vec<u8>> {
     let builder = ComponentBuilder::new(types.allocator());
     let mut root = Scope::new(types.allocator(), Encodable::Builder(builder));
-    for i in 0..items.len() {
-        let (name, item) = items[i];
-        assert!(rt; types.contains(item.ty()));
-        let index = RootEncoder::new(types).import(&mut root, name, item);
-        if index.expect(rt, "an import").is_none() {
-            return None;
-        }
+    if import_all(rt, types, &mut root, items) {
+        return Some(component(rt, root).finish().expect(rt, "bytes"));
     }
-    let Encodable::Builder(builder) = root.into_content() else {
-        panic!(rt; "no component");
-    };
-    Some(builder.finish().expect(rt, "bytes"))
+    None
 }
 
 // Types, the items that are imported, and the bytes of the component that does, where all are imported yet.

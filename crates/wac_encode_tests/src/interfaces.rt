@@ -195,16 +195,26 @@ fn interfaces_are_written(rt: HostRuntime) {
 /// Types, the place of an instance whose interface is not written, and the fault, where it is one.
 pub type Refused = (&'static [Row], usize, Option<WriteFault>);
 
+// The fault by which an interface is refused; none where it is not written yet.
+fn refusal(rt: &impl Abort, types: &Types, interface: InterfaceId) -> Option<EncodeFault>
+    requires { HasInterface types.now interface }
+{
+    let around = scope(types);
+    match TypeEncoder::new(types).interface_type(&around, interface) {
+        Ok(Some(_)) => panic!(rt; "it is written"),
+        Ok(None) => None,
+        Err(fault) => Some(fault),
+    }
+}
+
 /// Each is refused by its fault, or is not written yet.
 pub fn assert_refused(rt: &(impl Abort + AllocGlobal), rows: &[Refused]) {
     for (rows, place, want) in rows {
         let items = Items::new(rt, rt.alloc(), rows);
         let interface = items.interface(rt, *place);
         assert!(rt; items.types.contains(Type::Interface(interface)));
-        let around = scope(&items.types);
-        let written = TypeEncoder::new(&items.types).interface_type(&around, interface);
-        assert!(rt; !matches!(written, Ok(Some(_))));
-        assert!(rt; written.err() == want.map(EncodeFault::Write));
+        let fault = refusal(rt, &items.types, interface);
+        assert!(rt; fault == want.map(EncodeFault::Write));
     }
 }
 

@@ -4,8 +4,6 @@
 #[cfg(test)]
 mod definitions;
 #[cfg(test)]
-mod functions;
-#[cfg(test)]
 mod imports;
 #[cfg(test)]
 mod interfaces;

@@ -3,18 +3,35 @@
 ghost use Rattle.std.specs.Prelude.{◌≡◌, true, IfOk};
 ghost use Rattle.wac_entries.specs.Bindings.{AreHeld};
 
+use crate::modules::Extern;
+use crate::rows::Row::{Enumeration, Func, Instance, List, Module, Own, Primitive, Resource};
+use crate::rows::{Item, Items, Row, assert_row};
 use std::alloc::Global;
 use std::process::Abort;
-use std::test::Fail;
 use wac_binary::Sort;
-use wac_collection::{
-    CoreExtern, CoreFuncType, CoreType, DefinedType, Enum, FuncType, Interface, ItemKind,
-    ModuleType, PrimitiveType, Resource, Type, Types, ValueType,
-};
-use wac_importing::write_imports;
-use wac_merge::TypeAggregator;
+use wac_collection::{ItemKind, PrimitiveType, Types};
+use wac_importing::{WrittenImports, write_imports};
+use wac_merge::{MergeFault, TypeAggregator};
 
-const BOOL: ValueType = ValueType::Primitive(PrimitiveType::Bool);
+// An aggregator that is asked for these.
+fn aggregated(
+    alloc: Global,
+    rt: &impl Abort,
+    types: &Types,
+    asked: &[(&str, ItemKind)],
+) -> TypeAggregator
+    ensures { AreHeld types.now result.entries }
+{
+    let mut aggregator = TypeAggregator::new(alloc);
+    for i in 0..asked.len() {
+        let (name, kind) = asked[i];
+        assert!(rt; types.contains(kind.ty()));
+        aggregator = aggregator
+            .aggregate(name, types, kind)
+            .expect(rt, "an aggregator");
+    }
+    aggregator
+}
 
 // The merge of what is asked for.
 fn finished(
@@ -22,96 +39,111 @@ fn finished(
     rt: &impl Abort,
     types: &Types,
     asked: &[(&str, ItemKind)],
-) -> Result<TypeAggregator, Fail>
+) -> Result<TypeAggregator, MergeFault>
     ensures finished { IfOk result (λ merge. merge.is_finished ≡ true) }
     ensures held { IfOk result (λ merge. AreHeld merge.merge.types merge.merge.imports) }
 {
-    let mut aggregator = TypeAggregator::new(alloc);
-    for i in 0..asked.len() {
-        let (name, kind) = asked[i];
-        assert!(rt; types.contains(kind.ty()));
-        aggregator = aggregator.aggregate(name, types, kind)?;
+    aggregated(alloc, rt, types, asked).finish(types)
+}
+
+// Types and what is asked for of them; the index of each import, and the bytes behind the preamble where these are looked at.
+struct Merge {
+    name: &'static str,
+    rows: &'static [Row],
+    asked: &'static [Item],
+    // None where something is not written yet.
+    places: Option<&'static [(Sort, u32)]>,
+    bytes: Option<&'static [u8]>,
+}
+
+// A function over a list of handles, and an instance that lists it.
+const HANDLES: &[Row] = &[
+    Resource,
+    Own(0),
+    List(1),
+    Func(&[("p", 2)], None),
+    Instance(Some("n:p/i"), &[("f", 3)]),
+];
+
+const MERGES: &[Merge] = &[
+    // Instances first, then type items; the types are those of the instance, bool, its item, the enum, and of the functions.
+    Merge {
+        name: "each import stands at an index of its sort",
+        rows: &[
+            Enumeration("x"),
+            Func(&[("p", 0)], None),
+            Primitive(PrimitiveType::Bool),
+            Func(&[("p", 2)], None),
+            Instance(Some("n:p/i"), &[("g", 3)]),
+        ],
+        asked: &[("f", 1), ("n:p/i", 4), ("t", 2), ("g", 3)],
+        places: Some(&[
+            (Sort::Instance, 0),
+            (Sort::Type, 2),
+            (Sort::Func, 0),
+            (Sort::Func, 1),
+        ]),
+        bytes: None,
+    },
+    Merge {
+        name: "a core module stands behind its type",
+        rows: &[
+            Module(&[("g", Extern::Func)]),
+            Primitive(PrimitiveType::Bool),
+            Func(&[("p", 1)], None),
+        ],
+        asked: &[("k", 0), ("f", 2)],
+        places: Some(&[(Sort::CoreModule, 0), (Sort::Func, 0)]),
+        bytes: Some(&[
+            0x03, 0x0d, 0x01, 0x50, 0x02, // one core module type of two declarations
+            0x01, 0x60, 0x01, 0x7f, 0x00, // a function type
+            0x03, 0x01, 0x67, 0x00, 0x00, // the function `g`, of that type
+            0x0a, 0x07, 0x01, 0x00, 0x01, 0x6b, 0x00, 0x11, 0x00, // the module `k`
+            0x07, 0x08, 0x01, 0x40, 0x01, 0x01, 0x70, 0x7f, 0x01, 0x00, // a function type
+            0x0a, 0x06, 0x01, 0x00, 0x01, 0x66, 0x01, 0x00, // the function `f`
+        ]),
+    },
+    Merge {
+        name: "a handle is not written yet",
+        rows: HANDLES,
+        asked: &[("f", 3)],
+        places: None,
+        bytes: None,
+    },
+    Merge {
+        name: "nor is one in an instance",
+        rows: HANDLES,
+        asked: &[("n:p/i", 4)],
+        places: None,
+        bytes: None,
+    },
+];
+
+// The imports stand at these places, and the bytes are these.
+fn stands(rt: &impl Abort, written: WrittenImports, row: &Merge) -> bool {
+    let placed = row.places == Some(written.places.as_slice());
+    match row.bytes {
+        Some(want) => {
+            let bytes = written.root.finish().expect(rt, "bytes");
+            placed && bytes.as_slice().get(8..) == Some(want)
+        }
+        None => placed,
     }
-    match aggregator.finish(types) {
-        Ok(merge) => Ok(merge),
-        Err(_) => Err(Fail::new("no merge")),
+}
+
+fn is_written(rt: &impl Abort, alloc: Global, row: &Merge) -> bool {
+    let items = Items::new(rt, alloc, row.rows);
+    let asked = items.named(rt, row.asked);
+    let merge = finished(alloc, rt, &items.types, &asked).expect(rt, "a merge");
+    match write_imports(alloc, &merge).expect(rt, "an answer") {
+        Some(written) => stands(rt, written, row),
+        None => row.places.is_none(),
     }
 }
 
-// A function over a value type.
-fn func_over(types: &mut Types, alloc: Global, value: ValueType) -> Result<ItemKind, Fail> {
-    let func = FuncType::new(alloc, &[("p", value)], None, false)?;
-    Ok(ItemKind::Func(types.add_func_type(func)?))
-}
-
 #[test]
-fn each_import_stands_at_an_index_of_its_sort(rt: HostRuntime) -> Result<(), Fail> {
-    let alloc = rt.alloc();
-    let mut types = Types::new(alloc);
-    let cases = types.add_defined_type(DefinedType::Enum(Enum::new(alloc, &["x"])?))?;
-    let f = func_over(&mut types, alloc, ValueType::Defined(cases))?;
-    let g = func_over(&mut types, alloc, BOOL)?;
-    let interface = Interface::new(alloc, Some("n:p/i"), &[("g", g)])?;
-    let instance = ItemKind::Instance(types.add_interface(interface)?);
-    let item = ItemKind::TypeItem(Type::Value(BOOL));
-    let asked = [("f", f), ("n:p/i", instance), ("t", item), ("g", g)];
-    let merge = finished(alloc, &rt, &types, &asked)?;
-    let Some(written) = write_imports(alloc, &merge)? else {
-        return Err(Fail::new("not written"));
-    };
-    // instances first, then type items; the types are those of the instance, bool, its item, the enum, and of the functions
-    let places = [
-        (Sort::Instance, 0),
-        (Sort::Type, 2),
-        (Sort::Func, 0),
-        (Sort::Func, 1),
-    ];
-    assert!(rt; written.places.as_slice() == places.as_slice());
-    Ok(())
-}
-
-#[test]
-fn a_core_module_stands_behind_its_type(rt: HostRuntime) -> Result<(), Fail> {
-    let alloc = rt.alloc();
-    let mut types = Types::new(alloc);
-    let mut held = ModuleType::new(alloc);
-    let function = CoreFuncType::new(alloc, &[CoreType::I32], &[])?;
-    held.export(alloc, "g", CoreExtern::Func(function))?;
-    let module = ItemKind::Module(types.add_module_type(held)?);
-    let f = func_over(&mut types, alloc, BOOL)?;
-    let merge = finished(alloc, &rt, &types, &[("k", module), ("f", f)])?;
-    let Some(written) = write_imports(alloc, &merge)? else {
-        return Err(Fail::new("not written"));
-    };
-    let places = [(Sort::CoreModule, 0), (Sort::Func, 0)];
-    assert!(rt; written.places.as_slice() == places.as_slice());
-    let bytes = written.root.finish()?;
-    assert!(rt; bytes.len() > 8);
-    let want = [
-        0x03, 0x0d, 0x01, 0x50, 0x02, // one core module type of two declarations
-        0x01, 0x60, 0x01, 0x7f, 0x00, // a function type
-        0x03, 0x01, 0x67, 0x00, 0x00, // the function `g`, of that type
-        0x0a, 0x07, 0x01, 0x00, 0x01, 0x6b, 0x00, 0x11, 0x00, // the module `k`
-        0x07, 0x08, 0x01, 0x40, 0x01, 0x01, 0x70, 0x7f, 0x01, 0x00, // a function type
-        0x0a, 0x06, 0x01, 0x00, 0x01, 0x66, 0x01, 0x00, // the function `f`
-    ];
-    assert!(rt; &bytes[8..] == want.as_slice());
-    Ok(())
-}
-
-#[test]
-fn a_handle_is_not_written_yet(rt: HostRuntime) -> Result<(), Fail> {
-    let alloc = rt.alloc();
-    let mut types = Types::new(alloc);
-    let resource = types.add_resource(Resource::new(alloc, "r")?)?;
-    let value = ValueType::Own(resource);
-    let listed = types.add_defined_type(DefinedType::List(value))?;
-    let f = func_over(&mut types, alloc, ValueType::Defined(listed))?;
-    let merge = finished(alloc, &rt, &types, &[("f", f)])?;
-    assert!(rt; write_imports(alloc, &merge)?.is_none());
-    let interface = Interface::new(alloc, Some("n:p/i"), &[("f", f)])?;
-    let instance = ItemKind::Instance(types.add_interface(interface)?);
-    let merge = finished(alloc, &rt, &types, &[("n:p/i", instance)])?;
-    assert!(rt; write_imports(alloc, &merge)?.is_none());
-    Ok(())
+fn imports_of_a_merge_are_written(rt: HostRuntime) {
+    for row in MERGES {
+        assert_row(&rt, is_written(&rt, rt.alloc(), row), row.name);
+    }
 }

@@ -1,89 +1,138 @@
 //! Core module types that are written.
 
+use crate::rows::assert_row;
 use std::alloc::Global;
 use std::process::Abort;
-use std::test::Fail;
 use wac_builder::ComponentBuilder;
 use wac_collection::{CoreExtern, CoreFuncType, CoreRefType, CoreType, ModuleType};
 use wac_modules::module_type;
 
-// A memory of one page at least.
-fn memory(maximum: Option<u64>) -> CoreExtern {
-    CoreExtern::Memory {
-        memory64: false,
-        shared: false,
-        initial: 1,
-        maximum,
-        page_size_log2: None,
+/// What a core module imports or exports.
+#[derive(Clone, Copy)]
+pub enum Extern {
+    /// A function without parameters.
+    Plain,
+    /// A function of one parameter.
+    Func,
+    /// A tag of that function's type.
+    Tag,
+    /// A global that can be changed.
+    Global,
+    /// A table of one function or two.
+    Table,
+    /// A memory of one page at least, and of so many at most.
+    Memory(Option<u64>),
+}
+
+fn function(rt: &impl Abort, alloc: Global, params: &[CoreType]) -> CoreFuncType {
+    CoreFuncType::new(alloc, params, &[]).expect(rt, "a function type")
+}
+
+fn item(rt: &impl Abort, alloc: Global, what: Extern) -> CoreExtern {
+    match what {
+        Extern::Plain => CoreExtern::Func(function(rt, alloc, &[])),
+        Extern::Func => CoreExtern::Func(function(rt, alloc, &[CoreType::I32])),
+        Extern::Tag => CoreExtern::Tag(function(rt, alloc, &[CoreType::I32])),
+        Extern::Global => CoreExtern::Global {
+            val_type: CoreType::I64,
+            mutable: true,
+            shared: false,
+        },
+        Extern::Table => CoreExtern::Table {
+            element_type: CoreRefType::FuncRef,
+            initial: 1,
+            maximum: Some(2),
+            table64: false,
+            shared: false,
+        },
+        Extern::Memory(maximum) => CoreExtern::Memory {
+            memory64: false,
+            shared: false,
+            initial: 1,
+            maximum,
+            page_size_log2: None,
+        },
     }
 }
 
-// These bytes are written of the type, behind the preamble.
-fn assert_written(
+/// A core module that imports these of the module `m`, and exports these.
+pub fn core_module(
     rt: &impl Abort,
     alloc: Global,
-    held: &ModuleType,
-    want: &[u8],
-) -> Result<(), Fail> {
+    imports: &[(&str, Extern)],
+    exports: &[(&str, Extern)],
+) -> ModuleType {
+    let mut held = ModuleType::new(alloc);
+    for (name, what) in imports {
+        let imported = held.import(alloc, "m", name, item(rt, alloc, *what));
+        imported.expect(rt, "an import");
+    }
+    for (name, what) in exports {
+        let exported = held.export(alloc, name, item(rt, alloc, *what));
+        exported.expect(rt, "an export");
+    }
+    held
+}
+
+// A core module's imports and exports, and the bytes that are written of its type behind the preamble.
+struct Module {
+    name: &'static str,
+    imports: &'static [(&'static str, Extern)],
+    exports: &'static [(&'static str, Extern)],
+    want: &'static [u8],
+}
+
+const MODULES: &[Module] = &[
+    Module {
+        name: "a function is behind its type",
+        imports: &[("f", Extern::Plain)],
+        exports: &[("e", Extern::Memory(None))],
+        want: &[
+            0x03, 0x14, 0x01, 0x50, 0x03, // one core module type of three declarations
+            0x01, 0x60, 0x00, 0x00, // a function type
+            0x00, 0x01, 0x6d, 0x01, 0x66, 0x00, 0x00, // `f` of `m`, of that type
+            0x03, 0x01, 0x65, 0x02, 0x00, 0x01, // the memory `e`
+        ],
+    },
+    Module {
+        name: "each function and tag has a type of its own",
+        imports: &[("f", Extern::Func)],
+        exports: &[
+            ("g", Extern::Func),
+            ("t", Extern::Tag),
+            ("x", Extern::Global),
+            ("y", Extern::Table),
+            ("z", Extern::Memory(Some(2))),
+        ],
+        want: &[
+            0x03, 0x39, 0x01, 0x50, 0x09, // one core module type of nine declarations
+            0x01, 0x60, 0x01, 0x7f, 0x00, // a function type
+            0x00, 0x01, 0x6d, 0x01, 0x66, 0x00, 0x00, // `f` of `m`, of that type
+            0x01, 0x60, 0x01, 0x7f, 0x00, // the same again
+            0x03, 0x01, 0x67, 0x00, 0x01, // the function `g`
+            0x01, 0x60, 0x01, 0x7f, 0x00, // and again
+            0x03, 0x01, 0x74, 0x04, 0x00, 0x02, // the tag `t`
+            0x03, 0x01, 0x78, 0x03, 0x7e, 0x01, // the global `x`
+            0x03, 0x01, 0x79, 0x01, 0x70, 0x01, 0x01, 0x02, // the table `y`
+            0x03, 0x01, 0x7a, 0x02, 0x01, 0x01, 0x02, // the memory `z`
+        ],
+    },
+];
+
+// The bytes of a component that has this type alone, which has the first index.
+fn written(rt: &impl Abort, alloc: Global, held: &ModuleType) -> Vec<u8> {
     let mut builder = ComponentBuilder::new(alloc);
-    let index = builder.core_module_type(&module_type(alloc, held)?)?;
-    assert_eq!(rt; index, 0);
-    let bytes = builder.finish()?;
-    assert!(rt; bytes.len() > 8);
-    assert!(rt; &bytes[8..] == want);
-    Ok(())
+    let written = module_type(alloc, held).expect(rt, "a module type");
+    let index = builder.core_module_type(&written).expect(rt, "an index");
+    assert!(rt; index == 0);
+    builder.finish().expect(rt, "bytes")
 }
 
 #[test]
-fn a_function_is_behind_its_type(rt: HostRuntime) -> Result<(), Fail> {
-    let alloc = rt.alloc();
-    let mut held = ModuleType::new(alloc);
-    let function = CoreFuncType::new(alloc, &[], &[])?;
-    held.import(alloc, "m", "f", CoreExtern::Func(function))?;
-    held.export(alloc, "e", memory(None))?;
-    let want = [
-        0x03, 0x14, 0x01, 0x50, 0x03, // one core module type of three declarations
-        0x01, 0x60, 0x00, 0x00, // a function type
-        0x00, 0x01, 0x6d, 0x01, 0x66, 0x00, 0x00, // `f` of `m`, of that type
-        0x03, 0x01, 0x65, 0x02, 0x00, 0x01, // the memory `e`
-    ];
-    assert_written(&rt, alloc, &held, &want)
-}
-
-#[test]
-fn each_function_and_tag_has_a_type_of_its_own(rt: HostRuntime) -> Result<(), Fail> {
-    let alloc = rt.alloc();
-    let mut held = ModuleType::new(alloc);
-    let function = CoreFuncType::new(alloc, &[CoreType::I32], &[])?;
-    held.export(alloc, "g", CoreExtern::Func(function.clone()?))?;
-    held.export(alloc, "t", CoreExtern::Tag(function.clone()?))?;
-    let global = CoreExtern::Global {
-        val_type: CoreType::I64,
-        mutable: true,
-        shared: false,
-    };
-    held.export(alloc, "x", global)?;
-    let table = CoreExtern::Table {
-        element_type: CoreRefType::FuncRef,
-        initial: 1,
-        maximum: Some(2),
-        table64: false,
-        shared: false,
-    };
-    held.export(alloc, "y", table)?;
-    held.export(alloc, "z", memory(Some(2)))?;
-    held.import(alloc, "m", "f", CoreExtern::Func(function))?;
-    let want = [
-        0x03, 0x39, 0x01, 0x50, 0x09, // one core module type of nine declarations
-        0x01, 0x60, 0x01, 0x7f, 0x00, // a function type
-        0x00, 0x01, 0x6d, 0x01, 0x66, 0x00, 0x00, // `f` of `m`, of that type
-        0x01, 0x60, 0x01, 0x7f, 0x00, // the same again
-        0x03, 0x01, 0x67, 0x00, 0x01, // the function `g`
-        0x01, 0x60, 0x01, 0x7f, 0x00, // and again
-        0x03, 0x01, 0x74, 0x04, 0x00, 0x02, // the tag `t`
-        0x03, 0x01, 0x78, 0x03, 0x7e, 0x01, // the global `x`
-        0x03, 0x01, 0x79, 0x01, 0x70, 0x01, 0x01, 0x02, // the table `y`
-        0x03, 0x01, 0x7a, 0x02, 0x01, 0x01, 0x02, // the memory `z`
-    ];
-    assert_written(&rt, alloc, &held, &want)
+fn core_module_types_are_written(rt: HostRuntime) {
+    for row in MODULES {
+        let held = core_module(&rt, rt.alloc(), row.imports, row.exports);
+        let bytes = written(&rt, rt.alloc(), &held);
+        assert_row(&rt, bytes.as_slice().get(8..) == Some(row.want), row.name);
+    }
 }

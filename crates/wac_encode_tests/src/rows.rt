@@ -1,11 +1,14 @@
 //! Types as the rows of a table.
 
+use crate::modules::{Extern, core_module};
 use std::alloc::Global;
 use std::process::Abort;
+use wac_builder::ComponentBuilder;
 use wac_collection::Types;
+use wac_scopes::{Encodable, Scope};
 use wac_shapes::{
-    DefinedType, Enum, FuncType, FuncTypeId, Interface, InterfaceId, ItemKind, PrimitiveType,
-    Resource, ResourceId, Type, ValueType,
+    DefinedType, DefinedTypeId, Enum, FuncType, FuncTypeId, Interface, InterfaceId, ItemKind,
+    PrimitiveType, Resource, ResourceId, Type, ValueType,
 };
 
 /// A name, and the place of what it is of.
@@ -40,6 +43,8 @@ pub enum Row {
     TypeOf(usize),
     /// A value of a type.
     Value(usize),
+    /// A core module that exports these.
+    Module(&'static [(&'static str, Extern)]),
 }
 
 /// The items of a table, and the collection of their types.
@@ -52,6 +57,14 @@ pub struct Items {
 /// What a row of a table says is true.
 pub fn assert_row(rt: &impl Abort, holds: bool, name: &str) {
     assert!(rt; holds, "{name}");
+}
+
+/// The component whose root this is.
+pub fn component(rt: &impl Abort, root: Scope) -> ComponentBuilder {
+    match root.into_content() {
+        Encodable::Builder(builder) => builder,
+        _ => panic!(rt; "no component"),
+    }
 }
 
 fn value_item(value: ValueType) -> ItemKind {
@@ -75,20 +88,6 @@ impl Items {
     fn made(&mut self, rt: &impl Abort, row: Row) -> ItemKind {
         match row {
             Row::Primitive(primitive) => value_item(ValueType::Primitive(primitive)),
-            Row::Enumeration(case) => self.enumeration(rt, case),
-            Row::Alias(of) => {
-                let value = self.value(rt, of);
-                self.defined(rt, DefinedType::Alias(value))
-            }
-            Row::List(of) => {
-                let value = self.value(rt, of);
-                self.defined(rt, DefinedType::List(value))
-            }
-            Row::Optional(of) => {
-                let value = self.value(rt, of);
-                self.defined(rt, DefinedType::Option(value))
-            }
-            Row::Pair(first, second) => self.pair(rt, first, second),
             Row::Resource => self.new_resource(rt),
             Row::Own(of) => value_item(ValueType::Own(self.resource(rt, of))),
             Row::Func(params, returned) => self.function(rt, params, returned, false),
@@ -96,6 +95,29 @@ impl Items {
             Row::Instance(id, exports) => self.instance(rt, id, exports),
             Row::TypeOf(of) => ItemKind::TypeItem(self.kind(rt, of).ty()),
             Row::Value(of) => ItemKind::Value(self.value(rt, of)),
+            Row::Module(exports) => self.module(rt, exports),
+            row => {
+                let definition = self.definition(rt, row);
+                let id = self.types.add_defined_type(definition).expect(rt, "its id");
+                value_item(ValueType::Defined(id))
+            }
+        }
+    }
+
+    fn definition(&self, rt: &impl Abort, row: Row) -> DefinedType {
+        let alloc = self.types.allocator();
+        match row {
+            Row::Enumeration(case) => {
+                DefinedType::Enum(Enum::new(alloc, &[case]).expect(rt, "an enumeration"))
+            }
+            Row::Alias(of) => DefinedType::Alias(self.value(rt, of)),
+            Row::List(of) => DefinedType::List(self.value(rt, of)),
+            Row::Optional(of) => DefinedType::Option(self.value(rt, of)),
+            Row::Pair(first, second) => {
+                let parts = [self.value(rt, first), self.value(rt, second)];
+                DefinedType::tuple(alloc, &parts).expect(rt, "a tuple")
+            }
+            _ => panic!(rt; "no definition"),
         }
     }
 
@@ -109,6 +131,14 @@ impl Items {
         match self.kind(rt, place) {
             ItemKind::TypeItem(Type::Value(value)) => value,
             _ => panic!(rt; "no value type"),
+        }
+    }
+
+    /// The definition at a place.
+    pub fn definition_id(&self, rt: &impl Abort, place: usize) -> DefinedTypeId {
+        match self.value(rt, place) {
+            ValueType::Defined(id) => id,
+            _ => panic!(rt; "no definition"),
         }
     }
 
@@ -135,25 +165,14 @@ impl Items {
         }
     }
 
-    fn defined(&mut self, rt: &impl Abort, definition: DefinedType) -> ItemKind {
-        let id = self.types.add_defined_type(definition).expect(rt, "its id");
-        value_item(ValueType::Defined(id))
-    }
-
-    fn enumeration(&mut self, rt: &impl Abort, case: &str) -> ItemKind {
-        let cases = Enum::new(self.types.allocator(), &[case]).expect(rt, "an enumeration");
-        self.defined(rt, DefinedType::Enum(cases))
-    }
-
-    fn pair(&mut self, rt: &impl Abort, first: usize, second: usize) -> ItemKind {
-        let parts = [self.value(rt, first), self.value(rt, second)];
-        let pair = DefinedType::tuple(self.types.allocator(), &parts).expect(rt, "a tuple");
-        self.defined(rt, pair)
-    }
-
     fn new_resource(&mut self, rt: &impl Abort) -> ItemKind {
         let resource = Resource::new(self.types.allocator(), "r").expect(rt, "a resource");
         ItemKind::TypeItem(Type::Resource(self.types.add_resource(resource).expect(rt, "its id")))
+    }
+
+    fn module(&mut self, rt: &impl Abort, exports: &[(&str, Extern)]) -> ItemKind {
+        let module = core_module(rt, self.types.allocator(), &[], exports);
+        ItemKind::Module(self.types.add_module_type(module).expect(rt, "its id"))
     }
 
     fn params<'a>(&self, rt: &impl Abort, items: &[(&'a str, usize)]) -> Vec<(&'a str, ValueType)> {

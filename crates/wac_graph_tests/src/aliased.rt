@@ -1,8 +1,8 @@
 // Value types that an imported instance lists, where other imports are made of them.
+use crate::tables::Case;
 use crate::tables::Row::{Enumeration, Func, Instance, Using};
 use crate::tables::Step::Import;
 use crate::tables::Want::Parts;
-use crate::tables::{Case, assert_answers};
 
 const TAKEN: &[&str] = &[
     "070f014202", // an instance type of two declarations
@@ -28,7 +28,7 @@ const BROUGHT_IN: &[&str] = &[
     "0a0a0100056e3a702f690502", // an instance of it
 ];
 
-const ALIASED: &[Case] = &[
+pub const ALIASED: &[Case] = &[
     // A function takes an enum that an interface lists; both are imported, the function by the lower node.
     Case {
         rows: &[
@@ -51,8 +51,3 @@ const ALIASED: &[Case] = &[
         want: Parts(BROUGHT_IN),
     },
 ];
-
-#[test]
-fn what_an_instance_lists_is_aliased(rt: HostRuntime) {
-    assert_answers(&rt, ALIASED);
-}

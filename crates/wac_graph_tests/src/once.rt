@@ -1,13 +1,13 @@
 // Types that more than one import is of, and that are written once.
+use crate::tables::Case;
 use crate::tables::Row::{Func, Instance};
 use crate::tables::Step::Import;
 use crate::tables::Want::Parts;
-use crate::tables::{Case, assert_answers};
 
 // The type of an instance that exports a function `f`.
 const INSTANCE: &str = "070e0142020140000100040001660100";
 
-const ONCE: &[Case] = &[
+pub const ONCE: &[Case] = &[
     // Import nodes of one function type share it.
     Case {
         rows: &[Func(&[], None)],
@@ -43,8 +43,3 @@ const ONCE: &[Case] = &[
         want: Parts(&[INSTANCE, "0a06010001780500", INSTANCE, "0a06010001790501"]),
     },
 ];
-
-#[test]
-fn types_of_one_id_are_written_once(rt: HostRuntime) {
-    assert_answers(&rt, ONCE);
-}

@@ -4,7 +4,7 @@ use std::process::Abort;
 use wac_causes::EncodeError;
 use wac_composition::CompositionGraph;
 use wac_nodes::{EncodeOptions, NodeId, PackageId, RegisterPackageError};
-use wac_types::{FuncType, Interface, ItemKind, World};
+use wac_types::{FuncType, ItemKind, World};
 
 // A component with nothing in it: the eight bytes of the preamble alone.
 const EMPTY_COMPONENT: [u8; 8] = [0x00, 0x61, 0x73, 0x6d, 0x0d, 0x00, 0x01, 0x00];
@@ -13,12 +13,6 @@ const EMPTY_COMPONENT: [u8; 8] = [0x00, 0x61, 0x73, 0x6d, 0x0d, 0x00, 0x01, 0x00
 pub fn function(rt: &impl Abort, alloc: Global, graph: &mut CompositionGraph) -> ItemKind {
     let function = FuncType::new(alloc, &[], None, false).expect(rt, "a function type");
     ItemKind::Func(graph.add_func_type(function).expect(rt, "its id"))
-}
-
-// An instance type without exports.
-pub fn empty_instance(rt: &impl Abort, alloc: Global, graph: &mut CompositionGraph) -> ItemKind {
-    let interface = Interface::new(alloc, None, &[]).expect(rt, "an interface");
-    ItemKind::Instance(graph.add_interface(interface).expect(rt, "its id"))
 }
 
 // Registers a package of a new world with these imports and exports, its bytes an empty component.

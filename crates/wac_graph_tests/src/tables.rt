@@ -1,6 +1,10 @@
 // Types and calls on a graph as the rows of a table, and what `encode` answers then.
-use crate::defining::define;
+use crate::aliased::ALIASED;
+use crate::defining::{CALLS, DEFINED, assert_undefined, define, remove};
+use crate::imports::IMPORTS;
+use crate::once::ONCE;
 use crate::parts::{encode, export, import, instantiate, register};
+use crate::writable::{DEPENDENCIES, WRITABLE};
 use std::alloc::Global;
 use std::process::Abort;
 use wac_causes::EncodeError;
@@ -9,7 +13,7 @@ use wac_nodes::{EncodeOptions, NodeId, PackageId};
 use wac_scopes::WriteFault;
 use wac_types::{
     DefinedType, Enum, FuncType, Interface, InterfaceId, ItemKind, ModuleType, PrimitiveType,
-    Record, Resource, Type, ValueType, World,
+    Record, Resource, ResourceId, Type, ValueType, World,
 };
 
 const PREAMBLE: &str = "0061736d0d000100";
@@ -22,6 +26,8 @@ pub type Item = (&'static str, usize);
 pub enum Row {
     // The type bool.
     Bool,
+    // The type byte.
+    Byte,
     // A value of type bool.
     Value,
     // The type of a new enumeration of this case.
@@ -34,10 +40,14 @@ pub enum Row {
     Alias(usize),
     // A tuple of two types.
     Pair(usize, usize),
+    // A tuple of a type twice, a tuple of that twice, and so on, so many deep.
+    Doubled(usize, u32),
     // A record of a field `b` of a type.
     Record(usize),
-    // The type of a handle to a new resource.
-    Handle,
+    // A new resource.
+    Resource,
+    // The type of a handle to a resource.
+    Own(usize),
     // A function of these parameters, and of what it gives.
     Func(&'static [Item], Option<usize>),
     // An instance of an interface of this id, which uses a type of the first name of an instance, and lists these.
@@ -48,15 +58,27 @@ pub enum Row {
     Component(Option<&'static str>, &'static [Item], &'static [Item]),
     // An empty core module.
     Module,
+    // The type of an empty world of this id.
+    World(&'static str),
     // The type of an item.
     TypeOf(usize),
 }
 
-// A call on the graph. A node is meant by its number.
+// A call on the graph, or what is true of it then. A node is meant by its number.
 #[derive(Clone, Copy)]
 pub enum Step {
-    // Defines the type of an item.
+    // Defines the type of an item, under a name that is not exported yet.
     Define(&'static str, usize),
+    // The type of an item is not defined under this name, and the refusal has this text.
+    Undefined(&'static str, usize, &'static str),
+    // Removes the node that is exported by this name.
+    Remove(&'static str),
+    // A node's exports are not taken away from it.
+    Kept(usize),
+    // The node that is exported by this name.
+    Exported(&'static str, Option<NodeId>),
+    // There are so many nodes.
+    Nodes(usize),
     Import(&'static str, usize),
     Export(usize, &'static str),
     // Registers the package `my:package` with these imports.
@@ -72,6 +94,8 @@ pub enum Step {
 pub enum Want {
     // The preamble and these parts, in hexadecimal.
     Parts(&'static [&'static str]),
+    // So many bytes.
+    Length(usize),
     // A refusal with this text.
     Text(&'static str),
     // A refusal of the type that this node asks for.
@@ -108,18 +132,18 @@ fn value_item(value: ValueType) -> ItemKind {
 
 impl Made {
     // A graph after these calls.
-    fn new(rt: &impl Abort, alloc: Global, case: &Case) -> Made {
+    fn new(rt: &(impl Abort + AllocGlobal), rows: &[Row], steps: &[Step]) -> Made {
         let mut made = Made {
-            graph: CompositionGraph::new(alloc),
-            kinds: Vec::new(alloc),
+            graph: CompositionGraph::new(rt.alloc()),
+            kinds: Vec::new(rt.alloc()),
             package: None,
         };
-        for row in case.rows {
-            let kind = made.item(rt, alloc, *row);
+        for row in rows {
+            let kind = made.item(rt, rt.alloc(), *row);
             made.kinds.push(kind).expect(rt, "room for an item");
         }
-        for step in case.steps {
-            made.call(rt, alloc, *step);
+        for step in steps {
+            made.call(rt, *step);
         }
         made
     }
@@ -142,61 +166,76 @@ impl Made {
         }
     }
 
+    fn resource(&self, rt: &impl Abort, place: usize) -> ResourceId {
+        match self.kind(rt, place) {
+            ItemKind::TypeItem(Type::Resource(id)) => id,
+            _ => panic!(rt; "no resource"),
+        }
+    }
+
     fn item(&mut self, rt: &impl Abort, alloc: Global, row: Row) -> ItemKind {
         match row {
             Row::Bool => value_item(ValueType::Primitive(PrimitiveType::Bool)),
+            Row::Byte => value_item(ValueType::Primitive(PrimitiveType::U8)),
             Row::Value => ItemKind::Value(ValueType::Primitive(PrimitiveType::Bool)),
-            Row::Enumeration(case) => self.enumeration(rt, alloc, case),
-            Row::List(of) => {
-                let value = self.value(rt, of);
-                self.defined(rt, DefinedType::List(value))
-            }
-            Row::Optional(of) => {
-                let value = self.value(rt, of);
-                self.defined(rt, DefinedType::Option(value))
-            }
-            Row::Alias(of) => {
-                let value = self.value(rt, of);
-                self.defined(rt, DefinedType::Alias(value))
-            }
-            Row::Pair(first, second) => self.pair(rt, alloc, first, second),
-            Row::Record(of) => self.record(rt, alloc, of),
-            Row::Handle => self.handle(rt, alloc),
+            Row::Doubled(of, levels) => self.doubled(rt, alloc, of, levels),
+            Row::Resource => self.new_resource(rt, alloc),
+            Row::Own(of) => value_item(ValueType::Own(self.resource(rt, of))),
             Row::Func(params, returned) => self.function(rt, alloc, params, returned),
             Row::Using(id, used, items) => self.using(rt, alloc, id, used, items),
             Row::Instance(id, items) => self.instance(rt, alloc, id, items),
             Row::Component(id, imports, exports) => self.component(rt, alloc, id, imports, exports),
             Row::Module => self.module(rt, alloc),
+            Row::World(id) => self.world(rt, alloc, id),
             Row::TypeOf(of) => ItemKind::TypeItem(self.kind(rt, of).ty()),
+            row => {
+                let definition = self.definition(rt, alloc, row);
+                value_item(self.defined(rt, definition))
+            }
         }
     }
 
-    fn defined(&mut self, rt: &impl Abort, definition: DefinedType) -> ItemKind {
-        let id = self.graph.add_defined_type(definition).expect(rt, "its id");
-        value_item(ValueType::Defined(id))
+    fn defined(&mut self, rt: &impl Abort, definition: DefinedType) -> ValueType {
+        ValueType::Defined(self.graph.add_defined_type(definition).expect(rt, "its id"))
     }
 
-    fn enumeration(&mut self, rt: &impl Abort, alloc: Global, case: &str) -> ItemKind {
-        let cases = Enum::new(alloc, &[case]).expect(rt, "an enumeration");
-        self.defined(rt, DefinedType::Enum(cases))
+    fn definition(&self, rt: &impl Abort, alloc: Global, row: Row) -> DefinedType {
+        match row {
+            Row::Enumeration(case) => {
+                DefinedType::Enum(Enum::new(alloc, &[case]).expect(rt, "an enumeration"))
+            }
+            Row::List(of) => DefinedType::List(self.value(rt, of)),
+            Row::Optional(of) => DefinedType::Option(self.value(rt, of)),
+            Row::Alias(of) => DefinedType::Alias(self.value(rt, of)),
+            Row::Pair(first, second) => {
+                let parts = [self.value(rt, first), self.value(rt, second)];
+                DefinedType::tuple(alloc, &parts).expect(rt, "a tuple")
+            }
+            Row::Record(of) => {
+                let field = ("b", self.value(rt, of));
+                DefinedType::Record(Record::new(alloc, &[field]).expect(rt, "a record"))
+            }
+            _ => panic!(rt; "no definition"),
+        }
     }
 
-    fn pair(&mut self, rt: &impl Abort, alloc: Global, first: usize, second: usize) -> ItemKind {
-        let parts = [self.value(rt, first), self.value(rt, second)];
-        let pair = DefinedType::tuple(alloc, &parts).expect(rt, "a tuple");
-        self.defined(rt, pair)
+    fn doubled(&mut self, rt: &impl Abort, alloc: Global, of: usize, levels: u32) -> ItemKind {
+        let mut value = self.value(rt, of);
+        for _ in 0..levels {
+            let pair = DefinedType::tuple(alloc, &[value, value]).expect(rt, "a tuple");
+            value = self.defined(rt, pair);
+        }
+        value_item(value)
     }
 
-    fn record(&mut self, rt: &impl Abort, alloc: Global, of: usize) -> ItemKind {
-        let value = self.value(rt, of);
-        let record = Record::new(alloc, &[("b", value)]).expect(rt, "a record");
-        self.defined(rt, DefinedType::Record(record))
-    }
-
-    fn handle(&mut self, rt: &impl Abort, alloc: Global) -> ItemKind {
+    fn new_resource(&mut self, rt: &impl Abort, alloc: Global) -> ItemKind {
         let resource = Resource::new(alloc, "r").expect(rt, "a resource");
-        let resource = self.graph.add_resource(resource).expect(rt, "its id");
-        value_item(ValueType::Own(resource))
+        ItemKind::TypeItem(Type::Resource(self.graph.add_resource(resource).expect(rt, "its id")))
+    }
+
+    fn world(&mut self, rt: &impl Abort, alloc: Global, id: &str) -> ItemKind {
+        let world = World::new(alloc, Some(id), &[], &[]).expect(rt, "a world");
+        ItemKind::TypeItem(Type::World(self.graph.add_world(world).expect(rt, "its id")))
     }
 
     fn params(
@@ -292,28 +331,48 @@ impl Made {
         ItemKind::Module(module.expect(rt, "its id"))
     }
 
-    fn call(&mut self, rt: &impl Abort, alloc: Global, step: Step) {
+    fn call(&mut self, rt: &(impl Abort + AllocGlobal), step: Step) {
         match step {
             Step::Define(name, place) => {
                 let ty = self.kind(rt, place).ty();
-                define(rt, &mut self.graph, name, ty);
+                assert!(rt; self.graph.get_export(name).is_none());
+                let node = define(rt, &mut self.graph, name, ty);
+                assert!(rt; self.graph.get_export(name) == Some(node));
+            }
+            Step::Undefined(name, place, want) => {
+                let ty = self.kind(rt, place).ty();
+                assert_undefined(rt, &mut self.graph, name, ty, want);
             }
             Step::Import(name, place) => {
                 let kind = self.kind(rt, place);
                 import(rt, &mut self.graph, name, kind);
             }
             Step::Export(node, name) => export(rt, &mut self.graph, NodeId(node), name),
-            Step::Register(imports) => {
-                let imports = self.named(rt, alloc, imports);
-                let package = register(rt, alloc, &mut self.graph, "my:package", &imports, &[]);
-                self.package = Some(package.expect(rt, "a package"));
-            }
+            Step::Register(imports) => self.register(rt, imports),
             Step::Instantiate => {
                 let package = self.package.expect(rt, "a package");
                 instantiate(rt, &mut self.graph, package);
             }
             Step::Set(node, name, argument) => self.set(rt, NodeId(node), name, NodeId(argument)),
+            Step::Remove(name) => remove(rt, &mut self.graph, name),
+            Step::Kept(node) => self.keep(rt, NodeId(node)),
+            Step::Exported(name, node) => {
+                assert!(rt; self.graph.get_export(name) == node, "{name}");
+            }
+            Step::Nodes(count) => assert!(rt; self.graph.node_ids().count() == count),
         }
+    }
+
+    fn register(&mut self, rt: &(impl Abort + AllocGlobal), imports: &[Item]) {
+        let imports = self.named(rt, rt.alloc(), imports);
+        let package = register(rt, rt.alloc(), &mut self.graph, "my:package", &imports, &[]);
+        self.package = Some(package.expect(rt, "a package"));
+    }
+
+    fn keep(&mut self, rt: &impl Abort, node: NodeId) {
+        let held = self.graph.has_node(node);
+        assert!(rt; held);
+        assert!(rt; self.graph.unexport(node).is_err());
     }
 
     fn set(&mut self, rt: &impl Abort, node: NodeId, name: &str, argument: NodeId) {
@@ -347,18 +406,43 @@ fn assert_refused(rt: &(impl Abort + AllocGlobal), error: EncodeError, want: Wan
             let text = format!(in rt.alloc(); "{error}").expect(rt, "a text");
             assert_eq!(rt; text.as_str(), want);
         }
-        Want::Parts(_) => panic!(rt; "a refusal"),
+        _ => panic!(rt; "a refusal"),
+    }
+}
+
+// The bytes are these.
+fn assert_written(rt: &(impl Abort + AllocGlobal), bytes: &[u8], want: Want) {
+    match want {
+        Want::Parts(want) => assert_parts(rt, bytes, want),
+        Want::Length(want) => assert!(rt; bytes.len() == want),
+        _ => panic!(rt; "bytes are written"),
     }
 }
 
 // Each case is answered so.
-pub fn assert_answers(rt: &(impl Abort + AllocGlobal), cases: &[Case]) {
+fn assert_answers(rt: &(impl Abort + AllocGlobal), cases: &[Case]) {
     for case in cases {
-        let made = Made::new(rt, rt.alloc(), case);
-        match (encode(&made.graph, EncodeOptions::default()), case.want) {
-            (Ok(bytes), Want::Parts(want)) => assert_parts(rt, &bytes, want),
-            (Ok(_), _) => panic!(rt; "bytes are written"),
-            (Err(error), want) => assert_refused(rt, error, want),
+        let made = Made::new(rt, case.rows, case.steps);
+        match encode(&made.graph, EncodeOptions::default()) {
+            Ok(bytes) => assert_written(rt, &bytes, case.want),
+            Err(error) => assert_refused(rt, error, case.want),
         }
+    }
+}
+
+#[test]
+fn graphs_are_encoded(rt: HostRuntime) {
+    for cases in [DEFINED, IMPORTS, ALIASED, ONCE, WRITABLE, DEPENDENCIES] {
+        assert_answers(&rt, cases);
+    }
+}
+
+// Items, and calls on a graph of their types, which can be made.
+pub type Calls = (&'static [Row], &'static [Step]);
+
+#[test]
+fn definitions_are_made_and_removed(rt: HostRuntime) {
+    for (rows, steps) in CALLS {
+        let _made = Made::new(&rt, rows, steps);
     }
 }

@@ -2,7 +2,7 @@
 use crate::tables::Row::{Component, Enumeration, Func, Instance, Module, TypeOf, Using, Value};
 use crate::tables::Step::{Define, Import, Instantiate, Register, Set};
 use crate::tables::Want::{Fault, Parts, Text};
-use crate::tables::{Case, Row, Step, assert_answers};
+use crate::tables::{Case, Row, Step};
 use wac_scopes::WriteFault;
 
 // A function, a value, an instance that lists the type of a core module, and an instance of the empty interface.
@@ -41,7 +41,7 @@ const NOT_YET: Want = Text("the graph holds something that is not written yet");
 
 const UNLISTED: Want = Fault(0, WriteFault::UnlistedDependency);
 
-const DEPENDENCIES: &[Case] = &[
+pub const DEPENDENCIES: &[Case] = &[
     // An interface that an imported instance uses is not imported.
     Case {
         rows: WORLDS,
@@ -91,7 +91,7 @@ const DEPENDENCIES: &[Case] = &[
     },
 ];
 
-const WRITABLE: &[Case] = &[
+pub const WRITABLE: &[Case] = &[
     // A module type is no item.
     Case {
         rows: &[Module, TypeOf(0), Instance(None, &[("x", 1)])],
@@ -157,13 +157,3 @@ const WRITABLE: &[Case] = &[
         want: Text("the graph contains a cycle and cannot be encoded"),
     },
 ];
-
-#[test]
-fn worlds_with_unlisted_dependencies_are_refused(rt: HostRuntime) {
-    assert_answers(&rt, DEPENDENCIES);
-}
-
-#[test]
-fn types_that_cannot_be_written_are_refused(rt: HostRuntime) {
-    assert_answers(&rt, WRITABLE);
-}
