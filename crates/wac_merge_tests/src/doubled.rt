@@ -1,14 +1,14 @@
 //! Interfaces that are listed more than once in one, at one level or at many.
 
+use crate::merged::Case;
 use crate::merged::Check::Lists;
-use crate::merged::{Case, assert_merged};
-use crate::rows::{Items, Row};
 use crate::rows::Row::{Instance, Plain, TypeOf};
+use crate::rows::{Items, Row};
 use std::process::Abort;
 use wac_types::{Interface, InterfaceId, ItemKind, Type, Types};
 use wac_uniting::unions::Unions;
 
-const DOUBLED: &[Case] = &[
+pub const DOUBLED: &[Case] = &[
     Case {
         name: "what is listed twice at each level stands at each place",
         rows: &[
@@ -63,11 +63,6 @@ const DOUBLED: &[Case] = &[
     },
 ];
 
-#[test]
-fn what_is_listed_twice_stands_at_each_place(rt: HostRuntime) {
-    assert_merged(&rt, DOUBLED);
-}
-
 // An interface that lists these.
 fn listing(rt: &impl Abort, types: &mut Types, exports: &[(&str, ItemKind)]) -> InterfaceId {
     let interface = Interface::new(types.allocator(), None, exports).expect(rt, "an interface");
@@ -115,7 +110,11 @@ const BASE: &[Row] = &[
     Row::Own(3),
     Row::Taking(4),
     Row::Taking(1),
-    Row::Instance(None, &[("t", 2, None)], &[("t", 1), ("r", 3), ("f", 5), ("g", 6)]),
+    Row::Instance(
+        None,
+        &[("t", 2, None)],
+        &[("t", 1), ("r", 3), ("f", 5), ("g", 6)],
+    ),
 ];
 
 // A merge of two imports that list one interface twice at each of so many levels ends.
@@ -123,9 +122,8 @@ const BASE: &[Row] = &[
 fn many_levels_are_merged(rt: HostRuntime) {
     let alloc = rt.alloc();
     let mut items = Items::new(&rt, alloc, BASE);
-    let kinds = items.asked(&rt, &[("n:p/j", 2), ("x", 7)]);
-    let (_, used) = kinds[0];
-    let (_, base) = kinds[1];
+    let used = items.kind(&rt, 2);
+    let base = items.kind(&rt, 7);
     let first = above(&rt, &mut items.types, base, 40);
     let second = above(&rt, &mut items.types, base, 40);
     let asked = [

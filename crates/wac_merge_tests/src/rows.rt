@@ -90,7 +90,8 @@ impl Items {
         }
     }
 
-    fn kind(&self, rt: &impl Abort, place: usize) -> ItemKind {
+    /// What the row at a place is.
+    pub fn kind(&self, rt: &impl Abort, place: usize) -> ItemKind {
         *self.kinds.get(place).expect(rt, "an item")
     }
 
