@@ -8,6 +8,7 @@ use Rattle.wac_collection.specs.Tree.{TypeTree}
 use Rattle.wac_subtyping.specs.Called.{Called}
 use Rattle.wac_collection.specs.Collection.{Collection, item_at, defined_values, IsWellFormed}
 use Rattle.wac_shapes.specs.declared.component.DefinedType.{DefinedType}
+use Rattle.wac_shapes.specs.declared.component.DefinedType.TheVariants as def
 use Rattle.wac_shapes.specs.declared.component.DefinedTypeId.{DefinedTypeId}
 use Rattle.wac_shapes.specs.declared.component.ValueType.{ValueType}
 use Rattle.wac_shapes.specs.declared.component.ValueType.TheVariants as val
@@ -17,7 +18,7 @@ use Rattle.wac_entries.specs.declared.tasks.Task.{Task}
 use Rattle.wac_entries.specs.declared.tasks.Task.TheVariants.{Open, Close}
 use Rattle.wac_entries.specs.Nodes.{Node}
 use Rattle.wac_entries.specs.Tasks.{task_id, opening, openings, parts_of, task_weight, tasks_weight, HasTask, IsHeldTask, IsOpening}
-use Rattle.wac_coding.specs.Coding.{IsGrown, IsRight, IsMore, IsReady, AreReady, IsDone, MayBeDone, Did, numbered, put_off, IsAwaited, AreCovered, IsUnderWay, defined_number}
+use Rattle.wac_coding.specs.Coding.{only_part, IsGrown, IsRight, IsMore, IsReady, AreReady, IsDone, MayBeDone, Did, numbered, put_off, IsAwaited, AreCovered, IsUnderWay, defined_number}
 use Rattle.wac_coding.proofs.CodingGrowth.{grown_twice, grown_not}
 use Rattle.wac_entries.proofs.TaskLemmas.{all_each, all_front, all_last, all_joined, parts_below, total_joined, openings_weigh, some_weight, openings_held, has_behind, has_front, has_parted, all_openings}
 
@@ -178,3 +179,22 @@ did_put_off c t d x memo left mid now (Ok _) is at first made =
     (made ∙ ap (λ ts. ts ++ openings (defined_values x)) first ∙ append_assoc left (Close d ∷ []) (openings (defined_values x))
     ∙ ap (λ o. left ++ Close d ∷ openings (option_case o [] defined_values)) (sym at))
 did_put_off c t d x memo left mid now (Err _) is at first made = made
+
+only_values : (x : DefinedType) (v : ValueType) → only_part x ≡ Some v → defined_values x ≡ v ∷ []
+only_values (def.Tuple vs) v e = cc
+only_values (def.List w) v e = let same : w ≡ v = cc in ap (λ y. y ∷ []) same
+only_values (def.FixedSizeList w n) v e = let same : w ≡ v = cc in ap (λ y. y ∷ []) same
+only_values (def.Option w) v e = let same : w ≡ v = cc in ap (λ y. y ∷ []) same
+only_values (def.Result ok err) v e = cc
+only_values (def.Variant w) v e = cc
+only_values (def.Record r) v e = cc
+only_values (def.Flags names) v e = cc
+only_values (def.Enum names) v e = cc
+only_values (def.Alias w) v e = let same : w ≡ v = cc in ap (λ y. y ∷ []) same
+only_values (def.Stream w) v e = cc
+only_values (def.Future w) v e = cc
+
+-- a definition whose only part is ready may be closed
+pub only_ready : (c : Collection) (memo : Memo) (d : DefinedTypeId) (x : DefinedType) (v : ValueType) → item_at c.defined d.0 ≡ Some x → only_part x ≡ Some v → IsReady memo v → AreReady memo (parts_of c d)
+only_ready c memo d x v at only ready =
+    subst (AreReady memo) (sym (ap (λ o. option_case o [] defined_values) at ∙ only_values x v only)) (ready, tt)

@@ -8,6 +8,8 @@ use Rattle.wac_collection.specs.Tree.{TypeTree}
 use Rattle.wac_collection.specs.Collection.{Collection}
 use Rattle.wac_collection.specs.Held.{Names, unfolded}
 use Rattle.wac_subtyping.specs.Called.{Called, by_binding}
+use Rattle.wac_shapes.specs.declared.component.DefinedType.{DefinedType}
+use Rattle.wac_shapes.specs.declared.component.DefinedType.TheVariants as def
 use Rattle.wac_shapes.specs.declared.component.DefinedTypeId.{DefinedTypeId}
 use Rattle.wac_shapes.specs.declared.component.FuncTypeId.{FuncTypeId}
 use Rattle.wac_shapes.specs.declared.component.ValueType.{ValueType}
@@ -82,6 +84,21 @@ IsReady memo (val.Defined d) = IsSome (defined_number memo d)
 
 abbrev pub AreReady : Memo → List ValueType → Type 0
 AreReady memo vs = AllByRecursion (IsReady memo) vs
+
+-- the part of a definition that is made of one alone
+abbrev pub only_part : DefinedType → Option ValueType
+only_part (def.Tuple vs) = None
+only_part (def.List v) = Some v
+only_part (def.FixedSizeList v n) = Some v
+only_part (def.Option v) = Some v
+only_part (def.Result ok err) = None
+only_part (def.Variant v) = None
+only_part (def.Record r) = None
+only_part (def.Flags names) = None
+only_part (def.Enum names) = None
+only_part (def.Alias v) = Some v
+only_part (def.Stream v) = None
+only_part (def.Future v) = None
 
 -- the definition of a task has a number
 abbrev pub IsDone : Memo → Task → Type 0

@@ -2,7 +2,7 @@
 //!
 //! A definition whose parts have no numbers yet waits in a list of tasks, below its parts, so that no chain of definitions is
 //! too long. Each is opened once and numbered once.
-ghost use Rattle.std.specs.Prelude.{◌≡◌, ◌<◌, [], length, map, true, IfOk, OnOk, string_bytes};
+ghost use Rattle.std.specs.Prelude.{◌≡◌, ◌<◌, ◌↔◌, [], length, map, true, IsTrue, IfOk, OnOk, string_bytes};
 ghost use Rattle.std.specs.List.{AllByRecursion};
 ghost use Rattle.wac_collection.specs.Collection.{and_maybe, HasDefined, HasFunc, holds_value, defined_values, case_values, seconds};
 ghost use Rattle.wac_collection.specs.Held.{defined_tree};
@@ -13,7 +13,7 @@ ghost use Rattle.wac_entries.specs.Nodes.{mentions, node_tree, tree_at, IsSorted
 ghost use Rattle.wac_entries.specs.NodeViews.{node_view};
 ghost use Rattle.wac_entries.specs.Tasks.{parts_of, IsHeldTask, IsOpening, AreHeldValues};
 ghost use Rattle.wac_coding.specs.CallsView.{AreNamed};
-ghost use Rattle.wac_coding.specs.Coding.{source_tree, values_of, IsGrown, HasTree, IsRight, IsMore, IsReady, AreReady, IsDone, MayBeDone, Did, HasOption, AreParts, AreFields, AreCases, Fits, Means};
+ghost use Rattle.wac_coding.specs.Coding.{only_part, source_tree, values_of, IsGrown, HasTree, IsRight, IsMore, IsReady, AreReady, IsDone, MayBeDone, Did, HasOption, AreParts, AreFields, AreCases, Fits, Means};
 
 use crate::calls::Calls;
 use crate::memo::Memo;
@@ -87,7 +87,32 @@ fn names(alloc: Global, labels: &Labels) -> Result<Vec<String>, AllocError>
     Ok(names)
 }
 
+/// The part of a definition that is made of one alone.
+fn only_part(definition: &DefinedType) -> Option<ValueType>
+    ensures { result ≡ only_part definition.now }
+{
+    match definition {
+        DefinedType::List(value) => Some(*value),
+        DefinedType::FixedSizeList(value, _) => Some(*value),
+        DefinedType::Option(value) => Some(*value),
+        DefinedType::Alias(value) => Some(*value),
+        _ => None,
+    }
+}
+
 impl Memo {
+    /// Whether a value type has a number, where it is a definition.
+    fn is_ready(&self, value: ValueType) -> bool
+        ensures { IsTrue result ↔ IsReady self.now value }
+    {
+        match value {
+            ValueType::Defined(id) => self.defined(id).is_some(),
+            ValueType::Primitive(_) => true,
+            ValueType::Own(_) => true,
+            ValueType::Borrow(_) => true,
+        }
+    }
+
     /// The number of a value type that has one where it is a definition.
     fn part(
         &self,
@@ -177,8 +202,9 @@ impl Memo {
     {
         let mut numbers = Vec::with_capacity(source.alloc, fields.len())?;
         for i in 0..fields.len() {
-            let number = self.part(nodes, source, *fields.value_at(i))?;
-            let name = String::from_str(source.alloc, fields.name_at(i))?;
+            let (name, value) = fields.entry_at(i);
+            let number = self.part(nodes, source, *value)?;
+            let name = String::from_str(source.alloc, name)?;
             numbers.push((name, number))?;
         }
         Ok(numbers)
@@ -200,8 +226,9 @@ impl Memo {
     {
         let mut numbers = Vec::with_capacity(source.alloc, cases.len())?;
         for i in 0..cases.len() {
-            let number = self.optional(nodes, source, *cases.value_at(i))?;
-            let name = String::from_str(source.alloc, cases.name_at(i))?;
+            let (name, value) = cases.entry_at(i);
+            let number = self.optional(nodes, source, *value)?;
+            let name = String::from_str(source.alloc, name)?;
             numbers.push((name, number))?;
         }
         Ok(numbers)
@@ -291,7 +318,7 @@ impl Memo {
         self.put_defined(id, number)
     }
 
-    /// Does a task: numbers its definition, or puts it off behind its parts.
+    /// Does a task: numbers its definition, or puts it off behind its parts. One whose only part has a number is not put off.
     fn perform(
         &mut self,
         nodes: &mut Nodes,
@@ -312,8 +339,14 @@ impl Memo {
                 if let Some(_) = self.defined(id) {
                     return Ok(());
                 }
+                let definition = &source.types[id];
+                if let Some(value) = only_part(definition) {
+                    if self.is_ready(value) {
+                        return self.close(nodes, source, id);
+                    }
+                }
                 tasks.push(Task::Close(id))?;
-                open_parts(tasks, &source.types[id])
+                open_parts(tasks, definition)
             }
             Task::Close(id) => self.close(nodes, source, id),
         }

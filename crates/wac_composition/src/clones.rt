@@ -18,14 +18,14 @@ impl CompositionGraph {
     pub fn clone(&self) -> Result<CompositionGraph, AllocError>
         ensures { IfOk result (λ graph. graph ≡ self.now) }
     {
+        let lost = self.lost.clone_with_room(self.alloc, self.exports.len())?;
+        let (slots, vacant) = cloned_slots(&self.slots, &self.vacant)?;
         let (types, nodes, edges) = cloned_nodes(&self.types, &self.nodes, &self.edges)?;
         let (imports, exports, package_map) = cloned_names(
             &self.imports,
             &self.exports,
             &self.package_map,
         )?;
-        let (slots, vacant) = cloned_slots(&self.slots, &self.vacant)?;
-        let lost = self.lost.clone_with_room(self.alloc, self.exports.len())?;
         Ok(CompositionGraph {
             alloc: self.alloc,
             types,

@@ -9,7 +9,7 @@ use wac_nodes::{EncodeOptions, NodeId, PackageId};
 use wac_scopes::WriteFault;
 use wac_types::{
     DefinedType, Enum, FuncType, Interface, InterfaceId, ItemKind, ModuleType, PrimitiveType,
-    Record, Resource, Type, ValueType,
+    Record, Resource, Type, ValueType, World,
 };
 
 const PREAMBLE: &str = "0061736d0d000100";
@@ -44,6 +44,8 @@ pub enum Row {
     Using(&'static str, Item, &'static [Item]),
     // An instance of an interface of this id, which lists these.
     Instance(Option<&'static str>, &'static [Item]),
+    // A component of a world of this id, which imports and exports these.
+    Component(Option<&'static str>, &'static [Item], &'static [Item]),
     // An empty core module.
     Module,
     // The type of an item.
@@ -163,6 +165,7 @@ impl Made {
             Row::Func(params, returned) => self.function(rt, alloc, params, returned),
             Row::Using(id, used, items) => self.using(rt, alloc, id, used, items),
             Row::Instance(id, items) => self.instance(rt, alloc, id, items),
+            Row::Component(id, imports, exports) => self.component(rt, alloc, id, imports, exports),
             Row::Module => self.module(rt, alloc),
             Row::TypeOf(of) => ItemKind::TypeItem(self.kind(rt, of).ty()),
         }
@@ -268,6 +271,20 @@ impl Made {
         let interface = Interface::with_uses(alloc, Some(id), &[(used.0, of, None)], &items);
         let interface = interface.expect(rt, "an interface");
         ItemKind::Instance(self.graph.add_interface(interface).expect(rt, "its id"))
+    }
+
+    fn component(
+        &mut self,
+        rt: &impl Abort,
+        alloc: Global,
+        id: Option<&str>,
+        imports: &[Item],
+        exports: &[Item],
+    ) -> ItemKind {
+        let imports = self.named(rt, alloc, imports);
+        let exports = self.named(rt, alloc, exports);
+        let world = World::new(alloc, id, &imports, &exports).expect(rt, "a world");
+        ItemKind::Component(self.graph.add_world(world).expect(rt, "its id"))
     }
 
     fn module(&mut self, rt: &impl Abort, alloc: Global) -> ItemKind {

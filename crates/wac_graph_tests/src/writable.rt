@@ -1,5 +1,5 @@
 // Types that cannot be written, whatever stands around them.
-use crate::tables::Row::{Func, Instance, Module, TypeOf, Value};
+use crate::tables::Row::{Component, Enumeration, Func, Instance, Module, TypeOf, Using, Value};
 use crate::tables::Step::{Define, Import, Instantiate, Register, Set};
 use crate::tables::Want::{Fault, Parts, Text};
 use crate::tables::{Case, Row, Step, assert_answers};
@@ -20,6 +20,75 @@ const VALUE_FIRST: &[Step] = &[
     Import("v", 1),
     Register(&[("i", 4)]),
     Instantiate,
+];
+
+// An enumeration, an interface that lists it, one that uses it of that interface, worlds that import the second, without and with the
+// first, that import the second and export the first, and that export both, and the type of each.
+const WORLDS: &[Row] = &[
+    Enumeration("a"),
+    Instance(Some("n:p/j"), &[("t", 0)]),
+    Using("n:p/i", ("t", 1), &[("t", 0)]),
+    Component(Some("n:p/w"), &[("n:p/i", 2)], &[]),
+    Component(None, &[("n:p/i", 2), ("n:p/j", 1)], &[]),
+    Component(None, &[("n:p/i", 2)], &[("n:p/j", 1)]),
+    Component(None, &[], &[("n:p/i", 2), ("n:p/j", 1)]),
+    Component(None, &[("n:p/i", 2), ("j", 1)], &[]),
+    TypeOf(3),
+    Instance(None, &[("c", 8)]),
+];
+
+const NOT_YET: Want = Text("the graph holds something that is not written yet");
+
+const UNLISTED: Want = Fault(0, WriteFault::UnlistedDependency);
+
+const DEPENDENCIES: &[Case] = &[
+    // An interface that an imported instance uses is not imported.
+    Case {
+        rows: WORLDS,
+        steps: &[Import("c", 3)],
+        want: UNLISTED,
+    },
+    // It is, under its id.
+    Case {
+        rows: WORLDS,
+        steps: &[Import("c", 4)],
+        want: NOT_YET,
+    },
+    // It is exported alone.
+    Case {
+        rows: WORLDS,
+        steps: &[Import("c", 5)],
+        want: UNLISTED,
+    },
+    // It is exported, and so is what uses it.
+    Case {
+        rows: WORLDS,
+        steps: &[Import("c", 6)],
+        want: NOT_YET,
+    },
+    // It is imported under another name.
+    Case {
+        rows: WORLDS,
+        steps: &[Import("c", 7)],
+        want: UNLISTED,
+    },
+    // A type item, at once and in an instance.
+    Case {
+        rows: WORLDS,
+        steps: &[Import("c", 8)],
+        want: UNLISTED,
+    },
+    Case {
+        rows: WORLDS,
+        steps: &[Import("i", 9)],
+        want: UNLISTED,
+    },
+    // A world that is defined imports what it does not list.
+    Case {
+        rows: WORLDS,
+        steps: &[Define("c", 3)],
+        want: NOT_YET,
+    },
 ];
 
 const WRITABLE: &[Case] = &[
@@ -88,6 +157,11 @@ const WRITABLE: &[Case] = &[
         want: Text("the graph contains a cycle and cannot be encoded"),
     },
 ];
+
+#[test]
+fn worlds_with_unlisted_dependencies_are_refused(rt: HostRuntime) {
+    assert_answers(&rt, DEPENDENCIES);
+}
 
 #[test]
 fn types_that_cannot_be_written_are_refused(rt: HostRuntime) {

@@ -58,11 +58,21 @@ impl<'a> Renaming<'a> {
 }
 
 /// What definitions and function types became in a part, and what was made of definitions in all.
-#[derive(Drop)]
 pub struct Renamed {
     defined: HashMap<DefinedTypeId, DefinedTypeId>,
     funcs: HashMap<FuncTypeId, FuncTypeId>,
     made: Made,
+}
+
+/// What was made is let go of here, and not anew at each place where a `Renamed` goes out of scope.
+impl Drop for Renamed {
+    fn drop(self) {
+        let Renamed {
+            defined: _,
+            funcs: _,
+            made: _,
+        } = self;
+    }
 }
 
 /// Puts a value under a name that is not there, behind the others.

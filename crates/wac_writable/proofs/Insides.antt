@@ -1,9 +1,11 @@
 -- What was found is what is written inside a type, and the faults of what it lists are those inside.
-use Rattle.std.proofs.Common.{ℕ, zero, suc, ◌+◌, ◌<◌, ◌≤◌, true, List, [], ◌∷◌, ◌++◌, Option, Some, length, ◌≡◌, ◌⊎◌, inl, inr, refl, ap, sym, subst, arith}
+use Rattle.std.proofs.Common.{ℕ, zero, suc, ◌+◌, ◌<◌, ◌≤◌, true, List, [], ◌∷◌, ◌++◌, Option, Some, length, ◌≡◌, ◌⊎◌, inl, inr, refl, sym, subst, arith}
 use Rattle.std.specs.Prelude.{slice_get, ◌↔◌}
 use Rattle.wac_shapes.specs.Kinds.{kind_type}
 use Rattle.wac_shapes.specs.declared.component.ItemKind.{ItemKind}
+use Rattle.wac_shapes.specs.declared.component.WorldId.{WorldId}
 use Rattle.wac_shapes.specs.declared.component.«Type».{«Type» as AnyType}
+use Rattle.wac_shapes.specs.declared.component.«Type».TheVariants as ty
 use Rattle.wac_collection.specs.Collection.{Collection, IsWellFormed, holds_type}
 use Rattle.wac_reach.specs.Reach.{IsIn}
 use Rattle.wac_reach.specs.Found.{with_all}
@@ -11,9 +13,10 @@ use Rattle.wac_reach.proofs.Lists.{in_at, at_in, all_old, all_new, all_only, all
 use Rattle.wac_reach.proofs.Reaching.{mentioned_held}
 use Rattle.wac_scopes.specs.declared.fault.WriteFault.{WriteFault}
 use Rattle.wac_writable.specs.declared.faults.Role.{Role}
-use Rattle.wac_writable.specs.Faults.{listed_items, IsListed, IsInside, itself, listed, IsFaultOfListed, IsFaultInside, own_fault, HasFault, IsLowest}
-use Rattle.wac_writable.specs.Search.{inner_scopes, lower_of}
+use Rattle.wac_writable.specs.Faults.{listed_items, IsListed, IsInside, itself, listed, LacksDependency, IsFaultAt, IsFaultInside, own_fault, HasFault, IsLowest}
+use Rattle.wac_writable.specs.Search.{scope_of, inner_scopes, lower_of}
 use Rattle.wac_writable.proofs.Lowest.{lowest_same, lowest_itself, lowest_of_both}
+use Rattle.wac_writable.proofs.Dependencies.{split}
 use Rattle.wac_writable.proofs.Listing.{inner_of_listed, listed_of_inner, inner_mentioned, scope_or_nothing}
 
 -- the types that were found, of which those before the next have been looked at
@@ -60,21 +63,15 @@ still [] added i x is = cc
 still (z ∷ xs) added zero x is = is
 still (z ∷ xs) added (suc i) x is = still xs added i x is
 
-split : (i next : ℕ) → i < next + 1 → (i < next) ⊎ (i ≡ next)
-split zero zero l = inr refl
-split zero (suc n) l = inl (omega arith)
-split (suc i) zero l = absurd (omega (arith, l))
-split (suc i) (suc n) l = elim (split i n (omega (arith, l))) [ inl k ↦ inl (omega (arith, k)) | inr e ↦ inr (ap suc e) ]
-
--- a type before the next that was looked at lists an item with this fault
-pub record IsFaultBefore (c : Collection) (ts : List AnyType) (next : ℕ) (f : WriteFault) : Type 0 where
+-- a type before the next that was looked at has this fault
+pub record IsFaultBefore (c : Collection) (r : Role) (root : AnyType) (ts : List AnyType) (next : ℕ) (f : WriteFault) : Type 0 where
   pub position : ℕ
   pub type_there : AnyType
   pub before : position < next
   pub there : slice_get ts position ≡ Some type_there
-  pub fault : IsFaultOfListed (listed_items c type_there) f
+  pub fault : IsFaultAt c r root type_there f
 
-module _ (c : Collection) (wf : IsWellFormed c) (root : AnyType) (ts : List AnyType) (next : ℕ) (u : AnyType) (at : slice_get ts next ≡ Some u) where
+module _ (c : Collection) (wf : IsWellFormed c) (r : Role) (root : AnyType) (ts : List AnyType) (next : ℕ) (u : AnyType) (at : slice_get ts next ≡ Some u) where
   -- the same at a position of the longer list
   at_position : (i : ℕ) (x : AnyType) → i < next + 1 → slice_get (with_all ts (inner_scopes c u)) i ≡ Some x → ((i < next) × (slice_get ts i ≡ Some x)) ⊎ ((i ≡ next) × (x ≡ u))
   at_position i x l is =
@@ -105,73 +102,97 @@ module _ (c : Collection) (wf : IsWellFormed c) (root : AnyType) (ts : List AnyT
       shut i x t (inr (e, same)) w = all_new ts (inner_scopes c u) t (subst (λ z. IsIn t (inner_scopes c z)) same w)
 
   -- the faults before the next but one
-  pub fault_next : (f : WriteFault) → (IsFaultBefore c ts next f ⊎ IsFaultOfListed (listed_items c u) f) ↔ IsFaultBefore c (with_all ts (inner_scopes c u)) (next + 1) f
+  pub fault_next : (f : WriteFault) → (IsFaultBefore c r root ts next f ⊎ IsFaultAt c r root u f) ↔ IsFaultBefore c r root (with_all ts (inner_scopes c u)) (next + 1) f
   fault_next f = (to, from)
     where
       same_place : (i : ℕ) (x : AnyType) → slice_get ts i ≡ Some x → slice_get (with_all ts (inner_scopes c u)) i ≡ Some x
       same_place i x is = let (added, grown) = all_grown ts (inner_scopes c u) in subst (λ z. slice_get z i ≡ Some x) (sym grown) (still ts added i x is)
 
-      to : IsFaultBefore c ts next f ⊎ IsFaultOfListed (listed_items c u) f → IsFaultBefore c (with_all ts (inner_scopes c u)) (next + 1) f
+      to : IsFaultBefore c r root ts next f ⊎ IsFaultAt c r root u f → IsFaultBefore c r root (with_all ts (inner_scopes c u)) (next + 1) f
       to (inl h) = let l = h.before in record { position = h.position; type_there = h.type_there; before = omega (arith, l); there = same_place h.position h.type_there h.there; fault = h.fault }
       to (inr w) = record { position = next; type_there = u; before = omega arith; there = same_place next u at; fault = w }
 
-      from : IsFaultBefore c (with_all ts (inner_scopes c u)) (next + 1) f → IsFaultBefore c ts next f ⊎ IsFaultOfListed (listed_items c u) f
+      from : IsFaultBefore c r root (with_all ts (inner_scopes c u)) (next + 1) f → IsFaultBefore c r root ts next f ⊎ IsFaultAt c r root u f
       from h = elim (at_position h.position h.type_there h.before h.there) [
         | inl (l, is) ↦ inl (record { position = h.position; type_there = h.type_there; before = l; there = is; fault = h.fault })
-        | inr (e, same) ↦ inr (subst (λ z. IsFaultOfListed (listed_items c z) f) same h.fault)
+        | inr (e, same) ↦ inr (subst (λ z. IsFaultAt c r root z f) same h.fault)
       ]
 
   -- what stands after a type was looked at
-  pub looked_next : (now : List AnyType) (low here after : Option WriteFault) → now ≡ with_all ts (inner_scopes c u) → after ≡ lower_of low here → IsLowest (IsFaultOfListed (listed_items c u)) here
-      → AreInside c root ts next → IsLowest (IsFaultBefore c ts next) low → AreInside c root now (next + 1) × IsLowest (IsFaultBefore c now (next + 1)) after
+  pub looked_next : (now : List AnyType) (low here after : Option WriteFault) → now ≡ with_all ts (inner_scopes c u) → after ≡ lower_of low here → IsLowest (IsFaultAt c r root u) here
+      → AreInside c root ts next → IsLowest (IsFaultBefore c r root ts next) low → AreInside c root now (next + 1) × IsLowest (IsFaultBefore c r root now (next + 1)) after
   looked_next now low here after is least listed_low inside before_low = (
     subst (λ xs. AreInside c root xs (next + 1)) (sym is) (inside_next inside),
-    subst (λ xs. IsLowest (IsFaultBefore c xs (next + 1)) after) (sym is)
-        (subst (IsLowest (IsFaultBefore c (with_all ts (inner_scopes c u)) (next + 1))) (sym least)
-        (lowest_same (λ f. IsFaultBefore c ts next f ⊎ IsFaultOfListed (listed_items c u) f) (IsFaultBefore c (with_all ts (inner_scopes c u)) (next + 1)) (lower_of low here) fault_next
-        (lowest_of_both (IsFaultBefore c ts next) (IsFaultOfListed (listed_items c u)) low here before_low listed_low))),
+    subst (λ xs. IsLowest (IsFaultBefore c r root xs (next + 1)) after) (sym is)
+        (subst (IsLowest (IsFaultBefore c r root (with_all ts (inner_scopes c u)) (next + 1))) (sym least)
+        (lowest_same (λ f. IsFaultBefore c r root ts next f ⊎ IsFaultAt c r root u f) (IsFaultBefore c r root (with_all ts (inner_scopes c u)) (next + 1)) (lower_of low here) fault_next
+        (lowest_of_both (IsFaultBefore c r root ts next) (IsFaultAt c r root u) low here before_low listed_low))),
   )
 
-pub no_fault_before : (c : Collection) (ts : List AnyType) (f : WriteFault) → IsFaultBefore c ts 0 f → ⊥
-no_fault_before c ts f h = let l = h.before in omega (arith, l)
+pub no_fault_before : (c : Collection) (r : Role) (root : AnyType) (ts : List AnyType) (f : WriteFault) → IsFaultBefore c r root ts 0 f → ⊥
+no_fault_before c r root ts f h = let l = h.before in omega (arith, l)
 
 -- what lists nothing has nothing listed inside it
 pub nothing_inside : (c : Collection) (s t : AnyType) (k : ItemKind) → listed_items c t ≡ [] → IsInside c s t → IsListed k (listed_items c s) → ⊥
 nothing_inside c s t k none (itself _ _ e) w = subst (IsListed k) none (subst (λ z. IsListed k (listed_items c z)) e w)
 nothing_inside c s t k none (listed _ _ j h r) w = subst (IsListed j) none h
 
--- all was looked at
-pub fault_inside_all : (c : Collection) (root : AnyType) (ts : List AnyType) (next : ℕ) → length ts ≤ next → AreInside c root ts next → (f : WriteFault) → IsFaultBefore c ts next f ↔ IsFaultInside c root f
-fault_inside_all c root ts next past all f = (to, from)
-  where
-    inner : (a s : AnyType) (k : ItemKind) → IsIn a ts → IsInside c s a → IsListed k (listed_items c s) → IsIn s ts
-    inner a s k here (itself _ _ e) w = subst (λ z. IsIn z ts) (sym e) here
-    inner a s k here (listed _ _ j h r) w = elim (scope_or_nothing c (kind_type j)) [
-      | inl is ↦ inner (kind_type j) s k (let (i, l, at) = at_in a ts here in all.closed i a (kind_type j) (omega (arith, l, past)) at (inner_of_listed c a j (kind_type j) h is)) r w
-      | inr none ↦ absurd (nothing_inside c s (kind_type j) k none r w)
-    ]
+-- what has a fault is an interface or a world
+faulty_scope : (c : Collection) (r : Role) (t s : AnyType) (f : WriteFault) → IsFaultAt c r t s f → IsIn s (scope_of s)
+faulty_scope c r t s f (inl (k, w, e)) = elim (scope_or_nothing c s) [ inl h ↦ h | inr none ↦ absurd (subst (IsListed k) none.0 w) ]
+faulty_scope c r t (ty.World w) f (inr h) = inl refl
+faulty_scope c r t (ty.Interface i) f (inr h) = inl refl
+faulty_scope c r t (ty.Resource q) f (inr h) = absurd h.0
+faulty_scope c r t (ty.Func g) f (inr h) = absurd h.0
+faulty_scope c r t (ty.Value v) f (inr h) = absurd h.0
+faulty_scope c r t (ty.Module m) f (inr h) = absurd h.0
 
-    to : IsFaultBefore c ts next f → IsFaultInside c root f
+-- all was looked at
+pub fault_inside_all : (c : Collection) (r : Role) (root : AnyType) (ts : List AnyType) (next : ℕ) → length ts ≤ next → AreInside c root ts next → (f : WriteFault) → IsFaultBefore c r root ts next f ↔ IsFaultInside c r root f
+fault_inside_all c r root ts next past all f = (to, from)
+  where
+    inner : (a s : AnyType) → IsIn a ts → IsInside c s a → IsIn s (scope_of s) → IsIn s ts
+    inner a s here (itself _ _ e) w = subst (λ z. IsIn z ts) (sym e) here
+    inner a s here (listed _ _ j h r) w = elim (scope_or_nothing c (kind_type j)) [
+      | inl is ↦ inner (kind_type j) s (let (i, l, at) = at_in a ts here in all.closed i a (kind_type j) (omega (arith, l, past)) at (inner_of_listed c a j (kind_type j) h is)) r w
+      | inr none ↦ absurd (alone j none r)
+    ]
+      where
+        alone : (j : ItemKind) → (listed_items c (kind_type j) ≡ []) × (scope_of (kind_type j) ≡ []) → IsInside c s (kind_type j) → ⊥
+        alone j none (itself _ _ e) = subst (IsIn s) none.1 (subst (λ z. IsIn s (scope_of z)) e w)
+        alone j none (listed _ _ i h _) = subst (IsListed i) none.0 h
+
+    to : IsFaultBefore c r root ts next f → IsFaultInside c r root f
     to h = (h.type_there, all.inside h.type_there (in_at h.type_there ts h.position h.there), h.fault)
 
-    from : IsFaultInside c root f → IsFaultBefore c ts next f
-    from (s, is, fault) = let (i, low, at) = at_in s ts (inner root s fault.0 all.first is fault.1) in record { position = i; type_there = s; before = omega (arith, low, past); there = at; fault = fault }
+    from : IsFaultInside c r root f → IsFaultBefore c r root ts next f
+    from (s, is, fault) = let (i, low, at) = at_in s ts (inner root s all.first is (faulty_scope c r root s f fault)) in record { position = i; type_there = s; before = omega (arith, low, past); there = at; fault = fault }
 
--- a type that lists nothing has no fault inside it
-pub no_fault_inside : (c : Collection) (t : AnyType) (f : WriteFault) → listed_items c t ≡ [] → IsFaultInside c t f → ⊥
-no_fault_inside c t f none (s, is, fault) = nothing_inside c s t fault.0 none is fault.1
+-- a type that is neither has no fault inside it
+pub no_fault_inside : (c : Collection) (r : Role) (t : AnyType) (f : WriteFault) → listed_items c t ≡ [] → ((w : WorldId) → t ≡ ty.World w → ⊥) → IsFaultInside c r t f → ⊥
+no_fault_inside c r t f none other (s, is, inl (k, w, e)) = nothing_inside c s t k none is w
+no_fault_inside c r t f none other (s, listed _ _ j h _, inr lacks) = subst (IsListed j) none h
+no_fault_inside c r t f none other (s, itself _ _ same, inr lacks) = by s lacks.0 same
+  where
+    by : (s : AnyType) → LacksDependency c r t s → s ≡ t → ⊥
+    by (ty.World w) h e = other w (sym e)
+    by (ty.Interface i) h e = h
+    by (ty.Resource q) h e = h
+    by (ty.Func g) h e = h
+    by (ty.Value v) h e = h
+    by (ty.Module m) h e = h
 
 -- ---- the faults of an item
 module _ (c : Collection) (r : Role) (k : ItemKind) (own : Option WriteFault) (is : own ≡ own_fault c r k) where
   own_lowest : IsLowest (λ f. own_fault c r k ≡ Some f) own
   own_lowest = subst (λ o. IsLowest (λ f. o ≡ Some f) own) is (lowest_itself own)
 
-  pub whole_fault : (inner : Option WriteFault) → IsLowest (IsFaultInside c (kind_type k)) inner → IsLowest (HasFault c r k) (lower_of own inner)
-  whole_fault inner low = lowest_of_both (λ f. own_fault c r k ≡ Some f) (IsFaultInside c (kind_type k)) own inner own_lowest low
+  pub whole_fault : (inner : Option WriteFault) → IsLowest (IsFaultInside c r (kind_type k)) inner → IsLowest (HasFault c r k) (lower_of own inner)
+  whole_fault inner low = lowest_of_both (λ f. own_fault c r k ≡ Some f) (IsFaultInside c r (kind_type k)) own inner own_lowest low
 
-  pub alone_fault : listed_items c (kind_type k) ≡ [] → IsLowest (HasFault c r k) own
-  alone_fault none = lowest_same (λ f. own_fault c r k ≡ Some f) (HasFault c r k) own (λ f. (λ e. inl e, λ h. by f h)) own_lowest
+  pub alone_fault : listed_items c (kind_type k) ≡ [] → ((w : WorldId) → kind_type k ≡ ty.World w → ⊥) → IsLowest (HasFault c r k) own
+  alone_fault none other = lowest_same (λ f. own_fault c r k ≡ Some f) (HasFault c r k) own (λ f. (λ e. inl e, λ h. by f h)) own_lowest
     where
-      by : (f : WriteFault) → (own_fault c r k ≡ Some f) ⊎ IsFaultInside c (kind_type k) f → own_fault c r k ≡ Some f
+      by : (f : WriteFault) → (own_fault c r k ≡ Some f) ⊎ IsFaultInside c r (kind_type k) f → own_fault c r k ≡ Some f
       by f (inl e) = e
-      by f (inr h) = absurd (no_fault_inside c (kind_type k) f none h)
+      by f (inr h) = absurd (no_fault_inside c r (kind_type k) f none other h)

@@ -1,4 +1,5 @@
 pub mod Lowest
 pub mod Listing
+pub mod Dependencies
 pub mod Insides
 pub mod Examples

@@ -112,13 +112,13 @@ in_scope s (ty.Func r) n = absurd n
 in_scope s (ty.Value r) n = absurd n
 in_scope s (ty.Module r) n = absurd n
 
-pub scope_or_nothing : (c : Collection) (t : AnyType) → IsIn t (scope_of t) ⊎ (listed_items c t ≡ [])
+pub scope_or_nothing : (c : Collection) (t : AnyType) → IsIn t (scope_of t) ⊎ ((listed_items c t ≡ []) × (scope_of t ≡ []))
 scope_or_nothing c (ty.Interface i) = inl (inl refl)
 scope_or_nothing c (ty.World w) = inl (inl refl)
-scope_or_nothing c (ty.Resource r) = inr refl
-scope_or_nothing c (ty.Func r) = inr refl
-scope_or_nothing c (ty.Value r) = inr refl
-scope_or_nothing c (ty.Module r) = inr refl
+scope_or_nothing c (ty.Resource r) = inr (refl, refl)
+scope_or_nothing c (ty.Func r) = inr (refl, refl)
+scope_or_nothing c (ty.Value r) = inr (refl, refl)
+scope_or_nothing c (ty.Module r) = inr (refl, refl)
 
 scope_listed : (k : ItemKind) (es : List (Name × ItemKind)) (s : AnyType) → IsListed k es → IsIn s (scope_of (kind_type k)) → IsIn s (scopes_of es)
 scope_listed k [] s h w = absurd h

@@ -68,3 +68,7 @@ one_lowest P f g p q =
     let down = q.1 f p.0 in
     let same : fault_rank f ≡ fault_rank g = omega (arith, up, down) in
     sym (of_rank f) ∙ ap by_rank same ∙ of_rank g
+
+-- what lacks a dependency has that fault alone
+pub lacking_lowest : (P : Type 0) → P → IsLowest (λ f. P × (fault.UnlistedDependency ≡ f)) (Some fault.UnlistedDependency)
+lacking_lowest P p = ((p, refl), λ other h. let ranks = ap fault_rank h.1 in omega (arith, ranks))

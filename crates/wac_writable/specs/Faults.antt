@@ -1,9 +1,12 @@
 -- Which items cannot be written, whatever stands around them, and by which fault.
-use Rattle.std.specs.Prelude.{ℕ, ◌≡◌, ◌≤◌, ◌⊎◌, List, [], ◌∷◌, ◌++◌, Option, Some, None}
+use Rattle.std.specs.Prelude.{ℕ, ◌≡◌, ◌≤◌, ◌⊎◌, List, [], ◌∷◌, ◌++◌, Option, Some, None, slice_get}
 use Rattle.wac_shapes.specs.Name.{Name, option_case}
 use Rattle.wac_shapes.specs.Kinds.{kind_type}
+use Rattle.wac_shapes.specs.declared.component.InterfaceId.{InterfaceId}
 use Rattle.wac_shapes.specs.declared.component.ItemKind.{ItemKind}
 use Rattle.wac_shapes.specs.declared.component.ItemKind.TheVariants as kind
+use Rattle.wac_shapes.specs.declared.component.UsedType.{UsedType}
+use Rattle.wac_shapes.specs.declared.component.WorldId.{WorldId}
 use Rattle.wac_shapes.specs.declared.component.«Type».{«Type» as AnyType}
 use Rattle.wac_shapes.specs.declared.component.«Type».TheVariants as ty
 use Rattle.wac_collection.specs.Collection.{Collection, item_at, interface_exports, world_imports, world_exports}
@@ -63,9 +66,68 @@ listed_fault (kind.Value v) = Some fault.NestedItem
 abbrev pub IsFaultOfListed : List (Name × ItemKind) → WriteFault → Type 0
 IsFaultOfListed es f = (k : ItemKind) × IsListed k es × (listed_fault k ≡ Some f)
 
--- an item that is listed inside a type has this fault
-abbrev pub IsFaultInside : Collection → AnyType → WriteFault → Type 0
-IsFaultInside c t f = (s : AnyType) × IsInside c s t × IsFaultOfListed (listed_items c s) f
+-- the interface has this id
+abbrev pub IsIdOf : Collection → Name → InterfaceId → Type 0
+IsIdOf c name i = option_case (item_at c.interfaces i.0) None (λ it. it.id) ≡ Some name
+
+-- the interface is listed among these items as an instance under its id
+pub record IsListedById (c : Collection) (i : InterfaceId) (es : List (Name × ItemKind)) : Type 0 where
+  pub position : ℕ
+  pub name : Name
+  pub there : slice_get es position ≡ Some (name, kind.Instance i)
+  pub id : IsIdOf c name i
+
+-- what an interface and what a world uses
+abbrev pub interface_uses : Collection → InterfaceId → List (Name × UsedType)
+interface_uses c i = option_case (item_at c.interfaces i.0) [] (λ it. it.uses)
+
+abbrev pub world_uses : Collection → WorldId → List (Name × UsedType)
+world_uses c w = option_case (item_at c.worlds w.0) [] (λ it. it.uses)
+
+-- one of the used interfaces is not there
+pub record UsesOther (IsThere : InterfaceId → Type 0) (uses : List (Name × UsedType)) : Type 0 where
+  pub position : ℕ
+  pub name : Name
+  pub used : UsedType
+  pub there : slice_get uses position ≡ Some (name, used)
+  pub other : IsThere used.interface → ⊥
+
+-- one of the listed instances uses an interface that is not there
+pub record ListsUser (c : Collection) (IsThere : InterfaceId → Type 0) (es : List (Name × ItemKind)) : Type 0 where
+  pub position : ℕ
+  pub name : Name
+  pub instance : InterfaceId
+  pub there : slice_get es position ≡ Some (name, kind.Instance instance)
+  pub uses : UsesOther IsThere (interface_uses c instance)
+
+-- A world has an unlisted dependency: it or an instance that it imports uses an interface that it does not import under its id, or an
+-- instance that it exports uses one that it neither imports nor exports so.
+pub data HasUnlisted (c : Collection) (w : WorldId) : Type 0 where
+  by_world : UsesOther (λ i. IsListedById c i (world_imports c w)) (world_uses c w) → HasUnlisted c w
+  by_import : ListsUser c (λ i. IsListedById c i (world_imports c w)) (world_imports c w) → HasUnlisted c w
+  by_export : ListsUser c (λ i. IsListedById c i (world_imports c w) ⊎ IsListedById c i (world_exports c w)) (world_exports c w) → HasUnlisted c w
+
+-- the second type is defined itself: then it imports what it does not list
+abbrev pub IsCompleted : Role → AnyType → AnyType → Type 0
+IsCompleted role.Imported t s = ⊥
+IsCompleted role.Defined t s = s ≡ t
+
+-- a type inside another is a world with an unlisted dependency, and stays so
+abbrev pub LacksDependency : Collection → Role → AnyType → AnyType → Type 0
+LacksDependency c r t (ty.World w) = (IsCompleted r t (ty.World w) → ⊥) × HasUnlisted c w
+LacksDependency c r t (ty.Interface i) = ⊥
+LacksDependency c r t (ty.Resource q) = ⊥
+LacksDependency c r t (ty.Func f) = ⊥
+LacksDependency c r t (ty.Value v) = ⊥
+LacksDependency c r t (ty.Module m) = ⊥
+
+-- a type inside another has this fault: of an item that it lists, or for want of a dependency
+abbrev pub IsFaultAt : Collection → Role → AnyType → AnyType → WriteFault → Type 0
+IsFaultAt c r t s f = IsFaultOfListed (listed_items c s) f ⊎ (LacksDependency c r t s × (fault.UnlistedDependency ≡ f))
+
+-- what is written inside a type, itself too, has this fault
+abbrev pub IsFaultInside : Collection → Role → AnyType → WriteFault → Type 0
+IsFaultInside c r t f = (s : AnyType) × IsInside c s t × IsFaultAt c r t s f
 
 -- the fault of an item that the root imports
 abbrev pub import_fault : ItemKind → Option WriteFault
@@ -100,6 +162,6 @@ abbrev pub own_fault : Collection → Role → ItemKind → Option WriteFault
 own_fault c role.Imported k = import_fault k
 own_fault c role.Defined k = definition_fault c k
 
--- the item has this fault in its role: by its own sort, or by an item that is listed inside its type
+-- the item has this fault in its role: by its own sort, or by what is written inside its type
 abbrev pub HasFault : Collection → Role → ItemKind → WriteFault → Type 0
-HasFault c r k f = (own_fault c r k ≡ Some f) ⊎ IsFaultInside c (kind_type k) f
+HasFault c r k f = (own_fault c r k ≡ Some f) ⊎ IsFaultInside c r (kind_type k) f

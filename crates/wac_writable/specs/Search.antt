@@ -1,13 +1,15 @@
 -- How faults are found; private functions alone cite this.
-use Rattle.std.specs.Prelude.{nat_lt, cond, List, [], ◌∷◌, ◌++◌, Option, Some, None}
+use Rattle.std.specs.Prelude.{ℕ, ◌≡◌, true, slice_get, nat_lt, cond, List, [], ◌∷◌, ◌++◌, Option, Some, None}
 use Rattle.wac_shapes.specs.Name.{Name}
 use Rattle.wac_shapes.specs.Kinds.{kind_type}
+use Rattle.wac_shapes.specs.declared.component.InterfaceId.{InterfaceId}
 use Rattle.wac_shapes.specs.declared.component.ItemKind.{ItemKind}
+use Rattle.wac_shapes.specs.declared.component.ItemKind.TheVariants as kind
 use Rattle.wac_shapes.specs.declared.component.«Type».{«Type» as AnyType}
 use Rattle.wac_shapes.specs.declared.component.«Type».TheVariants as ty
-use Rattle.wac_collection.specs.Collection.{Collection, interface_exports, world_imports, world_exports}
+use Rattle.wac_collection.specs.Collection.{Collection, holds_type, interface_exports, world_imports, world_exports}
 use Rattle.wac_scopes.specs.declared.fault.WriteFault.{WriteFault}
-use Rattle.wac_writable.specs.Faults.{fault_rank}
+use Rattle.wac_writable.specs.Faults.{fault_rank, interface_uses, UsesOther}
 
 -- the lower of two faults that may be there
 abbrev pub lower_of : Option WriteFault → Option WriteFault → Option WriteFault
@@ -37,3 +39,33 @@ inner_scopes c (ty.Resource r) = []
 inner_scopes c (ty.Func f) = []
 inner_scopes c (ty.Value v) = []
 inner_scopes c (ty.Module m) = []
+
+-- the interfaces of listed instances
+abbrev pub instance_of : ItemKind → List AnyType
+instance_of (kind.Instance i) = ty.Interface i ∷ []
+instance_of (kind.TypeItem t) = []
+instance_of (kind.Func f) = []
+instance_of (kind.Component w) = []
+instance_of (kind.Module m) = []
+instance_of (kind.Value v) = []
+
+abbrev pub instances_of : List (Name × ItemKind) → List AnyType
+instances_of [] = []
+instances_of (e ∷ es) = instance_of e.1 ++ instances_of es
+
+-- the types of these items are held
+abbrev pub AreHeld : Collection → List (Name × ItemKind) → Type 0
+AreHeld c es = (i : ℕ) (e : Name × ItemKind) → slice_get es i ≡ Some e → holds_type c (kind_type e.1) ≡ true
+
+-- an interface uses an interface that is not there
+abbrev pub TypeUsesOther : Collection → (InterfaceId → Type 0) → AnyType → Type 0
+TypeUsesOther c IsThere (ty.Interface i) = UsesOther IsThere (interface_uses c i)
+TypeUsesOther c IsThere (ty.World w) = ⊥
+TypeUsesOther c IsThere (ty.Resource r) = ⊥
+TypeUsesOther c IsThere (ty.Func f) = ⊥
+TypeUsesOther c IsThere (ty.Value v) = ⊥
+TypeUsesOther c IsThere (ty.Module m) = ⊥
+
+-- one of these types does
+abbrev pub OneUsesOther : Collection → (InterfaceId → Type 0) → List AnyType → Type 0
+OneUsesOther c IsThere ts = (p : ℕ) × (t : AnyType) × (slice_get ts p ≡ Some t) × TypeUsesOther c IsThere t

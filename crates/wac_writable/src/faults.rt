@@ -102,7 +102,7 @@ fn own_fault(types: &Types, item: ItemKind, role: Role) -> Option<WriteFault>
 }
 
 /// The lowest fault that a held item has in its role, whatever stands around it. Answers `AllocError` where memory ran out.
-/// Linear in what is written inside its type, without recursion.
+/// Linear in what is written inside its type and, for each world there, in what the interfaces that it lists use; without recursion.
 pub fn lowest_fault(
     types: &Types,
     item: ItemKind,
@@ -114,7 +114,7 @@ pub fn lowest_fault(
     let own = own_fault(types, item, role);
     let ty = item.ty();
     match ty {
-        Type::Interface(_) | Type::World(_) => Ok(lower(own, fault_inside(types, ty)?)),
+        Type::Interface(_) | Type::World(_) => Ok(lower(own, fault_inside(types, ty, role)?)),
         _ => Ok(own),
     }
 }

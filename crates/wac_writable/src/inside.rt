@@ -1,12 +1,12 @@
-//! What is written inside a type: the interfaces and worlds that it lists, and so on, and what faults the items have that
-//! these list.
+//! What is written inside a type: the interfaces and worlds that it lists, and so on, and what faults these have.
 ghost use Rattle.std.specs.Prelude.{◌≡◌, true, IfOk, OnOk};
 ghost use Rattle.wac_collection.specs.Collection.{holds_type};
 ghost use Rattle.wac_reach.specs.Found.{with_all};
-ghost use Rattle.wac_writable.specs.Faults.{listed_items, listed_fault as listed_fault_of, IsLowest, IsFaultOfListed, IsFaultInside};
+ghost use Rattle.wac_writable.specs.Faults.{listed_items, listed_fault as listed_fault_of, IsLowest, IsFaultOfListed, IsFaultAt, IsFaultInside};
 ghost use Rattle.wac_writable.specs.Search.{scope_of, scopes_of, inner_scopes};
 
-use crate::faults::lower;
+use crate::faults::{Role, lower};
+use crate::unlisted::lacking_fault;
 use indexmap::IndexSet;
 use std::alloc::AllocError;
 use wac_collection::{ItemKind, Named, Type, Types};
@@ -93,10 +93,28 @@ fn put_inner(found: &mut IndexSet<Type>, types: &Types, ty: Type) -> Result<(), 
     }
 }
 
-/// The lowest fault of the items that are listed inside a held type, itself or another. Linear, without recursion.
-pub(crate) fn fault_inside(types: &Types, ty: Type) -> Result<Option<WriteFault>, AllocError>
+/// The lowest fault of a held type that is written inside another.
+fn fault_at(
+    types: &Types,
+    ty: Type,
+    role: Role,
+    root: Type,
+) -> Result<Option<WriteFault>, AllocError>
     requires { holds_type types.now ty ≡ true }
-    ensures { IfOk result (IsLowest (IsFaultInside types.now ty)) }
+    ensures { IfOk result (IsLowest (IsFaultAt types.now role root ty)) }
+{
+    let lacking = lacking_fault(types, ty, role, root)?;
+    Ok(lower(fault_in(types, ty), lacking))
+}
+
+/// The lowest fault of what is written inside a held type, itself too. Linear, without recursion.
+pub(crate) fn fault_inside(
+    types: &Types,
+    ty: Type,
+    role: Role,
+) -> Result<Option<WriteFault>, AllocError>
+    requires { holds_type types.now ty ≡ true }
+    ensures { IfOk result (IsLowest (IsFaultInside types.now role ty)) }
 {
     types.law();
     let mut found = IndexSet::new(types.allocator());
@@ -105,7 +123,7 @@ pub(crate) fn fault_inside(types: &Types, ty: Type) -> Result<Option<WriteFault>
     let mut next = 0;
     while next < found.len() {
         let inner = found.as_slice()[next];
-        lowest = lower(lowest, fault_in(types, inner));
+        lowest = lower(lowest, fault_at(types, inner, role, ty)?);
         put_inner(&mut found, types, inner)?;
         next += 1;
     }

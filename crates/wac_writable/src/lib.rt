@@ -7,5 +7,6 @@
 
 mod faults;
 mod inside;
+mod unlisted;
 
 pub use faults::{Role, lowest_fault};

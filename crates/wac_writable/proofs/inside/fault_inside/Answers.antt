@@ -12,11 +12,11 @@ loop-next-init c =
     let is : c.insert.new.self.keys ≡ c.args.ty ∷ [] = c.in_ok-insert.ensures.keys ∙ ap (λ ts. with_all ts (c.args.ty ∷ [])) c.new-found.ensures.empty in
     record {
       inside = subst (λ ts. AreInside c.args.types.now c.args.ty ts 0) (sym is) (inside_first c.args.types.now c.args.ty c.requires);
-      lowest = λ f h. no_fault_before c.args.types.now c.insert.new.self.keys f h;
+      lowest = λ f h. no_fault_before c.args.types.now c.args.role c.args.ty c.insert.new.self.keys f h;
     }
 
-pub fault_in-requires : goal.fault_in-requires
-fault_in-requires c =
+pub fault_at-requires : goal.fault_at-requires
+fault_at-requires c =
     c.loop-next.invariant.inside.held _ (in_at _ c.loop-next.found.keys c.loop-next.next
     (read_at c.as_slice.result.now c.loop-next.found.keys c.loop-next.found.keys c.loop-next.next c.len.result _ c.loop-next-test.true c.len.ensures.len c.as_slice.ensures.keys refl))
 
@@ -34,13 +34,13 @@ loop-next-smaller c =
 
 pub loop-next-preserved : goal.loop-next-preserved
 loop-next-preserved c =
-    let both = looked_next c.args.types.now c.law.ensures c.args.ty c.loop-next.found.keys c.loop-next.next _
+    let both = looked_next c.args.types.now c.law.ensures c.args.role c.args.ty c.loop-next.found.keys c.loop-next.next _
     (read_at c.as_slice.result.now c.loop-next.found.keys c.loop-next.found.keys c.loop-next.next c.len.result _ c.loop-next-test.true c.len.ensures.len c.as_slice.ensures.keys refl)
-    c.put_inner.new.found.keys c.loop-next.lowest c.fault_in.result c.lower-lowest.result c.in_ok-put_inner.ensures c.lower-lowest.ensures c.fault_in.ensures c.loop-next.invariant.inside c.loop-next.invariant.lowest in
+    c.put_inner.new.found.keys c.loop-next.lowest c.in_ok-fault_at.field-0 c.lower-lowest.result c.in_ok-put_inner.ensures c.lower-lowest.ensures c.in_ok-fault_at.ensures c.loop-next.invariant.inside c.loop-next.invariant.lowest in
     record { inside = both.0; lowest = both.1 }
 
 pub returns : goal.returns
 returns c =
     let past : length c.loop-next.found.keys ≤ c.loop-next.next = let l = c.len.ensures.len in let f = c.loop-next-test.false in omega (arith, l, f) in
-    lowest_same (IsFaultBefore c.args.types.now c.loop-next.found.keys c.loop-next.next) (IsFaultInside c.args.types.now c.args.ty) c.loop-next.lowest
-    (fault_inside_all c.args.types.now c.args.ty c.loop-next.found.keys c.loop-next.next past c.loop-next.invariant.inside) c.loop-next.invariant.lowest
+    lowest_same (IsFaultBefore c.args.types.now c.args.role c.args.ty c.loop-next.found.keys c.loop-next.next) (IsFaultInside c.args.types.now c.args.role c.args.ty) c.loop-next.lowest
+    (fault_inside_all c.args.types.now c.args.role c.args.ty c.loop-next.found.keys c.loop-next.next past c.loop-next.invariant.inside) c.loop-next.invariant.lowest

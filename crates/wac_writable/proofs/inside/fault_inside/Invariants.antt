@@ -7,7 +7,7 @@ use Rattle.wac_writable.proofs.inside.fault_inside.Given as goal
 abbrev pub invariant-loop-next : goal.invariant-loop-next
 invariant-loop-next l = record {
   inside : AreInside l.fn.types l.fn.ty l.found.keys l.next;
-  lowest : IsLowest (IsFaultBefore l.fn.types l.found.keys l.next) l.lowest;
+  lowest : IsLowest (IsFaultBefore l.fn.types l.fn.role l.fn.ty l.found.keys l.next) l.lowest;
 }
 
 abbrev pub decreases-loop-next : goal.decreases-loop-next

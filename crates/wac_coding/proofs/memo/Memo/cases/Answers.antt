@@ -1,4 +1,5 @@
-use Rattle.std.proofs.Common.{◌≡◌, true}
+use Rattle.std.proofs.Common.{◌≡◌, true, ap}
+use Rattle.std.specs.Option.{option_map}
 use Rattle.wac_collection.specs.Collection.{holds_value}
 use Rattle.wac_coding.specs.Coding.{source_tree, values_of, IsReady}
 use Rattle.wac_coding.proofs.CodingGrowth.{grown_twice, right_grown}
@@ -7,7 +8,7 @@ use Rattle.wac_entries.proofs.TaskOpenings.{each_case}
 use Rattle.wac_coding.proofs.memo.Memo.cases.Goals as goal
 
 pub optional-requires-clause-ready : goal.optional-requires-clause-ready
-optional-requires-clause-ready c = each_case (IsReady c.args.self.now) c.args.cases.now c.loop-i.i c.value_at.result.now c.value_at.ensures c.requires.ready
+optional-requires-clause-ready c = each_case (IsReady c.args.self.now) c.args.cases.now c.loop-i.i c.entry_at.result.1.now (ap (option_map (λ e. e.1)) c.entry_at.ensures) c.requires.ready
 
 pub optional-requires-clause-right : goal.optional-requires-clause-right
 optional-requires-clause-right c = right_grown (source_tree c.args.source.now) c.args.self.now c.args.nodes.now c.loop-i.nodes c.loop-i.invariant.grown c.requires.right
@@ -15,9 +16,9 @@ optional-requires-clause-right c = right_grown (source_tree c.args.source.now) c
 pub loop-i-preserved : goal.loop-i-preserved
 loop-i-preserved c = record {
   grown = grown_twice c.args.nodes.now c.loop-i.nodes c.optional.new.nodes c.loop-i.invariant.grown c.optional.ensures.grown;
-  numbers = cases_more (values_of (source_tree c.args.source.now)) c.loop-i.nodes c.optional.new.nodes c.optional.ensures.grown c.args.cases.now c.loop-i.i c.name_at.result.now c.value_at.result.now c.loop-i.numbers.items c.push.new.self.items c.in_ok-name.name c.in_ok-number.number
-      c.name_at.ensures c.value_at.ensures c.in_ok-push.ensures.items c.in_ok-name.ensures.ok c.loop-i.invariant.numbers c.in_ok-number.ensures.number;
+  numbers = cases_more (values_of (source_tree c.args.source.now)) c.loop-i.nodes c.optional.new.nodes c.optional.ensures.grown c.args.cases.now c.loop-i.i c.entry_at.result.0.now c.entry_at.result.1.now c.loop-i.numbers.items c.push.new.self.items c.in_ok-name.name c.in_ok-number.number
+      (ap (option_map (λ e. e.0)) c.entry_at.ensures) (ap (option_map (λ e. e.1)) c.entry_at.ensures) c.in_ok-push.ensures.items c.in_ok-name.ensures.ok c.loop-i.invariant.numbers c.in_ok-number.ensures.number;
 }
 
 pub optional-requires-clause-held : goal.optional-requires-clause-held
-optional-requires-clause-held c = each_case (λ v. holds_value c.args.source.now.types.now v ≡ true) c.args.cases.now c.loop-i.i c.value_at.result.now c.value_at.ensures c.requires.held
+optional-requires-clause-held c = each_case (λ v. holds_value c.args.source.now.types.now v ≡ true) c.args.cases.now c.loop-i.i c.entry_at.result.1.now (ap (option_map (λ e. e.1)) c.entry_at.ensures) c.requires.held

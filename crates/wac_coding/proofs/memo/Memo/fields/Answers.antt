@@ -1,4 +1,5 @@
-use Rattle.std.proofs.Common.{◌≡◌, true}
+use Rattle.std.proofs.Common.{◌≡◌, true, ap}
+use Rattle.std.specs.Option.{option_map}
 use Rattle.wac_collection.specs.Collection.{holds_value}
 use Rattle.wac_coding.specs.Coding.{source_tree, values_of, IsReady}
 use Rattle.wac_coding.proofs.CodingGrowth.{grown_twice, right_grown}
@@ -7,7 +8,7 @@ use Rattle.wac_entries.proofs.TaskOpenings.{each_field}
 use Rattle.wac_coding.proofs.memo.Memo.fields.Goals as goal
 
 pub part-requires-clause-ready : goal.part-requires-clause-ready
-part-requires-clause-ready c = each_field (IsReady c.args.self.now) c.args.fields.now c.loop-i.i c.value_at.result.now c.value_at.ensures c.requires.ready
+part-requires-clause-ready c = each_field (IsReady c.args.self.now) c.args.fields.now c.loop-i.i c.entry_at.result.1.now (ap (option_map (λ e. e.1)) c.entry_at.ensures) c.requires.ready
 
 pub part-requires-clause-right : goal.part-requires-clause-right
 part-requires-clause-right c = right_grown (source_tree c.args.source.now) c.args.self.now c.args.nodes.now c.loop-i.nodes c.loop-i.invariant.grown c.requires.right
@@ -15,9 +16,9 @@ part-requires-clause-right c = right_grown (source_tree c.args.source.now) c.arg
 pub loop-i-preserved : goal.loop-i-preserved
 loop-i-preserved c = record {
   grown = grown_twice c.args.nodes.now c.loop-i.nodes c.part.new.nodes c.loop-i.invariant.grown c.part.ensures.grown;
-  numbers = fields_more (values_of (source_tree c.args.source.now)) c.loop-i.nodes c.part.new.nodes c.part.ensures.grown c.args.fields.now c.loop-i.i c.name_at.result.now c.value_at.result.now c.loop-i.numbers.items c.push.new.self.items c.in_ok-name.name c.in_ok-number.number
-      c.name_at.ensures c.value_at.ensures c.in_ok-push.ensures.items c.in_ok-name.ensures.ok c.loop-i.invariant.numbers c.in_ok-number.ensures.number;
+  numbers = fields_more (values_of (source_tree c.args.source.now)) c.loop-i.nodes c.part.new.nodes c.part.ensures.grown c.args.fields.now c.loop-i.i c.entry_at.result.0.now c.entry_at.result.1.now c.loop-i.numbers.items c.push.new.self.items c.in_ok-name.name c.in_ok-number.number
+      (ap (option_map (λ e. e.0)) c.entry_at.ensures) (ap (option_map (λ e. e.1)) c.entry_at.ensures) c.in_ok-push.ensures.items c.in_ok-name.ensures.ok c.loop-i.invariant.numbers c.in_ok-number.ensures.number;
 }
 
 pub part-requires-clause-held : goal.part-requires-clause-held
-part-requires-clause-held c = each_field (λ v. holds_value c.args.source.now.types.now v ≡ true) c.args.fields.now c.loop-i.i c.value_at.result.now c.value_at.ensures c.requires.held
+part-requires-clause-held c = each_field (λ v. holds_value c.args.source.now.types.now v ≡ true) c.args.fields.now c.loop-i.i c.entry_at.result.1.now (ap (option_map (λ e. e.1)) c.entry_at.ensures) c.requires.held

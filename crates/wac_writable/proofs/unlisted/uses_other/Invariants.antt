@@ -1,0 +1,7 @@
+use Rattle.wac_shapes.specs.declared.component.«Type».TheVariants as ty
+use Rattle.wac_reach.specs.Reach.{IsIn}
+use Rattle.wac_writable.proofs.Dependencies.{AreThere}
+use Rattle.wac_writable.proofs.unlisted.uses_other.Given as goal
+
+abbrev pub invariant-loop-i : goal.invariant-loop-i
+invariant-loop-i l = AreThere (λ i. IsIn (ty.Interface i) l.fn.listed.keys) l.fn.uses l.i
