@@ -7,7 +7,7 @@ use wac_measures::graph::Graph;
 use wac_measures::types::Collection;
 use wac_nodes::{EncodeOptions, NodeId, PackageId};
 use wac_plug::plug;
-use wac_types::{DefinedType, FuncType, Interface, ItemKind, Named, ValueType, World};
+use wac_types::{DefinedType, FuncType, Interface, ItemKind, ValueType, World};
 
 /// A component with nothing in it.
 const EMPTY_COMPONENT: [u8; 8] = [0x00, 0x61, 0x73, 0x6d, 0x0d, 0x00, 0x01, 0x00];
@@ -48,15 +48,10 @@ impl Graph for Measured {
         &mut self,
         alloc: Global,
         name: &str,
-        imports: Named<ItemKind>,
-        exports: Named<ItemKind>,
+        imports: &[(&str, ItemKind)],
+        exports: &[(&str, ItemKind)],
     ) -> Result<PackageId> {
-        let world = World {
-            id: None,
-            uses: Named::new(alloc),
-            imports,
-            exports,
-        };
+        let world = World::new(alloc, None, imports, exports)?;
         let world = self.graph.add_world(world)?;
         let bytes = Vec::from_array(alloc, EMPTY_COMPONENT)?;
         let package = self.graph.new_package(name, None, bytes, world)?;

@@ -10,16 +10,21 @@ mod graph;
 
 use anyhow::Result;
 use graph::Measured;
-use std::env;
+use std::env::{self, Env};
 use std::process::ExitCode;
 use wac_measures::program::run;
 
-fn main(rt: HostRuntime) -> Result<ExitCode> {
+/// The words behind the program's name.
+fn words<R: Env + AllocGlobal>(rt: &R) -> Result<Vec<String>> {
     let mut words = Vec::new(rt.alloc());
-    for word in env::args(&rt)?.skip(1) {
+    for word in env::args(rt)?.skip(1) {
         words.push(word)?;
     }
-    if run::<Measured>(&rt, &words)? {
+    Ok(words)
+}
+
+fn main(rt: HostRuntime) -> Result<ExitCode> {
+    if run::<Measured>(&rt, &words(&rt)?)? {
         return Ok(ExitCode::SUCCESS);
     }
     println!(rt;

@@ -1,11 +1,11 @@
 //! Triples of nodes in a graph with many exports, of which half are removed and made again.
 
 use crate::graph::Graph;
-use crate::graphs::{Parts, one, plain, refused};
+use crate::graphs::{Parts, refused};
+use crate::types::function;
 use anyhow::Result;
 use std::alloc::Global;
 use wac_nodes::NodeId;
-use wac_types::Named;
 
 /// An instance, the alias of its export, and an instance that is given it.
 #[derive(Clone, Copy)]
@@ -17,11 +17,9 @@ pub struct Triple {
 
 /// Registers a package with the export `a` and one with the import `b`, of one function type.
 pub fn register<G: Graph>(alloc: Global, graph: &mut G) -> Result<Parts> {
-    let kind = plain(alloc, graph)?;
-    let a = one(alloc, "a", kind)?;
-    let b = one(alloc, "b", kind)?;
-    let giver = graph.register(alloc, "n:provider", Named::new(alloc), a)?;
-    let taker = graph.register(alloc, "n:consumer", b, Named::new(alloc))?;
+    let kind = function(alloc, graph, &[], None)?;
+    let giver = graph.register(alloc, "n:provider", &[], &[("a", kind)])?;
+    let taker = graph.register(alloc, "n:consumer", &[("b", kind)], &[])?;
     Ok(Parts { giver, taker })
 }
 

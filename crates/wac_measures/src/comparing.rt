@@ -3,13 +3,11 @@
 //! parts in one way in the one collection and in another in the other.
 
 use crate::times::{OF_EIGHT, ROUNDS, Times, print_power, print_times};
-use crate::types::{Collection, export, function, instance, primitive, record};
+use crate::types::{BOOL, Collection, export, function, instance, record, tuples};
 use anyhow::Result;
 use std::alloc::Global;
 use std::time::{Duration, Instant};
-use wac_types::{
-    DefinedType, ItemKind, Named, PrimitiveType, Sequence, SubtypeChecker, Types, ValueType,
-};
+use wac_types::{DefinedType, ItemKind, Named, SubtypeChecker, Types, ValueType};
 
 /// What is compared.
 #[derive(Clone, Copy)]
@@ -33,67 +31,36 @@ const SORTS: &[(&str, Sort)] = &[
 /// How many levels of equal tuples there are.
 const LEVELS: u64 = 16;
 
-/// How long the items took to add and to compare.
-#[derive(Clone, Copy)]
-struct Costs {
-    added: Times,
-    compared: Times,
-}
-
-/// One comparison: how long the items took to add and to compare, and whether the first is a subtype of the second.
-#[derive(Clone, Copy)]
-struct Round {
-    added: Duration,
-    compared: Duration,
-    answer: bool,
-}
-
-/// Adds tuples, each of the one before twice.
-fn tuples(alloc: Global, types: &mut Types, count: u64) -> Result<ItemKind> {
-    let mut value = primitive(PrimitiveType::Bool);
-    for _ in 0..count {
-        let pair = Sequence::new(alloc, &[value, value])?;
-        value = types.defined(DefinedType::Tuple(pair))?;
-    }
-    Ok(ItemKind::Value(value))
-}
-
-/// The type of this number in a chain, over the one before.
-fn link(number: u64, before: ValueType) -> DefinedType {
-    match number % 3 {
-        0 => DefinedType::List(before),
-        1 => DefinedType::Alias(before),
-        _ => DefinedType::Option(before),
-    }
-}
-
 /// Adds lists, aliases and options in turn, each of the one before.
 fn chain(types: &mut Types, count: u64) -> Result<ItemKind> {
-    let mut value = primitive(PrimitiveType::Bool);
+    let mut value = BOOL;
     for number in 0..count {
-        value = types.defined(link(number, value))?;
+        value = types.defined(match number % 3 {
+            0 => DefinedType::List(value),
+            1 => DefinedType::Alias(value),
+            _ => DefinedType::Option(value),
+        })?;
     }
     Ok(ItemKind::Value(value))
 }
 
 /// Adds aliases, each of the one before, and a tuple of them all.
 fn aliases(alloc: Global, types: &mut Types, count: u64) -> Result<ItemKind> {
-    let mut value = primitive(PrimitiveType::Bool);
+    let mut value = BOOL;
     let mut listed = Vec::new(alloc);
     for _ in 0..count {
         value = types.defined(DefinedType::Alias(value))?;
         listed.push(value)?;
     }
-    let tuple = Sequence::new(alloc, listed.as_slice())?;
-    Ok(ItemKind::Value(types.defined(DefinedType::Tuple(tuple))?))
+    let tuple = DefinedType::tuple(alloc, listed.as_slice())?;
+    Ok(ItemKind::Value(types.defined(tuple)?))
 }
 
 /// Adds a function over two records of its own.
 fn function_of_records(alloc: Global, types: &mut Types) -> Result<ItemKind> {
     let x = record(alloc, types)?;
     let y = record(alloc, types)?;
-    let returned = Some(primitive(PrimitiveType::Bool));
-    function(alloc, types, &[("x", x), ("y", y)], returned)
+    function(alloc, types, &[("x", x), ("y", y)], Some(BOOL))
 }
 
 /// Adds an interface of functions, each over two records of its own.
@@ -115,8 +82,7 @@ fn doubled(
     crossed: bool,
 ) -> Result<ValueType> {
     let parts = if crossed { [a, b, a, b] } else { [a, a, b, b] };
-    let tuple = Sequence::new(alloc, parts.as_slice())?;
-    types.defined(DefinedType::Tuple(tuple))
+    types.defined(DefinedType::tuple(alloc, parts.as_slice())?)
 }
 
 /// Adds a tuple for each type of a level, of it and of the one so many after it.
@@ -128,8 +94,9 @@ fn above(
     crossed: bool,
 ) -> Result<Vec<ValueType>> {
     let mut next = Vec::new(alloc);
-    let shifted = level.iter().cycle().skip(step);
-    for (a, b) in level.iter().zip(shifted) {
+    for (place, a) in level.iter().enumerate() {
+        let after = place.wrapping_add(step).checked_rem(level.len());
+        let b = level.get(after.unwrap_or(place)).unwrap_or(a);
         next.push(doubled(alloc, types, *a, *b, crossed)?)?;
     }
     Ok(next)
@@ -139,15 +106,15 @@ fn above(
 fn sharing(alloc: Global, types: &mut Types, count: u64, crossed: bool) -> Result<ItemKind> {
     let mut level = Vec::new(alloc);
     for _ in 0..count / LEVELS {
-        level.push(primitive(PrimitiveType::Bool))?;
+        level.push(BOOL)?;
     }
     let mut step = 1;
     for _ in 0..LEVELS {
         level = above(alloc, types, level.as_slice(), step, crossed)?;
         step = step.saturating_mul(2);
     }
-    let tuple = Sequence::new(alloc, level.as_slice())?;
-    Ok(ItemKind::Value(types.defined(DefinedType::Tuple(tuple))?))
+    let tuple = DefinedType::tuple(alloc, level.as_slice())?;
+    Ok(ItemKind::Value(types.defined(tuple)?))
 }
 
 /// Adds an item of so many parts, which are shared in one of two ways.
@@ -159,7 +126,7 @@ fn item(
     crossed: bool,
 ) -> Result<ItemKind> {
     match sort {
-        Sort::Tuples => tuples(alloc, types, count),
+        Sort::Tuples => Ok(ItemKind::Value(tuples(alloc, types, count)?)),
         Sort::Chain => chain(types, count),
         Sort::Aliases => aliases(alloc, types, count),
         Sort::Functions => functions(alloc, types, count),
@@ -175,73 +142,56 @@ fn is_subtype(a: ItemKind, at: &Types, b: ItemKind, bt: &Types) -> bool {
     SubtypeChecker::new().is_subtype(a, at, b, bt).is_ok()
 }
 
-/// Adds items of so many parts to two collections and compares them.
+/// Adds items of so many parts to two collections and compares them. Answers how long the adding and the comparing take, and whether
+/// the first is a subtype of the second.
 fn timed(
     rt: &HostRuntime,
     first: &mut Types,
     second: &mut Types,
     sort: Sort,
     count: u64,
-) -> Result<Round> {
+) -> Result<(Duration, Duration, bool)> {
     let start = Instant::now(rt)?;
     let a = item(rt.alloc(), first, sort, count, false)?;
     let b = item(rt.alloc(), second, sort, count, true)?;
     let added = start.elapsed(rt)?;
     let start = Instant::now(rt)?;
     let answer = is_subtype(a, first, b, second);
-    let compared = start.elapsed(rt)?;
-    Ok(Round {
-        added,
-        compared,
-        answer,
-    })
+    Ok((added, start.elapsed(rt)?, answer))
 }
 
 /// Adds items of so many parts to two new collections and compares them.
-fn measured_once(rt: &HostRuntime, sort: Sort, count: u64) -> Result<Round> {
+fn timed_once(rt: &HostRuntime, sort: Sort, count: u64) -> Result<(Duration, Duration, bool)> {
     let mut first = Types::new(rt.alloc());
     let mut second = Types::new(rt.alloc());
     timed(rt, &mut first, &mut second, sort, count)
 }
 
-/// Adds items of so many parts to two collections, compares them, and prints how long each takes.
-fn measured(rt: &HostRuntime, what: &str, sort: Sort, count: u64) -> Result<Costs> {
-    let mut adding = Vec::new(rt.alloc());
-    let mut comparing = Vec::new(rt.alloc());
+/// Adds items of so many parts to two collections, compares them, and prints how long each takes. Answers the least times.
+fn measured(rt: &HostRuntime, what: &str, sort: Sort, count: u64) -> Result<(Duration, Duration)> {
+    let mut adding = [Duration::ZERO; ROUNDS];
+    let mut comparing = [Duration::ZERO; ROUNDS];
     let mut answer = true;
-    for _ in 0..ROUNDS {
-        let round = measured_once(rt, sort, count)?;
-        adding.push(round.added)?;
-        comparing.push(round.compared)?;
-        answer = answer && round.answer;
+    for (added, compared) in adding.iter_mut().zip(comparing.iter_mut()) {
+        let (add, compare, is_subtype) = timed_once(rt, sort, count)?;
+        *added = add;
+        *compared = compare;
+        answer = answer && is_subtype;
     }
-    let added = Times::of(adding)?;
-    let compared = Times::of(comparing)?;
+    let added = Times::of(&mut adding);
+    let compared = Times::of(&mut comparing);
     println!(rt; "{what} {count}: {answer}")?;
     print_times(rt, "  added", count, added)?;
     print_times(rt, "  compared", count, compared)?;
-    Ok(Costs { added, compared })
-}
-
-/// Measures at a count, twice, four and eight times it, and prints how the times grow.
-fn measure_growth(rt: &HostRuntime, what: &str, sort: Sort, count: u32) -> Result<()> {
-    let count = u64::from(count);
-    let first = measured(rt, what, sort, count)?;
-    let _ = measured(rt, what, sort, 2 * count)?;
-    let _ = measured(rt, what, sort, 4 * count)?;
-    let last = measured(rt, what, sort, 8 * count)?;
-    println!(rt; "{what}, adding and comparing:")?;
-    print_power(rt, "  added", first.added.least, last.added.least, OF_EIGHT)?;
-    let (first, last) = (first.compared.least, last.compared.least);
-    print_power(rt, "  compared", first, last, OF_EIGHT)
+    Ok((added.least, compared.least))
 }
 
 /// Whether tuples doubled 60 deep are subtypes of each other, such a tuple of a list, and chains of 100,000 of each other.
 fn answers(alloc: Global, first: &mut Types, second: &mut Types) -> Result<(bool, bool, bool)> {
-    let a = tuples(alloc, first, 60)?;
+    let a = ItemKind::Value(tuples(alloc, first, 60)?);
     let b = chain(first, 100_000)?;
     let c = chain(second, 100_000)?;
-    let d = tuples(alloc, second, 60)?;
+    let d = ItemKind::Value(tuples(alloc, second, 60)?);
     Ok((
         is_subtype(a, first, d, second),
         is_subtype(a, first, b, first),
@@ -260,10 +210,16 @@ pub fn show(rt: &HostRuntime) -> Result<()> {
     Ok(())
 }
 
-/// Adds and compares each, and prints how the times grow.
+/// Adds and compares each at a count, twice, four and eight times it, and prints how the times grow.
 pub fn measure(rt: &HostRuntime) -> Result<()> {
     for (what, sort) in SORTS {
-        measure_growth(rt, what, *sort, 12_500)?;
+        let (first_added, first_compared) = measured(rt, what, *sort, 12_500)?;
+        let _twice = measured(rt, what, *sort, 25_000)?;
+        let _four_times = measured(rt, what, *sort, 50_000)?;
+        let (added, compared) = measured(rt, what, *sort, 100_000)?;
+        println!(rt; "{what}, adding and comparing:")?;
+        print_power(rt, "  added", first_added, added, OF_EIGHT)?;
+        print_power(rt, "  compared", first_compared, compared, OF_EIGHT)?;
     }
     Ok(())
 }

@@ -4,7 +4,7 @@ use crate::types::Collection;
 use anyhow::Result;
 use std::alloc::Global;
 use wac_nodes::{NodeId, PackageId};
-use wac_types::{ItemKind, Named};
+use wac_types::ItemKind;
 
 /// A composition graph. A call that is refused answers none, and carries no error with its text, since what is measured is the
 /// graph's call.
@@ -17,8 +17,8 @@ pub trait Graph: Collection {
         &mut self,
         alloc: Global,
         name: &str,
-        imports: Named<ItemKind>,
-        exports: Named<ItemKind>,
+        imports: &[(&str, ItemKind)],
+        exports: &[(&str, ItemKind)],
     ) -> Result<PackageId>;
 
     /// Imports an item.

@@ -3,11 +3,11 @@
 //! tuples that each hold the one before twice.
 
 use crate::graph::Graph;
-use crate::types::{function, primitive};
+use crate::types::{BOOL, STRING, U32, function, tuples};
 use anyhow::{Result, bail};
 use std::alloc::Global;
 use wac_nodes::{NodeId, PackageId};
-use wac_types::{DefinedType, ItemKind, Named, PrimitiveType, ValueType};
+use wac_types::ItemKind;
 
 /// How many arguments each instance of a fan is given.
 const ARGUMENTS: u64 = 8;
@@ -27,18 +27,6 @@ pub fn refused<T>(made: Option<T>) -> Result<T> {
     }
 }
 
-/// Adds a function type without parameters and result.
-pub fn plain<G: Graph>(alloc: Global, graph: &mut G) -> Result<ItemKind> {
-    function(alloc, graph, &[], None)
-}
-
-/// One item under a name.
-pub fn one(alloc: Global, name: &str, kind: ItemKind) -> Result<Named<ItemKind>> {
-    let mut items = Named::new(alloc);
-    items.insert(alloc, name, kind)?;
-    Ok(items)
-}
-
 /// A text with each number behind it.
 pub fn numbered(alloc: Global, text: &str, count: u64) -> Result<Vec<String>> {
     let mut names = Vec::new(alloc);
@@ -49,16 +37,15 @@ pub fn numbered(alloc: Global, text: &str, count: u64) -> Result<Vec<String>> {
 }
 
 /// Adds a function type for each name.
-fn functions<G: Graph>(alloc: Global, graph: &mut G, names: &[String]) -> Result<Named<ItemKind>> {
-    let params = [
-        ("x", primitive(PrimitiveType::U32)),
-        ("y", primitive(PrimitiveType::String)),
-    ];
-    let returned = Some(primitive(PrimitiveType::Bool));
-    let mut items = Named::new(alloc);
+fn functions<'a, G: Graph>(
+    alloc: Global,
+    graph: &mut G,
+    names: &'a [String],
+) -> Result<Vec<(&'a str, ItemKind)>> {
+    let mut items = Vec::new(alloc);
     for name in names {
-        let kind = function(alloc, graph, &params, returned)?;
-        items.insert(alloc, name.as_str(), kind)?;
+        let kind = function(alloc, graph, &[("x", U32), ("y", STRING)], Some(BOOL))?;
+        items.push((name.as_str(), kind))?;
     }
     Ok(items)
 }
@@ -66,14 +53,12 @@ fn functions<G: Graph>(alloc: Global, graph: &mut G, names: &[String]) -> Result
 /// Registers the package of a number, with the import `b` and the export `a`.
 fn link<G: Graph>(alloc: Global, graph: &mut G, kind: ItemKind, number: u64) -> Result<PackageId> {
     let name = format!(in alloc; "n:p{number}")?;
-    let imports = one(alloc, "b", kind)?;
-    let exports = one(alloc, "a", kind)?;
-    graph.register(alloc, name.as_str(), imports, exports)
+    graph.register(alloc, name.as_str(), &[("b", kind)], &[("a", kind)])
 }
 
 /// Registers so many packages, each with the import `b` and the export `a`.
 fn links<G: Graph>(alloc: Global, graph: &mut G, count: u64) -> Result<Vec<PackageId>> {
-    let kind = plain(alloc, graph)?;
+    let kind = function(alloc, graph, &[], None)?;
     let mut packages = Vec::new(alloc);
     for number in 0..count {
         packages.push(link(alloc, graph, kind, number)?)?;
@@ -109,21 +94,20 @@ fn register_both<G: Graph>(
     graph: &mut G,
     packages: [&str; 2],
     names: &[String],
-    given_on: Named<ItemKind>,
+    given_on: &[(&str, ItemKind)],
 ) -> Result<Parts> {
     let [giver, taker] = packages;
     let exports = functions(alloc, graph, names)?;
     let imports = functions(alloc, graph, names)?;
-    let giver = graph.register(alloc, giver, Named::new(alloc), exports)?;
-    let taker = graph.register(alloc, taker, imports, given_on)?;
+    let giver = graph.register(alloc, giver, &[], &exports)?;
+    let taker = graph.register(alloc, taker, &imports, given_on)?;
     Ok(Parts { giver, taker })
 }
 
 /// Registers a plug that exports these names, and a socket that imports them and exports `run`.
 pub fn plug_and_socket<G: Graph>(alloc: Global, graph: &mut G, names: &[String]) -> Result<Parts> {
-    let run = plain(alloc, graph)?;
-    let run = one(alloc, "run", run)?;
-    register_both(alloc, graph, ["n:plug", "n:socket"], names, run)
+    let run = function(alloc, graph, &[], None)?;
+    register_both(alloc, graph, ["n:plug", "n:socket"], names, &[("run", run)])
 }
 
 /// An instance of a package, and the alias of each of these exports of it.
@@ -161,18 +145,14 @@ fn fanned<G: Graph>(
 /// An instance with eight exports, and so many that are given all of them.
 pub fn fan<G: Graph>(alloc: Global, graph: &mut G, count: u64) -> Result<()> {
     let names = numbered(alloc, "f", ARGUMENTS)?;
-    let nothing = Named::new(alloc);
-    let parts = register_both(alloc, graph, ["n:provider", "n:consumer"], &names, nothing)?;
+    let parts = register_both(alloc, graph, ["n:provider", "n:consumer"], &names, &[])?;
     let arguments = arguments(alloc, graph, parts.giver, &names)?;
     refused(fanned(graph, parts.taker, count, &names, &arguments))
 }
 
 /// A function over a tuple of two of a tuple, and so on so many levels deep, which is imported.
 pub fn shared<G: Graph>(alloc: Global, graph: &mut G, count: u64) -> Result<()> {
-    let mut ty = primitive(PrimitiveType::Bool);
-    for _ in 0..count {
-        ty = graph.defined(DefinedType::tuple(alloc, &[ty, ty])?)?;
-    }
+    let ty = tuples(alloc, graph, count)?;
     let kind = function(alloc, graph, &[("x", ty)], None)?;
     let _node = refused(graph.import("f", kind))?;
     Ok(())

@@ -17,49 +17,28 @@ const ROUNDS: usize = 9;
 /// How many parts the graphs of each count have together where memory is equal.
 const PARTS: u32 = 100_000;
 
-/// How long a graph took to make, half of its nodes to remove and make again (zero where none were), and the graph to encode.
-#[derive(Clone, Copy)]
-struct Costs {
-    made: Duration,
-    turned: Duration,
-    encoded: Duration,
-}
+/// The steps that are timed, and the words under which their times and the powers of these are printed.
+const TIMED: &[(Step, &str, &str)] = &[
+    (Step::Made, "made", "  making"),
+    (
+        Step::Turned,
+        "removed and made again",
+        "  removing and making again",
+    ),
+    (Step::Encoded, "encoded", "  encoding"),
+];
 
-impl Costs {
-    /// The lesser of each.
-    fn least(self, other: Costs) -> Costs {
-        Costs {
-            made: self.made.min(other.made),
-            turned: self.turned.min(other.turned),
-            encoded: self.encoded.min(other.encoded),
-        }
-    }
-
-    /// Of one graph, where these are of so many.
-    fn of_one(self, graphs: u32) -> Costs {
-        Costs {
-            made: self.made.checked_div(graphs).unwrap_or(self.made),
-            turned: self.turned.checked_div(graphs).unwrap_or(self.turned),
-            encoded: self.encoded.checked_div(graphs).unwrap_or(self.encoded),
-        }
-    }
-}
-
-/// So many graphs of so many parts each that stand at a time, and the least times of one of them.
+/// So many graphs of so many parts each that stand at a time, and the least time of each step for one of them (zero where it is not
+/// done).
 #[derive(Clone, Copy)]
 struct Size {
     parts: u32,
     graphs: u32,
-    least: Costs,
+    least: [Duration; 3],
 }
 
 /// One graph of each count, or as many of each as have the same number of parts together; not timed yet.
 fn sizes(alloc: Global, counts: &[u32], in_equal_memory: bool) -> Result<Vec<Size>, AllocError> {
-    let least = Costs {
-        made: Duration::MAX,
-        turned: Duration::MAX,
-        encoded: Duration::MAX,
-    };
     let mut sizes = Vec::new(alloc);
     for parts in counts {
         let graphs = if in_equal_memory {
@@ -70,7 +49,7 @@ fn sizes(alloc: Global, counts: &[u32], in_equal_memory: bool) -> Result<Vec<Siz
         sizes.push(Size {
             parts: *parts,
             graphs,
-            least,
+            least: [Duration::MAX; 3],
         })?;
     }
     Ok(sizes)
@@ -91,70 +70,60 @@ fn timed<G: Graph>(
     Ok(start.elapsed(rt)?)
 }
 
-/// How long the steps take in all of these graphs, each in all of them before the next.
-fn timed_steps<G: Graph>(rt: &HostRuntime, stands: &mut [Stand<G>], plan: &Plan) -> Result<Costs> {
+/// Takes the steps in all of these graphs, each in all of them before the next, and notes the times of one of them where they are less.
+fn timed_steps<G: Graph>(
+    rt: &HostRuntime,
+    stands: &mut [Stand<G>],
+    plan: &Plan,
+    size: &mut Size,
+) -> Result<()> {
     do_all(rt.alloc(), stands, plan, Step::Prepared)?;
-    Ok(Costs {
-        made: timed(rt, stands, plan, Step::Made)?,
-        turned: timed(rt, stands, plan, Step::Turned)?,
-        encoded: timed(rt, stands, plan, Step::Encoded)?,
-    })
-}
-
-/// How long one of so many graphs of so many parts takes.
-fn timed_one<G: Graph>(rt: &HostRuntime, sort: Sort, parts: u32, graphs: u32) -> Result<Costs> {
-    let plan = Plan::of(rt.alloc(), sort, u64::from(parts))?;
-    let mut stands: Vec<Stand<G>> = empty(rt.alloc(), graphs)?;
-    let costs = timed_steps(rt, &mut stands, &plan)?;
-    Ok(costs.of_one(graphs))
-}
-
-/// Prints a time, where something was timed.
-fn print_time(rt: &HostRuntime, what: &str, time: Duration) -> Result<()> {
-    if time.is_zero() {
-        return Ok(());
+    for ((step, _, _), least) in TIMED.iter().zip(size.least.iter_mut()) {
+        let time = timed(rt, stands, plan, *step)?;
+        *least = time.checked_div(size.graphs).unwrap_or(time).min(*least);
     }
-    let time = time.as_micros();
-    println!(rt; "    {what} in {time} us")?;
     Ok(())
 }
 
-/// Prints the times of one graph.
-fn print_size(rt: &HostRuntime, size: Size) -> Result<()> {
-    let Size {
-        parts,
-        graphs,
-        least,
-    } = size;
+/// Takes the steps in as many new graphs as stand at a time.
+fn timed_once<G: Graph>(rt: &HostRuntime, sort: Sort, size: &mut Size) -> Result<()> {
+    let plan = Plan::of(rt.alloc(), sort, u64::from(size.parts))?;
+    let mut stands: Vec<Stand<G>> = empty(rt.alloc(), size.graphs)?;
+    timed_steps(rt, &mut stands, &plan, size)
+}
+
+/// Prints the times of one graph, where something was timed.
+fn print_size(rt: &HostRuntime, size: &Size) -> Result<()> {
+    let (parts, graphs) = (size.parts, size.graphs);
     println!(rt; "  {graphs} of {parts}:")?;
-    print_time(rt, "made", least.made)?;
-    print_time(rt, "removed and made again", least.turned)?;
-    print_time(rt, "encoded", least.encoded)
-}
-
-/// Prints by which power of the count a time grows to that of ten times it, where something was timed.
-fn print_growth(rt: &HostRuntime, what: &str, first: Duration, last: Duration) -> Result<()> {
-    if first.is_zero() {
-        return Ok(());
+    for ((_, what, _), time) in TIMED.iter().zip(&size.least) {
+        if !time.is_zero() {
+            let time = time.as_micros();
+            println!(rt; "    {what} in {time} us")?;
+        }
     }
-    print_power(rt, what, first, last, OF_TEN)
+    Ok(())
 }
 
-/// Prints by which powers of the count the times grow to those of ten times it.
-fn print_powers(rt: &HostRuntime, first: Costs, last: Costs) -> Result<()> {
-    print_growth(rt, "  making", first.made, last.made)?;
-    print_growth(rt, "  removing and making again", first.turned, last.turned)?;
-    print_growth(rt, "  encoding", first.encoded, last.encoded)
+/// Prints by which powers of the count the times grow to those of ten times it, where something was timed.
+fn print_powers(rt: &HostRuntime, first: &Size, last: &Size) -> Result<()> {
+    let times = first.least.iter().zip(&last.least);
+    for ((_, _, what), (first, last)) in TIMED.iter().zip(times) {
+        if !first.is_zero() {
+            print_power(rt, what, *first, *last, OF_TEN)?;
+        }
+    }
+    Ok(())
 }
 
 /// Prints the times of each size, and by which powers of the count they grow from each to the next.
 fn print(rt: &HostRuntime, what: &str, how: &str, sizes: &[Size]) -> Result<()> {
     println!(rt; "{what}, {how}, times of one graph:")?;
     for size in sizes {
-        print_size(rt, *size)?;
+        print_size(rt, size)?;
     }
     for (first, last) in sizes.iter().zip(sizes.iter().skip(1)) {
-        print_powers(rt, first.least, last.least)?;
+        print_powers(rt, first, last)?;
     }
     Ok(())
 }
@@ -170,8 +139,7 @@ fn measure_sizes<G: Graph>(
     let mut sizes = sizes(rt.alloc(), sort.counts(), in_equal_memory)?;
     for _ in 0..ROUNDS {
         for size in sizes.iter_mut() {
-            let costs = timed_one::<G>(rt, sort, size.parts, size.graphs)?;
-            size.least = size.least.least(costs);
+            timed_once::<G>(rt, sort, size)?;
         }
     }
     let how = if in_equal_memory {
@@ -198,11 +166,11 @@ fn made_once<G: Graph>(rt: &HostRuntime, plan: &Plan) -> Result<Duration> {
 fn made<G: Graph>(rt: &HostRuntime, what: &str, sort: Sort, count: u32) -> Result<Duration> {
     let count = u64::from(count);
     let plan = Plan::of(rt.alloc(), sort, count)?;
-    let mut rounds = Vec::new(rt.alloc());
-    for _ in 0..FEW_ROUNDS {
-        rounds.push(made_once::<G>(rt, &plan)?)?;
+    let mut rounds = [Duration::ZERO; FEW_ROUNDS];
+    for time in rounds.iter_mut() {
+        *time = made_once::<G>(rt, &plan)?;
     }
-    let times = Times::of(rounds)?;
+    let times = Times::of(&mut rounds);
     print_times(rt, what, count, times)?;
     Ok(times.least)
 }

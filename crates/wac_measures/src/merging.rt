@@ -6,13 +6,12 @@ ghost use Rattle.wac_entries.specs.Bindings.{AreHeld};
 
 use crate::nesting::{circle, nested};
 use crate::times::{Workload, measure as measure_work};
-use crate::types::{FUNCTIONS, export, function, instance, primitive, records, versioned};
+use crate::types::{FUNCTIONS, STRING, export, function, instance, records, versioned};
 use anyhow::{Result, bail};
 use std::alloc::Global;
 use wac_merge::{MergeFault, TypeAggregator};
 use wac_types::{
-    Interface, InterfaceId, ItemKind, Named, PrimitiveType, Resource, ResourceId, Type, Types,
-    ValueType,
+    Interface, InterfaceId, ItemKind, Named, Resource, ResourceId, Type, Types, ValueType,
 };
 
 /// What is asked for.
@@ -46,6 +45,18 @@ const MEASURED: &[(&str, Sort, &[u64])] = &[
     ("a circle", Sort::Circle, &[250, 500, 1_000, 2_000]),
 ];
 
+/// A few of each, and what is printed before and behind the name under which the first is imported.
+const SHOWN: &[(&str, Sort, u64, &str)] = &[
+    (
+        "the first of 100 instances of functions is imported as ",
+        Sort::Functions,
+        100,
+        ", ",
+    ),
+    ("of 100 over records as ", Sort::Records, 100, ", "),
+    ("of a chain of 50 as ", Sort::Chain, 50, "\n"),
+];
+
 /// An import that is asked for.
 #[derive(Drop)]
 pub struct Import {
@@ -61,83 +72,67 @@ pub struct Owned {
 }
 
 /// Imports that are merged, and the collection that holds them.
-struct Merge {
-    sort: Sort,
+struct Asked {
     types: Types,
     imports: Vec<Import>,
 }
 
-impl Drop for Merge {
+impl Drop for Asked {
     fn drop(self) {
-        let Merge {
-            sort: _,
+        let Asked {
             types: _,
             imports: _,
         } = self;
     }
 }
 
-impl Workload for Merge {
-    type Sort = Sort;
+impl Workload for Sort {
+    type Work = Asked;
 
     type Made = Option<TypeAggregator>;
 
-    fn of(alloc: Global, sort: Sort, count: u64) -> Result<Merge> {
-        let mut merge = Merge {
-            sort,
+    fn prepare(self, alloc: Global, count: u64) -> Result<Asked> {
+        let mut asked = Asked {
             types: Types::new(alloc),
             imports: Vec::new(alloc),
         };
-        ask(alloc, &mut merge.types, sort, count, &mut merge.imports)?;
-        Ok(merge)
+        ask(alloc, &mut asked.types, self, count, &mut asked.imports)?;
+        Ok(asked)
     }
 
     /// Answers the merge of what is not nested; that of what is, if there is one, is let go of at once.
-    fn round(&self, alloc: Global) -> Result<Option<TypeAggregator>> {
-        match self.sort {
+    fn round(self, alloc: Global, asked: &Asked) -> Result<Option<TypeAggregator>> {
+        match self {
             Sort::Functions | Sort::Records | Sort::Chain => {
-                Ok(Some(merged(alloc, &self.types, &self.imports)?))
+                Ok(Some(merged(alloc, &asked.types, &asked.imports)?))
             }
             Sort::Nested | Sort::Apart | Sort::Circle => {
-                try_merge(alloc, &self.types, &self.imports)?;
+                try_merge(alloc, &asked.types, &asked.imports)?;
                 Ok(None)
             }
         }
     }
 }
 
-/// An import of this name.
-pub fn import_of(alloc: Global, name: &str, kind: ItemKind) -> Result<Import> {
-    Ok(Import {
-        name: String::from_str(alloc, name)?,
-        kind,
-    })
+/// Asks for an import of this name.
+pub fn ask_for(alloc: Global, imports: &mut Vec<Import>, name: &str, kind: ItemKind) -> Result<()> {
+    let name = String::from_str(alloc, name)?;
+    imports.push(Import { name, kind })?;
+    Ok(())
 }
 
 /// Adds an interface of functions, of which every second takes a text.
 fn functions(alloc: Global, types: &mut Types, id: &str) -> Result<ItemKind> {
     let mut exports = Named::new(alloc);
     for number in 0..FUNCTIONS {
-        let text = ("text", primitive(PrimitiveType::String));
         let kind = if number % 2 == 1 {
-            function(alloc, types, &[text], None)?
+            function(alloc, types, &[("text", STRING)], None)?
         } else {
             function(alloc, types, &[], None)?
         };
         export(alloc, &mut exports, number, kind)?;
     }
     instance(alloc, types, Some(id), exports)
-}
-
-/// Adds the version of this number, of functions or over records.
-fn version(alloc: Global, types: &mut Types, of_records: bool, number: u64) -> Result<Import> {
-    let name = versioned(alloc, "a:b", number)?;
-    let kind = if of_records {
-        records(alloc, types, name.as_str())?
-    } else {
-        functions(alloc, types, name.as_str())?
-    };
-    Ok(Import { name, kind })
 }
 
 /// Adds so many interfaces, four versions on each track.
@@ -149,18 +144,46 @@ fn versions(
     imports: &mut Vec<Import>,
 ) -> Result<()> {
     for number in 0..count {
-        imports.push(version(alloc, types, of_records, number)?)?;
+        let name = versioned(alloc, "a:b", number)?;
+        let kind = if of_records {
+            records(alloc, types, name.as_str())?
+        } else {
+            functions(alloc, types, name.as_str())?
+        };
+        imports.push(Import { name, kind })?;
     }
     Ok(())
 }
 
+/// Adds a resource.
+fn resource(alloc: Global, types: &mut Types, name: &str) -> Result<ResourceId> {
+    Ok(types.add_resource(Resource::new(alloc, name)?)?)
+}
+
+/// Adds an alias of a resource that an interface has.
+fn alias(alloc: Global, types: &mut Types, name: &str, of: Owned) -> Result<ResourceId> {
+    let alias = Resource::alias(alloc, name, Some(of.interface), of.resource)?;
+    Ok(types.add_resource(alias)?)
+}
+
+/// Adds an interface that uses these types and exports these items.
+fn interface<'a>(
+    alloc: Global,
+    types: &mut Types,
+    id: &str,
+    uses: &[(&'a str, InterfaceId, Option<&str>)],
+    exports: &[(&'a str, ItemKind)],
+) -> Result<InterfaceId> {
+    let interface = Interface::with_uses(alloc, Some(id), uses, exports)?;
+    Ok(types.add_interface(interface)?)
+}
+
 /// Adds an interface with a resource of its own.
 pub fn first_owned(alloc: Global, types: &mut Types, id: &str, name: &str) -> Result<Owned> {
-    let resource = types.add_resource(Resource::new(alloc, name)?)?;
+    let resource = resource(alloc, types, name)?;
     let give = function(alloc, types, &[], Some(ValueType::Own(resource)))?;
     let own = ItemKind::TypeItem(Type::Resource(resource));
-    let interface = Interface::new(alloc, Some(id), &[(name, own), ("make", give)])?;
-    let interface = types.add_interface(interface)?;
+    let interface = interface(alloc, types, id, &[], &[(name, own), ("make", give)])?;
     Ok(Owned {
         interface,
         resource,
@@ -176,9 +199,8 @@ pub fn next_owned<'a>(
     before: Owned,
     there: &'a str,
 ) -> Result<Owned> {
-    let alias = Resource::alias(alloc, there, Some(before.interface), before.resource)?;
-    let alias = types.add_resource(alias)?;
-    let resource = types.add_resource(Resource::new(alloc, name)?)?;
+    let alias = alias(alloc, types, there, before)?;
+    let resource = resource(alloc, types, name)?;
     let give = function(alloc, types, &[], Some(ValueType::Own(resource)))?;
     let taken = [
         ("x", ValueType::Borrow(alias)),
@@ -192,38 +214,31 @@ pub fn next_owned<'a>(
         ("take", take),
     ];
     let uses = [(there, before.interface, None)];
-    let interface = Interface::with_uses(alloc, Some(id), &uses, &exports)?;
-    let interface = types.add_interface(interface)?;
+    let interface = interface(alloc, types, id, &uses, &exports)?;
     Ok(Owned {
         interface,
         resource,
     })
 }
 
-/// Adds the next interface of a chain, which uses the resource of the one before.
+/// Adds the interface of a number in a chain, which uses the resource of the one before.
 fn link(
     alloc: Global,
     types: &mut Types,
-    version: &str,
+    id: &str,
+    number: u64,
     before: Option<Owned>,
-    imports: &mut Vec<Import>,
 ) -> Result<Owned> {
-    let number = imports.len();
-    let id = format!(in alloc; "a:b/i{number}{version}")?;
     let name = format!(in alloc; "r{number}")?;
+    let Some(before) = before else {
+        return first_owned(alloc, types, id, name.as_str());
+    };
     let last = number.saturating_sub(1);
     let there = format!(in alloc; "r{last}")?;
-    let (id_text, text, there) = (id.as_str(), name.as_str(), there.as_str());
-    let next = match before {
-        Some(before) => next_owned(alloc, types, id_text, text, before, there)?,
-        None => first_owned(alloc, types, id_text, text)?,
-    };
-    let kind = ItemKind::Instance(next.interface);
-    imports.push(Import { name: id, kind })?;
-    Ok(next)
+    next_owned(alloc, types, id, name.as_str(), before, there.as_str())
 }
 
-/// Adds a chain of so many interfaces of a version, each using the resource of the one before, and answers the last.
+/// Asks for a chain of so many interfaces of a version, each using the resource of the one before, and answers the last.
 pub fn chain(
     alloc: Global,
     types: &mut Types,
@@ -232,8 +247,12 @@ pub fn chain(
     imports: &mut Vec<Import>,
 ) -> Result<Option<Owned>> {
     let mut last = None;
-    for _ in 0..count {
-        last = Some(link(alloc, types, version, last, imports)?);
+    for number in 0..count {
+        let name = format!(in alloc; "a:b/i{number}{version}")?;
+        let next = link(alloc, types, name.as_str(), number, last)?;
+        let kind = ItemKind::Instance(next.interface);
+        imports.push(Import { name, kind })?;
+        last = Some(next);
     }
     Ok(last)
 }
@@ -288,7 +307,7 @@ fn try_merge(alloc: Global, types: &Types, imports: &[Import]) -> Result<()> {
 
 /// The name under which the first of so many imports is imported once they are merged.
 fn first_name(alloc: Global, sort: Sort, count: u64) -> Result<String> {
-    let asked = Merge::of(alloc, sort, count)?;
+    let asked = sort.prepare(alloc, count)?;
     let merged = merged(alloc, &asked.types, &asked.imports)?;
     let name = match asked.imports.first() {
         Some(import) => merged.canonical_import_name(import.name.as_str()),
@@ -297,21 +316,19 @@ fn first_name(alloc: Global, sort: Sort, count: u64) -> Result<String> {
     Ok(String::from_str(alloc, name)?)
 }
 
-/// Merges a hundred of each, and prints the name of the first import.
+/// Merges a few of each, and prints the name of the first import.
 pub fn show(rt: &HostRuntime) -> Result<()> {
-    let functions = first_name(rt.alloc(), Sort::Functions, 100)?;
-    let records = first_name(rt.alloc(), Sort::Records, 100)?;
-    let resources = first_name(rt.alloc(), Sort::Chain, 50)?;
-    println!(rt;
-        "the first of 100 instances of functions is imported as {functions}, of 100 over records as {records}, of a chain of 50 as {resources}"
-    )?;
+    for (before, sort, count, behind) in SHOWN {
+        let name = first_name(rt.alloc(), *sort, *count)?;
+        print!(rt; "{before}{name}{behind}")?;
+    }
     Ok(())
 }
 
 /// Merges each, and prints how the time grows.
 pub fn measure(rt: &HostRuntime) -> Result<()> {
     for (what, sort, counts) in MEASURED {
-        measure_work::<Merge>(rt, what, what, *sort, counts)?;
+        measure_work(rt, what, what, *sort, counts)?;
     }
     Ok(())
 }

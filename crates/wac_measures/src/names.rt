@@ -2,7 +2,7 @@
 
 use crate::times::{Workload, measure as measure_work};
 use anyhow::Result;
-use std::alloc::{AllocError, Global};
+use std::alloc::Global;
 use wac_names::ComponentName;
 
 /// At how many names the time is measured.
@@ -15,79 +15,56 @@ enum Sort {
     Versioned,
 }
 
-/// Names that are read.
-struct Names {
-    names: Vec<String>,
-}
-
-impl Drop for Names {
-    fn drop(self) {
-        let Names { names: _ } = self;
-    }
-}
-
-impl Workload for Names {
-    type Sort = Sort;
+impl Workload for Sort {
+    type Work = Vec<String>;
 
     type Made = usize;
 
-    fn of(alloc: Global, sort: Sort, count: u64) -> Result<Names> {
-        let names = made(alloc, sort, count)?;
-        Ok(Names { names })
-    }
-
-    fn round(&self, alloc: Global) -> Result<usize> {
-        Ok(accepted(alloc, &self.names))
-    }
-}
-
-/// The name of this number.
-fn generated(alloc: Global, sort: Sort, number: u64) -> Result<String, AllocError> {
-    let major = number % 3;
-    let minor = number % 100;
-    match sort {
-        Sort::Label => format!(in alloc; "name-{number}-OF-many"),
-        Sort::Versioned => format!(in alloc; "names:many/interface-{number}@{major}.{minor}.0"),
-    }
-}
-
-/// So many names.
-fn made(alloc: Global, sort: Sort, count: u64) -> Result<Vec<String>, AllocError> {
-    let mut names = Vec::new(alloc);
-    for number in 0..count {
-        names.push(generated(alloc, sort, number)?)?;
-    }
-    Ok(names)
-}
-
-/// How many of the texts are component names.
-fn accepted(alloc: Global, names: &[String]) -> usize {
-    let mut count = 0usize;
-    for name in names {
-        if ComponentName::new(alloc, name.as_str()).is_ok() {
-            count = count.saturating_add(1);
+    fn prepare(self, alloc: Global, count: u64) -> Result<Vec<String>> {
+        let mut names = Vec::new(alloc);
+        for number in 0..count {
+            let major = number % 3;
+            let minor = number % 100;
+            let name = match self {
+                Sort::Label => format!(in alloc; "name-{number}-OF-many"),
+                Sort::Versioned => {
+                    format!(in alloc; "names:many/interface-{number}@{major}.{minor}.0")
+                }
+            };
+            names.push(name?)?;
         }
+        Ok(names)
     }
-    count
+
+    /// Answers how many of the texts are component names.
+    fn round(self, alloc: Global, names: &Vec<String>) -> Result<usize> {
+        let mut count = 0usize;
+        for name in names {
+            if ComponentName::new(alloc, name.as_str()).is_ok() {
+                count = count.saturating_add(1);
+            }
+        }
+        Ok(count)
+    }
 }
 
 /// How many of a hundred names of a sort are component names.
-fn accepted_of(alloc: Global, sort: Sort) -> Result<usize> {
-    let names = made(alloc, sort, 100)?;
-    Ok(accepted(alloc, &names))
+fn accepted(alloc: Global, sort: Sort) -> Result<usize> {
+    let names = sort.prepare(alloc, 100)?;
+    sort.round(alloc, &names)
 }
 
 /// Reads a hundred names of each sort, and prints how many were accepted.
 pub fn show(rt: &HostRuntime) -> Result<()> {
-    let labels = accepted_of(rt.alloc(), Sort::Label)?;
-    let versioned = accepted_of(rt.alloc(), Sort::Versioned)?;
+    let labels = accepted(rt.alloc(), Sort::Label)?;
+    let versioned = accepted(rt.alloc(), Sort::Versioned)?;
     println!(rt; "{labels} labels and {versioned} versioned names")?;
     Ok(())
 }
 
 /// Reads names of each sort, and prints how the times grow.
 pub fn measure(rt: &HostRuntime) -> Result<()> {
-    measure_work::<Names>(rt, "labels", "labels", Sort::Label, COUNTS)?;
+    measure_work(rt, "labels", "labels", Sort::Label, COUNTS)?;
     let what = "versioned names";
-    measure_work::<Names>(rt, what, what, Sort::Versioned, COUNTS)
+    measure_work(rt, what, what, Sort::Versioned, COUNTS)
 }

@@ -1,10 +1,10 @@
 //! Imports that are nested deep, that disagree at the bottom, and whose classes rest on each other in a circle.
 
-use crate::merging::{Import, chain, first_owned, import_of, next_owned};
-use crate::types::{function, instance, primitive};
+use crate::merging::{Import, ask_for, chain, first_owned, next_owned};
+use crate::types::{U32, function, instance};
 use anyhow::{Result, bail};
 use std::alloc::Global;
-use wac_types::{ItemKind, Named, PrimitiveType, ResourceId, Types, ValueType};
+use wac_types::{ItemKind, Named, ResourceId, Types, ValueType};
 
 /// Adds an instance that has a function over a resource, and lists what is inside it.
 fn level(
@@ -21,26 +21,28 @@ fn level(
     instance(alloc, types, id, exports)
 }
 
-/// Adds an instance so many levels deep, with this at the bottom.
+/// Asks for an instance so many levels deep, with this at the bottom.
 fn nest(
     alloc: Global,
     types: &mut Types,
+    imports: &mut Vec<Import>,
     id: &str,
     resource: ResourceId,
     bottom: ItemKind,
     count: u64,
-) -> Result<ItemKind> {
+) -> Result<()> {
     let mut inside = bottom;
     for _ in 1..count {
         inside = level(alloc, types, None, resource, inside)?;
     }
-    level(alloc, types, Some(id), resource, inside)
+    let outer = level(alloc, types, Some(id), resource, inside)?;
+    ask_for(alloc, imports, id, outer)
 }
 
 /// What two instances have at the bottom: the same, or two that do not agree.
 fn bottoms(alloc: Global, types: &mut Types, agree: bool) -> Result<[ItemKind; 2]> {
     let plain = function(alloc, types, &[], None)?;
-    let other = function(alloc, types, &[("x", primitive(PrimitiveType::U32))], None)?;
+    let other = function(alloc, types, &[("x", U32)], None)?;
     Ok(if agree {
         [plain, plain]
     } else {
@@ -58,13 +60,19 @@ pub fn nested(
 ) -> Result<()> {
     let [first, second] = bottoms(alloc, types, agree)?;
     let outside = first_owned(alloc, types, "a:b/outside", "r")?;
-    let first = nest(alloc, types, "a:b/i@1.0.0", outside.resource, first, count)?;
-    let second = nest(alloc, types, "a:b/i@1.1.0", outside.resource, second, count)?;
+    let resource = outside.resource;
     let outside = ItemKind::Instance(outside.interface);
-    imports.push(import_of(alloc, "a:b/outside", outside)?)?;
-    imports.push(import_of(alloc, "a:b/i@1.0.0", first)?)?;
-    imports.push(import_of(alloc, "a:b/i@1.1.0", second)?)?;
-    Ok(())
+    ask_for(alloc, imports, "a:b/outside", outside)?;
+    nest(alloc, types, imports, "a:b/i@1.0.0", resource, first, count)?;
+    nest(
+        alloc,
+        types,
+        imports,
+        "a:b/i@1.1.0",
+        resource,
+        second,
+        count,
+    )
 }
 
 /// Asks for so many instances in a circle.
@@ -80,6 +88,10 @@ pub fn circle(
     let number = count.saturating_sub(1);
     let there = format!(in alloc; "r{number}")?;
     let last = next_owned(alloc, types, "a:b/i0@1.1.0", "last", before, there.as_str())?;
-    imports.push(import_of(alloc, "a:b/i0@1.1.0", ItemKind::Instance(last.interface))?)?;
-    Ok(())
+    ask_for(
+        alloc,
+        imports,
+        "a:b/i0@1.1.0",
+        ItemKind::Instance(last.interface),
+    )
 }

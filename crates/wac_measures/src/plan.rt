@@ -133,27 +133,21 @@ impl<G: Graph> Stand<G> {
         Ok(())
     }
 
-    /// Makes of its packages what is timed.
-    fn make_of(&mut self, alloc: Global, plan: &Plan, parts: Parts) -> Result<()> {
-        match plan.sort {
-            Sort::Chain | Sort::Fan | Sort::Shared | Sort::Wide => Ok(()),
-            Sort::Aliases => refused(aliases(&mut self.graph, parts.giver, &plan.names)),
-            Sort::Plug => self.graph.plug(alloc, parts.giver, parts.taker),
-            Sort::Churn => { churn::make(&mut self.graph, parts, &plan.names, &mut self.triples) }
-        }
-    }
-
     /// Makes what is timed.
     fn make(&mut self, alloc: Global, plan: &Plan) -> Result<()> {
-        match plan.sort {
-            Sort::Chain => chain(alloc, &mut self.graph, plan.count),
-            Sort::Fan => fan(alloc, &mut self.graph, plan.count),
-            Sort::Shared => shared(alloc, &mut self.graph, plan.count),
-            Sort::Wide => wide::make(alloc, &mut self.graph, plan.count),
-            Sort::Aliases | Sort::Plug | Sort::Churn => {
-                let parts = refused(self.parts)?;
-                self.make_of(alloc, plan, parts)
+        match (plan.sort, self.parts) {
+            (Sort::Chain, _) => chain(alloc, &mut self.graph, plan.count),
+            (Sort::Fan, _) => fan(alloc, &mut self.graph, plan.count),
+            (Sort::Shared, _) => shared(alloc, &mut self.graph, plan.count),
+            (Sort::Wide, _) => wide::make(alloc, &mut self.graph, plan.count),
+            (Sort::Aliases, Some(parts)) => {
+                refused(aliases(&mut self.graph, parts.giver, &plan.names))
             }
+            (Sort::Plug, Some(parts)) => self.graph.plug(alloc, parts.giver, parts.taker),
+            (Sort::Churn, Some(parts)) => {
+                churn::make(&mut self.graph, parts, &plan.names, &mut self.triples)
+            }
+            (Sort::Aliases | Sort::Plug | Sort::Churn, None) => refused(None),
         }
     }
 
@@ -163,19 +157,16 @@ impl<G: Graph> Stand<G> {
         refused(churn::turn(&mut self.graph, parts, &plan.names, &mut self.triples))
     }
 
-    /// Encodes it, and keeps the bytes.
-    fn encode(&mut self) -> Result<()> {
-        self.written = self.graph.encode()?;
-        Ok(())
-    }
-
     /// Does a step once.
-    pub fn step(&mut self, alloc: Global, plan: &Plan, step: Step) -> Result<()> {
+    fn step(&mut self, alloc: Global, plan: &Plan, step: Step) -> Result<()> {
         match step {
             Step::Prepared => self.prepare(alloc, plan),
             Step::Made => self.make(alloc, plan),
             Step::Turned => self.turn(plan),
-            Step::Encoded => self.encode(),
+            Step::Encoded => {
+                self.written = self.graph.encode()?;
+                Ok(())
+            }
         }
     }
 }
@@ -207,9 +198,11 @@ pub fn do_all<G: Graph>(
 /// Makes one graph of a sort and of so many parts by these steps, and answers how many bytes it is encoded to.
 pub fn take<G: Graph>(alloc: Global, sort: Sort, count: u64, steps: &[Step]) -> Result<usize> {
     let plan = Plan::of(alloc, sort, count)?;
-    let mut stands: Vec<Stand<G>> = empty(alloc, 1)?;
+    let mut stand: Stand<G> = Stand::new(alloc);
     for step in steps {
-        do_all(alloc, &mut stands, &plan, *step)?;
+        for _ in 0..sort.times(*step) {
+            stand.step(alloc, &plan, *step)?;
+        }
     }
-    Ok(stands.first().map_or(0, |stand| stand.written.len()))
+    Ok(stand.written.len())
 }

@@ -6,29 +6,37 @@ use crate::step::Step;
 use crate::{comparing, growth, merging, names, writing};
 use anyhow::Result;
 
-/// Makes a few graphs of each sort and prints how many bytes they are encoded to.
-fn show_graphs<G: Graph>(rt: &HostRuntime) -> Result<()> {
-    let chain = length::<G>(rt, Sort::Chain, 10)?;
-    let fan = length::<G>(rt, Sort::Fan, 10)?;
-    let plug = length::<G>(rt, Sort::Plug, 10)?;
-    let shared = length::<G>(rt, Sort::Shared, 40)?;
-    println!(rt;
-        "a chain of 10: {chain} bytes, a fan of 10: {fan} bytes, a plug with 10 functions: {plug} bytes, tuples 40 deep: {shared} bytes"
-    )?;
-    let churn = length::<G>(rt, Sort::Churn, 10)?;
-    println!(rt; "10 triples of which half were removed and made again: {churn} bytes")?;
-    let wide = length::<G>(rt, Sort::Wide, 10)?;
-    println!(rt; "10 packages with types of their own: {wide} bytes")?;
-    Ok(())
-}
-
-/// How many bytes a graph of so many parts is encoded to.
-fn length<G: Graph>(rt: &HostRuntime, sort: Sort, count: u64) -> Result<usize> {
-    take::<G>(rt.alloc(), sort, count, ENCODED)
-}
-
 /// The steps up to that in which a graph is encoded.
 const ENCODED: &[Step] = &[Step::Prepared, Step::Made, Step::Turned, Step::Encoded];
+
+/// Graphs of a few parts, and what is printed before and behind the number of their bytes.
+const SHOWN: &[(&str, Sort, u64, &str)] = &[
+    ("a chain of 10: ", Sort::Chain, 10, " bytes, "),
+    ("a fan of 10: ", Sort::Fan, 10, " bytes, "),
+    ("a plug with 10 functions: ", Sort::Plug, 10, " bytes, "),
+    ("tuples 40 deep: ", Sort::Shared, 40, " bytes\n"),
+    (
+        "10 triples of which half were removed and made again: ",
+        Sort::Churn,
+        10,
+        " bytes\n",
+    ),
+    (
+        "10 packages with types of their own: ",
+        Sort::Wide,
+        10,
+        " bytes\n",
+    ),
+];
+
+/// Makes a few graphs and prints how many bytes they are encoded to.
+fn show_graphs<G: Graph>(rt: &HostRuntime) -> Result<()> {
+    for (before, sort, count, behind) in SHOWN {
+        let length = take::<G>(rt.alloc(), *sort, *count, ENCODED)?;
+        print!(rt; "{before}{length}{behind}")?;
+    }
+    Ok(())
+}
 
 /// Does a little of each and prints what came of it.
 fn show<G: Graph>(rt: &HostRuntime) -> Result<()> {
@@ -39,25 +47,17 @@ fn show<G: Graph>(rt: &HostRuntime) -> Result<()> {
     show_graphs::<G>(rt)
 }
 
-/// Measures graphs of the sort that the word names. Answers whether it names one.
-fn measure_graphs<G: Graph>(rt: &HostRuntime, word: &str) -> Result<bool> {
-    match Sort::of_word(word) {
-        None => return Ok(false),
-        Some(Sort::Wide) => growth::measure_made::<G>(rt, word, Sort::Wide)?,
-        Some(Sort::Churn) => growth::measure::<G>(rt, "churn of triples", Sort::Churn)?,
-        Some(sort) => growth::measure::<G>(rt, word, sort)?,
-    }
-    Ok(true)
-}
-
 /// Measures what the word names. Answers whether it names a workload.
 fn measure<G: Graph>(rt: &HostRuntime, word: &str) -> Result<bool> {
-    match word {
-        "names" => names::measure(rt)?,
-        "comparing" => comparing::measure(rt)?,
-        "merging" => merging::measure(rt)?,
-        "writing" => writing::measure(rt)?,
-        _ => return measure_graphs::<G>(rt, word),
+    match (word, Sort::of_word(word)) {
+        ("names", _) => names::measure(rt)?,
+        ("comparing", _) => comparing::measure(rt)?,
+        ("merging", _) => merging::measure(rt)?,
+        ("writing", _) => writing::measure(rt)?,
+        (_, Some(Sort::Wide)) => growth::measure_made::<G>(rt, word, Sort::Wide)?,
+        (_, Some(Sort::Churn)) => growth::measure::<G>(rt, "churn of triples", Sort::Churn)?,
+        (_, Some(sort)) => growth::measure::<G>(rt, word, sort)?,
+        (_, None) => return Ok(false),
     }
     Ok(true)
 }

@@ -1,7 +1,7 @@
 //! Times of rounds, and how they grow.
 
 use anyhow::Result;
-use std::alloc::{AllocError, Global};
+use std::alloc::Global;
 use std::time::{Duration, Instant};
 
 /// How often each is timed.
@@ -36,50 +36,49 @@ pub struct Times {
 
 impl Times {
     /// The least and the middle one of these.
-    pub fn of(mut rounds: Vec<Duration>) -> Result<Times, AllocError> {
-        rounds.sort()?;
+    pub fn of(rounds: &mut [Duration]) -> Times {
+        rounds.sort_unstable();
         let middle = rounds.len() / 2;
-        Ok(Times {
+        Times {
             least: rounds.first().copied().unwrap_or(Duration::ZERO),
             middle: rounds.get(middle).copied().unwrap_or(Duration::ZERO),
-        })
+        }
     }
 }
 
-/// Work of a size, done in rounds that are timed.
-pub trait Workload: Drop {
-    /// What it is done with.
-    type Sort: Copy;
+/// Work that is done in rounds which are timed.
+pub trait Workload: Copy {
+    /// What a round is done with.
+    type Work: Drop;
     /// What a round makes: it is let go of once the round is timed.
     type Made: Drop;
 
-    /// Work of so many.
-    fn of(alloc: Global, sort: Self::Sort, count: u64) -> Result<Self>;
+    /// What a round of so many is done with.
+    fn prepare(self, alloc: Global, count: u64) -> Result<Self::Work>;
 
     /// Does it once.
-    fn round(&self, alloc: Global) -> Result<Self::Made>;
+    fn round(self, alloc: Global, work: &Self::Work) -> Result<Self::Made>;
 }
 
-/// How long work takes.
-pub fn timed<W: Workload>(rt: &HostRuntime, work: &W, rounds: usize) -> Result<Times> {
-    let mut times = Vec::new(rt.alloc());
-    for _ in 0..rounds {
+/// How long a round takes, timed as often as there are places for the times.
+pub fn timed<W: Workload>(
+    rt: &HostRuntime,
+    sort: W,
+    work: &W::Work,
+    times: &mut [Duration],
+) -> Result<Times> {
+    for time in times.iter_mut() {
         let start = Instant::now(rt)?;
-        let _made = work.round(rt.alloc())?;
-        times.push(start.elapsed(rt)?)?;
+        let _made = sort.round(rt.alloc(), work)?;
+        *time = start.elapsed(rt)?;
     }
-    Ok(Times::of(times)?)
+    Ok(Times::of(times))
 }
 
 /// Does work of so many, and prints how long that takes.
-pub fn measured<W: Workload>(
-    rt: &HostRuntime,
-    what: &str,
-    sort: W::Sort,
-    count: u64,
-) -> Result<Duration> {
-    let work = W::of(rt.alloc(), sort, count)?;
-    let times = timed(rt, &work, ROUNDS)?;
+fn measured<W: Workload>(rt: &HostRuntime, what: &str, sort: W, count: u64) -> Result<Duration> {
+    let work = sort.prepare(rt.alloc(), count)?;
+    let times = timed(rt, sort, &work, &mut [Duration::ZERO; ROUNDS])?;
     print_times(rt, what, count, times)?;
     Ok(times.least)
 }
@@ -90,13 +89,13 @@ pub fn measure<W: Workload>(
     rt: &HostRuntime,
     each: &str,
     whole: &str,
-    sort: W::Sort,
+    sort: W,
     counts: &[u64],
 ) -> Result<()> {
     let mut first = None;
     let mut last = Duration::ZERO;
     for count in counts {
-        last = measured::<W>(rt, each, sort, *count)?;
+        last = measured(rt, each, sort, *count)?;
         first = first.or(Some(last));
     }
     print_power(rt, whole, first.unwrap_or(last), last, OF_EIGHT)

@@ -10,6 +10,15 @@ use wac_types::{
 /// How many functions an interface exports.
 pub const FUNCTIONS: u64 = 20;
 
+/// The truth values.
+pub const BOOL: ValueType = ValueType::Primitive(PrimitiveType::Bool);
+
+/// The numbers of 32 bits.
+pub const U32: ValueType = ValueType::Primitive(PrimitiveType::U32);
+
+/// The texts.
+pub const STRING: ValueType = ValueType::Primitive(PrimitiveType::String);
+
 /// What types are added to: a collection, or a graph that has one.
 pub trait Collection: Drop {
     /// Adds a defined type.
@@ -36,21 +45,20 @@ impl Collection for Types {
     }
 }
 
-/// The value type that is this primitive type.
-pub fn primitive(primitive: PrimitiveType) -> ValueType {
-    ValueType::Primitive(primitive)
+/// Adds tuples, each of the one before twice, so many levels deep.
+pub fn tuples<T: Collection>(alloc: Global, types: &mut T, count: u64) -> Result<ValueType> {
+    let mut value = BOOL;
+    for _ in 0..count {
+        value = types.defined(DefinedType::tuple(alloc, &[value, value])?)?;
+    }
+    Ok(value)
 }
 
 /// Adds a list, an option, and a record with fields of them.
 pub fn record<T: Collection>(alloc: Global, types: &mut T) -> Result<ValueType> {
-    let list = types.defined(DefinedType::List(primitive(PrimitiveType::U8)))?;
-    let option = types.defined(DefinedType::Option(primitive(PrimitiveType::U64)))?;
-    let fields = [
-        ("a", primitive(PrimitiveType::U32)),
-        ("b", primitive(PrimitiveType::String)),
-        ("c", list),
-        ("d", option),
-    ];
+    let list = types.defined(DefinedType::List(ValueType::Primitive(PrimitiveType::U8)))?;
+    let option = types.defined(DefinedType::Option(ValueType::Primitive(PrimitiveType::U64)))?;
+    let fields = [("a", U32), ("b", STRING), ("c", list), ("d", option)];
     let record = Record::new(alloc, &fields)?;
     types.defined(DefinedType::Record(record))
 }
@@ -60,8 +68,8 @@ fn variant<T: Collection>(alloc: Global, types: &mut T, element: ValueType) -> R
     let list = types.defined(DefinedType::List(element))?;
     let cases = [
         ("none", None),
-        ("num", Some(primitive(PrimitiveType::U32))),
-        ("text", Some(primitive(PrimitiveType::String))),
+        ("num", Some(U32)),
+        ("text", Some(STRING)),
         ("recs", Some(list)),
     ];
     let variant = Variant::new(alloc, &cases)?;

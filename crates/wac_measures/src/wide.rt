@@ -2,20 +2,18 @@
 //! track.
 
 use crate::graph::Graph;
-use crate::graphs::{one, refused};
+use crate::graphs::refused;
 use crate::types::{records, versioned};
 use anyhow::Result;
 use std::alloc::Global;
 use wac_nodes::PackageId;
-use wac_types::Named;
 
 /// Registers the package of a number, with an import of its own.
 fn register<G: Graph>(alloc: Global, graph: &mut G, number: u64) -> Result<PackageId> {
     let id = versioned(alloc, "n:w", number)?;
     let kind = records(alloc, graph, id.as_str())?;
-    let imports = one(alloc, id.as_str(), kind)?;
     let name = format!(in alloc; "n:c{number}")?;
-    graph.register(alloc, name.as_str(), imports, Named::new(alloc))
+    graph.register(alloc, name.as_str(), &[(id.as_str(), kind)], &[])
 }
 
 /// Registers so many packages, each with an import of its own, and instantiates each.

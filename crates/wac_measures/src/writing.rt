@@ -1,9 +1,10 @@
 //! How fast components are written, beside a plain copy of the same bytes: packages of 4 MiB, function imports, instance types
 //! beside each other in one, and instance types nested one in another.
 
-use crate::times::{Workload, measure as measure_work, timed};
+use crate::times::{Times, Workload, measure as measure_work, timed};
 use anyhow::Result;
 use std::alloc::Global;
+use std::time::{Duration, Instant};
 use wac_builder::{BinaryFault, ComponentBuilder, Description, FuncType, InstanceType};
 
 /// How often each is written, so that the least and the median of the times say more than one does.
@@ -16,12 +17,10 @@ enum Sort {
     Packages,
     /// Function imports.
     Imports,
-    /// Instance types, nested in one.
+    /// Instance types, beside each other in one.
     InstanceTypes,
     /// Instance types, nested one in another.
     Nested,
-    /// A copy of these bytes.
-    Copy,
 }
 
 /// What is written beside a copy of its bytes, by its words, and how many.
@@ -31,41 +30,34 @@ const BESIDE_COPIES: &[(&str, Sort, u64)] = &[
     ("packages", Sort::Packages, 16),
 ];
 
+/// A few of each, and what is printed before and behind the number of their bytes.
+const SHOWN: &[(&str, Sort, u64, &str)] = &[
+    ("2 packages: ", Sort::Packages, 2, " bytes, "),
+    ("100 imports: ", Sort::Imports, 100, " bytes, "),
+    ("100 instance types: ", Sort::InstanceTypes, 100, " bytes, "),
+    ("100 deep: ", Sort::Nested, 100, " bytes\n"),
+];
+
 /// How deep instance types are nested.
 const DEPTHS: &[u64] = &[12_500, 25_000, 50_000, 100_000];
 
-/// So many that are written, and the bytes of which they are made.
-struct Writing {
-    sort: Sort,
-    count: u64,
-    bytes: Vec<u8>,
-}
-
-impl Drop for Writing {
-    fn drop(self) {
-        let Writing {
-            sort: _,
-            count: _,
-            bytes: _,
-        } = self;
-    }
-}
-
-impl Workload for Writing {
-    type Sort = Sort;
+impl Workload for Sort {
+    /// How many are written, and the bytes of which they are made.
+    type Work = (u64, Vec<u8>);
 
     type Made = Vec<u8>;
 
-    fn of(alloc: Global, sort: Sort, count: u64) -> Result<Writing> {
+    fn prepare(self, alloc: Global, count: u64) -> Result<(u64, Vec<u8>)> {
         let mut bytes = Vec::new(alloc);
-        if let Sort::Packages = sort {
+        if let Sort::Packages = self {
             bytes.resize(4 << 20, 0u8)?;
         }
-        Ok(Writing { sort, count, bytes })
+        Ok((count, bytes))
     }
 
-    fn round(&self, alloc: Global) -> Result<Vec<u8>> {
-        Ok(written(alloc, self.sort, self.count, &self.bytes)?)
+    fn round(self, alloc: Global, work: &(u64, Vec<u8>)) -> Result<Vec<u8>> {
+        let (count, bytes) = work;
+        Ok(written(alloc, self, *count, bytes)?)
     }
 }
 
@@ -78,23 +70,21 @@ fn plain() -> FuncType<'static> {
     }
 }
 
-/// A component of so many packages with these bytes.
-fn packages(alloc: Global, count: u64, package: &[u8]) -> Result<Vec<u8>, BinaryFault> {
-    let mut b = ComponentBuilder::new(alloc);
+/// Writes so many packages with these bytes.
+fn packages(b: &mut ComponentBuilder, count: u64, package: &[u8]) -> Result<(), BinaryFault> {
     for _ in 0..count {
         let _c = b.component(package)?;
     }
-    b.into_bytes()
+    Ok(())
 }
 
-/// A component of so many function imports.
-fn imports(alloc: Global, count: u64) -> Result<Vec<u8>, BinaryFault> {
-    let mut b = ComponentBuilder::new(alloc);
+/// Writes so many function imports.
+fn imports(b: &mut ComponentBuilder, count: u64) -> Result<(), BinaryFault> {
     let f = b.func_type(&plain())?;
     for _ in 0..count {
         let _i = b.import("wasi:cli/environment", Description::Func(f))?;
     }
-    b.into_bytes()
+    Ok(())
 }
 
 /// An instance type with a function under two names.
@@ -106,59 +96,75 @@ fn instance_type(alloc: Global) -> Result<InstanceType, BinaryFault> {
     Ok(t)
 }
 
-/// A component of one instance type in which so many are nested, each built by itself.
-fn instance_types(alloc: Global, count: u64) -> Result<Vec<u8>, BinaryFault> {
+/// One instance type in which so many are nested, each built by itself.
+fn beside(alloc: Global, count: u64) -> Result<InstanceType, BinaryFault> {
     let mut outer = InstanceType::new(alloc);
     for _ in 0..count {
-        let t = instance_type(alloc)?;
-        let _t = outer.instance_type(&t)?;
+        let _t = outer.instance_type(&instance_type(alloc)?)?;
     }
-    let mut b = ComponentBuilder::new(alloc);
-    let _t = b.instance_type(&outer)?;
-    b.into_bytes()
+    Ok(outer)
 }
 
-/// A component of an instance type so many deep, each with a function before the one that it declares and exports.
-fn nested_types(alloc: Global, depth: u64) -> Result<Vec<u8>, BinaryFault> {
+/// An instance type with a function before an instance that it exports.
+fn around(alloc: Global, inner: InstanceType) -> Result<InstanceType, BinaryFault> {
+    let mut outer = InstanceType::new(alloc);
+    let _f = outer.func_type(&plain())?;
+    let inner = outer.take_instance_type(inner)?;
+    let _i = outer.export("inner", Description::Instance(inner))?;
+    Ok(outer)
+}
+
+/// An instance type so many deep.
+fn nested(alloc: Global, depth: u64) -> Result<InstanceType, BinaryFault> {
     let mut t = instance_type(alloc)?;
     for _ in 0..depth {
-        let mut outer = InstanceType::new(alloc);
-        let _f = outer.func_type(&plain())?;
-        let inner = outer.take_instance_type(t)?;
-        let _i = outer.export("inner", Description::Instance(inner))?;
-        t = outer;
+        t = around(alloc, t)?;
     }
-    let mut b = ComponentBuilder::new(alloc);
-    let _t = b.instance_type(&t)?;
-    b.into_bytes()
+    Ok(t)
 }
 
-/// A copy of bytes.
-fn copied(alloc: Global, bytes: &[u8]) -> Result<Vec<u8>, BinaryFault> {
-    let mut copy = Vec::new(alloc);
-    copy.extend_from_slice(bytes)?;
-    Ok(copy)
+/// Writes so many of these into a component.
+fn write(
+    alloc: Global,
+    b: &mut ComponentBuilder,
+    sort: Sort,
+    count: u64,
+    bytes: &[u8],
+) -> Result<(), BinaryFault> {
+    match sort {
+        Sort::Packages => packages(b, count, bytes),
+        Sort::Imports => imports(b, count),
+        Sort::InstanceTypes => b.instance_type(&beside(alloc, count)?).map(|_| ()),
+        Sort::Nested => b.instance_type(&nested(alloc, count)?).map(|_| ()),
+    }
 }
 
 /// A component of so many of these.
 fn written(alloc: Global, sort: Sort, count: u64, bytes: &[u8]) -> Result<Vec<u8>, BinaryFault> {
-    match sort {
-        Sort::Packages => packages(alloc, count, bytes),
-        Sort::Imports => imports(alloc, count),
-        Sort::InstanceTypes => instance_types(alloc, count),
-        Sort::Nested => nested_types(alloc, count),
-        Sort::Copy => copied(alloc, bytes),
+    let mut b = ComponentBuilder::new(alloc);
+    write(alloc, &mut b, sort, count, bytes)?;
+    b.into_bytes()
+}
+
+/// How long bytes take to copy.
+fn copied(rt: &HostRuntime, bytes: &[u8]) -> Result<Times> {
+    let mut times = [Duration::ZERO; ROUNDS];
+    for time in times.iter_mut() {
+        let start = Instant::now(rt)?;
+        let mut copy = Vec::new(rt.alloc());
+        copy.extend_from_slice(bytes)?;
+        *time = start.elapsed(rt)?;
     }
+    Ok(Times::of(&mut times))
 }
 
 /// Writes so many, copies their bytes, and prints how long each takes.
 fn measured(rt: &HostRuntime, what: &str, sort: Sort, count: u64) -> Result<()> {
-    let mut work = Writing::of(rt.alloc(), sort, count)?;
-    let writing = timed(rt, &work, ROUNDS)?;
-    work.bytes = work.round(rt.alloc())?;
-    work.sort = Sort::Copy;
-    let copying = timed(rt, &work, ROUNDS)?;
-    let length = work.bytes.len();
+    let work = sort.prepare(rt.alloc(), count)?;
+    let writing = timed(rt, sort, &work, &mut [Duration::ZERO; ROUNDS])?;
+    let bytes = sort.round(rt.alloc(), &work)?;
+    let copying = copied(rt, &bytes)?;
+    let length = bytes.len();
     let (least, median) = (writing.least.as_nanos(), writing.middle.as_nanos());
     let (least_copy, median_copy) = (copying.least.as_nanos(), copying.middle.as_nanos());
     println!(rt;
@@ -169,14 +175,10 @@ fn measured(rt: &HostRuntime, what: &str, sort: Sort, count: u64) -> Result<()> 
 
 /// Writes a few of each, and prints how many bytes they have.
 pub fn show(rt: &HostRuntime) -> Result<()> {
-    let alloc = rt.alloc();
-    let packages = written(alloc, Sort::Packages, 2, &[0; 16])?.len();
-    let imports = written(alloc, Sort::Imports, 100, &[])?.len();
-    let types = written(alloc, Sort::InstanceTypes, 100, &[])?.len();
-    let nested = written(alloc, Sort::Nested, 100, &[])?.len();
-    println!(rt;
-        "2 packages: {packages} bytes, 100 imports: {imports} bytes, 100 instance types: {types} bytes, 100 deep: {nested} bytes"
-    )?;
+    for (before, sort, count, behind) in SHOWN {
+        let length = written(rt.alloc(), *sort, *count, &[0; 16])?.len();
+        print!(rt; "{before}{length}{behind}")?;
+    }
     Ok(())
 }
 
@@ -186,5 +188,5 @@ pub fn measure(rt: &HostRuntime) -> Result<()> {
         measured(rt, what, *sort, *count)?;
     }
     let (each, whole) = ("instance types nested so deep:", "nested instance types");
-    measure_work::<Writing>(rt, each, whole, Sort::Nested, DEPTHS)
+    measure_work(rt, each, whole, Sort::Nested, DEPTHS)
 }

@@ -9,8 +9,11 @@ ghost use Rattle.wac_nodes.specs.Stays.{Stays};
 
 use anyhow::Result;
 use std::alloc::Global;
-use wac_graph::types::{FuncType, Interface, ItemKind, World};
-use wac_graph::{CompositionGraph, EncodeError, EncodeOptions, PackageId, Processor, plug};
+use wac_causes::EncodeError;
+use wac_composition::CompositionGraph;
+use wac_nodes::{EncodeOptions, PackageId, Processor};
+use wac_plug::plug;
+use wac_types::{FuncType, Interface, ItemKind, World};
 
 /// A component with nothing in it: no section, so the eight bytes of the preamble alone.
 pub const EMPTY_COMPONENT: [u8; 8] = [0x00, 0x61, 0x73, 0x6d, 0x0d, 0x00, 0x01, 0x00];
