@@ -6,7 +6,7 @@ use wac_composition::CompositionGraph;
 use wac_measures::graph::Graph;
 use wac_measures::types::Collection;
 use wac_nodes::{EncodeOptions, NodeId, PackageId};
-use wac_plug::plug;
+use wac_graph::plug;
 use wac_types::{DefinedType, FuncType, Interface, ItemKind, ValueType, World};
 
 /// A component with nothing in it.

@@ -1,10 +1,16 @@
 //! Prints a composition of WebAssembly components by its word, as a line of hexadecimal.
 #![tactic(auto)]
 
+mod args;
+mod compositions;
+mod run;
+#[cfg(test)]
+mod tests;
+
+use crate::args::asked_word;
+use crate::run::{refuse, run};
 use std::io;
 use std::process::ExitCode;
-use wac_printing::args::asked_word;
-use wac_printing::run::{refuse, run};
 
 fn main(rt: HostRuntime) -> ExitCode {
     let mut out = io::writer(&rt);

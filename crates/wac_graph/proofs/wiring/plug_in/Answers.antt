@@ -1,0 +1,85 @@
+use Rattle.std.proofs.Common.{◌≡◌, Some, Ok, Err, slice_get, get_or, sym, ◌∙◌, subst}
+use Rattle.std.proofs.lemmas.Option.{slice_get-get_or}
+use Rattle.wac_graph.specs.Fitting.{node_imports}
+use Rattle.wac_graph.specs.Matching.{exports_of_package}
+use Rattle.wac_graph.specs.declared.matching.Pair.{Pair}
+use Rattle.wac_graph.specs.Pairs.{match_at, matches_at}
+use Rattle.wac_graph.specs.Plugging.{Answer, Wires, PlugsIn}
+use Rattle.wac_graph.proofs.Order.{one-more, refused-at, all-made, exit-is, plugs-in-some}
+use Rattle.wac_graph.proofs.Pairs.{past, not-none, plugs-none, match-there}
+use Rattle.wac_graph.proofs.Steps.{instance-keeps, keeps-trans}
+use Rattle.wac_graph.proofs.Fitting.{pair-at}
+use Rattle.wac_graph.proofs.wiring.plug_in.Goals as goal
+
+pub returns-then-is_empty-clause-step : goal.returns-then-is_empty-clause-step
+returns-then-is_empty-clause-step c =
+    plugs-none (exports_of_package c.args.graph.now c.args.plug) (node_imports c.args.graph.now c.args.socket) c.args.plug c.args.socket c.args.graph.now c.args.pairs.now (sym c.is_empty.ensures ∙ c.if-is_empty.true)
+
+pub wire-requires-clause-plug : goal.wire-requires-clause-plug
+wire-requires-clause-plug c =
+    c.loop-i.invariant.kept.nodes c.in_ok-node.node (instance-keeps c.args.graph.now c.instantiate.new.self c.args.plug c.in_ok-node.node c.requires.plug c.in_ok-node.ensures).1
+
+pub wire-requires-clause-socket : goal.wire-requires-clause-socket
+wire-requires-clause-socket c =
+    c.loop-i.invariant.kept.nodes c.args.socket ((instance-keeps c.args.graph.now c.instantiate.new.self c.args.plug c.in_ok-node.node c.requires.plug c.in_ok-node.ensures).0.nodes c.args.socket c.requires.socket)
+
+pub wire-requires-clause-pair : goal.wire-requires-clause-pair
+wire-requires-clause-pair c =
+    let g = c.args.graph.now in
+    let exports = exports_of_package g c.args.plug in
+    let imports = node_imports g c.args.socket in
+    let ps = c.args.pairs.now in
+    let i = c.loop-i.i in
+    let p : Pair = get_or ps i (record { export = 0; import = 0 }) in
+    let pair : slice_get ps i ≡ Some p = slice_get-get_or ps i (record { export = 0; import = 0 }) c.loop-i-test.true in
+    let stands = pair-at g c.instantiate.new.self c.args.plug c.in_ok-node.node c.law.ensures c.requires.plug c.in_ok-node.ensures c.loop-i.graph c.args.socket ps i p c.requires.socket c.loop-i.invariant.kept c.requires.named c.requires.asked c.requires.within c.requires.fit pair in
+    (match_at exports imports p, stands)
+
+pub returns-in_err-wire-clause-step : goal.returns-in_err-wire-clause-step
+returns-in_err-wire-clause-step c =
+    let g = c.args.graph.now in
+    let exports = exports_of_package g c.args.plug in
+    let imports = node_imports g c.args.socket in
+    let ps = c.args.pairs.now in
+    let ms = matches_at exports imports ps in
+    let i = c.loop-i.i in
+    let p : Pair = get_or ps i (record { export = 0; import = 0 }) in
+    let pair : slice_get ps i ≡ Some p = slice_get-get_or ps i (record { export = 0; import = 0 }) c.loop-i-test.true in
+    let stands = pair-at g c.instantiate.new.self c.args.plug c.in_ok-node.node c.law.ensures c.requires.plug c.in_ok-node.ensures c.loop-i.graph c.args.socket ps i p c.requires.socket c.loop-i.invariant.kept c.requires.named c.requires.asked c.requires.within c.requires.fit pair in
+    let m = match_at exports imports p in
+    let e = (c.in_err-wire.field-0).0 in
+    subst (λ (r : Answer). PlugsIn c.args.plug c.args.socket g ms r c.wire.new.graph) (sym (exit-is c.from_residual-in_err-wire.result e c.from_residual-in_err-wire.ensures.1))
+    (plugs-in-some c.args.plug c.args.socket c.in_ok-node.node g c.instantiate.new.self c.wire.new.graph ms (Err e) (not-none exports imports ps (sym c.is_empty.ensures ∙ c.if-is_empty.false)) c.in_ok-node.ensures
+    (c.loop-i.invariant.wired (Err e) c.wire.new.graph (refused-at (Wires c.in_ok-node.node c.args.socket) ms i m c.loop-i.graph (match-there exports imports ps i p pair) e c.wire.new.graph (c.in_err-wire.ensures.step m stands))))
+
+pub loop-i-preserved : goal.loop-i-preserved
+loop-i-preserved c =
+    let g = c.args.graph.now in
+    let exports = exports_of_package g c.args.plug in
+    let imports = node_imports g c.args.socket in
+    let ps = c.args.pairs.now in
+    let ms = matches_at exports imports ps in
+    let i = c.loop-i.i in
+    let p : Pair = get_or ps i (record { export = 0; import = 0 }) in
+    let pair : slice_get ps i ≡ Some p = slice_get-get_or ps i (record { export = 0; import = 0 }) c.loop-i-test.true in
+    let stands = pair-at g c.instantiate.new.self c.args.plug c.in_ok-node.node c.law.ensures c.requires.plug c.in_ok-node.ensures c.loop-i.graph c.args.socket ps i p c.requires.socket c.loop-i.invariant.kept c.requires.named c.requires.asked c.requires.within c.requires.fit pair in
+    let m = match_at exports imports p in
+    record {
+      kept = keeps-trans c.instantiate.new.self c.loop-i.graph c.wire.new.graph c.loop-i.invariant.kept c.in_ok-wire.ensures.kept;
+      wired = λ answer new h. c.loop-i.invariant.wired answer new (one-more (Wires c.in_ok-node.node c.args.socket) ms i m c.loop-i.graph (match-there exports imports ps i p pair) c.wire.new.graph (c.in_ok-wire.ensures.step m stands) answer new h);
+    }
+
+pub returns-clause-step : goal.returns-clause-step
+returns-clause-step c =
+    let g = c.args.graph.now in
+    let exports = exports_of_package g c.args.plug in
+    let imports = node_imports g c.args.socket in
+    let ps = c.args.pairs.now in
+    let ms = matches_at exports imports ps in
+    let i = c.loop-i.i in
+    plugs-in-some c.args.plug c.args.socket c.in_ok-node.node g c.instantiate.new.self c.loop-i.graph ms (Ok tt) (not-none exports imports ps (sym c.is_empty.ensures ∙ c.if-is_empty.false)) c.in_ok-node.ensures
+    (c.loop-i.invariant.wired (Ok tt) c.loop-i.graph (all-made (Wires c.in_ok-node.node c.args.socket) ms i c.loop-i.graph (past exports imports ps i c.loop-i-test.false)))
+
+pub returns-clause-kept : goal.returns-clause-kept
+returns-clause-kept c =
+    keeps-trans c.args.graph.now c.instantiate.new.self c.loop-i.graph (instance-keeps c.args.graph.now c.instantiate.new.self c.args.plug c.in_ok-node.node c.requires.plug c.in_ok-node.ensures).0 c.loop-i.invariant.kept

@@ -1,0 +1,142 @@
+//! The call that plugs components together.
+ghost use Rattle.std.specs.Prelude.{◌≡◌, ◌⊎◌, ℕ, List, [], Some, IsSome, IfOk, IfErr, IfSome, slice_get, Ok, Err};
+ghost use Rattle.wac_nodes.specs.Graph.{package_at};
+ghost use Rattle.wac_nodes.specs.declared.errors.AliasError.{AliasError as AnAliasFault};
+ghost use Rattle.wac_nodes.specs.declared.errors.ExportError.{ExportError as AnExportFault};
+ghost use Rattle.wac_nodes.specs.declared.errors.InstantiationArgumentError.{InstantiationArgumentError as AFault};
+ghost use Rattle.wac_nodes.specs.declared.packages.PackageId.{PackageId as AnId};
+ghost use Rattle.wac_shapes.specs.Named.{NoNameTwice, names_of};
+ghost use Rattle.wac_graph.specs.Fitting.{IsNodeOf};
+ghost use Rattle.wac_graph.specs.Matching.{Match, AreMatchesOf, AreAllMatches, imports_of_package, exports_of_package};
+ghost use Rattle.wac_graph.specs.Naming.{PlugsNamed, PlugsAllNamed};
+ghost use Rattle.wac_graph.specs.Outcome.{IsMatchedTwice, IsAlreadyPassed, IsFirstRefused, IsExportRefused};
+ghost use Rattle.wac_graph.specs.Plugging.{InOrder, PlugsAll, PlugsIn, Keeps, has_any};
+ghost use Rattle.wac_graph.specs.Tracks.{AreFirsts};
+
+use crate::errors::{PlugError, PlugFault};
+use crate::matching::find_matches;
+use crate::wiring::{pass_on_all, plug_in};
+use wac_composition::CompositionGraph;
+use wac_nodes::{NodeId, PackageId, one_export_answer};
+use wac_types::Named;
+
+/// Finds the matches of a plug, and plugs it in by them. Answers whether there are any.
+fn plug_one(
+    graph: &mut CompositionGraph,
+    plug: PackageId,
+    socket: PackageId,
+    node: NodeId,
+    firsts: &mut Option<Named<usize>>,
+) -> Result<bool, PlugError>
+    requires plug { IsSome (package_at graph.old plug) }
+    requires socket { IsSome (package_at graph.old socket) }
+    requires node { IsNodeOf graph.old node socket }
+    requires firsts { IfSome firsts.old (AreFirsts (imports_of_package graph.old socket)) }
+    ensures firsts { IfSome firsts.new (AreFirsts (imports_of_package graph.old socket)) }
+    ensures plugged { IfOk result (λ has_match. Keeps graph.old graph.new × NoNameTwice (exports_of_package graph.old plug) × ((ms : List Match) × AreMatchesOf graph.old socket plug ms × PlugsIn plug node graph.old ms (Ok tt) graph.new × (has_match ≡ has_any ms))) }
+    ensures refused { IfErr result (λ e. PlugsNamed socket node graph.old plug (Err e) graph.new) }
+{
+    graph.law();
+    let exporting = graph[plug].ty();
+    let importing = graph[socket].ty();
+    let pairs = find_matches(graph.types(), exporting, importing, firsts)?;
+    plug_in(graph, plug, node, &pairs)?;
+    Ok(!pairs.is_empty())
+}
+
+/// Plugs in each plug that matches, in order. Answers whether one does.
+fn plug_each(
+    graph: &mut CompositionGraph,
+    plugs: &[PackageId],
+    socket: PackageId,
+    node: NodeId,
+    firsts: &mut Option<Named<usize>>,
+) -> Result<bool, PlugError>
+    requires plugs { (i : ℕ) (id : AnId) → slice_get plugs.now i ≡ Some id → IsSome (package_at graph.old id) }
+    requires socket { IsSome (package_at graph.old socket) }
+    requires node { IsNodeOf graph.old node socket }
+    requires firsts { IfSome firsts.old (AreFirsts (imports_of_package graph.old socket)) }
+    ensures plugged { IfOk result (λ has_match. InOrder (PlugsNamed socket node) graph.old plugs.now (Ok tt) graph.new × Keeps graph.old graph.new × ((ms : List Match) × AreAllMatches graph.old socket plugs.now ms × (has_match ≡ has_any ms))) }
+    ensures refused { IfErr result (λ e. InOrder (PlugsNamed socket node) graph.old plugs.now (Err e) graph.new) }
+{
+    let mut has_match = false;
+    for i in 0..plugs.len() {
+        let is_plugged = plug_one(graph, plugs[i], socket, node, firsts)?;
+        has_match = has_match || is_plugged;
+    }
+    Ok(has_match)
+}
+
+/// A package's world imports nothing under a name twice.
+fn imports_law(graph: &CompositionGraph, id: PackageId)
+    requires { IsSome (package_at graph.now id) }
+    ensures { NoNameTwice (imports_of_package graph.now id) }
+{
+    graph.law();
+    let world = graph[id].ty();
+    graph.types()[world].imports.law();
+}
+
+/// A package's world exports nothing under a name twice.
+fn exports_law(graph: &CompositionGraph, id: PackageId)
+    requires { IsSome (package_at graph.now id) }
+    ensures { NoNameTwice (exports_of_package graph.now id) }
+{
+    graph.law();
+    let world = graph[id].ty();
+    graph.types()[world].exports.law();
+}
+
+/// Plugs packages into a socket, as [`plug`] says.
+fn plug_all(
+    graph: &mut CompositionGraph,
+    plugs: &[PackageId],
+    socket: PackageId,
+) -> Result<(), PlugError>
+    requires plugs { (i : ℕ) (id : AnId) → slice_get plugs.now i ≡ Some id → IsSome (package_at graph.old id) }
+    requires socket { IsSome (package_at graph.old socket) }
+    ensures { PlugsAllNamed graph.old plugs.now socket result graph.new }
+{
+    graph.law();
+    imports_law(graph, socket);
+    let mut firsts = None;
+    let world = graph[socket].ty();
+    let node = graph.instantiate(socket)?;
+    let has_match = plug_each(graph, plugs, socket, node, &mut firsts)?;
+    if !has_match {
+        return Err(PlugError::NoPlugHappened);
+    }
+    pass_on_all(graph, world, node)
+}
+
+/// Plugs packages into a socket, a package too.
+///
+/// The socket is instantiated. Then for each plug in order each export of its world is matched, in order: with the
+/// socket's import of its name, or, where there is none, with the first on one track with it, where the export's kind is a
+/// subtype of the import's. A plug with a match is instantiated once, and each export that matches is aliased and set as the
+/// argument. At last each export of the socket's world is aliased and exported by its name, in order.
+///
+/// Answers `NoPlugHappened` where nothing matches, `GraphError` where an import is matched twice (`ArgumentAlreadyPassed`)
+/// or an export of the socket may not be exported (the error of `export`), and `OutOfMemory` where memory ran out. What the
+/// steps before a refusal made stays, and nothing else has changed.
+pub fn plug(
+    graph: &mut CompositionGraph,
+    plugs: Vec<PackageId>,
+    socket: PackageId,
+) -> Result<(), PlugError>
+    requires plugs { (i : ℕ) (id : AnId) → slice_get plugs.items i ≡ Some id → IsSome (package_at graph.old id) }
+    requires socket { IsSome (package_at graph.old socket) }
+    ensures step { PlugsAll graph.old plugs.items socket result graph.new }
+    ensures twice { (ms : List Match) → AreAllMatches graph.old socket plugs.items ms → IsMatchedTwice ms → IsAlreadyPassed result ⊎ (result ≡ Err PlugError.OutOfMemory) }
+    ensures only_twice { (e : AFault) → result ≡ Err (PlugError.GraphError (PlugFault.Argument e)) → IsAlreadyPassed result × ((ms : List Match) → AreAllMatches graph.old socket plugs.items ms → IsMatchedTwice ms) }
+    ensures no_alias { (e : AnAliasFault) → result ≡ Err (PlugError.GraphError (PlugFault.Alias e)) → ⊥ }
+    ensures refused { (e : AnExportFault) → IsFirstRefused graph.old (names_of (exports_of_package graph.old socket)) e → (ms : List Match) → AreAllMatches graph.old socket plugs.items ms → (ms ≡ [] → ⊥) → (IsMatchedTwice ms → ⊥) → IsExportRefused result ⊎ (result ≡ Err PlugError.OutOfMemory) }
+    ensures only_refused { (e : AnExportFault) → result ≡ Err (PlugError.GraphError (PlugFault.Export e)) → IsFirstRefused graph.old (names_of (exports_of_package graph.old socket)) e }
+    ensures nothing { AreAllMatches graph.old socket plugs.items [] → (result ≡ Err PlugError.NoPlugHappened) ⊎ (result ≡ Err PlugError.OutOfMemory) }
+    ensures only_nothing { result ≡ Err PlugError.NoPlugHappened → AreAllMatches graph.old socket plugs.items [] }
+{
+    graph.law();
+    one_export_answer();
+    exports_law(graph, socket);
+    plug_all(graph, &plugs, socket)
+}

@@ -1,0 +1,91 @@
+//! What plugging adds to a graph.
+ghost use Rattle.std.specs.Prelude.{◌≡◌, true, IsSome, OnOk};
+ghost use Rattle.wac_collection.specs.Collection.{holds_type, world_exports};
+ghost use Rattle.wac_shapes.specs.Named.{NoNameTwice, names_of};
+ghost use Rattle.wac_shapes.specs.declared.component.«Type».TheVariants.{World as world_type};
+ghost use Rattle.wac_nodes.specs.Graph.{node_at, package_at};
+ghost use Rattle.wac_graph.specs.Fitting.{AllFit, IsPair, node_imports};
+ghost use Rattle.wac_graph.specs.Matching.{Match, exports_of_package};
+ghost use Rattle.wac_graph.specs.Pairs.{matches_at, AreWithin};
+ghost use Rattle.wac_graph.specs.Plugging.{InOrder, Wires, PlugsIn, PassesOn, Keeps};
+
+use crate::errors::PlugError;
+use crate::matching::Pair;
+use wac_composition::{CompositionGraph, alias_export_at, set_argument_at};
+use wac_nodes::{NodeId, PackageId};
+use wac_types::WorldId;
+
+/// Gives the export of a plug's node to the socket's node, whose import it is known to fit: its alias becomes the argument.
+fn wire(
+    graph: &mut CompositionGraph,
+    plug: NodeId,
+    socket: NodeId,
+    pair: Pair,
+) -> Result<(), PlugError>
+    requires plug { IsSome (node_at graph.old plug) }
+    requires socket { IsSome (node_at graph.old socket) }
+    requires pair { (m : Match) × IsPair graph.old plug socket pair m }
+    ensures step { (m : Match) → IsPair graph.old plug socket pair m → Wires plug socket graph.old m result graph.new }
+    ensures kept { OnOk result (Keeps graph.old graph.new) }
+{
+    let alias = alias_export_at(graph, plug, pair.export)?;
+    graph.law();
+    set_argument_at(graph, socket, pair.import, alias)?;
+    Ok(())
+}
+
+/// Plugs in one plug by the matches of its world with that of the socket; without a match it is left out.
+pub fn plug_in(
+    graph: &mut CompositionGraph,
+    plug: PackageId,
+    socket: NodeId,
+    pairs: &[Pair],
+) -> Result<(), PlugError>
+    requires plug { IsSome (package_at graph.old plug) }
+    requires socket { IsSome (node_at graph.old socket) }
+    requires within { AreWithin (exports_of_package graph.old plug) (node_imports graph.old socket) pairs.now }
+    requires fit { AllFit graph.old plug socket (matches_at (exports_of_package graph.old plug) (node_imports graph.old socket) pairs.now) }
+    requires named { NoNameTwice (exports_of_package graph.old plug) }
+    requires asked { NoNameTwice (node_imports graph.old socket) }
+    ensures step { PlugsIn plug socket graph.old (matches_at (exports_of_package graph.old plug) (node_imports graph.old socket) pairs.now) result graph.new }
+    ensures kept { OnOk result (Keeps graph.old graph.new) }
+{
+    if pairs.is_empty() {
+        return Ok(());
+    }
+    graph.law();
+    let node = graph.instantiate(plug)?;
+    for i in 0..pairs.len() {
+        wire(graph, node, socket, pairs[i])?;
+    }
+    Ok(())
+}
+
+/// Exports the socket's export of this name by its name.
+fn pass_on(graph: &mut CompositionGraph, socket: NodeId, name: &str) -> Result<(), PlugError>
+    requires { IsSome (node_at graph.old socket) }
+    ensures step { PassesOn socket graph.old name.now result graph.new }
+    ensures kept { OnOk result (Keeps graph.old graph.new) }
+{
+    let alias = graph.alias_instance_export(socket, name)?;
+    graph.export(alias, name)?;
+    Ok(())
+}
+
+/// Exports each export of the socket, an instance of a package of this world, by its name, in order.
+pub fn pass_on_all(
+    graph: &mut CompositionGraph,
+    world: WorldId,
+    socket: NodeId,
+) -> Result<(), PlugError>
+    requires world { holds_type graph.old.types (world_type world) ≡ true }
+    requires socket { IsSome (node_at graph.old socket) }
+    ensures { InOrder (PassesOn socket) graph.old (names_of (world_exports graph.old.types world)) result graph.new }
+{
+    let alloc = graph.types().allocator();
+    for i in 0..graph.types()[world].exports.len() {
+        let name = String::from_str(alloc, graph.types()[world].exports.name_at(i))?;
+        pass_on(graph, socket, name.as_str())?;
+    }
+    Ok(())
+}

@@ -1,5 +1,0 @@
-use Rattle.wac_nodes.proofs.StaysLemmas.{interface-stays}
-use Rattle.wac_printing.proofs.compositions.empty_instance.Goals as goal
-
-pub returns : goal.returns
-returns c = interface-stays _ _ _ _ c.add_interface.ensures.added
