@@ -3,7 +3,7 @@
 use wac_shapes::{CoreRefType, CoreType};
 
 /// A table.
-#[derive(Clone, Copy, Debug, PartialEq, Eq)]
+#[derive(Clone, Copy, Debug)]
 pub struct TableType {
     /// The type of its elements.
     pub element_type: CoreRefType,
@@ -18,7 +18,7 @@ pub struct TableType {
 }
 
 /// A memory.
-#[derive(Clone, Copy, Debug, PartialEq, Eq)]
+#[derive(Clone, Copy, Debug)]
 pub struct MemoryType {
     /// How many pages it has at least.
     pub minimum: u64,
@@ -33,7 +33,7 @@ pub struct MemoryType {
 }
 
 /// A global.
-#[derive(Clone, Copy, Debug, PartialEq, Eq)]
+#[derive(Clone, Copy, Debug)]
 pub struct GlobalType {
     /// The type of its value.
     pub val_type: CoreType,
@@ -44,7 +44,7 @@ pub struct GlobalType {
 }
 
 /// What an import or export of a core module is.
-#[derive(Clone, Copy, Debug, PartialEq, Eq)]
+#[derive(Clone, Copy, Debug)]
 pub enum EntityType {
     /// A function of the function type with this index in the module type.
     Function(u32),

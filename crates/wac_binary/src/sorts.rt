@@ -22,7 +22,7 @@ pub enum Sort {
 }
 
 /// What an import of a component is, or an import or export in a component type or an instance type.
-#[derive(Clone, Copy, Debug, PartialEq, Eq)]
+#[derive(Clone, Copy, Debug)]
 pub enum Description {
     /// A core module of the core type with this index.
     CoreModule(u32),
@@ -39,7 +39,7 @@ pub enum Description {
 }
 
 /// The index spaces of a scope: one for each sort, and one for core types.
-#[derive(Clone, Copy, Debug, PartialEq, Eq)]
+#[derive(Clone, Copy, Debug)]
 pub enum IndexSpace {
     /// That of core modules.
     CoreModules,

@@ -1,22 +1,18 @@
 -- Items in the order of their names.
-use Rattle.std.proofs.Common.{Global, ◌≡◌, ℕ, zero, suc, ◌-◌, ◌<◌, if◌then◌else◌, List, [], ◌∷◌, length, map, drop, get_or, Vec, Some, Result, Ok, Err, IfOk, refl, ap, sym, ◌∙◌, subst, arith, false}
+use Rattle.std.proofs.Common.{◌≡◌, ℕ, zero, suc, ◌<◌, if◌then◌else◌, List, [], ◌∷◌, length, map, get_or, Some, refl, ap, ◌∙◌, subst}
 use Rattle.std.specs.Prelude.{slice_get, string_bytes}
 use Rattle.std.specs.List.{AllByRecursion}
 use Rattle.std.specs.List.Sorted.{IsStrictlySortedBy}
 use Rattle.std.specs.String.{string_cmp}
-use Rattle.std.specs.BTreeMap.{insert_entry}
 use Rattle.std.specs.Map.{keys_of}
 use Rattle.std.specs.Option.{option_map}
-use Rattle.std.specs.declared.alloc.AllocError.{AllocError}
 use Rattle.wac_shapes.specs.Name.{Name, same_name}
 use Rattle.wac_collection.specs.Tree.{TypeTree, absent, instance, component}
 use Rattle.wac_subtyping.specs.Called.{Called}
 use Rattle.wac_collection.specs.Collection.{Collection}
 use Rattle.wac_collection.specs.Held.{Names, items_under}
-use Rattle.wac_collection.specs.Held as held
 use Rattle.wac_shapes.specs.declared.component.«Type».{«Type» as AnyType}
 use Rattle.wac_shapes.specs.declared.component.ItemKind.{ItemKind}
-use Rattle.wac_shapes.proofs.Loops.{drop_at}
 use Rattle.wac_entries.specs.declared.nodes.Item.{Item as AnItem}
 use Rattle.wac_entries.specs.declared.scopes.Opener.{Opener}
 use Rattle.wac_entries.specs.Nodes.{Node, Item, of_instance, of_component, type_of, types_of, item_tree, tree_at}
@@ -26,7 +22,7 @@ use Rattle.wac_coding.specs.Coding.{tree_in, Fits}
 use Rattle.wac_coding.specs.ItemCoding.{HasItem, AreItems, Lists, listing_under, component_tree}
 use Rattle.wac_entries.proofs.TaskLemmas.{all_joined}
 use Rattle.wac_coding.specs.ModuleCoding.{look}
-use Rattle.wac_coding.proofs.CodingModules.{Text, look_insert, all_insert, sorted_names}
+use Rattle.wac_coding.proofs.CodingModules.{Text, sorted_names}
 
 pub as_many : (ns : List Node) (t : AnyType → TypeTree Called) (es : List (Name × ItemKind)) (xs : List AnItem) → AreItems ns t es xs → length es ≡ length xs
 as_many ns t [] [] h = refl
@@ -53,28 +49,6 @@ kind_there [] i nm is = cc
 kind_there (e ∷ es) zero nm is = let same : e.0 ≡ nm = cc in (e.1, ap (λ x. Some (x, e.1)) same)
 kind_there (e ∷ es) (suc i) nm is = kind_there es i nm is
 
-drop_next : {A : Type 0} (es : List A) (i : ℕ) (x : A) → 0 < i → slice_get es (i - 1) ≡ Some x → drop (i - 1) es ≡ x ∷ drop i es
-drop_next es i x some is = let e : suc (i - 1) ≡ i = omega arith in drop_at es (i - 1) x is ∙ ap (λ k. x ∷ drop k es) e
-
-pub items_next : (ns : List Node) (t : AnyType → TypeTree Called) (kinds : List (Name × ItemKind)) (xs : List AnItem) (i : ℕ) (nm : Name) (d : AnItem) (s : Text) (es more : List (Text × AnItem)) → 0 < i
-    → option_map (λ e. e.0) (slice_get kinds (i - 1)) ≡ Some nm → AreItems ns t kinds xs → string_bytes s ≡ nm → more ≡ insert_entry string_cmp es s (get_or xs (i - 1) d)
-    → ((n : Name) → look absent (item_seen ns) es n ≡ items_under (map (λ e. (e.0, held.item_tree t false e.1)) (drop i kinds)) n)
-    → (n : Name) → look absent (item_seen ns) more n ≡ items_under (map (λ e. (e.0, held.item_tree t false e.1)) (drop (i - 1) kinds)) n
-items_next ns t kinds xs i nm d s es more some named items text put under n =
-    let (k, is) = kind_there kinds (i - 1) nm named in
-    let seen = (item_there ns t kinds xs (i - 1) (nm, k) d is items).is in
-    let so = under n in
-    ap (λ l. look absent (item_seen ns) l n) put
-    ∙ (look_insert absent (item_seen ns) es s (get_or xs (i - 1) d) n
-    ∙ ((λ j. if same_name n (text j) then seen j else so j)
-    ∙ ap (λ l. items_under (map {B = Name × TypeTree Called} (λ e. (e.0, held.item_tree t false e.1)) l) n) (sym (drop_next kinds i (nm, k) some is))))
-
-pub low_next : (ns : List Node) (t : AnyType → TypeTree Called) (kinds : List (Name × ItemKind)) (xs : List AnItem) (i : ℕ) (nm : Name) (d : AnItem) (s : Text) (es more : List (Text × AnItem))
-    → option_map (λ e. e.0) (slice_get kinds (i - 1)) ≡ Some nm → AreItems ns t kinds xs → more ≡ insert_entry string_cmp es s (get_or xs (i - 1) d) → AllByRecursion (λ e. IsLow ns e.1) es → AllByRecursion (λ e. IsLow ns e.1) more
-low_next ns t kinds xs i nm d s es more named items put low =
-    let (k, is) = kind_there kinds (i - 1) nm named in
-    subst (λ l. AllByRecursion (λ e. IsLow ns e.1) l) (sym put) (all_insert (IsLow ns) es s (get_or xs (i - 1) d) (item_there ns t kinds xs (i - 1) (nm, k) d is items).there low)
-
 listed_look : (ns : List Node) (es : List (Text × AnItem)) (n : Name) → items_under (map (λ e. (e.0, item_tree (tree_at ns) e.1)) (listed es)) n ≡ look absent (item_seen ns) es n
 listed_look ns [] n = refl
 listed_look ns (e ∷ es) n = ap (λ t. if same_name n (string_bytes e.0) then item_seen ns e.1 else t) (listed_look ns es n)
@@ -83,14 +57,9 @@ all_low : (ns : List Node) (es : List (Text × AnItem)) → AllByRecursion (λ e
 all_low ns [] h = tt
 all_low ns (e ∷ es) h = (h.0, all_low ns es h.1)
 
-lists : (ns : List Node) (t : AnyType → TypeTree Called) (kinds : List (Name × ItemKind)) (es : List (Text × AnItem)) → IsStrictlySortedBy string_cmp (keys_of es) → AllByRecursion (λ e. IsLow ns e.1) es
+pub lists : (ns : List Node) (t : AnyType → TypeTree Called) (kinds : List (Name × ItemKind)) (es : List (Text × AnItem)) → IsStrictlySortedBy string_cmp (keys_of es) → AllByRecursion (λ e. IsLow ns e.1) es
     → ((n : Name) → look absent (item_seen ns) es n ≡ listing_under t kinds n) → Lists ns t kinds (listed es)
 lists ns t kinds es sorted low under = record { lower = all_low ns es low; sorted = sorted_names item_view es sorted; under = λ n. listed_look ns es n ∙ under n }
-
-pub lists_in_order : (ns : List Node) (t : AnyType → TypeTree Called) (kinds : List (Name × ItemKind)) (es : List (Text × AnItem)) (r : Result (Vec (Text × AnItem) Global) AllocError) → IfOk r (λ v. v.items ≡ es) → IsStrictlySortedBy string_cmp (keys_of es)
-    → AllByRecursion (λ e. IsLow ns e.1) es → ((n : Name) → look absent (item_seen ns) es n ≡ listing_under t kinds n) → IfOk r (λ v. Lists ns t kinds (listed v.items))
-lists_in_order ns t kinds es (Ok v) is sorted low under = subst (λ l. Lists ns t kinds (listed l)) (sym is) (lists ns t kinds es sorted low under)
-lists_in_order ns t kinds es (Err e) is sorted low under = is
 
 pub fits_instance : (ns : List Node) (t : AnyType → TypeTree Called) (kinds : List (Name × ItemKind)) (es : List (Name × Item)) → Lists ns t kinds es → Fits ns (instance (listing_under t kinds)) (of_instance es)
 fits_instance ns t kinds es l = let same = l.under in record { lower = l.lower; sorted = l.sorted; is = λ j. instance (λ n. same n j) }

@@ -36,11 +36,11 @@ abbrev pub Text : Type 0
 Text = String Global
 
 -- ---- names
-name_itself : (n : Name) → same_name n n ≡ true
+pub name_itself : (n : Name) → same_name n n ≡ true
 name_itself [] = refl
 name_itself (x ∷ xs) = ap (λ t. if t then same_name xs xs else false) (eq-eqb x x refl) ∙ name_itself xs
 
-same_is : (a b : Name) → same_name a b ≡ true → a ≡ b
+pub same_is : (a b : Name) → same_name a b ≡ true → a ≡ b
 same_is [] [] e = refl
 same_is [] (y ∷ ys) e = cc
 same_is (x ∷ xs) [] e = cc

@@ -7,5 +7,6 @@ pub mod CodingLoops
 pub mod CodingTasks
 pub mod CodingModules
 pub mod CodingListing
+pub mod SortedEntries
 pub mod Opened
 pub mod OpenedItems

@@ -13,7 +13,7 @@ use wac_entries::bindings::Bindings;
 use wac_entries::bound::Bound;
 use wac_entries::called::Called;
 use wac_entries::entry::Entry;
-use wac_entries::naming::{called, called_outside};
+use wac_entries::naming::{BoundScopes, called, called_outside};
 use wac_entries::outward::Outward;
 use wac_entries::scopes::{Opener, Scope, Scopes};
 
@@ -51,18 +51,17 @@ impl<'a> Calls<'a> {
         ensures { IfOk result (λ x. names_in types.now self.now (resolved types.now resource) ≡ Some (called_view x)) }
     {
         match self.scope {
-            Some(scope) => called(
-                alloc,
-                types,
-                self.scopes,
-                self.bound,
-                self.outward,
-                self.bindings,
-                self.class,
-                self.kind,
-                scope,
-                resource,
-            ),
+            Some(scope) => {
+                let around = BoundScopes {
+                    scopes: self.scopes,
+                    bound: self.bound,
+                    outward: self.outward,
+                };
+                let (bindings, class, kind) = (self.bindings, self.class, self.kind);
+                called(
+                    alloc, types, &around, bindings, class, kind, scope, resource,
+                )
+            }
             None => called_outside(alloc, types, self.bindings, self.class, resource),
         }
     }

@@ -9,10 +9,8 @@ ghost use Rattle.wac_coding.specs.Coding.{source_tree, IsGrown, HasTree};
 ghost use Rattle.wac_coding.specs.ItemCoding.{AreItems, Lists, listing_under, component_tree};
 
 use crate::coder::{Source, add};
-use crate::modules::{in_order, put};
 use std::alloc::AllocError;
-use std::collections::BTreeMap;
-use wac_collection::{ItemKind, Named, WorldId};
+use wac_collection::{ItemKind, Named, Types, WorldId};
 use wac_entries::nodes::{Item, Node, Nodes};
 use wac_entries::scopes::Opener;
 
@@ -27,14 +25,14 @@ fn entries(
     ensures { IfOk result (λ v. Lists nodes.now (source_tree source.now) kinds.now (listed v.items)) }
 {
     let _ = nodes;
-    let mut map = BTreeMap::new(source.alloc);
-    let mut i = kinds.len();
-    while i > 0 {
-        i -= 1;
+    kinds.law();
+    let mut entries = Vec::with_capacity(source.alloc, kinds.len())?;
+    for i in 0..kinds.len() {
         let name = String::from_str(source.alloc, kinds.name_at(i))?;
-        put(&mut map, name, items[i])?;
+        entries.push((name, items[i]))?;
     }
-    in_order(source.alloc, map)
+    entries.sort_unstable_by(|a, b| a.0.cmp(&b.0));
+    Ok(entries)
 }
 
 /// The number of the instance that lists these items under their names.
@@ -52,6 +50,18 @@ fn listing(
     add(nodes, Node::Instance(exports))
 }
 
+/// What is listed in a scope.
+pub fn listed_kinds(types: &Types, opener: Opener) -> &Named<ItemKind>
+    requires { holds_type types.now (opener_type opener) ≡ true }
+    ensures { result.now ≡ listed_in types.now opener }
+{
+    match opener {
+        Opener::Interface(id) => &types[id].exports,
+        Opener::Imports(id) => &types[id].imports,
+        Opener::Exports(id) => &types[id].exports,
+    }
+}
+
 /// The number of the instance that is listed in a scope, given what each of its items is listed as.
 pub fn scope_instance(
     nodes: &mut Nodes,
@@ -64,11 +74,7 @@ pub fn scope_instance(
     ensures grown { IsGrown nodes.old nodes.new }
     ensures number { IfOk result (λ n. HasTree nodes.new (scope_tree source.now.types.now (names_in source.now.types.now source.now.calls.now) opener) n) }
 {
-    match opener {
-        Opener::Interface(id) => listing(nodes, source, &source.types[id].exports, items),
-        Opener::Imports(id) => listing(nodes, source, &source.types[id].imports, items),
-        Opener::Exports(id) => listing(nodes, source, &source.types[id].exports, items),
-    }
+    listing(nodes, source, listed_kinds(source.types, opener), items)
 }
 
 /// The number of the component of a world, given what is listed on each of its sides.

@@ -15,7 +15,7 @@ ghost use Rattle.wac_entries.specs.Scopes.{listed_in, opened, opened_by};
 ghost use Rattle.wac_entries.specs.declared.scopes.Scope.{Scope as AScope};
 
 use crate::coder::Source;
-use crate::listing::{component, scope_instance};
+use crate::listing::{component, listed_kinds, scope_instance};
 use crate::memo::Memo;
 use std::alloc::{AllocError, Global};
 use wac_collection::{ItemKind, Named, Type};
@@ -123,14 +123,8 @@ fn listing_at(
     source.types.law();
     let calls = source.calls.at(position);
     let inside = source.with(&calls);
-    let types = source.types;
-    match calls.scopes.scope(position).opener {
-        Opener::Interface(id) => {
-            listed_items(memo, nodes, &inside, &types[id].exports, listings)
-        }
-        Opener::Imports(id) => listed_items(memo, nodes, &inside, &types[id].imports, listings),
-        Opener::Exports(id) => listed_items(memo, nodes, &inside, &types[id].exports, listings),
-    }
+    let kinds = listed_kinds(source.types, calls.scopes.scope(position).opener);
+    listed_items(memo, nodes, &inside, kinds, listings)
 }
 
 /// So many listings of nothing.

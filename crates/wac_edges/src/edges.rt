@@ -21,7 +21,7 @@ use std::marker::Model;
 use wac_cycles::cycles::{add_step, empty_sets, lowest_on_cycle};
 
 /// What an edge says.
-#[derive(Clone, Copy, Debug, PartialEq, Eq)]
+#[derive(Clone, Copy, PartialEq, Eq)]
 pub enum Label {
     /// From an instance to the alias of its export at this position.
     Alias(usize),
@@ -32,7 +32,7 @@ pub enum Label {
 }
 
 /// An edge.
-#[derive(Clone, Copy, Debug, PartialEq, Eq)]
+#[derive(Clone, Copy, PartialEq, Eq)]
 pub struct Edge {
     /// The node that it leads from.
     pub source: NodeId,
@@ -56,7 +56,7 @@ impl Edge {
 }
 
 /// An end of edges as their nodes see it.
-#[derive(Clone, Copy, Debug, PartialEq, Eq)]
+#[derive(Clone, Copy)]
 pub enum End {
     /// The edges that lead from a node.
     Outgoing,

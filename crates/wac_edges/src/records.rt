@@ -16,14 +16,14 @@ use std::alloc::AllocError;
 pub(crate) const MOST: usize = 1 << 32;
 
 /// The keys of the records before and after one in a list.
-#[derive(Clone, Copy, Debug)]
+#[derive(Clone, Copy)]
 pub(crate) struct Links {
     pub(crate) previous: Option<u32>,
     pub(crate) next: Option<u32>,
 }
 
 /// An edge with its place among the edges out of its source and among those into its target.
-#[derive(Clone, Copy, Debug)]
+#[derive(Clone, Copy)]
 pub(crate) struct Record {
     pub(crate) edge: Edge,
     pub(crate) out: Links,
@@ -68,7 +68,7 @@ impl Record {
 }
 
 /// The keys of the first of the edges out of a node and of the first of those into it.
-#[derive(Clone, Copy, Debug)]
+#[derive(Clone, Copy)]
 pub(crate) struct Firsts {
     pub(crate) out: Option<u32>,
     pub(crate) into: Option<u32>,

@@ -81,30 +81,39 @@ fn past_scopes(
     }
 }
 
+/// The scopes of an item, what each binds, and the next one on the way out of each.
+#[derive(Clone, Copy)]
+pub struct BoundScopes<'a> {
+    /// The scopes.
+    pub scopes: &'a Scopes,
+    /// What each binds.
+    pub bound: &'a [Bound],
+    /// The next one on the way out of each.
+    pub outward: &'a [Option<Outward>],
+}
+
 /// What a resource is called in a scope.
 pub fn called(
     alloc: Global,
     types: &Types,
-    scopes: &Scopes,
-    bound: &[Bound],
-    outward: &[Option<Outward>],
+    around: &BoundScopes,
     bindings: &Bindings,
     class: usize,
     kind: ItemKind,
     scope: usize,
     resource: ResourceId,
 ) -> Result<Called, AllocError>
-    requires scopes { AreScopes types.now (opened_by kind) scopes.now }
-    requires bound { AreBound types.now scopes.now bound.now }
-    requires outward { AreOutward scopes.now bound.now outward.now }
-    requires within { scope < length scopes.now }
+    requires scopes { AreScopes types.now (opened_by kind) around.now.scopes.now }
+    requires bound { AreBound types.now around.now.scopes.now around.now.bound.now }
+    requires outward { AreOutward around.now.scopes.now around.now.bound.now around.now.outward.now }
+    requires within { scope < length around.now.scopes.now }
     requires held { HasResource types.now resource }
     ensures { IfOk result (λ x. (es : List classes.Entry) (name : Name) → AreBindings types.now es bindings.now → slice_get (class_names by_names es) class ≡ Some name
-        → called_in types.now (called_in_root by_names types.now es name kind) scopes.now scope (resolved types.now resource) ≡ Some (called_view x)) }
+        → called_in types.now (called_in_root by_names types.now es name kind) around.now.scopes.now scope (resolved types.now resource) ≡ Some (called_view x)) }
 {
     types.law();
     let resource = types.resolve_resource(resource);
-    let _ = scopes;
+    let (bound, outward) = (around.bound, around.outward);
     let mut position = scope;
     let mut out = 0;
     'walk: loop {

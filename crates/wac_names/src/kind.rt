@@ -11,7 +11,7 @@ use semver::Version;
 use std::alloc::{AllocError, Global};
 
 /// What a component name is, with its pieces as they stand in its text.
-#[derive(Clone, Copy, Debug, PartialEq, Eq)]
+#[derive(Clone, Copy, Debug)]
 pub enum ComponentNameKind<'a> {
     /// A label, as `read-file`.
     Label(&'a str),
@@ -42,14 +42,14 @@ pub enum ComponentNameKind<'a> {
 }
 
 /// A package: two lower-case labels, as `wasi:io`.
-#[derive(Clone, Copy, Debug, PartialEq, Eq)]
+#[derive(Clone, Copy, Debug)]
 pub struct PackageName<'a> {
     pub(crate) namespace: &'a str,
     pub(crate) name: &'a str,
 }
 
 /// An interface of a package, with or without a version.
-#[derive(Clone, Copy, Debug, PartialEq, Eq)]
+#[derive(Clone, Copy, Debug)]
 pub struct InterfaceName<'a> {
     pub(crate) package: PackageName<'a>,
     pub(crate) interface: &'a str,
@@ -57,7 +57,7 @@ pub struct InterfaceName<'a> {
 }
 
 /// A range of versions, its bounds as texts.
-#[derive(Clone, Copy, Debug, PartialEq, Eq)]
+#[derive(Clone, Copy, Debug)]
 pub enum VersionRange<'a> {
     /// `*`
     Any,
@@ -75,7 +75,7 @@ pub enum VersionRange<'a> {
 }
 
 /// A package that a component depends on.
-#[derive(Clone, Copy, Debug, PartialEq, Eq)]
+#[derive(Clone, Copy, Debug)]
 pub enum DependencyName<'a> {
     /// A package in a range of versions.
     Unlocked {
@@ -96,14 +96,14 @@ pub enum DependencyName<'a> {
 }
 
 /// Where a component lies, perhaps with its hash.
-#[derive(Clone, Copy, Debug, PartialEq, Eq)]
+#[derive(Clone, Copy, Debug)]
 pub struct UrlName<'a> {
     pub(crate) url: &'a str,
     pub(crate) integrity: Option<&'a str>,
 }
 
 /// The hash of a component.
-#[derive(Clone, Copy, Debug, PartialEq, Eq)]
+#[derive(Clone, Copy, Debug)]
 pub struct HashName<'a> {
     pub(crate) text: &'a str,
 }

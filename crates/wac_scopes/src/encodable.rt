@@ -20,7 +20,7 @@ use wac_builder::{
 };
 
 /// What is being written in a scope: a component, or a type that is open.
-#[derive(Debug, Drop)]
+#[derive(Drop)]
 pub enum Encodable {
     /// A component, item by item: the root.
     Builder(ComponentBuilder),

@@ -1,12 +1,14 @@
 //! Subtyping between items of two collections.
-ghost use Rattle.std.specs.Prelude.{◌≡◌, ◌+◌, true, Err, IfOk};
+ghost use Rattle.std.specs.Prelude.{◌≡◌, ◌+◌, true, false, Err, IfOk};
+ghost use Rattle.wac_comparison.specs.Questions.{first_of_pair, second_of_pair, IsAskableQuestion, IsYes};
+ghost use Rattle.wac_comparison.specs.Settling.{RestsOn};
 ghost use Rattle.wac_collection.specs.Collection.{holds_type};
 ghost use Rattle.wac_shapes.specs.Kinds.{kind_type};
 ghost use Rattle.wac_subtyping.specs.Subtype.{IsSubtype};
 
 use crate::answers::answer;
 use wac_collection::{ItemKind, Types};
-use wac_comparison::{Asked, Comparison, TypeFault};
+use wac_comparison::{Asked, Comparison, Question, TypeFault};
 
 /// Compares items of two collections.
 #[derive(Clone, Copy, Debug)]
@@ -43,18 +45,28 @@ impl SubtypeChecker {
         let mut next = 0;
         while next < asked.questions.len() {
             let question = asked.questions.as_slice()[next];
-            if question.turned {
-                answer(
-                    comparison.turned(),
-                    &mut asked,
-                    question.first,
-                    question.second,
-                )?;
-            } else {
-                answer(comparison, &mut asked, question.first, question.second)?;
-            }
+            answer_question(comparison, &mut asked, question)?;
             next += 1;
         }
         Ok(())
     }
+}
+
+/// Asks what the answer to a question rests on, which says of which collection its first type is.
+fn answer_question(
+    comparison: Comparison<'_>,
+    asked: &mut Asked,
+    question: Question,
+) -> Result<(), TypeFault>
+    requires ahead { comparison.turned ≡ false }
+    requires askable { IsAskableQuestion (comparison.first.now, comparison.second.now) question }
+    ensures settled { IfOk result (λ _. RestsOn question.turned (first_of_pair question.turned (comparison.entry.first.now, comparison.entry.second.now)) (second_of_pair question.turned (comparison.entry.first.now, comparison.entry.second.now)) question.first question.second asked.old asked.new (IsYes (comparison.entry.first.now, comparison.entry.second.now) question)) }
+    ensures mismatch { result ≡ Err TypeFault.Mismatch → IsYes (comparison.entry.first.now, comparison.entry.second.now) question → ⊥ }
+{
+    let comparison = if question.turned {
+        comparison.turned()
+    } else {
+        comparison
+    };
+    answer(comparison, asked, question.first, question.second)
 }

@@ -19,12 +19,12 @@ own_name-requires c =
 pub returns-in-Some : goal.returns-in-Some
 returns-in-Some c = λ es name are at.
     let t = c.args.types.now in
-    let ss = c.args.scopes.now in
+    let ss = c.args.around.now.scopes.now in
     let n = c.walk.position in
     let r : ResourceId = c.resolve_resource-resource.result in
     let within : n < length ss = omega (arith, c.walk.invariant.near, c.requires.within) in
     let s = some-at ss n within in
-    let h : binds t s.0.opener r ≡ Some (place_view c.in-Some.place.now) = bound-at t ss c.args.bound.now c.requires.bound n s.0 c.index-bound-position.result r s.1 c.index-bound-position.is ∙ sym c.in-Some.ensures in
+    let h : binds t s.0.opener r ≡ Some (place_view c.in-Some.place.now) = bound-at t ss c.args.around.now.bound.now c.requires.bound n s.0 c.index-bound-position.result r s.1 c.index-bound-position.is ∙ sym c.in-Some.ensures in
     let walked = walk-bound t r c.args.kind ss c.requires.scopes c.args.scope c.walk.out n s.0 s.1 c.walk.invariant es name (side_view c.in-Some.place.now.side) (path_view c.in-Some.place.now.path.items) h in
     let path : path_view c.in_ok-path.path.items ≡ path_view c.in-Some.place.now.path.items = c.in_ok-path.ensures ∙ ap path_view c.as_slice.ensures.value in
     ap (λ q. called_in t (called_in_root by_names t es name c.args.kind) ss c.args.scope q) (sym c.resolve_resource-resource.ensures.end)
@@ -37,16 +37,16 @@ past_scopes-requires-clause-held c =
 pub returns-in_default-outward : goal.returns-in_default-outward
 returns-in_default-outward c =
     let t = c.args.types.now in
-    let ss = c.args.scopes.now in
-    let ws = c.args.outward.now in
+    let ss = c.args.around.now.scopes.now in
+    let ws = c.args.around.now.outward.now in
     let n : ℕ = c.walk.position in
     let r : ResourceId = c.resolve_resource-resource.result in
     let within : n < length ss = omega (arith, c.walk.invariant.near, c.requires.within) in
     let (s, at) = some-at ss n within in
-    let none : binds t s.opener r ≡ None = bound-at t ss c.args.bound.now c.requires.bound n s c.index-bound-position.result r at c.index-bound-position.is ∙ sym c.in_default.ensures in
+    let none : binds t s.opener r ≡ None = bound-at t ss c.args.around.now.bound.now c.requires.bound n s c.index-bound-position.result r at c.index-bound-position.is ∙ sym c.in_default.ensures in
     let way : get_or ws n None ≡ None = c.in_default-outward.is in
     let known : n < length ws = omega (arith, within, c.requires.outward.counted) in
-    let alone = ends ss c.args.bound.now s.parent None (c.requires.outward.ways n s None at (read-at ws n None known ∙ ap (λ (o : Option Outward). Some o) way)) refl in
+    let alone = ends ss c.args.around.now.bound.now s.parent None (c.requires.outward.ways n s None at (read-at ws n None known ∙ ap (λ (o : Option Outward). Some o) way)) refl in
     if-ok c.past_scopes.result
     (λ x is es name are class.
     let walked = walk-past t r c.args.kind ss c.requires.scopes c.args.scope c.walk.out n s at c.walk.invariant es name alone none in
@@ -57,8 +57,8 @@ returns-in_default-outward c =
 pub overflow_add-out : goal.overflow_add-out
 overflow_add-out c =
     let t = c.args.types.now in
-    let ss = c.args.scopes.now in
-    let ws = c.args.outward.now in
+    let ss = c.args.around.now.scopes.now in
+    let ws = c.args.around.now.outward.now in
     let n : ℕ = c.walk.position in
     let next : Outward = c.in-Some-outward.next in
     let within : n < length ss = omega (arith, c.walk.invariant.near, c.requires.within) in
@@ -66,15 +66,15 @@ overflow_add-out c =
     let way : get_or ws n None ≡ Some next = c.in-Some-outward.is in
     let known : n < length ws = omega (arith, within, c.requires.outward.counted) in
     let leads = c.requires.outward.ways n s (Some next) at (read-at ws n None known ∙ ap (λ (o : Option Outward). Some o) way) in
-    let near = near-out ss c.args.bound.now c.requires.scopes.around s.parent (Some next) leads next refl in
+    let near = near-out ss c.args.around.now.bound.now c.requires.scopes.around s.parent (Some next) leads next refl in
     let below = behind-below n s.parent (c.requires.scopes.around n s at) in
     omega (arith, near.near, below, c.walk.invariant.near, c.requires.within, c.ranges.scope.fits)
 
 pub walk-smaller : goal.walk-smaller
 walk-smaller c =
     let t = c.args.types.now in
-    let ss = c.args.scopes.now in
-    let ws = c.args.outward.now in
+    let ss = c.args.around.now.scopes.now in
+    let ws = c.args.around.now.outward.now in
     let n : ℕ = c.walk.position in
     let r : ResourceId = c.resolve_resource-resource.result in
     let next : Outward = c.in-Some-outward.next in
@@ -83,20 +83,20 @@ walk-smaller c =
     let way : get_or ws n None ≡ Some next = c.in-Some-outward.is in
     let known : n < length ws = omega (arith, within, c.requires.outward.counted) in
     let leads = c.requires.outward.ways n s (Some next) at (read-at ws n None known ∙ ap (λ (o : Option Outward). Some o) way) in
-    walk-nearer t r c.args.kind ss c.requires.scopes c.args.scope c.walk.out n s at c.walk.invariant c.args.bound.now next leads
+    walk-nearer t r c.args.kind ss c.requires.scopes c.args.scope c.walk.out n s at c.walk.invariant c.args.around.now.bound.now next leads
 
 pub walk-preserved : goal.walk-preserved
 walk-preserved c =
     let t = c.args.types.now in
-    let ss = c.args.scopes.now in
-    let ws = c.args.outward.now in
+    let ss = c.args.around.now.scopes.now in
+    let ws = c.args.around.now.outward.now in
     let n : ℕ = c.walk.position in
     let r : ResourceId = c.resolve_resource-resource.result in
     let next : Outward = c.in-Some-outward.next in
     let within : n < length ss = omega (arith, c.walk.invariant.near, c.requires.within) in
     let (s, at) = some-at ss n within in
-    let none : binds t s.opener r ≡ None = bound-at t ss c.args.bound.now c.requires.bound n s c.index-bound-position.result r at c.index-bound-position.is ∙ sym c.in_default.ensures in
+    let none : binds t s.opener r ≡ None = bound-at t ss c.args.around.now.bound.now c.requires.bound n s c.index-bound-position.result r at c.index-bound-position.is ∙ sym c.in_default.ensures in
     let way : get_or ws n None ≡ Some next = c.in-Some-outward.is in
     let known : n < length ws = omega (arith, within, c.requires.outward.counted) in
     let leads = c.requires.outward.ways n s (Some next) at (read-at ws n None known ∙ ap (λ (o : Option Outward). Some o) way) in
-    walk-out t r c.args.kind ss c.requires.scopes c.args.scope c.walk.out n s at c.walk.invariant c.args.bound.now next c.requires.bound leads none
+    walk-out t r c.args.kind ss c.requires.scopes c.args.scope c.walk.out n s at c.walk.invariant c.args.around.now.bound.now next c.requires.bound leads none
