@@ -2,7 +2,7 @@
 use crate::tables::Row::{Component, Enumeration, Func, Instance, Module, TypeOf, Using, Value};
 use crate::tables::Step::{Define, Import, Instantiate, Register, Set};
 use crate::tables::Want::{Fault, Parts, Text};
-use crate::tables::{Case, Row, Step, assert_answers};
+use crate::tables::{Case, Row, Step, Want, assert_answers};
 use wac_scopes::WriteFault;
 
 // A function, a value, an instance that lists the type of a core module, and an instance of the empty interface.
