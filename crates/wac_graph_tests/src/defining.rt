@@ -406,10 +406,28 @@ fn interfaces_with_handles_inside_are_not_defined_yet(rt: HostRuntime) {
 }
 
 #[test]
-fn definitions_of_worlds_are_not_written(rt: HostRuntime) {
+fn worlds_are_defined(rt: HostRuntime) {
     let mut graph = CompositionGraph::new(rt.alloc());
-    let world = World::new(rt.alloc(), Some("n:p/w"), &[], &[]).expect(&rt, "a world");
-    let world = graph.add_world(world).expect(&rt, "its id");
-    define(&rt, &mut graph, "w", Type::World(world));
+    let f = function(&rt, rt.alloc(), &mut graph);
+    let world = World::new(rt.alloc(), Some("n:p/w"), &[("f", f)], &[("run", f)]);
+    let world = graph.add_world(world.expect(&rt, "a world"));
+    let world = world.expect(&rt, "its id");
+    define(&rt, &mut graph, "t", Type::World(world));
+    assert_written(
+        &rt,
+        &graph,
+        "0723014102014103014000010003000166010004000372756e01000400056e3a702f7704000b0701000174030000",
+    );
+}
+
+#[test]
+fn worlds_of_handles_are_not_defined_yet(rt: HostRuntime) {
+    let mut graph = CompositionGraph::new(rt.alloc());
+    let handle = ValueType::Own(resource(&rt, &mut graph));
+    let f = ItemKind::Func(function_type(&rt, &mut graph, &[("x", handle)], None));
+    let world = World::new(rt.alloc(), Some("n:p/w"), &[], &[("run", f)]);
+    let world = graph.add_world(world.expect(&rt, "a world"));
+    let world = world.expect(&rt, "its id");
+    define(&rt, &mut graph, "t", Type::World(world));
     assert_not_yet(&rt, &graph);
 }
