@@ -1,7 +1,8 @@
 // Definitions of types.
 use crate::parts::encode;
 use crate::tables::Row::{
-    Alias, Bool, Enumeration, Func, Instance, List, Optional, Own, Pair, Record, Resource, World,
+    Alias, Bool, Component, Enumeration, Func, Instance, List, Optional, Own, Pair, Record,
+    Resource,
 };
 use crate::tables::Step::{
     Define, Export, Exported, Import, Instantiate, Kept, Nodes, Register, Remove, Undefined,
@@ -209,10 +210,27 @@ pub const DEFINED: &[Case] = &[
         steps: &[Define("d", 4)],
         want: Text(NOT_YET),
     },
-    // Nor is a world.
+    // A world is written as a component type that exports a component of it under its id.
     Case {
-        rows: &[World("n:p/w")],
-        steps: &[Define("w", 0)],
+        rows: &[
+            Func(&[], None),
+            Component(Some("n:p/w"), &[("f", 0)], &[("run", 0)]),
+        ],
+        steps: &[Define("t", 1)],
+        want: Parts(&[
+            "0723014102014103014000010003000166010004000372756e01000400056e3a702f770400",
+            "0b0701000174030000",
+        ]),
+    },
+    // With a handle inside it is not written yet.
+    Case {
+        rows: &[
+            Resource,
+            Own(0),
+            Func(&[("x", 1)], None),
+            Component(Some("n:p/w"), &[], &[("run", 2)]),
+        ],
+        steps: &[Define("t", 3)],
         want: Text(NOT_YET),
     },
 ];

@@ -58,8 +58,6 @@ pub enum Row {
     Component(Option<&'static str>, &'static [Item], &'static [Item]),
     // An empty core module.
     Module,
-    // The type of an empty world of this id.
-    World(&'static str),
     // The type of an item.
     TypeOf(usize),
 }
@@ -186,7 +184,6 @@ impl Made {
             Row::Instance(id, items) => self.instance(rt, alloc, id, items),
             Row::Component(id, imports, exports) => self.component(rt, alloc, id, imports, exports),
             Row::Module => self.module(rt, alloc),
-            Row::World(id) => self.world(rt, alloc, id),
             Row::TypeOf(of) => ItemKind::TypeItem(self.kind(rt, of).ty()),
             row => {
                 let definition = self.definition(rt, alloc, row);
@@ -231,11 +228,6 @@ impl Made {
     fn new_resource(&mut self, rt: &impl Abort, alloc: Global) -> ItemKind {
         let resource = Resource::new(alloc, "r").expect(rt, "a resource");
         ItemKind::TypeItem(Type::Resource(self.graph.add_resource(resource).expect(rt, "its id")))
-    }
-
-    fn world(&mut self, rt: &impl Abort, alloc: Global, id: &str) -> ItemKind {
-        let world = World::new(alloc, Some(id), &[], &[]).expect(rt, "a world");
-        ItemKind::TypeItem(Type::World(self.graph.add_world(world).expect(rt, "its id")))
     }
 
     fn params(

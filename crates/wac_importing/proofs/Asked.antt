@@ -19,7 +19,7 @@ use Rattle.wac_subtyping.specs.Subtype.{Sub, IsPlain, IsSubtype, type_tree, kind
 use Rattle.wac_subtyping.proofs.Relation.{plain_sub}
 use Rattle.wac_entries.specs.Bindings.{AreHeld}
 use Rattle.wac_entries.specs.Classes.{Entry, by_names, same_class, members, names_of_classes, class_names, ClassLaws}
-use Rattle.wac_terms.specs.Merge.{Merged, IsMerge, IsListed, with_names, names_behind, export_list, export_lists}
+use Rattle.wac_terms.specs.Merge.{Merged, IsMerge, with_names, names_behind, export_list, export_lists}
 use Rattle.wac_meaning.specs.Importable.{HasNoHandle, IsPlainItem, IsPlainWhereThere, IsImportable, IsImportableKind}
 use Rattle.wac_meaning.proofs.AskedMembers.{IsIn, in_filter}
 use Rattle.wac_meaning.proofs.MergeLemmas.{OrderHasClasses, canonical_in}

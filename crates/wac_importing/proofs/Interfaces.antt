@@ -9,7 +9,7 @@ use Rattle.wac_shapes.specs.declared.component.ItemKind.{ItemKind}
 use Rattle.wac_shapes.specs.declared.component.ItemKind.TheVariants as kind
 use Rattle.wac_shapes.specs.declared.component.«Type».TheVariants as ty
 use Rattle.wac_collection.specs.Tree.{Leaf, Tree, absent, imported, exported, component, instance_item}
-use Rattle.wac_collection.specs.Collection.{Collection, IsWellFormed, item_at, interface_exports}
+use Rattle.wac_collection.specs.Collection.{Collection, IsWellFormed, item_at}
 use Rattle.wac_collection.specs.Held.{items_under}
 use Rattle.wac_collection.specs.Bound.{Bindings, first_bound, held_tree}
 use Rattle.wac_scopes.specs.declared.fault.WriteFault.{WriteFault}
@@ -57,7 +57,7 @@ module _ (c : Collection) (wf : IsWellFormed c) (i : InterfaceId) where
 abbrev with_reached : Collection → InterfaceId → List InterfaceId → Tree
 with_reached c i is = component (items_under (cut_imports c (first_bound c [] imported (as_imports c is)) (as_imports c is))) (items_under (listed c (first_bound c [] imported (as_imports c is)) exported (under_id c i)))
 
-none_reached : (c : Collection) (k : ℕ) → reached_to k c [] ≡ []
+pub none_reached : (c : Collection) (k : ℕ) → reached_to k c [] ≡ []
 none_reached c zero = refl
 none_reached c (suc k) = refl
 

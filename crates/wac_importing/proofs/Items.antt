@@ -3,7 +3,6 @@ use Rattle.std.proofs.Common.{◌≡◌, ℕ, zero, suc, Bool, true, false, cond
 use Rattle.std.specs.Prelude.{slice_get}
 use Rattle.wac_shapes.specs.Name.{Name, same_name, find_name, option_case}
 use Rattle.wac_shapes.specs.Named.{NoNameTwice}
-use Rattle.wac_shapes.specs.Kinds.{kind_type}
 use Rattle.wac_shapes.proofs.Names.{same_name-true, same_name-refl, found_at}
 use Rattle.wac_shapes.specs.declared.component.FuncType.{FuncType}
 use Rattle.wac_shapes.specs.declared.component.FuncTypeId.{FuncTypeId}
@@ -14,11 +13,13 @@ use Rattle.wac_shapes.specs.declared.component.ItemKind.TheVariants as kind
 use Rattle.wac_shapes.specs.declared.component.ModuleTypeId.{ModuleTypeId}
 use Rattle.wac_shapes.specs.declared.core_types.ModuleType.{ModuleType}
 use Rattle.wac_shapes.specs.declared.component.ValueType.{ValueType}
+use Rattle.wac_shapes.specs.declared.component.World.{World}
+use Rattle.wac_shapes.specs.declared.component.WorldId.{WorldId}
 use Rattle.wac_shapes.specs.declared.component.«Type».{«Type» as AnyType}
 use Rattle.wac_shapes.specs.declared.component.«Type».TheVariants as ty
 use Rattle.wac_collection.specs.declared.collection.Held.{Held}
 use Rattle.wac_collection.specs.Tree.{TypeTree, absent, resource, instance, type_equal, instance_item, module_item}
-use Rattle.wac_collection.specs.Collection.{Collection, IsWellFormed, AddedBefore, size, holds_type, item_at, item_of, interface_exports}
+use Rattle.wac_collection.specs.Collection.{Collection, IsWellFormed, AddedBefore, size, holds_type, item_at, item_of, interface_exports, world_imports, world_exports}
 use Rattle.wac_collection.specs.Held.{resolved, func_tree, interface_tree, module_tree, of_held, unfolded}
 use Rattle.wac_subtyping.specs.Subtype.{IsPlain, by_name, resource_names, type_tree, kind_tree, listed_in}
 use Rattle.wac_subtyping.proofs.Unfolding.{type_before, unfolded_step, type_step, held_item}
@@ -88,6 +89,19 @@ importable_instance c wf i it held at once h = there_all c it.exports once (subs
 pub interface_there : (c : Collection) → IsWellFormed c → (i : InterfaceId) → holds_type c (ty.Interface i) ≡ true → (it : Interface) × (item_at c.interfaces i.0 ≡ Some it)
 interface_there c wf i held = by (slice_get c.interfaces i.0) refl (type_before c wf (ty.Interface i) held) where
   by : (o : Option (Held Interface)) → slice_get c.interfaces i.0 ≡ o → AddedBefore (size c) o → (it : Interface) × (item_at c.interfaces i.0 ≡ Some it)
+  by None is b = absurd b
+  by (Some h) is b = (h.item, ap item_of is)
+
+-- what a world lists
+pub imports_are : (c : Collection) (w : WorldId) (x : World) → item_at c.worlds w.0 ≡ Some x → world_imports c w ≡ x.imports
+imports_are c w x at = ap (λ o. option_case o [] (λ (y : World). y.imports)) at
+
+pub world_exports_are : (c : Collection) (w : WorldId) (x : World) → item_at c.worlds w.0 ≡ Some x → world_exports c w ≡ x.exports
+world_exports_are c w x at = ap (λ o. option_case o [] (λ (y : World). y.exports)) at
+
+pub world_there : (c : Collection) → IsWellFormed c → (w : WorldId) → holds_type c (ty.World w) ≡ true → (x : World) × (item_at c.worlds w.0 ≡ Some x)
+world_there c wf w held = by (slice_get c.worlds w.0) refl (type_before c wf (ty.World w) held) where
+  by : (o : Option (Held World)) → slice_get c.worlds w.0 ≡ o → AddedBefore (size c) o → (x : World) × (item_at c.worlds w.0 ≡ Some x)
   by None is b = absurd b
   by (Some h) is b = (h.item, ap item_of is)
 
@@ -161,14 +175,14 @@ type_not_importable c wf (ty.Interface i) held other apart h = apart i refl
 type_not_importable c wf (ty.World w) held other apart h = held_none TypeImportable (λ h. h) _ (λ x h. h) (slice_get c.worlds w.0) (subst TypeImportable (type_step c wf (ty.World w) held) h)
 type_not_importable c wf (ty.Module m) held other apart h = held_none TypeImportable (λ h. h) _ (λ x h. h) (slice_get c.modules m.0) (subst TypeImportable (type_step c wf (ty.Module m) held) h)
 
--- nor is one of another sort defined so far, interfaces aside
-pub type_not_definable : (c : Collection) → IsWellFormed c → (a : AnyType) → holds_type c a ≡ true → (IsOfValues a → ⊥) → ((i : InterfaceId) → a ≡ ty.Interface i → ⊥) → IsDefinableKind c (kind.TypeItem a) → ⊥
-type_not_definable c wf (ty.Value v) held other apart h = other tt
-type_not_definable c wf (ty.Resource r) held other apart h = named_none TypeDefinable (λ h. h) (λ n h. h) (resource_names c (resolved c r)) (subst TypeDefinable (type_step c wf (ty.Resource r) held) h)
-type_not_definable c wf (ty.Func f) held other apart h = other tt
-type_not_definable c wf (ty.Interface i) held other apart h = apart i refl
-type_not_definable c wf (ty.World w) held other apart h = held_none TypeDefinable (λ h. h) _ (λ x h. h) (slice_get c.worlds w.0) (subst TypeDefinable (type_step c wf (ty.World w) held) h)
-type_not_definable c wf (ty.Module m) held other apart h = held_none TypeDefinable (λ h. h) _ (λ x h. h) (slice_get c.modules m.0) (subst TypeDefinable (type_step c wf (ty.Module m) held) h)
+-- nor is one of another sort defined so far, interfaces and worlds aside
+pub type_not_definable : (c : Collection) → IsWellFormed c → (a : AnyType) → holds_type c a ≡ true → (IsOfValues a → ⊥) → ((i : InterfaceId) → a ≡ ty.Interface i → ⊥) → ((w : WorldId) → a ≡ ty.World w → ⊥) → IsDefinableKind c (kind.TypeItem a) → ⊥
+type_not_definable c wf (ty.Value v) held other apart away h = other tt
+type_not_definable c wf (ty.Resource r) held other apart away h = named_none TypeDefinable (λ h. h) (λ n h. h) (resource_names c (resolved c r)) (subst TypeDefinable (type_step c wf (ty.Resource r) held) h)
+type_not_definable c wf (ty.Func f) held other apart away h = other tt
+type_not_definable c wf (ty.Interface i) held other apart away h = apart i refl
+type_not_definable c wf (ty.World w) held other apart away h = away w refl
+type_not_definable c wf (ty.Module m) held other apart away h = held_none TypeDefinable (λ h. h) _ (λ x h. h) (slice_get c.modules m.0) (subst TypeDefinable (type_step c wf (ty.Module m) held) h)
 
 -- a value type without handles is plain as a type item
 pub value_plain : (c : Collection) → IsWellFormed c → (a : AnyType) (v : ValueType) → a ≡ ty.Value v → holds_type c a ≡ true → HasNoHandle (type_tree c a) → IsPlainItem (kind_tree c (kind.TypeItem a))

@@ -9,3 +9,5 @@ pub mod Asked
 pub mod ModuleImports
 pub mod Interfaces
 pub mod Defining
+pub mod Worlds
+pub mod WorldTrees

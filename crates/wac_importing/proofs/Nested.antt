@@ -1,5 +1,5 @@
 -- What is inside of interfaces that list plain items.
-use Rattle.std.proofs.Common.{◌≡◌, ℕ, zero, suc, ◌<◌, true, List, [], ◌∷◌, refl, ap, ◌∙◌, sym, subst, arith, Option, Some, None}
+use Rattle.std.proofs.Common.{◌≡◌, ℕ, zero, suc, true, List, [], refl, ap, ◌∙◌, sym, subst, arith, Option, Some, None}
 use Rattle.std.specs.Prelude.{slice_get}
 use Rattle.wac_shapes.specs.Name.{Name, option_case}
 use Rattle.wac_shapes.specs.Named.{NoNameTwice}
@@ -8,6 +8,8 @@ use Rattle.wac_shapes.specs.declared.component.Interface.{Interface}
 use Rattle.wac_shapes.specs.declared.component.InterfaceId.{InterfaceId}
 use Rattle.wac_shapes.specs.declared.component.ItemKind.{ItemKind}
 use Rattle.wac_shapes.specs.declared.component.ItemKind.TheVariants as kind
+use Rattle.wac_shapes.specs.declared.component.World.{World}
+use Rattle.wac_shapes.specs.declared.component.WorldId.{WorldId}
 use Rattle.wac_shapes.specs.declared.component.«Type».{«Type» as AnyType}
 use Rattle.wac_shapes.specs.declared.component.«Type».TheVariants as ty
 use Rattle.wac_collection.specs.declared.collection.Held.{Held}
@@ -19,8 +21,9 @@ use Rattle.wac_encode.specs.Inside.{IsInsideBy, IsInside, AreInside, IsHeldInter
 use Rattle.wac_encode.proofs.Inside.{inside-further, inside-held}
 use Rattle.wac_encode.proofs.Plain.{held-items, listed-before}
 use Rattle.wac_meaning.specs.Importable.{IsPlainItem, IsPlainTo, IsImportableKind}
-use Rattle.wac_importing.specs.Looked.{IsPlainAlone, ArePlain, ArePlainAlone, ListsPlainAlone, ListPlainAlone, ArePlainInside, ListsPlain}
-use Rattle.wac_importing.proofs.Items.{interface_there, exports_are, instance_importable, interface_importable, importable_instance, importable_interface, module_importable, plain_importable, func_importable}
+use Rattle.wac_importing.specs.Looked.{IsPlainAlone, ArePlain, ListsPlainAlone, ListPlainAlone, ArePlainInside, IsPlainDeep, HasPlainItems, ListsPlain}
+use Rattle.wac_importing.proofs.Items.{interface_there, exports_are, instance_importable, interface_importable, importable_instance, importable_interface, module_importable, plain_importable, func_importable, imports_are, world_exports_are}
+use Rattle.wac_worlds.proofs.Whole.{held-imports, held-exports}
 
 -- an item, where what is inside of it is plain too
 of_item : (c : Collection) (k : ItemKind) → IsPlainAlone c k → ((l : InterfaceId) → k ≡ kind.Instance l → IsPlainItem (kind_tree c (kind.Instance l))) → IsPlainItem (kind_tree c k)
@@ -109,6 +112,10 @@ module _ (c : Collection) (wf : IsWellFormed c) where
     pub inside_to : holds_type c (ty.Interface i) ≡ true → (k : ℕ) (e : Name × ItemKind) → slice_get (interface_exports c i) k ≡ Some e → (d : ℕ) × IsPlainTo d c e.1
     inside_to held k e here = (size c, held_to (size c) i (0, refl) (type_before c wf (ty.Interface i) held) k e here)
 
+  -- an instance, to the depth of what the collection holds
+  pub instance_to : (i : InterfaceId) → ArePlainInside c i → holds_type c (ty.Interface i) ≡ true → IsPlainTo (suc (size c)) c (kind.Instance i)
+  instance_to i all held k e here = held_to i all (size c) i (0, refl) (type_before c wf (ty.Interface i) held) k e here
+
   pub inside_plain : (i : InterfaceId) → holds_type c (ty.Interface i) ≡ true → ArePlainInside c i → ArePlain c (interface_exports c i)
   inside_plain i held all = inside_plain_all i all held
 
@@ -158,6 +165,49 @@ pub type_inside : (c : Collection) → IsWellFormed c → (i : InterfaceId) (ts 
 type_inside c wf i ts a held so =
     let (it, found) = interface_there c wf i held in
     plain_inside c wf i ts a (subst (ArePlain c) (sym (exports_are c i it found)) (importable_interface c wf i it held found (subst NoNameTwice (exports_are c i it found) (a.once i (a.all i (0, refl)))) so))
+
+-- an item that is plain to any depth, and what a world lists
+pub deep_plain : (c : Collection) → IsWellFormed c → (k : ItemKind) → holds_type c (kind_type k) ≡ true → IsPlainDeep c k → IsPlainItem (kind_tree c k)
+deep_plain c wf (kind.Instance i) held all =
+    let (it, at) = interface_there c wf i held in
+    instance_importable c wf i it held at (subst (ArePlain c) (exports_are c i it at) (inside_plain c wf i held all))
+deep_plain c wf (kind.TypeItem a) held h = h
+deep_plain c wf (kind.Func f) held h = h
+deep_plain c wf (kind.Component w) held h = h
+deep_plain c wf (kind.Module m) held h = h
+deep_plain c wf (kind.Value v) held h = h
+
+pub deep_of_alone : (c : Collection) (k : ItemKind) → ((i : InterfaceId) → k ≡ kind.Instance i → ⊥) → IsPlainAlone c k → IsPlainDeep c k
+deep_of_alone c (kind.Instance i) other h = absurd (other i refl)
+deep_of_alone c (kind.TypeItem a) other h = h
+deep_of_alone c (kind.Func f) other h = h
+deep_of_alone c (kind.Component w) other h = h
+deep_of_alone c (kind.Module m) other h = h
+deep_of_alone c (kind.Value v) other h = h
+
+-- to a depth
+pub deep_to : (c : Collection) → IsWellFormed c → (k : ItemKind) → holds_type c (kind_type k) ≡ true → IsPlainDeep c k → (d : ℕ) × IsPlainTo d c k
+deep_to c wf (kind.Instance i) held all = (suc (size c), instance_to c wf i all held)
+deep_to c wf (kind.TypeItem a) held h = (0, h)
+deep_to c wf (kind.Func f) held h = (0, h)
+deep_to c wf (kind.Component w) held h = (0, h)
+deep_to c wf (kind.Module m) held h = (0, h)
+deep_to c wf (kind.Value v) held h = (0, h)
+
+pub to_deep : (c : Collection) (d : ℕ) (k : ItemKind) → IsPlainTo d c k → IsPlainDeep c k
+to_deep c zero (kind.Instance i) h = absurd h
+to_deep c (suc d) (kind.Instance i) h = to_inside c i (λ k e here. (d, h k e here))
+to_deep c d (kind.TypeItem a) h = deep_of_alone c (kind.TypeItem a) (λ i e. cc) (to_alone c d (kind.TypeItem a) h)
+to_deep c d (kind.Func f) h = deep_of_alone c (kind.Func f) (λ i e. cc) (to_alone c d (kind.Func f) h)
+to_deep c d (kind.Component w) h = deep_of_alone c (kind.Component w) (λ i e. cc) (to_alone c d (kind.Component w) h)
+to_deep c d (kind.Module m) h = deep_of_alone c (kind.Module m) (λ i e. cc) (to_alone c d (kind.Module m) h)
+to_deep c d (kind.Value v) h = deep_of_alone c (kind.Value v) (λ i e. cc) (to_alone c d (kind.Value v) h)
+
+pub sides_plain : (c : Collection) → IsWellFormed c → (w : WorldId) (x : World) → holds_type c (ty.World w) ≡ true → item_at c.worlds w.0 ≡ Some x → HasPlainItems c w → ArePlain c x.imports × ArePlain c x.exports
+sides_plain c wf w x held at h = (
+  (λ k e here. deep_plain c wf e.1 (held-imports c wf w x at k e here) (h.0 k e (ap (λ (es : List (Name × ItemKind)). slice_get es k) (imports_are c w x at) ∙ here))),
+  (λ k e here. deep_plain c wf e.1 (held-exports c wf w x at k e here) (h.1 k e (ap (λ (es : List (Name × ItemKind)). slice_get es k) (world_exports_are c w x at) ∙ here))),
+)
 
 -- what lists plain items is imported so far
 pub lists_importable : (c : Collection) → IsWellFormed c → (k : ItemKind) → holds_type c (kind_type k) ≡ true → ListsPlain c k → IsImportableKind c k

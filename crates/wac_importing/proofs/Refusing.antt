@@ -1,5 +1,5 @@
 -- What lists plain items is neither none nor a fault to the writer of imports.
-use Rattle.std.proofs.Common.{◌≡◌, ◌<◌, ℕ, zero, suc, ◌++◌, length, true, List, [], ◌∷◌, refl, ap, ◌∙◌, sym, subst, arith, Option, Some, None}
+use Rattle.std.proofs.Common.{◌≡◌, ◌<◌, ℕ, zero, suc, ◌++◌, length, Bool, true, ◌&&◌, List, [], ◌∷◌, refl, ap, ◌∙◌, sym, subst, arith, Some, Err, ◌⊎◌, inl, inr}
 use Rattle.std.specs.Prelude.{slice_get}
 use Rattle.std.proofs.lemmas.Option.{slice_get_within}
 use Rattle.std.proofs.lemmas.List.Sorted.{IsPermutation-sym}
@@ -10,8 +10,12 @@ use Rattle.wac_shapes.specs.declared.component.InterfaceId.{InterfaceId}
 use Rattle.wac_shapes.specs.declared.component.ItemKind.{ItemKind}
 use Rattle.wac_shapes.specs.declared.component.ItemKind.TheVariants as kind
 use Rattle.wac_shapes.specs.declared.component.ModuleTypeId.{ModuleTypeId}
+use Rattle.wac_shapes.specs.declared.component.UsedType.{UsedType}
+use Rattle.wac_shapes.specs.declared.component.World.{World}
+use Rattle.wac_shapes.specs.declared.component.WorldId.{WorldId}
 use Rattle.wac_shapes.specs.declared.component.«Type».{«Type» as AnyType}
 use Rattle.wac_shapes.specs.declared.component.«Type».TheVariants as ty
+use Rattle.wac_collection.specs.Tree.{Side, imported, exported}
 use Rattle.wac_collection.specs.Collection.{Collection, IsWellFormed, IsBefore, holds_type, item_at, interface_exports, kind_types, used_types}
 use Rattle.wac_subtyping.specs.Subtype.{type_tree, kind_tree}
 use Rattle.wac_subtyping.proofs.Unfolding.{all_right, before_held, held_item}
@@ -27,9 +31,13 @@ use Rattle.wac_encode.proofs.Ordered.{stands-there}
 use Rattle.wac_encode.proofs.Inside.{all-plain}
 use Rattle.wac_encode.proofs.Plain.{each-plain}
 use Rattle.wac_meaning.specs.Importable.{IsPlainItem}
-use Rattle.wac_importing.specs.Looked.{IsOfValues, IsPlainAlone, ArePlainInside, ListsPlain}
+use Rattle.wac_worlds.specs.Declaring.{is_declarable, are_declarable, declared_order, IsItemFault, IsStopped}
+use Rattle.wac_worlds.specs.Worlds.{uses_nothing, is_plain_world, IsStoppedBehind, IsWorldRefused}
+use Rattle.wac_worlds.proofs.Ordered.{in-order}
+use Rattle.wac_worlds.proofs.Whole.{plain-of, held-imports, held-exports}
+use Rattle.wac_importing.specs.Looked.{IsOfValues, IsPlainAlone, ArePlainInside, IsPlainDeep, ArePlainDeep, HasPlainItems, ListsPlain}
 use Rattle.wac_importing.proofs.Handles.{plain_free, value_needs_none, func_needs_none}
-use Rattle.wac_importing.proofs.Items.{type_not_plain}
+use Rattle.wac_importing.proofs.Items.{type_not_plain, imports_are, world_exports_are}
 use Rattle.wac_importing.proofs.Nested.{listed_held, inside_of}
 
 module _ (c : Collection) (wf : IsWellFormed c) where
@@ -112,6 +120,56 @@ module _ (c : Collection) (wf : IsWellFormed c) where
       let listed : slice_get (interface_exports c i) j ≡ Some e = ap (λ (es : List (Name × ItemKind)). slice_get es j) exported ∙ there in
       item_fault h.stopped.item (exports_held i h.interface h.found j e there) (all i (0, refl) j e listed) (IsRefusedTo d c) h.stopped.scope f
       (λ l is_instance s' refused. instance_fault l (λ k within. all k (inside_of c i l j h.stopped.name (listed ∙ ap (λ (y : ItemKind). Some (h.stopped.name, y)) is_instance) within.0 k within.1)) s' f d refused) h.stopped.refused
+
+  -- a world of plain items is written, and no fault stands at it
+  item_declarable : (k : ItemKind) → holds_type c (kind_type k) ≡ true → IsPlainDeep c k → is_declarable c k ≡ true
+  item_declarable (kind.Instance i) held plain = lists i held plain
+  item_declarable (kind.TypeItem (ty.Value v)) held plain = refl
+  item_declarable (kind.TypeItem (ty.Resource r)) held plain = of_value (ty.Resource r) _ held plain (λ of. of)
+  item_declarable (kind.TypeItem (ty.Func f)) held plain = refl
+  item_declarable (kind.TypeItem (ty.Interface i)) held plain = of_value (ty.Interface i) _ held plain (λ of. of)
+  item_declarable (kind.TypeItem (ty.World w)) held plain = of_value (ty.World w) _ held plain (λ of. of)
+  item_declarable (kind.TypeItem (ty.Module m)) held plain = refl
+  item_declarable (kind.Func f) held plain = refl
+  item_declarable (kind.Component w) held plain = refl
+  item_declarable (kind.Module m) held plain = refl
+  item_declarable (kind.Value v) held plain = refl
+
+  all_declarable : (es : List (Name × ItemKind)) → ((k : ℕ) (e : Name × ItemKind) → slice_get es k ≡ Some e → is_declarable c e.1 ≡ true) → are_declarable c es ≡ true
+  all_declarable [] each = refl
+  all_declarable (x ∷ es) each = ap (λ (b : Bool). b && are_declarable c es) (each 0 x refl) ∙ all_declarable es (λ k e at. each (suc k) e at)
+
+  pub world_written : (w : WorldId) (x : World) → item_at c.worlds w.0 ≡ Some x → x.uses ≡ [] → HasPlainItems c w → is_plain_world c w ≡ true
+  world_written w x at none all =
+      let ins = all_declarable x.imports (λ k e here. item_declarable e.1 (held-imports c wf w x at k e here) (all.0 k e (ap (λ (es : List (Name × ItemKind)). slice_get es k) (imports_are c w x at) ∙ here))) in
+      let outs = all_declarable x.exports (λ k e here. item_declarable e.1 (held-exports c wf w x at k e here) (all.1 k e (ap (λ (es : List (Name × ItemKind)). slice_get es k) (world_exports_are c w x at) ∙ here))) in
+      plain-of c w x at ∙ (ap (λ (us : List (Name × UsedType)). uses_nothing us && (are_declarable c x.imports && are_declarable c x.exports)) none ∙ (ap (λ (b : Bool). b && are_declarable c x.exports) ins ∙ outs))
+
+  deep_fault : (k : ItemKind) → holds_type c (kind_type k) ≡ true → IsPlainDeep c k → (s : Scope) (f : WriteFault) → IsItemFault c k s f → ⊥
+  deep_fault (kind.Instance i) held plain s f h = instance_fault i plain h.0 f h.2.0 h.2.1
+  deep_fault (kind.TypeItem (ty.Value v)) held plain s f h = value_needs_none c wf v held (plain_free (type_tree c (ty.Value v)) plain) h.1
+  deep_fault (kind.TypeItem (ty.Resource r)) held plain s f h = of_value (ty.Resource r) _ held plain (λ of. of)
+  deep_fault (kind.TypeItem (ty.Func g)) held plain s f h = func_needs_none c wf g held (plain_free (type_tree c (ty.Func g)) plain) h.1
+  deep_fault (kind.TypeItem (ty.Interface i)) held plain s f h = of_value (ty.Interface i) _ held plain (λ of. of)
+  deep_fault (kind.TypeItem (ty.World w)) held plain s f h = of_value (ty.World w) _ held plain (λ of. of)
+  deep_fault (kind.TypeItem (ty.Module m)) held plain s f h = of_value (ty.Module m) _ held plain (λ of. of)
+  deep_fault (kind.Func g) held plain s f h = func_needs_none c wf g held plain h.1
+  deep_fault (kind.Component w) held plain s f h = absurd plain
+  deep_fault (kind.Module m) held plain s f h = absurd plain
+  deep_fault (kind.Value v) held plain s f h = absurd plain
+
+  none_stops : (side : Side) (start : Scope) (es : List (Name × ItemKind)) (f : WriteFault) → ((k : ℕ) (e : Name × ItemKind) → slice_get es k ≡ Some e → holds_type c (kind_type e.1) ≡ true) → ArePlainDeep c es → IsStopped c side start (declared_order es) (fault.Write f) → ⊥
+  none_stops side start es f held plain h =
+      let e : Name × ItemKind = (h.name, h.item) in
+      let (k, at) = in_split h.before e h.after in
+      let (j, there) = stands-there (declared_order es) es (IsPermutation-sym es (declared_order es) (in-order es)) k e (ap (λ xs. slice_get xs k) h.split ∙ at) in
+      deep_fault h.item (held j e there) (plain j e there) h.scope f h.refused
+
+  pub world_no_fault : (A : Type 0) (w : WorldId) → HasPlainItems c w → (f : WriteFault) → IsWorldRefused {A = A} c w (Err (fault.Write f)) → ⊥
+  world_no_fault A w all f h = by h.stopped where
+    by : IsStopped c imported h.start (declared_order h.world.imports) (fault.Write f) ⊎ IsStoppedBehind c h.start h.world (fault.Write f) → ⊥
+    by (inl s) = none_stops imported h.start h.world.imports f (held-imports c wf w h.world h.found) (subst (ArePlainDeep c) (imports_are c w h.world h.found) all.0) s
+    by (inr b) = none_stops exported b.between h.world.exports f (held-exports c wf w h.world h.found) (subst (ArePlainDeep c) (world_exports_are c w h.world h.found) all.1) b.stopped
 
   pub no_fault : (k : ItemKind) → holds_type c (kind_type k) ≡ true → ListsPlain c k → (f : WriteFault) → IsImportFault c k f → ⊥
   no_fault (kind.Instance i) held plain f h = instance_fault i plain h.0 f h.1.0 h.1.1

@@ -5,13 +5,14 @@ use Rattle.wac_shapes.specs.declared.component.InterfaceId.{InterfaceId}
 use Rattle.wac_shapes.specs.declared.component.ItemKind.{ItemKind}
 use Rattle.wac_shapes.specs.declared.component.ItemKind.TheVariants as kind
 use Rattle.wac_shapes.specs.declared.component.ResourceId.{ResourceId}
+use Rattle.wac_shapes.specs.declared.component.WorldId.{WorldId}
 use Rattle.wac_shapes.specs.declared.component.«Type».{«Type» as AnyType}
 use Rattle.wac_shapes.specs.declared.component.«Type».TheVariants as ty
-use Rattle.wac_collection.specs.Collection.{Collection, interface_exports}
+use Rattle.wac_collection.specs.Collection.{Collection, interface_exports, world_imports, world_exports}
 use Rattle.wac_reach.specs.Reach.{IsIn}
 use Rattle.wac_subtyping.specs.Subtype.{type_tree, kind_tree}
 use Rattle.wac_encode.specs.Inside.{IsInside}
-use Rattle.wac_meaning.specs.Importable.{HasNoHandle, IsPlainItem, IsImportableKind}
+use Rattle.wac_meaning.specs.Importable.{HasNoHandle, IsPlainItem, IsImportableKind, UsesNothing}
 
 -- a value type or a function type
 abbrev pub IsOfValues : AnyType → Type 0
@@ -46,6 +47,22 @@ ArePlainInside c i = (j : InterfaceId) → IsInside c i j → ArePlainAlone c (i
 -- listed items are all plain
 abbrev pub ArePlain : Collection → List (Name × ItemKind) → Type 0
 ArePlain c es = (i : ℕ) (e : Name × ItemKind) → slice_get es i ≡ Some e → IsPlainItem (kind_tree c e.1)
+
+-- an item is plain, to any depth
+abbrev pub IsPlainDeep : Collection → ItemKind → Type 0
+IsPlainDeep c (kind.Instance i) = ArePlainInside c i
+IsPlainDeep c k = IsPlainItem (kind_tree c k)
+
+abbrev pub ArePlainDeep : Collection → List (Name × ItemKind) → Type 0
+ArePlainDeep c es = (i : ℕ) (e : Name × ItemKind) → slice_get es i ≡ Some e → IsPlainDeep c e.1
+
+-- and so are the items of a world
+abbrev pub HasPlainItems : Collection → WorldId → Type 0
+HasPlainItems c w = ArePlainDeep c (world_imports c w) × ArePlainDeep c (world_exports c w)
+
+-- no item is an instance of an interface that uses another
+abbrev pub UseNothing : Collection → List (Name × ItemKind) → Type 0
+UseNothing c es = (i : ℕ) (e : Name × ItemKind) → slice_get es i ≡ Some e → UsesNothing c e.1
 
 -- an item is plain, an instance that lists plain ones to any depth or its type, the type of a function without a resource in it, or a core module
 abbrev pub ListsPlain : Collection → ItemKind → Type 0

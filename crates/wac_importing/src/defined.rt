@@ -2,6 +2,8 @@
 
 ghost use Rattle.std.specs.Prelude.{◌≡◌, true, IfOk, OnOk};
 ghost use Rattle.wac_shapes.specs.declared.component.ItemKind.TheVariants as kind;
+ghost use Rattle.wac_shapes.specs.declared.component.WorldId.{WorldId as AnyWorld};
+ghost use Rattle.wac_shapes.specs.declared.component.«Type».TheVariants as sort;
 ghost use Rattle.wac_collection.specs.Collection.{holds_type};
 ghost use Rattle.wac_meaning.specs.Definition.{definition_tree};
 ghost use Rattle.wac_meaning.specs.Importable.{IsDefinableKind};
@@ -10,7 +12,8 @@ ghost use Rattle.wac_scopes.specs.Rooted.{IsRightRoot};
 ghost use Rattle.wac_importing.specs.Defined.{DefinesType};
 
 use wac_binary::BinaryFault;
-use wac_collection::{Type, Types};
+use wac_collection::{Type, Types, WorldId};
+use wac_components::ComponentEncoder;
 use wac_root::RootEncoder;
 use wac_scopes::{EncodeFault, Scope};
 
@@ -26,6 +29,43 @@ pub fn write_definition(
 ) -> Result<u32, BinaryFault>
     requires held { holds_type types.now ty ≡ true }
     requires definable { IsDefinableKind types.now (kind.TypeItem ty) }
+    requires right { IsRightRoot types.now root.old }
+    ensures written { IfOk result (DefinesType (definition_tree types.now ty) name.now (items_of root.old.content) (items_of root.new.content)) }
+    ensures right { OnOk result (IsRightRoot types.now root.new) }
+{
+    match ty {
+        Type::World(world) => write_world(types, root, name, world),
+        _ => write_type(types, root, name, ty),
+    }
+}
+
+/// Writes a definition of a held world.
+fn write_world(
+    types: &Types,
+    root: &mut Scope,
+    name: &str,
+    world: WorldId,
+) -> Result<u32, BinaryFault>
+    requires held { holds_type types.now (sort.World world) ≡ true }
+    requires definable { IsDefinableKind types.now (kind.TypeItem (sort.World world)) }
+    requires right { IsRightRoot types.now root.old }
+    ensures written { IfOk result (DefinesType (definition_tree types.now (sort.World world)) name.now (items_of root.old.content) (items_of root.new.content)) }
+    ensures right { OnOk result (IsRightRoot types.now root.new) }
+{
+    types.law();
+    match ComponentEncoder::new(types).define_world(root, name, world) {
+        Ok(index) => Ok(index),
+        Err(EncodeFault::Write(_)) => unreachable!(),
+        Err(EncodeFault::TooLarge) => Err(BinaryFault::TooLarge),
+        Err(EncodeFault::OutOfMemory) => Err(BinaryFault::OutOfMemory),
+    }
+}
+
+/// Writes a definition of another held type.
+fn write_type(types: &Types, root: &mut Scope, name: &str, ty: Type) -> Result<u32, BinaryFault>
+    requires held { holds_type types.now ty ≡ true }
+    requires definable { IsDefinableKind types.now (kind.TypeItem ty) }
+    requires other { (w : AnyWorld) → ty ≡ sort.World w → ⊥ }
     requires right { IsRightRoot types.now root.old }
     ensures written { IfOk result (DefinesType (definition_tree types.now ty) name.now (items_of root.old.content) (items_of root.new.content)) }
     ensures right { OnOk result (IsRightRoot types.now root.new) }

@@ -5,15 +5,15 @@ ghost use Rattle.wac_shapes.specs.Kinds.{kind_type};
 ghost use Rattle.wac_shapes.specs.declared.component.ItemKind.{ItemKind as AnyItem};
 ghost use Rattle.wac_shapes.specs.declared.component.ItemKind.TheVariants as kind;
 ghost use Rattle.wac_shapes.specs.declared.component.«Type».TheVariants as ty;
-ghost use Rattle.wac_collection.specs.Collection.{HasInterface, holds_type};
+ghost use Rattle.wac_collection.specs.Collection.{HasInterface, HasWorld, holds_type};
 ghost use Rattle.wac_subtyping.specs.Subtype.{type_tree, kind_tree};
 ghost use Rattle.wac_shapes.specs.declared.component.«Type».{«Type» as AnyType};
 ghost use Rattle.wac_encode.specs.Inside.{IsHeldInterface};
-ghost use Rattle.wac_meaning.specs.Importable.{HasNoHandle, IsPlainItem, IsImportableKind, IsDefinableKind};
-ghost use Rattle.wac_importing.specs.Looked.{IsOfValues, HasNoResource, IsPlainAlone, ArePlainAlone, ListsPlainAlone, ListPlainAlone, ListsPlain, AreImportable, HasNotYet};
+ghost use Rattle.wac_meaning.specs.Importable.{HasNoHandle, IsPlainItem, IsImportableKind, UsesNothing, IsDefinableKind};
+ghost use Rattle.wac_importing.specs.Looked.{IsOfValues, HasNoResource, IsPlainAlone, ArePlainAlone, ListsPlainAlone, ListPlainAlone, ArePlain, IsPlainDeep, ArePlainDeep, HasPlainItems, UseNothing, ListsPlain, AreImportable, HasNotYet};
 
 use std::alloc::AllocError;
-use wac_collection::{InterfaceId, ItemKind, Named, Type, Types};
+use wac_collection::{InterfaceId, ItemKind, Named, Type, Types, WorldId};
 use wac_encode::TypeEncoder;
 use wac_reach::reach;
 
@@ -133,6 +133,47 @@ fn has_plain_items(types: &Types, interface: InterfaceId) -> Result<bool, AllocE
     list_plain_alone(types, inside.as_slice())
 }
 
+/// Whether a held item is plain, to any depth.
+fn is_plain_deep(types: &Types, item: ItemKind) -> Result<bool, AllocError>
+    requires { holds_type types.now (kind_type item) ≡ true }
+    ensures plain { result ≡ Answers true → IsPlainDeep types.now item }
+    ensures not { result ≡ Answers false → IsPlainItem (kind_tree types.now item) → ⊥ }
+{
+    match item {
+        ItemKind::Instance(id) => has_plain_items(types, id),
+        _ => is_plain(types, item),
+    }
+}
+
+/// Whether all items are.
+fn are_plain_deep(types: &Types, items: &Named<ItemKind>) -> Result<bool, AllocError>
+    requires { (i : ℕ) (e : List ℕ × AnyItem) → slice_get items.now i ≡ Some e → holds_type types.now (kind_type e.1) ≡ true }
+    ensures plain { result ≡ Answers true → ArePlainDeep types.now items.now }
+    ensures not { result ≡ Answers false → ArePlain types.now items.now → ⊥ }
+{
+    for i in 0..items.len() {
+        let (_, item) = items.entry_at(i);
+        if !is_plain_deep(types, *item)? {
+            return Ok(false);
+        }
+    }
+    Ok(true)
+}
+
+/// Whether a held world lists plain items alone, to any depth.
+fn has_plain_sides(types: &Types, world: WorldId) -> Result<bool, AllocError>
+    requires { holds_type types.now (ty.World world) ≡ true }
+    ensures plain { result ≡ Answers true → HasPlainItems types.now world }
+    ensures not { result ≡ Answers false → HasPlainItems types.now world → ⊥ }
+{
+    types.law();
+    let held = &types[world];
+    if !are_plain_deep(types, &held.imports)? {
+        return Ok(false);
+    }
+    are_plain_deep(types, &held.exports)
+}
+
 /// Whether a held type as an item lists plain ones: a value type or a function type that is made of no handle, or an interface that lists
 /// plain items alone.
 fn is_importable_type(types: &Types, ty: Type) -> Result<bool, AllocError>
@@ -192,7 +233,55 @@ fn is_definable_interface(types: &Types, interface: InterfaceId) -> Result<bool,
     has_plain_items(types, interface)
 }
 
-/// Whether a held type is a value type or a function type, made of no handle, or an interface that is defined so far.
+/// Whether no item is an instance of an interface that uses another.
+fn use_nothing(types: &Types, items: &Named<ItemKind>) -> bool
+    requires { (i : ℕ) (e : List ℕ × AnyItem) → slice_get items.now i ≡ Some e → holds_type types.now (kind_type e.1) ≡ true }
+    ensures nothing { result ≡ true → UseNothing types.now items.now }
+    ensures some { result ≡ false → UseNothing types.now items.now → ⊥ }
+{
+    for i in 0..items.len() {
+        let (_, item) = items.entry_at(i);
+        if uses_some(types, *item) {
+            return false;
+        }
+    }
+    true
+}
+
+/// Whether an item is an instance of an interface that uses another.
+fn uses_some(types: &Types, item: ItemKind) -> bool
+    requires { holds_type types.now (kind_type item) ≡ true }
+    ensures nothing { result ≡ false → UsesNothing types.now item }
+    ensures some { result ≡ true → UsesNothing types.now item → ⊥ }
+{
+    match item {
+        ItemKind::Instance(id) => types[id].uses.len() > 0,
+        _ => false,
+    }
+}
+
+/// Whether a held world has an id, uses nothing, and lists functions, type items of value types and function types, and instances of such
+/// alone that use nothing, made of no handle.
+fn is_definable_world(types: &Types, world: WorldId) -> Result<bool, AllocError>
+    requires { HasWorld types.now world }
+    ensures definable { result ≡ Answers true → IsDefinableKind types.now (kind.TypeItem (ty.World world)) }
+    ensures not { result ≡ Answers false → IsDefinableKind types.now (kind.TypeItem (ty.World world)) → ⊥ }
+{
+    types.law();
+    let item = &types[world];
+    if item.id.is_none() || item.uses.len() > 0 {
+        return Ok(false);
+    }
+    if !use_nothing(types, &item.imports) {
+        return Ok(false);
+    }
+    if !use_nothing(types, &item.exports) {
+        return Ok(false);
+    }
+    has_plain_sides(types, world)
+}
+
+/// Whether a held type is a value type or a function type, made of no handle, or an interface or a world that is defined so far.
 fn is_definable_type(types: &Types, ty: Type) -> Result<bool, AllocError>
     requires { holds_type types.now ty ≡ true }
     ensures definable { result ≡ Answers true → IsDefinableKind types.now (kind.TypeItem ty) }
@@ -202,13 +291,15 @@ fn is_definable_type(types: &Types, ty: Type) -> Result<bool, AllocError>
     match ty {
         Type::Value(_) | Type::Func(_) => has_no_handle(types, ty),
         Type::Interface(interface) => is_definable_interface(types, interface),
+        Type::World(world) => is_definable_world(types, world),
         _ => Ok(false),
     }
 }
 
 /// Whether a held item is a type that is defined so far: a type item of a value type or a function type that is made of no handle, or of
-/// an interface that has an id, uses nothing, and lists functions, type items of such types and instances of such alone, made of no
-/// handle. Answers `AllocError` where memory ran out. Linear in what the type, or each of the interface's items, reaches.
+/// an interface or a world that has an id, uses nothing, and lists functions, type items of such types and instances of such alone, made of
+/// no handle, where instances that a world lists use nothing. Answers `AllocError` where memory ran out. Linear in what the type, or each of
+/// the items, reaches.
 pub fn is_definable(types: &Types, item: ItemKind) -> Result<bool, AllocError>
     requires { holds_type types.now (kind_type item) ≡ true }
     ensures definable { result ≡ Answers true → IsDefinableKind types.now item }

@@ -5,10 +5,13 @@ use Rattle.wac_shapes.specs.declared.component.Interface.{Interface}
 use Rattle.wac_shapes.specs.declared.component.InterfaceId.{InterfaceId}
 use Rattle.wac_shapes.specs.declared.component.ItemKind.{ItemKind}
 use Rattle.wac_shapes.specs.declared.component.ItemKind.TheVariants as kind
+use Rattle.wac_shapes.specs.declared.component.World.{World}
+use Rattle.wac_shapes.specs.declared.component.WorldId.{WorldId}
 use Rattle.wac_shapes.specs.declared.component.«Type».TheVariants as ty
 use Rattle.wac_collection.specs.Tree.{TypeTree, absent, resource, primitive, record_of, variant_of, list_of, fixed_list_of, tuple_of, flags_of, enum_of, option_of, result_of, stream_of, future_of, function, instance, module_of, type_equal, function_item, instance_item, module_item}
 use Rattle.wac_collection.specs.Collection.{Collection, interface_exports, item_at}
 use Rattle.wac_subtyping.specs.Subtype.{kind_tree}
+use Rattle.wac_meaning.specs.Definition.{uses_of}
 
 -- no resource stands in a value type, or in what a function takes and gives
 abbrev pub HasNoHandle : {L : Type 0} → TypeTree L → Type 0
@@ -73,7 +76,25 @@ pub record IsDefinableInterface (c : Collection) (i : InterfaceId) : Type 0 wher
   pub uses : interface.uses ≡ []
   pub plain : (k : ℕ) (e : Name × ItemKind) → slice_get interface.exports k ≡ Some e → (d : ℕ) × IsPlainTo d c e.1
 
--- and so of a kind of item; of an interface by what the collection holds, since its tree has neither its id nor its uses
+-- an item of a world that is defined so far: it is plain, to some depth, and an instance is of an interface that uses nothing
+abbrev pub UsesNothing : Collection → ItemKind → Type 0
+UsesNothing c (kind.Instance i) = uses_of c i ≡ []
+UsesNothing c k = Unit {0}
+
+abbrev pub IsDefinableItem : Collection → ItemKind → Type 0
+IsDefinableItem c k = UsesNothing c k × (d : ℕ) × IsPlainTo d c k
+
+-- a world that is defined so far: it has an id, it uses nothing, and each of its items is such
+pub record IsDefinableWorld (c : Collection) (w : WorldId) : Type 0 where
+  pub world : World
+  pub found : item_at c.worlds w.0 ≡ Some world
+  pub id : IsSome world.id
+  pub uses : world.uses ≡ []
+  pub imports : (k : ℕ) (e : Name × ItemKind) → slice_get world.imports k ≡ Some e → IsDefinableItem c e.1
+  pub exports : (k : ℕ) (e : Name × ItemKind) → slice_get world.exports k ≡ Some e → IsDefinableItem c e.1
+
+-- and so of a kind of item; of an interface or a world by what the collection holds, since its tree has neither its id nor its uses
 abbrev pub IsDefinableKind : Collection → ItemKind → Type 0
 IsDefinableKind c (kind.TypeItem (ty.Interface i)) = IsDefinableInterface c i
+IsDefinableKind c (kind.TypeItem (ty.World w)) = IsDefinableWorld c w
 IsDefinableKind c k = IsDefinable (kind_tree c k)

@@ -1,17 +1,22 @@
-use Rattle.std.proofs.Common.{Err, ap, ◌∙◌, sym, subst}
-use Rattle.wac_root.specs.Defining.{IsDefinable, WritesDefinition, IsDefinitionRefused}
-use Rattle.wac_importing.proofs.Defining.{is_writable, no_fault, defines}
+use Rattle.std.proofs.Common.{◌≡◌, true, IfOk, sym, subst}
+use Rattle.wac_shapes.specs.declared.component.ItemKind.TheVariants as kind
+use Rattle.wac_shapes.specs.declared.component.«Type».{«Type» as AnyType}
+use Rattle.wac_collection.specs.Collection.{holds_type}
+use Rattle.wac_meaning.specs.Definition.{definition_tree}
+use Rattle.wac_meaning.specs.Importable.{IsDefinableKind}
+use Rattle.wac_scopes.specs.Contents.{items_of}
+use Rattle.wac_importing.specs.Defined.{DefinesType}
 use Rattle.wac_importing.proofs.defined.write_definition.Goals as goal
 
-pub definition-requires-clause-definable : goal.definition-requires-clause-definable
-definition-requires-clause-definable c = subst (λ types. IsDefinable types c.args.ty) (sym c.new.ensures) (is_writable c.args.types.now c.law.ensures c.args.ty c.requires.held c.requires.definable)
+pub write_world-requires-clause-held : goal.write_world-requires-clause-held
+write_world-requires-clause-held c = subst (λ (t : AnyType). holds_type c.args.types.now t ≡ true) c.in-World.is c.requires.held
 
-pub unreachable-requires : goal.unreachable-requires
-unreachable-requires c =
-    no_fault c.args.types.now c.law.ensures c.args.ty c.requires.held c.requires.definable c.in-Err-Write.field-0-0
-    (subst (IsDefinitionRefused c.args.types.now c.args.ty c.args.name.now c.args.root.now) (c.in-Err-Write.is ∙ ap Err c.in-Err-Write.field-0-is)
-    (subst (λ types. IsDefinitionRefused types c.args.ty c.args.name.now c.args.root.now c.definition.result) c.new.ensures c.definition.ensures.fault))
+pub write_world-requires-clause-definable : goal.write_world-requires-clause-definable
+write_world-requires-clause-definable c = subst (λ (t : AnyType). IsDefinableKind c.args.types.now (kind.TypeItem t)) c.in-World.is c.requires.definable
 
-pub returns-in-Ok-clause-written : goal.returns-in-Ok-clause-written
-returns-in-Ok-clause-written c = defines c.args.types.now c.law.ensures c.args.name.now c.args.root.now c.definition.new.root c.in-Ok.index c.args.ty c.requires.held c.requires.definable
-    (subst (λ types. WritesDefinition types c.args.ty c.args.name.now c.args.root.now c.definition.new.root c.in-Ok.index) c.new.ensures c.in-Ok.ensures.definition)
+pub write_type-requires-clause-other : goal.write_type-requires-clause-other
+write_type-requires-clause-other c = c.in_default.not-World
+
+pub returns-in-World-clause-written : goal.returns-in-World-clause-written
+returns-in-World-clause-written c =
+    subst (λ (t : AnyType). IfOk c.write_world.result (DefinesType (definition_tree c.args.types.now t) c.args.name.now (items_of c.args.root.now.content) (items_of c.write_world.new.root.content))) (sym c.in-World.is) c.write_world.ensures.written

@@ -1,5 +1,4 @@
-use Rattle.std.proofs.Common.{Ok, arith, ap, ◌∙◌, ◌≡◌, ◌<◌, length, get_or, Some}
-use Rattle.std.specs.Prelude.{slice_get}
+use Rattle.std.proofs.Common.{Ok, arith, ap, ◌∙◌}
 use Rattle.std.proofs.lemmas.Option.{slice_get-get_or}
 use Rattle.wac_importing.specs.Looked.{ListsPlainAlone}
 use Rattle.wac_importing.proofs.Lists.{each_next, each_end}

@@ -1,7 +1,4 @@
 use Rattle.std.proofs.Common.{sym, subst}
-use Rattle.wac_shapes.specs.declared.component.ItemKind.{ItemKind}
-use Rattle.wac_shapes.specs.Name.{Name}
-use Rattle.std.proofs.Common.{List}
 use Rattle.wac_importing.specs.Looked.{ArePlainAlone, ListsPlainAlone}
 use Rattle.wac_importing.proofs.Items.{exports_are}
 use Rattle.wac_importing.proofs.Refusing.{exports_held}

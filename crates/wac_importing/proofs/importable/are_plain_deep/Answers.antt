@@ -1,0 +1,15 @@
+use Rattle.std.proofs.Common.{Ok, ap, ◌∙◌, arith}
+use Rattle.wac_shapes.specs.Name.{Name}
+use Rattle.wac_shapes.specs.declared.component.ItemKind.{ItemKind}
+use Rattle.wac_importing.specs.Looked.{IsPlainDeep}
+use Rattle.wac_importing.proofs.Lists.{each_next, each_end}
+use Rattle.wac_importing.proofs.importable.are_plain_deep.Goals as goal
+
+pub returns-then-not-branch-clause-not : goal.returns-then-not-branch-clause-not
+returns-then-not-branch-clause-not c h all = c.is_plain_deep.ensures.not (c.in_ok-is_plain_deep.was ∙ ap Ok c.if-not-branch.true) (all c.loop-i.i _ c.entry_at.ensures)
+
+pub loop-i-preserved : goal.loop-i-preserved
+loop-i-preserved c = each_next (λ (e : Name × ItemKind). IsPlainDeep c.args.types.now e.1) c.args.items.now c.loop-i.i _ c.entry_at.ensures (c.is_plain_deep.ensures.plain (c.in_ok-is_plain_deep.was ∙ ap Ok c.if-not-branch.false)) c.loop-i.invariant
+
+pub returns-clause-plain : goal.returns-clause-plain
+returns-clause-plain c h = let past = c.loop-i-test.false in let counted = c.len-i-end.ensures in each_end (λ (e : Name × ItemKind). IsPlainDeep c.args.types.now e.1) c.args.items.now c.loop-i.i (omega (arith, past, counted)) c.loop-i.invariant

@@ -1,0 +1,24 @@
+use Rattle.std.proofs.Common.{Ok, ap, ◌∙◌, sym, subst}
+use Rattle.wac_worlds.proofs.Whole.{held-imports, held-exports}
+use Rattle.wac_importing.specs.Looked.{ArePlainDeep}
+use Rattle.wac_importing.proofs.Items.{imports_are, world_exports_are}
+use Rattle.wac_importing.proofs.Nested.{sides_plain}
+use Rattle.wac_importing.proofs.importable.has_plain_sides.Goals as goal
+
+pub are_plain_deep-requires : goal.are_plain_deep-requires
+are_plain_deep-requires c = held-imports c.args.types.now c.law.ensures c.args.world c.index-held.result.now c.index-held.ensures
+
+pub are_plain_deep-requires-2 : goal.are_plain_deep-requires-2
+are_plain_deep-requires-2 c = held-exports c.args.types.now c.law.ensures c.args.world c.index-held.result.now c.index-held.ensures
+
+pub returns-then-not-branch-clause-not : goal.returns-then-not-branch-clause-not
+returns-then-not-branch-clause-not c h all = c.are_plain_deep.ensures.not (c.in_ok-are_plain_deep.was ∙ ap Ok c.if-not-branch.true) (sides_plain c.args.types.now c.law.ensures c.args.world c.index-held.result.now c.requires c.index-held.ensures all).0
+
+pub returns-clause-plain : goal.returns-clause-plain
+returns-clause-plain c h = (
+  subst (ArePlainDeep c.args.types.now) (sym (imports_are c.args.types.now c.args.world c.index-held.result.now c.index-held.ensures)) (c.are_plain_deep.ensures.plain (c.in_ok-are_plain_deep.was ∙ ap Ok c.if-not-branch.false)),
+  subst (ArePlainDeep c.args.types.now) (sym (world_exports_are c.args.types.now c.args.world c.index-held.result.now c.index-held.ensures)) (c.are_plain_deep-2.ensures.plain h),
+)
+
+pub returns-clause-not : goal.returns-clause-not
+returns-clause-not c h all = c.are_plain_deep-2.ensures.not h (sides_plain c.args.types.now c.law.ensures c.args.world c.index-held.result.now c.requires c.index-held.ensures all).1
