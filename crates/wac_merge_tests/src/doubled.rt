@@ -1,14 +1,14 @@
 //! Interfaces that are listed more than once in one, at one level or at many.
 
-use crate::merged::Case;
 use crate::merged::Check::Lists;
+use crate::merged::{Case, assert_merged};
 use crate::rows::Row::{Instance, Plain, TypeOf};
 use crate::rows::{Items, Row};
 use std::process::Abort;
 use wac_types::{Interface, InterfaceId, ItemKind, Type, Types};
 use wac_uniting::unions::Unions;
 
-pub const DOUBLED: &[Case] = &[
+const DOUBLED: &[Case] = &[
     Case {
         name: "what is listed twice at each level stands at each place",
         rows: &[
@@ -62,6 +62,11 @@ pub const DOUBLED: &[Case] = &[
         ],
     },
 ];
+
+#[test]
+fn what_is_listed_twice_stands_at_each_place(rt: HostRuntime) {
+    assert_merged(&rt, DOUBLED);
+}
 
 // An interface that lists these.
 fn listing(rt: &impl Abort, types: &mut Types, exports: &[(&str, ItemKind)]) -> InterfaceId {

@@ -1,7 +1,7 @@
 //! What is nested in merged interfaces is listed in order of first appearance.
 
-use crate::merged::Case;
 use crate::merged::Check::Lists;
+use crate::merged::{Case, assert_merged};
 use crate::rows::Row;
 use crate::rows::Row::{Byte, Instance, TypeOf};
 
@@ -25,7 +25,7 @@ const TYPES: &[Row] = &[
     Instance(None, &[], &[("x", 5)]),
 ];
 
-pub const LISTED: &[Case] = &[
+const LISTED: &[Case] = &[
     Case {
         name: "instances inside list in order of first appearance",
         rows: INSTANCES,
@@ -51,3 +51,8 @@ pub const LISTED: &[Case] = &[
         checks: &[Lists(&["i", "x"], &["a", "b"])],
     },
 ];
+
+#[test]
+fn what_is_nested_is_listed_in_order(rt: HostRuntime) {
+    assert_merged(&rt, LISTED);
+}

@@ -1,14 +1,8 @@
 //! What is asked for as a table, and what is true of its merge.
 ghost use Rattle.std.specs.Prelude.{◌≡◌, true};
 
-use crate::doubled::DOUBLED;
-use crate::listed::LISTED;
-use crate::merging::{MERGED, finished};
-use crate::nested_uses::NESTED;
-use crate::one_type::ONE_TYPE;
-use crate::outside::OUTSIDE;
+use crate::merging::finished;
 use crate::rows::{Item, Items, Row, assert_row};
-use crate::uses::USES;
 use std::process::Abort;
 use wac_merge::TypeAggregator;
 use wac_types::{InterfaceId, ItemKind, ResourceId, Type, Types, ValueType};
@@ -204,8 +198,8 @@ fn holds(rt: &impl Abort, items: &Items, merged: &TypeAggregator, check: Check) 
     }
 }
 
-// Each case is true.
-fn assert_merged(rt: &(impl Abort + AllocGlobal), cases: &[Case]) {
+/// Each case is true.
+pub fn assert_merged(rt: &(impl Abort + AllocGlobal), cases: &[Case]) {
     for case in cases {
         let items = Items::new(rt, rt.alloc(), case.rows);
         let asked = items.asked(rt, case.asked);
@@ -213,14 +207,5 @@ fn assert_merged(rt: &(impl Abort + AllocGlobal), cases: &[Case]) {
         for check in case.checks {
             assert_row(rt, holds(rt, &items, &merged, *check), case.name);
         }
-    }
-}
-
-const CASES: &[&[Case]] = &[MERGED, LISTED, DOUBLED, OUTSIDE, ONE_TYPE, USES, NESTED];
-
-#[test]
-fn imports_are_merged(rt: HostRuntime) {
-    for cases in CASES {
-        assert_merged(&rt, cases);
     }
 }

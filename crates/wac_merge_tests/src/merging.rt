@@ -1,35 +1,14 @@
 //! Which imports are one, which do not agree, and where resources are bound.
 ghost use Rattle.std.specs.Prelude.{◌≡◌, true, IfOk};
-ghost use Rattle.wac_entries.specs.Bindings.{AreHeld};
 
-use crate::merged::Case;
 use crate::merged::Check::{Bound, Canonical, Differ, Imports, Lists, Resource, Unbound};
+use crate::merged::{Case, assert_merged};
 use crate::rows::Row::{Enumeration, Instance, Plain, Telling, TypeOf};
 use crate::rows::{Item, Items, Row};
 use std::alloc::Global;
 use std::process::Abort;
 use wac_merge::{MergeFault, TypeAggregator};
 use wac_types::{ItemKind, Types};
-
-// An aggregator that is asked for these.
-fn aggregated(
-    alloc: Global,
-    rt: &impl Abort,
-    types: &Types,
-    asked: &[(&str, ItemKind)],
-) -> TypeAggregator
-    ensures { AreHeld types.now result.entries }
-{
-    let mut aggregator = TypeAggregator::new(alloc);
-    for i in 0..asked.len() {
-        let (name, kind) = asked[i];
-        assert!(rt; types.contains(kind.ty()));
-        aggregator = aggregator
-            .aggregate(name, types, kind)
-            .expect(rt, "an aggregator");
-    }
-    aggregator
-}
 
 // What `finish` answers where these are asked for.
 pub(crate) fn finished(
@@ -40,7 +19,15 @@ pub(crate) fn finished(
 ) -> Result<TypeAggregator, MergeFault>
     ensures { IfOk result (λ merged. merged.is_finished ≡ true) }
 {
-    aggregated(alloc, rt, types, asked).finish(types)
+    let mut aggregator = TypeAggregator::new(alloc);
+    for i in 0..asked.len() {
+        let (name, kind) = asked[i];
+        assert!(rt; types.contains(kind.ty()));
+        aggregator = aggregator
+            .aggregate(name, types, kind)
+            .expect(rt, "an aggregator");
+    }
+    aggregator.finish(types)
 }
 
 // Types, what is asked for of them, and the fault that is answered.
@@ -129,7 +116,7 @@ fn imports_that_cannot_be_merged_are_refused(rt: HostRuntime) {
     }
 }
 
-pub const MERGED: &[Case] = &[
+const MERGED: &[Case] = &[
     Case {
         name: "versions on one track are one import",
         rows: &[
@@ -201,6 +188,11 @@ pub const MERGED: &[Case] = &[
         ],
     },
 ];
+
+#[test]
+fn imports_are_merged_by_their_classes(rt: HostRuntime) {
+    assert_merged(&rt, MERGED);
+}
 
 // A fault is displayed so.
 fn assert_displayed(rt: &impl Abort, alloc: Global, fault: MergeFault, want: &str) {

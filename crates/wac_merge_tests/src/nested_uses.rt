@@ -1,10 +1,10 @@
 //! Instances inside merged interfaces keep what they use.
 
-use crate::merged::Case;
 use crate::merged::Check::Uses;
+use crate::merged::{Case, assert_merged};
 use crate::rows::Row::{Enumeration, Instance};
 
-pub const NESTED: &[Case] = &[
+const NESTED: &[Case] = &[
     Case {
         name: "an instance inside uses what its member uses",
         rows: &[
@@ -71,3 +71,8 @@ pub const NESTED: &[Case] = &[
         checks: &[Uses(&["n:p/i@1.1.0", "x"], &[])],
     },
 ];
+
+#[test]
+fn instances_inside_keep_what_they_use(rt: HostRuntime) {
+    assert_merged(&rt, NESTED);
+}

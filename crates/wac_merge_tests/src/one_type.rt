@@ -1,10 +1,10 @@
 //! One named type has one id in the merged collection.
 
-use crate::merged::Case;
 use crate::merged::Check::{Differ, Same};
+use crate::merged::{Case, assert_merged};
 use crate::rows::Row::{Alias, Enumeration, Instance, Own, Record, Resource, Taking};
 
-pub const ONE_TYPE: &[Case] = &[
+const ONE_TYPE: &[Case] = &[
     Case {
         name: "versions on one track have one type",
         rows: &[
@@ -113,3 +113,8 @@ pub const ONE_TYPE: &[Case] = &[
         ],
     },
 ];
+
+#[test]
+fn one_named_type_has_one_id(rt: HostRuntime) {
+    assert_merged(&rt, ONE_TYPE);
+}

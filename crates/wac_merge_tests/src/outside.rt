@@ -1,12 +1,12 @@
 //! A resource from around is the same one at each depth of what is nested in a merged interface.
 
-use crate::merged::Case;
 use crate::merged::Check::{Differ, Same};
+use crate::merged::{Case, assert_merged};
 use crate::rows::Row::{Instance, Own, Resource, Taking};
 
 // Two versions of an import that binds a resource. Each lists instances inside each other, four deep, with functions over that
 // resource and over the resource of another import; none of the instances binds one.
-pub const OUTSIDE: &[Case] = &[Case {
+const OUTSIDE: &[Case] = &[Case {
     name: "a resource from around is one at each depth",
     rows: &[
         Resource("r"),
@@ -56,3 +56,8 @@ pub const OUTSIDE: &[Case] = &[Case {
         ),
     ],
 }];
+
+#[test]
+fn a_resource_from_around_is_one_at_each_depth(rt: HostRuntime) {
+    assert_merged(&rt, OUTSIDE);
+}

@@ -1,10 +1,10 @@
 //! Merged interfaces keep what they use.
 
-use crate::merged::Case;
 use crate::merged::Check::Uses;
+use crate::merged::{Case, assert_merged};
 use crate::rows::Row::{Enumeration, Instance, Resource};
 
-pub const USES: &[Case] = &[
+const USES: &[Case] = &[
     Case {
         name: "uses are of the imports of their classes",
         rows: &[
@@ -68,3 +68,8 @@ pub const USES: &[Case] = &[
         checks: &[Uses(&["n:p/i"], &[])],
     },
 ];
+
+#[test]
+fn merged_interfaces_keep_what_they_use(rt: HostRuntime) {
+    assert_merged(&rt, USES);
+}
