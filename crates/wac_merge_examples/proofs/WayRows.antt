@@ -11,11 +11,11 @@ use Rattle.wac_merge_examples.proofs.Apart.{no_entry, one_entry, two_numbers}
 
 -- ---- the scopes, and what each binds
 
-abbrev scope_in : Option ℕ → ℕ → Scope
-scope_in parent first = record { opener = opener.Interface (record { 0 = 0 }); parent = parent; first = first }
+abbrev scope_in : Option ℕ → Scope
+scope_in parent = record { opener = opener.Interface (record { 0 = 0 }); parent = parent }
 
 abbrev scopes : List Scope
-scopes = scope_in None 1 ∷ scope_in (Some 0) 2 ∷ scope_in (Some 1) 3 ∷ []
+scopes = scope_in None ∷ scope_in (Some 0) ∷ scope_in (Some 1) ∷ []
 
 abbrev a_resource : ResourceId × Leaf
 a_resource = (record { 0 = 0 }, record { out = 0; side = exported; path = named (codes "r") ∷ [] })
@@ -39,7 +39,7 @@ to_outermost : LeadsOut scopes bound (Some 0) (Some (way 0 1))
 to_outermost = binding 0 (λ s at empty. absurd (not_empty empty))
 
 past_the_second : LeadsOut scopes bound (Some 1) (Some (way 0 2))
-past_the_second = beyond 1 (scope_in (Some 0) 2) (way 0 1) refl refl to_outermost
+past_the_second = beyond 1 (scope_in (Some 0)) (way 0 1) refl refl to_outermost
 
 pub ways_out : AreOutward scopes bound ways
 ways_out = record { counted = refl; ways = each } where
@@ -47,9 +47,9 @@ ways_out = record { counted = refl; ways = each } where
   leads s t w v out scope same = subst (λ (x : Scope). LeadsOut scopes bound x.parent w) (one_entry t s scope) (subst (LeadsOut scopes bound t.parent) (one_entry v w same) out)
 
   each : (i : ℕ) (s : Scope) (w : Option Outward) → slice_get scopes i ≡ Some s → slice_get ways i ≡ Some w → LeadsOut scopes bound s.parent w
-  each zero s w at there = leads s (scope_in None 1) w None outermost at there
-  each (suc zero) s w at there = leads s (scope_in (Some 0) 2) w (Some (way 0 1)) to_outermost at there
-  each (suc (suc zero)) s w at there = leads s (scope_in (Some 1) 3) w (Some (way 0 2)) past_the_second at there
+  each zero s w at there = leads s (scope_in None) w None outermost at there
+  each (suc zero) s w at there = leads s (scope_in (Some 0)) w (Some (way 0 1)) to_outermost at there
+  each (suc (suc zero)) s w at there = leads s (scope_in (Some 1)) w (Some (way 0 2)) past_the_second at there
   each (suc (suc (suc i))) s w at there = absurd (no_entry s at)
 
 -- ---- what is refused
@@ -62,7 +62,7 @@ only_to_outermost _ _ (beyond p s w at empty further) is = absurd (not_empty (ap
 
 pub only_past_the_second : (o : Option ℕ) (w : Option Outward) → LeadsOut scopes bound o w → o ≡ Some 1 → w ≡ Some (way 0 2)
 only_past_the_second _ _ outermost is = absurd (no_entry 1 is)
-only_past_the_second _ _ (binding p stops) is = absurd (inside (subst Stops (one_entry p 1 is) stops (scope_in (Some 0) 2) refl refl)) where
+only_past_the_second _ _ (binding p stops) is = absurd (inside (subst Stops (one_entry p 1 is) stops (scope_in (Some 0)) refl refl)) where
   Stops : ℕ → Type 0
   Stops q = (s : Scope) → slice_get scopes q ≡ Some s → slice_get bound q ≡ Some [] → s.parent ≡ None
 
@@ -70,11 +70,11 @@ only_past_the_second _ _ (binding p stops) is = absurd (inside (subst Stops (one
   inside none = no_entry 0 (sym none)
 only_past_the_second _ _ (beyond p s w at empty further) is = ap (λ (v : Outward). Some (way v.position (v.out + 1))) (one_entry w (way 0 1) (only_to_outermost s.parent (Some w) further parent)) where
   parent : s.parent ≡ Some 0
-  parent = ap (λ (x : Scope). x.parent) (one_entry s (scope_in (Some 0) 2) (sym at ∙ ap (slice_get scopes) (one_entry p 1 is)))
+  parent = ap (λ (x : Scope). x.parent) (one_entry s (scope_in (Some 0)) (sym at ∙ ap (slice_get scopes) (one_entry p 1 is)))
 
 module _ (w : Outward) (h : AreOutward scopes bound (None ∷ Some (way 0 1) ∷ Some w ∷ [])) where
   innermost_way : w ≡ way 0 2
-  innermost_way = one_entry w (way 0 2) (only_past_the_second (Some 1) (Some w) (h.ways 2 (scope_in (Some 1) 3) (Some w) refl refl) refl)
+  innermost_way = one_entry w (way 0 2) (only_past_the_second (Some 1) (Some w) (h.ways 2 (scope_in (Some 1)) (Some w) refl refl) refl)
 
 -- the innermost's way does not end at the scope around it, which binds nothing
 pub no_way_to_what_binds_nothing : AreOutward scopes bound (None ∷ Some (way 0 1) ∷ Some (way 1 1) ∷ []) → ⊥
