@@ -3,10 +3,10 @@
 use anyhow::{Result, bail};
 use std::alloc::Global;
 use wac_composition::CompositionGraph;
+use wac_graph::plug;
 use wac_measures::graph::Graph;
 use wac_measures::types::Collection;
 use wac_nodes::{EncodeOptions, NodeId, PackageId};
-use wac_graph::plug;
 use wac_types::{DefinedType, FuncType, Interface, ItemKind, ValueType, World};
 
 /// A component with nothing in it.
