@@ -11,6 +11,7 @@ use Rattle.wac_shapes.specs.declared.component.ItemKind.TheVariants as kind
 use Rattle.wac_shapes.specs.declared.component.PrimitiveType.TheVariants as prim
 use Rattle.wac_shapes.specs.declared.component.UsedType.{UsedType}
 use Rattle.wac_shapes.specs.declared.component.ValueType.{ValueType}
+use Rattle.wac_shapes.specs.declared.component.World.{World}
 use Rattle.wac_shapes.specs.declared.component.ValueType.TheVariants as val
 use Rattle.wac_shapes.specs.declared.component.«Type».TheVariants as ty
 use Rattle.wac_collection.specs.Collection.{Collection}
@@ -18,7 +19,7 @@ use Rattle.wac_collection.specs.declared.collection.Held.{Held}
 use Rattle.wac_collection.specs.Held.{part_at}
 use Rattle.wac_collection.specs.Tree.{absent, function, function_item, instance, instance_item, primitive}
 use Rattle.wac_subtyping.specs.Subtype.{kind_tree, type_tree}
-use Rattle.wac_meaning.specs.Importable.{HasNoHandle, IsPlainTo, IsPlainWhereThere, IsImportableKind, IsDefinableKind}
+use Rattle.wac_meaning.specs.Importable.{HasNoHandle, IsPlainTo, IsPlainWhereThere, IsImportableKind, IsDefinableItem, IsDefinableKind}
 
 -- functions: of a number, and of a handle
 abbrev function_of : ValueType → ℕ → Held FuncType
@@ -26,6 +27,9 @@ function_of x before = record { item = record { params = (codes "x", x) ∷ []; 
 
 abbrev interface_of : Option Name → List (Name × UsedType) → List (Name × ItemKind) → Held Interface
 interface_of id uses exports = record { item = record { id = id; uses = uses; exports = exports }; before = 0 }
+
+abbrev world_of : List (Name × ItemKind) → List (Name × ItemKind) → Held World
+world_of imports exports = record { item = record { id = Some (codes "a:b/w"); uses = []; imports = imports; exports = exports }; before = 0 }
 
 abbrev plain_function : ItemKind
 plain_function = kind.Func (record { 0 = 0 })
@@ -52,7 +56,11 @@ types = record {
       ∷ interface_of (Some (codes "a:b/g")) [] ((codes "f", of_handle) ∷ [])
       ∷ interface_of (Some (codes "a:b/h")) [] ((codes "i", kind.Instance (record { 0 = 4 })) ∷ [])
       ∷ interface_of (Some (codes "a:b/k")) [] ((codes "j", kind.Instance (record { 0 = 3 })) ∷ []) ∷ [];
-  worlds = [];
+  worlds =
+      world_of ((codes "f", plain_function) ∷ []) ((codes "i", kind.Instance (record { 0 = 0 })) ∷ [])
+      ∷ world_of [] ((codes "f", of_handle) ∷ [])
+      ∷ world_of ((codes "i", kind.Instance (record { 0 = 2 })) ∷ []) []
+      ∷ world_of [] ((codes "c", kind.Component (record { 0 = 0 })) ∷ []) ∷ [];
 }
 
 abbrev instance_of : ℕ → ItemKind
@@ -202,6 +210,44 @@ handle_in_a_nested_interface_is_not h = let (d, inside) = h.plain 0 (codes "i", 
   by_depth : (d : ℕ) → IsPlainTo d types (instance_of 4) → ⊥
   by_depth zero g = absurd g
   by_depth (suc d) g = by_item d (g 0 (codes "f", of_handle) refl)
+
+-- a world with an id is defined that imports a function of numbers and exports an instance; one with a function of a handle is not, nor one with an
+-- instance of an interface that uses another, nor one with a component
+abbrev world_at : ℕ → ItemKind
+world_at n = kind.TypeItem (ty.World (record { 0 = n }))
+
+pub world_is_defined : IsDefinableKind types (world_at 0)
+unfolding type_tree
+world_is_defined = record { world = (world_of ((codes "f", plain_function) ∷ []) ((codes "i", instance_of 0) ∷ [])).item; found = refl; id = refl; uses = refl; imports = ins; exports = outs } where
+  ins : (k : ℕ) (e : Name × ItemKind) → slice_get ((codes "f", plain_function) ∷ []) k ≡ Some e → IsDefinableItem types e.1
+  ins zero e is = subst (λ x. IsDefinableItem types x.1) (given_back (codes "f", plain_function) e is) (tt, 0, (byte_parts, tt))
+  ins (suc k) e is = absurd (none-some e is)
+
+  outs : (k : ℕ) (e : Name × ItemKind) → slice_get ((codes "i", instance_of 0) ∷ []) k ≡ Some e → IsDefinableItem types e.1
+  outs zero e is = subst (λ x. IsDefinableItem types x.1) (given_back (codes "i", instance_of 0) e is) (refl, 1, plain_function_to 0)
+  outs (suc k) e is = absurd (none-some e is)
+
+handle_to : (d : ℕ) → IsPlainTo d types of_handle → ⊥
+unfolding type_tree
+handle_to zero g = g.0 0
+handle_to (suc d) g = g.0 0
+
+pub world_of_a_handle_is_not : IsDefinableKind types (world_at 1) → ⊥
+world_of_a_handle_is_not h =
+    let item = h.exports 0 (codes "f", of_handle) (ap (λ x. slice_get x.exports 0) (sym (given_back (world_of [] ((codes "f", of_handle) ∷ [])).item h.world h.found))) in
+    handle_to item.1 item.2
+
+pub user_in_a_world_is_not : IsDefinableKind types (world_at 2) → ⊥
+user_in_a_world_is_not h = no_use (h.imports 0 (codes "i", instance_of 2) (ap (λ x. slice_get x.imports 0) (sym (given_back (world_of ((codes "i", instance_of 2) ∷ []) []).item h.world h.found)))).0
+
+component_to : (d : ℕ) → IsPlainTo d types (kind.Component (record { 0 = 0 })) → ⊥
+component_to zero g = g
+component_to (suc d) g = g
+
+pub component_in_a_world_is_not : IsDefinableKind types (world_at 3) → ⊥
+component_in_a_world_is_not h =
+    let item = h.exports 0 (codes "c", kind.Component (record { 0 = 0 })) (ap (λ x. slice_get x.exports 0) (sym (given_back (world_of [] ((codes "c", kind.Component (record { 0 = 0 })) ∷ [])).item h.world h.found))) in
+    component_to item.1 item.2
 
 -- a definition of a function type is written, and of a resource or of a function of a handle is not
 pub function_type_is_defined : IsDefinableKind types (kind.TypeItem (ty.Func (record { 0 = 0 })))
