@@ -12,7 +12,6 @@ use Rattle.wac_shapes.specs.declared.component.InterfaceId.{InterfaceId}
 use Rattle.wac_shapes.specs.declared.component.ItemKind.{ItemKind}
 use Rattle.wac_shapes.specs.declared.component.ItemKind.TheVariants as kind
 use Rattle.wac_shapes.specs.declared.component.ResourceId.{ResourceId}
-use Rattle.wac_shapes.specs.declared.component.UsedType.{UsedType}
 use Rattle.wac_shapes.specs.declared.component.ValueType.{ValueType}
 use Rattle.wac_shapes.specs.declared.component.ValueType.TheVariants as val
 use Rattle.wac_shapes.specs.declared.component.«Type».TheVariants as ty
@@ -22,10 +21,12 @@ use Rattle.wac_collection.specs.Collection.{Collection, IsWellFormed, item_at, s
 use Rattle.wac_binary.specs.Unfold.{Bound}
 use Rattle.wac_stacks.specs.Good.{IsHeld}
 use Rattle.wac_stacks.specs.Instances.{Exports, ExportsEnd, BindsInstance}
-use Rattle.wac_encode.specs.Instances.{definition_of, listed_definition, listed_definitions}
+use Rattle.wac_planning.specs.Listed.{definition_of, listed_definition}
+use Rattle.wac_encode.specs.Instances.{listed_definitions}
 use Rattle.wac_encode.specs.Listing.{lists_plain, lists_plain_to}
 use Rattle.wac_encode.proofs.Around.{owns-nothing}
-use Rattle.wac_encode.proofs.Plain.{plain-of, held-items}
+use Rattle.wac_planning.proofs.Listing.{held-items}
+use Rattle.wac_encode.proofs.Plain.{plain-of}
 
 -- where an entry of two lists in a row stands
 in-row : {A : Type 0} (xs ys : List A) (p : ℕ) (e : A) → slice_get (xs ++ ys) p ≡ Some e → (slice_get xs p ≡ Some e) ⊎ ((q : ℕ) × (slice_get ys q ≡ Some e))

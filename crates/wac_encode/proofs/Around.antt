@@ -34,6 +34,8 @@ use Rattle.wac_stacks.specs.Listed.{has_own, OpensOver}
 use Rattle.wac_scopes.proofs.ScopedLaws.{recorded-at}
 use Rattle.wac_listing.specs.Made.{AreMadeOf}
 use Rattle.wac_encode.specs.Written.{IsLargeFrom}
+use Rattle.wac_planning.specs.Plans.{IsOneOf, AreOfItems}
+use Rattle.wac_encode.specs.Plans.{IsOpenedFor}
 use Rattle.wac_encode.specs.Tasks.{WritesOne, IsOneRefused, AliasesOne, aliased_now, as_before, IsOneAliasRefused}
 use Rattle.wac_encode.specs.Listing.{is_plain, are_plain, IsOfItems, AliasesFor, AllAliased, IsAliasRefused, around_at, IsOpened}
 use Rattle.wac_encode.proofs.Plain.{both-true}
@@ -116,7 +118,7 @@ pub record IsOpening (around : Scope) (ds : List DefinedTypeId) (i : ℕ) (s : S
   pub content : s.content ≡ Instance []
   pub types : (a : AnyType) → type_index s a ≡ None
   pub before : (k : ℕ) (d : DefinedTypeId) → k < i → slice_get ds k ≡ Some d → listed_at s d ≡ around_at (named_at around d)
-  pub only : (d : DefinedTypeId) (l : Listed) → listed_at s d ≡ Some l → around_at (named_at around d) ≡ Some l
+  pub only : (d : DefinedTypeId) (l : Listed) → listed_at s d ≡ Some l → IsOneOf d ds × (around_at (named_at around d) ≡ Some l)
 
 pub opening-starts : (around : Scope) (ds : List DefinedTypeId) (s : Scope) → s.content ≡ Instance [] → ((a : AnyType) → type_index s a ≡ None) → ((a : AnyType) → listing s a ≡ None) → IsOpening around ds 0 s
 opening-starts around ds s empty none unlisted = record {
@@ -161,8 +163,8 @@ opening-named around ds i s s' d j at named w lists = record {
         let both : false ≡ true = sym other ∙ number in
         cc
 
-    only : (e : DefinedTypeId) (l : Listed) (b : Bool) → nat_eq d.0 e.0 ≡ b → cond b (Some (Around j)) (listed_at s e) ≡ Some l → around_at (named_at around e) ≡ Some l
-    only e l true same h = sym (this e same) ∙ h
+    only : (e : DefinedTypeId) (l : Listed) (b : Bool) → nat_eq d.0 e.0 ≡ b → cond b (Some (Around j)) (listed_at s e) ≡ Some l → IsOneOf e ds × (around_at (named_at around e) ≡ Some l)
+    only e l true same h = ((i, at ∙ ap (λ (x : DefinedTypeId). Some x) (same-id d e same)), sym (this e same) ∙ h)
     only e l false other h = w.only e l h
 
 -- one that has none
@@ -176,7 +178,7 @@ opening-unnamed around ds i s d at unnamed w = record {
   where
     nowhere : (o : Option Listed) → listed_at s d ≡ o → listed_at s d ≡ around_at (named_at around d)
     nowhere None is = is ∙ sym (ap around_at unnamed)
-    nowhere (Some l) is = is ∙ sym (w.only d l is)
+    nowhere (Some l) is = is ∙ sym (w.only d l is).1
 
     before : (k : ℕ) (e : DefinedTypeId) → (k < i) ⊎ (k ≡ i) → slice_get ds k ≡ Some e → listed_at s e ≡ around_at (named_at around e)
     before k e (inl less) here = w.before k e less here
@@ -207,18 +209,19 @@ held-interface c i less = let h = there-is c.interfaces i.0 less in (h.0.item, a
 pub made-of-items : (c : Collection) (i : InterfaceId) (ds : List DefinedTypeId) → i.0 < length c.interfaces → AreDefinitionsOf c i ds → AreMadeOf c (interface_exports c i) ds
 made-of-items c i ds less all = let h = held-interface c i less in of-items c i h.0 ds h.1 all
 
-pub opening-ends : (c : Collection) (i : InterfaceId) (around : Scope) (ds : List DefinedTypeId) (n : ℕ) (s : Scope) → i.0 < length c.interfaces → AreDefinitionsOf c i ds → length ds ≡ n → IsOpening around ds n s → IsOpened c i around s
-opening-ends c i around ds n s less all whole w = record {
+-- a position in a list is below its length
+within : (xs : List DefinedTypeId) (k : ℕ) (d : DefinedTypeId) → slice_get xs k ≡ Some d → k < length xs
+within [] k d at = let no_some : None ≡ Some d = at in cc
+within (x ∷ xs) zero d at = omega arith
+within (x ∷ xs) (suc k) d at = let below : k < length xs = within xs k d at in omega (arith, below)
+
+pub opening-ends : (around : Scope) (ds : List DefinedTypeId) (n : ℕ) (s : Scope) → length ds ≡ n → IsOpening around ds n s → IsOpenedFor ds around s
+opening-ends around ds n s whole w = record {
   content = w.content;
   types = w.types;
-  listed = λ d made. let k = (made-of-items c i ds less all d).1 made in w.before k.0 d (subst (λ (m : ℕ). k.0 < m) whole (within ds k.0 d k.1)) k.1;
+  listed = λ d k. w.before k.0 d (subst (λ (m : ℕ). k.0 < m) whole (within ds k.0 d k.1)) k.1;
   only = w.only;
 }
-  where
-    within : (xs : List DefinedTypeId) (k : ℕ) (d : DefinedTypeId) → slice_get xs k ≡ Some d → k < length xs
-    within [] k d at = let no_some : None ≡ Some d = at in cc
-    within (x ∷ xs) zero d at = omega arith
-    within (x ∷ xs) (suc k) d at = let below : k < length xs = within xs k d at in omega (arith, below)
 
 -- one alias
 
@@ -242,8 +245,9 @@ refused-one A B c s d fault.TooLarge listed none h = let l = is-there (listed_at
 refused-one A B c s d fault.OutOfMemory listed none h = tt
 
 -- aliases, one after another
-pub record IsAliasing (c : Collection) (i : InterfaceId) (ds : List DefinedTypeId) (n : ℕ) (old now : Scope) : Type 0 where
-  pub so_far : AliasesFor c i old now
+pub record IsAliasing (c : Collection) (ds : List DefinedTypeId) (n : ℕ) (old now : Scope) : Type 0 where
+  pub so_far : (i : InterfaceId) → AreOfItems c i ds → AliasesFor c i old now
+  pub listed : (a : AnyType) → listing now a ≡ listing old a
   pub all : (k : ℕ) (d : DefinedTypeId) → k < n → slice_get ds k ≡ Some d → IsSome (listed_at old d) → IsSome (value_index now d)
 
 pub aliasing-none : (c : Collection) → StaysOnward → (i : InterfaceId) (old new : Scope) → IsAsBefore old new → AliasesFor c i old new
@@ -252,8 +256,8 @@ aliasing-none c stays i old new h = record {
   only = λ a k none some. let both : None ≡ Some k = sym none ∙ sym (h.types a) ∙ some in cc;
 }
 
-pub aliasing-starts : (c : Collection) → StaysOnward → (i : InterfaceId) (ds : List DefinedTypeId) (s : Scope) → IsAliasing c i ds 0 s s
-aliasing-starts c stays i ds s = record { so_far = aliasing-none c stays i s s (as-it-was s); all = λ k d less at. absurd (omega (arith, less)) }
+pub aliasing-starts : (c : Collection) → StaysOnward → (ds : List DefinedTypeId) (s : Scope) → IsAliasing c ds 0 s s
+aliasing-starts c stays ds s = record { so_far = λ i made. aliasing-none c stays i s s (as-it-was s); listed = λ a. refl; all = λ k d less at. absurd (omega (arith, less)) }
 
 still-some : (s s' : Scope) (d : DefinedTypeId) → ((j : ℕ) → value_index s d ≡ Some j → value_index s' d ≡ Some j) → IsSome (value_index s d) → IsSome (value_index s' d)
 still-some s s' d kept = by_index (value_index s d) refl
@@ -278,9 +282,10 @@ aliases-still c follows stays i old now new h w = record {
   only = λ a k none some. w.only a k none (sym (h.types a) ∙ some);
 }
 
-pub aliasing-further : (c : Collection) → Follows → StaysOnward → (i : InterfaceId) (ds : List DefinedTypeId) (n : ℕ) (old now new : Scope) (d : DefinedTypeId) → HasDefined c d → IsOfItems c i (ty.Value (val.Defined d)) → slice_get ds n ≡ Some d → IsAliasing c i ds n old now → AliasesOne c now new d → IsAliasing c i ds (n + 1) old new
-aliasing-further c follows stays i ds n old now new d held made at w (aliased_now listed none one) = record {
-  so_far = aliases-one-more c follows i old now new d held made listed none w.so_far one;
+pub aliasing-further : (c : Collection) → Follows → StaysOnward → (ds : List DefinedTypeId) (n : ℕ) (old now new : Scope) (d : DefinedTypeId) → HasDefined c d → slice_get ds n ≡ Some d → IsAliasing c ds n old now → AliasesOne c now new d → IsAliasing c ds (n + 1) old new
+aliasing-further c follows stays ds n old now new d held at w (aliased_now listed none one) = record {
+  so_far = λ i made. aliases-one-more c follows i old now new d held (made d (n, at)) listed none (w.so_far i made) one;
+  listed = λ a. one.recorded.listed a ∙ w.listed a;
   all = λ k e less here some. all k e (last-or-before k n less) here some;
 }
   where
@@ -290,8 +295,9 @@ aliasing-further c follows stays i ds n old now new d held made at w (aliased_no
         let both : Some d ≡ Some e = sym at ∙ ap (slice_get ds) (sym last) ∙ here in
         let same : d ≡ e = cc in
         subst (λ (x : DefinedTypeId). IsSome (value_index new x)) same (subst (λ (o : Option ℕ). IsSome o) (sym (recorded-there (ty.Value (val.Defined d)) one.index now new one.recorded)) refl)
-aliasing-further c follows stays i ds n old now new d held made at w (as_before same written_) = record {
-  so_far = aliases-still c follows stays i old now new same w.so_far;
+aliasing-further c follows stays ds n old now new d held at w (as_before same written_) = record {
+  so_far = λ i made. aliases-still c follows stays i old now new same (w.so_far i made);
+  listed = λ a. same.listed a ∙ w.listed a;
   all = λ k e less here some. still-some now new e (λ j is. same.types (ty.Value (val.Defined e)) ∙ is) (all k e (last-or-before k n less) here some);
 }
   where
@@ -300,11 +306,11 @@ aliasing-further c follows stays i ds n old now new d held made at w (as_before 
     all k e (inr last) here some =
         let both : Some d ≡ Some e = sym at ∙ ap (slice_get ds) (sym last) ∙ here in
         let one : d ≡ e = cc in
-        subst (λ (x : DefinedTypeId). IsSome (value_index now x)) one (written_ (subst (λ (x : DefinedTypeId). IsSome (listed_at now x)) (sym one) (subst (λ (l : Option Listed). IsSome l) (sym (w.so_far.written.listed (ty.Value (val.Defined e)))) some)))
+        subst (λ (x : DefinedTypeId). IsSome (value_index now x)) one (written_ (subst (λ (x : DefinedTypeId). IsSome (listed_at now x)) (sym one) (subst (λ (l : Option Listed). IsSome l) (sym (w.listed (ty.Value (val.Defined e)))) some)))
 
 -- where one is refused
-pub aliasing-stops : (c : Collection) → Follows → StaysOnward → (i : InterfaceId) (ds : List DefinedTypeId) (n : ℕ) (old now new : Scope) → IsAliasing c i ds n old now → IsAsBefore now new → AliasesFor c i old new
-aliasing-stops c follows stays i ds n old now new w same = aliases-still c follows stays i old now new same w.so_far
+pub aliasing-stops : (c : Collection) → Follows → StaysOnward → (i : InterfaceId) (ds : List DefinedTypeId) (n : ℕ) (old now new : Scope) → AreOfItems c i ds → IsAliasing c ds n old now → IsAsBefore now new → AliasesFor c i old new
+aliasing-stops c follows stays i ds n old now new made w same = aliases-still c follows stays i old now new same (w.so_far i made)
 
 pub alias-refused-as : (A B : Type 0) (c : Collection) (i : InterfaceId) (now new : Scope) (d : DefinedTypeId) (f : EncodeFault) → IsOfItems c i (ty.Value (val.Defined d)) → IsAsBefore now new → IsOneAliasRefused {A = A} now d (Err f) → IsAliasRefused {A = B} c i new (Err f)
 alias-refused-as A B c i now new d (fault.Write g) made same h = h
@@ -318,22 +324,21 @@ alias-refused-as A B c i now new d fault.TooLarge made same h = record {
 }
 alias-refused-as A B c i now new d fault.OutOfMemory made same h = tt
 
-pub aliasing-ends : (c : Collection) (i : InterfaceId) (ds : List DefinedTypeId) (n : ℕ) (old now : Scope) → i.0 < length c.interfaces → AreDefinitionsOf c i ds → length ds ≡ n → IsAliasing c i ds n old now → AllAliased c i old now
-aliasing-ends c i ds n old now less all whole w d made some = let k = (made-of-items c i ds less all d).1 made in w.all k.0 d (subst (λ (m : ℕ). k.0 < m) whole (within ds k.0 d k.1)) k.1 some
-  where
-    within : (xs : List DefinedTypeId) (k : ℕ) (d : DefinedTypeId) → slice_get xs k ≡ Some d → k < length xs
-    within [] k d at = let no_some : None ≡ Some d = at in cc
-    within (x ∷ xs) zero d at = omega arith
-    within (x ∷ xs) (suc k) d at = let below : k < length xs = within xs k d at in omega (arith, below)
+pub aliasing-ends : (c : Collection) (ds : List DefinedTypeId) (n : ℕ) (old now : Scope) → length ds ≡ n → IsAliasing c ds n old now → (d : DefinedTypeId) → IsOneOf d ds → IsSome (listed_at old d) → IsSome (value_index now d)
+aliasing-ends c ds n old now whole w d k some = w.all k.0 d (subst (λ (m : ℕ). k.0 < m) whole (within ds k.0 d k.1)) k.1 some
 
--- what the items are made of, at a position
-pub made-at : (c : Collection) (i : InterfaceId) (ds : List DefinedTypeId) (k : ℕ) (d : DefinedTypeId) → i.0 < length c.interfaces → AreDefinitionsOf c i ds → slice_get ds k ≡ Some d → IsOfItems c i (ty.Value (val.Defined d))
-made-at c i ds k d less all at = (made-of-items c i ds less all d).0 (k, at)
+-- what an interface's items are made of, in a list of all that
+pub are-of-items : (c : Collection) (i : InterfaceId) (ds : List DefinedTypeId) → i.0 < length c.interfaces → AreDefinitionsOf c i ds → AreOfItems c i ds
+are-of-items c i ds less all d k = (made-of-items c i ds less all d).0 k
+
+pub all-aliased-of : {A E : Type 0} (c : Collection) (i : InterfaceId) (ds : List DefinedTypeId) (old new : Scope) (r : Result A E) → i.0 < length c.interfaces → AreDefinitionsOf c i ds → OnOk r ((d : DefinedTypeId) → IsOneOf d ds → IsSome (listed_at old d) → IsSome (value_index new d)) → OnOk r (AllAliased c i old new)
+all-aliased-of c i ds old new (Ok x) less all h = λ d made some. h d ((made-of-items c i ds less all d).1 made) some
+all-aliased-of c i ds old new (Err e) less all h = tt
 
 pub none-named : (o : Option ℕ) → ((k : ℕ) → o ≡ Some k → ⊥) → o ≡ None
 none-named None h = refl
 none-named (Some k) h = absurd (h k refl)
 
 -- of a slice that shows them
-pub shown : (c : Collection) (i : InterfaceId) (ds es : List DefinedTypeId) → es ≡ ds → AreDefinitionsOf c i ds → AreDefinitionsOf c i es
-shown c i ds es is all = subst (AreDefinitionsOf c i) (sym is) all
+pub made-shown : (c : Collection) (i : InterfaceId) (ds es : List DefinedTypeId) → es ≡ ds → AreDefinitionsOf c i ds → AreDefinitionsOf c i es
+made-shown c i ds es is all = subst (AreDefinitionsOf c i) (sym is) all

@@ -7,7 +7,7 @@ use Rattle.wac_shapes.specs.declared.component.InterfaceId.{InterfaceId}
 use Rattle.wac_shapes.specs.declared.component.ItemKind.{ItemKind}
 use Rattle.wac_shapes.specs.declared.component.ItemKind.TheVariants as kind
 use Rattle.wac_shapes.specs.declared.component.«Type».TheVariants as ty
-use Rattle.wac_collection.specs.Collection.{Collection, IsWellFormed, IsBefore, holds_type, size}
+use Rattle.wac_collection.specs.Collection.{Collection, IsWellFormed, IsBefore, holds_type, interface_exports, size}
 use Rattle.wac_collection.proofs.Growth.{type_before}
 use Rattle.wac_binary.specs.Items.{Decl}
 use Rattle.wac_scopes.specs.declared.encodable.Encodable.TheVariants.{Instance}
@@ -23,7 +23,7 @@ use Rattle.wac_encode.specs.Items.{ListsHeld, CanClose, CanList, nothing_inside,
 use Rattle.wac_encode.specs.Levels.{IsBegun, IsLevel, IsWaiting, IsChain, PutsInstance, InstanceNotPut}
 use Rattle.wac_encode.proofs.InstanceTypes.{still-unwritten}
 use Rattle.wac_encode.proofs.Listed.{still-open}
-use Rattle.wac_encode.proofs.Levels.{Stands, wrote-inside, refused-inside, begins-level, next-level, can-list, open-level, inside-held, says-level, writes-level, refused-level, waiting-refused, of-chain, of-chain-closed, chain-on, chain-opens, chain-closes, chain-refused, opens-inside, alias-stands, closes-inside, closed-stands}
+use Rattle.wac_encode.proofs.Levels.{Stands, wrote-inside, refused-inside, begins-level, next-level, can-list, exported-at, open-level, inside-held, says-level, writes-level, refused-level, waiting-refused, of-chain, of-chain-closed, chain-on, chain-opens, chain-closes, chain-refused, opens-inside, alias-stands, closes-inside, closed-stands}
 
 pub first-chain : (c : Collection) → OpensInterface → (d : ℕ) (around : Scope) (i : InterfaceId) (ls : List Level) (l : Level) → ls ≡ [] → lists_plain_to d c i ≡ true → IsBefore c d (ty.Interface i) → IsBegun c around i l → IsChain d c around i ls l
 first-chain c opens zero around i ls l none plain before b = let both : false ≡ true = plain in cc
@@ -48,6 +48,9 @@ module _ (c : Collection) (wf : IsWellFormed c) (around : Scope) (i : InterfaceI
 
   pub chain-inside-held : (n : Name) (j : InterfaceId) → slice_get (named_pairs l.order.items) l.next ≡ Some (n, kind.Instance j) → IsChain (size c) c around i ls l → holds_type c (ty.Interface j) ≡ true
   chain-inside-held n j at h = of-last (holds_type c (ty.Interface j) ≡ true) (λ d a k x. inside-held c wf d a k l l.scope n j at x) h
+
+  pub chain-listed : (n : Name) (k : ItemKind) → slice_get (named_pairs l.order.items) l.next ≡ Some (n, k) → IsChain (size c) c around i ls l → (p : ℕ) × (slice_get (interface_exports c l.interface) p ≡ Some (n, k))
+  chain-listed n k at h = of-last ((p : ℕ) × (slice_get (interface_exports c l.interface) p ≡ Some (n, k))) (λ d a j x. exported-at c d a j l l.scope (n, k) at x) h
 
   -- an item is listed, or refused
   pub chain-item : ListsOneMore → (m : Level) (n : Name) (k : ItemKind) → m.interface ≡ l.interface → m.order ≡ l.order → m.next ≡ l.next + 1 → slice_get (named_pairs l.order.items) l.next ≡ Some (n, k) → ListsHeld c l.scope m.scope n k → WritesItem nothing_inside c l.scope m.scope n k → IsChain (size c) c around i ls l → IsChain (size c) c around i ls m

@@ -24,7 +24,8 @@ use Rattle.wac_reach.proofs.Lists.{in_at, at_in, all_old, all_new, all_only, all
 use Rattle.wac_reach.proofs.Universe.{types_of, found_few}
 use Rattle.wac_encode.specs.Listing.{is_plain, lists_plain, lists_plain_to}
 use Rattle.wac_encode.specs.Inside.{IsInsideBy, IsInside, AreInside, are_plain_alone, lists_plain_alone, and_inside, with_inside, IsHeldInterface, PutsInside}
-use Rattle.wac_encode.proofs.Plain.{plain-each, each-plain, plain-of, plain-alone, plain-inside, listed-before, held-items}
+use Rattle.wac_planning.proofs.Listing.{listed-before, held-items}
+use Rattle.wac_encode.proofs.Plain.{plain-each, each-plain, plain-of, plain-alone, plain-inside}
 
 -- what is put of items
 

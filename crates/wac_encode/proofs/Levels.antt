@@ -2,7 +2,7 @@
 use Rattle.std.specs.Prelude.{ℕ, zero, suc, ◌+◌, ◌<◌, ◌≤◌, ◌≡◌, true, List, [], ◌∷◌, ◌++◌, length, Option, Some, None, slice_get, take, Err}
 use Rattle.std.proofs.Common.{refl, ap, ◌∙◌, sym, subst, arith, inl, inr, nat_lt}
 use Rattle.std.proofs.lemmas.List.Sorted.{IsPermutation-sym}
-use Rattle.wac_shapes.specs.Name.{Name}
+use Rattle.wac_shapes.specs.Name.{Name, option_case}
 use Rattle.wac_shapes.specs.Named.{named_pairs}
 use Rattle.wac_shapes.specs.declared.component.Interface.{Interface}
 use Rattle.wac_shapes.specs.declared.component.InterfaceId.{InterfaceId}
@@ -10,7 +10,7 @@ use Rattle.wac_shapes.specs.declared.component.ItemKind.{ItemKind}
 use Rattle.wac_shapes.specs.declared.component.ItemKind.TheVariants as kind
 use Rattle.wac_shapes.specs.declared.component.«Type».TheVariants as ty
 use Rattle.wac_collection.specs.declared.collection.Held.{Held}
-use Rattle.wac_collection.specs.Collection.{Collection, IsWellFormed, AddedBefore, IsBefore, holds_type, size}
+use Rattle.wac_collection.specs.Collection.{Collection, IsWellFormed, AddedBefore, IsBefore, holds_type, interface_exports, item_at, size}
 use Rattle.wac_collection.proofs.Growth.{type_within}
 use Rattle.wac_binary.specs.Items.{instance_def, Decl, decls}
 use Rattle.wac_binary.specs.declared.sorts.Sort.TheVariants as sort
@@ -34,7 +34,8 @@ use Rattle.wac_encode.specs.Items.{ListsHeld, HasListed, CanList, nothing_inside
 use Rattle.wac_encode.specs.Levels.{SoFar, IsBegun, IsLevel, IsWaiting, IsChain, PutsInstance, InstanceNotPut}
 use Rattle.wac_encode.proofs.InstanceTypes.{adds-interface, instance-behind, aliases-for, still-unwritten, written-behind, adds-behind, ends-with-interface}
 use Rattle.wac_encode.proofs.Ordered.{once-ordered, same-under, stands-there}
-use Rattle.wac_encode.proofs.Plain.{plain-each, plain-of, plain-alone, listed-before, held-items}
+use Rattle.wac_planning.proofs.Listing.{listed-before, held-items}
+use Rattle.wac_encode.proofs.Plain.{plain-each, plain-of, plain-alone}
 use Rattle.wac_encode.proofs.Listed.{starts, goes-further, stops-at, closes-open, says-interface, instance-listed}
 
 -- an item for which nothing is written inside is written so whatever is inside
@@ -130,6 +131,12 @@ next-level c more d around i l m now n k same order further at x listed wrote = 
 -- an item of a level
 there-at : (c : Collection) (d : ℕ) (around : Scope) (i : InterfaceId) (l : Level) (now : Scope) (k : Name × ItemKind) → slice_get (named_pairs l.order.items) l.next ≡ Some k → (x : IsLevel d c around i l now) → (j : ℕ) × (slice_get x.interface.exports j ≡ Some k)
 there-at c d around i l now k at x = stands-there (named_pairs l.order.items) x.interface.exports (IsPermutation-sym x.interface.exports (named_pairs l.order.items) x.ordered.permutation) l.next k at
+
+-- as one of the interface's exports
+pub exported-at : (c : Collection) (d : ℕ) (around : Scope) (i : InterfaceId) (l : Level) (now : Scope) (k : Name × ItemKind) → slice_get (named_pairs l.order.items) l.next ≡ Some k → IsLevel d c around i l now → (p : ℕ) × (slice_get (interface_exports c l.interface) p ≡ Some k)
+exported-at c d around i l now k at x =
+    let there = there-at c d around i l now k at x in
+    (there.0, subst (λ (o : Option Interface). slice_get (option_case o [] (λ it. it.exports)) there.0 ≡ Some k) (sym (ap (λ (j : InterfaceId). item_at c.interfaces j.0) x.is ∙ x.found)) there.1)
 
 pub can-list : (c : Collection) → IsWellFormed c → (d : ℕ) (around : Scope) (i : InterfaceId) (l : Level) (now : Scope) (k : Name × ItemKind) → slice_get (named_pairs l.order.items) l.next ≡ Some k → IsLevel d c around i l now → CanList c k.1
 can-list c wf d around i l now k at x =

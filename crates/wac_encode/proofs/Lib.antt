@@ -16,3 +16,4 @@ pub mod Levels
 pub mod Chains
 pub mod Remaining
 pub mod Inside
+pub mod Placed

@@ -10,22 +10,11 @@ use Rattle.wac_shapes.specs.declared.component.Interface.{Interface}
 use Rattle.wac_shapes.specs.declared.component.InterfaceId.{InterfaceId}
 use Rattle.wac_shapes.specs.declared.component.ItemKind.{ItemKind}
 use Rattle.wac_shapes.specs.declared.component.ItemKind.TheVariants as kind
-use Rattle.wac_collection.specs.Collection.{Collection, item_at}
+use Rattle.wac_collection.specs.Collection.{Collection}
 use Rattle.wac_scopes.specs.declared.scope.Scope.{Scope}
+use Rattle.wac_planning.proofs.Steps.{kind_steps, item_steps, steps_to}
 use Rattle.wac_encode.specs.declared.level.Level.{Level}
 use Rattle.wac_encode.specs.Levels.{IsBegun, IsChain}
-
--- how many an item takes, where this tells of the interfaces inside, and an interface, to a depth
-abbrev kind_steps : (InterfaceId → ℕ) → ItemKind → ℕ
-kind_steps inside (kind.Instance j) = suc (inside j)
-kind_steps inside k = 1
-
-abbrev item_steps : (InterfaceId → ℕ) → Name × ItemKind → ℕ
-item_steps inside e = kind_steps inside e.1
-
-abbrev steps_to : ℕ → Collection → InterfaceId → ℕ
-steps_to zero c i = 0
-steps_to (suc d) c i = option_case (item_at c.interfaces i.0) 0 (λ it. suc (sum_by (item_steps (steps_to d c)) it.exports))
 
 -- of items from a position on
 abbrev left_from : ℕ → Collection → List (Name × ItemKind) → ℕ → ℕ

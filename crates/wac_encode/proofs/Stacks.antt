@@ -230,7 +230,7 @@ by-name None None before now none is = sym (none refl)
 by-name None (Some l) before now none is = is ∙ sym (none refl)
 
 -- what is not written has no name
-no-place : (s : Scope) (d : DefinedTypeId) → value_index s d ≡ None → named_at s d ≡ None
+pub no-place : (s : Scope) (d : DefinedTypeId) → value_index s d ≡ None → named_at s d ≡ None
 no-place s d = by_place (get (λ a b. nat_eq a.0 b.0) s.values d)
   where
     by_place : (o : Option Place) → index_of o ≡ None → named_index o ≡ None

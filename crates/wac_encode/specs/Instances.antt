@@ -1,17 +1,13 @@
 -- The instance type of an interface in a scope, and the definitions that an instance lists.
-use Rattle.std.specs.Prelude.{ℕ, ◌≡◌, List, [], ◌∷◌, ◌++◌, Option, Some, None, Result, Ok, Err}
+use Rattle.std.specs.Prelude.{ℕ, ◌≡◌, List, [], ◌∷◌, ◌++◌, None, Result, Ok, Err}
 use Rattle.wac_shapes.specs.Name.{Name, option_case}
 use Rattle.wac_shapes.specs.declared.component.DefinedTypeId.{DefinedTypeId}
 use Rattle.wac_shapes.specs.declared.component.InterfaceId.{InterfaceId}
 use Rattle.wac_shapes.specs.declared.component.ItemKind.{ItemKind}
-use Rattle.wac_shapes.specs.declared.component.ItemKind.TheVariants as kind
-use Rattle.wac_shapes.specs.declared.component.ValueType.{ValueType}
-use Rattle.wac_shapes.specs.declared.component.ValueType.TheVariants as val
 use Rattle.wac_shapes.specs.declared.component.«Type».{«Type» as AnyType}
 use Rattle.wac_shapes.specs.declared.component.«Type».TheVariants as ty
 use Rattle.wac_collection.specs.Tree.{Tree}
 use Rattle.wac_collection.specs.Collection.{Collection}
-use Rattle.wac_collection.specs.Aliases.{value_resolved}
 use Rattle.wac_collection.specs.Bound.{Bindings}
 use Rattle.wac_binary.specs.HasMeaning.{IsInstance}
 use Rattle.wac_scopes.specs.declared.encodable.Encodable.TheVariants.{Component}
@@ -22,6 +18,7 @@ use Rattle.wac_stacks.specs.Scopes.{Open, Stack}
 use Rattle.wac_stacks.specs.Good.{IsHeld, Good}
 use Rattle.wac_stacks.specs.Laws.{Adds}
 use Rattle.wac_scopes.specs.Scoped.{type_index, opened, listing}
+use Rattle.wac_planning.specs.Listed.{listed_definition}
 use Rattle.wac_encode.specs.Listing.{AliasesFor, WritesInterface, IsInstanceTypeAt, InsideDoesNotFit, IsInterfaceRefused}
 
 -- index k is the held interface's, in each stack that was good with the scope as the innermost; and that stack goes onward
@@ -32,16 +29,6 @@ AddsHeldInterface c old new i k = (m : Bindings) (ms : List Bindings) (o : Open)
 -- index j is that of the interface's instance type: the recorded one, and nothing is written; else it was written last
 abbrev pub IsInterfaceAt : Collection → Scope → Scope → InterfaceId → ℕ → Type 0
 IsInterfaceAt c old now i j = IsInstanceTypeAt (WritesInterface c) c old now i j
-
--- the definition of a value type
-abbrev pub definition_of : ValueType → Option DefinedTypeId
-definition_of (val.Defined d) = Some d
-definition_of v = None
-
--- the definition that a type item lists: that at which its aliases end
-abbrev pub listed_definition : Collection → ItemKind → Option DefinedTypeId
-listed_definition c (kind.TypeItem (ty.Value v)) = definition_of (value_resolved c v)
-listed_definition c k = None
 
 -- the definitions that items list, each with its name, the last first
 abbrev pub listed_definitions : Collection → List (Name × ItemKind) → List (DefinedTypeId × Name)

@@ -5,3 +5,4 @@ pub mod Items
 pub mod Instances
 pub mod Levels
 pub mod Inside
+pub mod Plans

@@ -5,11 +5,12 @@ ghost use Rattle.wac_shapes.specs.declared.component.ItemKind.TheVariants as kin
 ghost use Rattle.wac_collection.specs.Collection.{HasInterface};
 ghost use Rattle.wac_encode.specs.Written.{WritesFor};
 ghost use Rattle.wac_encode.specs.Listing.{NeededBy, lists_plain};
-ghost use Rattle.wac_encode.specs.Instances.{AddsHeldInterface, IsInterfaceAt, IsInstanceRefused, listed_definition, listed_definitions};
+ghost use Rattle.wac_encode.specs.Instances.{AddsHeldInterface, IsInterfaceAt, IsInstanceRefused, listed_definitions};
 
 use crate::encoder::TypeEncoder;
 use std::alloc::AllocError;
-use wac_collection::{DefinedTypeId, InterfaceId, ItemKind, Named, Text, Type, ValueType};
+use wac_collection::{DefinedTypeId, InterfaceId, ItemKind, Named, Text};
+use wac_planning::listed_definition;
 use wac_scopes::{EncodeFault, Scope, step_law, still_law};
 
 impl<'a> TypeEncoder<'a> {
@@ -39,19 +40,6 @@ impl<'a> TypeEncoder<'a> {
         Ok(index)
     }
 
-    /// The definition that a type item lists, aliases followed to the end.
-    fn listed_definition(&self, item: ItemKind) -> Option<DefinedTypeId>
-        ensures { result ≡ listed_definition self.now.types.now item }
-    {
-        match item {
-            ItemKind::TypeItem(Type::Value(value)) => match self.types.resolve_value_type(value) {
-                ValueType::Defined(id) => Some(id),
-                _ => None,
-            },
-            _ => None,
-        }
-    }
-
     /// The definitions that items list, each with its name, the last first.
     pub fn listed_definitions(
         &self,
@@ -65,7 +53,7 @@ impl<'a> TypeEncoder<'a> {
         while i > 0 {
             i -= 1;
             let (name, item) = items.entry_at(i);
-            if let Some(id) = self.listed_definition(*item) {
+            if let Some(id) = listed_definition(self.types, *item) {
                 definitions.push((id, Text::new(alloc, name)?))?;
             }
         }

@@ -8,6 +8,8 @@ use wac_scopes::Scope;
 pub(crate) struct Level<'a> {
     /// The instance type, as far as it is written.
     pub scope: Scope,
+    /// Its place in the plan.
+    pub place: usize,
     /// The interface.
     pub interface: InterfaceId,
     /// Its items in the order in which they are written.

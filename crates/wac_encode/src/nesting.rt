@@ -3,14 +3,18 @@
 //! An interface whose instance type is needed inside another is written before the item that needs it, while the levels around it wait in
 //! a list, so that no chain of instances in instances is too long.
 
-ghost use Rattle.std.specs.Prelude.{◌≡◌, ◌<◌, ◌⊎◌, true, false, None, IfOk, OnOk, Ok as Answers, Err as Refused, length, slice_get};
+ghost use Rattle.std.specs.Prelude.{◌≡◌, ◌<◌, ◌⊎◌, ℕ, List, Some, true, false, None, IfOk, OnOk, IsSome, Ok as Answers, Err as Refused, length, slice_get};
+ghost use Rattle.wac_shapes.specs.declared.component.ItemKind.TheVariants as kind;
 ghost use Rattle.wac_shapes.specs.declared.component.«Type».TheVariants as ty;
 ghost use Rattle.wac_shapes.specs.Named.{named_pairs};
-ghost use Rattle.wac_collection.specs.Collection.{HasInterface};
+ghost use Rattle.wac_shapes.specs.declared.component.DefinedTypeId.{DefinedTypeId as AnId};
+ghost use Rattle.wac_collection.specs.Collection.{HasInterface, interface_exports};
 ghost use Rattle.wac_scopes.specs.declared.fault.EncodeFault.TheVariants.{OutOfMemory};
 ghost use Rattle.wac_scopes.specs.Contents.{IsOpenType};
-ghost use Rattle.wac_scopes.specs.Scoped.{type_index};
-ghost use Rattle.wac_encode.specs.Listing.{SaysInterface, SaysIfThere, WritesInterface, WritesIfThere, lists_plain, IsInterfaceRefused};
+ghost use Rattle.wac_scopes.specs.Scoped.{listed_at, type_index};
+ghost use Rattle.wac_encode.specs.Listing.{AliasesFor, AllAliased, IsAliasRefused, SaysInterface, SaysIfThere, WritesInterface, WritesIfThere, lists_plain, IsInterfaceRefused};
+ghost use Rattle.wac_planning.specs.Plans.{IsOneOf, Takes, HasName, ArePlanned, places_of};
+ghost use Rattle.wac_encode.specs.Plans.{IsAtPlace};
 ghost use Rattle.wac_encode.specs.Levels.{IsBegun, IsNextOf, PutsInstance, InstanceNotPut};
 
 use crate::encoder::TypeEncoder;
@@ -18,24 +22,62 @@ use crate::interfaces::{entry_of, instance_type};
 use crate::level::{Level, Next};
 use std::alloc::AllocError;
 use wac_builder::InstanceType;
-use wac_collection::{InterfaceId, ItemKind};
+use wac_collection::{DefinedTypeId, InterfaceId, ItemKind};
+use wac_planning::Plan;
 use wac_scopes::{EncodeFault, Scope, closing_law, listing_law, step_law, still_law};
 
 impl<'a> TypeEncoder<'a> {
-    /// Opens a level for an interface over a scope.
-    fn level(&self, around: &Scope, interface: InterfaceId) -> Result<Level<'a>, AllocError>
-        requires { HasInterface self.now.types.now interface }
-        ensures { IfOk result (IsBegun self.now.types.now around.now interface) }
+    /// Opens a level for an interface at a place over a scope, from which it takes these definitions.
+    fn level(
+        &self,
+        around: &Scope,
+        interface: InterfaceId,
+        place: usize,
+        taken: &[DefinedTypeId],
+    ) -> Result<Level<'a>, AllocError>
+        requires held { HasInterface self.now.types.now interface }
+        requires takes { Takes self.now.types.now (HasName around.now) interface taken.now }
+        ensures begun { IfOk result (IsBegun self.now.types.now around.now interface) }
+        ensures place { IfOk result (λ l. l.place ≡ place) }
+        ensures taken { IfOk result (λ l. (d : AnId) → IsSome (listed_at l.scope d) → IsOneOf d taken.now) }
     {
         self.types[interface].exports.law();
         let order = self.order(interface)?;
-        let scope = self.open(around, interface)?;
+        let scope = self.open(around, taken)?;
         Ok(Level {
             scope,
+            place,
             interface,
             order,
             next: 0,
         })
+    }
+
+    /// Opens a level for an interface of which another lists an instance, behind the aliases of what it takes from there.
+    fn open_inside(
+        &self,
+        level: &mut Level<'a>,
+        plan: &Plan,
+        inside: InterfaceId,
+    ) -> Result<Level<'a>, EncodeFault>
+        requires held { HasInterface self.now.types.now inside }
+        requires planned { ArePlanned self.now.types.now (places_of plan.now) }
+        requires placed { IsAtPlace self.now.types.now (places_of plan.now) level.old }
+        requires listed { (k : ℕ) × (n : List ℕ) × (slice_get (interface_exports self.now.types.now level.old.interface) k ≡ Some (n, kind.Instance inside)) }
+        ensures kept { level.new ≡ record level.old { scope = level.new.scope } }
+        ensures aliases { AliasesFor self.now.types.now inside level.old.scope level.new.scope }
+        ensures all { OnOk result (AllAliased self.now.types.now inside level.old.scope level.new.scope) }
+        ensures begun { IfOk result (IsBegun self.now.types.now level.new.scope inside) }
+        ensures outer { OnOk result (IsAtPlace self.now.types.now (places_of plan.now) level.new) }
+        ensures inner { IfOk result (IsAtPlace self.now.types.now (places_of plan.now)) }
+        ensures fault { IsAliasRefused self.now.types.now inside level.new.scope result }
+    {
+        step_law();
+        let place = plan.inside(level.place, inside);
+        let taken = plan.taken(place);
+        self.alias_all(&mut level.scope, taken)?;
+        let inner = self.level(&level.scope, inside, place, taken)?;
+        Ok(inner)
     }
 
     /// Writes the instance type of an interface inside, and lists an instance of it.
@@ -78,7 +120,8 @@ impl<'a> TypeEncoder<'a> {
         step_law();
         still_law();
         let mut levels = Vec::new(self.types.allocator());
-        let mut level = self.level(around, interface)?;
+        let plan = Plan::new(self.types, around, interface)?;
+        let mut level = self.level(around, interface, 0, plan.taken(0))?;
         'nesting: loop {
             match next_of(&level) {
                 Next::Item(name, item) => {
@@ -86,14 +129,14 @@ impl<'a> TypeEncoder<'a> {
                     level.next += 1;
                 }
                 Next::Inside(inside) => {
-                    self.alias_listed(&mut level.scope, inside)?;
-                    let inner = self.level(&level.scope, inside)?;
+                    let inner = self.open_inside(&mut level, &plan, inside)?;
                     levels.push(level)?;
                     level = inner;
                 }
                 Next::End => {
                     let Level {
                         scope,
+                        place: _,
                         interface: inside,
                         order: _,
                         next: _,

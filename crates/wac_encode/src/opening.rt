@@ -1,11 +1,13 @@
 //! What an interface's instance type takes from the scope around it.
 
 ghost use Rattle.std.specs.Prelude.{◌≡◌, ◌<◌, IfOk, OnOk, OnErr, IsSome, Some, length, slice_get};
-ghost use Rattle.wac_shapes.specs.declared.component.ValueType.TheVariants as val;
-ghost use Rattle.wac_shapes.specs.declared.component.«Type».TheVariants as ty;
+ghost use Rattle.wac_shapes.specs.declared.component.DefinedTypeId.{DefinedTypeId as AnyId};
+ghost use Rattle.wac_shapes.specs.declared.component.InterfaceId.{InterfaceId as AnInterface};
 ghost use Rattle.wac_collection.specs.Collection.{HasDefined, HasInterface};
 ghost use Rattle.wac_scopes.specs.Scoped.{IsAsBefore, listed_at, value_index};
-ghost use Rattle.wac_encode.specs.Listing.{IsOfItems, AliasesFor, AllAliased, IsAliasRefused, IsOpened};
+ghost use Rattle.wac_encode.specs.Listing.{AliasesFor, AllAliased, IsAliasRefused};
+ghost use Rattle.wac_planning.specs.Plans.{IsOneOf, AreOfItems};
+ghost use Rattle.wac_encode.specs.Plans.{IsOpenedFor};
 ghost use Rattle.wac_encode.specs.Tasks.{AliasesOne, IsOneAliasRefused};
 
 use crate::encoder::TypeEncoder;
@@ -43,10 +45,24 @@ impl<'a> TypeEncoder<'a> {
         ensures fault { IsAliasRefused self.now.types.now interface scope.new result }
     {
         self.types.law();
-        step_law();
         still_law();
         let found = definitions_of(self.types, interface)?;
-        let definitions = found.as_slice();
+        self.alias_all(scope, found.as_slice())
+    }
+
+    /// Aliases each of these definitions where it is listed in the scope and not written yet, in order.
+    pub(crate) fn alias_all(
+        &self,
+        scope: &mut Scope,
+        definitions: &[DefinedTypeId],
+    ) -> Result<(), EncodeFault>
+        requires { (d : AnyId) → IsOneOf d definitions.now → HasDefined self.now.types.now d }
+        ensures written { (i : AnInterface) → AreOfItems self.now.types.now i definitions.now → AliasesFor self.now.types.now i scope.old scope.new }
+        ensures all { OnOk result ((d : AnyId) → IsOneOf d definitions.now → IsSome (listed_at scope.old d) → IsSome (value_index scope.new d)) }
+        ensures fault { (i : AnInterface) → AreOfItems self.now.types.now i definitions.now → IsAliasRefused self.now.types.now i scope.new result }
+    {
+        step_law();
+        still_law();
         for i in 0..definitions.len() {
             let id = definition_of(definitions, i);
             self.alias_one(scope, id)?;
@@ -54,16 +70,16 @@ impl<'a> TypeEncoder<'a> {
         Ok(())
     }
 
-    /// Opens an instance type over a scope: what the interface's items are made of and has a name around is aliased from there.
-    pub(crate) fn open(&self, around: &Scope, interface: InterfaceId) -> Result<Scope, AllocError>
-        requires { HasInterface self.now.types.now interface }
-        ensures { IfOk result (IsOpened self.now.types.now interface around.now) }
+    /// Opens an instance type over a scope: these definitions are aliased from there, where they have a name there.
+    pub(crate) fn open(
+        &self,
+        around: &Scope,
+        definitions: &[DefinedTypeId],
+    ) -> Result<Scope, AllocError>
+        ensures { IfOk result (IsOpenedFor definitions.now around.now) }
     {
-        self.types.law();
         let alloc = self.types.allocator();
         let mut scope = Scope::new(alloc, Encodable::Instance(InstanceType::new(alloc)));
-        let found = definitions_of(self.types, interface)?;
-        let definitions = found.as_slice();
         for i in 0..definitions.len() {
             let id = definition_of(definitions, i);
             if let Some(index) = around.named(id) {

@@ -30,6 +30,30 @@ const ONE_TYPE: &[u8] = &[
     0x0a, 0x0a, 0x01, 0x00, 0x05, 0x6e, 0x3a, 0x70, 0x2f, 0x69, 0x05, 0x00, // the import
 ];
 
+const IN_TWO: &[u8] = &[
+    0x00, 0x61, 0x73, 0x6d, 0x0d, 0x00, 0x01, 0x00, // the preamble
+    0x07, 0x63, 0x01, 0x42, 0x06, // an instance type of six declarations
+    0x01, 0x6d, 0x01, 0x01, 0x61, // the enum
+    0x04, 0x00, 0x01, 0x74, 0x03, 0x00, 0x00, // a type item that equals it
+    0x01, 0x42, 0x03, // an instance type of three declarations inside
+    0x02, 0x03, 0x02, 0x01, 0x01, // an alias of the type item around
+    0x01, 0x42, 0x03, // an instance type of three declarations in it
+    0x02, 0x03, 0x02, 0x01, 0x00, // an alias of that alias
+    0x01, 0x40, 0x01, 0x01, 0x78, 0x00, 0x01, 0x00, // a function type over it
+    0x04, 0x00, 0x01, 0x66, 0x01, 0x01, // a function
+    0x04, 0x00, 0x01, 0x6e, 0x05, 0x01, // an instance
+    0x04, 0x00, 0x01, 0x61, 0x05, 0x02, // an instance
+    0x01, 0x42, 0x03, // another inside
+    0x02, 0x03, 0x02, 0x01, 0x01, // the same alias
+    0x01, 0x42, 0x03, // the same instance type in it
+    0x02, 0x03, 0x02, 0x01, 0x00, // an alias of that alias
+    0x01, 0x40, 0x01, 0x01, 0x78, 0x00, 0x01, 0x00, // a function type over it
+    0x04, 0x00, 0x01, 0x66, 0x01, 0x01, // a function
+    0x04, 0x00, 0x01, 0x6d, 0x05, 0x01, // an instance
+    0x04, 0x00, 0x01, 0x62, 0x05, 0x03, // an instance
+    0x0a, 0x0a, 0x01, 0x00, 0x05, 0x6e, 0x3a, 0x70, 0x2f, 0x69, 0x05, 0x00, // the import
+];
+
 const NESTED: &[Written] = &[
     Written {
         name: "an interface inside takes an enumeration that the outer one lists from there, by the name that it has",
@@ -41,6 +65,19 @@ const NESTED: &[Written] = &[
         ],
         place: 3,
         want: USES_AROUND,
+    },
+    Written {
+        name: "an interface that stands in two takes what is around in each of them",
+        rows: &[
+            Enumeration("a"),
+            Func(&[("x", 0)], None),
+            Instance(None, &[("f", 1)]),
+            Instance(None, &[("n", 2)]),
+            Instance(None, &[("m", 2)]),
+            Instance(Some("n:p/i"), &[("a", 3), ("b", 4), ("t", 0)]),
+        ],
+        place: 5,
+        want: IN_TWO,
     },
     Written {
         name: "two instances of one interface share its type",
@@ -90,17 +127,17 @@ fn deep(rt: &impl Abort, types: &mut Types, count: u32) -> InterfaceId {
     last
 }
 
-// Instances in instances, two hundred deep.
+// Instances in instances, five thousand deep.
 #[test]
-fn writes_two_hundred_levels(rt: HostRuntime) {
+fn writes_five_thousand_levels(rt: HostRuntime) {
     let mut types = Types::new(rt.alloc());
-    let last = deep(&rt, &mut types, 200);
+    let last = deep(&rt, &mut types, 5000);
     assert!(rt; types.contains(Type::Interface(last)));
     let bytes = imported(&rt, &types, last);
-    let want = levels(&rt, &types, 200);
-    // The preamble, the section with its size of two bytes and its count, the instance type, and the import.
-    assert!(rt; bytes.len() == 12 + want.len() + 12);
-    let body = &bytes.as_slice()[12..12 + want.len()];
+    let want = levels(&rt, &types, 5000);
+    // The preamble, the section with its size of three bytes and its count, the instance type, and the import.
+    assert!(rt; bytes.len() == 13 + want.len() + 12);
+    let body = &bytes.as_slice()[13..13 + want.len()];
     assert!(rt; body == want.as_slice());
 }
 

@@ -25,7 +25,7 @@ use Rattle.wac_meaning.proofs.AskedMembers.{IsIn, in_filter}
 use Rattle.wac_meaning.proofs.MergeLemmas.{OrderHasClasses, canonical_in}
 use Rattle.wac_uses.specs.United.{instances_of, listed_by}
 use Rattle.wac_merge.specs.Listed.{interface_in, united_interfaces, Unites, AreListedInOrder}
-use Rattle.wac_encode.proofs.Plain.{listed-before}
+use Rattle.wac_planning.proofs.Listing.{listed-before}
 use Rattle.wac_importing.specs.Written.{AllImportable}
 use Rattle.wac_importing.proofs.Handles.{plain_free}
 use Rattle.wac_importing.proofs.Items.{interface_is, interface_there, exports_are}

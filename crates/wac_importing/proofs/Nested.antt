@@ -19,7 +19,7 @@ use Rattle.wac_subtyping.proofs.Unfolding.{type_before}
 use Rattle.wac_reach.proofs.Lists.{in_at, at_in}
 use Rattle.wac_encode.specs.Inside.{IsInsideBy, IsInside, AreInside, IsHeldInterface}
 use Rattle.wac_encode.proofs.Inside.{inside-further, inside-held}
-use Rattle.wac_encode.proofs.Plain.{held-items, listed-before}
+use Rattle.wac_planning.proofs.Listing.{held-items, listed-before}
 use Rattle.wac_meaning.specs.Importable.{IsPlainItem, IsPlainTo, IsImportableKind}
 use Rattle.wac_importing.specs.Looked.{IsPlainAlone, ArePlain, ListsPlainAlone, ListPlainAlone, ArePlainInside, IsPlainDeep, HasPlainItems, ListsPlain}
 use Rattle.wac_importing.proofs.Items.{interface_there, exports_are, instance_importable, interface_importable, importable_instance, importable_interface, module_importable, plain_importable, func_importable, imports_are, world_exports_are}

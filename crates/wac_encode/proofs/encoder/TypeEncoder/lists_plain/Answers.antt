@@ -1,7 +1,7 @@
-use Rattle.std.specs.Prelude.{◌≡◌, true, false, slice_get}
+use Rattle.std.specs.Prelude.{◌≡◌, true}
 use Rattle.std.proofs.Common.{refl, arith, sym, subst, ◌∙◌, ◌<◌, ◌≤◌, List, length, nat_lt}
 use Rattle.wac_shapes.specs.declared.component.«Type».{«Type» as AnyType}
-use Rattle.wac_encode.specs.Inside.{AreInside, lists_plain_alone}
+use Rattle.wac_encode.specs.Inside.{AreInside}
 use Rattle.wac_encode.proofs.Inside.{shown-at, inside-held, plain-next, plain-all, not-all}
 use Rattle.wac_encode.proofs.encoder.TypeEncoder.lists_plain.Goals as goal
 

@@ -3,33 +3,49 @@ use Rattle.std.proofs.Common.{refl, ap, sym, subst, ◌∙◌, arith, nat_lt}
 use Rattle.std.proofs.lemmas.Option.{slice_get_within}
 use Rattle.std.proofs.lemmas.Result.{err_from_is_err_and}
 use Rattle.wac_shapes.specs.Named.{named_pairs}
+use Rattle.wac_shapes.specs.declared.component.ItemKind.TheVariants as kind
 use Rattle.wac_shapes.proofs.Names.{named_pairs-at}
 use Rattle.wac_collection.specs.Collection.{size}
 use Rattle.wac_binary.specs.Items.{Decl}
 use Rattle.wac_encode.specs.declared.level.Level.{Level}
-use Rattle.wac_encode.specs.Items.{CanClose}
+use Rattle.wac_encode.specs.Items.{CanClose, nothing_inside}
+use Rattle.wac_planning.specs.Plans.{IsOneOf, Takes, HasName, places_of}
+use Rattle.wac_encode.specs.Plans.{AreAtPlaces}
 use Rattle.wac_encode.specs.Levels.{IsChain}
 use Rattle.wac_encode.proofs.Ordered.{pairs-length}
 use Rattle.wac_encode.proofs.Remaining.{weight, less-by-item, less-by-opening, less-by-closing}
-use Rattle.wac_encode.proofs.Chains.{begins-chain, chain-can-list, chain-open, chain-can-close, chain-inside-held, chain-item, chain-item-refused, chain-inside, chain-alias-refused, chain-says, chain-writes, closed-at, closed-held, closed-open, closed-unwritten, closed-says, chain-put, chain-put-refused}
+use Rattle.wac_encode.proofs.Chains.{begins-chain, chain-can-list, chain-listed, chain-open, chain-can-close, chain-inside-held, chain-item, chain-item-refused, chain-inside, chain-alias-refused, chain-says, chain-writes, closed-at, closed-held, closed-open, closed-unwritten, closed-says, chain-put, chain-put-refused}
+use Rattle.wac_encode.proofs.Placed.{placed-item, placed-put, placed-begun, none-wait, one-waits, first-wait}
 use Rattle.wac_encode.proofs.encoder.TypeEncoder.nested_type.Goals as goal
+
+pub level-requires-clause-takes : goal.level-requires-clause-takes
+level-requires-clause-takes c =
+    let first = c.in_ok-plan.ensures.first in
+    subst (Takes c.args.self.now.types.now (HasName c.args.around.now) c.args.interface) (sym (c.taken.ensures first.place first.at)) first.takes
 
 pub nesting-init : goal.nesting-init
 nesting-init c =
     let t = c.args.self.now.types.now in
+    let ps = (places_of c.in_ok-plan.plan) in
+    let first = c.in_ok-plan.ensures.first in
     let held : nat_lt c.args.interface.0 (length t.interfaces) ≡ true = (let r = c.requires.held in grind (arith, r)) in
-    begins-chain t c.law.ensures c.closing_law.ensures.opens_interface c.args.around.now c.args.interface c.new-levels.result.items c.in_ok-level.level c.new-levels.ensures.items c.requires.plain held c.in_ok-level.ensures
+    let begun = c.in_ok-level.ensures.begun in (
+      begins-chain t c.law.ensures c.closing_law.ensures.opens_interface c.args.around.now c.args.interface c.new-levels.result.items c.in_ok-level.level c.new-levels.ensures.items c.requires.plain held begun,
+      subst (AreAtPlaces t ps) (sym c.new-levels.ensures.items) (none-wait t ps),
+      placed-begun t ps c.args.around.now c.args.interface first.place c.in_ok-level.level (ap (slice_get ps) c.in_ok-level.ensures.place ∙ first.at) first.is begun
+          (λ d some. subst (IsOneOf d) (c.taken.ensures first.place first.at) (c.in_ok-level.ensures.taken d some)),
+    )
 
 pub item-requires-clause-held : goal.item-requires-clause-held
-item-requires-clause-held c = chain-can-list c.args.self.now.types.now c.law.ensures c.args.around.now c.args.interface c.nesting.levels.items c.nesting.level c.in-Item.name.now c.in-Item.item c.in-Item.ensures.0 c.nesting.invariant
+item-requires-clause-held c = chain-can-list c.args.self.now.types.now c.law.ensures c.args.around.now c.args.interface c.nesting.levels.items c.nesting.level c.in-Item.name.now c.in-Item.item c.in-Item.ensures.0 c.nesting.invariant.0
 
 pub item-requires-clause-open : goal.item-requires-clause-open
-item-requires-clause-open c = chain-open c.args.self.now.types.now c.law.ensures c.args.around.now c.args.interface c.nesting.levels.items c.nesting.level c.nesting.invariant
+item-requires-clause-open c = chain-open c.args.self.now.types.now c.law.ensures c.args.around.now c.args.interface c.nesting.levels.items c.nesting.level c.nesting.invariant.0
 
 pub returns-in_err-item-in-Item-clause-fault : goal.returns-in_err-item-in-Item-clause-fault
 returns-in_err-item-in-Item-clause-fault c =
     let p = err_from_is_err_and c.from_residual-in_err-item-in-Item.result c.from_residual-in_err-item-in-Item.ensures.1 in
-    rw (p.1, p.2) (chain-item-refused c.args.self.now.types.now c.law.ensures c.args.around.now c.args.interface c.nesting.levels.items c.nesting.level (Unit {0}) (List Decl) c.in-Item.name.now c.in-Item.item c.in_err-item-in-Item.field-0.0 c.in-Item.ensures.0 c.in_err-item-in-Item.ensures.fault c.nesting.invariant)
+    rw (p.1, p.2) (chain-item-refused c.args.self.now.types.now c.law.ensures c.args.around.now c.args.interface c.nesting.levels.items c.nesting.level (Unit {0}) (List Decl) c.in-Item.name.now c.in-Item.item c.in_err-item-in-Item.field-0.0 c.in-Item.ensures.0 c.in_err-item-in-Item.ensures.fault c.nesting.invariant.0)
 
 pub overflow_add-level : goal.overflow_add-level
 overflow_add-level c =
@@ -39,61 +55,76 @@ overflow_add-level c =
     omega (arith, less, long, small)
 
 pub nesting-smaller-in-Item : goal.nesting-smaller-in-Item
-nesting-smaller-in-Item c = less-by-item c.args.self.now.types.now c.nesting.levels.items c.nesting.level _ (c.in-Item.name.now, c.in-Item.item) refl refl c.in-Item.ensures.0 (size c.args.self.now.types.now) c.args.around.now c.args.interface c.nesting.invariant
+nesting-smaller-in-Item c = less-by-item c.args.self.now.types.now c.nesting.levels.items c.nesting.level _ (c.in-Item.name.now, c.in-Item.item) refl refl c.in-Item.ensures.0 (size c.args.self.now.types.now) c.args.around.now c.args.interface c.nesting.invariant.0
 
 pub nesting-preserved-in-Item : goal.nesting-preserved-in-Item
-nesting-preserved-in-Item c = chain-item c.args.self.now.types.now c.law.ensures c.args.around.now c.args.interface c.nesting.levels.items c.nesting.level c.listing_law.ensures.lists_one_more _ c.in-Item.name.now c.in-Item.item refl refl refl c.in-Item.ensures.0 c.in_ok-item-in-Item.ensures.listed c.in_ok-item-in-Item.ensures.wrote c.nesting.invariant
-
-pub alias_listed-requires : goal.alias_listed-requires
-alias_listed-requires c =
+nesting-preserved-in-Item c =
     let t = c.args.self.now.types.now in
-    let held : nat_lt c.in-Inside.inside.0 (length t.interfaces) ≡ true = chain-inside-held t c.law.ensures c.args.around.now c.args.interface c.nesting.levels.items c.nesting.level c.in-Inside.ensures.0 c.in-Inside.inside c.in-Inside.ensures.1 c.nesting.invariant in
+    let ps = (places_of c.in_ok-plan.plan) in
+    let there = chain-listed t c.law.ensures c.args.around.now c.args.interface c.nesting.levels.items c.nesting.level c.in-Item.name.now c.in-Item.item c.in-Item.ensures.0 c.nesting.invariant.0 in (
+      chain-item t c.law.ensures c.args.around.now c.args.interface c.nesting.levels.items c.nesting.level c.listing_law.ensures.lists_one_more _ c.in-Item.name.now c.in-Item.item refl refl refl c.in-Item.ensures.0 c.in_ok-item-in-Item.ensures.listed c.in_ok-item-in-Item.ensures.wrote c.nesting.invariant.0,
+      c.nesting.invariant.1,
+      placed-item nothing_inside t ps c.nesting.level _ c.in-Item.name.now c.in-Item.item refl refl there.0 there.1 c.in_ok-item-in-Item.ensures.wrote c.nesting.invariant.2,
+    )
+
+pub open_inside-requires-clause-held : goal.open_inside-requires-clause-held
+open_inside-requires-clause-held c =
+    let t = c.args.self.now.types.now in
+    let held : nat_lt c.in-Inside.inside.0 (length t.interfaces) ≡ true = chain-inside-held t c.law.ensures c.args.around.now c.args.interface c.nesting.levels.items c.nesting.level c.in-Inside.ensures.0 c.in-Inside.inside c.in-Inside.ensures.1 c.nesting.invariant.0 in
     grind (arith, held)
 
-pub returns-in_err-alias_listed-in-Inside-clause-fault : goal.returns-in_err-alias_listed-in-Inside-clause-fault
-returns-in_err-alias_listed-in-Inside-clause-fault c =
-    let p = err_from_is_err_and c.from_residual-in_err-alias_listed-in-Inside.result c.from_residual-in_err-alias_listed-in-Inside.ensures.1 in
-    rw (p.1, p.2) (chain-alias-refused c.args.self.now.types.now c.law.ensures c.args.around.now c.args.interface c.nesting.levels.items c.nesting.level (Unit {0}) (List Decl) c.alias_listed.new.scope c.in-Inside.ensures.0 c.in-Inside.inside c.in_err-alias_listed-in-Inside.field-0.0 c.in-Inside.ensures.1 c.in_err-alias_listed-in-Inside.ensures.written c.in_err-alias_listed-in-Inside.ensures.fault c.nesting.invariant)
-
-pub level-requires-in-Inside : goal.level-requires-in-Inside
-level-requires-in-Inside c =
-    let t = c.args.self.now.types.now in
-    let held : nat_lt c.in-Inside.inside.0 (length t.interfaces) ≡ true = chain-inside-held t c.law.ensures c.args.around.now c.args.interface c.nesting.levels.items c.nesting.level c.in-Inside.ensures.0 c.in-Inside.inside c.in-Inside.ensures.1 c.nesting.invariant in
-    grind (arith, held)
+pub returns-in_err-inner-in-Inside-clause-fault : goal.returns-in_err-inner-in-Inside-clause-fault
+returns-in_err-inner-in-Inside-clause-fault c =
+    let p = err_from_is_err_and c.from_residual-in_err-inner-in-Inside.result c.from_residual-in_err-inner-in-Inside.ensures.1 in
+    rw (p.1, p.2) (chain-alias-refused c.args.self.now.types.now c.law.ensures c.args.around.now c.args.interface c.nesting.levels.items c.nesting.level (Unit {0}) (List Decl) c.open_inside.new.level.scope c.in-Inside.ensures.0 c.in-Inside.inside c.in_err-inner-in-Inside.field-0.0 c.in-Inside.ensures.1 c.in_err-inner-in-Inside.ensures.aliases c.in_err-inner-in-Inside.ensures.fault c.nesting.invariant.0)
 
 pub nesting-smaller-in-Inside : goal.nesting-smaller-in-Inside
 nesting-smaller-in-Inside c =
     let t = c.args.self.now.types.now in
+    let made = c.in_ok-inner-in-Inside.ensures in
     subst (λ (ks : List Level). weight (size t) t ks c.in_ok-inner-in-Inside.inner < weight (size t) t c.nesting.levels.items c.nesting.level) (sym c.in_ok-push-in-Inside.ensures.items)
-    (less-by-opening t c.nesting.levels.items c.nesting.level _ c.in_ok-inner-in-Inside.inner c.alias_listed.new.scope c.in-Inside.ensures.0 c.in-Inside.inside refl refl c.in-Inside.ensures.1 c.in_ok-inner-in-Inside.ensures (size t) c.args.around.now c.args.interface c.nesting.invariant)
+    (less-by-opening t c.nesting.levels.items c.nesting.level c.open_inside.new.level c.in_ok-inner-in-Inside.inner c.open_inside.new.level.scope c.in-Inside.ensures.0 c.in-Inside.inside (ap (λ (l : Level). l.order) made.kept) (ap (λ (l : Level). l.next) made.kept) c.in-Inside.ensures.1 made.begun (size t) c.args.around.now c.args.interface c.nesting.invariant.0)
 
 pub nesting-preserved-in-Inside : goal.nesting-preserved-in-Inside
 nesting-preserved-in-Inside c =
     let t = c.args.self.now.types.now in
-    subst (λ (ks : List Level). IsChain (size t) t c.args.around.now c.args.interface ks c.in_ok-inner-in-Inside.inner) (sym c.in_ok-push-in-Inside.ensures.items)
-    (chain-inside t c.law.ensures c.args.around.now c.args.interface c.nesting.levels.items c.nesting.level c.closing_law.ensures.opens_interface _ c.in_ok-inner-in-Inside.inner c.in-Inside.ensures.0 c.in-Inside.inside refl refl refl c.in-Inside.ensures.1 c.in-Inside.ensures.2 c.in_ok-alias_listed-in-Inside.ensures.written c.in_ok-alias_listed-in-Inside.ensures.all c.in_ok-inner-in-Inside.ensures c.nesting.invariant)
+    let made = c.in_ok-inner-in-Inside.ensures in
+    let chain = subst (λ (ks : List Level). IsChain (size t) t c.args.around.now c.args.interface ks c.in_ok-inner-in-Inside.inner) (sym c.in_ok-push-in-Inside.ensures.items)
+    (chain-inside t c.law.ensures c.args.around.now c.args.interface c.nesting.levels.items c.nesting.level c.closing_law.ensures.opens_interface c.open_inside.new.level c.in_ok-inner-in-Inside.inner c.in-Inside.ensures.0 c.in-Inside.inside (ap (λ (l : Level). l.interface) made.kept) (ap (λ (l : Level). l.order) made.kept) (ap (λ (l : Level). l.next) made.kept) c.in-Inside.ensures.1 c.in-Inside.ensures.2 made.aliases made.all made.begun c.nesting.invariant.0) in
+    (chain, subst (AreAtPlaces t (places_of c.in_ok-plan.plan)) (sym c.in_ok-push-in-Inside.ensures.items) (one-waits t (places_of c.in_ok-plan.plan) c.nesting.levels.items c.open_inside.new.level c.nesting.invariant.1 made.outer), made.inner)
+
+pub open_inside-requires-clause-planned : goal.open_inside-requires-clause-planned
+open_inside-requires-clause-planned c = c.in_ok-plan.ensures.inside
+
+pub open_inside-requires-clause-placed : goal.open_inside-requires-clause-placed
+open_inside-requires-clause-placed c = c.nesting.invariant.2
+
+pub open_inside-requires-clause-listed : goal.open_inside-requires-clause-listed
+open_inside-requires-clause-listed c =
+    let at = chain-listed c.args.self.now.types.now c.law.ensures c.args.around.now c.args.interface c.nesting.levels.items c.nesting.level c.in-Inside.ensures.0 (kind.Instance c.in-Inside.inside) c.in-Inside.ensures.1 c.nesting.invariant.0 in
+    (at.0, c.in-Inside.ensures.0, at.1)
 
 pub instance_type-declarations-requires : goal.instance_type-declarations-requires
-instance_type-declarations-requires c = subst CanClose (sym c.into_content.ensures) (chain-can-close c.args.self.now.types.now c.law.ensures c.args.around.now c.args.interface c.nesting.levels.items c.nesting.level c.nesting.invariant)
+instance_type-declarations-requires c = subst CanClose (sym c.into_content.ensures) (chain-can-close c.args.self.now.types.now c.law.ensures c.args.around.now c.args.interface c.nesting.levels.items c.nesting.level c.nesting.invariant.0)
 
 pub returns-in_default-clause-says : goal.returns-in_default-clause-says
 returns-in_default-clause-says c =
     let t = c.args.self.now.types.now in
     let rest : c.pop.new.self.items ≡ [] = c.in_default.ensures.rest ∙ ap (λ k. take (k - 1) c.nesting.levels.items) c.in_default.ensures.cases.0 in
     let none : c.nesting.levels.items ≡ [] = c.in_default.ensures.items ∙ ap (λ (ks : List Level). ks ++ []) rest in
-    chain-says t c.law.ensures c.closing_law.ensures.opens_over c.closing_law.ensures.holds_interface c.closing_law.ensures.closes_instance c.listing_law.ensures.lists_in_any_order (size t) c.args.around.now c.args.interface c.nesting.levels.items c.nesting.level c.instance_type-declarations.result none c.in-End.ensures (sym c.into_content.ensures ∙ c.instance_type-declarations.ensures) c.nesting.invariant
+    chain-says t c.law.ensures c.closing_law.ensures.opens_over c.closing_law.ensures.holds_interface c.closing_law.ensures.closes_instance c.listing_law.ensures.lists_in_any_order (size t) c.args.around.now c.args.interface c.nesting.levels.items c.nesting.level c.instance_type-declarations.result none c.in-End.ensures (sym c.into_content.ensures ∙ c.instance_type-declarations.ensures) c.nesting.invariant.0
 
 pub returns-in_default-clause-written : goal.returns-in_default-clause-written
 returns-in_default-clause-written c =
     let t = c.args.self.now.types.now in
     let rest : c.pop.new.self.items ≡ [] = c.in_default.ensures.rest ∙ ap (λ k. take (k - 1) c.nesting.levels.items) c.in_default.ensures.cases.0 in
     let none : c.nesting.levels.items ≡ [] = c.in_default.ensures.items ∙ ap (λ (ks : List Level). ks ++ []) rest in
-    chain-writes t (size t) c.args.around.now c.args.interface c.nesting.levels.items c.nesting.level c.instance_type-declarations.result none c.in-End.ensures (sym c.into_content.ensures ∙ c.instance_type-declarations.ensures) c.nesting.invariant
+    chain-writes t (size t) c.args.around.now c.args.interface c.nesting.levels.items c.nesting.level c.instance_type-declarations.result none c.in-End.ensures (sym c.into_content.ensures ∙ c.instance_type-declarations.ensures) c.nesting.invariant.0
 
 pub entry_of-requires : goal.entry_of-requires
 entry_of-requires c =
     let t = c.args.self.now.types.now in
-    let chain = subst (λ (ks : List Level). IsChain (size t) t c.args.around.now c.args.interface ks c.nesting.level) c.in-Some.ensures.items c.nesting.invariant in
+    let chain = subst (λ (ks : List Level). IsChain (size t) t c.args.around.now c.args.interface ks c.nesting.level) c.in-Some.ensures.items c.nesting.invariant.0 in
     let at = closed-at t c.law.ensures c.args.around.now c.args.interface c.pop.new.self.items c.in-Some.outer c.nesting.level c.instance_type-declarations.result c.in-End.ensures (sym c.into_content.ensures ∙ c.instance_type-declarations.ensures) chain in
     let less = slice_get_within (named_pairs c.in-Some.outer.order.items) c.in-Some.outer.next _ at.1 in
     let long = pairs-length c.in-Some.outer.order.items in
@@ -103,26 +134,26 @@ entry_of-requires c =
 pub put_instance-requires-clause-held : goal.put_instance-requires-clause-held
 put_instance-requires-clause-held c =
     let t = c.args.self.now.types.now in
-    let chain = subst (λ (ks : List Level). IsChain (size t) t c.args.around.now c.args.interface ks c.nesting.level) c.in-Some.ensures.items c.nesting.invariant in
+    let chain = subst (λ (ks : List Level). IsChain (size t) t c.args.around.now c.args.interface ks c.nesting.level) c.in-Some.ensures.items c.nesting.invariant.0 in
     let held : nat_lt c.nesting.level.interface.0 (length t.interfaces) ≡ true = closed-held t c.law.ensures c.args.around.now c.args.interface c.pop.new.self.items c.in-Some.outer c.nesting.level c.instance_type-declarations.result c.in-End.ensures (sym c.into_content.ensures ∙ c.instance_type-declarations.ensures) chain in
     grind (arith, held)
 
 pub put_instance-requires-clause-open : goal.put_instance-requires-clause-open
 put_instance-requires-clause-open c =
     let t = c.args.self.now.types.now in
-    let chain = subst (λ (ks : List Level). IsChain (size t) t c.args.around.now c.args.interface ks c.nesting.level) c.in-Some.ensures.items c.nesting.invariant in
+    let chain = subst (λ (ks : List Level). IsChain (size t) t c.args.around.now c.args.interface ks c.nesting.level) c.in-Some.ensures.items c.nesting.invariant.0 in
     closed-open t c.law.ensures c.args.around.now c.args.interface c.pop.new.self.items c.in-Some.outer c.nesting.level c.instance_type-declarations.result c.in-End.ensures (sym c.into_content.ensures ∙ c.instance_type-declarations.ensures) chain
 
 pub put_instance-requires-clause-unwritten : goal.put_instance-requires-clause-unwritten
 put_instance-requires-clause-unwritten c =
     let t = c.args.self.now.types.now in
-    let chain = subst (λ (ks : List Level). IsChain (size t) t c.args.around.now c.args.interface ks c.nesting.level) c.in-Some.ensures.items c.nesting.invariant in
+    let chain = subst (λ (ks : List Level). IsChain (size t) t c.args.around.now c.args.interface ks c.nesting.level) c.in-Some.ensures.items c.nesting.invariant.0 in
     closed-unwritten t c.law.ensures c.args.around.now c.args.interface c.pop.new.self.items c.in-Some.outer c.nesting.level c.instance_type-declarations.result c.in-End.ensures (sym c.into_content.ensures ∙ c.instance_type-declarations.ensures) chain
 
 pub put_instance-requires-clause-says : goal.put_instance-requires-clause-says
 put_instance-requires-clause-says c =
     let t = c.args.self.now.types.now in
-    let chain = subst (λ (ks : List Level). IsChain (size t) t c.args.around.now c.args.interface ks c.nesting.level) c.in-Some.ensures.items c.nesting.invariant in
+    let chain = subst (λ (ks : List Level). IsChain (size t) t c.args.around.now c.args.interface ks c.nesting.level) c.in-Some.ensures.items c.nesting.invariant.0 in
     closed-says t c.law.ensures c.args.around.now c.args.interface c.pop.new.self.items c.in-Some.outer c.nesting.level c.instance_type-declarations.result c.in-End.ensures (sym c.into_content.ensures ∙ c.instance_type-declarations.ensures) c.closing_law.ensures.opens_over c.closing_law.ensures.holds_interface c.closing_law.ensures.closes_instance c.listing_law.ensures.lists_in_any_order chain
 
 pub returns-in_err-put_instance-in-End-clause-fault : goal.returns-in_err-put_instance-in-End-clause-fault
@@ -131,7 +162,7 @@ returns-in_err-put_instance-in-End-clause-fault c =
     let p = err_from_is_err_and c.from_residual-in_err-put_instance-in-End.result c.from_residual-in_err-put_instance-in-End.ensures.1 in
     let outer = c.in-Some.outer in
     let is = sym c.into_content.ensures ∙ c.instance_type-declarations.ensures in
-    let chain = subst (λ (ks : List Level). IsChain (size t) t c.args.around.now c.args.interface ks c.nesting.level) c.in-Some.ensures.items c.nesting.invariant in
+    let chain = subst (λ (ks : List Level). IsChain (size t) t c.args.around.now c.args.interface ks c.nesting.level) c.in-Some.ensures.items c.nesting.invariant.0 in
     let at = named_pairs-at outer.order.items outer.next c.entry_of.result.0 c.entry_of.result.1 (subst (λ xs. slice_get xs outer.next ≡ Some c.entry_of.result) c.as_slice.ensures.value c.entry_of.ensures) in
     let says = closed-says t c.law.ensures c.args.around.now c.args.interface c.pop.new.self.items outer c.nesting.level c.instance_type-declarations.result c.in-End.ensures is c.closing_law.ensures.opens_over c.closing_law.ensures.holds_interface c.closing_law.ensures.closes_instance c.listing_law.ensures.lists_in_any_order chain in
     rw (p.1, p.2) (chain-put-refused t c.law.ensures c.args.around.now c.args.interface c.pop.new.self.items outer c.nesting.level c.instance_type-declarations.result c.in-End.ensures is (Unit {0}) (List Decl) c.step_law.ensures.follows c.still_law.ensures c.entry_of.result.0.now c.entry_of.result.1 c.in_err-put_instance-in-End.field-0.0 at c.in_err-put_instance-in-End.ensures.fault says chain)
@@ -139,7 +170,7 @@ returns-in_err-put_instance-in-End-clause-fault c =
 pub overflow_add-level-in-End : goal.overflow_add-level-in-End
 overflow_add-level-in-End c =
     let t = c.args.self.now.types.now in
-    let chain = subst (λ (ks : List Level). IsChain (size t) t c.args.around.now c.args.interface ks c.nesting.level) c.in-Some.ensures.items c.nesting.invariant in
+    let chain = subst (λ (ks : List Level). IsChain (size t) t c.args.around.now c.args.interface ks c.nesting.level) c.in-Some.ensures.items c.nesting.invariant.0 in
     let at = closed-at t c.law.ensures c.args.around.now c.args.interface c.pop.new.self.items c.in-Some.outer c.nesting.level c.instance_type-declarations.result c.in-End.ensures (sym c.into_content.ensures ∙ c.instance_type-declarations.ensures) chain in
     let less = slice_get_within (named_pairs c.in-Some.outer.order.items) c.in-Some.outer.next _ at.1 in
     let long = pairs-length c.in-Some.outer.order.items in
@@ -149,16 +180,18 @@ overflow_add-level-in-End c =
 pub nesting-smaller : goal.nesting-smaller
 nesting-smaller c =
     let t = c.args.self.now.types.now in
-    let chain = subst (λ (ks : List Level). IsChain (size t) t c.args.around.now c.args.interface ks c.nesting.level) c.in-Some.ensures.items c.nesting.invariant in
-    subst (λ (ks : List Level). weight (size t) t c.pop.new.self.items (record { scope = c.put_instance.new.scope; interface = c.in-Some.outer.interface; order = c.in-Some.outer.order; next = c.in-Some.outer.next + 1 }) < weight (size t) t ks c.nesting.level) (sym c.in-Some.ensures.items)
+    let chain = subst (λ (ks : List Level). IsChain (size t) t c.args.around.now c.args.interface ks c.nesting.level) c.in-Some.ensures.items c.nesting.invariant.0 in
+    subst (λ (ks : List Level). weight (size t) t c.pop.new.self.items (record { scope = c.put_instance.new.scope; place = c.in-Some.outer.place; interface = c.in-Some.outer.interface; order = c.in-Some.outer.order; next = c.in-Some.outer.next + 1 }) < weight (size t) t ks c.nesting.level) (sym c.in-Some.ensures.items)
     (less-by-closing t c.pop.new.self.items c.in-Some.outer c.nesting.level _ refl refl (size t) c.args.around.now c.args.interface chain)
 
 pub nesting-preserved : goal.nesting-preserved
 nesting-preserved c =
     let t = c.args.self.now.types.now in
+    let ps = (places_of c.in_ok-plan.plan) in
     let outer = c.in-Some.outer in
     let is = sym c.into_content.ensures ∙ c.instance_type-declarations.ensures in
-    let chain = subst (λ (ks : List Level). IsChain (size t) t c.args.around.now c.args.interface ks c.nesting.level) c.in-Some.ensures.items c.nesting.invariant in
+    let chain = subst (λ (ks : List Level). IsChain (size t) t c.args.around.now c.args.interface ks c.nesting.level) c.in-Some.ensures.items c.nesting.invariant.0 in
     let at = named_pairs-at outer.order.items outer.next c.entry_of.result.0 c.entry_of.result.1 (subst (λ xs. slice_get xs outer.next ≡ Some c.entry_of.result) c.as_slice.ensures.value c.entry_of.ensures) in
     let says = closed-says t c.law.ensures c.args.around.now c.args.interface c.pop.new.self.items outer c.nesting.level c.instance_type-declarations.result c.in-End.ensures is c.closing_law.ensures.opens_over c.closing_law.ensures.holds_interface c.closing_law.ensures.closes_instance c.listing_law.ensures.lists_in_any_order chain in
-    chain-put t c.law.ensures c.args.around.now c.args.interface c.pop.new.self.items outer c.nesting.level c.instance_type-declarations.result c.in-End.ensures is c.step_law.ensures.follows c.still_law.ensures c.listing_law.ensures.lists_one_more _ c.entry_of.result.0.now c.entry_of.result.1 refl refl refl at c.in_ok-put_instance-in-End.ensures.put says chain
+    let waiting = first-wait t ps c.pop.new.self.items outer (subst (AreAtPlaces t ps) c.in-Some.ensures.items c.nesting.invariant.1) in
+    (chain-put t c.law.ensures c.args.around.now c.args.interface c.pop.new.self.items outer c.nesting.level c.instance_type-declarations.result c.in-End.ensures is c.step_law.ensures.follows c.still_law.ensures c.listing_law.ensures.lists_one_more _ c.entry_of.result.0.now c.entry_of.result.1 refl refl refl at c.in_ok-put_instance-in-End.ensures.put says chain, waiting.0, placed-put t ps outer _ c.entry_of.result.0.now c.nesting.level.interface c.instance_type-declarations.result refl refl c.in_ok-put_instance-in-End.ensures.put waiting.1)

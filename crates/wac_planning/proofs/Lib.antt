@@ -1,0 +1,12 @@
+pub mod Along
+pub mod Ways
+pub mod Entering
+pub mod Leaving
+pub mod Walking
+pub mod Looking
+pub mod Adding
+pub mod Finished
+pub mod Waiting
+pub mod Listing
+pub mod Going
+pub mod Steps

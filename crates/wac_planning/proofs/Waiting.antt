@@ -1,0 +1,63 @@
+-- What waits to be looked at while a plan is made.
+use Rattle.std.specs.Prelude.{ℕ, zero, suc, ◌≡◌, ◌⊎◌, List, [], ◌∷◌, ◌++◌, Some, None, slice_get}
+use Rattle.std.proofs.Common.{refl, sym, subst, inl, inr}
+use Rattle.wac_shapes.specs.Name.{Name}
+use Rattle.wac_shapes.specs.declared.component.InterfaceId.{InterfaceId}
+use Rattle.wac_shapes.specs.declared.component.ItemKind.{ItemKind}
+use Rattle.wac_shapes.specs.declared.component.ItemKind.TheVariants as kind
+use Rattle.wac_collection.specs.Collection.{Collection, HasInterface}
+use Rattle.wac_planning.specs.declared.growing.Visit.{Visit}
+use Rattle.wac_planning.specs.declared.growing.Visit.TheVariants.{Enter, Leave}
+use Rattle.wac_planning.specs.Planning.{innermost, IsListedIn, enter_of, enters, IsStack, Waits}
+
+-- rows of visits, one after the other
+pub stack-split : (c : Collection) (vs ws : List Visit) (ks ls : List (ℕ × InterfaceId)) → IsStack c ks (vs ++ ws) ls → (ms : List (ℕ × InterfaceId)) × IsStack c ks vs ms × IsStack c ms ws ls
+stack-split c [] ws ks ls h = (ks, refl, h)
+stack-split c (Enter j k ∷ vs) ws ks ls h = let r = stack-split c vs ws ks ls h.3 in (r.0, (h.0, h.1, h.2, r.1), r.2)
+stack-split c (Leave k ∷ vs) ws ks ls h = let r = stack-split c vs ws ((k, h.0) ∷ ks) ls h.1 in (r.0, (h.0, r.1), r.2)
+
+pub stack-join : (c : Collection) (vs ws : List Visit) (ks ms ls : List (ℕ × InterfaceId)) → IsStack c ks vs ms → IsStack c ms ws ls → IsStack c ks (vs ++ ws) ls
+stack-join c [] ws ks ms ls is h = subst (λ (xs : List (ℕ × InterfaceId)). IsStack c xs ws ls) is h
+stack-join c (Enter j k ∷ vs) ws ks ms ls a h = (a.0, a.1, a.2, stack-join c vs ws ks ms ls a.3 h)
+stack-join c (Leave k ∷ vs) ws ks ms ls a h = (a.0, stack-join c vs ws ((k, a.0) ∷ ks) ms ls a.1 h)
+
+-- the interfaces of instances among items, over the place that lists them
+
+enter-one : (c : Collection) (k : ℕ) (x : ItemKind) (ls : List (ℕ × InterfaceId)) → innermost ls ≡ Some k → ((j : InterfaceId) → x ≡ kind.Instance j → HasInterface c j × IsListedIn c j ls) → IsStack c ls (enter_of k x) ls
+enter-one c k (kind.Instance j) ls at all = let h = all j refl in (at, h.0, h.1, refl)
+enter-one c k (kind.TypeItem y) ls at all = refl
+enter-one c k (kind.Func y) ls at all = refl
+enter-one c k (kind.Component y) ls at all = refl
+enter-one c k (kind.Module y) ls at all = refl
+enter-one c k (kind.Value y) ls at all = refl
+
+pub stack-enters : (c : Collection) (k : ℕ) (es : List (Name × ItemKind)) (ls : List (ℕ × InterfaceId)) → innermost ls ≡ Some k → ((p : ℕ) (e : Name × ItemKind) (j : InterfaceId) → slice_get es p ≡ Some e → e.1 ≡ kind.Instance j → HasInterface c j × IsListedIn c j ls) → IsStack c ls (enters k es) ls
+stack-enters c k [] ls at all = refl
+stack-enters c k (e ∷ es) ls at all = stack-join c (enters k es) (enter_of k e.1) ls ls ls (stack-enters c k es ls at (λ p x j there is. all (suc p) x j there is)) (enter-one c k e.1 ls at (λ j is. all 0 e j refl is))
+
+-- what waits in two rows
+
+pub waits-first : (v : Visit) (vs ws : List Visit) → Waits v vs → Waits v (vs ++ ws)
+waits-first v [] ws h = let no_some : None ≡ Some v = h.1 in cc
+waits-first v (x ∷ vs) ws (zero, at) = (0, at)
+waits-first v (x ∷ vs) ws (suc n, at) = let r = waits-first v vs ws (n, at) in (suc r.0, r.1)
+
+pub waits-second : (v : Visit) (vs ws : List Visit) → Waits v ws → Waits v (vs ++ ws)
+waits-second v [] ws h = h
+waits-second v (x ∷ vs) ws h = let r = waits-second v vs ws h in (suc r.0, r.1)
+
+pub waits-either : (v : Visit) (vs ws : List Visit) → Waits v (vs ++ ws) → Waits v vs ⊎ Waits v ws
+waits-either v [] ws h = inr h
+waits-either v (x ∷ vs) ws (zero, at) = inl (0, at)
+waits-either v (x ∷ vs) ws (suc n, at) = elim (waits-either v vs ws (n, at)) [ inl a ↦ inl (suc a.0, a.1) | inr b ↦ inr b ]
+
+none-some : {A : Type 0} (x : A) → None ≡ Some x → ⊥
+none-some x h = cc
+
+pub enters-wait : (k : ℕ) (es : List (Name × ItemKind)) (p : ℕ) (n : Name) (j : InterfaceId) → slice_get es p ≡ Some (n, kind.Instance j) → Waits (Enter j k) (enters k es)
+enters-wait k [] p n j at = absurd (none-some (n, kind.Instance j) at)
+enters-wait k (e ∷ es) zero n j at =
+    let both : Some e ≡ Some (n, kind.Instance j) = at in
+    let same : e ≡ (n, kind.Instance j) = cc in
+    waits-second (Enter j k) (enters k es) (enter_of k e.1) (subst (λ (x : Name × ItemKind). Waits (Enter j k) (enter_of k x.1)) (sym same) (0, refl))
+enters-wait k (e ∷ es) (suc p) n j at = waits-first (Enter j k) (enters k es) (enter_of k e.1) (enters-wait k es p n j at)
