@@ -8,7 +8,7 @@ use Rattle.wac_nodes.specs.Graph as graph
 use Rattle.wac_nodes.specs.Graph.{Graph, GraphNode, node_at, IsUnsatisfied}
 use Rattle.wac_nodes.specs.Steps.{import_named}
 use Rattle.wac_fields.specs.Arguments.{HasImport, Fits}
-use Rattle.wac_composition.specs.Fitting.{FitsImport}
+use Rattle.wac_plugging.specs.Positions.{FitsImport}
 
 pub fits_named : (g : Graph) (id argument : NodeId) (name : Name) (position : ℕ) (kind : ItemKind) → HasImport g id name position kind → IsUnsatisfied g id position → FitsImport g id name argument → Fits g id position kind argument
 fits_named g id argument name position kind import unset fits = split (node_at g id) import fits where

@@ -25,7 +25,7 @@ use Rattle.wac_nodes.proofs.NodeLemmas.{get-nodes_of}
 use Rattle.wac_fields.specs.Arguments.{HasImport}
 use Rattle.wac_fields.specs.Fields.{Fields, graph_of}
 use Rattle.wac_fields.proofs.AliasLemmas.{exports_are}
-use Rattle.wac_composition.specs.Fitting.{FitsImport, HasExport, HasNamed}
+use Rattle.wac_plugging.specs.Positions.{FitsImport, HasExport, HasNamed}
 
 some_pair : {A : Type 0} (i p : ℕ) (x y : A) → ◌≡◌ {A = Option (ℕ × A)} (Some (i, x)) (Some (p, y)) → (i ≡ p) × (x ≡ y)
 some_pair {A} i p x y h = let w : ◌≡◌ {A = ℕ × A} (i, x) (p, y) = cc in (ap (λ (e : ℕ × A). e.0) w, ap (λ (e : ℕ × A). e.1) w)

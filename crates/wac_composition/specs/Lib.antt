@@ -1,4 +1,3 @@
 pub mod Inside
 pub mod Listed
 pub mod Left
-pub mod Fitting

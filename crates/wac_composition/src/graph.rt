@@ -16,7 +16,7 @@ ghost use Rattle.wac_nodes.specs.Sound.{IsSound};
 ghost use Rattle.wac_nodes.specs.Steps.{IsEmpty, Adds, Registers, Imports, Instantiates, Aliases, SetsArgument, UnsetsArgument, SetsName, Exports, Unexports};
 ghost use Rattle.wac_nodes.specs.TakenOut.{without, taken_at};
 ghost use Rattle.wac_nodes.specs.Nodes.{names_of};
-ghost use Rattle.wac_composition.specs.Fitting.{HasExport};
+ghost use Rattle.wac_plugging.specs.Positions.{HasExport};
 
 use indexmap::IndexMap;
 use semver::Version;

@@ -3,7 +3,7 @@ ghost use Rattle.std.specs.Prelude.{◌≡◌, IsSome, IfOk, IfErr, OnErr, Ok, E
 ghost use Rattle.wac_shapes.specs.Name.{Name as AName};
 ghost use Rattle.wac_shapes.specs.declared.component.ItemKind.{ItemKind as AnItem};
 ghost use Rattle.wac_fields.specs.Arguments.{HasImport};
-ghost use Rattle.wac_composition.specs.Fitting.{FitsImport, HasExport, HasNamed};
+ghost use Rattle.wac_plugging.specs.Positions.{FitsImport, HasExport, HasNamed};
 ghost use Rattle.wac_edges.specs.declared.node.NodeId.{NodeId as AnId};
 ghost use Rattle.wac_nodes.specs.Graph.{node_at};
 ghost use Rattle.wac_nodes.specs.Steps.{Aliases, SetsArgument};

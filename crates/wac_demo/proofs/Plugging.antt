@@ -26,11 +26,11 @@ use Rattle.wac_nodes.specs.Stays.{Stays, IsAliasBy, IsArgumentBy}
 use Rattle.wac_nodes.specs.Steps.{AddsNode, Instantiates, instance_node, Aliases, AliasesOf, GivesAlias, export_named, import_named, SetsArgument, Exports}
 use Rattle.wac_nodes.proofs.Added.{by_eq, insert_same, insert_other}
 use Rattle.wac_nodes.proofs.StaysLemmas.{stays-trans, node-stays, alias-stays, argument-stays}
-use Rattle.wac_graph.specs.Matching.{Match, IsFirstOnTrack, IsMatch, HasNoMatch, AreMatches, AreMatchesOf, AreAllMatches, imports_of_package, exports_of_package}
-use Rattle.wac_graph.specs.Plugging.{Answer, answered, InOrder, Wires, PassesOn, PlugsIn, Plugs, Ends, PlugsAll}
-use Rattle.wac_graph.specs.Refusals.{of_alias, of_argument, of_export}
-use Rattle.wac_graph.specs.declared.errors.PlugError.{PlugError}
-use Rattle.wac_graph.specs.declared.errors.PlugError.TheVariants.{NoPlugHappened, OutOfMemory}
+use Rattle.wac_plugging.specs.Matching.{Match, IsFirstOnTrack, IsMatch, HasNoMatch, AreMatches, AreMatchesOf, AreAllMatches, imports_of_package, exports_of_package}
+use Rattle.wac_plugging.specs.Plugging.{Answer, answered, InOrder, Wires, PassesOn, PlugsIn, Plugs, Ends, PlugsAll}
+use Rattle.wac_plugging.specs.Refusals.{of_alias, of_argument, of_export}
+use Rattle.wac_plugging.specs.declared.errors.PlugError.{PlugError}
+use Rattle.wac_plugging.specs.declared.errors.PlugError.TheVariants.{NoPlugHappened, OutOfMemory}
 use Rattle.wac_demo.specs.Composed.{IsEmptyPackage, IsPluggedInto}
 use Rattle.wac_demo.proofs.Following.{alias-later, some-of, there-is, parts-of}
 

@@ -21,10 +21,10 @@ use Rattle.wac_subtyping.proofs.Relation.{sub_refl, plain_sub}
 use Rattle.wac_edges.specs.declared.node.NodeId.{NodeId}
 use Rattle.wac_nodes.specs.declared.packages.PackageId.{PackageId}
 use Rattle.wac_nodes.specs.Graph.{Graph}
-use Rattle.wac_graph.specs.declared.errors.PlugError.TheVariants.{NoPlugHappened}
-use Rattle.wac_graph.specs.Matching.{Match, IsMatch, HasNoMatch, AreMatches, IsTarget}
-use Rattle.wac_graph.specs.Outcome.{IsMatchedTwice}
-use Rattle.wac_graph.specs.Plugging.{Answer, PlugsIn, Ends}
+use Rattle.wac_plugging.specs.declared.errors.PlugError.TheVariants.{NoPlugHappened}
+use Rattle.wac_plugging.specs.Matching.{Match, IsMatch, HasNoMatch, AreMatches, IsTarget}
+use Rattle.wac_plugging.specs.Outcome.{IsMatchedTwice}
+use Rattle.wac_plugging.specs.Plugging.{Answer, PlugsIn, Ends}
 
 -- ---- a function without a result, and one that gives a bool
 abbrev function_of : Option ValueType → ℕ → Held FuncType

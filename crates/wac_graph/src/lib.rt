@@ -5,12 +5,9 @@
 //! arguments of an instance of the socket, and what the socket's world exports is exported.
 #![tactic(auto)]
 
-mod errors;
-mod matching;
 mod plugging;
 mod wiring;
 
-pub use errors::{PlugError, PlugFault};
 pub use plugging::plug;
 pub use wac_causes::EncodeError;
 pub use wac_composition::{Arguments, CompositionGraph, Imports, NodeIds, Nodes, Packages};
@@ -21,6 +18,7 @@ pub use wac_nodes::{
     InstantiationArgumentError, Node, NodeId, NodeKind, PackageId, Processor, RegisterPackageError,
     UnexportError, laws, one_export_answer,
 };
+pub use wac_plugging::{PlugError, PlugFault};
 pub use wac_scopes::WriteFault;
 pub use wac_types as types;
 pub use wac_validation::ValidationFault;

@@ -6,18 +6,17 @@ ghost use Rattle.wac_nodes.specs.declared.errors.ExportError.{ExportError as AnE
 ghost use Rattle.wac_nodes.specs.declared.errors.InstantiationArgumentError.{InstantiationArgumentError as AFault};
 ghost use Rattle.wac_nodes.specs.declared.packages.PackageId.{PackageId as AnId};
 ghost use Rattle.wac_shapes.specs.Named.{NoNameTwice, names_of};
-ghost use Rattle.wac_graph.specs.Fitting.{IsNodeOf};
-ghost use Rattle.wac_graph.specs.Matching.{Match, AreMatchesOf, AreAllMatches, imports_of_package, exports_of_package};
-ghost use Rattle.wac_graph.specs.Naming.{PlugsNamed, PlugsAllNamed};
-ghost use Rattle.wac_graph.specs.Outcome.{IsMatchedTwice, IsAlreadyPassed, IsFirstRefused, IsExportRefused};
-ghost use Rattle.wac_graph.specs.Plugging.{InOrder, PlugsAll, PlugsIn, Keeps, has_any};
-ghost use Rattle.wac_graph.specs.Tracks.{AreFirsts};
+ghost use Rattle.wac_plugging.specs.Fitting.{IsNodeOf};
+ghost use Rattle.wac_plugging.specs.Matching.{Match, AreMatchesOf, AreAllMatches, imports_of_package, exports_of_package};
+ghost use Rattle.wac_plugging.specs.Naming.{PlugsNamed, PlugsAllNamed};
+ghost use Rattle.wac_plugging.specs.Outcome.{IsMatchedTwice, IsAlreadyPassed, IsFirstRefused, IsExportRefused};
+ghost use Rattle.wac_plugging.specs.Plugging.{InOrder, PlugsAll, PlugsIn, Keeps, has_any};
+ghost use Rattle.wac_plugging.specs.Tracks.{AreFirsts};
 
-use crate::errors::{PlugError, PlugFault};
-use crate::matching::find_matches;
 use crate::wiring::{pass_on_all, plug_in};
 use wac_composition::CompositionGraph;
 use wac_nodes::{NodeId, PackageId, one_export_answer};
+use wac_plugging::{PlugError, PlugFault, find_matches};
 use wac_types::Named;
 
 /// Finds the matches of a plug, and plugs it in by them. Answers whether there are any.

@@ -4,15 +4,14 @@ ghost use Rattle.wac_collection.specs.Collection.{holds_type, world_exports};
 ghost use Rattle.wac_shapes.specs.Named.{NoNameTwice, names_of};
 ghost use Rattle.wac_shapes.specs.declared.component.«Type».TheVariants.{World as world_type};
 ghost use Rattle.wac_nodes.specs.Graph.{node_at, package_at};
-ghost use Rattle.wac_graph.specs.Fitting.{AllFit, IsPair, node_imports};
-ghost use Rattle.wac_graph.specs.Matching.{Match, exports_of_package};
-ghost use Rattle.wac_graph.specs.Pairs.{matches_at, AreWithin};
-ghost use Rattle.wac_graph.specs.Plugging.{InOrder, Wires, PlugsIn, PassesOn, Keeps};
+ghost use Rattle.wac_plugging.specs.Fitting.{AllFit, IsPair, node_imports};
+ghost use Rattle.wac_plugging.specs.Matching.{Match, exports_of_package};
+ghost use Rattle.wac_plugging.specs.Pairs.{matches_at, AreWithin};
+ghost use Rattle.wac_plugging.specs.Plugging.{InOrder, Wires, PlugsIn, PassesOn, Keeps};
 
-use crate::errors::PlugError;
-use crate::matching::Pair;
 use wac_composition::{CompositionGraph, alias_export_at, set_argument_at};
 use wac_nodes::{NodeId, PackageId};
+use wac_plugging::{Pair, PlugError};
 use wac_types::WorldId;
 
 /// Gives the export of a plug's node to the socket's node, whose import it is known to fit: its alias becomes the argument.

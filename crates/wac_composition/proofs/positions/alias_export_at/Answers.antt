@@ -2,7 +2,7 @@ use Rattle.std.proofs.Common.{subst, sym, Ok}
 use Rattle.wac_shapes.specs.Name.{Name}
 use Rattle.wac_shapes.specs.declared.component.ItemKind.{ItemKind}
 use Rattle.wac_nodes.specs.Steps.{Aliases}
-use Rattle.wac_composition.specs.Fitting.{HasExport}
+use Rattle.wac_plugging.specs.Positions.{HasExport}
 use Rattle.wac_composition.proofs.PositionLemmas.{if_ok}
 use Rattle.wac_composition.proofs.positions.alias_export_at.Goals as goal
 

@@ -2,12 +2,12 @@ use Rattle.std.proofs.Common.{◌≡◌, List, Some, Err, ap, sym, ◌∙◌, su
 use Rattle.wac_shapes.specs.Name.{Name}
 use Rattle.wac_shapes.specs.Named.{names_of}
 use Rattle.wac_collection.specs.Collection.{world_exports}
-use Rattle.wac_graph.specs.declared.errors.PlugError.TheVariants.{OutOfMemory}
-use Rattle.wac_graph.specs.Plugging.{Answer, InOrder, PassesOn}
-use Rattle.wac_graph.proofs.Order.{one-more, refused-at, exit-is}
-use Rattle.wac_graph.proofs.Made.{passes-none}
-use Rattle.wac_graph.proofs.Steps.{keeps-trans}
-use Rattle.wac_graph.proofs.Each.{export-named}
+use Rattle.wac_plugging.specs.declared.errors.PlugError.TheVariants.{OutOfMemory}
+use Rattle.wac_plugging.specs.Plugging.{Answer, InOrder, PassesOn}
+use Rattle.wac_plugging.proofs.Order.{one-more, refused-at, exit-is}
+use Rattle.wac_plugging.proofs.Made.{passes-none}
+use Rattle.wac_plugging.proofs.Steps.{keeps-trans}
+use Rattle.wac_plugging.proofs.Each.{export-named}
 use Rattle.wac_graph.proofs.wiring.pass_on_all.Goals as goal
 
 pub returns-in_err-name : goal.returns-in_err-name

@@ -1,0 +1,25 @@
+-- A refused call on the graph as what `plug` answers: the refusal itself, but for want of memory.
+use Rattle.wac_nodes.specs.declared.errors.AliasError.{AliasError}
+use Rattle.wac_nodes.specs.declared.errors.AliasError.TheVariants as alias_error
+use Rattle.wac_nodes.specs.declared.errors.ExportError.{ExportError}
+use Rattle.wac_nodes.specs.declared.errors.ExportError.TheVariants as export_error
+use Rattle.wac_nodes.specs.declared.errors.InstantiationArgumentError.{InstantiationArgumentError}
+use Rattle.wac_nodes.specs.declared.errors.InstantiationArgumentError.TheVariants as argument_error
+use Rattle.wac_plugging.specs.declared.errors.PlugError.{PlugError}
+use Rattle.wac_plugging.specs.declared.errors.PlugError.TheVariants.{GraphError, OutOfMemory}
+use Rattle.wac_plugging.specs.declared.errors.PlugFault.TheVariants.{Alias, Argument, Export}
+
+-- of an alias
+abbrev pub of_alias : AliasError → PlugError
+of_alias alias_error.OutOfMemory = OutOfMemory
+of_alias refusal = GraphError (Alias refusal)
+
+-- of an argument
+abbrev pub of_argument : InstantiationArgumentError → PlugError
+of_argument argument_error.OutOfMemory = OutOfMemory
+of_argument refusal = GraphError (Argument refusal)
+
+-- of an export
+abbrev pub of_export : ExportError → PlugError
+of_export export_error.OutOfMemory = OutOfMemory
+of_export refusal = GraphError (Export refusal)
