@@ -2,8 +2,7 @@
 
 use anyhow::{Result, bail};
 use std::alloc::Global;
-use wac_composition::CompositionGraph;
-use wac_graph::plug;
+use wac_graph::{CompositionGraph, plug};
 use wac_measures::graph::Graph;
 use wac_measures::types::Collection;
 use wac_nodes::{EncodeOptions, NodeId, PackageId};

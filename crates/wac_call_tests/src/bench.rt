@@ -6,7 +6,7 @@ use std::alloc::{AllocError, Global};
 use std::fmt::Display;
 use std::process::Abort;
 use wac_causes::EncodeError;
-use wac_composition::CompositionGraph;
+use wac_graph::CompositionGraph;
 use wac_merge::MergeFault;
 use wac_nodes::{EncodeOptions, NodeId, NodeKind, PackageId};
 use wac_types::{

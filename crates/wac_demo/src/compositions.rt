@@ -10,8 +10,7 @@ ghost use Rattle.wac_nodes.specs.Stays.{Stays};
 use anyhow::Result;
 use std::alloc::Global;
 use wac_causes::EncodeError;
-use wac_composition::CompositionGraph;
-use wac_graph::plug;
+use wac_graph::{CompositionGraph, plug};
 use wac_nodes::{EncodeOptions, PackageId, Processor};
 use wac_types::{FuncType, Interface, ItemKind, World};
 

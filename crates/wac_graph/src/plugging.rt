@@ -13,8 +13,8 @@ ghost use Rattle.wac_plugging.specs.Outcome.{IsMatchedTwice, IsAlreadyPassed, Is
 ghost use Rattle.wac_plugging.specs.Plugging.{InOrder, PlugsAll, PlugsIn, Keeps, has_any};
 ghost use Rattle.wac_plugging.specs.Tracks.{AreFirsts};
 
+use crate::graph::CompositionGraph;
 use crate::wiring::{pass_on_all, plug_in};
-use wac_composition::CompositionGraph;
 use wac_nodes::{NodeId, PackageId, one_export_answer};
 use wac_plugging::{PlugError, PlugFault, find_matches};
 use wac_types::Named;

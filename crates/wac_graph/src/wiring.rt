@@ -9,7 +9,8 @@ ghost use Rattle.wac_plugging.specs.Matching.{Match, exports_of_package};
 ghost use Rattle.wac_plugging.specs.Pairs.{matches_at, AreWithin};
 ghost use Rattle.wac_plugging.specs.Plugging.{InOrder, Wires, PlugsIn, PassesOn, Keeps};
 
-use wac_composition::{CompositionGraph, alias_export_at, set_argument_at};
+use crate::graph::CompositionGraph;
+use crate::positions::{alias_export_at, set_argument_at};
 use wac_nodes::{NodeId, PackageId};
 use wac_plugging::{Pair, PlugError};
 use wac_types::WorldId;

@@ -11,7 +11,7 @@ use crate::tables::Want::{Parts, Text};
 use crate::tables::{Calls, Case, Row};
 use std::process::Abort;
 use wac_causes::EncodeError;
-use wac_composition::CompositionGraph;
+use wac_graph::CompositionGraph;
 use wac_nodes::{DefineTypeError, EncodeOptions, NodeId};
 use wac_types::{PrimitiveType, Type, ValueType};
 use wac_validation::ValidationFault;

@@ -1,4 +1,4 @@
-//! Tests of composition graphs, through what `wac_composition` makes public: types that are defined and imported, names and packages.
+//! Tests of composition graphs, through what `wac_graph` makes public: types that are defined and imported, names and packages.
 //!
 //! They stand in a crate of their own so that no library is proved once more for them.
 #![tactic(auto)]

@@ -1,6 +1,6 @@
 // Names of imports and exports, each with the fault that it is refused by.
 use crate::parts::{function, import};
-use wac_composition::CompositionGraph;
+use wac_graph::CompositionGraph;
 use wac_names::NameFault;
 use wac_nodes::{ExportError, ImportError};
 

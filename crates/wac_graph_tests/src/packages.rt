@@ -1,7 +1,7 @@
 // Packages are found by name and version.
 use crate::parts::register;
 use semver::Version;
-use wac_composition::CompositionGraph;
+use wac_graph::CompositionGraph;
 use wac_types::World;
 
 #[test]

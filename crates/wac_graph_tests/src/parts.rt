@@ -2,7 +2,7 @@
 use std::alloc::Global;
 use std::process::Abort;
 use wac_causes::EncodeError;
-use wac_composition::CompositionGraph;
+use wac_graph::CompositionGraph;
 use wac_nodes::{EncodeOptions, NodeId, PackageId, RegisterPackageError};
 use wac_types::{FuncType, ItemKind, World};
 

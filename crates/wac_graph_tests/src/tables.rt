@@ -8,7 +8,7 @@ use crate::writable::{DEPENDENCIES, WRITABLE};
 use std::alloc::Global;
 use std::process::Abort;
 use wac_causes::EncodeError;
-use wac_composition::CompositionGraph;
+use wac_graph::CompositionGraph;
 use wac_nodes::{EncodeOptions, NodeId, PackageId};
 use wac_scopes::WriteFault;
 use wac_types::{

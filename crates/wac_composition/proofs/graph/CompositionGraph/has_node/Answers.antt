@@ -1,5 +1,0 @@
-use Rattle.wac_nodes.proofs.NodeLemmas.{get-nodes_of, is_some-node_of}
-use Rattle.wac_composition.proofs.graph.CompositionGraph.has_node.Goals as goal
-
-pub returns : goal.returns
-returns c = rw (← c.self.view_is, get-nodes_of, is_some-node_of) c.contains.ensures

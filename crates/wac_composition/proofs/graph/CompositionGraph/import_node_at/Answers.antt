@@ -1,7 +1,0 @@
-use Rattle.std.proofs.Common.{◌≡◌, [], ◌∷◌, Some, MatchOption, subst}
-use Rattle.wac_edges.specs.Edge.{node_number}
-use Rattle.wac_nodes.specs.Imports.{node_rows}
-use Rattle.wac_composition.proofs.graph.CompositionGraph.import_node_at.Goals as goal
-
-pub returns : goal.returns
-returns c = subst (λ g. MatchOption c.import_node_at.result (node_rows g c.args.n ≡ []) (λ r. node_rows g c.args.n ≡ (r.0.now, r.1, Some (node_number c.args.n)) ∷ [])) c.reader.ensures c.import_node_at.ensures

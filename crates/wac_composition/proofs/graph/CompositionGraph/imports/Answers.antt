@@ -1,6 +1,0 @@
-use Rattle.wac_writing.proofs.ImportRows.{all_left}
-use Rattle.wac_composition.specs.Inside.{fields_of}
-use Rattle.wac_composition.proofs.graph.CompositionGraph.imports.Goals as goal
-
-pub returns : goal.returns
-returns c = rw (← c.self.view_is) (all_left (fields_of c.self.inside) c.capacity.result c.capacity.ensures.slots)

@@ -1,6 +1,0 @@
-use Rattle.std.proofs.Common.{◌≡◌, ◌-◌}
-use Rattle.wac_asking.specs.ImportsLeft.{nodes_left}
-use Rattle.wac_composition.proofs.graph.CompositionGraph.next_import_node.Given as goal
-
-abbrev pub invariant-loop-n : goal.invariant-loop-n
-invariant-loop-n l = nodes_left l.self l.fn.from (l.end - l.fn.from) ≡ nodes_left l.self l.n (l.end - l.n)

@@ -1,6 +1,0 @@
-use Rattle.std.proofs.Common.{◌≡◌}
-use Rattle.wac_composition.specs.Left.{packages_left}
-use Rattle.wac_composition.proofs.iterators.first_package.Given as goal
-
-abbrev pub invariant-loop-i : goal.invariant-loop-i
-invariant-loop-i l = packages_left l.slots l.fn.from ≡ packages_left l.slots l.i

@@ -1,0 +1,14 @@
+use Rattle.std.proofs.Common.{arith, below_more}
+use Rattle.std.specs.BTreeSet as positions
+use Rattle.std.specs.Ordering.{nat_cmp}
+use Rattle.wac_edges.specs.declared.node.NodeId.{NodeId}
+use Rattle.wac_nodes.specs.Nodes.{names_of}
+use Rattle.wac_causes.specs.Search.{Clashes}
+use Rattle.wac_writing.proofs.ConflictLemmas.{none_clashes}
+use Rattle.wac_graph.proofs.conflicts.first_clash.Goals as goal
+
+pub loop-i-preserved : goal.loop-i-preserved
+loop-i-preserved c = λ j node small. below_more (λ k. (x : NodeId) → Clashes (positions.contains nat_cmp c.args.satisfied.now) c.args.imports.now (names_of c.args.nodes.now.entries) k x → ⊥) c.loop-i.i (λ k less x. c.loop-i.invariant k x less) c.in_default.ensures.none j small node
+
+pub returns-clause-none : goal.returns-clause-none
+returns-clause-none c = none_clashes (positions.contains nat_cmp c.args.satisfied.now) c.args.imports.now (names_of c.args.nodes.now.entries) c.loop-i.i (omega (arith, c.loop-i-test.false, c.len-i-end.ensures)) c.loop-i.invariant

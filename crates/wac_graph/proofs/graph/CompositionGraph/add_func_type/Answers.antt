@@ -1,0 +1,7 @@
+use Rattle.wac_nodes.proofs.ExtendsLemmas.{extends_func, extends_result}
+use Rattle.wac_fields.proofs.InvariantLemmas.{invariant_types}
+use Rattle.wac_graph.specs.Inside.{fields_of}
+use Rattle.wac_graph.proofs.graph.CompositionGraph.add_func_type.Goals as goal
+
+pub invariant_of-self : goal.invariant_of-self
+invariant_of-self c = invariant_types (fields_of c.self.inside) c.self.invariant c.add_func_type.new.self c.growth_law.ensures.formed (extends_result _ c.add_func_type.result c.self.inside.types c.add_func_type.new.self _ (extends_func c.self.inside.types c.growth_law.ensures.trees c.args.func) c.add_func_type.ensures.added c.add_func_type.ensures.refused)

@@ -1,0 +1,14 @@
+use Rattle.std.proofs.Common.{◌≡◌, ap, sym, subst, map}
+use Rattle.std.specs.List.{AllByRecursion}
+use Rattle.wac_collection.specs.Collection.{Collection}
+use Rattle.wac_nodes.specs.Asked.{Entry}
+use Rattle.wac_asking.specs.EntriesLeft.{entry_view, IsHeldKind}
+use Rattle.wac_nodes.specs.Graph.{Graph}
+use Rattle.wac_writing.proofs.MergeLemmas.{all_index}
+use Rattle.wac_graph.proofs.graph.CompositionGraph.aggregated.Goals as goal
+
+pub aggregate-requires : goal.aggregate-requires
+aggregate-requires c =
+    let types : c.self.inside.types ≡ c.args.self.now.types = ap (λ (h : Graph). h.types) c.self.view_is in
+    all_index (λ (e : Entry). IsHeldKind c.self.inside.types e.kind) entry_view c.args.entries.now c.loop-i.i _ c.loop-i-test.true
+    (subst (λ (t : Collection). AllByRecursion (λ (e : Entry). IsHeldKind t e.kind) (map entry_view c.args.entries.now)) (sym types) c.requires)

@@ -1,0 +1,25 @@
+use Rattle.std.proofs.Common.{◌≡◌, ◌<◌, Ok, IfSome, ap, ◌∙◌, arith, subst, sym}
+use Rattle.std.specs.Prelude.{IsSomeAnd}
+use Rattle.wac_edges.specs.declared.node.NodeId.{NodeId}
+use Rattle.wac_edges.specs.Edge.{node_number}
+use Rattle.wac_nodes.specs.Graph.{Graph, GraphNode, node_at, definition}
+use Rattle.wac_causes.specs.NotYet.{AllDefinable}
+use Rattle.wac_meaning.specs.Importable.{IsDefinableKind}
+use Rattle.wac_writing.proofs.EncodingLemmas.{all_nodes, one_undefined}
+use Rattle.wac_graph.specs.Inside.{fields_of}
+use Rattle.wac_graph.proofs.graph.CompositionGraph.are_definable.Goals as goal
+
+abbrev IsWritten : Graph → GraphNode → Type 0
+IsWritten g node = node.kind ≡ definition → IsDefinableKind g.types node.item_kind
+
+pub returns-then-not-has_definition-clause-all : goal.returns-then-not-has_definition-clause-all
+returns-then-not-has_definition-clause-all c = λ _ n node at is. absurd (c.has_definition.ensures c.if-not-has_definition.true n (subst (λ o. IsSomeAnd o (λ x. x.kind ≡ definition)) (sym at) is))
+
+pub returns-clause-all : goal.returns-clause-all
+returns-clause-all c = λ _.
+    subst AllDefinable c.self.view_is
+    (all_nodes (fields_of c.self.inside) _ c.loop-n.n (omega (arith, c.loop-n-test.false, c.capacity-n-end.ensures.slots))
+    (subst (λ g. (m : NodeId) → m.0 < c.loop-n.n → IfSome (node_at g m) (IsWritten g)) (sym c.self.view_is) c.loop-n.invariant))
+
+pub returns-then-not-branch-clause-not : goal.returns-then-not-branch-clause-not
+returns-then-not-branch-clause-not c = λ _ all. one_undefined c.args.self.now (node_number c.loop-n.n) (c.is_definable.ensures.not (c.in_ok-is_definable.was ∙ ap Ok c.if-not-branch.true)) all

@@ -1,0 +1,39 @@
+use Rattle.std.proofs.Common.{sym, ◌∙◌}
+use Rattle.slab.specs.Slab.{get}
+use Rattle.wac_nodes.specs.Steps.{Exports}
+use Rattle.wac_nodes.proofs.NodeLemmas.{lookup_text, there}
+use Rattle.wac_fields.proofs.InvariantLemmas.{invariant_more, invariant_exports}
+use Rattle.wac_fields.proofs.ExportLemmas.{exported, invariant_exported, read_name}
+use Rattle.wac_graph.specs.Inside.{fields_of}
+use Rattle.wac_graph.proofs.CheckedLemmas.{handed_on}
+use Rattle.wac_graph.proofs.graph.CompositionGraph.export.Goals as goal
+
+pub set_export_name-requires : goal.set_export_name-requires
+set_export_name-requires c = there c.self.inside.nodes.slots c.args.node.0 (rw (← c.self.view_is) at c.requires)
+
+pub index-requires : goal.index-requires
+index-requires c = there c.self.inside.nodes.slots c.args.node.0 (rw (← c.self.view_is) at c.requires)
+
+pub invariant_of-self : goal.invariant_of-self
+invariant_of-self c = invariant_more (fields_of c.self.inside) c.self.invariant c.prepare.new.self c.prepare.ensures.kept
+
+pub invariant_of-self-in_err-insert : goal.invariant_of-self-in_err-insert
+invariant_of-self-in_err-insert c =
+    invariant_exports (record (fields_of c.self.inside) { lost = c.prepare.new.self }) (invariant_more (fields_of c.self.inside) c.self.invariant c.prepare.new.self c.prepare.ensures.kept) c.insert.new.self c.in_err-insert.ensures.err
+
+pub invariant_of-self-2 : goal.invariant_of-self-2
+invariant_of-self-2 c =
+    invariant_exported (record (fields_of c.self.inside) { lost = c.prepare.new.self }) (invariant_more (fields_of c.self.inside) c.self.invariant c.prepare.new.self c.prepare.ensures.kept) c.args.node c.args.name.now c.in_ok-key.key c.in_ok-own.own c.set_export_name.new.nodes c.insert.new.self
+    c.in_ok-key.ensures.ok c.in_ok-own.ensures.ok (sym (lookup_text c.self.inside.exports.entries c.args.name.now) ∙ (rw (← c.self.view_is) at c.in_ok-check_export.ensures.free)) c.in_ok-insert.ensures.entries
+    (there c.self.inside.nodes.slots c.args.node.0 (rw (← c.self.view_is) at c.requires)) c.set_export_name.ensures
+    (λ n had named. c.in_ok-prepare.ensures.marked (c.is_some-is_named.ensures ∙ read_name (get c.self.inside.nodes c.args.node.0) n c.index.result.now c.index.ensures had named))
+
+pub returns : goal.returns
+returns c =
+    rw (← c.self.view_is)
+    (exported (fields_of c.self.inside) c.args.node c.args.name.now c.in_ok-key.key c.in_ok-own.own c.set_export_name.new.nodes c.insert.new.self
+    c.in_ok-key.ensures.ok c.in_ok-own.ensures.ok (sym (lookup_text c.self.inside.exports.entries c.args.name.now) ∙ (rw (← c.self.view_is) at c.in_ok-check_export.ensures.free)) c.in_ok-insert.ensures.entries
+    (there c.self.inside.nodes.slots c.args.node.0 (rw (← c.self.view_is) at c.requires)) c.set_export_name.ensures c.in_ok-check_export.ensures.valid)
+
+pub returns-in_err-check_export : goal.returns-in_err-check_export
+returns-in_err-check_export c = handed_on (λ r. Exports c.args.self.now c.args.node c.args.name.now r c.args.self.now) c.from_residual.result (c.in_err-check_export.field-0).0 c.from_residual.ensures.1 (c.in_err-check_export.ensures.refused c.args.node)

@@ -1,0 +1,32 @@
+use Rattle.std.proofs.Common.{ap, ◌∙◌}
+use Rattle.wac_nodes.specs.Steps.{Imports}
+use Rattle.wac_fields.proofs.AliasLemmas.{before_reserve, vacant_before}
+use Rattle.wac_fields.proofs.ImportLemmas.{imported, invariant_imported, import_is_there}
+use Rattle.wac_graph.specs.Inside.{fields_of}
+use Rattle.wac_graph.proofs.CheckedLemmas.{absent, handed_on}
+use Rattle.wac_graph.proofs.graph.CompositionGraph.import.Goals as goal
+
+pub invariant_of-self-2 : goal.invariant_of-self-2
+invariant_of-self-2 c =
+    invariant_imported (fields_of c.self.inside) c.self.invariant c.args.name.now c.args.kind c.in_ok-key.key c.in_ok-own.own c.vacant_key-number.result c.insert_reserved.new.self c.insert.new.self c.in_ok-key.ensures.ok c.in_ok-own.ensures.ok (absent (fields_of c.self.inside) c.self.invariant c.args.name.now (rw (← c.self.view_is) at c.in_ok-check_import.ensures.free))
+    (vacant_before (fields_of c.self.inside) c.reserve.new.self c.vacant_key-number.result c.in_ok-reserve.ensures.rest_kept c.vacant_key-number.ensures.vacant)
+    (before_reserve (fields_of c.self.inside) c.reserve.new.self c.insert_reserved.new.self c.vacant_key-number.result c.insert_reserved.result _ c.in_ok-reserve.ensures.rest_kept c.vacant_key-number.ensures.value c.insert_reserved.ensures.key c.insert_reserved.ensures.updates)
+    (rw (← c.self.view_is) at c.requires) c.in_ok-insert.ensures.entries
+
+pub returns-clause-step : goal.returns-clause-step
+returns-clause-step c =
+    rw (← c.self.view_is)
+    (imported (fields_of c.self.inside) c.self.invariant c.args.name.now c.args.kind c.in_ok-key.key c.in_ok-own.own c.vacant_key-number.result c.insert_reserved.new.self c.insert.new.self c.in_ok-key.ensures.ok c.in_ok-own.ensures.ok (absent (fields_of c.self.inside) c.self.invariant c.args.name.now (rw (← c.self.view_is) at c.in_ok-check_import.ensures.free))
+    (vacant_before (fields_of c.self.inside) c.reserve.new.self c.vacant_key-number.result c.in_ok-reserve.ensures.rest_kept c.vacant_key-number.ensures.vacant)
+    (before_reserve (fields_of c.self.inside) c.reserve.new.self c.insert_reserved.new.self c.vacant_key-number.result c.insert_reserved.result _ c.in_ok-reserve.ensures.rest_kept c.vacant_key-number.ensures.value c.insert_reserved.ensures.key c.insert_reserved.ensures.updates)
+    (c.vacant_key-number.ensures.value ∙ ap (λ s. s.vacant_key) c.in_ok-reserve.ensures.rest_kept)
+    c.in_ok-check_import.ensures.valid)
+
+pub returns-clause-there : goal.returns-clause-there
+returns-clause-there c =
+    import_is_there (fields_of c.self.inside) c.self.invariant c.args.name.now c.args.kind c.in_ok-key.key c.in_ok-own.own c.vacant_key-number.result c.insert_reserved.new.self c.insert.new.self c.in_ok-key.ensures.ok c.in_ok-own.ensures.ok (absent (fields_of c.self.inside) c.self.invariant c.args.name.now (rw (← c.self.view_is) at c.in_ok-check_import.ensures.free))
+    (vacant_before (fields_of c.self.inside) c.reserve.new.self c.vacant_key-number.result c.in_ok-reserve.ensures.rest_kept c.vacant_key-number.ensures.vacant)
+    (before_reserve (fields_of c.self.inside) c.reserve.new.self c.insert_reserved.new.self c.vacant_key-number.result c.insert_reserved.result _ c.in_ok-reserve.ensures.rest_kept c.vacant_key-number.ensures.value c.insert_reserved.ensures.key c.insert_reserved.ensures.updates)
+
+pub returns-in_err-check_import-clause-step : goal.returns-in_err-check_import-clause-step
+returns-in_err-check_import-clause-step c = handed_on (λ r. Imports c.args.self.now c.args.name.now c.args.kind r c.args.self.now) c.from_residual.result (c.in_err-check_import.field-0).0 c.from_residual.ensures.1 (c.in_err-check_import.ensures.refused c.args.kind)

@@ -1,0 +1,29 @@
+use Rattle.std.proofs.Common.{◌≡◌, [], ap, sym, ◌∙◌, subst}
+use Rattle.wac_collection.specs.Collection.{Collection, IsWellFormed}
+use Rattle.wac_merge.specs.Aggregate.{Aggregate}
+use Rattle.wac_meaning.specs.MergedImports.{ExportsOnce}
+use Rattle.wac_nodes.specs.Entries.{to_merge}
+use Rattle.wac_nodes.specs.Graph.{Graph}
+use Rattle.wac_graph.proofs.NothingLemmas.{has_merge, lists_nothing, merges_nothing}
+use Rattle.wac_graph.proofs.graph.CompositionGraph.merged_nothing.Goals as goal
+
+pub returns-in-Ok-clause-merged : goal.returns-in-Ok-clause-merged
+returns-in-Ok-clause-merged c =
+    let g = c.args.self.now in
+    let types : c.self.inside.types ≡ g.types = ap (λ (h : Graph). h.types) c.self.view_is in
+    let entries : c.new.result.entries ≡ [] = ap (λ (a : Aggregate). a.entries) c.new.ensures in record {
+      finished = c.in-Ok.ensures.finished.1;
+      entries = c.in-Ok.ensures.finished.0 ∙ entries ∙ sym (ap to_merge c.requires);
+      whole = record {
+        merge = merges_nothing g c.new-types.result c.new.result.entries c.in-Ok.merge.merge c.requires entries c.in-Ok.ensures.merged;
+        ordered = subst (λ (t : Collection). IsWellFormed t) types c.law.ensures;
+        merged_ordered = subst (λ (t : Collection). IsWellFormed t) c.types-in-Ok.ensures c.law-in-Ok.ensures;
+        once = subst (λ (t : Collection). ExportsOnce t) types c.exports_law.ensures;
+        merged_once = subst (λ (t : Collection). ExportsOnce t) c.types.ensures c.exports_law-in-Ok.ensures;
+        held = c.in-Ok.ensures.held;
+      };
+      listed = lists_nothing g c.new-types.result c.new.result.entries c.in-Ok.merge.merge c.requires entries (c.listed_law.ensures c.new-types.result c.new.result.entries c.in-Ok.merge.merge c.in-Ok.ensures.merged c.in-Ok.ensures.once);
+    }
+
+pub returns-in-Ok-clause-merges : goal.returns-in-Ok-clause-merges
+returns-in-Ok-clause-merges c = has_merge c.args.self.now c.requires

@@ -1,0 +1,10 @@
+use Rattle.wac_nodes.proofs.ExtendsLemmas.{extends_interface, extends_made, holds_made}
+use Rattle.wac_fields.proofs.InvariantLemmas.{invariant_types}
+use Rattle.wac_graph.specs.Inside.{fields_of}
+use Rattle.wac_graph.proofs.graph.CompositionGraph.new_package.Goals as goal
+
+pub invariant_of-self : goal.invariant_of-self
+invariant_of-self c = invariant_types (fields_of c.self.inside) c.self.invariant c.new.new.types c.growth_law.ensures.formed (extends_made c.new.result c.self.inside.types c.new.new.types _ (extends_interface c.self.inside.types c.growth_law.ensures.trees _) c.new.ensures.added c.new.ensures.refused)
+
+pub returns-clause-held : goal.returns-clause-held
+returns-clause-held c = holds_made c.new.result c.self.inside.types c.new.new.types _ _ _ c.args.world (rw (← c.self.view_is) at c.requires) c.new.ensures.built c.new.ensures.added

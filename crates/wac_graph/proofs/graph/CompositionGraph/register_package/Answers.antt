@@ -1,0 +1,26 @@
+use Rattle.std.proofs.Common.{refl, sym, ap, reverse, subst}
+use Rattle.wac_removing.specs.Slots.{vacant_of, IsNext}
+use Rattle.wac_fields.specs.Fields.{graph_of}
+use Rattle.wac_fields.proofs.InvariantLemmas.{room_put, invariant_register}
+use Rattle.wac_fields.proofs.StepLemmas.{there_already, registered}
+use Rattle.wac_graph.specs.Inside.{fields_of}
+use Rattle.wac_graph.proofs.graph.CompositionGraph.register_package.Goals as goal
+
+pub returns-in-Some : goal.returns-in-Some
+returns-in-Some c = (refl, c.in_ok-key.ensures, rw (← c.self.view_is) (there_already (fields_of c.self.inside) c.self.invariant c.in_ok-key.key c.in-Some.field-0.now c.in-Some.ensures.value))
+
+pub put_package-requires-clause-next : goal.put_package-requires-clause-next
+put_package-requires-clause-next c = subst (λ xs. IsNext xs (vacant_of c.next_id.new.vacant) c.in_ok-id.id) (sym c.next_id.ensures.slots) (subst (λ xs. IsNext c.self.inside.slots.items (reverse xs) c.in_ok-id.id) (sym c.next_id.ensures.vacant) c.in_ok-id.ensures.id)
+
+pub invariant_of-self-2 : goal.invariant_of-self-2
+invariant_of-self-2 c =
+    let taken = c.put_package.ensures.taken (graph_of (fields_of c.self.inside)) (sym c.next_id.ensures.slots) (ap reverse (sym c.next_id.ensures.vacant)) in
+    invariant_register (fields_of c.self.inside) c.self.invariant c.args.«package» c.in_ok-id.id c.put_package.new.slots c.put_package.new.vacant c.insert.new.self
+    (rw c.in_ok-key.ensures at (sym c.in_default.ensures.value)) (rw c.in_ok-key.ensures at c.in_ok-insert.ensures.entries) taken (rw (← c.self.view_is) at c.requires)
+    (room_put (fields_of c.self.inside) c.self.invariant c.args.«package» c.in_ok-id.id c.next_id.new.slots c.put_package.new.slots c.next_id.new.vacant c.put_package.new.vacant taken c.next_id.ensures.slots c.next_id.ensures.vacant c.next_id.ensures.capacity c.in_ok-id.ensures.link c.put_package.ensures.capacity)
+
+pub returns : goal.returns
+returns c =
+    rw (← c.self.view_is)
+    (registered (fields_of c.self.inside) c.self.invariant c.args.«package» c.insert.new.self c.put_package.new.slots c.put_package.new.vacant c.in_ok-id.id (rw c.in_ok-key.ensures at (sym c.in_default.ensures.value))
+    (c.put_package.ensures.taken (graph_of (fields_of c.self.inside)) (sym c.next_id.ensures.slots) (ap reverse (sym c.next_id.ensures.vacant))))

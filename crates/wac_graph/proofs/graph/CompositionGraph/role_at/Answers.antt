@@ -1,0 +1,10 @@
+use Rattle.std.proofs.Common.{sym, ◌∙◌}
+use Rattle.wac_writing.proofs.WantedLemmas.{none_role, node_role}
+use Rattle.wac_graph.specs.Inside.{fields_of}
+use Rattle.wac_graph.proofs.graph.CompositionGraph.role_at.Goals as goal
+
+pub returns-in-Some : goal.returns-in-Some
+returns-in-Some c = rw (← c.self.view_is) (c.role.ensures ∙ sym (node_role (fields_of c.self.inside) c.args.n c.in-Some.node.now (sym c.in-Some.ensures)))
+
+pub returns-in-None : goal.returns-in-None
+returns-in-None c = rw (← c.self.view_is) (sym (none_role (fields_of c.self.inside) c.args.n (sym c.in-None.ensures)))

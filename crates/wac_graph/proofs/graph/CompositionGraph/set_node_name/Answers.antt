@@ -1,0 +1,17 @@
+use Rattle.wac_nodes.proofs.NodeLemmas.{there}
+use Rattle.wac_fields.proofs.TakingLemmas.{the_node, invariant_named, named_node}
+use Rattle.wac_graph.specs.Inside.{fields_of}
+use Rattle.wac_graph.proofs.graph.CompositionGraph.set_node_name.Goals as goal
+
+pub set_name-requires : goal.set_name-requires
+set_name-requires c = there c.self.inside.nodes.slots c.args.node.0 (rw (← c.self.view_is) at c.requires)
+
+pub invariant_of-self : goal.invariant_of-self
+invariant_of-self c =
+    let n = the_node _ (there c.self.inside.nodes.slots c.args.node.0 (rw (← c.self.view_is) at c.requires)) in
+    invariant_named (fields_of c.self.inside) c.args.node c.args.name.now c.in_ok-name.name c.set_name.new.nodes c.in_ok-name.ensures.ok n.0 n.1 c.set_name.ensures c.self.invariant
+
+pub returns : goal.returns
+returns c =
+    let n = the_node _ (there c.self.inside.nodes.slots c.args.node.0 (rw (← c.self.view_is) at c.requires)) in
+    rw (← c.self.view_is) (named_node (fields_of c.self.inside) c.args.node c.args.name.now c.in_ok-name.name c.set_name.new.nodes c.in_ok-name.ensures.ok n.0 n.1 c.set_name.ensures)

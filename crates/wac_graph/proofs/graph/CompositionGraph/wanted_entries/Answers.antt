@@ -1,0 +1,35 @@
+use Rattle.std.proofs.Common.{◌≡◌, ◌∙◌, [], sym, subst, arith}
+use Rattle.std.specs.List.{flat_map, range_with_len}
+use Rattle.std.specs.FinMap as finite
+use Rattle.wac_nodes.specs.Graph.{Graph}
+use Rattle.wac_asking.specs.EntriesLeft.{entries_of, all_with_used, AreSettled, AsksAlike}
+use Rattle.wac_asking.proofs.EntryLists.{stands_itself, stands_once}
+use Rattle.wac_causes.specs.TypeFaults.{wanted_at}
+use Rattle.wac_writing.proofs.AskingWalk.{number_asked, all_wanted}
+use Rattle.wac_graph.specs.Inside.{fields_of}
+use Rattle.wac_graph.proofs.graph.CompositionGraph.wanted_entries.Goals as goal
+
+pub loop-n-preserved : goal.loop-n-preserved
+loop-n-preserved c =
+    let g = c.args.self.now in
+    record {
+      right = c.in_ok-ask_wanted.ensures.right;
+      settled = c.in_ok-ask_wanted.ensures.settled;
+      stands = number_asked g.types (wanted_at g) [] (entries_of c.loop-n.asking) (entries_of c.ask_wanted.new.asking) c.loop-n.n c.loop-n.invariant.stands c.in_ok-ask_wanted.ensures.stands;
+    }
+
+pub returns : goal.returns
+returns c =
+    let g = c.args.self.now in
+    let all = subst (λ (h : Graph). flat_map (wanted_at h) (finite.keys h.nodes) ≡ flat_map (wanted_at h) (range_with_len 0 c.loop-n.n)) c.self.view_is (all_wanted (fields_of c.self.inside) c.loop-n.n (omega (arith, c.loop-n-test.false, c.capacity-n-end.ensures.slots))) in
+    c.into_entries.ensures ∙ stands_once g.types (all_with_used g.types (flat_map (wanted_at g) (finite.keys g.nodes))) (entries_of c.loop-n.asking)
+    (subst (λ es. AsksAlike g.types (all_with_used g.types es) (entries_of c.loop-n.asking)) (sym all) c.loop-n.invariant.stands) c.loop-n.invariant.right.apart
+
+pub loop-n-init : goal.loop-n-init
+loop-n-init c =
+    let g = c.args.self.now in
+    record {
+      right = c.new-asking.ensures.right;
+      settled = subst (λ es. AreSettled g.types [] es) (sym c.new-asking.ensures.empty) tt;
+      stands = subst (λ es. AsksAlike g.types [] es) (sym c.new-asking.ensures.empty) (stands_itself g.types []);
+    }

@@ -1,0 +1,13 @@
+use Rattle.std.proofs.Common.{◌∙◌, subst}
+use Rattle.wac_shapes.specs.Name.{Name}
+use Rattle.wac_edges.specs.declared.node.NodeId.{NodeId}
+use Rattle.wac_nodes.specs.Graph.{IsImportOf}
+use Rattle.wac_graph.specs.Inside.{fields_of}
+use Rattle.wac_reading.proofs.NoImportLemmas.{no_import}
+use Rattle.wac_graph.proofs.WantedAskedLemmas.{wanted_is_asked}
+use Rattle.wac_graph.proofs.graph.CompositionGraph.wanted_of_asked.Goals as goal
+
+pub returns-then-not-has_definition : goal.returns-then-not-has_definition
+returns-then-not-has_definition c =
+    let none = no_import (fields_of c.self.inside) c.self.invariant (c.is_empty.ensures.0 c.if-is_empty.true) in
+    c.requires ∙ wanted_is_asked c.args.self.now (subst (λ g. (name : Name) (n : NodeId) → IsImportOf g name n → ⊥) c.self.view_is none) (c.has_definition.ensures c.if-not-has_definition.true)

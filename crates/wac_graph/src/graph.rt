@@ -1,0 +1,552 @@
+//! The composition graph.
+ghost use Rattle.std.specs.Prelude.{◌≡◌, ◌==◌, ◌↔◌, ℕ, true, false, IsSome, IsTrue, is_some, IfOk, OnErr, IfSome, IfNone, Some, None, Ok, Err, length, slice_get};
+ghost use Rattle.std.specs.Option.{option_map};
+ghost use Rattle.slab.specs.Slab.{ContainsKey, get, with_value};
+ghost use Rattle.semver.specs.Identifiers.{parts_of};
+ghost use Rattle.wac_collection.specs.Collection.{IsWellFormed, holds_type, resource_mentions, func_mentions, defined_mentions, with_resource, with_func, with_defined, with_interface, with_world, with_module};
+ghost use Rattle.wac_shapes.specs.Kinds.{kind_type};
+ghost use Rattle.wac_shapes.specs.Name.{Name as AName};
+ghost use Rattle.wac_collection.specs.Package.{HoldsPackage, with_instance_of, package_fault};
+ghost use Rattle.wac_collection.specs.Uses.{AnswersBy, mention_fault, interface_fault, world_fault};
+ghost use Rattle.wac_subtyping.specs.TreeLaws.{GrowthKeepsTrees};
+ghost use Rattle.wac_shapes.specs.declared.component.«Type».TheVariants.{World as world_type};
+ghost use Rattle.wac_nodes.specs.Graph.{node_at, package_at, export_at, import_name, IsRegistered, IsAliasOf, IsSourceOf};
+ghost use Rattle.wac_edges.specs.declared.node.NodeId.{NodeId as AnId};
+ghost use Rattle.wac_nodes.specs.Sound.{IsSound};
+ghost use Rattle.wac_nodes.specs.Steps.{IsEmpty, Adds, Registers, Imports, Instantiates, Aliases, SetsArgument, UnsetsArgument, SetsName, Exports, Unexports};
+ghost use Rattle.wac_nodes.specs.TakenOut.{without, taken_at};
+ghost use Rattle.wac_nodes.specs.Nodes.{names_of};
+ghost use Rattle.wac_plugging.specs.Positions.{HasExport};
+
+use indexmap::IndexMap;
+use semver::Version;
+use slab::Slab;
+use std::alloc::{AllocError, Global};
+use std::collections::BTreeSet;
+use std::marker::Model;
+use std::ops::Index;
+use wac_edges::edges::{Edge, Edges, Label};
+use wac_encoding::package_in_slots;
+use wac_nodes::{
+    AliasError, BorrowedPackageKey, ExportError, ImportError, InstantiationArgumentError, Node,
+    NodeId, NodeKind, PackageId, RegisterPackageError, Slot, UnexportError,
+};
+use wac_removing::{Lost, next_id, put_package};
+use wac_types::laws::growth_keeps_trees;
+use wac_types::{
+    AddTypeError, DefinedType, DefinedTypeId, FuncType, FuncTypeId, Interface, InterfaceId,
+    ItemKind, ModuleType, ModuleTypeId, Package, PackageKey, Resource, ResourceId, Types, World,
+    WorldId,
+};
+
+/// A composition graph.
+pub struct CompositionGraph {
+    pub(crate) alloc: Global,
+    pub(crate) types: Types,
+    pub(crate) nodes: Slab<Node>,
+    pub(crate) edges: Edges,
+    pub(crate) imports: IndexMap<String, NodeId>,
+    pub(crate) exports: IndexMap<String, NodeId>,
+    pub(crate) package_map: IndexMap<PackageKey, PackageId>,
+    pub(crate) slots: Vec<Slot>,
+    // The slots that were freed and may be used again, the one freed last at the end.
+    pub(crate) vacant: Vec<usize>,
+    // What a removal knows of exports.
+    pub(crate) lost: Lost,
+}
+
+/// What a graph holds is let go of here, and not anew by each program that drops one.
+impl Drop for CompositionGraph {
+    fn drop(self) {
+        let CompositionGraph {
+            alloc: _,
+            types: _,
+            nodes: _,
+            edges: _,
+            imports: _,
+            exports: _,
+            package_map: _,
+            slots: _,
+            vacant: _,
+            lost: _,
+        } = self;
+    }
+}
+
+impl Model for CompositionGraph {
+    ghost use Rattle.wac_nodes.specs.Graph.{Graph};
+    ghost use Rattle.std.specs.Coded.{codes};
+    ghost use Rattle.std.specs.FinMap as map;
+
+    ghost Value = { Graph };
+
+    ghost coded = { Prim.hlevel (codes, map.code) };
+
+    ghost use Rattle.wac_fields.specs.Fields.{graph_of, Invariant};
+    ghost use Rattle.wac_graph.specs.Inside.{fields_of};
+
+    ghost view = { λ s. graph_of (fields_of s) };
+
+    ghost invariant = { λ s. Invariant (fields_of s) };
+}
+
+impl CompositionGraph {
+    /// The empty graph.
+    pub fn new(alloc: Global) -> CompositionGraph
+        ensures { IsEmpty result }
+    {
+        CompositionGraph {
+            alloc,
+            types: Types::new(alloc),
+            nodes: Slab::new(alloc),
+            edges: Edges::new(alloc),
+            imports: IndexMap::new(alloc),
+            exports: IndexMap::new(alloc),
+            package_map: IndexMap::new(alloc),
+            slots: Vec::new(alloc),
+            vacant: Vec::new(alloc),
+            lost: Lost::new(alloc),
+        }
+    }
+
+    /// The law of graphs, which every graph value keeps: an import of an instantiation has one argument at most, an export of an
+    /// instance one alias; an import name, an export name and a defined type are those of one node at most, and a package's key of
+    /// one package; edges join nodes that are there, as their labels say; each alias's source is there and each instance's package
+    /// is registered.
+    pub fn law(&self)
+        ensures { IsSound self.now }
+    {
+        let _ = &self.edges;
+    }
+
+    /// The graph's collection of types.
+    pub fn types(&self) -> &Types
+        ensures { result.now ≡ self.now.types }
+    {
+        &self.types
+    }
+
+    /// Whether the node is in the graph now.
+    pub fn has_node(&self, id: NodeId) -> bool
+        ensures { IsTrue result ↔ IsSome (node_at self.now id) }
+    {
+        self.nodes.contains(id.0)
+    }
+
+    /// Whether the package is registered now.
+    pub fn has_package(&self, id: PackageId) -> bool
+        ensures { IsTrue result ↔ IsSome (package_at self.now id) }
+    {
+        match self.slots.get(id.slot) {
+            Some(slot) => slot.generation == id.generation && slot.package.is_some(),
+            None => false,
+        }
+    }
+
+    /// Adds a resource to the collection; refused as by [`Types::add_resource`], and then nothing has changed.
+    pub fn add_resource(&mut self, resource: Resource) -> Result<ResourceId, AddTypeError>
+        ensures added { Adds self.old result self.new (λ id types. (id.0 ≡ length self.old.types.resources) × (types ≡ with_resource self.old.types resource)) }
+        ensures fault { AnswersBy (mention_fault self.old.types (resource_mentions resource)) result }
+    {
+        growth_law(&self.types);
+        self.types.add_resource(resource)
+    }
+
+    /// Adds a function type to the collection; refused as by [`Types::add_func_type`], and then nothing has changed.
+    pub fn add_func_type(&mut self, func: FuncType) -> Result<FuncTypeId, AddTypeError>
+        ensures added { Adds self.old result self.new (λ id types. (id.0 ≡ length self.old.types.funcs) × (types ≡ with_func self.old.types func)) }
+        ensures fault { AnswersBy (mention_fault self.old.types (func_mentions func)) result }
+    {
+        growth_law(&self.types);
+        self.types.add_func_type(func)
+    }
+
+    /// Adds a defined type to the collection; refused as by [`Types::add_defined_type`], and then nothing has changed.
+    pub fn add_defined_type(&mut self, defined: DefinedType) -> Result<DefinedTypeId, AddTypeError>
+        ensures added { Adds self.old result self.new (λ id types. (id.0 ≡ length self.old.types.defined) × (types ≡ with_defined self.old.types defined)) }
+        ensures fault { AnswersBy (mention_fault self.old.types (defined_mentions defined)) result }
+    {
+        growth_law(&self.types);
+        self.types.add_defined_type(defined)
+    }
+
+    /// Adds an interface to the collection; refused as by [`Types::add_interface`], and then nothing has changed.
+    pub fn add_interface(&mut self, interface: Interface) -> Result<InterfaceId, AddTypeError>
+        ensures added { Adds self.old result self.new (λ id types. (id.0 ≡ length self.old.types.interfaces) × (types ≡ with_interface self.old.types interface)) }
+        ensures fault { AnswersBy (interface_fault self.old.types interface) result }
+    {
+        growth_law(&self.types);
+        self.types.add_interface(interface)
+    }
+
+    /// Adds a world to the collection; refused as by [`Types::add_world`], and then nothing has changed.
+    pub fn add_world(&mut self, world: World) -> Result<WorldId, AddTypeError>
+        ensures added { Adds self.old result self.new (λ id types. (id.0 ≡ length self.old.types.worlds) × (types ≡ with_world self.old.types world)) }
+        ensures fault { AnswersBy (world_fault self.old.types world) result }
+    {
+        growth_law(&self.types);
+        self.types.add_world(world)
+    }
+
+    /// Adds the type of a core module to the collection; refused as by [`Types::add_module_type`], and then nothing has changed.
+    pub fn add_module_type(&mut self, module_type: ModuleType) -> Result<ModuleTypeId, AddTypeError>
+        ensures added { Adds self.old result self.new (λ id types. (id.0 ≡ length self.old.types.modules) × (types ≡ with_module self.old.types module_type)) }
+        ensures fault { AnswersBy (None) result }
+    {
+        growth_law(&self.types);
+        self.types.add_module_type(module_type)
+    }
+
+    /// A package of a held world, with these bytes; refused as by [`Package::new`], and then nothing has changed.
+    pub fn new_package(
+        &mut self,
+        name: &str,
+        version: Option<&Version>,
+        bytes: Vec<u8>,
+        world: WorldId,
+    ) -> Result<Package, AddTypeError>
+        requires { holds_type self.old.types (world_type world) ≡ true }
+        ensures built { IfOk result (λ p. p ≡ record {
+          name = name.now;
+          version = option_map (λ v. parts_of v.now) version.entry;
+          bytes = bytes.items;
+          world = world;
+          instance_type = record { 0 = length self.old.types.interfaces };
+        }) }
+        ensures added { Adds self.old result self.new (λ p types. types ≡ with_instance_of self.old.types world) }
+        ensures held { IfOk result (λ p. HoldsPackage self.new.types p) }
+        ensures fault { AnswersBy (package_fault self.old.types world) result }
+    {
+        growth_law(&self.types);
+        Package::new(name, version, bytes, world, &mut self.types)
+    }
+
+    /// Registers a package of a held world under a new id. Answers `PackageAlreadyRegistered` where a package of its
+    /// key is registered, and `OutOfMemory` where memory ran out; then nothing has changed.
+    pub fn register_package(&mut self, package: Package) -> Result<PackageId, RegisterPackageError>
+        requires { HoldsPackage self.old.types «package» }
+        ensures { Registers self.old «package» result self.new }
+    {
+        let key = package.key()?;
+        if let Some(_) = self.package_map.get(&key) {
+            return Err(RegisterPackageError::PackageAlreadyRegistered { key });
+        }
+        let id = next_id(&mut self.slots, &mut self.vacant)?;
+        self.package_map.insert(key, id)?;
+        put_package(&mut self.slots, &mut self.vacant, id, package);
+        Ok(id)
+    }
+
+    /// The registered package of this name and version, with its id; none where no package of both is registered.
+    pub fn get_package_by_name(
+        &self,
+        name: &str,
+        version: Option<&Version>,
+    ) -> Option<(PackageId, &Package)>
+        ensures registered { (id : PackageId) → (option_map (λ found. found.0) result ≡ Some id) ↔ IsRegistered self.now (name.now, option_map (λ v. parts_of v.now) version.entry) id }
+        ensures there { IfSome result (λ found. package_at self.now found.0 ≡ Some found.1.now) }
+    {
+        let key = BorrowedPackageKey::from_name_and_version(name, version);
+        let id = *self.package_map.get(key)?;
+        Some((id, &self[id]))
+    }
+
+    /// An import of an item of a held type, under a name that no node imports yet. Answers `ImportAlreadyExists` where
+    /// one does, `InvalidImportName` where the text is no component name, and `OutOfMemory` where memory ran out; then
+    /// nothing has changed.
+    pub fn import(&mut self, name: &str, kind: ItemKind) -> Result<NodeId, ImportError>
+        requires { holds_type self.old.types (kind_type kind) ≡ true }
+        ensures step { Imports self.old name.now kind result self.new }
+        ensures there { IfOk result (λ id. IsSome (node_at self.new id)) }
+    {
+        self.check_import(name)?;
+        let key = String::from_str(self.alloc, name)?;
+        let own = String::from_str(self.alloc, name)?;
+        self.nodes.reserve(1)?;
+        let number = self.nodes.vacant_key();
+        self.imports.insert(key, NodeId(number))?;
+        self.nodes.insert_reserved(Node {
+            kind: NodeKind::Import(own),
+            package: None,
+            item_kind: kind,
+            name: None,
+            export_name: None,
+            first_name: None,
+        });
+        Ok(NodeId(number))
+    }
+
+    /// The name of a node that is an import; none of another kind of node.
+    pub fn get_import_name(&self, id: NodeId) -> Option<&str>
+        requires { IsSome (node_at self.now id) }
+        ensures { IfSome (node_at self.now id) (λ node. option_map (λ s. s.now) result ≡ import_name node.kind) }
+    {
+        self.nodes[id.0].import_name()
+    }
+
+    /// A new instance of a registered package, with no argument set. Answers want of memory; then nothing has
+    /// changed.
+    pub fn instantiate(&mut self, id: PackageId) -> Result<NodeId, AllocError>
+        requires { IsSome (package_at self.old id) }
+        ensures { Instantiates self.old id result self.new }
+    {
+        let Some(package) = package_in_slots(&self.slots, id) else {
+            unreachable!()
+        };
+        let item_kind = ItemKind::Instance(package.instance_type());
+        self.nodes.reserve(1)?;
+        let number = self.nodes.vacant_key();
+        self.nodes.insert_reserved(Node {
+            kind: NodeKind::Instantiation(BTreeSet::new(self.alloc)),
+            package: Some(id),
+            item_kind,
+            name: None,
+            export_name: None,
+            first_name: None,
+        });
+        Ok(NodeId(number))
+    }
+
+    /// The alias of an instance's export: the one that is there, or a new one that carries the instance's package.
+    /// Answers `NodeIsNotAnInstance` where the node is no instance, `InstanceMissingExport` where it has no export of
+    /// this name, and `OutOfMemory` where memory ran out; then nothing has changed.
+    pub fn alias_instance_export(
+        &mut self,
+        instance: NodeId,
+        export: &str,
+    ) -> Result<NodeId, AliasError>
+        requires { IsSome (node_at self.old instance) }
+        ensures step { Aliases self.old instance export.now result self.new }
+        ensures there { IfOk result (λ alias. IsSome (node_at self.new alias)) }
+    {
+        let (position, item_kind) = self.export_of(instance, export)?;
+        let alias = self.alias_at(instance, position, item_kind)?;
+        Ok(alias)
+    }
+
+    /// The alias of an instance's export at a position, which is of this kind: the one that is there, or a new one. Where memory runs
+    /// out nothing has changed.
+    pub(crate) fn alias_at(
+        &mut self,
+        instance: NodeId,
+        position: usize,
+        item_kind: ItemKind,
+    ) -> Result<NodeId, AllocError>
+        requires instance { IsSome (node_at self.old instance) }
+        requires export { (name : AName) × HasExport self.old instance name position item_kind }
+        ensures step { IfOk result (λ alias. (name : AName) → HasExport self.old instance name position item_kind → Aliases self.old instance name (Ok alias) self.new) }
+        ensures kept { OnErr result (self.new ≡ self.old) }
+        ensures there { IfOk result (λ alias. IsSome (node_at self.new alias)) }
+    {
+        self.types.law();
+        let package = self.nodes[instance.0].package;
+        if let Some(alias) = self.edges.alias(instance, position) {
+            return Ok(alias);
+        }
+        self.nodes.reserve(1)?;
+        let number = self.nodes.vacant_key();
+        self.edges.add(Edge {
+            source: instance,
+            target: NodeId(number),
+            label: Label::Alias(position),
+        })?;
+        self.nodes.insert_reserved(Node {
+            kind: NodeKind::Alias,
+            package,
+            item_kind,
+            name: None,
+            export_name: None,
+            first_name: None,
+        });
+        Ok(NodeId(number))
+    }
+
+    /// The instance that a node is the alias of, and the name of the aliased export. None of another kind of node, and of an id of no node.
+    pub fn get_alias_source(&self, id: NodeId) -> Option<(NodeId, &str)>
+        ensures source { IfSome result (λ s. IsSourceOf self.now id s.0 s.1.now) }
+        ensures none { IfNone result ((instance : AnId) (position : ℕ) → IsAliasOf self.now instance position id → ⊥) }
+    {
+        let (source, position) = self.edges.alias_source(id)?;
+        let ItemKind::Instance(interface) = self.nodes[source.0].item_kind else {
+            unreachable!()
+        };
+        let name = self.types[interface].exports.name_at(position);
+        Some((source, name))
+    }
+
+    /// Gives a node as the argument of this name to an instantiation; where it is given already, nothing changes.
+    /// Answers `NodeIsNotAnInstantiation`, `InvalidArgumentName` where the package's world has no import of this name,
+    /// `ArgumentAlreadyPassed` where another node is given, `ArgumentTypeMismatch` where the node's item is no subtype
+    /// of the import, and `OutOfMemory` where memory ran out; then nothing has changed.
+    pub fn set_instantiation_argument(
+        &mut self,
+        instantiation: NodeId,
+        argument_name: &str,
+        argument: NodeId,
+    ) -> Result<(), InstantiationArgumentError>
+        requires instantiation { IsSome (node_at self.old instantiation) }
+        requires argument { IsSome (node_at self.old argument) }
+        ensures { SetsArgument self.old instantiation argument_name.now argument result self.new }
+    {
+        let (position, kind) = self.import_of(instantiation, argument_name)?;
+        if self.is_given(instantiation, position, argument) {
+            return Ok(());
+        }
+        self.check_argument(instantiation, argument_name, position, kind, argument)?;
+        self.give_argument(instantiation, position, argument)?;
+        Ok(())
+    }
+
+    /// Takes a node away as the argument of this name of an instantiation; where it is not given, nothing changes.
+    /// Answers `NodeIsNotAnInstantiation`, and `InvalidArgumentName` where the package's world has no import of this name,
+    /// or `OutOfMemory` in place of it where memory ran out; then nothing has changed. Taking away takes no memory.
+    pub fn unset_instantiation_argument(
+        &mut self,
+        instantiation: NodeId,
+        argument_name: &str,
+        argument: NodeId,
+    ) -> Result<(), InstantiationArgumentError>
+        requires { IsSome (node_at self.old instantiation) }
+        ensures { UnsetsArgument self.old instantiation argument_name.now argument result self.new }
+    {
+        let (position, _) = self.import_of(instantiation, argument_name)?;
+        self.take_argument(instantiation, position, argument);
+        Ok(())
+    }
+
+    /// Names a node, in place of any name that it has. Answers want of memory; then nothing has changed.
+    pub fn set_node_name(&mut self, node: NodeId, name: &str) -> Result<(), AllocError>
+        requires { IsSome (node_at self.old node) }
+        ensures { SetsName self.old node name.now result self.new }
+    {
+        let name = String::from_str(self.alloc, name)?;
+        set_name(&mut self.nodes, node.0, name);
+        Ok(())
+    }
+
+    /// Exports a node by a further name, last in order. Answers `ExportAlreadyExists` where the name is taken,
+    /// `InvalidExportName` where the text is no component name or that of a hash, a url or a dependency, and
+    /// `OutOfMemory` where memory ran out; then nothing has changed.
+    pub fn export(&mut self, node: NodeId, name: &str) -> Result<(), ExportError>
+        requires { IsSome (node_at self.old node) }
+        ensures { Exports self.old node name.now result self.new }
+    {
+        self.check_export(name)?;
+        let key = String::from_str(self.alloc, name)?;
+        let own = String::from_str(self.alloc, name)?;
+        let is_named = self.nodes[node.0].export_name.is_some();
+        self.lost.prepare(self.exports.len() + 1, node.0, is_named)?;
+        self.exports.insert(key, node)?;
+        set_export_name(&mut self.nodes, node.0, own);
+        Ok(())
+    }
+
+    /// Takes all export names of a node away; from the last to the first, each time the last export of the list takes the freed place.
+    /// Answers `MustExportDefinition` for a type definition; then nothing has changed. Takes no memory.
+    pub fn unexport(&mut self, node: NodeId) -> Result<(), UnexportError>
+        requires { IsSome (node_at self.old node) }
+        ensures { Unexports self.old node result self.new }
+    {
+        if let NodeKind::Definition = self.nodes[node.0].kind {
+            return Err(UnexportError::MustExportDefinition);
+        }
+        take_exports(&mut self.exports, node);
+        clear_export_name(&mut self.nodes, node.0);
+        self.lost.unmark(node.0);
+        Ok(())
+    }
+
+    /// The node that is exported by a name.
+    pub fn get_export(&self, name: &str) -> Option<NodeId>
+        ensures { result ≡ export_at self.now name.now }
+    {
+        self.exports.get(name).copied()
+    }
+}
+
+impl Index<NodeId> for CompositionGraph {
+    type Output = Node;
+
+    ghost use Rattle.wac_nodes.specs.Gives.{HasNode, GivesNode};
+
+    ghost can_index = { HasNode };
+
+    ghost index_gives = { GivesNode };
+
+    fn index(&self, id: NodeId) -> &Node {
+        &self.nodes[id.0]
+    }
+}
+
+impl Index<PackageId> for CompositionGraph {
+    type Output = Package;
+
+    ghost use Rattle.wac_nodes.specs.Gives.{HasPackage, GivesPackage};
+
+    ghost can_index = { HasPackage };
+
+    ghost index_gives = { GivesPackage };
+
+    fn index(&self, id: PackageId) -> &Package {
+        match package_in_slots(&self.slots, id) {
+            Some(package) => package,
+            None => unreachable!(),
+        }
+    }
+}
+
+/// What a collection holds has the same trees when something is added, and mentions what it holds.
+fn growth_law(types: &Types)
+    ensures trees { GrowthKeepsTrees types.now }
+    ensures formed { IsWellFormed types.now }
+{
+    growth_keeps_trees(types);
+    types.law();
+}
+
+fn set_export_name(nodes: &mut Slab<Node>, number: usize, name: String)
+    requires { ContainsKey nodes.old number }
+    ensures { IfSome (get nodes.old number) (λ n. nodes.new ≡ with_value nodes.old number (record n { export_name = Some name })) }
+{
+    let node = &mut nodes[number];
+    node.export_name = Some(name);
+}
+
+fn set_name(nodes: &mut Slab<Node>, number: usize, name: String)
+    requires { ContainsKey nodes.old number }
+    ensures { IfSome (get nodes.old number) (λ n. nodes.new ≡ with_value nodes.old number (record n { name = Some name })) }
+{
+    let node = &mut nodes[number];
+    node.name = Some(name);
+}
+
+fn clear_export_name(nodes: &mut Slab<Node>, number: usize)
+    requires { ContainsKey nodes.old number }
+    ensures { IfSome (get nodes.old number) (λ n. nodes.new ≡ with_value nodes.old number (record n { export_name = None })) }
+{
+    let node = &mut nodes[number];
+    node.export_name = None;
+}
+
+/// Takes the exports of a node out, from the last to the first; each time the last export takes the freed place.
+fn take_exports(exports: &mut IndexMap<String, NodeId>, node: NodeId)
+    ensures { names_of exports.new.entries ≡ without (λ m. m.0 == node.0) (names_of exports.old.entries) }
+{
+    let mut i = exports.len();
+    while i > 0 {
+        i -= 1;
+        take_export(exports, node, i);
+    }
+}
+
+/// Takes the export at a position out, where it is one of the node; the last export takes its place.
+fn take_export(exports: &mut IndexMap<String, NodeId>, node: NodeId, position: usize)
+    ensures { names_of exports.new.entries ≡ taken_at (λ m. m.0 == node.0) position (slice_get (names_of exports.old.entries) position) (names_of exports.old.entries) }
+{
+    let Some((_, other)) = exports.get_index(position) else {
+        return;
+    };
+    if other.0 == node.0 {
+        exports.swap_remove_index(position);
+    }
+}
