@@ -18,13 +18,23 @@ use wac_nodes::{Node, NodeId};
 ///
 /// A node keeps the name by which it was exported last, which leads to its place. Of nodes that may have further names all
 /// exports have to be gone through.
-#[derive(Drop)]
 pub struct Lost {
     positions: Vec<usize>,
     // Whether no position is missing.
     is_complete: bool,
     // The numbers of nodes that may have further names.
     again: BTreeSet<usize>,
+}
+
+/// A record of what was lost is let go of here, and not anew at each place where one goes out of scope.
+impl Drop for Lost {
+    fn drop(self) {
+        let Lost {
+            positions: _,
+            is_complete: _,
+            again: _,
+        } = self;
+    }
 }
 
 impl Lost {
