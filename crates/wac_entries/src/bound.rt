@@ -87,7 +87,7 @@ impl Drop for Bound {
 
 impl Model for Bound {
     ghost use Rattle.std.specs.Prelude.{List};
-    ghost use Rattle.wac_collection.specs.Tree.{Leaf};
+    ghost use Rattle.wac_primitives.specs.Tree.{Leaf};
     ghost use Rattle.wac_shapes.specs.declared.component.ResourceId.{ResourceId};
     ghost use Rattle.wac_entries.specs.Places.{leaves};
 

@@ -1,7 +1,7 @@
 //! Exports of nodes that were taken out: where they stand, and how they are taken out themselves.
 ghost use Rattle.std.specs.Prelude.{◌≡◌, ◌≢◌, ℕ, true, not, OnOk, IfOk, is_some, IsSome, Some, None, slice_get, Contains};
 ghost use Rattle.slab.specs.Slab.{get, Updates};
-ghost use Rattle.wac_shapes.specs.Name.{Name as AName};
+ghost use Rattle.wac_primitives.specs.Name.{Name as AName};
 ghost use Rattle.wac_edges.specs.declared.node.NodeId.{NodeId as AnId};
 ghost use Rattle.wac_nodes.specs.Nodes.{node_of, names_of};
 ghost use Rattle.wac_removing.specs.Told.{tells};
